@@ -1,7 +1,7 @@
 -- An honest answer is none where a picked row has no symbol.
 use Rattle.std.specs.Prelude.{◌≡◌, ℕ, zero, suc, ◌+◌, ◌-◌, ◌<◌, ◌&&◌, Bool, true, false, List, Option, None, Some, is_some, unwrap_or, if◌then◌else◌}
 use Rattle.std.proofs.Common.{arith, ap, refl, ◌∙◌, subst}
-use Rattle.hail_columns.specs.Challenges.{Challenge, picked_row, held_symbol, all_held, honest_answer, combined}
+use Rattle.column_defs.specs.Challenges.{Challenge, picked_row, held_symbol, all_held, honest_answer, combined}
 
 and-false : (b : Bool) → b && false ≡ false
 and-false true = refl

@@ -4,7 +4,7 @@ use Rattle.std.proofs.Common.{arith, ap, sym, refl, ◌∙◌, subst, eqb-true}
 use Rattle.field_laws.proofs.Solve.{v, o, i, ◌⊞◌, ◌⊡◌, solve}
 use Rattle.hail_field.specs.Nim.{nim_add, nim_mul, nim_pow}
 use Rattle.hail_field.proofs.AllNumbers.{nim_ring}
-use Rattle.hail_columns.specs.Challenges.{Challenge, alpha, picked_row, sum_over, combined, held_symbol, all_held, honest_answer}
+use Rattle.column_defs.specs.Challenges.{Challenge, alpha, picked_row, sum_over, combined, held_symbol, all_held, honest_answer}
 
 -- all picks come to the sum of the first ones and that of the others, which Horner's rule has made
 abbrev pub Splits : Challenge → (ℕ → ℕ) → ℕ → ℕ → Type 0

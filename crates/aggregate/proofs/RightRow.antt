@@ -9,12 +9,12 @@ use Rattle.poly_laws.proofs.Values.{value-plus, value-scale}
 use Rattle.poly_laws.proofs.Roots.{length-plus}
 use Rattle.poly_laws.proofs.Interpolate.{length-scale}
 use Rattle.poly_laws.specs.Poly.{value as value_over}
-use Rattle.hail_codes.specs.Polynomials.{value, plus, scale}
-use Rattle.hail_columns.specs.Keys.{mask, secret_point}
-use Rattle.hail_columns.specs.Objects.{Object, row_number, symbols_in, is_primary, point}
-use Rattle.hail_columns.specs.Columns.{row_polynomial, columns}
-use Rattle.hail_columns.specs.Challenges.{Challenge, alpha, picked_row, sum_over, combined, symbol_at, held_symbol, all_held, honest_answer, right_answer, mask_sum, bare_answer}
-use Rattle.hail_columns.proofs.ColumnLaws.{length-row_polynomial, length-column_of_symbols, primary-symbol, secondary-symbol}
+use Rattle.code_defs.specs.Polynomials.{value, plus, scale}
+use Rattle.column_defs.specs.Keys.{mask, secret_point}
+use Rattle.column_defs.specs.Objects.{Object, row_number, symbols_in, is_primary, point}
+use Rattle.column_defs.specs.Columns.{row_polynomial, columns}
+use Rattle.column_defs.specs.Challenges.{Challenge, alpha, picked_row, sum_over, combined, symbol_at, held_symbol, all_held, honest_answer, right_answer, mask_sum, bare_answer}
+use Rattle.column_defs.proofs.ColumnLaws.{length-row_polynomial, length-column_of_symbols, primary-symbol, secondary-symbol}
 use Rattle.aggregate.specs.RightAnswers.{IsRightRow}
 
 -- the sum of alpha ^ (k + 1) times the polynomial of the row of pick k

@@ -1,8 +1,8 @@
 -- The right answers to a challenge lie on one polynomial.
 use Rattle.std.specs.Prelude.{◌≡◌, ℕ, ◌≤◌, List, Some, length}
-use Rattle.hail_codes.specs.Polynomials.{value}
-use Rattle.hail_columns.specs.Objects.{Object, point}
-use Rattle.hail_columns.specs.Challenges.{Challenge, right_answer, bare_answer}
+use Rattle.code_defs.specs.Polynomials.{value}
+use Rattle.column_defs.specs.Objects.{Object, point}
+use Rattle.column_defs.specs.Challenges.{Challenge, right_answer, bare_answer}
 
 -- a polynomial of degree below l whose values at the providers' points are their right answers without the
 -- mask sums

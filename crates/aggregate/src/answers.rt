@@ -1,5 +1,5 @@
 ghost use Rattle.std.specs.Prelude.{◌≡◌, ◌<◌};
-ghost use Rattle.hail_columns.specs.Challenges.{honest_answer, held_symbol};
+ghost use Rattle.column_defs.specs.Challenges.{honest_answer, held_symbol};
 ghost use Rattle.challenge.specs.Asked.{asked};
 
 use crate::Blocks;

@@ -1,5 +1,5 @@
 ghost use Rattle.std.specs.Prelude.{◌≡◌, ◌<◌, ℕ, List, Option};
-ghost use Rattle.hail_columns.specs.Challenges.{symbol_at};
+ghost use Rattle.column_defs.specs.Challenges.{symbol_at};
 
 use hail_field::Symbol;
 

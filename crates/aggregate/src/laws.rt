@@ -1,7 +1,7 @@
 //! Laws of answers.
 ghost use Rattle.std.specs.Prelude.{◌≡◌, ◌≤◌, ℕ, List};
-ghost use Rattle.hail_columns.specs.Objects.{Object};
-ghost use Rattle.hail_columns.specs.Challenges.{Challenge};
+ghost use Rattle.column_defs.specs.Objects.{Object};
+ghost use Rattle.column_defs.specs.Challenges.{Challenge};
 ghost use Rattle.aggregate.specs.RightAnswers.{IsRightRow};
 
 /// The right answers to a challenge, with the mask sums taken off, are the values of one polynomial of degree below `l`.

@@ -1,5 +1,5 @@
 ghost use Rattle.std.specs.Prelude.{◌≡◌};
-ghost use Rattle.hail_columns.specs.Challenges.{mask_sum_of};
+ghost use Rattle.column_defs.specs.Challenges.{mask_sum_of};
 ghost use Rattle.challenge.specs.Asked.{asked};
 
 use challenge::{Challenge, Drawn};

@@ -6,8 +6,8 @@ use Rattle.field_laws.proofs.Ring.{sum_zero}
 use Rattle.field_laws.proofs.Solve.{v, ◌⊞◌, ◌⊡◌, solve}
 use Rattle.hail_field.specs.Nim.{nim, nim_add, nim_mul, nim_pow}
 use Rattle.hail_field.proofs.AllNumbers.{nim_laws, nim_ring}
-use Rattle.hail_columns.specs.Keys.{stream_symbol}
-use Rattle.hail_columns.specs.Challenges.{Challenge, alpha, picked_row, sum_over, combined, held_symbol, all_held, honest_answer}
+use Rattle.column_defs.specs.Keys.{stream_symbol}
+use Rattle.column_defs.specs.Challenges.{Challenge, alpha, picked_row, sum_over, combined, held_symbol, all_held, honest_answer}
 
 -- the weight of a challenge is not zero
 alpha-not_zero : (key : List ℕ) → alpha key ≢ 0

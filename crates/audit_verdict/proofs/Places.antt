@@ -3,11 +3,11 @@ use Rattle.std.specs.Prelude.{◌≡◌, ℕ, zero, suc, ◌+◌, ◌<◌, ◌�
 use Rattle.std.proofs.Common.{arith, ap, sym, refl, ◌∙◌, get_or, set, subst}
 use Rattle.std.proofs.lemmas.List.{ext_get_or, take-append-drop}
 use Rattle.std.proofs.lemmas.List.Edits.{fill_by_more}
-use Rattle.hail_codes.specs.Polynomials.{value, is_seen}
-use Rattle.hail_columns.specs.Objects.{Object}
-use Rattle.hail_columns.specs.Challenges.{Challenge, bare_answer, bare_answers}
-use Rattle.hail_columns.specs.Verdicts.{counts_after}
-use Rattle.hail_columns.proofs.CountLaws.{length-counts_after}
+use Rattle.code_defs.specs.Polynomials.{value, is_seen}
+use Rattle.column_defs.specs.Objects.{Object}
+use Rattle.column_defs.specs.Challenges.{Challenge, bare_answer, bare_answers}
+use Rattle.column_defs.specs.Verdicts.{counts_after}
+use Rattle.column_defs.proofs.CountLaws.{length-counts_after}
 
 -- one place more of a list that a function makes
 pub put_more : {X : Type 0} (f : ℕ → X) (xs : List X) (i : ℕ) (x d : X) → i < length xs → x ≡ f i → ((k : ℕ) → k < i → get_or xs k d ≡ f k) →

@@ -7,15 +7,15 @@ use Rattle.hail_field.specs.Nim.{nim_add}
 use Rattle.hail_field.specs.Shape.{IsShape}
 use Rattle.hail_field.proofs.AllNumbers.{nim_laws, nim_ring}
 use Rattle.poly_laws.specs.Poly.{is_seen as is_seen_over}
-use Rattle.hail_codes.specs.Polynomials.{value, agree, is_seen}
-use Rattle.hail_codes.specs.Points.{upto}
-use Rattle.hail_codes.specs.DispersalCode.{Accepts}
-use Rattle.hail_columns.specs.Objects.{Object, is_primary, point, points}
-use Rattle.hail_columns.specs.Columns.{columns}
-use Rattle.hail_columns.specs.Forgeries.{count_of}
-use Rattle.hail_columns.specs.Challenges.{Challenge, honest_answer, right_answer, mask_sum, bare_answer, bare_answers}
-use Rattle.hail_columns.specs.Verdicts.{Sums, Decides, Judges}
-use Rattle.hail_columns.proofs.PointLaws.{Apart-points}
+use Rattle.code_defs.specs.Polynomials.{value, agree, is_seen}
+use Rattle.code_defs.specs.Points.{upto}
+use Rattle.code_defs.specs.DispersalCode.{Accepts}
+use Rattle.column_defs.specs.Objects.{Object, is_primary, point, points}
+use Rattle.column_defs.specs.Columns.{columns}
+use Rattle.column_defs.specs.Forgeries.{count_of}
+use Rattle.column_defs.specs.Challenges.{Challenge, honest_answer, right_answer, mask_sum, bare_answer, bare_answers}
+use Rattle.column_defs.specs.Verdicts.{Sums, Decides, Judges}
+use Rattle.column_defs.proofs.PointLaws.{Apart-points}
 use Rattle.column_laws.proofs.Counts.{count_of-cover, agree-count}
 use Rattle.dispersal_code.proofs.Unique.{same_value}
 use Rattle.aggregate.proofs.RightRow.{right_row, IsRightRow-right_row}

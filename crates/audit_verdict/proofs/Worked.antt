@@ -4,13 +4,13 @@ use Rattle.std.proofs.Common.{arith, ap, sym, refl, ◌∙◌, inl}
 use Rattle.hail_field.specs.Nim.{nim_add}
 use Rattle.hail_field.proofs.AllNumbers.{nim_ring}
 use Rattle.poly_laws.specs.Poly.{is_seen as is_seen_over}
-use Rattle.hail_codes.specs.Polynomials.{value, is_seen}
-use Rattle.hail_codes.proofs.Values.{is_seen-none}
-use Rattle.hail_columns.specs.Objects.{Object, symbols_in, point, points}
-use Rattle.hail_columns.specs.Columns.{columns}
-use Rattle.hail_columns.specs.Challenges.{Challenge, right_answer, bare_answer, bare_answers, symbol_at, held_symbol, picked_row}
-use Rattle.hail_columns.specs.Verdicts.{Judges, counts_after}
-use Rattle.hail_columns.proofs.ColumnLaws.{length-column_of_symbols}
+use Rattle.code_defs.specs.Polynomials.{value, is_seen}
+use Rattle.code_defs.proofs.Values.{is_seen-none}
+use Rattle.column_defs.specs.Objects.{Object, symbols_in, point, points}
+use Rattle.column_defs.specs.Columns.{columns}
+use Rattle.column_defs.specs.Challenges.{Challenge, right_answer, bare_answer, bare_answers, symbol_at, held_symbol, picked_row}
+use Rattle.column_defs.specs.Verdicts.{Judges, counts_after}
+use Rattle.column_defs.proofs.ColumnLaws.{length-column_of_symbols}
 use Rattle.column_laws.specs.Example.{example}
 use Rattle.column_laws.proofs.Worked.{example-shape}
 use Rattle.aggregate.proofs.RightRow.{right_row, IsRightRow-right_row}

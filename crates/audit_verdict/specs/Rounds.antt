@@ -9,13 +9,13 @@
 -- held that is not the provider's own count_of_provider s j == how often provider j was counted
 use Rattle.std.specs.Prelude.{◌≡◌, ◌≢◌, ◌<◌, ◌≤◌, ℕ, Bool, false, List, length, not, slice_index, slice_index_or, Option, None, Some}
 use Rattle.hail_field.specs.Shape.{IsShape}
-use Rattle.hail_codes.specs.Polynomials.{is_seen}
-use Rattle.hail_codes.specs.Points.{upto}
-use Rattle.hail_columns.specs.Objects.{Object}
-use Rattle.hail_columns.specs.Columns.{columns}
-use Rattle.hail_columns.specs.Forgeries.{count_of}
-use Rattle.hail_columns.specs.Challenges.{Challenge, picked_row, held_symbol, right_answer}
-use Rattle.hail_columns.specs.Verdicts.{Sums}
+use Rattle.code_defs.specs.Polynomials.{is_seen}
+use Rattle.code_defs.specs.Points.{upto}
+use Rattle.column_defs.specs.Objects.{Object}
+use Rattle.column_defs.specs.Columns.{columns}
+use Rattle.column_defs.specs.Forgeries.{count_of}
+use Rattle.column_defs.specs.Challenges.{Challenge, picked_row, held_symbol, right_answer}
+use Rattle.column_defs.specs.Verdicts.{Sums}
 use Rattle.record_codec.specs.declared.counts.Counts.{Counts}
 use Rattle.record_codec.specs.Entries.{counted}
 

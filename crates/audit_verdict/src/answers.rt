@@ -1,6 +1,6 @@
 ghost use Rattle.std.specs.Prelude.{◌≡◌, ◌≤◌, ◌<◌, ◌*◌, length};
-ghost use Rattle.hail_columns.specs.Objects.{stripes, points as points_of};
-ghost use Rattle.hail_columns.specs.Challenges.{challenge_of, bare_answer as bare_answer_of, bare_answers as bare_answers_of};
+ghost use Rattle.column_defs.specs.Objects.{stripes, points as points_of};
+ghost use Rattle.column_defs.specs.Challenges.{challenge_of, bare_answer as bare_answer_of, bare_answers as bare_answers_of};
 ghost use Rattle.file_layout.specs.Files.{shaped_object};
 ghost use Rattle.challenge.specs.Asked.{asked};
 

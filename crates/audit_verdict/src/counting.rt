@@ -1,6 +1,6 @@
 ghost use Rattle.std.specs.Prelude.{◌≡◌, ◌≤◌, ◌<◌, ◌+◌, ◌^◌, ℕ, length, slice_index, if◌then◌else◌};
-ghost use Rattle.hail_codes.specs.Polynomials.{is_seen};
-ghost use Rattle.hail_columns.specs.Verdicts.{counts_after};
+ghost use Rattle.code_defs.specs.Polynomials.{is_seen};
+ghost use Rattle.column_defs.specs.Verdicts.{counts_after};
 
 use hail_field::Symbol;
 use hail_poly::Work;

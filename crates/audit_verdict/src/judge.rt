@@ -1,7 +1,7 @@
 ghost use Rattle.std.specs.Prelude.{◌≡◌, ◌≤◌, ◌<◌, ◌+◌, ◌*◌, ◌^◌, ℕ, drop, length, slice_index};
-ghost use Rattle.hail_columns.specs.Objects.{stripes};
-ghost use Rattle.hail_columns.specs.Challenges.{challenge_of};
-ghost use Rattle.hail_columns.specs.Verdicts.{Judges};
+ghost use Rattle.column_defs.specs.Objects.{stripes};
+ghost use Rattle.column_defs.specs.Challenges.{challenge_of};
+ghost use Rattle.column_defs.specs.Verdicts.{Judges};
 ghost use Rattle.file_layout.specs.Files.{shaped_object};
 ghost use Rattle.record_codec.specs.Entries.{IsPadded};
 ghost use Rattle.audit_verdict.specs.Rounds.{sums_of};

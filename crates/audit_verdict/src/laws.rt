@@ -1,10 +1,10 @@
 //! Who is counted in a round where few answers are not right.
 ghost use Rattle.std.specs.Prelude.{◌≡◌, ◌<◌, ◌+◌, ℕ, List, [], ◌∷◌, Option, None, Some, map, length};
 ghost use Rattle.hail_field.specs.Nim.{nim_add};
-ghost use Rattle.hail_columns.specs.Objects.{Object};
-ghost use Rattle.hail_columns.specs.Columns.{columns};
-ghost use Rattle.hail_columns.specs.Challenges.{Challenge, honest_answer, right_answer};
-ghost use Rattle.hail_columns.specs.Verdicts.{Sums, Judges};
+ghost use Rattle.column_defs.specs.Objects.{Object};
+ghost use Rattle.column_defs.specs.Columns.{columns};
+ghost use Rattle.column_defs.specs.Challenges.{Challenge, honest_answer, right_answer};
+ghost use Rattle.column_defs.specs.Verdicts.{Sums, Judges};
 ghost use Rattle.column_laws.specs.Example.{example};
 ghost use Rattle.audit_verdict.specs.Rounds.{answer_of, HasFewWrong, DiffersOnce, count_of_provider};
 ghost use Rattle.audit_verdict.specs.Example.{one_pick, three_heard};

@@ -3,9 +3,9 @@ use Rattle.std.specs.Prelude.{◌≡◌, ℕ, ◌+◌, ◌*◌, ◌%◌, ◌^◌
 use Rattle.std.proofs.Common.{arith, ap, sym, refl, ◌∙◌, get_or, set, subst}
 use Rattle.std.proofs.lemmas.List.Edits.{fill_by_more}
 use Rattle.rand_chacha.specs.ChaCha.{ChaCha, word_at, key_of, of_seed}
-use Rattle.hail_columns.specs.Keys.{stream_symbol}
-use Rattle.hail_columns.specs.Challenges.{alpha, picked_row}
-use Rattle.hail_columns.specs.Generator.{moved_on, next_symbol}
+use Rattle.column_defs.specs.Keys.{stream_symbol}
+use Rattle.column_defs.specs.Challenges.{alpha, picked_row}
+use Rattle.column_defs.specs.Generator.{moved_on, next_symbol}
 use Rattle.challenge.specs.Rows.{at_word, next_rows}
 
 -- one row more is drawn

@@ -1,6 +1,6 @@
 -- What a challenge means.
 use Rattle.challenge.specs.declared.question.Challenge.{Challenge}
-use Rattle.hail_columns.specs.Challenges as meaning
+use Rattle.column_defs.specs.Challenges as meaning
 
 -- the challenge as the definitions of answers see it
 abbrev pub asked : Challenge → meaning.Challenge

@@ -7,8 +7,8 @@
 --   AreBelow rows picks drawn     == they are below the number of rows
 use Rattle.std.specs.Prelude.{◌≡◌, ◌<◌, ℕ, ◌+◌, ◌*◌, ◌%◌, ◌^◌, List, slice_index}
 use Rattle.rand_chacha.specs.ChaCha.{ChaCha, word_at, of_seed}
-use Rattle.hail_columns.specs.Generator.{moved_on}
-use Rattle.hail_columns.specs.Challenges.{picked_row}
+use Rattle.column_defs.specs.Generator.{moved_on}
+use Rattle.column_defs.specs.Challenges.{picked_row}
 
 -- the generator under a key, at a word
 abbrev pub at_word : List ℕ → ℕ → ChaCha

@@ -1,7 +1,7 @@
 ghost use Rattle.std.specs.Prelude.{◌≡◌, ◌≤◌, ◌<◌, ◌^◌, ◌*◌, ◌+◌, ◌%◌, ◌==◌, ℕ, slice_index, if◌then◌else◌};
-ghost use Rattle.hail_columns.specs.Challenges as spec;
+ghost use Rattle.column_defs.specs.Challenges as spec;
 ghost use Rattle.challenge.specs.Rows.{next_number, next_rows};
-ghost use Rattle.hail_columns.specs.Generator.{next_symbol, moved_on};
+ghost use Rattle.column_defs.specs.Generator.{next_symbol, moved_on};
 
 use crate::drawn::Drawn;
 use crate::question::Challenge;

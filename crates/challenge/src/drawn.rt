@@ -1,5 +1,5 @@
 ghost use Rattle.std.specs.Prelude.{◌≡◌};
-ghost use Rattle.hail_columns.specs.Challenges as spec;
+ghost use Rattle.column_defs.specs.Challenges as spec;
 ghost use Rattle.challenge.specs.Rows.{AreRows, AreBelow};
 
 use crate::question::Challenge;

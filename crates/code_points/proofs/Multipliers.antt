@@ -3,13 +3,13 @@ use Rattle.std.proofs.Common.{◌≡◌, ◌≢◌, ◌≤◌, ◌<◌, ◌+◌,
 use Rattle.std.specs.List.{range_with_len}
 use Rattle.std.proofs.lemmas.Nat.{xor_lt}
 use Rattle.std.proofs.lemmas.Bool.{cases_lt}
-use Rattle.plain_facts.specs.Lists.{Each}
+use Rattle.plain_laws.specs.Lists.{Each}
 use Rattle.hail_field.specs.Nim.{product, width, nim_add, nim_mul}
 use Rattle.hail_field.proofs.Products.{product-lt}
 use Rattle.hail_field.proofs.AllNumbers.{nim_ring, nim_mul_at, nim_inv_is}
 use Rattle.hail_field.proofs.Table.{holds_below, at_each}
-use Rattle.hail_codes.specs.Points.{upto, others_product, multiplier}
-use Rattle.hail_codes.specs.Profiles.{profile_of}
+use Rattle.code_defs.specs.Points.{upto, others_product, multiplier}
+use Rattle.code_defs.specs.Profiles.{profile_of}
 use Rattle.code_points.specs.declared.table.TheConstants.{FIRST}
 
 -- the product over the other points, of bytes

@@ -5,10 +5,10 @@ use Rattle.hail_field.specs.Nim.{nim, nim_add, nim_mul}
 use Rattle.hail_field.proofs.AllNumbers.{nim_laws, nim_ring}
 use Rattle.poly_laws.specs.Poly.{value as value_over, vanish as vanish_over}
 use Rattle.poly_laws.proofs.Interpolate.{value-vanish}
-use Rattle.hail_codes.specs.Polynomials.{value, vanish}
-use Rattle.hail_codes.specs.Profiles.{profile_of}
-use Rattle.hail_codes.proofs.Points.{range_with_len-step}
-use Rattle.hail_codes.proofs.Profiles.{size_is}
+use Rattle.code_defs.specs.Polynomials.{value, vanish}
+use Rattle.code_defs.specs.Profiles.{profile_of}
+use Rattle.code_defs.proofs.Points.{range_with_len-step}
+use Rattle.code_defs.proofs.Profiles.{size_is}
 
 -- the product over no points
 pub product_start : (x place n : ℕ) → n ≡ 0 → 1 ≡ value (vanish (range_with_len place n)) x

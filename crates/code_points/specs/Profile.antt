@@ -1,6 +1,6 @@
 use Rattle.std.specs.Prelude.{◌≡◌, ◌<◌, ℕ, List, length, slice_index}
-use Rattle.hail_codes.specs.Points.{upto, multiplier}
-use Rattle.hail_codes.specs.Profiles.{Profile as Plain}
+use Rattle.code_defs.specs.Points.{upto, multiplier}
+use Rattle.code_defs.specs.Profiles.{Profile as Plain}
 use Rattle.code_points.specs.declared.profile.Profile.{Profile}
 
 -- a profile as the definitions of the codes see it

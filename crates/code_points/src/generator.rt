@@ -1,8 +1,8 @@
 ghost use Rattle.std.specs.Prelude.{◌≡◌, ◌<◌, ◌≤◌, ◌-◌, length, replicate, slice_set, slice_index, EachIndex};
 ghost use Rattle.std.specs.List.{range_with_len};
-ghost use Rattle.hail_codes.specs.Polynomials.{value, vanish};
-ghost use Rattle.hail_codes.specs.Points.{upto, multiplier as multiplier_of};
-ghost use Rattle.hail_codes.specs.ServerCode.{IsGeneratorRow};
+ghost use Rattle.code_defs.specs.Polynomials.{value, vanish};
+ghost use Rattle.code_defs.specs.Points.{upto, multiplier as multiplier_of};
+ghost use Rattle.code_defs.specs.ServerCode.{IsGeneratorRow};
 ghost use Rattle.code_points.specs.Profile.{plain_profile, AreKeptMultipliers};
 
 use crate::bytes::{byte_inverse, byte_product, byte_sum};

@@ -1,5 +1,5 @@
 ghost use Rattle.std.specs.Prelude.{◌≡◌, ◌≤◌, ◌↔◌, IsSome, IfSome};
-ghost use Rattle.hail_codes.specs.Profiles.{profile_of};
+ghost use Rattle.code_defs.specs.Profiles.{profile_of};
 
 /// A row of the table of server codes: blocks of `size` symbols, of which the first `keep` are the kept ones,
 /// and in which up to `fix` wrong symbols are corrected.

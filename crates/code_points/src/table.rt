@@ -1,5 +1,5 @@
 ghost use Rattle.std.specs.Prelude.{◌≡◌, ◌<◌};
-ghost use Rattle.hail_codes.specs.Points.{upto, multiplier as multiplier_of};
+ghost use Rattle.code_defs.specs.Points.{upto, multiplier as multiplier_of};
 
 use crate::profile::Profile;
 use hail_field::Symbol;

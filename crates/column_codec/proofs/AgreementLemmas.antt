@@ -10,15 +10,15 @@ use Rattle.hail_field.proofs.AllNumbers.{nim_laws}
 use Rattle.poly_laws.specs.Poly.{agree as agree_over}
 use Rattle.poly_laws.proofs.Steps.{is_seen-some, is_seen-none}
 use Rattle.poly_laws.proofs.Interpolate.{length-interpolate}
-use Rattle.hail_codes.specs.Polynomials.{value, agree, is_seen, interpolate}
-use Rattle.hail_codes.specs.Points.{upto}
-use Rattle.hail_codes.specs.ServerCode.{codeword}
-use Rattle.hail_codes.specs.DispersalCode.{Accepts}
-use Rattle.hail_columns.specs.Objects.{Object, stripe_symbols, is_primary, kept_by, point, points}
-use Rattle.hail_columns.specs.Keys.{secret_point}
-use Rattle.hail_columns.specs.Columns.{row_polynomial, primary_row}
-use Rattle.hail_columns.specs.Opened.{SeenBlock, symbol_in, AcceptsRow}
-use Rattle.hail_columns.proofs.ColumnLaws.{value-interpolate_upto}
+use Rattle.code_defs.specs.Polynomials.{value, agree, is_seen, interpolate}
+use Rattle.code_defs.specs.Points.{upto}
+use Rattle.code_defs.specs.ServerCode.{codeword}
+use Rattle.code_defs.specs.DispersalCode.{Accepts}
+use Rattle.column_defs.specs.Objects.{Object, stripe_symbols, is_primary, kept_by, point, points}
+use Rattle.column_defs.specs.Keys.{secret_point}
+use Rattle.column_defs.specs.Columns.{row_polynomial, primary_row}
+use Rattle.column_defs.specs.Opened.{SeenBlock, symbol_in, AcceptsRow}
+use Rattle.column_defs.proofs.ColumnLaws.{value-interpolate_upto}
 use Rattle.column_codec.specs.Agreement.{agreeing_at, agreed}
 use Rattle.column_codec.specs.OpenedBlocks.{opened_at, opened_of, HasRow}
 use Rattle.column_codec.specs.Rows.{symbols_at, row_value}

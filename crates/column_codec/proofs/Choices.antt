@@ -3,7 +3,7 @@
 use Rattle.std.proofs.Common.{◌≡◌, ◌≢◌, ◌≤◌, ◌<◌, ◌+◌, ◌++◌, [], ◌∷◌, ℕ, suc, List, length, drop, get_or, Option, Some, None, cond, Bool, true, false, eqb, arith, append_assoc, refl, sym, ◌∙◌, subst, ap, add-one}
 use Rattle.std.proofs.lemmas.List.{get_or_read, length-append, drop_more, get_or_default}
 use Rattle.std.proofs.lemmas.Bool.{eqb-true}
-use Rattle.plain_facts.specs.Lists.{Each}
+use Rattle.plain_laws.specs.Lists.{Each}
 use Rattle.field_laws.specs.Field.{Apart}
 use Rattle.hail_field.specs.Nim.{nim}
 use Rattle.hail_field.proofs.AllNumbers.{nim_laws}
@@ -13,8 +13,8 @@ use Rattle.poly_laws.proofs.Trim.{length-trim, value-trim}
 use Rattle.poly_laws.proofs.Agree.{agree_same}
 use Rattle.poly_laws.proofs.Roots.{plus_zero, same_values}
 use Rattle.poly_laws.proofs.Interpolate.{length-interpolate, interpolate_takes}
-use Rattle.hail_codes.specs.Polynomials.{value, agree, is_seen, trim, interpolate, TakesSymbols}
-use Rattle.hail_codes.specs.DispersalCode.{Accepts}
+use Rattle.code_defs.specs.Polynomials.{value, agree, is_seen, trim, interpolate, TakesSymbols}
+use Rattle.code_defs.specs.DispersalCode.{Accepts}
 
 -- chosen symbols, each with its point
 pub record Chosen : Type 0 where

@@ -6,11 +6,11 @@ use Rattle.std.proofs.lemmas.Nat.{div-mul-add, mod-mul-add}
 use Rattle.std.proofs.lemmas.List.{get_or-take, get_or-drop}
 use Rattle.std.proofs.lemmas.List.FromFn.{get_or-map-range_with_len, length-map-range_with_len}
 use Rattle.hail_field.specs.Nim.{nim_add, nim_mul}
-use Rattle.hail_codes.specs.Points.{upto}
-use Rattle.hail_codes.specs.Polynomials.{value}
-use Rattle.hail_codes.specs.Sums.{dot}
-use Rattle.hail_columns.specs.Objects.{Object, stripe_symbols, point}
-use Rattle.hail_columns.specs.Columns.{row_polynomial}
+use Rattle.code_defs.specs.Points.{upto}
+use Rattle.code_defs.specs.Polynomials.{value}
+use Rattle.code_defs.specs.Sums.{dot}
+use Rattle.column_defs.specs.Objects.{Object, stripe_symbols, point}
+use Rattle.column_defs.specs.Columns.{row_polynomial}
 use Rattle.column_codec.specs.ObjectKeys.{AreWeights, AreTabled, weight_at}
 use Rattle.column_codec.specs.Rows.{row_value}
 use Rattle.column_codec.proofs.Places.{index_within}

@@ -7,17 +7,17 @@ use Rattle.std.proofs.lemmas.List.{get_or-set_same, get_or-set_other, get_or-tak
 use Rattle.std.proofs.lemmas.Grind.{get_or-set_at}
 use Rattle.std.proofs.lemmas.Nat.{div-mul-add, mod-mul-add}
 use Rattle.std.proofs.lemmas.List.FromFn.{length-map-range_with_len, get_or-map-range_with_len}
-use Rattle.hail_codes.specs.Polynomials.{value}
-use Rattle.hail_codes.specs.Points.{upto}
-use Rattle.hail_codes.specs.Profiles.{Profile}
-use Rattle.hail_codes.specs.ServerCode.{Opens, OpensToNone}
-use Rattle.hail_codes.specs.DispersalCode.{Accepts, AcceptsNone}
-use Rattle.hail_columns.specs.Objects.{Object, stripe_symbols, row_number, is_primary, point, points}
-use Rattle.hail_columns.specs.Opened.{SeenBlock, masked, bare, OpensTo, AllOpen, AcceptsRow, AcceptsNoRow, GivesSymbols, LosesRow, symbol_in}
+use Rattle.code_defs.specs.Polynomials.{value}
+use Rattle.code_defs.specs.Points.{upto}
+use Rattle.code_defs.specs.Profiles.{Profile}
+use Rattle.code_defs.specs.ServerCode.{Opens, OpensToNone}
+use Rattle.code_defs.specs.DispersalCode.{Accepts, AcceptsNone}
+use Rattle.column_defs.specs.Objects.{Object, stripe_symbols, row_number, is_primary, point, points}
+use Rattle.column_defs.specs.Opened.{SeenBlock, masked, bare, OpensTo, AllOpen, AcceptsRow, AcceptsNoRow, GivesSymbols, LosesRow, symbol_in}
 use Rattle.field_laws.specs.Field.{Apart}
-use Rattle.hail_columns.proofs.PointLaws.{Apart-points}
+use Rattle.column_defs.proofs.PointLaws.{Apart-points}
 use Rattle.std.proofs.lemmas.Option.{slice_get-get_or}
-use Rattle.hail_columns.proofs.MaskLengths.{length-bare}
+use Rattle.column_defs.proofs.MaskLengths.{length-bare}
 use Rattle.column_codec.proofs.Places.{index_within}
 use Rattle.column_codec.specs.ObjectKeys.{ArePoints}
 use Rattle.column_codec.specs.OpenedBlocks.{opened_at, opened_of, HasRow, LosesPlace}

@@ -7,15 +7,15 @@ use Rattle.std.proofs.lemmas.List.FromFn.{length-range_with_len}
 use Rattle.field_laws.specs.Field.{Apart}
 use Rattle.field_laws.proofs.Apart.{Apart-front}
 use Rattle.poly_laws.specs.Poly.{agree as agree_over, is_seen as is_seen_over}
-use Rattle.hail_codes.specs.Polynomials.{value, agree, is_seen, trim, interpolate}
-use Rattle.hail_codes.specs.Points.{upto}
-use Rattle.hail_codes.specs.Profiles.{Profile}
-use Rattle.hail_codes.specs.ServerCode.{Opens, OpensToNone}
-use Rattle.hail_codes.specs.DispersalCode.{Accepts}
-use Rattle.hail_codes.proofs.Points.{Apart-range}
+use Rattle.code_defs.specs.Polynomials.{value, agree, is_seen, trim, interpolate}
+use Rattle.code_defs.specs.Points.{upto}
+use Rattle.code_defs.specs.Profiles.{Profile}
+use Rattle.code_defs.specs.ServerCode.{Opens, OpensToNone}
+use Rattle.code_defs.specs.DispersalCode.{Accepts}
+use Rattle.code_defs.proofs.Points.{Apart-range}
 use Rattle.column_codec.proofs.Choices.{AcceptsNoneFrom, Apart-next, Apart-with, full_accepts, full_accepts_none, few_left, absent_accepts_none, present_accepts_none}
-use Rattle.hail_columns.specs.Objects.{Object, stripe_symbols, points}
-use Rattle.hail_columns.specs.Opened.{SeenBlock, bare, OpensTo, AllOpen, AcceptsRow, GivesSymbols, symbol_in}
+use Rattle.column_defs.specs.Objects.{Object, stripe_symbols, points}
+use Rattle.column_defs.specs.Opened.{SeenBlock, bare, OpensTo, AllOpen, AcceptsRow, GivesSymbols, symbol_in}
 use Rattle.column_codec.specs.OpenedBlocks.{opened_at, opened_of, AreOpened, HasRow}
 use Rattle.column_codec.proofs.OpenLemmas.{seen-map, all-open, gives}
 

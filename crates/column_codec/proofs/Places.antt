@@ -4,7 +4,7 @@ use Rattle.std.proofs.Common.{arith, ap, sym, refl, ◌∙◌, get_or, set, eqb-
 use Rattle.std.proofs.Math.Nat.{mul-le-mul, mul-le-mul_right}
 use Rattle.std.proofs.lemmas.List.{take_more_set}
 use Rattle.std.proofs.lemmas.List.FromFn.{map-range_with_len_more}
-use Rattle.hail_codes.specs.Points.{upto}
+use Rattle.code_defs.specs.Points.{upto}
 use Rattle.std.proofs.lemmas.List.{get_or-set_other, length-set}
 use Rattle.std.proofs.lemmas.Grind.{get_or-set_at}
 

@@ -3,8 +3,8 @@ use Rattle.std.specs.Prelude.{◌≡◌, ℕ, zero, suc, ◌+◌, ◌-◌, ◌*�
 use Rattle.std.proofs.Common.{arith, ap, sym, refl, ◌∙◌, get_or, subst}
 use Rattle.std.proofs.lemmas.List.{drop-drop}
 use Rattle.std.specs.Bool.{OnTrue, OnFalse}
-use Rattle.hail_columns.specs.Objects.{Object}
-use Rattle.hail_columns.specs.Opened.{SeenBlock, OpensTo}
+use Rattle.column_defs.specs.Objects.{Object}
+use Rattle.column_defs.specs.Opened.{SeenBlock, OpensTo}
 use Rattle.column_codec.specs.PresentBlocks.{present_blocks}
 
 pub length-present_blocks : (size : ℕ) (flags : List Bool) (symbols : List ℕ) → length (present_blocks size flags symbols) ≡ length flags

@@ -3,22 +3,22 @@ use Rattle.std.specs.Prelude.{◌≡◌, ℕ, zero, suc, ◌+◌, ◌*◌, ◌<�
 use Rattle.std.proofs.Common.{arith, ap, sym, refl, ◌∙◌, get_or}
 use Rattle.std.proofs.lemmas.List.{ext_get_or, get_or-take, get_or-drop, length-take-le}
 use Rattle.std.proofs.lemmas.List.FromFn.{length-map-range_with_len, get_or-map-range_with_len}
-use Rattle.plain_facts.proofs.Lists.{take-front, map-range_same}
+use Rattle.plain_laws.proofs.Lists.{take-front, map-range_same}
 use Rattle.hail_field.specs.Nim.{nim_add}
-use Rattle.hail_codes.specs.Polynomials.{value, interpolate}
-use Rattle.hail_codes.specs.Points.{upto, values_at}
-use Rattle.hail_codes.specs.Profiles.{Profile, profile_of}
-use Rattle.hail_codes.proofs.Profiles.{size_is}
-use Rattle.hail_codes.specs.ServerCode.{codeword}
-use Rattle.hail_columns.specs.Keys.{mask, mask_of, masks_from, file_key}
-use Rattle.hail_columns.specs.Objects.{Object, stripe_symbols, kept_by, is_primary, point}
-use Rattle.hail_columns.specs.Columns.{primary_row, row_polynomial, secondary_symbol, column_of_symbols}
-use Rattle.hail_columns.specs.Opened.{masked}
-use Rattle.hail_codes.specs.Sums.{dot}
-use Rattle.hail_columns.proofs.PointLaws.{point-low}
-use Rattle.hail_columns.proofs.ColumnLaws.{value-interpolate_upto, length-column_of_symbols}
-use Rattle.hail_columns.proofs.SecondaryLaws.{column_polynomial, value-column_polynomial, length-column_polynomial, length-kept_by, codeword-values, point-outside, secondary-column, masked-on}
-use Rattle.hail_columns.proofs.MaskLengths.{length-masked}
+use Rattle.code_defs.specs.Polynomials.{value, interpolate}
+use Rattle.code_defs.specs.Points.{upto, values_at}
+use Rattle.code_defs.specs.Profiles.{Profile, profile_of}
+use Rattle.code_defs.proofs.Profiles.{size_is}
+use Rattle.code_defs.specs.ServerCode.{codeword}
+use Rattle.column_defs.specs.Keys.{mask, mask_of, masks_from, file_key}
+use Rattle.column_defs.specs.Objects.{Object, stripe_symbols, kept_by, is_primary, point}
+use Rattle.column_defs.specs.Columns.{primary_row, row_polynomial, secondary_symbol, column_of_symbols}
+use Rattle.column_defs.specs.Opened.{masked}
+use Rattle.code_defs.specs.Sums.{dot}
+use Rattle.column_defs.proofs.PointLaws.{point-low}
+use Rattle.column_defs.proofs.ColumnLaws.{value-interpolate_upto, length-column_of_symbols}
+use Rattle.column_defs.proofs.SecondaryLaws.{column_polynomial, value-column_polynomial, length-column_polynomial, length-kept_by, codeword-values, point-outside, secondary-column, masked-on}
+use Rattle.column_defs.proofs.MaskLengths.{length-masked}
 use Rattle.column_codec.specs.ObjectKeys.{ArePoints, AreWeights}
 use Rattle.column_codec.specs.Rows.{symbols_at, row_value}
 

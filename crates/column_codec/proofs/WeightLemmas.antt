@@ -4,8 +4,8 @@ use Rattle.std.proofs.Common.{arith, ap, sym, refl, ◌∙◌, get_or}
 use Rattle.std.specs.List.{range_with_len}
 use Rattle.std.proofs.lemmas.List.{get_or-take, length-take-le, length-replicate}
 use Rattle.std.proofs.lemmas.List.FromFn.{length-range_with_len, length-map-range_with_len, map-range_with_len_more, fill_by_all}
-use Rattle.plain_facts.specs.Lists.{Each}
-use Rattle.plain_facts.proofs.Each.{each_range}
+use Rattle.plain_laws.specs.Lists.{Each}
+use Rattle.plain_laws.proofs.Each.{each_range}
 use Rattle.hail_field.specs.Nim.{nim, nim_add, nim_mul, nim_inv}
 use Rattle.hail_field.proofs.AllNumbers.{nim_laws, nim_ring}
 use Rattle.field_laws.proofs.Inverse.{factor_zero}
@@ -14,12 +14,12 @@ use Rattle.field_laws.proofs.Solve.{v, i as one_term, ◌⊞◌, ◌⊡◌, solv
 use Rattle.poly_laws.specs.Poly.{value as value_over}
 use Rattle.poly_laws.proofs.Roots.{plus_zero, same_values}
 use Rattle.poly_laws.proofs.Interpolate.{length-interpolate}
-use Rattle.hail_columns.proofs.ColumnLaws.{value-interpolate_upto}
-use Rattle.hail_codes.specs.Polynomials.{value, interpolate}
-use Rattle.hail_codes.specs.Points.{upto, others_product}
-use Rattle.hail_codes.specs.Sums.{dot}
-use Rattle.hail_codes.proofs.Points.{Apart-range, range_with_len-step, others_product-outside}
-use Rattle.hail_codes.proofs.Lagrange.{part, dot-scaled, value-interpolate, nim_inv-mul, gap_not_zero, others_product-not_zero}
+use Rattle.column_defs.proofs.ColumnLaws.{value-interpolate_upto}
+use Rattle.code_defs.specs.Polynomials.{value, interpolate}
+use Rattle.code_defs.specs.Points.{upto, others_product}
+use Rattle.code_defs.specs.Sums.{dot}
+use Rattle.code_defs.proofs.Points.{Apart-range, range_with_len-step, others_product-outside}
+use Rattle.code_defs.proofs.Lagrange.{part, dot-scaled, value-interpolate, nim_inv-mul, gap_not_zero, others_product-not_zero}
 use Rattle.column_codec.specs.ObjectKeys.{AreWeights}
 use Rattle.column_codec.specs.Rows.{symbols_at}
 

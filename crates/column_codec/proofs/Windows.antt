@@ -3,7 +3,7 @@ use Rattle.std.specs.Prelude.{◌≡◌, ℕ, ◌+◌, ◌*◌, ◌/◌, ◌%◌
 use Rattle.std.proofs.Common.{arith, ap, sym, refl, ◌∙◌, get_or, set}
 use Rattle.std.proofs.lemmas.List.{take_more_set}
 use Rattle.std.proofs.lemmas.List.FromFn.{map-range_with_len_more, get_or-map-range_with_len}
-use Rattle.hail_columns.specs.Keys.{mask_of, masks_from}
+use Rattle.column_defs.specs.Keys.{mask_of, masks_from}
 
 -- the mask of a row stands among the sixteen of its number
 pub mask_in : (masks key same : List ℕ) (number row x : ℕ) → masks ≡ masks_from key (number * 16) 16 → key ≡ same → number ≡ row / 16 →

@@ -1,10 +1,10 @@
 -- How many providers agree with a row.
 use Rattle.std.specs.Prelude.{ℕ, Bool, List, map, if◌then◌else◌}
-use Rattle.hail_codes.specs.Polynomials.{value, agree, is_seen}
-use Rattle.hail_codes.specs.Points.{upto}
-use Rattle.hail_columns.specs.Objects.{Object, point}
-use Rattle.hail_columns.specs.Columns.{row_polynomial}
-use Rattle.hail_columns.specs.Opened.{SeenBlock, symbol_in}
+use Rattle.code_defs.specs.Polynomials.{value, agree, is_seen}
+use Rattle.code_defs.specs.Points.{upto}
+use Rattle.column_defs.specs.Objects.{Object, point}
+use Rattle.column_defs.specs.Columns.{row_polynomial}
+use Rattle.column_defs.specs.Opened.{SeenBlock, symbol_in}
 use Rattle.column_codec.specs.OpenedBlocks.{opened_at}
 
 -- 1 where the opened symbol of a provider is the value of the row with these primary symbols, else 0

@@ -1,9 +1,9 @@
 -- What the keys of an object stand for.
 use Rattle.std.specs.Prelude.{◌≡◌, ◌≤◌, ℕ, ◌+◌, ◌-◌, ◌*◌, ◌/◌, ◌%◌, ◌<◌, List, [], length, map, slice_index, slice_index_or}
-use Rattle.hail_codes.specs.Points.{upto}
-use Rattle.hail_codes.specs.Polynomials.{value, interpolate}
-use Rattle.hail_codes.specs.Sums.{dot}
-use Rattle.hail_columns.specs.Keys.{file_key, point_of}
+use Rattle.code_defs.specs.Points.{upto}
+use Rattle.code_defs.specs.Polynomials.{value, interpolate}
+use Rattle.code_defs.specs.Sums.{dot}
+use Rattle.column_defs.specs.Keys.{file_key, point_of}
 
 -- the first points are those of the providers of an object
 abbrev pub ArePoints : ℕ → ℕ → List ℕ → ℕ → List ℕ → Type 0

@@ -1,9 +1,9 @@
 -- What was opened so far: a mark for each provider, and the blocks.
 use Rattle.std.specs.Prelude.{◌≡◌, ℕ, ◌+◌, ◌*◌, ◌<◌, Bool, true, false, List, [], map, slice_index, slice_index_or, Some, None, if◌then◌else◌}
-use Rattle.hail_codes.specs.Polynomials.{value}
-use Rattle.hail_codes.specs.Points.{upto}
-use Rattle.hail_columns.specs.Objects.{Object, row_number}
-use Rattle.hail_columns.specs.Opened.{SeenBlock, OpensTo, AcceptsRow, AcceptsNoRow}
+use Rattle.code_defs.specs.Polynomials.{value}
+use Rattle.code_defs.specs.Points.{upto}
+use Rattle.column_defs.specs.Objects.{Object, row_number}
+use Rattle.column_defs.specs.Opened.{SeenBlock, OpensTo, AcceptsRow, AcceptsNoRow}
 
 -- what the block of a provider opened to
 abbrev pub opened_at : List Bool → List (List ℕ) → ℕ → SeenBlock

@@ -1,6 +1,6 @@
 -- Blocks that lie one after the other in one list of symbols, with a flag each.
 use Rattle.std.specs.Prelude.{ℕ, Bool, List, [], ◌∷◌, take, drop, Some, None, if◌then◌else◌}
-use Rattle.hail_columns.specs.Opened.{SeenBlock}
+use Rattle.column_defs.specs.Opened.{SeenBlock}
 
 -- the blocks of a size, each where its flag says that it is present; what stands in the place of an absent
 -- one does not count

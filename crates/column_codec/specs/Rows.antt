@@ -1,9 +1,9 @@
 -- Rows and places of the symbols of a stripe.
 use Rattle.std.specs.Prelude.{ℕ, ◌+◌, ◌*◌, List, map, slice_index}
-use Rattle.hail_codes.specs.Polynomials.{value}
-use Rattle.hail_codes.specs.Points.{upto}
-use Rattle.hail_columns.specs.Objects.{Object, point}
-use Rattle.hail_columns.specs.Columns.{row_polynomial}
+use Rattle.code_defs.specs.Polynomials.{value}
+use Rattle.code_defs.specs.Points.{upto}
+use Rattle.column_defs.specs.Objects.{Object, point}
+use Rattle.column_defs.specs.Columns.{row_polynomial}
 
 -- the symbols at a place of l blocks of keep symbols, which lie one after the other
 abbrev pub symbols_at : ℕ → ℕ → ℕ → List ℕ → List ℕ

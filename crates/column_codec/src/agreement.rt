@@ -39,8 +39,8 @@ fn first_below(counts: &[u8], need: u8) -> Option<usize>
 
 impl ObjectKeys {
     ghost use Rattle.std.specs.Prelude.{◌≡◌, ◌≤◌, ◌<◌, ◌*◌, ℕ, [], length, slice_index_or};
-    ghost use Rattle.hail_columns.specs.Columns.{row_polynomial};
-    ghost use Rattle.hail_columns.specs.Opened.{AcceptsRow};
+    ghost use Rattle.column_defs.specs.Columns.{row_polynomial};
+    ghost use Rattle.column_defs.specs.Opened.{AcceptsRow};
     ghost use Rattle.file_layout.specs.Files.{shaped_object};
     ghost use Rattle.column_codec.specs.OpenedBlocks.{opened_at, opened_of};
     ghost use Rattle.column_codec.specs.Agreement.{agreeing_at, agreed};

@@ -9,7 +9,7 @@ use server_code::AnyCode;
 impl ObjectKeys {
     ghost use Rattle.std.specs.Prelude.{◌≡◌, ◌≤◌, ◌<◌, ◌*◌, ℕ, Some, None, [], length, slice_index_or};
     ghost use Rattle.std.specs.Bool.{OnTrue};
-    ghost use Rattle.hail_columns.specs.Opened.{OpensTo, GivesSymbols};
+    ghost use Rattle.column_defs.specs.Opened.{OpensTo, GivesSymbols};
     ghost use Rattle.file_layout.specs.Files.{shaped_object};
     ghost use Rattle.server_code.specs.Any.{code_profile};
     ghost use Rattle.column_codec.specs.OpenedBlocks.{AreOpened};

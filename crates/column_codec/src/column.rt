@@ -7,8 +7,8 @@ use server_code::AnyCode;
 
 impl ObjectKeys {
     ghost use Rattle.std.specs.Prelude.{◌≡◌, ◌≤◌, ◌<◌, ◌*◌, length};
-    ghost use Rattle.hail_columns.specs.Columns.{column_of_symbols};
-    ghost use Rattle.hail_columns.specs.Opened.{masked};
+    ghost use Rattle.column_defs.specs.Columns.{column_of_symbols};
+    ghost use Rattle.column_defs.specs.Opened.{masked};
     ghost use Rattle.file_layout.specs.Files.{shaped_object};
     ghost use Rattle.server_code.specs.Any.{code_profile};
 

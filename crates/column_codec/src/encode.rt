@@ -1,7 +1,7 @@
 ghost use Rattle.std.specs.Prelude.{◌≡◌, ◌≤◌, ◌<◌, ◌*◌, All, length, map};
-ghost use Rattle.hail_codes.specs.Points.{upto};
-ghost use Rattle.hail_columns.specs.Objects.{symbols_in};
-ghost use Rattle.hail_columns.specs.Columns.{columns, column_of_symbols};
+ghost use Rattle.code_defs.specs.Points.{upto};
+ghost use Rattle.column_defs.specs.Objects.{symbols_in};
+ghost use Rattle.column_defs.specs.Columns.{columns, column_of_symbols};
 ghost use Rattle.file_layout.specs.Files.{shaped_object};
 ghost use Rattle.server_code.specs.Any.{code_profile};
 

@@ -1,6 +1,6 @@
 ghost use Rattle.std.specs.Prelude.{◌≡◌, ◌≤◌, ◌<◌, ◌*◌, ℕ, List, length, slice_index, replicate};
 ghost use Rattle.hail_field.specs.Nim.{nim_add};
-ghost use Rattle.hail_columns.specs.Objects.{symbols_in};
+ghost use Rattle.column_defs.specs.Objects.{symbols_in};
 ghost use Rattle.file_layout.specs.Files.{shaped_object};
 
 use file_layout::FileShape;

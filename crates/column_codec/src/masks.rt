@@ -1,6 +1,6 @@
 //! Masks that are kept from stripe to stripe.
 ghost use Rattle.std.specs.Prelude.{◌≡◌, ◌≤◌, ◌<◌, ◌+◌, ◌*◌, ◌/◌, ◌^◌, length};
-ghost use Rattle.hail_columns.specs.Keys.{mask_of, masks_from};
+ghost use Rattle.column_defs.specs.Keys.{mask_of, masks_from};
 
 use hail_field::Symbol;
 use mask_tag::mask_block;

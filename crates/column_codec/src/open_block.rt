@@ -8,7 +8,7 @@ use server_code::AnyCode;
 impl ObjectKeys {
     ghost use Rattle.std.specs.Prelude.{◌≡◌, ◌≤◌, ◌<◌, ◌*◌, Some, None, length};
     ghost use Rattle.std.specs.Bool.{OnTrue, OnFalse};
-    ghost use Rattle.hail_columns.specs.Opened.{bare, OpensTo};
+    ghost use Rattle.column_defs.specs.Opened.{bare, OpensTo};
     ghost use Rattle.file_layout.specs.Files.{shaped_object};
     ghost use Rattle.server_code.specs.Any.{code_profile};
 

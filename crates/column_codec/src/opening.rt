@@ -1,8 +1,8 @@
 ghost use Rattle.std.specs.Prelude.{◌≡◌, ◌≤◌, ◌<◌, ◌*◌, ◌%◌, ◌≢◌, ◌+◌, ℕ, Some, None, length, map, All, slice_index, slice_index_or, [], replicate, OnOk, OnErr, IfErr, if◌then◌else◌};
 ghost use Rattle.std.specs.Bool.{OnTrue, OnFalse};
-ghost use Rattle.hail_codes.specs.Polynomials.{value};
-ghost use Rattle.hail_codes.specs.Points.{upto};
-ghost use Rattle.hail_columns.specs.Opened.{AllOpen, AcceptsRow, AcceptsNoRow, GivesSymbols, LosesRow, symbol_in};
+ghost use Rattle.code_defs.specs.Polynomials.{value};
+ghost use Rattle.code_defs.specs.Points.{upto};
+ghost use Rattle.column_defs.specs.Opened.{AllOpen, AcceptsRow, AcceptsNoRow, GivesSymbols, LosesRow, symbol_in};
 ghost use Rattle.file_layout.specs.Files.{shaped_object};
 ghost use Rattle.server_code.specs.Any.{code_profile};
 ghost use Rattle.column_codec.specs.OpenedBlocks.{opened_at, opened_of, HasRow, LosesPlace};

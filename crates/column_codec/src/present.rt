@@ -10,7 +10,7 @@ use server_code::AnyCode;
 impl ObjectKeys {
     ghost use Rattle.std.specs.Prelude.{◌≡◌, ◌≤◌, ◌<◌, ◌*◌, ℕ, [], None, length, All, replicate, slice_index_or, OnOk, OnErr, IfErr};
     ghost use Rattle.std.specs.Bool.{OnTrue, OnFalse};
-    ghost use Rattle.hail_columns.specs.Opened.{AllOpen, OpensTo, GivesSymbols, LosesRow};
+    ghost use Rattle.column_defs.specs.Opened.{AllOpen, OpensTo, GivesSymbols, LosesRow};
     ghost use Rattle.file_layout.specs.Files.{shaped_object};
     ghost use Rattle.server_code.specs.Any.{code_profile};
     ghost use Rattle.column_codec.specs.OpenedBlocks.{opened_of};

@@ -33,7 +33,7 @@ fn add_differences_by(table: &ConstantTable, from: &[Symbol], first: &[Symbol], 
 
 impl ObjectKeys {
     ghost use Rattle.std.specs.Prelude.{◌≡◌, ◌≤◌, ◌<◌, ◌*◌, [], length, map, slice_index_or};
-    ghost use Rattle.hail_codes.specs.Points.{upto};
+    ghost use Rattle.code_defs.specs.Points.{upto};
     ghost use Rattle.file_layout.specs.Files.{shaped_object};
     ghost use Rattle.column_codec.specs.Rows.{row_value};
 

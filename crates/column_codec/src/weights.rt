@@ -1,6 +1,6 @@
 ghost use Rattle.std.specs.Prelude.{◌≡◌, ◌≢◌, ◌<◌, ◌≤◌, ◌==◌, if◌then◌else◌, ℕ};
 ghost use Rattle.hail_field.specs.Nim.{nim_mul, nim_inv, nim_add};
-ghost use Rattle.hail_codes.specs.Points.{upto, others_product};
+ghost use Rattle.code_defs.specs.Points.{upto, others_product};
 ghost use Rattle.column_codec.specs.ObjectKeys.{AreWeights};
 
 use hail_field::Symbol;

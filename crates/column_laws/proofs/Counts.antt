@@ -3,11 +3,11 @@ use Rattle.std.specs.Prelude.{◌≡◌, ℕ, zero, suc, ◌+◌, ◌-◌, ◌<�
 use Rattle.std.proofs.Common.{arith, ap, sym, refl, ◌∙◌, subst}
 use Rattle.std.specs.List.{range_with_len}
 use Rattle.poly_laws.specs.Poly.{agree as agree_over, is_seen as is_seen_over}
-use Rattle.hail_codes.specs.Polynomials.{value, agree, is_seen}
-use Rattle.hail_codes.specs.Points.{upto}
-use Rattle.hail_columns.specs.Objects.{Object, points, point}
-use Rattle.hail_columns.specs.Opened.{SeenBlock, OpensTo, AllOpen, symbol_in, block_at}
-use Rattle.hail_columns.specs.Forgeries.{count_of, is_agreeing}
+use Rattle.code_defs.specs.Polynomials.{value, agree, is_seen}
+use Rattle.code_defs.specs.Points.{upto}
+use Rattle.column_defs.specs.Objects.{Object, points, point}
+use Rattle.column_defs.specs.Opened.{SeenBlock, OpensTo, AllOpen, symbol_in, block_at}
+use Rattle.column_defs.specs.Forgeries.{count_of, is_agreeing}
 
 -- where each number of a range passes one of two tests, at least as many pass them as there are numbers
 pub count_of-cover : (p q : ℕ → Bool) (a n : ℕ) → ((j : ℕ) → j < a + n → p j ≡ false → q j ≡ true) →

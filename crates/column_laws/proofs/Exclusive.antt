@@ -2,12 +2,12 @@
 use Rattle.std.specs.Prelude.{◌≡◌, ℕ, ◌+◌, ◌<◌, ◌≤◌, List, [], ◌∷◌}
 use Rattle.std.proofs.Common.{refl, subst, arith}
 use Rattle.hail_field.specs.Shape.{IsShape}
-use Rattle.hail_codes.specs.Points.{upto}
-use Rattle.hail_codes.specs.Profiles.{profile_of}
-use Rattle.hail_columns.specs.Objects.{Object, symbols_in}
-use Rattle.hail_columns.specs.Columns.{row_polynomial, is_wrong_block}
-use Rattle.hail_columns.specs.Opened.{SeenBlock, block_at, AllOpen, AcceptsRow, GivesSymbols, LosesRow}
-use Rattle.hail_columns.specs.Forgeries.{count_of}
+use Rattle.code_defs.specs.Points.{upto}
+use Rattle.code_defs.specs.Profiles.{profile_of}
+use Rattle.column_defs.specs.Objects.{Object, symbols_in}
+use Rattle.column_defs.specs.Columns.{row_polynomial, is_wrong_block}
+use Rattle.column_defs.specs.Opened.{SeenBlock, block_at, AllOpen, AcceptsRow, GivesSymbols, LosesRow}
+use Rattle.column_defs.specs.Forgeries.{count_of}
 use Rattle.column_laws.proofs.UniqueLaws.{opens-unique, profile-room}
 use Rattle.column_laws.proofs.RightRows.{row-right}
 

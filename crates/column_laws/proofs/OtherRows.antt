@@ -6,17 +6,17 @@ use Rattle.std.proofs.lemmas.List.FromFn.{length-map-range_with_len}
 use Rattle.std.proofs.lemmas.Bool.{not-true}
 use Rattle.hail_field.specs.Shape.{IsShape}
 use Rattle.poly_laws.specs.Poly.{agree as agree_over}
-use Rattle.hail_codes.specs.Polynomials.{value, agree, is_seen}
-use Rattle.hail_codes.specs.Points.{upto, values_at}
-use Rattle.hail_codes.specs.Profiles.{profile_of}
-use Rattle.hail_codes.specs.ServerCode.{codeword}
-use Rattle.hail_codes.proofs.Codewords.{agree-values}
-use Rattle.hail_columns.specs.Objects.{Object, symbols_in, kept_by, is_primary, point, points}
-use Rattle.hail_columns.specs.Columns.{primary_row, row_polynomial, is_wrong_block}
-use Rattle.hail_columns.specs.Opened.{SeenBlock, AllOpen, AcceptsRow, block_at}
-use Rattle.hail_columns.specs.Forgeries.{count_of, is_agreeing, IsRow, IsStripeForgery}
-use Rattle.hail_columns.proofs.ColumnLaws.{length-row_polynomial, value-row_polynomial}
-use Rattle.hail_columns.proofs.PointLaws.{Apart-points}
+use Rattle.code_defs.specs.Polynomials.{value, agree, is_seen}
+use Rattle.code_defs.specs.Points.{upto, values_at}
+use Rattle.code_defs.specs.Profiles.{profile_of}
+use Rattle.code_defs.specs.ServerCode.{codeword}
+use Rattle.code_defs.proofs.Codewords.{agree-values}
+use Rattle.column_defs.specs.Objects.{Object, symbols_in, kept_by, is_primary, point, points}
+use Rattle.column_defs.specs.Columns.{primary_row, row_polynomial, is_wrong_block}
+use Rattle.column_defs.specs.Opened.{SeenBlock, AllOpen, AcceptsRow, block_at}
+use Rattle.column_defs.specs.Forgeries.{count_of, is_agreeing, IsRow, IsStripeForgery}
+use Rattle.column_defs.proofs.ColumnLaws.{length-row_polynomial, value-row_polynomial}
+use Rattle.column_defs.proofs.PointLaws.{Apart-points}
 use Rattle.column_laws.proofs.UniqueLaws.{often_same, values_same, profile-room}
 use Rattle.column_laws.proofs.Counts.{count_of-within, count_of-parts, count_of-below, agree-row}
 use Rattle.column_laws.proofs.RightRows.{symbol-at}

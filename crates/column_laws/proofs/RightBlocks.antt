@@ -3,18 +3,18 @@ use Rattle.std.specs.Prelude.{◌≡◌, ℕ, suc, ◌+◌, ◌*◌, ◌<◌, �
 use Rattle.std.proofs.Common.{arith, ap, sym, refl, ◌∙◌}
 use Rattle.std.proofs.lemmas.List.FromFn.{length-range_with_len, length-map-range_with_len}
 use Rattle.poly_laws.specs.Poly.{agree as agree_over, is_seen as is_seen_over}
-use Rattle.hail_codes.specs.Polynomials.{value, agree}
-use Rattle.hail_codes.specs.Points.{upto, values_at}
-use Rattle.hail_codes.specs.Profiles.{profile_of}
-use Rattle.hail_codes.specs.ServerCode.{differences, IsCodeword}
-use Rattle.hail_codes.proofs.Values.{equal-added}
-use Rattle.hail_columns.specs.Keys.{mask, secret_point}
-use Rattle.hail_columns.specs.Objects.{Object, stripe_symbols, symbol_of, symbols_in, row_number, is_primary, point}
-use Rattle.hail_columns.specs.Columns.{row_polynomial, column_of_symbols, columns, is_wrong_block}
-use Rattle.hail_columns.specs.Opened.{SeenBlock, masked, bare, OpensTo, symbol_in}
-use Rattle.hail_columns.proofs.ColumnLaws.{slice_get-upto, primary-symbol}
-use Rattle.hail_columns.proofs.SecondaryLaws.{column_polynomial, value-column_polynomial, point-outside, bare-secondary, IsCodeword-bare_column}
-use Rattle.hail_columns.proofs.MaskLengths.{length-bare}
+use Rattle.code_defs.specs.Polynomials.{value, agree}
+use Rattle.code_defs.specs.Points.{upto, values_at}
+use Rattle.code_defs.specs.Profiles.{profile_of}
+use Rattle.code_defs.specs.ServerCode.{differences, IsCodeword}
+use Rattle.code_defs.proofs.Values.{equal-added}
+use Rattle.column_defs.specs.Keys.{mask, secret_point}
+use Rattle.column_defs.specs.Objects.{Object, stripe_symbols, symbol_of, symbols_in, row_number, is_primary, point}
+use Rattle.column_defs.specs.Columns.{row_polynomial, column_of_symbols, columns, is_wrong_block}
+use Rattle.column_defs.specs.Opened.{SeenBlock, masked, bare, OpensTo, symbol_in}
+use Rattle.column_defs.proofs.ColumnLaws.{slice_get-upto, primary-symbol}
+use Rattle.column_defs.proofs.SecondaryLaws.{column_polynomial, value-column_polynomial, point-outside, bare-secondary, IsCodeword-bare_column}
+use Rattle.column_defs.proofs.MaskLengths.{length-bare}
 use Rattle.column_laws.proofs.UniqueLaws.{opens-unique}
 
 -- a polynomial agrees with a block where the block does not differ from its values

@@ -4,20 +4,20 @@ use Rattle.std.proofs.Common.{arith, ap, sym, ◌∙◌, get_or-take, get_or-dro
 use Rattle.std.proofs.Math.Nat.{mul-le-mul_right}
 use Rattle.std.proofs.lemmas.List.FromFn.{length-map-range_with_len, get_or-map-range_with_len, fill_by_all}
 use Rattle.std.proofs.lemmas.Option.{get_or_from_slice_get}
-use Rattle.plain_facts.proofs.Places.{IsPlace, place-of}
+use Rattle.plain_laws.proofs.Places.{IsPlace, place-of}
 use Rattle.hail_field.specs.Shape.{IsShape}
 use Rattle.hail_field.proofs.AllNumbers.{nim_laws}
 use Rattle.poly_laws.specs.Poly.{is_seen as is_seen_over}
-use Rattle.hail_codes.specs.Polynomials.{value, interpolate, is_seen}
-use Rattle.hail_codes.specs.Points.{upto}
-use Rattle.hail_codes.specs.Profiles.{profile_of}
-use Rattle.hail_codes.specs.ServerCode.{codeword}
-use Rattle.hail_columns.specs.Objects.{Object, stripe_symbols, symbol_of, symbols_in, kept_by, point}
-use Rattle.hail_columns.specs.Columns.{row_polynomial, is_wrong_block}
-use Rattle.hail_columns.specs.Opened.{SeenBlock, AllOpen, OpensTo, symbol_in, block_at, AcceptsRow, GivesSymbols}
-use Rattle.hail_columns.specs.Forgeries.{count_of, is_agreeing}
-use Rattle.hail_columns.proofs.ColumnLaws.{length-row_polynomial, value-row_polynomial, value-interpolate_upto, slice_get-upto}
-use Rattle.hail_columns.proofs.SecondaryLaws.{length-kept_by}
+use Rattle.code_defs.specs.Polynomials.{value, interpolate, is_seen}
+use Rattle.code_defs.specs.Points.{upto}
+use Rattle.code_defs.specs.Profiles.{profile_of}
+use Rattle.code_defs.specs.ServerCode.{codeword}
+use Rattle.column_defs.specs.Objects.{Object, stripe_symbols, symbol_of, symbols_in, kept_by, point}
+use Rattle.column_defs.specs.Columns.{row_polynomial, is_wrong_block}
+use Rattle.column_defs.specs.Opened.{SeenBlock, AllOpen, OpensTo, symbol_in, block_at, AcceptsRow, GivesSymbols}
+use Rattle.column_defs.specs.Forgeries.{count_of, is_agreeing}
+use Rattle.column_defs.proofs.ColumnLaws.{length-row_polynomial, value-row_polynomial, value-interpolate_upto, slice_get-upto}
+use Rattle.column_defs.proofs.SecondaryLaws.{length-kept_by}
 use Rattle.column_laws.proofs.UniqueLaws.{accepted-unique, profile-room}
 use Rattle.column_laws.proofs.RightBlocks.{length-symbols_in, symbol-right}
 use Rattle.column_laws.proofs.Counts.{count_of-cover, agree-row, opens-at}

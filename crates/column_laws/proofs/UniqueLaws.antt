@@ -9,14 +9,14 @@ use Rattle.hail_field.proofs.AllNumbers.{nim_laws}
 use Rattle.poly_laws.specs.Poly.{agree as agree_over, present}
 use Rattle.poly_laws.proofs.Agree.{unique}
 use Rattle.poly_laws.proofs.Roots.{same_values}
-use Rattle.hail_codes.specs.Polynomials.{value, agree}
-use Rattle.hail_codes.specs.Points.{upto, values_at}
-use Rattle.hail_codes.specs.Profiles.{profile_of}
-use Rattle.hail_codes.proofs.Points.{Apart-range}
-use Rattle.hail_codes.proofs.Profiles.{size_is}
-use Rattle.hail_columns.specs.Objects.{Object, point, points}
-use Rattle.hail_columns.specs.Opened.{SeenBlock, bare, OpensTo, AcceptsRow, symbol_in}
-use Rattle.hail_columns.proofs.PointLaws.{Apart-points}
+use Rattle.code_defs.specs.Polynomials.{value, agree}
+use Rattle.code_defs.specs.Points.{upto, values_at}
+use Rattle.code_defs.specs.Profiles.{profile_of}
+use Rattle.code_defs.proofs.Points.{Apart-range}
+use Rattle.code_defs.proofs.Profiles.{size_is}
+use Rattle.column_defs.specs.Objects.{Object, point, points}
+use Rattle.column_defs.specs.Opened.{SeenBlock, bare, OpensTo, AcceptsRow, symbol_in}
+use Rattle.column_defs.proofs.PointLaws.{Apart-points}
 
 -- symbols past the last point do not count
 agree-front : (p xs : List ℕ) (ss : List (Option ℕ)) → agree p xs (take (length xs) ss) ≡ agree p xs ss

@@ -4,10 +4,10 @@
 -- wrong; 6 symbols of which 2 are kept three_seen o bytes == the blocks of stripe 0 of a file, as three
 -- providers hold them; the fourth is absent three_opened o bytes == these without their masks
 use Rattle.std.specs.Prelude.{ℕ, List, [], ◌∷◌, None, Some}
-use Rattle.hail_codes.specs.Profiles.{profile_of}
-use Rattle.hail_columns.specs.Objects.{Object}
-use Rattle.hail_columns.specs.Columns.{columns}
-use Rattle.hail_columns.specs.Opened.{SeenBlock, bare}
+use Rattle.code_defs.specs.Profiles.{profile_of}
+use Rattle.column_defs.specs.Objects.{Object}
+use Rattle.column_defs.specs.Columns.{columns}
+use Rattle.column_defs.specs.Opened.{SeenBlock, bare}
 
 -- four providers, one primary, one that may be wrong
 abbrev pub example : List ℕ → Object

@@ -2,13 +2,13 @@
 ghost use Rattle.std.specs.Prelude.{◌≡◌, ◌≢◌, ◌<◌, ◌≤◌, ◌+◌, ◌*◌, ℕ, false, List, [], ◌∷◌, None, Some};
 ghost use Rattle.field_laws.specs.Field.{Apart};
 ghost use Rattle.hail_field.specs.Shape.{IsShape};
-ghost use Rattle.hail_codes.specs.Polynomials.{value};
-ghost use Rattle.hail_codes.specs.Points.{upto, values_at};
-ghost use Rattle.hail_codes.specs.Profiles.{profile_of};
-ghost use Rattle.hail_columns.specs.Objects.{Object, symbols_in, point};
-ghost use Rattle.hail_columns.specs.Columns.{primary_row, row_polynomial, columns, is_wrong_block};
-ghost use Rattle.hail_columns.specs.Opened.{SeenBlock, bare, OpensTo, AllOpen, symbol_in, block_at, AcceptsRow, GivesSymbols, LosesRow};
-ghost use Rattle.hail_columns.specs.Forgeries.{count_of, IsRow, IsStripeForgery};
+ghost use Rattle.code_defs.specs.Polynomials.{value};
+ghost use Rattle.code_defs.specs.Points.{upto, values_at};
+ghost use Rattle.code_defs.specs.Profiles.{profile_of};
+ghost use Rattle.column_defs.specs.Objects.{Object, symbols_in, point};
+ghost use Rattle.column_defs.specs.Columns.{primary_row, row_polynomial, columns, is_wrong_block};
+ghost use Rattle.column_defs.specs.Opened.{SeenBlock, bare, OpensTo, AllOpen, symbol_in, block_at, AcceptsRow, GivesSymbols, LosesRow};
+ghost use Rattle.column_defs.specs.Forgeries.{count_of, IsRow, IsStripeForgery};
 ghost use Rattle.column_laws.specs.Example.{example, three_seen, three_opened};
 
 /// In each profile a block has the kept symbols and two more for each wrong one that is corrected, and the points 0 to size - 1 differ.

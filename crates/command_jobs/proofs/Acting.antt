@@ -1,22 +1,22 @@
 -- What a step of the only job of a state does: it makes an action, and what is in effect or in flight grows.
 use Rattle.std.proofs.Common.{◌≡◌, ℕ, ◌+◌, ◌≤◌, ◌==◌, ◌⊎◌, List, [], ◌∷◌, Option, Some, None, refl, ap, sym, subst, ◌∙◌, inl, inr, arith}
 use Rattle.std.proofs.lemmas.Bool.{cases_Bool}
-use Rattle.plain_facts.proofs.Options.{some-not-none}
-use Rattle.hail_records.specs.Records.{Record}
-use Rattle.hail_records.specs.Journal.{text_size}
-use Rattle.hail_machine.specs.Jobs.{Kind, Job, job_of}
-use Rattle.hail_machine.specs.Actions.{Action, WriteBody, SyncBody, WriteGate, SyncGate, Store, Fetch, Ask, Work, Remove, End}
-use Rattle.hail_machine.specs.Answers as answer
-use Rattle.hail_machine.specs.Answers.{Answer}
-use Rattle.hail_machine.specs.Events.{Step, More, Ended, Outcome}
-use Rattle.hail_machine.specs.States.{State, Append, Alone}
-use Rattle.hail_machine.specs.Appends.{Moves}
-use Rattle.hail_machine.specs.Steps.{next_action, holder_of, Acts, ActsOrWaits, StepsOn, StepsJob, StepsOne, StepsOpen, Steps}
-use Rattle.hail_machine.specs.Machine.{Happens}
-use Rattle.hail_machine.proofs.JobLists.{cond_true, cond_false, same_value}
-use Rattle.sound_states.specs.Orders.{moves_before}
-use Rattle.sound_states.proofs.Given.{holder}
-use Rattle.hail_openings.specs.Opened.{IsOpenAtRest}
+use Rattle.plain_laws.proofs.Options.{some-not-none}
+use Rattle.record_defs.specs.Records.{Record}
+use Rattle.record_defs.specs.Journal.{text_size}
+use Rattle.machine_defs.specs.Jobs.{Kind, Job, job_of}
+use Rattle.machine_defs.specs.Actions.{Action, WriteBody, SyncBody, WriteGate, SyncGate, Store, Fetch, Ask, Work, Remove, End}
+use Rattle.machine_defs.specs.Answers as answer
+use Rattle.machine_defs.specs.Answers.{Answer}
+use Rattle.machine_defs.specs.Events.{Step, More, Ended, Outcome}
+use Rattle.machine_defs.specs.States.{State, Append, Alone}
+use Rattle.machine_defs.specs.Appends.{Moves}
+use Rattle.machine_defs.specs.Steps.{next_action, holder_of, Acts, ActsOrWaits, StepsOn, StepsJob, StepsOne, StepsOpen, Steps}
+use Rattle.machine_defs.specs.Machine.{Happens}
+use Rattle.machine_defs.proofs.JobLists.{cond_true, cond_false, same_value}
+use Rattle.state_laws.specs.Orders.{moves_before}
+use Rattle.state_laws.proofs.Given.{holder}
+use Rattle.opening_defs.specs.Opened.{IsOpenAtRest}
 use Rattle.lone_laws.specs.Walked.{Walked}
 use Rattle.lone_laws.proofs.Walk.{found, none-alone}
 use Rattle.vault.specs.Devices.{records_in_flight}

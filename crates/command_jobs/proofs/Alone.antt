@@ -2,27 +2,27 @@
 use Rattle.std.proofs.Common.{◌≡◌, ℕ, ◌+◌, ◌≤◌, List, length, replicate, drop, Option, Some, None, Ok, Err, refl, ap, sym, subst, ◌∙◌, inl, inr, arith}
 use Rattle.std.specs.Option.{option_map}
 use Rattle.std.proofs.lemmas.List.{length-replicate}
-use Rattle.hail_devices.specs.Cells.{Cells, reads}
-use Rattle.hail_devices.specs.Providers.{Provider}
-use Rattle.hail_records.specs.Records.{Record}
-use Rattle.hail_records.specs.Journal.{text_size}
-use Rattle.hail_machine.specs.Jobs.{Kind}
-use Rattle.hail_machine.specs.Answers as answer
-use Rattle.hail_machine.specs.Answers.{Answer}
-use Rattle.hail_machine.specs.Events.{IsSpelledKind}
-use Rattle.hail_machine.specs.Begins.{new_job}
-use Rattle.hail_machine.specs.Heard.{Entry}
-use Rattle.hail_machine.specs.Refusals as refusal
-use Rattle.hail_machine.specs.Refusals.{Refusal}
-use Rattle.hail_machine.specs.States.{State}
-use Rattle.hail_machine.specs.Stands.{StandsForState}
-use Rattle.hail_commands.specs.Seen.{Seen, nobody}
-use Rattle.hail_commands.specs.Opens as opens
-use Rattle.hail_commands.specs.Opens.{setup_in_effect}
-use Rattle.hail_commands.specs.Refusals as commands
-use Rattle.hail_openings.specs.Opened.{AreHanded, IsOpenedOver, IsOpenAtRest}
-use Rattle.hail_commands.specs.JobRuns.{GoesOnTo}
-use Rattle.hail_commands.specs.Jobs.{past, with_next, SameBehind, SamePast, RanAlone, RunsAlone, LeftAlone}
+use Rattle.device_defs.specs.Cells.{Cells, reads}
+use Rattle.device_defs.specs.Providers.{Provider}
+use Rattle.record_defs.specs.Records.{Record}
+use Rattle.record_defs.specs.Journal.{text_size}
+use Rattle.machine_defs.specs.Jobs.{Kind}
+use Rattle.machine_defs.specs.Answers as answer
+use Rattle.machine_defs.specs.Answers.{Answer}
+use Rattle.machine_defs.specs.Events.{IsSpelledKind}
+use Rattle.machine_defs.specs.Begins.{new_job}
+use Rattle.machine_defs.specs.Heard.{Entry}
+use Rattle.machine_defs.specs.Refusals as refusal
+use Rattle.machine_defs.specs.Refusals.{Refusal}
+use Rattle.machine_defs.specs.States.{State}
+use Rattle.machine_defs.specs.Stands.{StandsForState}
+use Rattle.command_defs.specs.Seen.{Seen, nobody}
+use Rattle.command_defs.specs.Opens as opens
+use Rattle.command_defs.specs.Opens.{setup_in_effect}
+use Rattle.command_defs.specs.Refusals as commands
+use Rattle.opening_defs.specs.Opened.{AreHanded, IsOpenedOver, IsOpenAtRest}
+use Rattle.command_defs.specs.JobRuns.{GoesOnTo}
+use Rattle.command_defs.specs.Jobs.{past, with_next, SameBehind, SamePast, RanAlone, RunsAlone, LeftAlone}
 use Rattle.lone_laws.proofs.Walk.{walk-begin}
 use Rattle.vault_core.specs.declared.wish.BeginFault.{BeginFault}
 use Rattle.vault_core.specs.declared.wish.BeginFault.TheVariants as begin_fault

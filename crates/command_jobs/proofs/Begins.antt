@@ -1,12 +1,12 @@
 -- The begin of a job that is the only one: its words.
 use Rattle.std.proofs.Common.{◌≡◌, ℕ, ◌==◌, [], ◌∷◌, ◌++◌, Some, None, refl, ap, ◌∙◌}
 use Rattle.std.proofs.lemmas.Bool.{eq-eqb}
-use Rattle.hail_machine.specs.Jobs.{Kind, job_of}
-use Rattle.hail_machine.specs.Events.{Begun, IsSpelledKind}
-use Rattle.hail_machine.specs.States.{State}
-use Rattle.hail_machine.specs.Begins.{Begins, new_job}
-use Rattle.hail_machine.proofs.JobLists.{cond_true}
-use Rattle.sound_states.specs.Sound.{IsSound}
+use Rattle.machine_defs.specs.Jobs.{Kind, job_of}
+use Rattle.machine_defs.specs.Events.{Begun, IsSpelledKind}
+use Rattle.machine_defs.specs.States.{State}
+use Rattle.machine_defs.specs.Begins.{Begins, new_job}
+use Rattle.machine_defs.proofs.JobLists.{cond_true}
+use Rattle.state_laws.specs.Sound.{IsSound}
 
 -- ---- words
 

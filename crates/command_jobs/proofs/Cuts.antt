@@ -1,28 +1,28 @@
 -- A job that was cut short: what of its records is in effect, and which one comes next.
 use Rattle.std.proofs.Common.{◌≡◌, ℕ, ◌<◌, ◌⊎◌, true, [], ◌∷◌, length, replicate, Option, Some, None, refl, ap, sym, subst, ◌∙◌, inl, inr, arith}
 use Rattle.std.proofs.lemmas.List.{length-replicate}
-use Rattle.hail_columns.specs.Verdicts.{Sums}
-use Rattle.hail_records.specs.Records.{Setup, Record, PutStart, PutDone, AuditStart, AuditDone}
-use Rattle.hail_records.specs.Table.{next_id, next_audit}
-use Rattle.hail_machine.specs.Jobs.{Kind, PutJob, GetJob, DropJob, AuditJob, RepairJob, UpgradeJob, Job, job_of}
-use Rattle.hail_machine.specs.Actions.{Action, WriteBody, SyncBody, WriteGate, SyncGate, Store, Fetch, Ask, Work, Remove, End, actions_left, appends_left}
-use Rattle.hail_machine.specs.Answers as answer
-use Rattle.hail_machine.specs.Audits.{HasSums}
-use Rattle.hail_machine.specs.Events.{Step, Ended}
-use Rattle.hail_machine.specs.States.{State, Append, setup_in}
-use Rattle.hail_machine.specs.Appends.{done_record, Writes, Moves}
-use Rattle.hail_machine.specs.Steps.{next_action, Acts}
-use Rattle.hail_machine.specs.Machine.{Happens}
-use Rattle.hail_machine.proofs.JobLists.{same_value}
-use Rattle.hail_commands.specs.Opens.{setup_in_effect}
-use Rattle.hail_commands.specs.Jobs.{IsNext}
-use Rattle.sound_states.specs.Orders.{moves_made, moves_before}
-use Rattle.sound_states.proofs.Events.{moves-next}
-use Rattle.sound_states.proofs.Given.{holder}
-use Rattle.sound_states.proofs.Orders.{appends-order}
-use Rattle.sound_states.proofs.Records.{version-first}
-use Rattle.sound_states.proofs.Written.{body-left, small-sums}
-use Rattle.hail_openings.specs.Opened.{IsOpenAtRest}
+use Rattle.column_defs.specs.Verdicts.{Sums}
+use Rattle.record_defs.specs.Records.{Setup, Record, PutStart, PutDone, AuditStart, AuditDone}
+use Rattle.record_defs.specs.Table.{next_id, next_audit}
+use Rattle.machine_defs.specs.Jobs.{Kind, PutJob, GetJob, DropJob, AuditJob, RepairJob, UpgradeJob, Job, job_of}
+use Rattle.machine_defs.specs.Actions.{Action, WriteBody, SyncBody, WriteGate, SyncGate, Store, Fetch, Ask, Work, Remove, End, actions_left, appends_left}
+use Rattle.machine_defs.specs.Answers as answer
+use Rattle.machine_defs.specs.Audits.{HasSums}
+use Rattle.machine_defs.specs.Events.{Step, Ended}
+use Rattle.machine_defs.specs.States.{State, Append, setup_in}
+use Rattle.machine_defs.specs.Appends.{done_record, Writes, Moves}
+use Rattle.machine_defs.specs.Steps.{next_action, Acts}
+use Rattle.machine_defs.specs.Machine.{Happens}
+use Rattle.machine_defs.proofs.JobLists.{same_value}
+use Rattle.command_defs.specs.Opens.{setup_in_effect}
+use Rattle.command_defs.specs.Jobs.{IsNext}
+use Rattle.state_laws.specs.Orders.{moves_made, moves_before}
+use Rattle.state_laws.proofs.Events.{moves-next}
+use Rattle.state_laws.proofs.Given.{holder}
+use Rattle.state_laws.proofs.Orders.{appends-order}
+use Rattle.state_laws.proofs.Records.{version-first}
+use Rattle.state_laws.proofs.Written.{body-left, small-sums}
+use Rattle.opening_defs.specs.Opened.{IsOpenAtRest}
 use Rattle.lone_laws.specs.Walked.{first_record, IsSecondRecord, Walked}
 use Rattle.lone_laws.proofs.Walk.{found, runs, Wrote, wrote}
 use Rattle.vault_core.specs.Carried.{IsWriting}

@@ -1,16 +1,16 @@
 -- The states for which a vault that was just opened stands.
 use Rattle.std.proofs.Common.{◌≡◌, ℕ, ◌≤◌, List, length, replicate, Option, None, ap, sym, subst, ◌∙◌, arith}
 use Rattle.std.proofs.lemmas.List.{length-replicate}
-use Rattle.hail_devices.specs.Cells.{Cells}
-use Rattle.hail_devices.specs.Providers.{Provider}
-use Rattle.hail_records.specs.Records.{Setup, Record}
-use Rattle.hail_records.specs.Acceptance.{AreAccepted}
-use Rattle.hail_machine.specs.States.{State, setup_in}
-use Rattle.hail_commands.specs.Seen.{Seen, nobody}
-use Rattle.hail_commands.specs.Opens as opens
-use Rattle.hail_commands.specs.Opens.{setup_in_effect}
-use Rattle.hail_openings.specs.Journals.{IsRead}
-use Rattle.hail_openings.specs.Opened.{IsOpenedOver, IsOpenAtRest, IsJustOpened}
+use Rattle.device_defs.specs.Cells.{Cells}
+use Rattle.device_defs.specs.Providers.{Provider}
+use Rattle.record_defs.specs.Records.{Setup, Record}
+use Rattle.record_defs.specs.Acceptance.{AreAccepted}
+use Rattle.machine_defs.specs.States.{State, setup_in}
+use Rattle.command_defs.specs.Seen.{Seen, nobody}
+use Rattle.command_defs.specs.Opens as opens
+use Rattle.command_defs.specs.Opens.{setup_in_effect}
+use Rattle.opening_defs.specs.Journals.{IsRead}
+use Rattle.opening_defs.specs.Opened.{IsOpenedOver, IsOpenAtRest, IsJustOpened}
 use Rattle.record_codec.specs.Entries.{with_master}
 use Rattle.vault_table.specs.Values.{IsFoldOf}
 use Rattle.vault.specs.declared.vault.Vault.{Vault}

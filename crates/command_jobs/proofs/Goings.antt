@@ -3,21 +3,21 @@ use Rattle.std.proofs.Common.{◌≡◌, ℕ, ◌+◌, ◌-◌, ◌≤◌, ◌�
 use Rattle.std.specs.Option.{option_map}
 use Rattle.std.specs.Prelude.{IfSome}
 use Rattle.std.proofs.lemmas.List.{drop-drop}
-use Rattle.hail_devices.specs.Cells.{Cells, reads}
-use Rattle.hail_devices.specs.Told.{Goes}
-use Rattle.hail_records.specs.Records.{Record}
-use Rattle.hail_records.specs.Journal.{text_size}
-use Rattle.hail_machine.specs.Jobs.{Kind}
-use Rattle.hail_machine.specs.Answers as answer
-use Rattle.hail_machine.specs.Answers.{Answer}
-use Rattle.hail_machine.specs.Events.{Step, More, Ended}
-use Rattle.hail_machine.specs.States.{State, Append}
-use Rattle.hail_machine.specs.Machine.{Happens}
-use Rattle.hail_machine.specs.Runs.{Moment, now}
-use Rattle.hail_machine.specs.Heard.{heard_by}
-use Rattle.hail_machine.specs.Jobs.{job_of}
-use Rattle.hail_commands.specs.JobRuns.{AreSteps}
-use Rattle.hail_commands.specs.Jobs.{past, with_next, IsNext, SameBehind, SamePast}
+use Rattle.device_defs.specs.Cells.{Cells, reads}
+use Rattle.device_defs.specs.Told.{Goes}
+use Rattle.record_defs.specs.Records.{Record}
+use Rattle.record_defs.specs.Journal.{text_size}
+use Rattle.machine_defs.specs.Jobs.{Kind}
+use Rattle.machine_defs.specs.Answers as answer
+use Rattle.machine_defs.specs.Answers.{Answer}
+use Rattle.machine_defs.specs.Events.{Step, More, Ended}
+use Rattle.machine_defs.specs.States.{State, Append}
+use Rattle.machine_defs.specs.Machine.{Happens}
+use Rattle.machine_defs.specs.Runs.{Moment, now}
+use Rattle.machine_defs.specs.Heard.{heard_by}
+use Rattle.machine_defs.specs.Jobs.{job_of}
+use Rattle.command_defs.specs.JobRuns.{AreSteps}
+use Rattle.command_defs.specs.Jobs.{past, with_next, IsNext, SameBehind, SamePast}
 use Rattle.journal_core.specs.Moves.{SameFrom}
 use Rattle.lone_laws.proofs.Walk.{walk-step}
 use Rattle.vault_core.specs.Carried.{IsWriting}

@@ -11,12 +11,12 @@
 --                                          machine and by what it left
 use Rattle.std.specs.Prelude.{◌≡◌, ◌⊎◌, ℕ, ◌≤◌, List, length, None, Some}
 use Rattle.std.specs.Option.{option_map}
-use Rattle.hail_devices.specs.Cells.{reads}
-use Rattle.hail_records.specs.Records.{Record}
-use Rattle.hail_machine.specs.Jobs.{Kind}
-use Rattle.hail_commands.specs.Seen.{Seen, provider_at}
-use Rattle.hail_commands.specs.Refusals as commands
-use Rattle.hail_commands.specs.Jobs.{RunsAlone, LeftAlone}
+use Rattle.device_defs.specs.Cells.{reads}
+use Rattle.record_defs.specs.Records.{Record}
+use Rattle.machine_defs.specs.Jobs.{Kind}
+use Rattle.command_defs.specs.Seen.{Seen, provider_at}
+use Rattle.command_defs.specs.Refusals as commands
+use Rattle.command_defs.specs.Jobs.{RunsAlone, LeftAlone}
 use Rattle.vault_core.specs.declared.wish.BeginFault.{BeginFault}
 use Rattle.vault_core.specs.declared.wish.BeginFault.TheVariants as begin_fault
 use Rattle.vault_core.specs.Carried.{refusal_of}

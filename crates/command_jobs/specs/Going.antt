@@ -8,11 +8,11 @@
 --                                     text, with the record that was being appended where the job was cut
 --                                     short, the disk reads as before
 use Rattle.std.specs.Prelude.{ℕ}
-use Rattle.hail_machine.specs.Jobs.{Kind, Job}
-use Rattle.hail_machine.specs.States.{State}
-use Rattle.hail_commands.specs.JobRuns.{GoesOnTo}
-use Rattle.hail_commands.specs.Jobs.{SamePast}
-use Rattle.hail_openings.specs.Opened.{IsOpenAtRest}
+use Rattle.machine_defs.specs.Jobs.{Kind, Job}
+use Rattle.machine_defs.specs.States.{State}
+use Rattle.command_defs.specs.JobRuns.{GoesOnTo}
+use Rattle.command_defs.specs.Jobs.{SamePast}
+use Rattle.opening_defs.specs.Opened.{IsOpenAtRest}
 use Rattle.lone_laws.specs.Walked.{Walked}
 use Rattle.vault.specs.declared.turn.Ended.{Ended}
 use Rattle.vault.specs.declared.vault.Vault.{Vault}

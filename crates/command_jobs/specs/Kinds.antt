@@ -1,5 +1,5 @@
 -- The job of a command as a job of the machine.
-use Rattle.hail_machine.specs.Jobs.{Kind, PutJob, GetJob, DropJob, AuditJob, RepairJob}
+use Rattle.machine_defs.specs.Jobs.{Kind, PutJob, GetJob, DropJob, AuditJob, RepairJob}
 use Rattle.command_jobs.specs.declared.job.Job.{Job}
 use Rattle.command_jobs.specs.declared.job.Job.TheVariants as job
 

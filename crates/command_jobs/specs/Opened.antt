@@ -11,15 +11,15 @@
 --   IsUnopened told handed why     == the cause for which no vault is opened
 use Rattle.std.specs.Prelude.{◌≡◌, ◌≢◌, ℕ, ◌<◌, ◌≤◌, IsTrue, IfSome, List, [], length, Option}
 use Rattle.std.specs.List.{list_all}
-use Rattle.hail_devices.specs.Cells.{Cells}
-use Rattle.hail_devices.specs.Providers.{Provider}
-use Rattle.hail_records.specs.Records.{Record, is_in_grammar, largest_journal}
-use Rattle.hail_records.specs.Journal.{text_size}
-use Rattle.hail_records.specs.Acceptance.{AreAccepted}
-use Rattle.hail_records.specs.Reading.{HasNoSetup}
-use Rattle.hail_machine.specs.States.{State}
-use Rattle.hail_openings.specs.Journals.{journal_read, IsRead, IsBadStart}
-use Rattle.hail_commands.specs.Opens.{setup_in_effect}
+use Rattle.device_defs.specs.Cells.{Cells}
+use Rattle.device_defs.specs.Providers.{Provider}
+use Rattle.record_defs.specs.Records.{Record, is_in_grammar, largest_journal}
+use Rattle.record_defs.specs.Journal.{text_size}
+use Rattle.record_defs.specs.Acceptance.{AreAccepted}
+use Rattle.record_defs.specs.Reading.{HasNoSetup}
+use Rattle.machine_defs.specs.States.{State}
+use Rattle.opening_defs.specs.Journals.{journal_read, IsRead, IsBadStart}
+use Rattle.command_defs.specs.Opens.{setup_in_effect}
 use Rattle.vault_table.specs.Values.{IsFoldOf}
 use Rattle.vault_open.specs.declared.fault.StartFault.{StartFault}
 use Rattle.vault_open.specs.declared.fault.StartFault.TheVariants as start_fault
@@ -27,7 +27,7 @@ use Rattle.vault.specs.declared.vault.Vault.{Vault}
 use Rattle.vault_open.specs.Devices.{devices}
 use Rattle.vault.specs.Seen.{vault_setup, table_of, next_job_of, provider_count}
 use Rattle.vault.specs.Stands.{Stands}
-use Rattle.hail_openings.specs.Opened.{IsJustOpened}
+use Rattle.opening_defs.specs.Opened.{IsJustOpened}
 use Rattle.command_jobs.specs.declared.open.Unopened.{Unopened}
 use Rattle.command_jobs.specs.declared.open.Unopened.TheVariants as unopened
 

@@ -1,11 +1,11 @@
 ghost use Rattle.std.specs.Prelude.{◌≡◌, List, IfOk, IfErr, OnOk, IsErrOf};
 ghost use Rattle.std.specs.Option.{option_map};
-ghost use Rattle.hail_devices.specs.Cells.{reads};
-ghost use Rattle.hail_devices.specs.Disks.{synced};
-ghost use Rattle.hail_devices.specs.Faults.{HasCause};
-ghost use Rattle.hail_devices.specs.Told.{Goes};
-ghost use Rattle.hail_records.specs.Records.{Record};
-ghost use Rattle.hail_openings.specs.Journals.{IsResynced};
+ghost use Rattle.device_defs.specs.Cells.{reads};
+ghost use Rattle.device_defs.specs.Disks.{synced};
+ghost use Rattle.device_defs.specs.Faults.{HasCause};
+ghost use Rattle.device_defs.specs.Told.{Goes};
+ghost use Rattle.record_defs.specs.Records.{Record};
+ghost use Rattle.opening_defs.specs.Journals.{IsResynced};
 ghost use Rattle.command_jobs.specs.declared.open.Unopened.TheVariants as unopened;
 ghost use Rattle.command_jobs.specs.Opened.{IsFreshOver, IsReadFor, IsFreshFor, IsUnopened, unopened_of};
 

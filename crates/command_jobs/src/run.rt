@@ -1,9 +1,9 @@
 ghost use Rattle.std.specs.Prelude.{◌≡◌, ◌<◌, ◌≤◌, ◌-◌, ◌^◌, ℕ, List, IfOk, IfErr, OnErr, is_some, length, map};
-ghost use Rattle.hail_machine.specs.Jobs.{Kind};
-ghost use Rattle.hail_machine.specs.States.{State};
-ghost use Rattle.hail_records.specs.Records.{Record};
-ghost use Rattle.hail_commands.specs.Seen.{Seen};
-ghost use Rattle.hail_commands.specs.Opens as opens;
+ghost use Rattle.machine_defs.specs.Jobs.{Kind};
+ghost use Rattle.machine_defs.specs.States.{State};
+ghost use Rattle.record_defs.specs.Records.{Record};
+ghost use Rattle.command_defs.specs.Seen.{Seen};
+ghost use Rattle.command_defs.specs.Opens as opens;
 ghost use Rattle.vault_open.specs.Devices.{Devices};
 ghost use Rattle.vault.specs.Devices.{devices_seen};
 ghost use Rattle.vault.specs.Outcomes.{HasPaddedCounts};

@@ -3,25 +3,25 @@ use Rattle.std.proofs.Common.{◌≡◌, ℕ, ◌<◌, ◌≤◌, true, false, L
 use Rattle.std.specs.Prelude.{is_some, IfSome}
 use Rattle.std.proofs.lemmas.Bool.{false≢true}
 use Rattle.hail_field.specs.Shape.{IsShape}
-use Rattle.hail_devices.specs.Cells.{Cells, reads, firm}
-use Rattle.hail_devices.specs.Disks.{synced, Stopped}
-use Rattle.hail_devices.specs.Images.{IsImage, EachImage}
-use Rattle.hail_devices.specs.Told.{Goes}
-use Rattle.hail_devices.proofs.Lasting.{reads-firm, image-firm}
-use Rattle.hail_devices.proofs.PickLaws.{IsImage-reads}
-use Rattle.hail_records.specs.Records.{Record, Setup, largest_journal}
-use Rattle.hail_records.specs.Journal.{StandsFor}
-use Rattle.hail_machine.specs.Jobs.{Kind, PutJob, GetJob, DropJob, AuditJob, RepairJob}
-use Rattle.hail_commands.specs.Forms.{Command, Numbers, RowOf, InitWith, PutUnder, GetOf, DropOf, ListAll, AuditAll, RepairDue}
-use Rattle.hail_commands.specs.Sinking.{WritesLine, TellsLine}
-use Rattle.hail_openings.specs.Journals.{IsResynced, IsRead}
-use Rattle.hail_commands.specs.Seen.{Seen, Ending, IsRefused, sinking}
-use Rattle.hail_commands.specs.Opens.{Unstarted, setup_in_effect}
-use Rattle.hail_commands.specs.Inits.{setup_with, AnswersInit, InitsDisk}
-use Rattle.hail_commands.specs.Jobs.{AnswersJob}
-use Rattle.hail_commands.specs.Commands.{AnswersPut, AnswersAlone, AnswersList, Answers}
-use Rattle.sound_states.proofs.Records.{is_some-at}
-use Rattle.hail_openings.proofs.Resyncs.{resynced-equal}
+use Rattle.device_defs.specs.Cells.{Cells, reads, firm}
+use Rattle.device_defs.specs.Disks.{synced, Stopped}
+use Rattle.device_defs.specs.Images.{IsImage, EachImage}
+use Rattle.device_defs.specs.Told.{Goes}
+use Rattle.device_defs.proofs.Lasting.{reads-firm, image-firm}
+use Rattle.device_defs.proofs.PickLaws.{IsImage-reads}
+use Rattle.record_defs.specs.Records.{Record, Setup, largest_journal}
+use Rattle.record_defs.specs.Journal.{StandsFor}
+use Rattle.machine_defs.specs.Jobs.{Kind, PutJob, GetJob, DropJob, AuditJob, RepairJob}
+use Rattle.command_defs.specs.Forms.{Command, Numbers, RowOf, InitWith, PutUnder, GetOf, DropOf, ListAll, AuditAll, RepairDue}
+use Rattle.command_defs.specs.Sinking.{WritesLine, TellsLine}
+use Rattle.opening_defs.specs.Journals.{IsResynced, IsRead}
+use Rattle.command_defs.specs.Seen.{Seen, Ending, IsRefused, sinking}
+use Rattle.command_defs.specs.Opens.{Unstarted, setup_in_effect}
+use Rattle.command_defs.specs.Inits.{setup_with, AnswersInit, InitsDisk}
+use Rattle.command_defs.specs.Jobs.{AnswersJob}
+use Rattle.command_defs.specs.Commands.{AnswersPut, AnswersAlone, AnswersList, Answers}
+use Rattle.state_laws.proofs.Records.{is_some-at}
+use Rattle.opening_defs.proofs.Resyncs.{resynced-equal}
 use Rattle.command_laws.specs.Ends.{IsKnown}
 use Rattle.command_laws.specs.After.{IsSure, Follows, is_refusal}
 use Rattle.command_laws.proofs.Known.{EndStatus, status-ended}

@@ -3,38 +3,38 @@ use Rattle.std.proofs.Common.{◌≡◌, ℕ, zero, suc, ◌+◌, ◌<◌, ◌�
 use Rattle.std.specs.Prelude.{IfSome, nat_lt, is_some, is_none}
 use Rattle.std.specs.List.{range_with_len}
 use Rattle.std.proofs.lemmas.Bool.{cases_Bool, cases_eq, false≢true, or_parts}
-use Rattle.plain_facts.specs.Lists.{In}
-use Rattle.plain_facts.proofs.Each.{in_flat}
+use Rattle.plain_laws.specs.Lists.{In}
+use Rattle.plain_laws.proofs.Each.{in_flat}
 use Rattle.hail_field.specs.Shape.{IsShape}
-use Rattle.hail_codes.specs.Points.{upto}
-use Rattle.hail_columns.specs.Objects.{Object, stripes, symbols_in}
-use Rattle.hail_columns.specs.Columns.{is_wrong_block, is_wrong, columns, column_of_symbols}
-use Rattle.hail_columns.specs.Opened.{block_at, GivesSymbols}
-use Rattle.hail_columns.specs.Verdicts.{is_flagged}
+use Rattle.code_defs.specs.Points.{upto}
+use Rattle.column_defs.specs.Objects.{Object, stripes, symbols_in}
+use Rattle.column_defs.specs.Columns.{is_wrong_block, is_wrong, columns, column_of_symbols}
+use Rattle.column_defs.specs.Opened.{block_at, GivesSymbols}
+use Rattle.column_defs.specs.Verdicts.{is_flagged}
 use Rattle.column_laws.proofs.Counts.{count_of-within}
 use Rattle.column_laws.proofs.RightRows.{symbols-right}
-use Rattle.hail_devices.specs.Providers.{Held, sized}
-use Rattle.hail_devices.specs.Told.{Goes}
-use Rattle.hail_records.specs.Records.{Record}
-use Rattle.hail_records.specs.Table.{File, Due, file_of, files_of, find_file, due_of, is_same_name}
-use Rattle.hail_records.proofs.FilesLaws.{find-files_of}
-use Rattle.hail_machine.specs.Setups.{stripes_of, profiled}
-use Rattle.hail_machine.specs.Jobs.{RepairJob}
-use Rattle.hail_machine.proofs.JobLists.{cond_true, cond_false, same_value}
-use Rattle.hail_commands.specs.Seen.{Seen, Ending}
-use Rattle.hail_commands.specs.Opens.{setup_in_effect}
-use Rattle.hail_commands.specs.Audits.{with_number, files_by_number}
-use Rattle.hail_commands.specs.Ran.{Ran, setup_at_begin, object_at_begin, stripes_at_begin, object_numbered}
-use Rattle.hail_commands.specs.Repairs.{Place, places_of, blocks_at, held_at, flags, IfFlagged, GivesPlace, RewrittenOn, RewritesAll}
-use Rattle.hail_commands.specs.Truthful.{missing, IsTruthful}
-use Rattle.hail_commands.specs.Commands.{AnswersAlone}
+use Rattle.device_defs.specs.Providers.{Held, sized}
+use Rattle.device_defs.specs.Told.{Goes}
+use Rattle.record_defs.specs.Records.{Record}
+use Rattle.record_defs.specs.Table.{File, Due, file_of, files_of, find_file, due_of, is_same_name}
+use Rattle.record_defs.proofs.FilesLaws.{find-files_of}
+use Rattle.machine_defs.specs.Setups.{stripes_of, profiled}
+use Rattle.machine_defs.specs.Jobs.{RepairJob}
+use Rattle.machine_defs.proofs.JobLists.{cond_true, cond_false, same_value}
+use Rattle.command_defs.specs.Seen.{Seen, Ending}
+use Rattle.command_defs.specs.Opens.{setup_in_effect}
+use Rattle.command_defs.specs.Audits.{with_number, files_by_number}
+use Rattle.command_defs.specs.Ran.{Ran, setup_at_begin, object_at_begin, stripes_at_begin, object_numbered}
+use Rattle.command_defs.specs.Repairs.{Place, places_of, blocks_at, held_at, flags, IfFlagged, GivesPlace, RewrittenOn, RewritesAll}
+use Rattle.command_defs.specs.Truthful.{missing, IsTruthful}
+use Rattle.command_defs.specs.Commands.{AnswersAlone}
 use Rattle.job_laws.specs.Failing.{has_risen, is_bad_with, is_bad, bad_count, bad_seen}
 use Rattle.command_laws.specs.Ends.{IsDone, IsKnown, HoldsFile, IsRepaired, ran_to, after_repair}
 use Rattle.job_laws.proofs.Complete.{block_at-map, wrong-sized, not-wrong-each, not-risen}
 use Rattle.command_laws.proofs.Known.{known-once}
 use Rattle.command_laws.proofs.GetEnds.{shape-at}
 use Rattle.command_laws.proofs.JobEnds.{repair-done}
-use Rattle.hail_records.specs.Acceptance.{AreAccepted}
+use Rattle.record_defs.specs.Acceptance.{AreAccepted}
 use Rattle.job_laws.proofs.Plain.{numbered-file}
 
 -- ---- elements of lists

@@ -1,18 +1,18 @@
 -- How a get, a list and a repair end over any devices, also those that tell nothing.
 use Rattle.std.proofs.Common.{◌≡◌, ℕ, ◌⊎◌, List, refl, inl, inr}
-use Rattle.hail_devices.specs.Faults.{Rose}
-use Rattle.hail_records.specs.Records.{Record}
-use Rattle.hail_machine.specs.Jobs.{GetJob, RepairJob}
-use Rattle.hail_machine.specs.Answers as answer
-use Rattle.hail_machine.specs.Answers.{Answer}
-use Rattle.hail_commands.specs.Forms.{GetOf, ListAll, RepairDue}
-use Rattle.hail_commands.specs.Seen.{Seen, Ending, provider_at}
-use Rattle.hail_commands.specs.Opens.{setup_in_effect}
-use Rattle.hail_commands.specs.Lines.{text_of}
-use Rattle.hail_commands.specs.Gets.{GetLeaves}
-use Rattle.hail_commands.specs.Repairs.{RepairGives}
-use Rattle.hail_commands.specs.Jobs.{AnswersJob, LeftAlone, EndsByAnswer}
-use Rattle.hail_commands.specs.Commands.{AnswersAlone, AnswersList}
+use Rattle.device_defs.specs.Faults.{Rose}
+use Rattle.record_defs.specs.Records.{Record}
+use Rattle.machine_defs.specs.Jobs.{GetJob, RepairJob}
+use Rattle.machine_defs.specs.Answers as answer
+use Rattle.machine_defs.specs.Answers.{Answer}
+use Rattle.command_defs.specs.Forms.{GetOf, ListAll, RepairDue}
+use Rattle.command_defs.specs.Seen.{Seen, Ending, provider_at}
+use Rattle.command_defs.specs.Opens.{setup_in_effect}
+use Rattle.command_defs.specs.Lines.{text_of}
+use Rattle.command_defs.specs.Gets.{GetLeaves}
+use Rattle.command_defs.specs.Repairs.{RepairGives}
+use Rattle.command_defs.specs.Jobs.{AnswersJob, LeftAlone, EndsByAnswer}
+use Rattle.command_defs.specs.Commands.{AnswersAlone, AnswersList}
 use Rattle.command_laws.specs.Ends.{EndsInOrder}
 use Rattle.command_laws.specs.Kept.{LosesFile, LosesRepair}
 use Rattle.command_laws.proofs.Known.{written-well}

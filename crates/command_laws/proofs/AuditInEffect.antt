@@ -2,23 +2,23 @@
 use Rattle.std.proofs.Common.{◌≡◌, ◌≢◌, ℕ, ◌+◌, ◌<◌, ◌≤◌, ◌⊎◌, List, [], ◌∷◌, length, reverse, Option, None, Some, refl, ap, sym, subst, ◌∙◌, inl, inr, arith, length-append}
 use Rattle.std.specs.Prelude.{IfSome, IsSomeAnd}
 use Rattle.std.proofs.lemmas.List.{length-reverse}
-use Rattle.hail_devices.specs.Cells.{Cells, reads}
-use Rattle.hail_devices.specs.Images.{EachImage}
-use Rattle.hail_records.specs.Records.{Record, AuditDone, largest_journal}
-use Rattle.hail_records.specs.Journal.{StandsFor, StandsOrIsEmpty}
-use Rattle.hail_records.specs.Table.{next_audit}
-use Rattle.hail_records.proofs.Standing.{stands-front}
+use Rattle.device_defs.specs.Cells.{Cells, reads}
+use Rattle.device_defs.specs.Images.{EachImage}
+use Rattle.record_defs.specs.Records.{Record, AuditDone, largest_journal}
+use Rattle.record_defs.specs.Journal.{StandsFor, StandsOrIsEmpty}
+use Rattle.record_defs.specs.Table.{next_audit}
+use Rattle.record_defs.proofs.Standing.{stands-front}
 use Rattle.journal_core.proofs.Meanings.{one_meaning}
-use Rattle.hail_machine.specs.Jobs.{AuditJob}
-use Rattle.hail_machine.specs.Answers as answer
-use Rattle.hail_machine.specs.Answers.{Answer}
-use Rattle.hail_machine.proofs.JobLists.{same_value}
-use Rattle.hail_commands.specs.Seen.{Seen, Ending, IsRefused}
-use Rattle.hail_openings.specs.Journals.{journal_read}
-use Rattle.hail_commands.specs.Ran.{Ran}
-use Rattle.hail_commands.specs.Audits.{HearsRounds, CountsHeard, AuditIsCut, AuditGives}
-use Rattle.hail_commands.specs.Jobs.{AnswersJob, LeftAlone}
-use Rattle.hail_commands.specs.Commands.{AnswersAlone}
+use Rattle.machine_defs.specs.Jobs.{AuditJob}
+use Rattle.machine_defs.specs.Answers as answer
+use Rattle.machine_defs.specs.Answers.{Answer}
+use Rattle.machine_defs.proofs.JobLists.{same_value}
+use Rattle.command_defs.specs.Seen.{Seen, Ending, IsRefused}
+use Rattle.opening_defs.specs.Journals.{journal_read}
+use Rattle.command_defs.specs.Ran.{Ran}
+use Rattle.command_defs.specs.Audits.{HearsRounds, CountsHeard, AuditIsCut, AuditGives}
+use Rattle.command_defs.specs.Jobs.{AnswersJob, LeftAlone}
+use Rattle.command_defs.specs.Commands.{AnswersAlone}
 use Rattle.command_laws.specs.Ends.{IsKnown, after_audit, ran_to}
 use Rattle.command_laws.specs.After.{IsSure, Follows}
 use Rattle.command_laws.proofs.Known.{known-once}

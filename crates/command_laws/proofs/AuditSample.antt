@@ -1,22 +1,22 @@
 -- An audit of a store with no file, from every state that was just opened: four moves, four moves, and its end.
 use Rattle.std.proofs.Common.{ℕ, ◌+◌, List, [], ◌∷◌, refl, sym, subst, inl, arith}
-use Rattle.hail_records.specs.Records.{AuditStart, AuditDone}
-use Rattle.hail_records.specs.Spellings.{spelling}
-use Rattle.hail_columns.specs.Verdicts.{Sums}
-use Rattle.hail_machine.specs.Answers.{Audited}
-use Rattle.hail_machine.specs.Appends.{begun_append, moved, doubted, done_append}
-use Rattle.hail_machine.specs.Actions.{actions_of}
-use Rattle.hail_machine.specs.Begins.{new_job}
-use Rattle.hail_machine.specs.Events.{Step, More, Ended}
-use Rattle.hail_machine.specs.Jobs.{AuditJob, Job}
-use Rattle.hail_machine.specs.Machine.{Happens}
-use Rattle.hail_machine.specs.Runs.{Moment}
-use Rattle.hail_machine.specs.States.{State, Append, setup_in, going_on, ended}
-use Rattle.hail_commands.specs.Forms.{AuditAll}
-use Rattle.hail_openings.specs.Opened.{AreHanded}
-use Rattle.hail_commands.specs.JobRuns.{AreSteps}
-use Rattle.hail_commands.specs.Jobs.{RanAlone, RunsAlone, AnswersJob}
-use Rattle.hail_commands.specs.Commands.{AnswersAlone, Answers}
+use Rattle.record_defs.specs.Records.{AuditStart, AuditDone}
+use Rattle.record_defs.specs.Spellings.{spelling}
+use Rattle.column_defs.specs.Verdicts.{Sums}
+use Rattle.machine_defs.specs.Answers.{Audited}
+use Rattle.machine_defs.specs.Appends.{begun_append, moved, doubted, done_append}
+use Rattle.machine_defs.specs.Actions.{actions_of}
+use Rattle.machine_defs.specs.Begins.{new_job}
+use Rattle.machine_defs.specs.Events.{Step, More, Ended}
+use Rattle.machine_defs.specs.Jobs.{AuditJob, Job}
+use Rattle.machine_defs.specs.Machine.{Happens}
+use Rattle.machine_defs.specs.Runs.{Moment}
+use Rattle.machine_defs.specs.States.{State, Append, setup_in, going_on, ended}
+use Rattle.command_defs.specs.Forms.{AuditAll}
+use Rattle.opening_defs.specs.Opened.{AreHanded}
+use Rattle.command_defs.specs.JobRuns.{AreSteps}
+use Rattle.command_defs.specs.Jobs.{RanAlone, RunsAlone, AnswersJob}
+use Rattle.command_defs.specs.Commands.{AnswersAlone, Answers}
 use Rattle.command_laws.specs.After.{IsSure}
 use Rattle.command_laws.specs.Pieces.{moment}
 use Rattle.command_laws.specs.Instances.{store, idle_providers, no_counts, set_up_records, audited_records, audited_store, ends}

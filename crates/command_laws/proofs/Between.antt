@@ -3,27 +3,27 @@ use Rattle.std.proofs.Common.{◌≡◌, ℕ, ◌<◌, ◌==◌, Bool, true, fal
 use Rattle.std.specs.Prelude.{is_some, nat_lt, slice_get, slice_set, IsSome}
 use Rattle.std.proofs.lemmas.Bool.{cases_Bool, false≢true, eq-eqb, eqb-true, lt-ltb}
 use Rattle.std.proofs.lemmas.List.{length-set}
-use Rattle.plain_facts.proofs.Lists.{get-set_other, get-set_same}
-use Rattle.hail_devices.specs.Cells.{Cells, firm}
-use Rattle.hail_devices.specs.Disks.{Stopped}
-use Rattle.hail_devices.specs.Images.{EachImage}
-use Rattle.hail_devices.specs.Providers.{Held, Provider, with_symbol, without_block, HasPlace}
-use Rattle.hail_devices.specs.ProviderCalls.{Replaces}
-use Rattle.hail_devices.specs.Told.{Goes}
-use Rattle.hail_devices.proofs.Lasting.{image-firm, each_image-mono}
-use Rattle.hail_records.specs.Records.{Record}
-use Rattle.hail_records.specs.Journal.{StandsFor}
-use Rattle.hail_machine.specs.Events.{Event, Alter, Lose, Stop, Outcome, Replaced, NothingHeld, Stopped as HasStopped}
-use Rattle.hail_machine.specs.Machine.{Happens}
-use Rattle.hail_machine.specs.Replacements.{ReplacesIf}
-use Rattle.hail_machine.specs.Runs.{Moment, now, IsRun}
-use Rattle.hail_machine.specs.Stands.{StandsForState}
-use Rattle.hail_machine.specs.States.{State, with_provider}
-use Rattle.hail_machine.proofs.JobLists.{cond_true, cond_false}
-use Rattle.sound_states.specs.Sound.{IsSound}
-use Rattle.sound_states.proofs.Resting.{rest-sound}
-use Rattle.hail_commands.specs.Seen.{Seen}
-use Rattle.hail_openings.specs.Opened.{AreHanded}
+use Rattle.plain_laws.proofs.Lists.{get-set_other, get-set_same}
+use Rattle.device_defs.specs.Cells.{Cells, firm}
+use Rattle.device_defs.specs.Disks.{Stopped}
+use Rattle.device_defs.specs.Images.{EachImage}
+use Rattle.device_defs.specs.Providers.{Held, Provider, with_symbol, without_block, HasPlace}
+use Rattle.device_defs.specs.ProviderCalls.{Replaces}
+use Rattle.device_defs.specs.Told.{Goes}
+use Rattle.device_defs.proofs.Lasting.{image-firm, each_image-mono}
+use Rattle.record_defs.specs.Records.{Record}
+use Rattle.record_defs.specs.Journal.{StandsFor}
+use Rattle.machine_defs.specs.Events.{Event, Alter, Lose, Stop, Outcome, Replaced, NothingHeld, Stopped as HasStopped}
+use Rattle.machine_defs.specs.Machine.{Happens}
+use Rattle.machine_defs.specs.Replacements.{ReplacesIf}
+use Rattle.machine_defs.specs.Runs.{Moment, now, IsRun}
+use Rattle.machine_defs.specs.Stands.{StandsForState}
+use Rattle.machine_defs.specs.States.{State, with_provider}
+use Rattle.machine_defs.proofs.JobLists.{cond_true, cond_false}
+use Rattle.state_laws.specs.Sound.{IsSound}
+use Rattle.state_laws.proofs.Resting.{rest-sound}
+use Rattle.command_defs.specs.Seen.{Seen}
+use Rattle.opening_defs.specs.Opened.{AreHanded}
 use Rattle.command_laws.specs.After.{IsSure}
 use Rattle.command_laws.specs.Pieces.{IsStore, IsCall, moment, ReplacesHeld, AreReplaced, IsLater, AreBetween, Call, last_seen, IsChain, AreCalls}
 use Rattle.job_laws.proofs.Telling.{opened_state, state-over, over-opened}

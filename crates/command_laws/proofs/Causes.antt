@@ -2,23 +2,23 @@
 use Rattle.std.proofs.Common.{◌≡◌, ℕ, ◌==◌, Bool, true, false, List, refl, ap, sym, ◌∙◌, subst, inl, inr, arith}
 use Rattle.std.specs.Prelude.{if◌then◌else◌}
 use Rattle.std.proofs.lemmas.Bool.{false≢true}
-use Rattle.hail_devices.specs.Faults.{Rose}
-use Rattle.hail_devices.proofs.Lasting.{rose-before}
-use Rattle.hail_records.specs.Records.{Record}
-use Rattle.hail_machine.specs.Jobs.{Kind, PutJob, GetJob, DropJob, AuditJob, RepairJob, UpgradeJob}
-use Rattle.hail_machine.specs.Answers as answer
-use Rattle.hail_machine.specs.Answers.{Answer}
-use Rattle.hail_machine.specs.Refusals as refusal
-use Rattle.hail_machine.specs.Refusals.{Refusal}
-use Rattle.hail_commands.specs.Forms.{Command, Numbers, RowOf, InitWith, PutUnder, GetOf, DropOf, ListAll, AuditAll, RepairDue}
-use Rattle.hail_commands.specs.Sinking.{WritesLine}
-use Rattle.hail_commands.specs.Seen.{Seen, Ending, provider_at, sinking}
-use Rattle.hail_commands.specs.Opens.{Unstarted}
-use Rattle.hail_commands.specs.Refusals.{status_of}
-use Rattle.hail_commands.specs.Ran.{Ran}
-use Rattle.hail_commands.specs.Jobs.{AnswersJob, EndsByAnswer, LeavesBy, LeftAlone}
-use Rattle.hail_commands.specs.Inits.{AnswersInit, InitsDisk}
-use Rattle.hail_commands.specs.Commands.{AnswersPut, AnswersAlone, AnswersList, Answers}
+use Rattle.device_defs.specs.Faults.{Rose}
+use Rattle.device_defs.proofs.Lasting.{rose-before}
+use Rattle.record_defs.specs.Records.{Record}
+use Rattle.machine_defs.specs.Jobs.{Kind, PutJob, GetJob, DropJob, AuditJob, RepairJob, UpgradeJob}
+use Rattle.machine_defs.specs.Answers as answer
+use Rattle.machine_defs.specs.Answers.{Answer}
+use Rattle.machine_defs.specs.Refusals as refusal
+use Rattle.machine_defs.specs.Refusals.{Refusal}
+use Rattle.command_defs.specs.Forms.{Command, Numbers, RowOf, InitWith, PutUnder, GetOf, DropOf, ListAll, AuditAll, RepairDue}
+use Rattle.command_defs.specs.Sinking.{WritesLine}
+use Rattle.command_defs.specs.Seen.{Seen, Ending, provider_at, sinking}
+use Rattle.command_defs.specs.Opens.{Unstarted}
+use Rattle.command_defs.specs.Refusals.{status_of}
+use Rattle.command_defs.specs.Ran.{Ran}
+use Rattle.command_defs.specs.Jobs.{AnswersJob, EndsByAnswer, LeavesBy, LeftAlone}
+use Rattle.command_defs.specs.Inits.{AnswersInit, InitsDisk}
+use Rattle.command_defs.specs.Commands.{AnswersPut, AnswersAlone, AnswersList, Answers}
 use Rattle.command_laws.specs.Ends.{FaultsHaveCauses, opens_store}
 use Rattle.command_laws.proofs.GetEnds.{ran_left}
 

@@ -3,31 +3,31 @@ use Rattle.std.proofs.Common.{◌≡◌, ◌≢◌, ℕ, ◌+◌, ◌<◌, ◌�
 use Rattle.std.specs.Prelude.{is_some, nat_lt, ◌&&◌, ◌||◌}
 use Rattle.std.proofs.lemmas.Bool.{cases_Bool, le-ltb}
 use Rattle.std.proofs.lemmas.Bool.Decides.{nat_tests}
-use Rattle.plain_facts.proofs.Options.{is_some-none}
-use Rattle.hail_columns.specs.Verdicts.{is_flagged}
-use Rattle.hail_devices.specs.Cells.{Cells}
-use Rattle.hail_devices.specs.Faults.{Rose}
-use Rattle.hail_devices.specs.Told.{told_then}
-use Rattle.hail_records.specs.Records.{Record, Setup, SetUp, AuditStart, is_name, largest_file, largest_journal}
-use Rattle.hail_records.specs.Table.{Due, next_audit, setup_of, file_of, due_of, exceeds}
-use Rattle.hail_records.specs.Acceptance.{refused}
-use Rattle.hail_records.proofs.FilesLaws.{same-refl}
+use Rattle.plain_laws.proofs.Options.{is_some-none}
+use Rattle.column_defs.specs.Verdicts.{is_flagged}
+use Rattle.device_defs.specs.Cells.{Cells}
+use Rattle.device_defs.specs.Faults.{Rose}
+use Rattle.device_defs.specs.Told.{told_then}
+use Rattle.record_defs.specs.Records.{Record, Setup, SetUp, AuditStart, is_name, largest_file, largest_journal}
+use Rattle.record_defs.specs.Table.{Due, next_audit, setup_of, file_of, due_of, exceeds}
+use Rattle.record_defs.specs.Acceptance.{refused}
+use Rattle.record_defs.proofs.FilesLaws.{same-refl}
 use Rattle.record_codec.proofs.NameLemmas.{is_name-short}
-use Rattle.hail_machine.specs.Jobs.{PutJob, GetJob, DropJob, AuditJob, RepairJob}
-use Rattle.hail_machine.specs.Refusals as refusal
-use Rattle.hail_machine.proofs.JobLists.{cond_true, cond_false}
-use Rattle.hail_commands.specs.Forms.{Numbers, AuditAll}
-use Rattle.hail_commands.specs.Keys.{IsKeyForm}
-use Rattle.hail_commands.specs.Seen.{Seen, Ending, provider_at}
-use Rattle.hail_openings.specs.Journals.{IsFree}
-use Rattle.hail_commands.specs.Opens.{setup_in_effect}
-use Rattle.hail_commands.specs.Lines.{ready_line, stored_line, audit_lines}
-use Rattle.hail_commands.specs.Audits.{audit_records}
-use Rattle.hail_commands.specs.Jobs.{IsTold}
-use Rattle.hail_commands.specs.Inits.{AnswersInit, setup_with}
-use Rattle.hail_commands.specs.Refusals.{refusal_over, takes_too_much}
-use Rattle.hail_commands.specs.Commands.{AnswersPut, AnswersAlone, Answers}
-use Rattle.sound_states.proofs.Records.{all-spelled, file-spelled}
+use Rattle.machine_defs.specs.Jobs.{PutJob, GetJob, DropJob, AuditJob, RepairJob}
+use Rattle.machine_defs.specs.Refusals as refusal
+use Rattle.machine_defs.proofs.JobLists.{cond_true, cond_false}
+use Rattle.command_defs.specs.Forms.{Numbers, AuditAll}
+use Rattle.command_defs.specs.Keys.{IsKeyForm}
+use Rattle.command_defs.specs.Seen.{Seen, Ending, provider_at}
+use Rattle.opening_defs.specs.Journals.{IsFree}
+use Rattle.command_defs.specs.Opens.{setup_in_effect}
+use Rattle.command_defs.specs.Lines.{ready_line, stored_line, audit_lines}
+use Rattle.command_defs.specs.Audits.{audit_records}
+use Rattle.command_defs.specs.Jobs.{IsTold}
+use Rattle.command_defs.specs.Inits.{AnswersInit, setup_with}
+use Rattle.command_defs.specs.Refusals.{refusal_over, takes_too_much}
+use Rattle.command_defs.specs.Commands.{AnswersPut, AnswersAlone, Answers}
+use Rattle.state_laws.proofs.Records.{all-spelled, file-spelled}
 use Rattle.command_laws.specs.Ends.{IsDone, IsKnown, GivesText, GivesUnlessMemory, after_put, after_drop, after_audit, after_repair}
 use Rattle.command_laws.specs.After.{Follows, IsThen, HasRightFile, IsUntouched, IsSteady, spoilt_below, IsFaultless}
 use Rattle.command_laws.specs.Opened.{IsKeyed}

@@ -6,37 +6,37 @@ use Rattle.std.proofs.lemmas.Bool.{and_from, false≢true}
 use Rattle.std.proofs.lemmas.Bool.Decides.{nat_tests}
 use Rattle.std.proofs.lemmas.List.{append-nil}
 use Rattle.hex.proofs.HexLemmas.{decode_of-ok}
-use Rattle.plain_facts.proofs.Options.{is_some-option_map}
-use Rattle.hail_devices.specs.Cells.{Cells, reads, firm}
-use Rattle.hail_devices.specs.Disks.{synced, Stopped}
-use Rattle.hail_devices.specs.Images.{EachImage}
-use Rattle.hail_devices.specs.Told.{Goes}
-use Rattle.hail_devices.proofs.Lasting.{reads-firm, image-firm}
-use Rattle.hail_devices.proofs.PickLaws.{IsImage-reads}
-use Rattle.hail_records.specs.Records.{Record, Setup, SetUp, is_master, is_setup, largest_file, largest_journal}
-use Rattle.hail_records.specs.Journal.{text, before_gate, StandsFor}
-use Rattle.hail_records.specs.Table.{Due, next_audit, due_of}
-use Rattle.hail_records.proofs.Standing.{stands-front}
+use Rattle.plain_laws.proofs.Options.{is_some-option_map}
+use Rattle.device_defs.specs.Cells.{Cells, reads, firm}
+use Rattle.device_defs.specs.Disks.{synced, Stopped}
+use Rattle.device_defs.specs.Images.{EachImage}
+use Rattle.device_defs.specs.Told.{Goes}
+use Rattle.device_defs.proofs.Lasting.{reads-firm, image-firm}
+use Rattle.device_defs.proofs.PickLaws.{IsImage-reads}
+use Rattle.record_defs.specs.Records.{Record, Setup, SetUp, is_master, is_setup, largest_file, largest_journal}
+use Rattle.record_defs.specs.Journal.{text, before_gate, StandsFor}
+use Rattle.record_defs.specs.Table.{Due, next_audit, due_of}
+use Rattle.record_defs.proofs.Standing.{stands-front}
 use Rattle.record_codec.proofs.Takes.{IsBytes-all}
 use Rattle.journal_core.proofs.Meanings.{one_meaning}
-use Rattle.hail_machine.specs.Jobs.{Kind, PutJob, GetJob, DropJob, AuditJob, RepairJob}
-use Rattle.hail_machine.specs.Answers as answer
-use Rattle.hail_machine.specs.Answers.{Answer}
-use Rattle.hail_machine.specs.Refusals.{Refusal}
-use Rattle.hail_machine.proofs.JobLists.{same_value}
-use Rattle.hail_commands.specs.Forms.{Command, Numbers, RowOf, InitWith, PutUnder, GetOf, DropOf, ListAll, AuditAll, RepairDue}
-use Rattle.hail_commands.specs.Keys.{IsKeyForm}
-use Rattle.hail_commands.specs.Seen.{Seen, Ending, IsRefused, ReadsUpTo}
-use Rattle.hail_openings.specs.Journals.{journal_read, IsSetUpOn}
-use Rattle.hail_commands.specs.Opens.{IsOpened, Unstarted, setup_in_effect}
-use Rattle.hail_commands.specs.Refusals.{status_of}
-use Rattle.hail_commands.specs.Lines.{audit_lines}
-use Rattle.hail_commands.specs.Inits.{setup_with, AnswersInit}
-use Rattle.hail_commands.specs.Gets.{GetLeaves}
-use Rattle.hail_commands.specs.Jobs.{AnswersJob, SamePast, past, with_next, IsTold}
-use Rattle.hail_commands.specs.Commands.{AnswersPut, AnswersAlone, AnswersList, Answers}
-use Rattle.sound_states.proofs.Records.{is_some-at}
-use Rattle.hail_commands.proofs.Keys.{IsKeyForm-once}
+use Rattle.machine_defs.specs.Jobs.{Kind, PutJob, GetJob, DropJob, AuditJob, RepairJob}
+use Rattle.machine_defs.specs.Answers as answer
+use Rattle.machine_defs.specs.Answers.{Answer}
+use Rattle.machine_defs.specs.Refusals.{Refusal}
+use Rattle.machine_defs.proofs.JobLists.{same_value}
+use Rattle.command_defs.specs.Forms.{Command, Numbers, RowOf, InitWith, PutUnder, GetOf, DropOf, ListAll, AuditAll, RepairDue}
+use Rattle.command_defs.specs.Keys.{IsKeyForm}
+use Rattle.command_defs.specs.Seen.{Seen, Ending, IsRefused, ReadsUpTo}
+use Rattle.opening_defs.specs.Journals.{journal_read, IsSetUpOn}
+use Rattle.command_defs.specs.Opens.{IsOpened, Unstarted, setup_in_effect}
+use Rattle.command_defs.specs.Refusals.{status_of}
+use Rattle.command_defs.specs.Lines.{audit_lines}
+use Rattle.command_defs.specs.Inits.{setup_with, AnswersInit}
+use Rattle.command_defs.specs.Gets.{GetLeaves}
+use Rattle.command_defs.specs.Jobs.{AnswersJob, SamePast, past, with_next, IsTold}
+use Rattle.command_defs.specs.Commands.{AnswersPut, AnswersAlone, AnswersList, Answers}
+use Rattle.state_laws.proofs.Records.{is_some-at}
+use Rattle.command_defs.proofs.Keys.{IsKeyForm-once}
 use Rattle.command_laws.specs.Ends.{IsDone, IsKnown, RunsKind, DiskHas, opens_store, after_put, after_drop, after_audit, after_repair}
 use Rattle.command_laws.specs.Kept.{IsAfter, after_start}
 use Rattle.command_laws.specs.After.{IsSure, Follows, IsThen}

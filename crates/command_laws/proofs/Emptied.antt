@@ -1,18 +1,18 @@
 -- An empty text makes no call of the sink, so its fault ends neither a list without a file nor a get of an empty file.
 use Rattle.std.proofs.Common.{◌≡◌, ◌≢◌, ℕ, List, [], ◌∷◌, take, Some, refl, ap, sym, ◌∙◌, inl, inr, arith}
-use Rattle.hail_records.specs.Records.{Record}
-use Rattle.hail_records.specs.Table.{File, file_of, files_of}
-use Rattle.hail_machine.specs.Jobs.{GetJob}
-use Rattle.hail_machine.specs.Answers as answer
-use Rattle.hail_machine.specs.Answers.{Answer}
-use Rattle.hail_machine.proofs.JobLists.{same_value}
-use Rattle.hail_commands.specs.Sinking.{WritesLine}
-use Rattle.hail_commands.specs.Seen.{Seen, Ending, sinking}
-use Rattle.hail_commands.specs.Opens.{setup_in_effect}
-use Rattle.hail_commands.specs.Lines.{list_lines, text_of}
-use Rattle.hail_commands.specs.Gets.{GetLeaves}
-use Rattle.hail_commands.specs.Jobs.{AnswersJob, EndsByAnswer, LeftAlone}
-use Rattle.hail_commands.specs.Commands.{AnswersAlone, AnswersList}
+use Rattle.record_defs.specs.Records.{Record}
+use Rattle.record_defs.specs.Table.{File, file_of, files_of}
+use Rattle.machine_defs.specs.Jobs.{GetJob}
+use Rattle.machine_defs.specs.Answers as answer
+use Rattle.machine_defs.specs.Answers.{Answer}
+use Rattle.machine_defs.proofs.JobLists.{same_value}
+use Rattle.command_defs.specs.Sinking.{WritesLine}
+use Rattle.command_defs.specs.Seen.{Seen, Ending, sinking}
+use Rattle.command_defs.specs.Opens.{setup_in_effect}
+use Rattle.command_defs.specs.Lines.{list_lines, text_of}
+use Rattle.command_defs.specs.Gets.{GetLeaves}
+use Rattle.command_defs.specs.Jobs.{AnswersJob, EndsByAnswer, LeftAlone}
+use Rattle.command_defs.specs.Commands.{AnswersAlone, AnswersList}
 use Rattle.command_laws.specs.Ends.{IsKnown}
 use Rattle.command_laws.proofs.Known.{known-once, alone-known, unstarted-known, refused-not}
 use Rattle.command_laws.proofs.GetEnds.{ran_left}

@@ -2,21 +2,21 @@
 use Rattle.std.proofs.Common.{◌≡◌, ◌≢◌, ℕ, ◌+◌, ◌*◌, ◌⊎◌, true, false, List, Option, refl, ap, sym, ◌∙◌, inl, inr, arith}
 use Rattle.std.proofs.lemmas.Bool.{cases_Bool, cases_lt, false≢true}
 use Rattle.hail_field.specs.Shape.{IsShape}
-use Rattle.hail_codes.specs.Points.{upto}
-use Rattle.hail_codes.specs.DispersalCode.{AcceptsNone}
-use Rattle.hail_records.specs.Records.{Record}
-use Rattle.hail_machine.specs.Jobs.{Kind, PutJob, GetJob, DropJob, AuditJob, RepairJob}
-use Rattle.hail_machine.specs.Refusals as refusal
-use Rattle.hail_machine.specs.Refusals.{Refusal}
-use Rattle.hail_commands.specs.Forms.{Command, Numbers, RowOf, InitWith, PutUnder, GetOf, DropOf, ListAll, AuditAll, RepairDue}
-use Rattle.hail_commands.specs.Sinking.{WritesLine, TellsLine}
-use Rattle.hail_commands.specs.Seen.{Seen, Ending, sinking}
-use Rattle.hail_commands.specs.Opens.{Unstarted}
-use Rattle.hail_commands.specs.Refusals.{status_of}
-use Rattle.hail_commands.specs.Row.{AnswersRow}
-use Rattle.hail_commands.specs.Inits.{AnswersInit, InitsDisk}
-use Rattle.hail_commands.specs.Jobs.{AnswersJob}
-use Rattle.hail_commands.specs.Commands.{AnswersPut, AnswersAlone, AnswersList, Answers}
+use Rattle.code_defs.specs.Points.{upto}
+use Rattle.code_defs.specs.DispersalCode.{AcceptsNone}
+use Rattle.record_defs.specs.Records.{Record}
+use Rattle.machine_defs.specs.Jobs.{Kind, PutJob, GetJob, DropJob, AuditJob, RepairJob}
+use Rattle.machine_defs.specs.Refusals as refusal
+use Rattle.machine_defs.specs.Refusals.{Refusal}
+use Rattle.command_defs.specs.Forms.{Command, Numbers, RowOf, InitWith, PutUnder, GetOf, DropOf, ListAll, AuditAll, RepairDue}
+use Rattle.command_defs.specs.Sinking.{WritesLine, TellsLine}
+use Rattle.command_defs.specs.Seen.{Seen, Ending, sinking}
+use Rattle.command_defs.specs.Opens.{Unstarted}
+use Rattle.command_defs.specs.Refusals.{status_of}
+use Rattle.command_defs.specs.Row.{AnswersRow}
+use Rattle.command_defs.specs.Inits.{AnswersInit, InitsDisk}
+use Rattle.command_defs.specs.Jobs.{AnswersJob}
+use Rattle.command_defs.specs.Commands.{AnswersPut, AnswersAlone, AnswersList, Answers}
 use Rattle.command_laws.specs.After.{is_ending}
 use Rattle.command_laws.proofs.Known.{EndStatus, status-ended}
 use Rattle.command_laws.proofs.RowCauses.{none-at}

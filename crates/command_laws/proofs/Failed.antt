@@ -1,32 +1,32 @@
 -- What a store that failed and a lost row leave, and that nothing is fetched by the other commands.
 use Rattle.std.proofs.Common.{◌≡◌, ◌≢◌, ℕ, ◌+◌, ◌<◌, ◌⊎◌, true, List, [], ◌∷◌, Option, None, Some, refl, ap, sym, subst, ◌∙◌, inl, inr, arith}
 use Rattle.std.specs.Prelude.{IsSomeAnd}
-use Rattle.plain_facts.proofs.Numbers.{not_two}
-use Rattle.hail_columns.specs.Verdicts.{is_flagged}
-use Rattle.hail_devices.specs.Cells.{Cells}
-use Rattle.hail_devices.specs.Faults.{Rose}
-use Rattle.hail_devices.specs.Images.{EachImage}
-use Rattle.hail_devices.specs.Providers.{Provider}
-use Rattle.hail_records.specs.Records.{Record, largest_file}
-use Rattle.hail_records.specs.Journal.{StandsFor, StandsOrIsEmpty}
-use Rattle.hail_records.specs.Table.{Due, due_of}
-use Rattle.hail_machine.specs.Jobs.{Kind, PutJob, GetJob, DropJob, AuditJob, RepairJob, UpgradeJob}
-use Rattle.hail_machine.specs.Answers as answer
-use Rattle.hail_machine.specs.Answers.{Answer}
-use Rattle.hail_machine.specs.Refusals.{Refusal}
-use Rattle.hail_commands.specs.Forms.{Command, Numbers, RowOf, InitWith, PutUnder, GetOf, DropOf, ListAll, AuditAll, RepairDue}
-use Rattle.hail_commands.specs.Sinking.{WritesLine}
-use Rattle.hail_commands.specs.Seen.{Seen, Ending, ReadsUpTo, provider_at, sinking}
-use Rattle.hail_commands.specs.Opens.{IsOpened, Unstarted, setup_in_effect}
-use Rattle.hail_commands.specs.Refusals.{status_of}
-use Rattle.hail_commands.specs.Ran.{Ran}
-use Rattle.hail_commands.specs.Lines.{text_of}
-use Rattle.hail_commands.specs.Puts.{PutLeaves}
-use Rattle.hail_commands.specs.Gets.{GetLeaves, LosesStripe}
-use Rattle.hail_commands.specs.Repairs.{RepairGives, LosesAtPlace}
-use Rattle.hail_commands.specs.Jobs.{AnswersJob, EndsByAnswer, LeavesBy, LeftAlone}
-use Rattle.hail_commands.specs.Inits.{AnswersInit, InitsDisk}
-use Rattle.hail_commands.specs.Commands.{AnswersPut, AnswersAlone, AnswersList, Answers}
+use Rattle.plain_laws.proofs.Numbers.{not_two}
+use Rattle.column_defs.specs.Verdicts.{is_flagged}
+use Rattle.device_defs.specs.Cells.{Cells}
+use Rattle.device_defs.specs.Faults.{Rose}
+use Rattle.device_defs.specs.Images.{EachImage}
+use Rattle.device_defs.specs.Providers.{Provider}
+use Rattle.record_defs.specs.Records.{Record, largest_file}
+use Rattle.record_defs.specs.Journal.{StandsFor, StandsOrIsEmpty}
+use Rattle.record_defs.specs.Table.{Due, due_of}
+use Rattle.machine_defs.specs.Jobs.{Kind, PutJob, GetJob, DropJob, AuditJob, RepairJob, UpgradeJob}
+use Rattle.machine_defs.specs.Answers as answer
+use Rattle.machine_defs.specs.Answers.{Answer}
+use Rattle.machine_defs.specs.Refusals.{Refusal}
+use Rattle.command_defs.specs.Forms.{Command, Numbers, RowOf, InitWith, PutUnder, GetOf, DropOf, ListAll, AuditAll, RepairDue}
+use Rattle.command_defs.specs.Sinking.{WritesLine}
+use Rattle.command_defs.specs.Seen.{Seen, Ending, ReadsUpTo, provider_at, sinking}
+use Rattle.command_defs.specs.Opens.{IsOpened, Unstarted, setup_in_effect}
+use Rattle.command_defs.specs.Refusals.{status_of}
+use Rattle.command_defs.specs.Ran.{Ran}
+use Rattle.command_defs.specs.Lines.{text_of}
+use Rattle.command_defs.specs.Puts.{PutLeaves}
+use Rattle.command_defs.specs.Gets.{GetLeaves, LosesStripe}
+use Rattle.command_defs.specs.Repairs.{RepairGives, LosesAtPlace}
+use Rattle.command_defs.specs.Jobs.{AnswersJob, EndsByAnswer, LeavesBy, LeftAlone}
+use Rattle.command_defs.specs.Inits.{AnswersInit, InitsDisk}
+use Rattle.command_defs.specs.Commands.{AnswersPut, AnswersAlone, AnswersList, Answers}
 use Rattle.command_laws.specs.Ends.{ran_to}
 use Rattle.command_laws.specs.Kept.{SameFetches, stores_blocks, opens_rows, FailsToPut, FailsToRepair, LosesFile, LosesRepair}
 use Rattle.command_laws.proofs.Known.{refused-not}

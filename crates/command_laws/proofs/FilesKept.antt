@@ -2,30 +2,30 @@
 use Rattle.std.proofs.Common.{◌≡◌, ◌≢◌, ℕ, zero, suc, ◌<◌, ◌≤◌, ◌==◌, ◌&&◌, Bool, true, false, not, List, [], ◌∷◌, ◌++◌, length, reverse, take, Option, None, Some, refl, ap, sym, subst, ◌∙◌, inl, inr, arith}
 use Rattle.std.specs.Prelude.{is_some, IfSome}
 use Rattle.std.proofs.lemmas.Bool.{cases_Bool, false≢true, eq-eqb}
-use Rattle.hail_columns.specs.Objects.{Object}
-use Rattle.hail_columns.specs.Columns.{columns, is_wrong_block}
-use Rattle.hail_columns.specs.Verdicts.{is_flagged}
-use Rattle.hail_devices.specs.Providers.{Held}
-use Rattle.hail_devices.specs.Told.{Goes}
+use Rattle.column_defs.specs.Objects.{Object}
+use Rattle.column_defs.specs.Columns.{columns, is_wrong_block}
+use Rattle.column_defs.specs.Verdicts.{is_flagged}
+use Rattle.device_defs.specs.Providers.{Held}
+use Rattle.device_defs.specs.Told.{Goes}
 use Rattle.column_laws.proofs.Worked.{column-right}
-use Rattle.hail_records.specs.Records.{Record, Setup, PutStart, PutDone, Drop, AuditStart, AuditDone}
-use Rattle.hail_records.specs.Table.{File, Due, next_id, next_audit, file_of, due_of, started_as, is_start_of}
-use Rattle.hail_machine.specs.Setups.{profiled, object_of, stripes_of}
-use Rattle.hail_machine.specs.Jobs.{PutJob, DropJob, RepairJob}
-use Rattle.hail_machine.specs.Answers as answer
-use Rattle.hail_machine.specs.Answers.{Answer}
-use Rattle.hail_machine.proofs.JobLists.{cond_true, cond_false, same_value}
-use Rattle.hail_machine.proofs.RecordFacts.{AreSound, other_name}
-use Rattle.hail_commands.specs.Forms.{Command, RowOf, InitWith, PutUnder, GetOf, DropOf, ListAll, AuditAll, RepairDue}
-use Rattle.hail_commands.specs.Seen.{Seen, Ending, IsRefused, provider_at}
-use Rattle.hail_commands.specs.Opens.{setup_in_effect, object_in_effect}
-use Rattle.hail_commands.specs.Blocks.{StoredOn, PartlyStored, DroppedFrom}
-use Rattle.hail_commands.specs.Puts.{PutIsCut, PutLeaves}
-use Rattle.hail_commands.specs.Drops.{DropLeaves}
-use Rattle.hail_commands.specs.Repairs.{IfFlagged}
-use Rattle.hail_commands.specs.Jobs.{AnswersJob, LeftAlone}
-use Rattle.hail_commands.specs.Commands.{AnswersPut, AnswersAlone, Answers}
-use Rattle.sound_states.proofs.Records.{sound-accepted}
+use Rattle.record_defs.specs.Records.{Record, Setup, PutStart, PutDone, Drop, AuditStart, AuditDone}
+use Rattle.record_defs.specs.Table.{File, Due, next_id, next_audit, file_of, due_of, started_as, is_start_of}
+use Rattle.machine_defs.specs.Setups.{profiled, object_of, stripes_of}
+use Rattle.machine_defs.specs.Jobs.{PutJob, DropJob, RepairJob}
+use Rattle.machine_defs.specs.Answers as answer
+use Rattle.machine_defs.specs.Answers.{Answer}
+use Rattle.machine_defs.proofs.JobLists.{cond_true, cond_false, same_value}
+use Rattle.machine_defs.proofs.RecordFacts.{AreSound, other_name}
+use Rattle.command_defs.specs.Forms.{Command, RowOf, InitWith, PutUnder, GetOf, DropOf, ListAll, AuditAll, RepairDue}
+use Rattle.command_defs.specs.Seen.{Seen, Ending, IsRefused, provider_at}
+use Rattle.command_defs.specs.Opens.{setup_in_effect, object_in_effect}
+use Rattle.command_defs.specs.Blocks.{StoredOn, PartlyStored, DroppedFrom}
+use Rattle.command_defs.specs.Puts.{PutIsCut, PutLeaves}
+use Rattle.command_defs.specs.Drops.{DropLeaves}
+use Rattle.command_defs.specs.Repairs.{IfFlagged}
+use Rattle.command_defs.specs.Jobs.{AnswersJob, LeftAlone}
+use Rattle.command_defs.specs.Commands.{AnswersPut, AnswersAlone, Answers}
+use Rattle.state_laws.proofs.Records.{sound-accepted}
 use Rattle.command_laws.specs.Ends.{IsDone, IsKnown, SameHolds, after_repair, IsRepaired}
 use Rattle.command_laws.specs.Kept.{AreAppended}
 use Rattle.command_laws.specs.After.{is_wrong_or_untold, HasRightFile, IsThen, HasGrown, IsSteady, spoilt_below, keeps_blocks, IsOfAnother}

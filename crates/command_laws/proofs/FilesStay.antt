@@ -3,20 +3,20 @@ use Rattle.std.proofs.Common.{◌≡◌, ℕ, ◌+◌, ◌<◌, ◌≤◌, ◌||
 use Rattle.std.specs.Prelude.{is_some, nat_lt, nat_le}
 use Rattle.std.proofs.lemmas.Bool.{cases_Bool, cases_lt, false≢true}
 use Rattle.std.proofs.lemmas.Bool.Decides.{nat_tests}
-use Rattle.hail_columns.specs.Objects.{Object}
-use Rattle.hail_columns.specs.Columns.{is_wrong_block}
+use Rattle.column_defs.specs.Objects.{Object}
+use Rattle.column_defs.specs.Columns.{is_wrong_block}
 use Rattle.column_laws.proofs.Counts.{count_of-within}
-use Rattle.hail_devices.specs.Faults.{Rose, last_count}
-use Rattle.hail_devices.specs.Providers.{Held, Provider}
-use Rattle.hail_devices.specs.Told.{Goes}
+use Rattle.device_defs.specs.Faults.{Rose, last_count}
+use Rattle.device_defs.specs.Providers.{Held, Provider}
+use Rattle.device_defs.specs.Told.{Goes}
 use Rattle.column_laws.proofs.Worked.{column-right}
-use Rattle.hail_records.specs.Records.{Record, largest_file, Setup}
-use Rattle.hail_records.specs.Table.{File, file_as, profile_in, setup_of, next_id, file_of}
-use Rattle.hail_machine.specs.Setups.{setup_or_none, profiled, object_of}
-use Rattle.hail_commands.specs.Seen.{Seen, Ending, provider_at}
-use Rattle.hail_commands.specs.Opens.{setup_in_effect, object_in_effect}
-use Rattle.hail_commands.specs.Blocks.{StoredOn}
-use Rattle.hail_commands.specs.Commands.{AnswersPut}
+use Rattle.record_defs.specs.Records.{Record, largest_file, Setup}
+use Rattle.record_defs.specs.Table.{File, file_as, profile_in, setup_of, next_id, file_of}
+use Rattle.machine_defs.specs.Setups.{setup_or_none, profiled, object_of}
+use Rattle.command_defs.specs.Seen.{Seen, Ending, provider_at}
+use Rattle.command_defs.specs.Opens.{setup_in_effect, object_in_effect}
+use Rattle.command_defs.specs.Blocks.{StoredOn}
+use Rattle.command_defs.specs.Commands.{AnswersPut}
 use Rattle.job_laws.specs.Failing.{has_risen, is_bad_with, is_bad_for, bad_seen}
 use Rattle.command_laws.specs.Ends.{IsDone, IsKnown, after_put, IsWholePut}
 use Rattle.command_laws.specs.After.{is_wrong_or_untold, HasRightFile, IsUntouched, IsSteady, spoilt_below}

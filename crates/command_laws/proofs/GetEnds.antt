@@ -2,27 +2,27 @@
 use Rattle.std.proofs.Common.{◌≡◌, ℕ, ◌+◌, ◌≤◌, ◌⊎◌, true, cond, not, List, [], length, None, Some, refl, sym, subst, ◌∙◌, inl, inr, arith}
 use Rattle.std.specs.Prelude.{is_some}
 use Rattle.hail_field.specs.Shape.{IsShape}
-use Rattle.hail_devices.specs.Faults.{Rose}
-use Rattle.hail_devices.specs.Told.{told_then, TakesFront}
-use Rattle.hail_records.specs.Records.{Record, is_name}
-use Rattle.hail_records.specs.Table.{File, file_of}
-use Rattle.hail_machine.specs.Jobs.{Kind, GetJob}
-use Rattle.hail_machine.specs.Answers as answer
-use Rattle.hail_machine.specs.Answers.{Answer}
-use Rattle.hail_machine.specs.Events.{AreBytes}
-use Rattle.hail_machine.specs.Heard.{Entry, HoldsForgery}
-use Rattle.hail_machine.specs.Refusals as refusal
-use Rattle.hail_machine.specs.Refusals.{Refusal}
-use Rattle.hail_commands.specs.Sinking.{WritesLine}
-use Rattle.hail_commands.specs.Seen.{Seen, Ending, IsRefused, sinking}
-use Rattle.hail_commands.specs.Opens.{IsOpened, setup_in_effect, object_in_effect}
-use Rattle.hail_commands.specs.Refusals.{refusal_over}
-use Rattle.hail_commands.specs.Ran.{Ran, ran_alone, job_number}
-use Rattle.hail_commands.specs.Lines.{text_of}
-use Rattle.hail_commands.specs.Gets.{GetLeaves}
-use Rattle.hail_commands.specs.Jobs.{AnswersJob, EndsByAnswer, LeftAlone}
-use Rattle.hail_commands.specs.Commands.{AnswersAlone}
-use Rattle.sound_states.proofs.Records.{all-spelled, file-spelled}
+use Rattle.device_defs.specs.Faults.{Rose}
+use Rattle.device_defs.specs.Told.{told_then, TakesFront}
+use Rattle.record_defs.specs.Records.{Record, is_name}
+use Rattle.record_defs.specs.Table.{File, file_of}
+use Rattle.machine_defs.specs.Jobs.{Kind, GetJob}
+use Rattle.machine_defs.specs.Answers as answer
+use Rattle.machine_defs.specs.Answers.{Answer}
+use Rattle.machine_defs.specs.Events.{AreBytes}
+use Rattle.machine_defs.specs.Heard.{Entry, HoldsForgery}
+use Rattle.machine_defs.specs.Refusals as refusal
+use Rattle.machine_defs.specs.Refusals.{Refusal}
+use Rattle.command_defs.specs.Sinking.{WritesLine}
+use Rattle.command_defs.specs.Seen.{Seen, Ending, IsRefused, sinking}
+use Rattle.command_defs.specs.Opens.{IsOpened, setup_in_effect, object_in_effect}
+use Rattle.command_defs.specs.Refusals.{refusal_over}
+use Rattle.command_defs.specs.Ran.{Ran, ran_alone, job_number}
+use Rattle.command_defs.specs.Lines.{text_of}
+use Rattle.command_defs.specs.Gets.{GetLeaves}
+use Rattle.command_defs.specs.Jobs.{AnswersJob, EndsByAnswer, LeftAlone}
+use Rattle.command_defs.specs.Commands.{AnswersAlone}
+use Rattle.state_laws.proofs.Records.{all-spelled, file-spelled}
 use Rattle.job_laws.specs.Failing.{bad_seen}
 use Rattle.command_laws.specs.Ends.{IsKnown, GivesUnlessMemory}
 use Rattle.job_laws.proofs.Complete.{shape-of, get-complete, get-right, get-forged}

@@ -3,53 +3,53 @@ use Rattle.std.proofs.Common.{◌≡◌, ℕ, ◌+◌, ◌<◌, ◌≤◌, ◌�
 use Rattle.std.specs.Prelude.{is_some, IfSome}
 use Rattle.std.specs.Option.{option_map}
 use Rattle.std.proofs.lemmas.Bool.{false≢true}
-use Rattle.hail_devices.specs.Cells.{Cells, reads}
-use Rattle.hail_devices.specs.Disks.{synced}
-use Rattle.hail_devices.specs.Faults.{Rose}
-use Rattle.hail_devices.specs.Images.{IsImage, EachImage}
-use Rattle.hail_devices.specs.Providers.{Provider}
-use Rattle.hail_devices.proofs.Lasting.{image-firm, each_image-mono}
-use Rattle.hail_devices.proofs.PickLaws.{IsImage-reads}
-use Rattle.hail_records.specs.Records.{Record}
-use Rattle.hail_records.specs.Journal.{StandsFor}
-use Rattle.hail_records.specs.Reading.{HasNoSetup}
-use Rattle.hail_records.specs.Table.{setup_of, version_of, files_of}
-use Rattle.hail_records.specs.Areas as areas
-use Rattle.hail_records.specs.Packed.{packed}
-use Rattle.hail_records.proofs.PackLaws.{packed_are}
-use Rattle.hail_machine.specs.Answers.{Answer}
-use Rattle.hail_machine.specs.Events.{Event, Begin, Step, Reopen, Names, Continue, Outcome, Refused, Opened, More, Begun, Ended, Listed, Continued, IsSpelled, IsSpelledKind}
-use Rattle.hail_machine.specs.Jobs.{Kind, PutJob, GetJob, DropJob, AuditJob, RepairJob}
-use Rattle.hail_machine.specs.Machine.{Happens}
-use Rattle.hail_machine.specs.Begins.{Begins, begin_refusal}
-use Rattle.hail_machine.specs.Refusals as refusal
-use Rattle.hail_machine.specs.Refusals.{Refusal}
-use Rattle.hail_machine.specs.Runs.{Moment, now, IsRun}
-use Rattle.hail_machine.specs.Setups.{setup_or_none}
-use Rattle.hail_machine.specs.Stands.{StandsForState}
-use Rattle.hail_machine.specs.States.{State, given_up, continued, setup_in}
-use Rattle.hail_machine.specs.Openings.{Rereads}
-use Rattle.hail_machine.specs.Transcripts.{GoOn}
-use Rattle.sound_states.specs.Sound.{IsWholeJournal, IsSound}
-use Rattle.sound_states.proofs.Events.{events-sound}
-use Rattle.sound_states.proofs.Records.{is_some-at, version-first, grammar-rest, setup-more}
-use Rattle.hail_commands.specs.Forms.{Command, RowOf, InitWith, PutUnder, GetOf, DropOf, ListAll, AuditAll, RepairDue}
-use Rattle.hail_commands.specs.Seen.{Seen, Ending, NoCountFalls, IsRefused, IsSynced}
-use Rattle.hail_openings.specs.Journals.{journal_read, IsRead, IsBadStart}
-use Rattle.hail_commands.specs.Opens.{IsOpened, Unstarted, setup_in_effect}
-use Rattle.hail_openings.specs.Opened.{AreHanded, IsOpenedOver}
-use Rattle.hail_commands.specs.JobRuns.{AreSteps, GoesOnTo}
-use Rattle.hail_commands.specs.Jobs.{AnswersJob, EndsByAnswer, RunsAlone, RanAlone}
-use Rattle.hail_commands.specs.Lines.{text_of}
-use Rattle.hail_commands.specs.Refusals.{refusal_over, status_of}
-use Rattle.hail_commands.specs.Commands.{AnswersPut, AnswersAlone, AnswersList, Answers}
+use Rattle.device_defs.specs.Cells.{Cells, reads}
+use Rattle.device_defs.specs.Disks.{synced}
+use Rattle.device_defs.specs.Faults.{Rose}
+use Rattle.device_defs.specs.Images.{IsImage, EachImage}
+use Rattle.device_defs.specs.Providers.{Provider}
+use Rattle.device_defs.proofs.Lasting.{image-firm, each_image-mono}
+use Rattle.device_defs.proofs.PickLaws.{IsImage-reads}
+use Rattle.record_defs.specs.Records.{Record}
+use Rattle.record_defs.specs.Journal.{StandsFor}
+use Rattle.record_defs.specs.Reading.{HasNoSetup}
+use Rattle.record_defs.specs.Table.{setup_of, version_of, files_of}
+use Rattle.record_defs.specs.Areas as areas
+use Rattle.record_defs.specs.Packed.{packed}
+use Rattle.record_defs.proofs.PackLaws.{packed_are}
+use Rattle.machine_defs.specs.Answers.{Answer}
+use Rattle.machine_defs.specs.Events.{Event, Begin, Step, Reopen, Names, Continue, Outcome, Refused, Opened, More, Begun, Ended, Listed, Continued, IsSpelled, IsSpelledKind}
+use Rattle.machine_defs.specs.Jobs.{Kind, PutJob, GetJob, DropJob, AuditJob, RepairJob}
+use Rattle.machine_defs.specs.Machine.{Happens}
+use Rattle.machine_defs.specs.Begins.{Begins, begin_refusal}
+use Rattle.machine_defs.specs.Refusals as refusal
+use Rattle.machine_defs.specs.Refusals.{Refusal}
+use Rattle.machine_defs.specs.Runs.{Moment, now, IsRun}
+use Rattle.machine_defs.specs.Setups.{setup_or_none}
+use Rattle.machine_defs.specs.Stands.{StandsForState}
+use Rattle.machine_defs.specs.States.{State, given_up, continued, setup_in}
+use Rattle.machine_defs.specs.Openings.{Rereads}
+use Rattle.machine_defs.specs.Transcripts.{GoOn}
+use Rattle.state_laws.specs.Sound.{IsWholeJournal, IsSound}
+use Rattle.state_laws.proofs.Events.{events-sound}
+use Rattle.state_laws.proofs.Records.{is_some-at, version-first, grammar-rest, setup-more}
+use Rattle.command_defs.specs.Forms.{Command, RowOf, InitWith, PutUnder, GetOf, DropOf, ListAll, AuditAll, RepairDue}
+use Rattle.command_defs.specs.Seen.{Seen, Ending, NoCountFalls, IsRefused, IsSynced}
+use Rattle.opening_defs.specs.Journals.{journal_read, IsRead, IsBadStart}
+use Rattle.command_defs.specs.Opens.{IsOpened, Unstarted, setup_in_effect}
+use Rattle.opening_defs.specs.Opened.{AreHanded, IsOpenedOver}
+use Rattle.command_defs.specs.JobRuns.{AreSteps, GoesOnTo}
+use Rattle.command_defs.specs.Jobs.{AnswersJob, EndsByAnswer, RunsAlone, RanAlone}
+use Rattle.command_defs.specs.Lines.{text_of}
+use Rattle.command_defs.specs.Refusals.{refusal_over, status_of}
+use Rattle.command_defs.specs.Commands.{AnswersPut, AnswersAlone, AnswersList, Answers}
 use Rattle.command_laws.specs.Ends.{RunsKind, opens_store}
 use Rattle.command_laws.specs.Pieces.{IsStore, IsSpelledCommand, IsCall, moment}
-use Rattle.hail_openings.proofs.Readings.{read-once, read-set_up, read-good as read-never-bad}
+use Rattle.opening_defs.proofs.Readings.{read-once, read-set_up, read-good as read-never-bad}
 use Rattle.job_laws.proofs.Telling.{over-opened}
 use Rattle.command_laws.proofs.Images.{refused-keeps}
 use Rattle.command_laws.proofs.LastStates.{last-state}
-use Rattle.sound_states.proofs.Written.{whole-end}
+use Rattle.state_laws.proofs.Written.{whole-end}
 use Rattle.command_laws.proofs.Knowing.{IsGood, read-good, none-up, StandsInState, StandsSo, stands-so}
 use Rattle.command_laws.proofs.Afterwards.{read-kept}
 use Rattle.command_laws.proofs.DoneStores.{tells-past}

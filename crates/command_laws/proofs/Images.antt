@@ -5,31 +5,31 @@ use Rattle.std.specs.Option.{option_map}
 use Rattle.std.proofs.Math.Seq.{take-append_seam, take-append-add, take-length}
 use Rattle.std.proofs.lemmas.Bool.{false≢true}
 use Rattle.std.proofs.lemmas.List.{reverse-append}
-use Rattle.hail_devices.specs.Cells.{Cells, reads}
-use Rattle.hail_devices.specs.Disks.{synced}
-use Rattle.hail_devices.specs.Images.{IsImage, EachImage}
-use Rattle.hail_devices.specs.Told.{Goes}
-use Rattle.hail_devices.proofs.Lasting.{image-firm}
-use Rattle.hail_devices.proofs.PickLaws.{IsImage-reads}
-use Rattle.hail_records.specs.Records.{Record, PutStart, PutDone, AuditStart, AuditDone, largest_journal}
-use Rattle.hail_records.specs.Journal.{StandsFor, StandsOrIsEmpty}
-use Rattle.hail_records.specs.Table.{next_id, next_audit}
-use Rattle.hail_records.proofs.Standing.{stands-front, stands-long}
+use Rattle.device_defs.specs.Cells.{Cells, reads}
+use Rattle.device_defs.specs.Disks.{synced}
+use Rattle.device_defs.specs.Images.{IsImage, EachImage}
+use Rattle.device_defs.specs.Told.{Goes}
+use Rattle.device_defs.proofs.Lasting.{image-firm}
+use Rattle.device_defs.proofs.PickLaws.{IsImage-reads}
+use Rattle.record_defs.specs.Records.{Record, PutStart, PutDone, AuditStart, AuditDone, largest_journal}
+use Rattle.record_defs.specs.Journal.{StandsFor, StandsOrIsEmpty}
+use Rattle.record_defs.specs.Table.{next_id, next_audit}
+use Rattle.record_defs.proofs.Standing.{stands-front, stands-long}
 use Rattle.journal_core.proofs.Meanings.{one_meaning}
-use Rattle.hail_machine.specs.Jobs.{Kind, PutJob, GetJob, DropJob, AuditJob, RepairJob, UpgradeJob}
-use Rattle.hail_machine.specs.Answers as answer
-use Rattle.hail_machine.specs.Answers.{Answer}
-use Rattle.hail_commands.specs.Forms.{Command, Numbers, RowOf, InitWith, PutUnder, GetOf, DropOf, ListAll, AuditAll, RepairDue}
-use Rattle.hail_openings.specs.Journals.{IsResynced, IsFree, IsSetUpOn, MayBeLeft}
-use Rattle.hail_openings.proofs.Resyncs.{image-resynced}
-use Rattle.hail_commands.specs.Seen.{Seen, Ending, IsRefused}
-use Rattle.hail_commands.specs.Opens.{IsOpened, Unstarted}
-use Rattle.hail_commands.specs.Ran.{Ran, IsWhole, IsCut, IsCutInDoubt}
-use Rattle.hail_commands.specs.Puts.{put_records, PutIsCut}
-use Rattle.hail_commands.specs.Audits.{audit_records, AuditIsCut}
-use Rattle.hail_commands.specs.Jobs.{AnswersJob, LeavesBy}
-use Rattle.hail_commands.specs.Inits.{setup_with, AnswersInit, InitsDisk}
-use Rattle.hail_commands.specs.Commands.{AnswersPut, AnswersAlone, AnswersList, Answers}
+use Rattle.machine_defs.specs.Jobs.{Kind, PutJob, GetJob, DropJob, AuditJob, RepairJob, UpgradeJob}
+use Rattle.machine_defs.specs.Answers as answer
+use Rattle.machine_defs.specs.Answers.{Answer}
+use Rattle.command_defs.specs.Forms.{Command, Numbers, RowOf, InitWith, PutUnder, GetOf, DropOf, ListAll, AuditAll, RepairDue}
+use Rattle.opening_defs.specs.Journals.{IsResynced, IsFree, IsSetUpOn, MayBeLeft}
+use Rattle.opening_defs.proofs.Resyncs.{image-resynced}
+use Rattle.command_defs.specs.Seen.{Seen, Ending, IsRefused}
+use Rattle.command_defs.specs.Opens.{IsOpened, Unstarted}
+use Rattle.command_defs.specs.Ran.{Ran, IsWhole, IsCut, IsCutInDoubt}
+use Rattle.command_defs.specs.Puts.{put_records, PutIsCut}
+use Rattle.command_defs.specs.Audits.{audit_records, AuditIsCut}
+use Rattle.command_defs.specs.Jobs.{AnswersJob, LeavesBy}
+use Rattle.command_defs.specs.Inits.{setup_with, AnswersInit, InitsDisk}
+use Rattle.command_defs.specs.Commands.{AnswersPut, AnswersAlone, AnswersList, Answers}
 use Rattle.command_laws.specs.Ends.{IsKnown, RunsKind, opens_store}
 use Rattle.command_laws.specs.Kept.{KeepsImages, AreAppended, IsAfter, LeavesImages, InitImages}
 use Rattle.command_laws.proofs.Known.{known-once}

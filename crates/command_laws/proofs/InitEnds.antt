@@ -3,22 +3,22 @@ use Rattle.std.proofs.Common.{◌≡◌, ◌≢◌, ℕ, ◌<◌, ◌≤◌, ◌
 use Rattle.std.specs.Prelude.{IfSome}
 use Rattle.std.proofs.lemmas.Bool.{false≢true}
 use Rattle.std.proofs.lemmas.List.{append-nil}
-use Rattle.hail_devices.specs.Cells.{Cells, reads}
-use Rattle.hail_devices.specs.Faults.{Rose}
-use Rattle.hail_devices.specs.Told.{Goes}
-use Rattle.hail_records.specs.Records.{Record, Setup, SetUp, PutStart, PutDone, Drop, AuditStart, AuditDone, RepairDone, PutDoneIn, Version, Resume, InEffect, RepairDue, is_setup, largest_journal}
-use Rattle.hail_records.specs.Table.{files_of}
+use Rattle.device_defs.specs.Cells.{Cells, reads}
+use Rattle.device_defs.specs.Faults.{Rose}
+use Rattle.device_defs.specs.Told.{Goes}
+use Rattle.record_defs.specs.Records.{Record, Setup, SetUp, PutStart, PutDone, Drop, AuditStart, AuditDone, RepairDone, PutDoneIn, Version, Resume, InEffect, RepairDue, is_setup, largest_journal}
+use Rattle.record_defs.specs.Table.{files_of}
 use Rattle.journal_core.proofs.Meanings.{one_meaning, bad_is_none, one_place}
-use Rattle.plain_facts.proofs.Numbers.{not_two}
-use Rattle.hail_commands.specs.Forms.{Numbers}
-use Rattle.hail_commands.specs.Keys.{IsKeyForm, longest_key}
-use Rattle.hail_commands.specs.Sinking.{WritesLine}
-use Rattle.hail_commands.specs.Seen.{Seen, Ending, IsRefused, ReadsUpTo, sinking}
-use Rattle.hail_openings.specs.Journals.{journal_read, BeginsWithSetup, BeginsOtherwise, IsBadInit, IsSetUpAlready, IsFree, IsSetUpOn}
-use Rattle.hail_commands.specs.Inits.{setup_with, AnswersInit, InitsDisk}
-use Rattle.hail_commands.specs.Lines.{ready_line, list_lines}
-use Rattle.hail_commands.specs.Commands.{AnswersList}
-use Rattle.hail_commands.proofs.Keys.{IsKeyForm-once}
+use Rattle.plain_laws.proofs.Numbers.{not_two}
+use Rattle.command_defs.specs.Forms.{Numbers}
+use Rattle.command_defs.specs.Keys.{IsKeyForm, longest_key}
+use Rattle.command_defs.specs.Sinking.{WritesLine}
+use Rattle.command_defs.specs.Seen.{Seen, Ending, IsRefused, ReadsUpTo, sinking}
+use Rattle.opening_defs.specs.Journals.{journal_read, BeginsWithSetup, BeginsOtherwise, IsBadInit, IsSetUpAlready, IsFree, IsSetUpOn}
+use Rattle.command_defs.specs.Inits.{setup_with, AnswersInit, InitsDisk}
+use Rattle.command_defs.specs.Lines.{ready_line, list_lines}
+use Rattle.command_defs.specs.Commands.{AnswersList}
+use Rattle.command_defs.proofs.Keys.{IsKeyForm-once}
 use Rattle.command_laws.specs.Ends.{IsDone, IsKnown, GivesUnlessMemory}
 use Rattle.command_laws.specs.Opened.{IsKeyed, IsInit, IsListed}
 use Rattle.command_laws.proofs.Known.{none-written, written-well, known-once, unstarted-known}

@@ -2,12 +2,12 @@
 use Rattle.std.proofs.Common.{[], refl, ap, inl, arith}
 use Rattle.std.proofs.lemmas.List.{get_or-replicate}
 use Rattle.hex.specs.Hex.{decode_pairs, is_hex_digit}
-use Rattle.hail_commands.specs.Forms.{InitWith}
-use Rattle.hail_commands.specs.Keys.{IsKeyForm, longest_key}
-use Rattle.hail_commands.specs.Seen.{ReadsUpTo}
-use Rattle.hail_commands.specs.Inits.{AnswersInit, InitsDisk}
-use Rattle.hail_commands.specs.Commands.{Answers}
-use Rattle.hail_records.specs.Spellings.{spelling}
+use Rattle.command_defs.specs.Forms.{InitWith}
+use Rattle.command_defs.specs.Keys.{IsKeyForm, longest_key}
+use Rattle.command_defs.specs.Seen.{ReadsUpTo}
+use Rattle.command_defs.specs.Inits.{AnswersInit, InitsDisk}
+use Rattle.command_defs.specs.Commands.{Answers}
+use Rattle.record_defs.specs.Spellings.{spelling}
 use Rattle.command_laws.specs.Opened.{IsKeyed}
 use Rattle.command_laws.specs.Instances.{small_setup, small_numbers, key_text, key_devices, ready_store, ends}
 

@@ -3,32 +3,32 @@ use Rattle.std.proofs.Common.{◌≡◌, ◌≢◌, ℕ, ◌+◌, ◌<◌, ◌�
 use Rattle.std.specs.Prelude.{IsSomeAnd, nat_lt}
 use Rattle.std.proofs.lemmas.Bool.{cases_lt, eq-eqb, lt-ltb}
 use Rattle.std.proofs.lemmas.List.{append-nil}
-use Rattle.hail_devices.specs.Cells.{Cells}
-use Rattle.hail_devices.specs.Faults.{Rose}
-use Rattle.hail_devices.specs.Images.{EachImage}
-use Rattle.hail_devices.specs.Providers.{Held, Provider}
-use Rattle.hail_devices.proofs.Lasting.{rose-before}
-use Rattle.hail_records.specs.Records.{Record, PutStart, largest_file}
-use Rattle.hail_records.specs.Journal.{StandsFor, StandsOrIsEmpty}
-use Rattle.hail_records.specs.Table.{File, Due, next_id, file_of, due_of, started_as, is_start_of, is_same_name, file_as, profile_in, setup_of}
-use Rattle.hail_records.proofs.FilesLaws.{same-refl}
-use Rattle.hail_machine.specs.Jobs.{Kind, PutJob, GetJob, DropJob, AuditJob, RepairJob}
-use Rattle.hail_machine.specs.Answers as answer
-use Rattle.hail_machine.specs.Answers.{Answer}
-use Rattle.hail_machine.specs.Heard.{Entry}
-use Rattle.hail_machine.specs.Refusals.{Refusal}
-use Rattle.hail_machine.proofs.JobLists.{cond_true}
-use Rattle.hail_commands.specs.Forms.{Command, PutUnder, DropOf, AuditAll}
-use Rattle.hail_commands.specs.Seen.{Seen, Ending, IsRefused, ReadsUpTo, provider_at}
-use Rattle.hail_commands.specs.Opens.{IsOpened, Unstarted, setup_in_effect}
-use Rattle.hail_commands.specs.Refusals.{refusal_over, status_of}
-use Rattle.hail_commands.specs.Lines.{text_of, stored_line, dropped_line, audit_lines, repaired_line}
-use Rattle.hail_commands.specs.Puts.{PutLeaves}
-use Rattle.hail_commands.specs.Drops.{DropLeaves}
-use Rattle.hail_commands.specs.Audits.{AuditGives, HearsRounds, CountsHeard}
-use Rattle.hail_commands.specs.Repairs.{RepairGives}
-use Rattle.hail_commands.specs.Jobs.{AnswersJob, EndsByAnswer, LeftAlone, IsTold}
-use Rattle.hail_commands.specs.Commands.{AnswersPut, AnswersAlone, AnswersList}
+use Rattle.device_defs.specs.Cells.{Cells}
+use Rattle.device_defs.specs.Faults.{Rose}
+use Rattle.device_defs.specs.Images.{EachImage}
+use Rattle.device_defs.specs.Providers.{Held, Provider}
+use Rattle.device_defs.proofs.Lasting.{rose-before}
+use Rattle.record_defs.specs.Records.{Record, PutStart, largest_file}
+use Rattle.record_defs.specs.Journal.{StandsFor, StandsOrIsEmpty}
+use Rattle.record_defs.specs.Table.{File, Due, next_id, file_of, due_of, started_as, is_start_of, is_same_name, file_as, profile_in, setup_of}
+use Rattle.record_defs.proofs.FilesLaws.{same-refl}
+use Rattle.machine_defs.specs.Jobs.{Kind, PutJob, GetJob, DropJob, AuditJob, RepairJob}
+use Rattle.machine_defs.specs.Answers as answer
+use Rattle.machine_defs.specs.Answers.{Answer}
+use Rattle.machine_defs.specs.Heard.{Entry}
+use Rattle.machine_defs.specs.Refusals.{Refusal}
+use Rattle.machine_defs.proofs.JobLists.{cond_true}
+use Rattle.command_defs.specs.Forms.{Command, PutUnder, DropOf, AuditAll}
+use Rattle.command_defs.specs.Seen.{Seen, Ending, IsRefused, ReadsUpTo, provider_at}
+use Rattle.command_defs.specs.Opens.{IsOpened, Unstarted, setup_in_effect}
+use Rattle.command_defs.specs.Refusals.{refusal_over, status_of}
+use Rattle.command_defs.specs.Lines.{text_of, stored_line, dropped_line, audit_lines, repaired_line}
+use Rattle.command_defs.specs.Puts.{PutLeaves}
+use Rattle.command_defs.specs.Drops.{DropLeaves}
+use Rattle.command_defs.specs.Audits.{AuditGives, HearsRounds, CountsHeard}
+use Rattle.command_defs.specs.Repairs.{RepairGives}
+use Rattle.command_defs.specs.Jobs.{AnswersJob, EndsByAnswer, LeftAlone, IsTold}
+use Rattle.command_defs.specs.Commands.{AnswersPut, AnswersAlone, AnswersList}
 use Rattle.job_laws.specs.Failing.{bad_seen}
 use Rattle.command_laws.specs.Ends.{IsDone, IsKnown, GivesUnlessMemory, EndsInOrder, SameHolds, after_put, IsWholePut, IsDropped, IsAudited, IsRepaired}
 use Rattle.job_laws.proofs.Complete.{put-end, drop-end, audit-end}

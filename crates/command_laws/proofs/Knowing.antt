@@ -4,35 +4,35 @@ use Rattle.std.specs.Prelude.{is_some, IfSome}
 use Rattle.std.specs.List.{list_all}
 use Rattle.std.proofs.lemmas.Bool.{false≢true}
 use Rattle.std.proofs.lemmas.Bool.Decides.{nat_tests}
-use Rattle.hail_devices.specs.Cells.{Cells, reads}
-use Rattle.hail_devices.specs.Images.{EachImage}
-use Rattle.hail_devices.proofs.PickLaws.{IsImage-reads}
-use Rattle.hail_records.specs.Records.{Record, Setup, is_byte, is_name_byte, is_name, largest_journal}
-use Rattle.hail_records.specs.Journal.{text_size, StandsFor}
-use Rattle.hail_records.specs.Table.{setup_of}
-use Rattle.hail_records.specs.Acceptance.{AreAccepted}
-use Rattle.hail_records.proofs.Standing.{stands-take, stands-long}
+use Rattle.device_defs.specs.Cells.{Cells, reads}
+use Rattle.device_defs.specs.Images.{EachImage}
+use Rattle.device_defs.proofs.PickLaws.{IsImage-reads}
+use Rattle.record_defs.specs.Records.{Record, Setup, is_byte, is_name_byte, is_name, largest_journal}
+use Rattle.record_defs.specs.Journal.{text_size, StandsFor}
+use Rattle.record_defs.specs.Table.{setup_of}
+use Rattle.record_defs.specs.Acceptance.{AreAccepted}
+use Rattle.record_defs.proofs.Standing.{stands-take, stands-long}
 use Rattle.journal_core.proofs.Meanings.{one_meaning}
-use Rattle.hail_machine.specs.Jobs.{Kind, PutJob, GetJob, DropJob, AuditJob, RepairJob, UpgradeJob}
-use Rattle.hail_machine.specs.Answers.{Answer}
-use Rattle.hail_machine.specs.Events.{AreBytes, IsSpelledKind}
-use Rattle.hail_machine.specs.Heard.{Entry}
-use Rattle.hail_machine.specs.Refusals.{Refusal}
-use Rattle.hail_machine.specs.Setups.{setup_or_none}
-use Rattle.hail_machine.specs.States.{State, setup_in, Doubt}
-use Rattle.hail_machine.specs.Stands.{StandsPlain, StandsWithDoubt, StandsSwitched, StandsForState}
-use Rattle.hail_commands.specs.Seen.{Seen}
-use Rattle.hail_openings.specs.Journals.{journal_read, IsRead}
-use Rattle.hail_commands.specs.Opens.{IsOpened, setup_in_effect}
-use Rattle.hail_commands.specs.Refusals.{refusal_over}
-use Rattle.hail_commands.specs.Jobs.{RunsAlone}
-use Rattle.sound_states.proofs.Records.{setup-more}
+use Rattle.machine_defs.specs.Jobs.{Kind, PutJob, GetJob, DropJob, AuditJob, RepairJob, UpgradeJob}
+use Rattle.machine_defs.specs.Answers.{Answer}
+use Rattle.machine_defs.specs.Events.{AreBytes, IsSpelledKind}
+use Rattle.machine_defs.specs.Heard.{Entry}
+use Rattle.machine_defs.specs.Refusals.{Refusal}
+use Rattle.machine_defs.specs.Setups.{setup_or_none}
+use Rattle.machine_defs.specs.States.{State, setup_in, Doubt}
+use Rattle.machine_defs.specs.Stands.{StandsPlain, StandsWithDoubt, StandsSwitched, StandsForState}
+use Rattle.command_defs.specs.Seen.{Seen}
+use Rattle.opening_defs.specs.Journals.{journal_read, IsRead}
+use Rattle.command_defs.specs.Opens.{IsOpened, setup_in_effect}
+use Rattle.command_defs.specs.Refusals.{refusal_over}
+use Rattle.command_defs.specs.Jobs.{RunsAlone}
+use Rattle.state_laws.proofs.Records.{setup-more}
 use Rattle.command_laws.specs.Ends.{IsKnown, DiskHas}
 use Rattle.command_laws.specs.After.{IsSure}
 use Rattle.job_laws.proofs.Telling.{over-opened, opened_state, state-over}
 use Rattle.command_laws.proofs.LastStates.{IsLast, last-state}
-use Rattle.sound_states.specs.Sound.{IsWholeJournal}
-use Rattle.sound_states.proofs.Written.{whole-end}
+use Rattle.state_laws.specs.Sound.{IsWholeJournal}
+use Rattle.state_laws.proofs.Written.{whole-end}
 
 -- ---- a text that fits is looked at
 

@@ -2,26 +2,26 @@
 use Rattle.std.proofs.Common.{◌≡◌, ◌≢◌, ℕ, ◌<◌, ◌≤◌, ◌==◌, ◌⊎◌, Bool, true, false, List, [], ◌∷◌, length, take, Option, None, Some, refl, ap, sym, subst, ◌∙◌, inl, inr, arith}
 use Rattle.std.specs.Prelude.{IfSome, if◌then◌else◌}
 use Rattle.std.proofs.lemmas.List.{append-nil}
-use Rattle.hail_devices.specs.Faults.{Rose}
-use Rattle.hail_devices.specs.Told.{told_then, TakesFront}
-use Rattle.hail_records.specs.Records.{Record}
-use Rattle.hail_records.specs.Reading.{HasNoSetup}
-use Rattle.hail_machine.specs.Jobs.{Kind}
-use Rattle.hail_machine.specs.Answers as answer
-use Rattle.hail_machine.specs.Answers.{Answer}
-use Rattle.hail_machine.specs.Refusals as refusal
-use Rattle.hail_machine.specs.Refusals.{Refusal}
-use Rattle.hail_machine.proofs.JobLists.{same_value}
-use Rattle.hail_commands.specs.Sinking.{WritesLine}
-use Rattle.hail_commands.specs.Seen.{Seen, Ending, IsRefused, sinking}
-use Rattle.hail_openings.specs.Journals.{journal_read, IsRead, IsBadStart}
-use Rattle.hail_commands.specs.Opens.{Unstarted, setup_in_effect}
-use Rattle.hail_commands.specs.Refusals.{refusal_over, status_of}
-use Rattle.hail_commands.specs.Jobs.{AnswersJob, EndsByAnswer}
-use Rattle.hail_commands.specs.Commands.{AnswersAlone}
-use Rattle.sound_states.proofs.Records.{is_some-at}
+use Rattle.device_defs.specs.Faults.{Rose}
+use Rattle.device_defs.specs.Told.{told_then, TakesFront}
+use Rattle.record_defs.specs.Records.{Record}
+use Rattle.record_defs.specs.Reading.{HasNoSetup}
+use Rattle.machine_defs.specs.Jobs.{Kind}
+use Rattle.machine_defs.specs.Answers as answer
+use Rattle.machine_defs.specs.Answers.{Answer}
+use Rattle.machine_defs.specs.Refusals as refusal
+use Rattle.machine_defs.specs.Refusals.{Refusal}
+use Rattle.machine_defs.proofs.JobLists.{same_value}
+use Rattle.command_defs.specs.Sinking.{WritesLine}
+use Rattle.command_defs.specs.Seen.{Seen, Ending, IsRefused, sinking}
+use Rattle.opening_defs.specs.Journals.{journal_read, IsRead, IsBadStart}
+use Rattle.command_defs.specs.Opens.{Unstarted, setup_in_effect}
+use Rattle.command_defs.specs.Refusals.{refusal_over, status_of}
+use Rattle.command_defs.specs.Jobs.{AnswersJob, EndsByAnswer}
+use Rattle.command_defs.specs.Commands.{AnswersAlone}
+use Rattle.state_laws.proofs.Records.{is_some-at}
 use Rattle.command_laws.specs.Ends.{IsKnown, GivesUnlessMemory}
-use Rattle.hail_openings.proofs.Readings.{read-once, read-set_up, read-good}
+use Rattle.opening_defs.proofs.Readings.{read-once, read-set_up, read-good}
 
 -- ---- what was written
 

@@ -1,23 +1,23 @@
 -- The state in which a job ended is sound, and has the setup and the providers that it began with.
 use Rattle.std.proofs.Common.{◌≡◌, ℕ, ◌+◌, true, List, length, Option, Some, refl, ap, subst, ◌∙◌, arith}
 use Rattle.std.specs.Prelude.{is_some}
-use Rattle.hail_records.specs.Table.{setup_of}
-use Rattle.hail_machine.specs.Jobs.{Kind, Job}
-use Rattle.hail_machine.specs.Actions.{Action, WriteBody, SyncBody, WriteGate, SyncGate, Store, Work, End}
-use Rattle.hail_machine.specs.Answers as answer
-use Rattle.hail_machine.specs.Answers.{Answer}
-use Rattle.hail_machine.specs.Events.{Step, Ended, IsSpelledKind}
-use Rattle.hail_machine.specs.Heard.{Entry}
-use Rattle.hail_machine.specs.States.{State, Append, setup_in}
-use Rattle.hail_machine.specs.Setups.{setup_or_none}
-use Rattle.hail_machine.specs.Begins.{new_job}
-use Rattle.hail_machine.specs.Appends.{Moves}
-use Rattle.hail_machine.specs.Steps.{Acts}
-use Rattle.hail_machine.specs.Runs.{now}
-use Rattle.hail_commands.specs.JobRuns.{GoesOnTo, RunsJob}
-use Rattle.sound_states.specs.Sound.{IsWholeJournal, IsSound}
-use Rattle.sound_states.proofs.Events.{events-sound}
-use Rattle.hail_openings.specs.Opened.{IsOpenAtRest}
+use Rattle.record_defs.specs.Table.{setup_of}
+use Rattle.machine_defs.specs.Jobs.{Kind, Job}
+use Rattle.machine_defs.specs.Actions.{Action, WriteBody, SyncBody, WriteGate, SyncGate, Store, Work, End}
+use Rattle.machine_defs.specs.Answers as answer
+use Rattle.machine_defs.specs.Answers.{Answer}
+use Rattle.machine_defs.specs.Events.{Step, Ended, IsSpelledKind}
+use Rattle.machine_defs.specs.Heard.{Entry}
+use Rattle.machine_defs.specs.States.{State, Append, setup_in}
+use Rattle.machine_defs.specs.Setups.{setup_or_none}
+use Rattle.machine_defs.specs.Begins.{new_job}
+use Rattle.machine_defs.specs.Appends.{Moves}
+use Rattle.machine_defs.specs.Steps.{Acts}
+use Rattle.machine_defs.specs.Runs.{now}
+use Rattle.command_defs.specs.JobRuns.{GoesOnTo, RunsJob}
+use Rattle.state_laws.specs.Sound.{IsWholeJournal, IsSound}
+use Rattle.state_laws.proofs.Events.{events-sound}
+use Rattle.opening_defs.specs.Opened.{IsOpenAtRest}
 use Rattle.lone_laws.specs.Walked.{Walked}
 use Rattle.lone_laws.proofs.Walk.{walk-begin, walk-last}
 use Rattle.job_laws.proofs.Runs.{walk-steps}

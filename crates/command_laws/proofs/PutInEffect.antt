@@ -3,28 +3,28 @@ use Rattle.std.proofs.Common.{◌≡◌, ◌≢◌, ℕ, ◌+◌, ◌<◌, ◌�
 use Rattle.std.specs.Prelude.{is_some, IfSome, IsSomeAnd}
 use Rattle.std.proofs.lemmas.Bool.{false≢true}
 use Rattle.std.proofs.lemmas.List.{length-reverse}
-use Rattle.hail_devices.specs.Cells.{Cells, reads}
-use Rattle.hail_devices.specs.Disks.{Stopped}
-use Rattle.hail_devices.specs.Images.{EachImage}
-use Rattle.hail_devices.specs.Told.{Goes}
-use Rattle.hail_records.specs.Records.{Record, PutStart, largest_file, largest_journal}
-use Rattle.hail_records.specs.Journal.{StandsFor, StandsOrIsEmpty}
-use Rattle.hail_records.specs.Table.{File, next_id, file_as, profile_in, setup_of}
-use Rattle.hail_records.proofs.Standing.{stands-front}
+use Rattle.device_defs.specs.Cells.{Cells, reads}
+use Rattle.device_defs.specs.Disks.{Stopped}
+use Rattle.device_defs.specs.Images.{EachImage}
+use Rattle.device_defs.specs.Told.{Goes}
+use Rattle.record_defs.specs.Records.{Record, PutStart, largest_file, largest_journal}
+use Rattle.record_defs.specs.Journal.{StandsFor, StandsOrIsEmpty}
+use Rattle.record_defs.specs.Table.{File, next_id, file_as, profile_in, setup_of}
+use Rattle.record_defs.proofs.Standing.{stands-front}
 use Rattle.journal_core.proofs.Meanings.{one_meaning}
-use Rattle.hail_machine.specs.Setups.{object_of}
-use Rattle.hail_machine.specs.Events.{AreBytes}
-use Rattle.hail_machine.specs.Jobs.{PutJob}
-use Rattle.hail_machine.specs.Answers as answer
-use Rattle.hail_machine.specs.Answers.{Answer}
-use Rattle.hail_commands.specs.Seen.{Seen, Ending, IsRefused, provider_at}
-use Rattle.hail_openings.specs.Journals.{journal_read}
-use Rattle.hail_commands.specs.Opens.{setup_in_effect}
-use Rattle.hail_commands.specs.Ran.{Ran}
-use Rattle.hail_commands.specs.Blocks.{StoredOn}
-use Rattle.hail_commands.specs.Puts.{put_records, PutIsCut, PutLeaves}
-use Rattle.hail_commands.specs.Jobs.{AnswersJob, LeftAlone}
-use Rattle.hail_commands.specs.Commands.{AnswersPut}
+use Rattle.machine_defs.specs.Setups.{object_of}
+use Rattle.machine_defs.specs.Events.{AreBytes}
+use Rattle.machine_defs.specs.Jobs.{PutJob}
+use Rattle.machine_defs.specs.Answers as answer
+use Rattle.machine_defs.specs.Answers.{Answer}
+use Rattle.command_defs.specs.Seen.{Seen, Ending, IsRefused, provider_at}
+use Rattle.opening_defs.specs.Journals.{journal_read}
+use Rattle.command_defs.specs.Opens.{setup_in_effect}
+use Rattle.command_defs.specs.Ran.{Ran}
+use Rattle.command_defs.specs.Blocks.{StoredOn}
+use Rattle.command_defs.specs.Puts.{put_records, PutIsCut, PutLeaves}
+use Rattle.command_defs.specs.Jobs.{AnswersJob, LeftAlone}
+use Rattle.command_defs.specs.Commands.{AnswersPut}
 use Rattle.command_laws.specs.Ends.{IsKnown, after_put}
 use Rattle.command_laws.specs.After.{IsSure, Follows, HasRightFile, is_wrong_or_untold}
 use Rattle.command_laws.proofs.Known.{known-once}
@@ -33,7 +33,7 @@ use Rattle.command_laws.proofs.JobEnds.{unstarted-refused, not-long, put-in_effe
 use Rattle.command_laws.proofs.Afterwards.{sure-refused}
 use Rattle.command_laws.proofs.DoneStores.{next-image, whole-read}
 use Rattle.command_laws.proofs.FilesStay.{stored-right, put-object}
-use Rattle.hail_columns.specs.Objects.{Object}
+use Rattle.column_defs.specs.Objects.{Object}
 
 -- a disk that the next command finds told before
 pub tells-back : (new next : Seen) → Follows new next → is_some next.disk ≡ true → is_some new.disk ≡ true

@@ -1,24 +1,24 @@
 -- A put of the empty file over a store that was set up, from every state that was just opened: four moves, four moves, and its end.
 use Rattle.std.proofs.Common.{◌≡◌, ℕ, ◌+◌, List, [], ◌∷◌, None, true, false, refl, sym, subst, ◌∙◌, inl, arith}
-use Rattle.hail_records.specs.Records.{PutStart, PutDone}
-use Rattle.hail_records.specs.Spellings.{spelling}
-use Rattle.hail_records.specs.Areas.{A}
-use Rattle.hail_machine.specs.Answers.{Put}
-use Rattle.hail_machine.specs.Appends.{begun_append, moved, doubted, done_append}
-use Rattle.hail_machine.specs.Actions.{actions_of}
-use Rattle.hail_machine.specs.Begins.{new_job}
-use Rattle.hail_machine.specs.Events.{Step, More, Ended}
-use Rattle.hail_machine.specs.Jobs.{PutJob, Job}
-use Rattle.hail_machine.specs.Machine.{Happens}
-use Rattle.hail_machine.specs.Runs.{Moment}
-use Rattle.hail_machine.specs.States.{State, Append, setup_in, going_on, ended}
-use Rattle.hail_commands.specs.Forms.{PutUnder}
-use Rattle.hail_commands.specs.Lines.{stored_line}
-use Rattle.hail_commands.specs.Refusals.{refusal_over}
-use Rattle.hail_openings.specs.Opened.{AreHanded, IsOpenedOver}
-use Rattle.hail_commands.specs.JobRuns.{AreSteps}
-use Rattle.hail_commands.specs.Jobs.{RanAlone, RunsAlone, AnswersJob}
-use Rattle.hail_commands.specs.Commands.{AnswersPut, Answers}
+use Rattle.record_defs.specs.Records.{PutStart, PutDone}
+use Rattle.record_defs.specs.Spellings.{spelling}
+use Rattle.record_defs.specs.Areas.{A}
+use Rattle.machine_defs.specs.Answers.{Put}
+use Rattle.machine_defs.specs.Appends.{begun_append, moved, doubted, done_append}
+use Rattle.machine_defs.specs.Actions.{actions_of}
+use Rattle.machine_defs.specs.Begins.{new_job}
+use Rattle.machine_defs.specs.Events.{Step, More, Ended}
+use Rattle.machine_defs.specs.Jobs.{PutJob, Job}
+use Rattle.machine_defs.specs.Machine.{Happens}
+use Rattle.machine_defs.specs.Runs.{Moment}
+use Rattle.machine_defs.specs.States.{State, Append, setup_in, going_on, ended}
+use Rattle.command_defs.specs.Forms.{PutUnder}
+use Rattle.command_defs.specs.Lines.{stored_line}
+use Rattle.command_defs.specs.Refusals.{refusal_over}
+use Rattle.opening_defs.specs.Opened.{AreHanded, IsOpenedOver}
+use Rattle.command_defs.specs.JobRuns.{AreSteps}
+use Rattle.command_defs.specs.Jobs.{RanAlone, RunsAlone, AnswersJob}
+use Rattle.command_defs.specs.Commands.{AnswersPut, Answers}
 use Rattle.command_laws.specs.Pieces.{moment}
 use Rattle.command_laws.specs.Instances.{store, small_setup, idle_providers, held_name, set_up_records, held_records, with_sink, ends}
 use Rattle.job_laws.proofs.Telling.{left-alone, jobs-leave}

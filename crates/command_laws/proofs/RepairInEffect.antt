@@ -2,25 +2,25 @@
 use Rattle.std.proofs.Common.{◌≡◌, ℕ, ◌<◌, ◌≤◌, ◌⊎◌, ◌&&◌, Bool, true, false, not, List, [], ◌∷◌, ◌++◌, length, reverse, Option, None, Some, ap, sym, subst, ◌∙◌, inl, inr, arith, length-append}
 use Rattle.std.specs.Prelude.{is_some, IfSome, IsSomeAnd}
 use Rattle.std.proofs.lemmas.Bool.{cases_Bool}
-use Rattle.hail_columns.specs.Verdicts.{is_flagged}
-use Rattle.hail_devices.specs.Cells.{Cells, reads}
-use Rattle.hail_devices.specs.Images.{EachImage}
-use Rattle.hail_records.specs.Records.{Record, RepairDone, largest_journal}
-use Rattle.hail_records.specs.Journal.{StandsFor, StandsOrIsEmpty}
-use Rattle.hail_records.specs.Table.{Due, due_of}
-use Rattle.hail_records.proofs.Standing.{stands-front}
+use Rattle.column_defs.specs.Verdicts.{is_flagged}
+use Rattle.device_defs.specs.Cells.{Cells, reads}
+use Rattle.device_defs.specs.Images.{EachImage}
+use Rattle.record_defs.specs.Records.{Record, RepairDone, largest_journal}
+use Rattle.record_defs.specs.Journal.{StandsFor, StandsOrIsEmpty}
+use Rattle.record_defs.specs.Table.{Due, due_of}
+use Rattle.record_defs.proofs.Standing.{stands-front}
 use Rattle.journal_core.proofs.Meanings.{one_meaning}
-use Rattle.hail_machine.specs.Jobs.{RepairJob}
-use Rattle.hail_machine.specs.Answers as answer
-use Rattle.hail_machine.specs.Answers.{Answer}
-use Rattle.hail_machine.proofs.JobLists.{same_value}
-use Rattle.hail_commands.specs.Seen.{Seen, Ending, IsRefused, provider_at}
-use Rattle.hail_openings.specs.Journals.{journal_read}
-use Rattle.hail_commands.specs.Opens.{setup_in_effect, object_in_effect}
-use Rattle.hail_commands.specs.Ran.{Ran}
-use Rattle.hail_commands.specs.Repairs.{RewritesAll, RepairGives}
-use Rattle.hail_commands.specs.Jobs.{AnswersJob, LeftAlone}
-use Rattle.hail_commands.specs.Commands.{AnswersAlone}
+use Rattle.machine_defs.specs.Jobs.{RepairJob}
+use Rattle.machine_defs.specs.Answers as answer
+use Rattle.machine_defs.specs.Answers.{Answer}
+use Rattle.machine_defs.proofs.JobLists.{same_value}
+use Rattle.command_defs.specs.Seen.{Seen, Ending, IsRefused, provider_at}
+use Rattle.opening_defs.specs.Journals.{journal_read}
+use Rattle.command_defs.specs.Opens.{setup_in_effect, object_in_effect}
+use Rattle.command_defs.specs.Ran.{Ran}
+use Rattle.command_defs.specs.Repairs.{RewritesAll, RepairGives}
+use Rattle.command_defs.specs.Jobs.{AnswersJob, LeftAlone}
+use Rattle.command_defs.specs.Commands.{AnswersAlone}
 use Rattle.job_laws.specs.Failing.{bad_seen}
 use Rattle.command_laws.specs.Ends.{IsKnown, after_repair}
 use Rattle.command_laws.specs.After.{is_wrong_or_untold, IsSure, Follows, HasRightFile, IsSteady, spoilt_below}

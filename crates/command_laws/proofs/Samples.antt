@@ -2,35 +2,35 @@
 use Rattle.std.proofs.Common.{◌≡◌, ◌≢◌, ℕ, zero, suc, ◌+◌, ◌<◌, ◌≤◌, true, false, List, [], ◌∷◌, ◌++◌, length, None, Some, refl, ap, sym, subst, ◌∙◌, inl, arith}
 use Rattle.std.specs.Prelude.{IsTrue, slice_get, take}
 use Rattle.std.specs.List.{list_all, flat_map}
-use Rattle.hail_codes.specs.Points.{upto}
-use Rattle.hail_columns.specs.Objects.{stripes}
-use Rattle.hail_devices.specs.Cells.{reads, firm}
-use Rattle.hail_devices.specs.Disks.{synced}
-use Rattle.hail_devices.specs.Faults.{Rose, last_count}
-use Rattle.hail_devices.proofs.Lasting.{reads-firm, image-firm}
-use Rattle.hail_records.specs.Records.{Record, is_in_grammar, largest_journal}
-use Rattle.hail_records.specs.Journal.{text, text_size}
-use Rattle.hail_records.specs.Table.{files_of, file_as}
-use Rattle.hail_records.specs.Acceptance.{AreAccepted}
-use Rattle.hail_records.proofs.Standing.{stands-text}
-use Rattle.hail_machine.specs.Actions.{Action, End, open_actions, actions_of}
-use Rattle.hail_records.specs.Areas.{A}
-use Rattle.hail_machine.specs.Answers.{Got}
-use Rattle.hail_machine.specs.Begins.{new_job}
-use Rattle.hail_machine.specs.Events.{Step, Ended}
-use Rattle.hail_machine.specs.Jobs.{GetJob, Job}
-use Rattle.hail_machine.specs.Machine.{Happens}
-use Rattle.hail_machine.specs.Refusals as refusal
-use Rattle.hail_machine.specs.Setups.{object_of, stripes_of}
-use Rattle.hail_machine.specs.States.{State, setup_in, ended}
-use Rattle.hail_machine.specs.Steps.{StepsOn}
-use Rattle.hail_commands.specs.Forms.{GetOf, ListAll}
-use Rattle.hail_commands.specs.Lines.{list_lines}
-use Rattle.hail_commands.specs.Opens.{IsOpened, setup_in_effect}
-use Rattle.hail_commands.specs.Seen.{IsRefused, NoCountFalls, provider_at}
-use Rattle.hail_openings.specs.Opened.{AreHanded, IsOpenedOver}
-use Rattle.hail_commands.specs.Jobs.{RanAlone, RunsAlone, AnswersJob}
-use Rattle.hail_commands.specs.Commands.{AnswersAlone, AnswersList, Answers}
+use Rattle.code_defs.specs.Points.{upto}
+use Rattle.column_defs.specs.Objects.{stripes}
+use Rattle.device_defs.specs.Cells.{reads, firm}
+use Rattle.device_defs.specs.Disks.{synced}
+use Rattle.device_defs.specs.Faults.{Rose, last_count}
+use Rattle.device_defs.proofs.Lasting.{reads-firm, image-firm}
+use Rattle.record_defs.specs.Records.{Record, is_in_grammar, largest_journal}
+use Rattle.record_defs.specs.Journal.{text, text_size}
+use Rattle.record_defs.specs.Table.{files_of, file_as}
+use Rattle.record_defs.specs.Acceptance.{AreAccepted}
+use Rattle.record_defs.proofs.Standing.{stands-text}
+use Rattle.machine_defs.specs.Actions.{Action, End, open_actions, actions_of}
+use Rattle.record_defs.specs.Areas.{A}
+use Rattle.machine_defs.specs.Answers.{Got}
+use Rattle.machine_defs.specs.Begins.{new_job}
+use Rattle.machine_defs.specs.Events.{Step, Ended}
+use Rattle.machine_defs.specs.Jobs.{GetJob, Job}
+use Rattle.machine_defs.specs.Machine.{Happens}
+use Rattle.machine_defs.specs.Refusals as refusal
+use Rattle.machine_defs.specs.Setups.{object_of, stripes_of}
+use Rattle.machine_defs.specs.States.{State, setup_in, ended}
+use Rattle.machine_defs.specs.Steps.{StepsOn}
+use Rattle.command_defs.specs.Forms.{GetOf, ListAll}
+use Rattle.command_defs.specs.Lines.{list_lines}
+use Rattle.command_defs.specs.Opens.{IsOpened, setup_in_effect}
+use Rattle.command_defs.specs.Seen.{IsRefused, NoCountFalls, provider_at}
+use Rattle.opening_defs.specs.Opened.{AreHanded, IsOpenedOver}
+use Rattle.command_defs.specs.Jobs.{RanAlone, RunsAlone, AnswersJob}
+use Rattle.command_defs.specs.Commands.{AnswersAlone, AnswersList, Answers}
 use Rattle.command_laws.specs.After.{IsSure, HasRightFile, is_wrong_at}
 use Rattle.command_laws.specs.Instances.{store, small_setup, idle_providers, held_name, held_file, other_name, set_up_records, held_records, with_sink, ends, get_held, get_other}
 use Rattle.command_laws.specs.Pieces.{IsLater, IsChain}

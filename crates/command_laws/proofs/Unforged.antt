@@ -2,32 +2,32 @@
 use Rattle.std.proofs.Common.{◌≡◌, ℕ, zero, suc, ◌+◌, ◌<◌, ◌≤◌, ◌==◌, ◌&&◌, Bool, true, false, List, [], ◌∷◌, ◌++◌, map, None, Some, refl, ap, sym, subst, ◌∙◌, inl, inr, arith}
 use Rattle.std.specs.List.{range_with_len, flat_map}
 use Rattle.std.proofs.lemmas.Bool.{cases_Bool, cases_lt, ne_eqb, and_parts, false≢true}
-use Rattle.plain_facts.specs.Lists.{Each}
-use Rattle.plain_facts.proofs.Each.{each_append, each_map}
+use Rattle.plain_laws.specs.Lists.{Each}
+use Rattle.plain_laws.proofs.Each.{each_append, each_map}
 use Rattle.hail_field.specs.Shape.{IsShape}
 use Rattle.poly_laws.specs.Poly.{is_seen as is_seen_over}
-use Rattle.hail_codes.specs.Polynomials.{value, is_seen}
-use Rattle.hail_codes.specs.Points.{upto}
-use Rattle.hail_columns.specs.Objects.{Object, point}
-use Rattle.hail_columns.specs.Columns.{is_wrong_block, is_wrong}
-use Rattle.hail_columns.specs.Opened.{SeenBlock, OpensTo, symbol_in, block_at}
-use Rattle.hail_columns.specs.Forgeries.{is_agreeing, IsForgery}
+use Rattle.code_defs.specs.Polynomials.{value, is_seen}
+use Rattle.code_defs.specs.Points.{upto}
+use Rattle.column_defs.specs.Objects.{Object, point}
+use Rattle.column_defs.specs.Columns.{is_wrong_block, is_wrong}
+use Rattle.column_defs.specs.Opened.{SeenBlock, OpensTo, symbol_in, block_at}
+use Rattle.column_defs.specs.Forgeries.{is_agreeing, IsForgery}
 use Rattle.column_laws.proofs.Counts.{count_of-within, opens-at}
 use Rattle.column_laws.proofs.OtherRows.{forgery-of_other}
-use Rattle.hail_records.specs.Records.{Record}
-use Rattle.hail_records.specs.Table.{File, file_of}
-use Rattle.hail_machine.specs.Jobs.{GetJob, Given, Fetched, Answered, Worked}
-use Rattle.hail_machine.specs.Given.{block_given, blocks_given}
-use Rattle.hail_machine.specs.Answers as answer
-use Rattle.hail_machine.specs.Answers.{Answer}
-use Rattle.hail_machine.specs.Heard.{Entry, given_to, HoldsForgery}
-use Rattle.hail_machine.proofs.JobLists.{cond_true, cond_false, same_value}
-use Rattle.hail_commands.specs.Seen.{Seen, Ending}
-use Rattle.hail_commands.specs.Opens.{setup_in_effect, object_in_effect}
-use Rattle.hail_commands.specs.Ran.{Ran, ran_alone, setup_at_begin, job_number, object_at_begin, stripes_at_begin}
-use Rattle.hail_commands.specs.Gets.{block_heard, HearsStripes, GetGives, GetLeaves}
-use Rattle.hail_commands.specs.Jobs.{AnswersJob}
-use Rattle.hail_commands.specs.Commands.{AnswersAlone}
+use Rattle.record_defs.specs.Records.{Record}
+use Rattle.record_defs.specs.Table.{File, file_of}
+use Rattle.machine_defs.specs.Jobs.{GetJob, Given, Fetched, Answered, Worked}
+use Rattle.machine_defs.specs.Given.{block_given, blocks_given}
+use Rattle.machine_defs.specs.Answers as answer
+use Rattle.machine_defs.specs.Answers.{Answer}
+use Rattle.machine_defs.specs.Heard.{Entry, given_to, HoldsForgery}
+use Rattle.machine_defs.proofs.JobLists.{cond_true, cond_false, same_value}
+use Rattle.command_defs.specs.Seen.{Seen, Ending}
+use Rattle.command_defs.specs.Opens.{setup_in_effect, object_in_effect}
+use Rattle.command_defs.specs.Ran.{Ran, ran_alone, setup_at_begin, job_number, object_at_begin, stripes_at_begin}
+use Rattle.command_defs.specs.Gets.{block_heard, HearsStripes, GetGives, GetLeaves}
+use Rattle.command_defs.specs.Jobs.{AnswersJob}
+use Rattle.command_defs.specs.Commands.{AnswersAlone}
 use Rattle.job_laws.specs.Failing.{is_bad, bad_count, bad_seen}
 use Rattle.command_laws.specs.Ends.{IsKnown}
 use Rattle.job_laws.proofs.Complete.{block_at-map, bad-block}

@@ -2,19 +2,19 @@
 use Rattle.std.proofs.Common.{◌≡◌, ℕ, ◌<◌, ◌≤◌, ◌⊎◌, true, false, List, length, Some, ap, sym, subst, ◌∙◌, inl, inr, arith}
 use Rattle.std.specs.Prelude.{IfSome}
 use Rattle.std.proofs.lemmas.Bool.{false≢true}
-use Rattle.hail_devices.specs.Cells.{Cells}
-use Rattle.hail_devices.specs.Faults.{Rose}
-use Rattle.hail_records.specs.Records.{Record}
-use Rattle.hail_records.specs.Reading.{HasNoSetup}
-use Rattle.hail_machine.specs.Jobs.{Kind, GetJob, DropJob, AuditJob, RepairJob}
-use Rattle.hail_commands.specs.Forms.{Command, RowOf, InitWith, PutUnder, GetOf, DropOf, ListAll, AuditAll, RepairDue}
-use Rattle.hail_commands.specs.Sinking.{WritesLine}
-use Rattle.hail_commands.specs.Seen.{Seen, Ending, sinking}
-use Rattle.hail_openings.specs.Journals.{journal_read, IsRead, IsBadStart}
-use Rattle.hail_commands.specs.Opens.{IsOpened, Unstarted, setup_in_effect}
-use Rattle.hail_commands.specs.Commands.{AnswersPut, AnswersAlone, AnswersList, Answers}
+use Rattle.device_defs.specs.Cells.{Cells}
+use Rattle.device_defs.specs.Faults.{Rose}
+use Rattle.record_defs.specs.Records.{Record}
+use Rattle.record_defs.specs.Reading.{HasNoSetup}
+use Rattle.machine_defs.specs.Jobs.{Kind, GetJob, DropJob, AuditJob, RepairJob}
+use Rattle.command_defs.specs.Forms.{Command, RowOf, InitWith, PutUnder, GetOf, DropOf, ListAll, AuditAll, RepairDue}
+use Rattle.command_defs.specs.Sinking.{WritesLine}
+use Rattle.command_defs.specs.Seen.{Seen, Ending, sinking}
+use Rattle.opening_defs.specs.Journals.{journal_read, IsRead, IsBadStart}
+use Rattle.command_defs.specs.Opens.{IsOpened, Unstarted, setup_in_effect}
+use Rattle.command_defs.specs.Commands.{AnswersPut, AnswersAlone, AnswersList, Answers}
 use Rattle.command_laws.specs.Ends.{opens_store}
-use Rattle.hail_openings.proofs.Readings.{read-once, read-set_up, read-good, fresh-good, bad-once}
+use Rattle.opening_defs.proofs.Readings.{read-once, read-set_up, read-good, fresh-good, bad-once}
 use Rattle.command_laws.proofs.Known.{is_unopened, job-opened}
 
 -- how a command goes that looks at a store: it is not started, or it has a status of its own, over records that were read or none

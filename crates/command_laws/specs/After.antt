@@ -20,21 +20,21 @@
 --   keeps_blocks command       == a get, a list and an audit
 --   IsOfAnother name command       == a put or a drop of another name
 use Rattle.std.specs.Prelude.{◌≡◌, ◌≢◌, ◌⊎◌, ℕ, ◌<◌, ◌==◌, ◌||◌, Bool, true, false, List, ◌++◌, length, reverse, take, Option, None, Some}
-use Rattle.hail_codes.specs.Points.{upto}
-use Rattle.hail_columns.specs.Objects.{Object}
-use Rattle.hail_columns.specs.Columns.{is_wrong}
-use Rattle.hail_columns.specs.Forgeries.{count_of}
-use Rattle.hail_devices.specs.Disks.{Stopped}
-use Rattle.hail_devices.specs.Faults.{Rose}
-use Rattle.hail_devices.specs.Providers.{Held}
-use Rattle.hail_devices.specs.Told.{Goes}
-use Rattle.hail_records.specs.Records.{Record}
-use Rattle.hail_records.specs.Table.{File, file_of}
-use Rattle.hail_machine.specs.Jobs.{Kind}
-use Rattle.hail_machine.specs.Events.{AreBytes}
-use Rattle.hail_commands.specs.Forms.{Command, PutUnder, GetOf, DropOf, ListAll, AuditAll}
-use Rattle.hail_commands.specs.Seen.{Seen, provider_at}
-use Rattle.hail_commands.specs.Opens.{setup_in_effect, object_in_effect}
+use Rattle.code_defs.specs.Points.{upto}
+use Rattle.column_defs.specs.Objects.{Object}
+use Rattle.column_defs.specs.Columns.{is_wrong}
+use Rattle.column_defs.specs.Forgeries.{count_of}
+use Rattle.device_defs.specs.Disks.{Stopped}
+use Rattle.device_defs.specs.Faults.{Rose}
+use Rattle.device_defs.specs.Providers.{Held}
+use Rattle.device_defs.specs.Told.{Goes}
+use Rattle.record_defs.specs.Records.{Record}
+use Rattle.record_defs.specs.Table.{File, file_of}
+use Rattle.machine_defs.specs.Jobs.{Kind}
+use Rattle.machine_defs.specs.Events.{AreBytes}
+use Rattle.command_defs.specs.Forms.{Command, PutUnder, GetOf, DropOf, ListAll, AuditAll}
+use Rattle.command_defs.specs.Seen.{Seen, provider_at}
+use Rattle.command_defs.specs.Opens.{setup_in_effect, object_in_effect}
 use Rattle.command_laws.specs.Ends.{IsKnown, RunsKind, DiskHas}
 use Rattle.command_laws.specs.Kept.{AreAppended}
 

@@ -19,28 +19,28 @@
 --   IsWholePut name old new end, IsDropped, IsAudited, IsRepaired  == what a command has done that is done;
 --                                          its text is told, or cut off
 use Rattle.std.specs.Prelude.{◌≡◌, ◌⊎◌, ℕ, ◌+◌, ◌≤◌, ◌<◌, Bool, true, false, List, [], ◌∷◌, length, None, Some, IfSome, is_some}
-use Rattle.hail_columns.specs.Columns.{columns}
-use Rattle.hail_devices.specs.Faults.{Rose}
-use Rattle.hail_devices.specs.Images.{EachImage}
-use Rattle.hail_devices.specs.Told.{told_then, TakesFront}
-use Rattle.hail_records.specs.Records.{Record, PutStart, PutDone, Drop, AuditStart, AuditDone, RepairDone, largest_file}
-use Rattle.hail_records.specs.Journal.{StandsFor}
-use Rattle.hail_records.specs.Table.{File, Due, file_as, profile_in, setup_of, next_id, next_audit, file_of, due_of}
-use Rattle.hail_machine.specs.Jobs.{Kind, PutJob, GetJob, DropJob, AuditJob, RepairJob}
-use Rattle.hail_machine.specs.Events.{AreBytes}
-use Rattle.hail_machine.specs.Refusals.{Refusal}
-use Rattle.hail_machine.specs.Heard.{Entry}
-use Rattle.hail_commands.specs.Seen.{Seen, Ending, ReadsUpTo, IsRefused, provider_at}
-use Rattle.hail_commands.specs.Opens.{IsOpened, Unstarted, setup_in_effect, object_in_effect, stripes_in_effect}
-use Rattle.hail_commands.specs.Refusals.{refusal_over, status_of}
-use Rattle.hail_commands.specs.Ran.{Ran, ran_alone, EachHeldGoes}
-use Rattle.hail_commands.specs.Forms.{Command, RowOf, InitWith, PutUnder, GetOf, DropOf, AuditAll, RepairDue}
-use Rattle.hail_commands.specs.Lines.{stored_line, dropped_line, audit_lines, repaired_line}
-use Rattle.hail_commands.specs.Blocks.{DroppedFrom}
-use Rattle.hail_commands.specs.Puts.{StoresFile}
-use Rattle.hail_commands.specs.Audits.{HearsRounds, CountsHeard}
-use Rattle.hail_commands.specs.Repairs.{RewritesAll}
-use Rattle.hail_commands.specs.Jobs.{IsTold}
+use Rattle.column_defs.specs.Columns.{columns}
+use Rattle.device_defs.specs.Faults.{Rose}
+use Rattle.device_defs.specs.Images.{EachImage}
+use Rattle.device_defs.specs.Told.{told_then, TakesFront}
+use Rattle.record_defs.specs.Records.{Record, PutStart, PutDone, Drop, AuditStart, AuditDone, RepairDone, largest_file}
+use Rattle.record_defs.specs.Journal.{StandsFor}
+use Rattle.record_defs.specs.Table.{File, Due, file_as, profile_in, setup_of, next_id, next_audit, file_of, due_of}
+use Rattle.machine_defs.specs.Jobs.{Kind, PutJob, GetJob, DropJob, AuditJob, RepairJob}
+use Rattle.machine_defs.specs.Events.{AreBytes}
+use Rattle.machine_defs.specs.Refusals.{Refusal}
+use Rattle.machine_defs.specs.Heard.{Entry}
+use Rattle.command_defs.specs.Seen.{Seen, Ending, ReadsUpTo, IsRefused, provider_at}
+use Rattle.command_defs.specs.Opens.{IsOpened, Unstarted, setup_in_effect, object_in_effect, stripes_in_effect}
+use Rattle.command_defs.specs.Refusals.{refusal_over, status_of}
+use Rattle.command_defs.specs.Ran.{Ran, ran_alone, EachHeldGoes}
+use Rattle.command_defs.specs.Forms.{Command, RowOf, InitWith, PutUnder, GetOf, DropOf, AuditAll, RepairDue}
+use Rattle.command_defs.specs.Lines.{stored_line, dropped_line, audit_lines, repaired_line}
+use Rattle.command_defs.specs.Blocks.{DroppedFrom}
+use Rattle.command_defs.specs.Puts.{StoresFile}
+use Rattle.command_defs.specs.Audits.{HearsRounds, CountsHeard}
+use Rattle.command_defs.specs.Repairs.{RewritesAll}
+use Rattle.command_defs.specs.Jobs.{IsTold}
 use Rattle.job_laws.specs.Failing.{bad_seen}
 
 -- the disk tells that it reads these records, and enough providers are handed in

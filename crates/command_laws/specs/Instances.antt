@@ -14,14 +14,14 @@
 --   ends status               == an end that heard nothing
 --   get_held, get_other       == two calls over the store: of its file, and of a name that has none
 use Rattle.std.specs.Prelude.{ℕ, List, [], ◌∷◌, replicate, Some, None}
-use Rattle.hail_devices.specs.Cells.{firm}
-use Rattle.hail_devices.specs.Providers.{Provider}
-use Rattle.hail_records.specs.Records.{Record, Setup, SetUp, PutStart, PutDone, AuditStart, AuditDone, RepairDone}
-use Rattle.hail_records.specs.Journal.{text}
-use Rattle.hail_records.specs.Table.{File, file_as}
-use Rattle.hail_commands.specs.Forms.{Numbers, GetOf}
-use Rattle.hail_commands.specs.Lines.{ready_line, stored_line, audit_lines, repaired_line}
-use Rattle.hail_commands.specs.Seen.{Seen, Ending}
+use Rattle.device_defs.specs.Cells.{firm}
+use Rattle.device_defs.specs.Providers.{Provider}
+use Rattle.record_defs.specs.Records.{Record, Setup, SetUp, PutStart, PutDone, AuditStart, AuditDone, RepairDone}
+use Rattle.record_defs.specs.Journal.{text}
+use Rattle.record_defs.specs.Table.{File, file_as}
+use Rattle.command_defs.specs.Forms.{Numbers, GetOf}
+use Rattle.command_defs.specs.Lines.{ready_line, stored_line, audit_lines, repaired_line}
+use Rattle.command_defs.specs.Seen.{Seen, Ending}
 use Rattle.command_laws.specs.Pieces.{Call}
 
 -- four providers, one of them primary, of which one may be wrong

@@ -14,24 +14,24 @@
 --   FailsToPut name old new end, FailsToRepair  == what a put and a repair leave of which a store failed
 --   LosesFile name old new end, LosesRepair     == what a get and a repair leave that found a row lost
 use Rattle.std.specs.Prelude.{◌≡◌, ◌⊎◌, ℕ, ◌+◌, ◌<◌, Bool, true, false, List, [], ◌∷◌, ◌++◌, length, reverse, take, Some, IfSome}
-use Rattle.hail_columns.specs.Verdicts.{is_flagged}
-use Rattle.hail_devices.specs.Faults.{Rose}
-use Rattle.hail_devices.specs.Images.{IsImage, EachImage}
-use Rattle.hail_devices.specs.Told.{Goes}
-use Rattle.hail_records.specs.Records.{Record, PutStart, Drop, RepairDone, Version, largest_file}
-use Rattle.hail_records.specs.Journal.{StandsFor}
-use Rattle.hail_records.specs.Table.{File, Due, next_id, file_of, due_of}
-use Rattle.hail_machine.specs.Events.{AreBytes}
-use Rattle.hail_machine.specs.Jobs.{Kind, PutJob, GetJob, DropJob, AuditJob, RepairJob, UpgradeJob}
-use Rattle.hail_commands.specs.Forms.{Command, Numbers, RowOf, PutUnder, GetOf, RepairDue}
-use Rattle.hail_commands.specs.Seen.{Seen, Ending, ReadsUpTo, provider_at}
-use Rattle.hail_openings.specs.Journals.{IsSetUpOn, MayBeLeft}
-use Rattle.hail_commands.specs.Opens.{IsOpened, setup_in_effect}
-use Rattle.hail_commands.specs.Inits.{setup_with}
-use Rattle.hail_commands.specs.Puts.{put_records, StoresPart}
-use Rattle.hail_commands.specs.Gets.{LosesStripe}
-use Rattle.hail_commands.specs.Audits.{audit_records}
-use Rattle.hail_commands.specs.Repairs.{LosesAtPlace, RewritesSome}
+use Rattle.column_defs.specs.Verdicts.{is_flagged}
+use Rattle.device_defs.specs.Faults.{Rose}
+use Rattle.device_defs.specs.Images.{IsImage, EachImage}
+use Rattle.device_defs.specs.Told.{Goes}
+use Rattle.record_defs.specs.Records.{Record, PutStart, Drop, RepairDone, Version, largest_file}
+use Rattle.record_defs.specs.Journal.{StandsFor}
+use Rattle.record_defs.specs.Table.{File, Due, next_id, file_of, due_of}
+use Rattle.machine_defs.specs.Events.{AreBytes}
+use Rattle.machine_defs.specs.Jobs.{Kind, PutJob, GetJob, DropJob, AuditJob, RepairJob, UpgradeJob}
+use Rattle.command_defs.specs.Forms.{Command, Numbers, RowOf, PutUnder, GetOf, RepairDue}
+use Rattle.command_defs.specs.Seen.{Seen, Ending, ReadsUpTo, provider_at}
+use Rattle.opening_defs.specs.Journals.{IsSetUpOn, MayBeLeft}
+use Rattle.command_defs.specs.Opens.{IsOpened, setup_in_effect}
+use Rattle.command_defs.specs.Inits.{setup_with}
+use Rattle.command_defs.specs.Puts.{put_records, StoresPart}
+use Rattle.command_defs.specs.Gets.{LosesStripe}
+use Rattle.command_defs.specs.Audits.{audit_records}
+use Rattle.command_defs.specs.Repairs.{LosesAtPlace, RewritesSome}
 use Rattle.command_laws.specs.Ends.{RunsKind, DiskHas, ran_to}
 
 -- each image of the disk is one that it had before

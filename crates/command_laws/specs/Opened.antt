@@ -5,17 +5,17 @@
 --   IsInit numbers old new end == an init that is done: its source held a key, and a store is set up with it
 --   IsListed old new end       == a list that is done: the lines of the files in effect
 use Rattle.std.specs.Prelude.{◌≡◌, ℕ, ◌≤◌, true, List, [], length, Some, IfSome}
-use Rattle.hail_devices.specs.Told.{Goes}
-use Rattle.hail_records.specs.Records.{Record, is_setup}
-use Rattle.hail_records.specs.Table.{files_of}
-use Rattle.hail_commands.specs.Forms.{Numbers}
-use Rattle.hail_commands.specs.Keys.{IsKeyForm, longest_key}
-use Rattle.hail_commands.specs.Seen.{Seen, Ending, ReadsUpTo, IsSynced}
-use Rattle.hail_openings.specs.Journals.{IsSetUpOn}
-use Rattle.hail_commands.specs.Opens.{IsOpened}
-use Rattle.hail_commands.specs.Inits.{setup_with}
-use Rattle.hail_commands.specs.Lines.{ready_line, list_lines}
-use Rattle.hail_commands.specs.Jobs.{IsTold}
+use Rattle.device_defs.specs.Told.{Goes}
+use Rattle.record_defs.specs.Records.{Record, is_setup}
+use Rattle.record_defs.specs.Table.{files_of}
+use Rattle.command_defs.specs.Forms.{Numbers}
+use Rattle.command_defs.specs.Keys.{IsKeyForm, longest_key}
+use Rattle.command_defs.specs.Seen.{Seen, Ending, ReadsUpTo, IsSynced}
+use Rattle.opening_defs.specs.Journals.{IsSetUpOn}
+use Rattle.command_defs.specs.Opens.{IsOpened}
+use Rattle.command_defs.specs.Inits.{setup_with}
+use Rattle.command_defs.specs.Lines.{ready_line, list_lines}
+use Rattle.command_defs.specs.Jobs.{IsTold}
 
 -- the numbers are a setup, enough providers are handed in, and the source tells the key
 pub record IsKeyed (numbers : Numbers) (key : List ℕ) (old : Seen) : Type 0 where

@@ -14,29 +14,29 @@
 --   last_seen first calls     == what is seen after them
 --   AreCalls w calls own      == the moments are those of the calls, with stops and replacements before each
 use Rattle.std.specs.Prelude.{◌≡◌, ◌⊎◌, ℕ, ◌<◌, Bool, true, List, [], ◌∷◌, ◌++◌, length, slice_get, slice_set, Some, IsSome, is_some}
-use Rattle.hail_devices.specs.Disks.{Stopped}
-use Rattle.hail_devices.specs.Providers.{Provider, with_symbol, without_block, HasPlace}
-use Rattle.hail_devices.specs.ProviderCalls.{Replaces}
-use Rattle.hail_devices.specs.Told.{Goes}
-use Rattle.hail_machine.specs.Answers.{Answer}
-use Rattle.hail_machine.specs.Events.{Event, Begin, Step, Alter, Lose, Stop, Reopen, Names, Continue, Outcome, Refused, Opened, Begun, Ended, Listed, Continued, IsSpelled, AreBytes}
-use Rattle.hail_machine.specs.Heard.{heard_by}
-use Rattle.hail_machine.specs.Jobs.{Kind, job_of}
-use Rattle.hail_machine.specs.Openings.{IsSetUp}
-use Rattle.hail_machine.specs.Refusals.{Refusal}
-use Rattle.hail_machine.specs.Runs.{Moment, now}
-use Rattle.hail_machine.specs.Stands.{StandsForState}
-use Rattle.hail_machine.specs.States.{State, setup_in}
-use Rattle.hail_machine.specs.Transcripts.{GoOn}
-use Rattle.hail_records.specs.Table.{files_of}
-use Rattle.sound_states.specs.Sound.{IsSound}
-use Rattle.hail_commands.specs.Forms.{Command, PutUnder, GetOf, DropOf, ListAll}
-use Rattle.hail_commands.specs.Seen.{Seen, Ending, NoCountFalls}
-use Rattle.hail_openings.specs.Opened.{AreHanded}
-use Rattle.hail_commands.specs.Jobs.{EndsByAnswer}
-use Rattle.hail_commands.specs.Lines.{text_of}
-use Rattle.hail_commands.specs.Refusals.{status_of}
-use Rattle.hail_commands.specs.Commands.{Answers}
+use Rattle.device_defs.specs.Disks.{Stopped}
+use Rattle.device_defs.specs.Providers.{Provider, with_symbol, without_block, HasPlace}
+use Rattle.device_defs.specs.ProviderCalls.{Replaces}
+use Rattle.device_defs.specs.Told.{Goes}
+use Rattle.machine_defs.specs.Answers.{Answer}
+use Rattle.machine_defs.specs.Events.{Event, Begin, Step, Alter, Lose, Stop, Reopen, Names, Continue, Outcome, Refused, Opened, Begun, Ended, Listed, Continued, IsSpelled, AreBytes}
+use Rattle.machine_defs.specs.Heard.{heard_by}
+use Rattle.machine_defs.specs.Jobs.{Kind, job_of}
+use Rattle.machine_defs.specs.Openings.{IsSetUp}
+use Rattle.machine_defs.specs.Refusals.{Refusal}
+use Rattle.machine_defs.specs.Runs.{Moment, now}
+use Rattle.machine_defs.specs.Stands.{StandsForState}
+use Rattle.machine_defs.specs.States.{State, setup_in}
+use Rattle.machine_defs.specs.Transcripts.{GoOn}
+use Rattle.record_defs.specs.Table.{files_of}
+use Rattle.state_laws.specs.Sound.{IsSound}
+use Rattle.command_defs.specs.Forms.{Command, PutUnder, GetOf, DropOf, ListAll}
+use Rattle.command_defs.specs.Seen.{Seen, Ending, NoCountFalls}
+use Rattle.opening_defs.specs.Opened.{AreHanded}
+use Rattle.command_defs.specs.Jobs.{EndsByAnswer}
+use Rattle.command_defs.specs.Lines.{text_of}
+use Rattle.command_defs.specs.Refusals.{status_of}
+use Rattle.command_defs.specs.Commands.{Answers}
 use Rattle.command_laws.specs.Ends.{RunsKind, opens_store}
 
 -- a sound state of a store that is set up stands for what is seen: each image of the disk for its records,

@@ -1,22 +1,22 @@
 //! What a user may believe between two commands: the store is known again, by the status of the last one, and so the next one is
 //! spoken of. No run of a job and no state stands in these clauses.
 ghost use Rattle.std.specs.Prelude.{◌≡◌, ◌≢◌, ◌⊎◌, ℕ, ◌+◌, ◌<◌, ◌≤◌, ◌&&◌, true, false, Bool, not, List, [], ◌∷◌, length, Option, Some, None, is_some};
-ghost use Rattle.hail_columns.specs.Verdicts.{is_flagged};
-ghost use Rattle.hail_devices.specs.Cells.{Cells};
-ghost use Rattle.hail_devices.specs.Faults.{Rose};
-ghost use Rattle.hail_devices.specs.Told.{told_then};
-ghost use Rattle.hail_records.specs.Records.{Record, SetUp, is_name, largest_file};
-ghost use Rattle.hail_records.specs.Table.{File, Due, next_audit, file_of, due_of};
-ghost use Rattle.hail_commands.specs.Forms.{Command, Numbers, RowOf, InitWith, PutUnder, GetOf, DropOf, ListAll, AuditAll, RepairDue};
-ghost use Rattle.hail_commands.specs.Keys.{IsKeyForm};
-ghost use Rattle.hail_commands.specs.Seen.{Seen, Ending, IsRefused, provider_at};
-ghost use Rattle.hail_openings.specs.Journals.{IsFree};
-ghost use Rattle.hail_commands.specs.Opens.{setup_in_effect};
-ghost use Rattle.hail_commands.specs.Inits.{setup_with};
-ghost use Rattle.hail_commands.specs.Lines.{audit_lines};
-ghost use Rattle.hail_commands.specs.Audits.{HearsRounds, CountsHeard};
-ghost use Rattle.hail_commands.specs.Jobs.{IsTold};
-ghost use Rattle.hail_commands.specs.Commands.{Answers, IsUsage};
+ghost use Rattle.column_defs.specs.Verdicts.{is_flagged};
+ghost use Rattle.device_defs.specs.Cells.{Cells};
+ghost use Rattle.device_defs.specs.Faults.{Rose};
+ghost use Rattle.device_defs.specs.Told.{told_then};
+ghost use Rattle.record_defs.specs.Records.{Record, SetUp, is_name, largest_file};
+ghost use Rattle.record_defs.specs.Table.{File, Due, next_audit, file_of, due_of};
+ghost use Rattle.command_defs.specs.Forms.{Command, Numbers, RowOf, InitWith, PutUnder, GetOf, DropOf, ListAll, AuditAll, RepairDue};
+ghost use Rattle.command_defs.specs.Keys.{IsKeyForm};
+ghost use Rattle.command_defs.specs.Seen.{Seen, Ending, IsRefused, provider_at};
+ghost use Rattle.opening_defs.specs.Journals.{IsFree};
+ghost use Rattle.command_defs.specs.Opens.{setup_in_effect};
+ghost use Rattle.command_defs.specs.Inits.{setup_with};
+ghost use Rattle.command_defs.specs.Lines.{audit_lines};
+ghost use Rattle.command_defs.specs.Audits.{HearsRounds, CountsHeard};
+ghost use Rattle.command_defs.specs.Jobs.{IsTold};
+ghost use Rattle.command_defs.specs.Commands.{Answers, IsUsage};
 ghost use Rattle.command_laws.specs.Ends.{IsDone, IsKnown, GivesText, GivesUnlessMemory, opens_store, after_put, after_drop, after_audit, after_repair, ran_to};
 ghost use Rattle.command_laws.specs.After.{IsSure, Follows, IsThen, is_refusal, HasRightFile, IsUntouched, IsSteady, spoilt_below, IsFaultless, keeps_blocks, IsOfAnother};
 ghost use Rattle.command_laws.specs.Kept.{after_start};

@@ -1,16 +1,16 @@
 //! What a user may believe of `init` and `list`, from their status and the counts of the devices.
 ghost use Rattle.std.specs.Prelude.{◌≡◌, ◌≢◌, ◌⊎◌, ℕ, ◌<◌, ◌≤◌, true, false, List, [], length, Some};
-ghost use Rattle.hail_devices.specs.Cells.{Cells};
-ghost use Rattle.hail_devices.specs.Faults.{Rose};
-ghost use Rattle.hail_records.specs.Records.{Record, is_setup};
-ghost use Rattle.hail_records.specs.Table.{files_of};
-ghost use Rattle.hail_commands.specs.Forms.{Numbers, InitWith, ListAll};
-ghost use Rattle.hail_commands.specs.Keys.{IsKeyForm};
-ghost use Rattle.hail_commands.specs.Seen.{Seen, Ending};
-ghost use Rattle.hail_openings.specs.Journals.{journal_read, IsBadInit, IsSetUpAlready, IsFree};
-ghost use Rattle.hail_commands.specs.Inits.{setup_with};
-ghost use Rattle.hail_commands.specs.Lines.{ready_line, list_lines};
-ghost use Rattle.hail_commands.specs.Commands.{Answers};
+ghost use Rattle.device_defs.specs.Cells.{Cells};
+ghost use Rattle.device_defs.specs.Faults.{Rose};
+ghost use Rattle.record_defs.specs.Records.{Record, is_setup};
+ghost use Rattle.record_defs.specs.Table.{files_of};
+ghost use Rattle.command_defs.specs.Forms.{Numbers, InitWith, ListAll};
+ghost use Rattle.command_defs.specs.Keys.{IsKeyForm};
+ghost use Rattle.command_defs.specs.Seen.{Seen, Ending};
+ghost use Rattle.opening_defs.specs.Journals.{journal_read, IsBadInit, IsSetUpAlready, IsFree};
+ghost use Rattle.command_defs.specs.Inits.{setup_with};
+ghost use Rattle.command_defs.specs.Lines.{ready_line, list_lines};
+ghost use Rattle.command_defs.specs.Commands.{Answers};
 ghost use Rattle.command_laws.specs.Ends.{IsDone, IsKnown, GivesUnlessMemory, EndsInOrder};
 ghost use Rattle.command_laws.specs.Opened.{IsKeyed, IsInit, IsListed};
 

@@ -1,12 +1,12 @@
 //! Concrete values that meet what the laws suppose of a store, its file and commands over it: these laws are not empty.
 ghost use Rattle.std.specs.Prelude.{◌≤◌, false, [], ◌∷◌};
-ghost use Rattle.hail_records.specs.Table.{files_of};
-ghost use Rattle.hail_machine.specs.States.{State};
-ghost use Rattle.hail_commands.specs.Forms.{InitWith, PutUnder, GetOf, ListAll, AuditAll, RepairDue, RowOf};
-ghost use Rattle.hail_commands.specs.Lines.{list_lines};
-ghost use Rattle.hail_commands.specs.Opens.{setup_in_effect};
-ghost use Rattle.hail_commands.specs.Seen.{NoCountFalls};
-ghost use Rattle.hail_commands.specs.Commands.{Answers, IsUsage};
+ghost use Rattle.record_defs.specs.Table.{files_of};
+ghost use Rattle.machine_defs.specs.States.{State};
+ghost use Rattle.command_defs.specs.Forms.{InitWith, PutUnder, GetOf, ListAll, AuditAll, RepairDue, RowOf};
+ghost use Rattle.command_defs.specs.Lines.{list_lines};
+ghost use Rattle.command_defs.specs.Opens.{setup_in_effect};
+ghost use Rattle.command_defs.specs.Seen.{NoCountFalls};
+ghost use Rattle.command_defs.specs.Commands.{Answers, IsUsage};
 ghost use Rattle.job_laws.specs.Failing.{bad_seen};
 ghost use Rattle.command_laws.specs.After.{IsSure, Follows, HasRightFile, IsUntouched, IsSteady, IsFaultless};
 ghost use Rattle.command_laws.specs.Opened.{IsKeyed};

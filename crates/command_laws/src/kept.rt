@@ -1,12 +1,12 @@
 //! What commands leave however they end: the disk's images, fetches, and what a store that failed or a lost row leaves due.
 ghost use Rattle.std.specs.Prelude.{◌≡◌, ◌≢◌, ◌⊎◌, ℕ, true, List, [], Option};
-ghost use Rattle.hail_devices.specs.Images.{EachImage};
-ghost use Rattle.hail_records.specs.Records.{Record};
-ghost use Rattle.hail_records.specs.Journal.{StandsFor};
-ghost use Rattle.hail_machine.specs.Jobs.{Kind};
-ghost use Rattle.hail_commands.specs.Forms.{Command, Numbers, RowOf, InitWith, PutUnder, GetOf, DropOf, ListAll, AuditAll, RepairDue};
-ghost use Rattle.hail_commands.specs.Seen.{Seen, Ending, IsRefused};
-ghost use Rattle.hail_commands.specs.Commands.{Answers};
+ghost use Rattle.device_defs.specs.Images.{EachImage};
+ghost use Rattle.record_defs.specs.Records.{Record};
+ghost use Rattle.record_defs.specs.Journal.{StandsFor};
+ghost use Rattle.machine_defs.specs.Jobs.{Kind};
+ghost use Rattle.command_defs.specs.Forms.{Command, Numbers, RowOf, InitWith, PutUnder, GetOf, DropOf, ListAll, AuditAll, RepairDue};
+ghost use Rattle.command_defs.specs.Seen.{Seen, Ending, IsRefused};
+ghost use Rattle.command_defs.specs.Commands.{Answers};
 ghost use Rattle.command_laws.specs.Ends.{IsKnown, RunsKind, opens_store};
 ghost use Rattle.command_laws.specs.Kept.{KeepsImages, IsAfter, LeavesImages, InitImages, SameFetches, stores_blocks, opens_rows, FailsToPut, FailsToRepair, LosesFile, LosesRepair};
 

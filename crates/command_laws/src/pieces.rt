@@ -1,11 +1,11 @@
 //! Commands as pieces of one run: each is a later call of the program, a reopening, the begin of its job and its steps, from any moment.
 ghost use Rattle.std.specs.Prelude.{◌≡◌, ℕ, true, List, ◌++◌};
-ghost use Rattle.hail_machine.specs.Runs.{Moment, now, IsRun};
-ghost use Rattle.hail_machine.specs.States.{State};
-ghost use Rattle.hail_records.specs.Records.{Record};
-ghost use Rattle.hail_commands.specs.Forms.{Command};
-ghost use Rattle.hail_commands.specs.Seen.{Seen, Ending, NoCountFalls};
-ghost use Rattle.hail_commands.specs.Commands.{Answers};
+ghost use Rattle.machine_defs.specs.Runs.{Moment, now, IsRun};
+ghost use Rattle.machine_defs.specs.States.{State};
+ghost use Rattle.record_defs.specs.Records.{Record};
+ghost use Rattle.command_defs.specs.Forms.{Command};
+ghost use Rattle.command_defs.specs.Seen.{Seen, Ending, NoCountFalls};
+ghost use Rattle.command_defs.specs.Commands.{Answers};
 ghost use Rattle.command_laws.specs.Ends.{opens_store};
 ghost use Rattle.command_laws.specs.After.{IsSure};
 ghost use Rattle.command_laws.specs.Pieces.{IsStore, IsSpelledCommand, IsCall, IsLater, AreBetween, Call, last_seen, IsChain, AreCalls};

@@ -1,11 +1,11 @@
 //! With which statuses commands end, and a row with its causes.
 ghost use Rattle.std.specs.Prelude.{◌≡◌, ◌≢◌, ◌⊎◌, ℕ, true, List, Option};
 ghost use Rattle.hail_field.specs.Shape.{IsShape};
-ghost use Rattle.hail_codes.specs.Points.{upto};
-ghost use Rattle.hail_codes.specs.DispersalCode.{AcceptsNone};
-ghost use Rattle.hail_commands.specs.Forms.{Command, RowOf};
-ghost use Rattle.hail_commands.specs.Seen.{Seen, Ending};
-ghost use Rattle.hail_commands.specs.Commands.{Answers};
+ghost use Rattle.code_defs.specs.Points.{upto};
+ghost use Rattle.code_defs.specs.DispersalCode.{AcceptsNone};
+ghost use Rattle.command_defs.specs.Forms.{Command, RowOf};
+ghost use Rattle.command_defs.specs.Seen.{Seen, Ending};
+ghost use Rattle.command_defs.specs.Commands.{Answers};
 ghost use Rattle.command_laws.specs.After.{is_ending};
 
 /// A command whose words have a form ends with 0, 3, 4, 6 to 18, 20, 21, 22 or 70; so 2 comes only of words that have none.

@@ -3,8 +3,8 @@ use Rattle.std.proofs.Common.{◌≡◌, ℕ, ◌+◌, ◌<◌, codes, List, [],
 use Rattle.std.proofs.lemmas.List.{take_more, append-nil, length-take-le}
 use Rattle.std.proofs.lemmas.Bool.{lt-ltb}
 use Rattle.std.specs.Fmt.{decimal}
-use Rattle.hail_machine.specs.Lines.{line, then_number}
-use Rattle.hail_commands.specs.Lines.{count_line, count_lines}
+use Rattle.machine_defs.specs.Lines.{line, then_number}
+use Rattle.command_defs.specs.Lines.{count_line, count_lines}
 
 -- pieces put together from the end are those from the front
 grouped : (a b c d : List ℕ) → a ++ (b ++ (c ++ d)) ≡ ((a ++ b) ++ c) ++ d

@@ -3,9 +3,9 @@ use Rattle.std.proofs.Common.{◌≡◌, ℕ, ◌+◌, List, [], ◌∷◌, ◌+
 use Rattle.std.specs.List.{slice_get}
 use Rattle.std.proofs.lemmas.List.{take_more, flat_map_more}
 use Rattle.std.proofs.lemmas.Option.{slice_get_within, get_or_from_slice_get}
-use Rattle.hail_records.specs.Table.{File}
-use Rattle.hail_machine.specs.Lines.{file_line}
-use Rattle.hail_commands.specs.Lines.{list_lines}
+use Rattle.record_defs.specs.Table.{File}
+use Rattle.machine_defs.specs.Lines.{file_line}
+use Rattle.command_defs.specs.Lines.{list_lines}
 
 -- one file more
 pub listed_more : (files : List File) (text : List ℕ) (place : ℕ) (file : File) → slice_get files place ≡ Some file

@@ -1,8 +1,8 @@
 // The lines of an audit.
 ghost use Rattle.std.specs.Prelude.{◌≡◌, ◌++◌, codes, IfOk, OnOk};
 ghost use Rattle.std.specs.String.{string_bytes};
-ghost use Rattle.hail_machine.specs.Lines.{line, then_number};
-ghost use Rattle.hail_commands.specs.Lines.{count_line, count_lines, audit_lines};
+ghost use Rattle.machine_defs.specs.Lines.{line, then_number};
+ghost use Rattle.command_defs.specs.Lines.{count_line, count_lines, audit_lines};
 ghost use Rattle.record_codec.specs.Entries.{counted};
 
 use record_codec::Counts;

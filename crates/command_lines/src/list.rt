@@ -1,7 +1,7 @@
 // The lines of the files in effect.
 ghost use Rattle.std.specs.Prelude.{◌≡◌, IfOk};
-ghost use Rattle.hail_records.specs.Table.{files_of};
-ghost use Rattle.hail_commands.specs.Lines.{list_lines};
+ghost use Rattle.record_defs.specs.Table.{files_of};
+ghost use Rattle.command_defs.specs.Lines.{list_lines};
 ghost use Rattle.vault_table.specs.Values.{IsFoldOf};
 
 use crate::pieces::push_named;

@@ -1,6 +1,6 @@
 // One line of its own for each command that changes something.
 ghost use Rattle.std.specs.Prelude.{◌≡◌, IfOk};
-ghost use Rattle.hail_commands.specs.Lines.{ready_line, stored_line, dropped_line, repaired_line};
+ghost use Rattle.command_defs.specs.Lines.{ready_line, stored_line, dropped_line, repaired_line};
 
 use crate::pieces::push_named;
 use std::alloc::Global;

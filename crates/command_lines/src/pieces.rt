@@ -1,6 +1,6 @@
 // Pieces of lines that are put behind a text.
 ghost use Rattle.std.specs.Prelude.{◌≡◌, ◌++◌, OnOk};
-ghost use Rattle.hail_machine.specs.Lines.{line, then_number};
+ghost use Rattle.machine_defs.specs.Lines.{line, then_number};
 
 use std::alloc::{AllocError, Global};
 

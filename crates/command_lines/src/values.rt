@@ -1,7 +1,7 @@
 // The line of a row that was opened.
 ghost use Rattle.std.specs.Prelude.{◌≡◌, IfOk};
 ghost use Rattle.std.specs.String.{string_bytes};
-ghost use Rattle.hail_commands.specs.Line.{values_line};
+ghost use Rattle.command_defs.specs.Line.{values_line};
 
 use hail_field::Symbol;
 use std::alloc::{AllocError, Global};

@@ -1,8 +1,8 @@
 // Texts on their way to a sink.
 ghost use Rattle.std.specs.Prelude.{◌≡◌, ◌≤◌, []};
-ghost use Rattle.hail_devices.specs.Faults.{HasCause};
-ghost use Rattle.hail_commands.specs.Line.{no_row_line};
-ghost use Rattle.hail_commands.specs.Sinking.{Sinking, WritesLine, TellsLine};
+ghost use Rattle.device_defs.specs.Faults.{HasCause};
+ghost use Rattle.command_defs.specs.Line.{no_row_line};
+ghost use Rattle.command_defs.specs.Sinking.{Sinking, WritesLine, TellsLine};
 
 use crate::status::{LOST_ROW, NO_MEMORY, SINK_FAULT, WRITTEN};
 use stream_model::{Sink, WriteFault, write_all};

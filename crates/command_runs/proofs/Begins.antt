@@ -1,8 +1,8 @@
 -- No cause refuses the jobs of these runs.
 use Rattle.std.proofs.Common.{◌≡◌, None, refl, arith}
-use Rattle.hail_machine.specs.Jobs.{PutJob, RepairJob, DropJob, GetJob, AuditJob}
-use Rattle.hail_records.specs.Examples.{four}
-use Rattle.hail_commands.specs.Refusals.{refusal_over}
+use Rattle.machine_defs.specs.Jobs.{PutJob, RepairJob, DropJob, GetJob, AuditJob}
+use Rattle.record_defs.specs.Examples.{four}
+use Rattle.command_defs.specs.Refusals.{refusal_over}
 use Rattle.command_laws.proofs.Chains.{put-begins}
 use Rattle.command_runs.specs.Devices.{named, four_records, byte_audited_records, byte_records}
 use Rattle.damage_run.specs.Schedule.{byte}

@@ -1,7 +1,7 @@
 -- How the counts of a provider go in a call that goes well.
 use Rattle.std.proofs.Common.{ℕ, refl, arith}
-use Rattle.hail_devices.specs.Providers.{Provider}
-use Rattle.hail_devices.specs.ProviderCalls.{StoreCounts, OtherCounts, FetchCounts}
+use Rattle.device_defs.specs.Providers.{Provider}
+use Rattle.device_defs.specs.ProviderCalls.{StoreCounts, OtherCounts, FetchCounts}
 use Rattle.command_runs.specs.Devices.{given_block, given_other, robbed, fetched}
 
 pub fetch-counts : (p : Provider) → FetchCounts p (fetched p)

@@ -1,22 +1,22 @@
 -- An audit that a fault of the disk cuts off at its last move, from every state that was just opened.
 use Rattle.std.proofs.Common.{◌≡◌, ℕ, zero, suc, ◌+◌, ◌<◌, ◌==◌, true, List, [], ◌∷◌, Some, None, refl, sym, subst, ◌∙◌, inl, inr, arith}
 use Rattle.std.specs.Prelude.{slice_get, if◌then◌else◌}
-use Rattle.hail_devices.specs.Providers.{Provider}
-use Rattle.hail_records.specs.Records.{AuditStart, AuditDone}
-use Rattle.hail_records.specs.Spellings.{spelling}
-use Rattle.hail_machine.specs.Jobs.{AuditJob, Job, Answered}
-use Rattle.hail_machine.specs.Actions.{actions_of}
-use Rattle.hail_machine.specs.Answers.{DiskFault}
-use Rattle.hail_machine.specs.Begins.{new_job}
-use Rattle.hail_machine.specs.Events.{Step, More, Ended}
-use Rattle.hail_machine.specs.Examples.{empty_provider}
-use Rattle.hail_machine.specs.Machine.{Happens}
-use Rattle.hail_machine.specs.Runs.{Moment}
-use Rattle.hail_machine.specs.States.{State, setup_in, with_provider}
-use Rattle.hail_commands.specs.Forms.{AuditAll}
-use Rattle.hail_commands.specs.JobRuns.{AreSteps}
-use Rattle.hail_commands.specs.Jobs.{RanAlone, RunsAlone, AnswersJob}
-use Rattle.hail_commands.specs.Commands.{AnswersAlone, Answers}
+use Rattle.device_defs.specs.Providers.{Provider}
+use Rattle.record_defs.specs.Records.{AuditStart, AuditDone}
+use Rattle.record_defs.specs.Spellings.{spelling}
+use Rattle.machine_defs.specs.Jobs.{AuditJob, Job, Answered}
+use Rattle.machine_defs.specs.Actions.{actions_of}
+use Rattle.machine_defs.specs.Answers.{DiskFault}
+use Rattle.machine_defs.specs.Begins.{new_job}
+use Rattle.machine_defs.specs.Events.{Step, More, Ended}
+use Rattle.machine_defs.specs.Examples.{empty_provider}
+use Rattle.machine_defs.specs.Machine.{Happens}
+use Rattle.machine_defs.specs.Runs.{Moment}
+use Rattle.machine_defs.specs.States.{State, setup_in, with_provider}
+use Rattle.command_defs.specs.Forms.{AuditAll}
+use Rattle.command_defs.specs.JobRuns.{AreSteps}
+use Rattle.command_defs.specs.Jobs.{RanAlone, RunsAlone, AnswersJob}
+use Rattle.command_defs.specs.Commands.{AnswersAlone, Answers}
 use Rattle.command_laws.specs.Pieces.{moment}
 use Rattle.job_laws.proofs.Telling.{left-alone, jobs-leave}
 use Rattle.job_laws.proofs.BeginRefusals.{refusal-of}

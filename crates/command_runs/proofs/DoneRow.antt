@@ -4,13 +4,13 @@ use Rattle.poly_laws.specs.Poly.{value as value_over, agree as agree_over, is_se
 use Rattle.hail_field.specs.Nim.{nim}
 use Rattle.hail_field.specs.Shape.{IsShape}
 use Rattle.hail_field.proofs.AllNumbers.{nim_laws}
-use Rattle.hail_codes.specs.Polynomials.{agree}
-use Rattle.hail_codes.specs.Points.{upto, values_at}
-use Rattle.hail_codes.specs.DispersalCode.{Accepts}
-use Rattle.hail_codes.proofs.Values.{value-constant}
-use Rattle.hail_commands.specs.Forms.{RowOf}
-use Rattle.hail_commands.specs.Line.{values_line}
-use Rattle.hail_commands.specs.Commands.{Answers}
+use Rattle.code_defs.specs.Polynomials.{agree}
+use Rattle.code_defs.specs.Points.{upto, values_at}
+use Rattle.code_defs.specs.DispersalCode.{Accepts}
+use Rattle.code_defs.proofs.Values.{value-constant}
+use Rattle.command_defs.specs.Forms.{RowOf}
+use Rattle.command_defs.specs.Line.{values_line}
+use Rattle.command_defs.specs.Commands.{Answers}
 use Rattle.command_runs.specs.Devices.{byte_kept}
 use Rattle.command_laws.specs.Instances.{with_sink, ends}
 

@@ -1,18 +1,18 @@
 -- An upgrade that is done, from every state that was just opened, over devices that tell nothing.
 use Rattle.std.proofs.Common.{◌≡◌, ℕ, zero, suc, ◌+◌, ◌<◌, List, [], ◌∷◌, Some, None, refl, subst, ◌∙◌, arith}
 use Rattle.std.specs.Prelude.{slice_get}
-use Rattle.hail_records.specs.Records.{Record, Version}
-use Rattle.hail_machine.specs.Jobs.{UpgradeJob, Job}
-use Rattle.hail_machine.specs.Actions.{actions_of}
-use Rattle.hail_machine.specs.Answers.{Upgraded}
-use Rattle.hail_machine.specs.Begins.{new_job}
-use Rattle.hail_machine.specs.Events.{Step, More, Ended}
-use Rattle.hail_machine.specs.Machine.{Happens}
-use Rattle.hail_machine.specs.Runs.{Moment}
-use Rattle.hail_machine.specs.States.{State, setup_in}
-use Rattle.hail_commands.specs.JobRuns.{AreSteps}
-use Rattle.hail_commands.specs.Jobs.{RanAlone, RunsAlone}
-use Rattle.hail_commands.specs.Refusals.{refusal_over}
+use Rattle.record_defs.specs.Records.{Record, Version}
+use Rattle.machine_defs.specs.Jobs.{UpgradeJob, Job}
+use Rattle.machine_defs.specs.Actions.{actions_of}
+use Rattle.machine_defs.specs.Answers.{Upgraded}
+use Rattle.machine_defs.specs.Begins.{new_job}
+use Rattle.machine_defs.specs.Events.{Step, More, Ended}
+use Rattle.machine_defs.specs.Machine.{Happens}
+use Rattle.machine_defs.specs.Runs.{Moment}
+use Rattle.machine_defs.specs.States.{State, setup_in}
+use Rattle.command_defs.specs.JobRuns.{AreSteps}
+use Rattle.command_defs.specs.Jobs.{RanAlone, RunsAlone}
+use Rattle.command_defs.specs.Refusals.{refusal_over}
 use Rattle.command_laws.specs.Pieces.{moment}
 use Rattle.job_laws.proofs.BeginRefusals.{refusal-of}
 use Rattle.command_runs.specs.Devices.{four_records, silent, all_hidden}

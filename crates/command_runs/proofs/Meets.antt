@@ -2,14 +2,14 @@
 use Rattle.std.proofs.Common.{◌≡◌, ◌≢◌, ℕ, zero, suc, ◌<◌, ◌≤◌, ◌==◌, ◌&&◌, Bool, true, false, Some, None, refl, ap, arith}
 use Rattle.std.specs.Prelude.{is_some, not, if◌then◌else◌}
 use Rattle.std.proofs.lemmas.Bool.{ne_eqb}
-use Rattle.hail_columns.specs.Columns.{columns, is_wrong}
-use Rattle.hail_columns.specs.Verdicts.{is_flagged}
-use Rattle.hail_devices.specs.Faults.{Rose}
+use Rattle.column_defs.specs.Columns.{columns, is_wrong}
+use Rattle.column_defs.specs.Verdicts.{is_flagged}
+use Rattle.device_defs.specs.Faults.{Rose}
 use Rattle.column_laws.proofs.Worked.{column-right}
-use Rattle.hail_machine.specs.Setups.{object_of}
-use Rattle.hail_records.specs.Table.{File}
-use Rattle.hail_records.specs.Examples.{four}
-use Rattle.hail_commands.specs.Seen.{provider_at}
+use Rattle.machine_defs.specs.Setups.{object_of}
+use Rattle.record_defs.specs.Table.{File}
+use Rattle.record_defs.specs.Examples.{four}
+use Rattle.command_defs.specs.Seen.{provider_at}
 use Rattle.command_laws.specs.After.{HasRightFile, IsUntouched, IsSteady, is_wrong_at}
 use Rattle.job_laws.specs.Failing.{bad_seen}
 use Rattle.command_laws.proofs.FilesStay.{bad-few}

@@ -6,23 +6,23 @@ use Rattle.std.proofs.lemmas.List.{get_or-replicate}
 use Rattle.std.proofs.lemmas.Bool.{cases_lt}
 use Rattle.hex.specs.Hex.{decode_pairs, is_hex_digit}
 use Rattle.hail_field.specs.Shape.{IsShape}
-use Rattle.hail_codes.specs.Points.{upto}
-use Rattle.hail_codes.specs.DispersalCode.{AcceptsNone}
-use Rattle.hail_devices.specs.Cells.{firm}
-use Rattle.hail_records.specs.Journal.{text, magic}
-use Rattle.hail_records.specs.Examples.{four}
-use Rattle.hail_machine.specs.Refusals as refusal
+use Rattle.code_defs.specs.Points.{upto}
+use Rattle.code_defs.specs.DispersalCode.{AcceptsNone}
+use Rattle.device_defs.specs.Cells.{firm}
+use Rattle.record_defs.specs.Journal.{text, magic}
+use Rattle.record_defs.specs.Examples.{four}
+use Rattle.machine_defs.specs.Refusals as refusal
 use Rattle.damage_run.proofs.LostGet.{at_most_two}
-use Rattle.hail_commands.specs.Forms.{RowOf, InitWith, PutUnder, GetOf, ListAll, AuditAll, RepairDue}
-use Rattle.hail_commands.specs.Keys.{IsKeyForm}
-use Rattle.hail_openings.specs.Journals.{journal_read}
-use Rattle.hail_commands.specs.Opens.{Unstarted}
-use Rattle.hail_records.specs.Records.{is_setup}
-use Rattle.hail_commands.specs.Inits.{setup_with, AnswersInit, InitsDisk}
-use Rattle.hail_commands.specs.Jobs.{AnswersJob}
-use Rattle.hail_commands.specs.Line.{no_row_line}
-use Rattle.hail_commands.specs.Commands.{AnswersAlone, AnswersPut, AnswersList, Answers}
-use Rattle.hail_openings.proofs.Readings.{read-set_up}
+use Rattle.command_defs.specs.Forms.{RowOf, InitWith, PutUnder, GetOf, ListAll, AuditAll, RepairDue}
+use Rattle.command_defs.specs.Keys.{IsKeyForm}
+use Rattle.opening_defs.specs.Journals.{journal_read}
+use Rattle.command_defs.specs.Opens.{Unstarted}
+use Rattle.record_defs.specs.Records.{is_setup}
+use Rattle.command_defs.specs.Inits.{setup_with, AnswersInit, InitsDisk}
+use Rattle.command_defs.specs.Jobs.{AnswersJob}
+use Rattle.command_defs.specs.Line.{no_row_line}
+use Rattle.command_defs.specs.Commands.{AnswersAlone, AnswersPut, AnswersList, Answers}
+use Rattle.opening_defs.proofs.Readings.{read-set_up}
 use Rattle.command_runs.specs.Devices.{with_source, named, four_records, byte_records, byte_audited_records, good_numbers, bad_numbers, to_put, put_unmade, byte_kept, due, dropped_records, seen_after_drop, disk_failed, deserted, scrambled, all_hidden}
 use Rattle.damage_run.specs.Schedule.{byte}
 use Rattle.command_laws.specs.Instances.{with_sink, key_text, other_name, ends}

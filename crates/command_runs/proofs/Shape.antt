@@ -3,20 +3,20 @@ use Rattle.std.proofs.Common.{◌≡◌, ◌≢◌, ℕ, ◌≤◌, ◌==◌, tr
 use Rattle.std.specs.Prelude.{IsTrue, if◌then◌else◌}
 use Rattle.std.specs.List.{list_all}
 use Rattle.std.proofs.lemmas.Bool.{cases_Bool, eqb-true}
-use Rattle.hail_devices.specs.Cells.{reads, firm}
-use Rattle.hail_devices.specs.Providers.{Provider}
-use Rattle.hail_records.specs.Records.{Record, is_in_grammar, largest_journal}
-use Rattle.hail_records.specs.Journal.{text, text_size, StandsFor}
-use Rattle.hail_records.specs.Acceptance.{AreAccepted}
-use Rattle.hail_records.specs.Areas.{A}
-use Rattle.hail_machine.specs.States.{State, with_provider}
-use Rattle.hail_machine.proofs.JobLists.{cond_true, cond_false}
-use Rattle.hail_devices.specs.Images.{EachImage}
-use Rattle.hail_devices.proofs.Lasting.{reads-firm, image-firm}
-use Rattle.hail_records.proofs.Standing.{stands-text}
-use Rattle.hail_commands.specs.Seen.{Seen}
-use Rattle.hail_commands.specs.Opens.{setup_in_effect}
-use Rattle.hail_openings.specs.Opened.{IsOpenedOver}
+use Rattle.device_defs.specs.Cells.{reads, firm}
+use Rattle.device_defs.specs.Providers.{Provider}
+use Rattle.record_defs.specs.Records.{Record, is_in_grammar, largest_journal}
+use Rattle.record_defs.specs.Journal.{text, text_size, StandsFor}
+use Rattle.record_defs.specs.Acceptance.{AreAccepted}
+use Rattle.record_defs.specs.Areas.{A}
+use Rattle.machine_defs.specs.States.{State, with_provider}
+use Rattle.machine_defs.proofs.JobLists.{cond_true, cond_false}
+use Rattle.device_defs.specs.Images.{EachImage}
+use Rattle.device_defs.proofs.Lasting.{reads-firm, image-firm}
+use Rattle.record_defs.proofs.Standing.{stands-text}
+use Rattle.command_defs.specs.Seen.{Seen}
+use Rattle.command_defs.specs.Opens.{setup_in_effect}
+use Rattle.opening_defs.specs.Opened.{IsOpenedOver}
 use Rattle.command_laws.specs.After.{IsSure}
 use Rattle.command_laws.proofs.Knowing.{known-good}
 

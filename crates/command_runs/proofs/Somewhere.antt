@@ -1,16 +1,16 @@
 -- Over accepted records there is a state just opened, and the job runs from there.
 use Rattle.std.proofs.Common.{ℕ, List}
-use Rattle.hail_devices.specs.Providers.{Provider}
-use Rattle.hail_records.specs.Records.{Record}
-use Rattle.hail_records.specs.Acceptance.{AreAccepted}
-use Rattle.hail_machine.specs.Jobs.{Kind}
-use Rattle.hail_machine.specs.Answers.{Answer}
-use Rattle.hail_machine.specs.Heard.{Entry}
-use Rattle.hail_machine.specs.States.{State}
-use Rattle.hail_commands.specs.Seen.{Seen}
-use Rattle.hail_commands.specs.Opens as opens
-use Rattle.hail_openings.specs.Opened.{IsOpenedOver, IsOpenAtRest}
-use Rattle.hail_commands.specs.Jobs.{RunsAlone}
+use Rattle.device_defs.specs.Providers.{Provider}
+use Rattle.record_defs.specs.Records.{Record}
+use Rattle.record_defs.specs.Acceptance.{AreAccepted}
+use Rattle.machine_defs.specs.Jobs.{Kind}
+use Rattle.machine_defs.specs.Answers.{Answer}
+use Rattle.machine_defs.specs.Heard.{Entry}
+use Rattle.machine_defs.specs.States.{State}
+use Rattle.command_defs.specs.Seen.{Seen}
+use Rattle.command_defs.specs.Opens as opens
+use Rattle.opening_defs.specs.Opened.{IsOpenedOver, IsOpenAtRest}
+use Rattle.command_defs.specs.Jobs.{RunsAlone}
 use Rattle.command_laws.specs.After.{IsSure}
 use Rattle.command_runs.specs.Lone.{RunsSomewhere}
 

@@ -1,6 +1,6 @@
 -- Each store before and after the commands is known.
 use Rattle.std.proofs.Common.{refl, arith}
-use Rattle.hail_commands.specs.Opens.{IsOpened}
+use Rattle.command_defs.specs.Opens.{IsOpened}
 use Rattle.command_laws.specs.After.{IsSure}
 use Rattle.command_runs.specs.Devices.{four_records, started_records, byte_records, dropped_records, byte_audited_records, byte_repaired_records, both_records, to_put_other, stored_other, all_hidden, to_put, byte_stored, put_failed, put_cut, put_unmade, byte_kept, dropped, all_lost, found_lost, due_lost, repair_lost, damaged, byte_audited, due, repaired, repair_failed, mended, got, drop_cut, audit_cut, repair_cut}
 use Rattle.command_runs.proofs.Shape.{AreFit, sure}

@@ -1,13 +1,13 @@
 -- A disk whose last gate is loose: each image has any byte there, and with it the last record or not.
 use Rattle.std.proofs.Common.{◌≡◌, ◌⊎◌, ℕ, ◌==◌, true, List, [], ◌∷◌, ◌++◌, refl, ap, sym, subst, ◌∙◌, inl, inr, arith}
 use Rattle.std.proofs.lemmas.Bool.{cases_Bool, eqb-true, eq-eqb, false≢true}
-use Rattle.hail_devices.specs.Cells.{firm}
-use Rattle.hail_devices.specs.Disks.{Stopped}
-use Rattle.hail_devices.specs.Images.{IsImage}
-use Rattle.hail_devices.proofs.Lasting.{image-firm}
-use Rattle.hail_records.specs.Records.{PutDone}
-use Rattle.hail_records.specs.Spellings.{spelling}
-use Rattle.hail_records.specs.Journal.{text, before_gate, StandsFor}
+use Rattle.device_defs.specs.Cells.{firm}
+use Rattle.device_defs.specs.Disks.{Stopped}
+use Rattle.device_defs.specs.Images.{IsImage}
+use Rattle.device_defs.proofs.Lasting.{image-firm}
+use Rattle.record_defs.specs.Records.{PutDone}
+use Rattle.record_defs.specs.Spellings.{spelling}
+use Rattle.record_defs.specs.Journal.{text, before_gate, StandsFor}
 use Rattle.command_runs.specs.Devices.{started_records, byte_records}
 use Rattle.command_runs.proofs.Stores.{started-fit, byte-fit}
 

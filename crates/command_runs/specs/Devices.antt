@@ -12,22 +12,22 @@
 --   done                      == an end of status 0 that heard nothing
 use Rattle.std.specs.Prelude.{ℕ, true, ◌++◌, List, [], ◌∷◌, replicate, Option, Some, None}
 use Rattle.std.specs.Option.{option_map}
-use Rattle.hail_columns.specs.Columns.{columns}
-use Rattle.hail_columns.specs.Challenges.{challenge_of, right_answer}
-use Rattle.hail_devices.specs.Cells.{firm}
-use Rattle.hail_devices.specs.Faults.{one_more}
-use Rattle.hail_devices.specs.Providers.{Provider, with_block, without_object}
-use Rattle.hail_records.specs.Records.{Record, SetUp, PutStart, PutDone, Drop, AuditStart, AuditDone, RepairDone}
-use Rattle.hail_records.specs.Spellings.{spelling}
-use Rattle.hail_records.specs.Journal.{text, before_gate}
-use Rattle.hail_machine.specs.Setups.{object_of}
-use Rattle.hail_machine.specs.Jobs.{Given, Fetched, Answered}
-use Rattle.hail_machine.specs.Heard.{Entry}
-use Rattle.hail_machine.specs.Examples.{empty_provider}
-use Rattle.hail_records.specs.Examples.{four}
-use Rattle.hail_commands.specs.Forms.{Numbers}
-use Rattle.hail_commands.specs.Lines.{stored_line, dropped_line, audit_lines, repaired_line}
-use Rattle.hail_commands.specs.Seen.{Seen, Ending}
+use Rattle.column_defs.specs.Columns.{columns}
+use Rattle.column_defs.specs.Challenges.{challenge_of, right_answer}
+use Rattle.device_defs.specs.Cells.{firm}
+use Rattle.device_defs.specs.Faults.{one_more}
+use Rattle.device_defs.specs.Providers.{Provider, with_block, without_object}
+use Rattle.record_defs.specs.Records.{Record, SetUp, PutStart, PutDone, Drop, AuditStart, AuditDone, RepairDone}
+use Rattle.record_defs.specs.Spellings.{spelling}
+use Rattle.record_defs.specs.Journal.{text, before_gate}
+use Rattle.machine_defs.specs.Setups.{object_of}
+use Rattle.machine_defs.specs.Jobs.{Given, Fetched, Answered}
+use Rattle.machine_defs.specs.Heard.{Entry}
+use Rattle.machine_defs.specs.Examples.{empty_provider}
+use Rattle.record_defs.specs.Examples.{four}
+use Rattle.command_defs.specs.Forms.{Numbers}
+use Rattle.command_defs.specs.Lines.{stored_line, dropped_line, audit_lines, repaired_line}
+use Rattle.command_defs.specs.Seen.{Seen, Ending}
 use Rattle.command_laws.specs.Instances.{with_sink, other_name}
 use Rattle.damage_run.specs.Schedule.{byte}
 use Rattle.damage_run.specs.Points.{counts}

@@ -3,12 +3,12 @@
 --   RunsSomewhere kind answer heard == from some state whose vault was just opened a job of this kind runs
 --                                      to this answer and hears this
 use Rattle.std.specs.Prelude.{List}
-use Rattle.hail_machine.specs.Jobs.{Kind}
-use Rattle.hail_machine.specs.Answers.{Answer}
-use Rattle.hail_machine.specs.Heard.{Entry}
-use Rattle.hail_machine.specs.States.{State}
-use Rattle.hail_commands.specs.JobRuns.{RunsJob}
-use Rattle.hail_openings.specs.Opened.{IsOpenAtRest}
+use Rattle.machine_defs.specs.Jobs.{Kind}
+use Rattle.machine_defs.specs.Answers.{Answer}
+use Rattle.machine_defs.specs.Heard.{Entry}
+use Rattle.machine_defs.specs.States.{State}
+use Rattle.command_defs.specs.JobRuns.{RunsJob}
+use Rattle.opening_defs.specs.Opened.{IsOpenAtRest}
 
 -- from some state just opened a job runs to its end
 pub record RunsSomewhere (kind : Kind) (answer : Answer) (heard : List Entry) : Type 0 where

@@ -1,8 +1,8 @@
 //! Commands over devices that end before a job of theirs begins, given outright.
 ghost use Rattle.std.specs.Prelude.{[], ◌∷◌, Some, None};
-ghost use Rattle.hail_commands.specs.Forms.{RowOf, InitWith, PutUnder, GetOf, ListAll, AuditAll, RepairDue};
-ghost use Rattle.hail_commands.specs.Line.{values_line, no_row_line};
-ghost use Rattle.hail_commands.specs.Commands.{Answers};
+ghost use Rattle.command_defs.specs.Forms.{RowOf, InitWith, PutUnder, GetOf, ListAll, AuditAll, RepairDue};
+ghost use Rattle.command_defs.specs.Line.{values_line, no_row_line};
+ghost use Rattle.command_defs.specs.Commands.{Answers};
 ghost use Rattle.command_runs.specs.Devices.{with_source, named, good_numbers, bad_numbers, to_put, put_unmade, byte_kept, due, seen_after_drop, disk_failed, deserted, scrambled, all_hidden};
 ghost use Rattle.command_laws.specs.Instances.{with_sink, key_text, other_name, ends};
 

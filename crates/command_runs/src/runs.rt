@@ -1,6 +1,6 @@
 //! Commands over devices that run a job, given outright.
-ghost use Rattle.hail_commands.specs.Forms.{PutUnder, GetOf, DropOf, AuditAll, RepairDue};
-ghost use Rattle.hail_commands.specs.Commands.{Answers};
+ghost use Rattle.command_defs.specs.Forms.{PutUnder, GetOf, DropOf, AuditAll, RepairDue};
+ghost use Rattle.command_defs.specs.Commands.{Answers};
 ghost use Rattle.command_runs.specs.Devices.{named, all_hidden, hidden_fetched, to_put_other, stored_other, ends_hearing, to_put, byte_stored, put_failed, put_cut, put_torn, put_unmade, drop_cut, audit_cut, repair_cut, byte_kept, dropped, all_lost, found_lost, due_lost, repair_lost, no_blocks, damaged, byte_audited, answers_heard, due, repaired, repair_failed, mended, got, own_blocks_heard, ends_at};
 ghost use Rattle.command_laws.specs.Instances.{other_name, ends};
 

@@ -1,8 +1,8 @@
 -- The numbers of an `init`, by the places of their words.
 use Rattle.std.proofs.Common.{◌≡◌, List, [], ◌∷◌, get_or}
 use Rattle.std.specs.String.{string_bytes}
-use Rattle.hail_commands.specs.Words.{IsNumberWord}
-use Rattle.hail_commands.specs.Forms.{Numbers, IsInitForm}
+use Rattle.command_defs.specs.Words.{IsNumberWord}
+use Rattle.command_defs.specs.Forms.{Numbers, IsInitForm}
 use Rattle.command_words.proofs.RowWords.{Word}
 
 -- the last three words of an `init` spell its last three numbers

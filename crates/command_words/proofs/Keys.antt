@@ -4,8 +4,8 @@ use Rattle.std.proofs.Math.Seq.{drop-append_seam}
 use Rattle.std.specs.Prelude.{◌↔◌, true, false, Ok, Option, Some, None, MatchOption, IfSome, IsSome}
 use Rattle.std.specs.List.{AllPass, IsSplitAt}
 use Rattle.hex.specs.Hex.{decode_of, is_hex_digit}
-use Rattle.hail_commands.specs.Keys.{IsKeyForm, IsLineEnd}
-use Rattle.hail_commands.proofs.Keys.{digits-IsKeyForm}
+use Rattle.command_defs.specs.Keys.{IsKeyForm, IsLineEnd}
+use Rattle.command_defs.proofs.Keys.{digits-IsKeyForm}
 
 -- and what is behind them the rest
 pub behind-IsKeyForm : (text key : List ℕ) (form : IsKeyForm text key) → form.behind ≡ drop 64 text

@@ -6,8 +6,8 @@ use Rattle.std.proofs.lemmas.Slice.Eq.{bytes_eq-Decides}
 use Rattle.std.specs.String.{string_bytes}
 use Rattle.std.specs.declared.alloc.Global.{Global}
 use Rattle.std.specs.Prelude.{codes}
-use Rattle.hail_commands.specs.Words.{IsNumberWord, IsSymbolWord, AreSymbolWords}
-use Rattle.hail_commands.specs.Row.{IsRowForm}
+use Rattle.command_defs.specs.Words.{IsNumberWord, IsSymbolWord, AreSymbolWords}
+use Rattle.command_defs.specs.Row.{IsRowForm}
 
 abbrev pub Word : Type 0
 Word = String Global

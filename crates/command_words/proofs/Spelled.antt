@@ -5,9 +5,9 @@ use Rattle.std.specs.Prelude.{codes, if◌then◌else◌}
 use Rattle.std.specs.Str.{bytes_eq}
 use Rattle.std.specs.Str.Parse.{IsNumeral, digits_value}
 use Rattle.std.specs.String.{string_bytes}
-use Rattle.hail_commands.specs.Words.{IsSymbolWord, AreSymbolWords}
-use Rattle.hail_commands.specs.Forms.{Numbers, Command, RowOf, InitWith, PutUnder, GetOf, DropOf, ListAll, AuditAll, RepairDue, IsForm, IsInitForm, AreNumbers, IsNamedForm, IsBareForm}
-use Rattle.hail_commands.specs.Row.{IsRowForm}
+use Rattle.command_defs.specs.Words.{IsSymbolWord, AreSymbolWords}
+use Rattle.command_defs.specs.Forms.{Numbers, Command, RowOf, InitWith, PutUnder, GetOf, DropOf, ListAll, AuditAll, RepairDue, IsForm, IsInitForm, AreNumbers, IsNamedForm, IsBareForm}
+use Rattle.command_defs.specs.Row.{IsRowForm}
 use Rattle.command_words.proofs.RowWords.{Word}
 
 -- the number of a word

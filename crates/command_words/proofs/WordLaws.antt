@@ -5,7 +5,7 @@ use Rattle.std.proofs.lemmas.Bool.{cases_eq}
 use Rattle.std.proofs.lemmas.Bool.Decides.{nat_tests}
 use Rattle.std.specs.Char.{digit_value}
 use Rattle.std.specs.Str.Parse.{digits_value_after}
-use Rattle.hail_commands.specs.Words.{IsNumberWord}
+use Rattle.command_defs.specs.Words.{IsNumberWord}
 
 -- each digit behind a number makes it ten times as large, or larger
 digits_value_after-large : (n : ℕ) (digits : List ℕ) → n * 10 ^ length digits ≤ digits_value_after 10 n digits

@@ -6,8 +6,8 @@
 use Rattle.std.specs.Prelude.{◌≡◌, List, [], ◌∷◌, codes, String}
 use Rattle.std.specs.String.{string_bytes}
 use Rattle.std.specs.declared.alloc.Global.{Global}
-use Rattle.hail_commands.specs.Forms.{RowOf, InitWith, PutUnder, GetOf, DropOf, ListAll, AuditAll, RepairDue}
-use Rattle.hail_commands.specs.Forms.{Numbers as SevenNumbers, Command as Spelled}
+use Rattle.command_defs.specs.Forms.{RowOf, InitWith, PutUnder, GetOf, DropOf, ListAll, AuditAll, RepairDue}
+use Rattle.command_defs.specs.Forms.{Numbers as SevenNumbers, Command as Spelled}
 use Rattle.command_words.specs.declared.init.Numbers.{Numbers}
 use Rattle.command_words.specs.declared.command.Command.{Command}
 use Rattle.command_words.specs.declared.command.Command.TheVariants as kind

@@ -1,6 +1,6 @@
 // Reads the words of a command line.
 ghost use Rattle.std.specs.Prelude.{[], ◌∷◌, IfOk, OnErr, MatchOption};
-ghost use Rattle.hail_commands.specs.Forms.{IsForm};
+ghost use Rattle.command_defs.specs.Forms.{IsForm};
 ghost use Rattle.command_words.specs.Commands.{command_of, BeginWithRow};
 
 use crate::init::{Numbers, read_init};

@@ -1,9 +1,9 @@
 // Reads the numbers of the command `init`.
 ghost use Rattle.std.specs.Prelude.{◌≡◌, ℕ, true, false, List, [], IfSome, MatchOption};
-ghost use Rattle.hail_records.specs.Records.{is_setup};
+ghost use Rattle.record_defs.specs.Records.{is_setup};
 ghost use Rattle.record_codec.specs.Entries.{with_master};
-ghost use Rattle.hail_commands.specs.Forms.{IsInitForm};
-ghost use Rattle.hail_commands.specs.Inits.{setup_with};
+ghost use Rattle.command_defs.specs.Forms.{IsInitForm};
+ghost use Rattle.command_defs.specs.Inits.{setup_with};
 ghost use Rattle.command_words.specs.Commands.{numbers_of};
 
 use crate::word::read_number;

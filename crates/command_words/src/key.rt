@@ -1,6 +1,6 @@
 // Reads the master key.
 ghost use Rattle.std.specs.Prelude.{◌↔◌, ℕ, List, IsTrue, MatchOption};
-ghost use Rattle.hail_commands.specs.Keys.{IsKeyForm, IsLineEnd};
+ghost use Rattle.command_defs.specs.Keys.{IsKeyForm, IsLineEnd};
 
 use key_schedule::Master;
 

@@ -1,9 +1,9 @@
 //! What follows from the definitions of words and keys.
 ghost use Rattle.std.specs.Prelude.{◌≡◌, ◌≤◌, ℕ, List, length, String};
 ghost use Rattle.std.specs.declared.alloc.Global.{Global};
-ghost use Rattle.hail_commands.specs.Words.{IsNumberWord};
-ghost use Rattle.hail_commands.specs.Forms.{Command, IsForm};
-ghost use Rattle.hail_commands.specs.Keys.{IsKeyForm};
+ghost use Rattle.command_defs.specs.Words.{IsNumberWord};
+ghost use Rattle.command_defs.specs.Forms.{Command, IsForm};
+ghost use Rattle.command_defs.specs.Keys.{IsKeyForm};
 
 /// A number word has at most 39 digits.
 pub fn number_word_is_short()

@@ -1,7 +1,7 @@
 // Reads the words of the command `row`.
 ghost use Rattle.std.specs.Prelude.{ℕ, MatchOption, IfOk, OnErr};
-ghost use Rattle.hail_commands.specs.Words.{AreSymbolWords};
-ghost use Rattle.hail_commands.specs.Row.{IsRowForm};
+ghost use Rattle.command_defs.specs.Words.{AreSymbolWords};
+ghost use Rattle.command_defs.specs.Row.{IsRowForm};
 ghost use Rattle.command_words.specs.Commands.{BeginWithRow};
 
 use crate::word::{read_number, read_symbol};

@@ -1,6 +1,6 @@
 // Reads single words.
 ghost use Rattle.std.specs.Prelude.{ℕ, MatchOption};
-ghost use Rattle.hail_commands.specs.Words.{IsNumberWord, IsSymbolWord};
+ghost use Rattle.command_defs.specs.Words.{IsNumberWord, IsSymbolWord};
 
 use hail_field::Symbol;
 

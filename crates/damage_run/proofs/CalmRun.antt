@@ -3,19 +3,19 @@ use Rattle.std.proofs.Common.{◌≡◌, ℕ, zero, suc, ◌<◌, ◌==◌, Bool
 use Rattle.std.specs.Prelude.{not, nat_le, is_some, IsTrue, if◌then◌else◌}
 use Rattle.std.specs.List.{list_all}
 use Rattle.std.proofs.lemmas.Bool.{cases_Bool, and_parts, leb-true, false≢true}
-use Rattle.hail_columns.specs.Columns.{columns, is_wrong}
-use Rattle.hail_columns.specs.Verdicts.{is_flagged}
+use Rattle.column_defs.specs.Columns.{columns, is_wrong}
+use Rattle.column_defs.specs.Verdicts.{is_flagged}
 use Rattle.column_laws.proofs.Worked.{column-right}
-use Rattle.hail_records.specs.Table.{File, file_as}
-use Rattle.hail_machine.specs.Jobs.{Job, job_of}
-use Rattle.hail_machine.specs.States.{State, setup_in, file_in}
-use Rattle.hail_machine.specs.Runs.{Moment, first_moments}
-use Rattle.hail_machine.specs.Calm.{Mark, since, relies, replaced_count, IsCalm}
-use Rattle.hail_machine.specs.Scrubs.{AreScrubsCalm}
-use Rattle.hail_machine.specs.Missed.{is_wrong_told, is_wrong_now, NoneMissed}
-use Rattle.hail_machine.specs.Examples.{set_up}
-use Rattle.hail_records.specs.Examples.{four}
-use Rattle.hail_machine.proofs.JobLists.{cond_true, cond_false, same_value}
+use Rattle.record_defs.specs.Table.{File, file_as}
+use Rattle.machine_defs.specs.Jobs.{Job, job_of}
+use Rattle.machine_defs.specs.States.{State, setup_in, file_in}
+use Rattle.machine_defs.specs.Runs.{Moment, first_moments}
+use Rattle.machine_defs.specs.Calm.{Mark, since, relies, replaced_count, IsCalm}
+use Rattle.machine_defs.specs.Scrubs.{AreScrubsCalm}
+use Rattle.machine_defs.specs.Missed.{is_wrong_told, is_wrong_now, NoneMissed}
+use Rattle.machine_defs.specs.Examples.{set_up}
+use Rattle.record_defs.specs.Examples.{four}
+use Rattle.machine_defs.proofs.JobLists.{cond_true, cond_false, same_value}
 use Rattle.damage_run.specs.Schedule.{byte, IsOutright}
 use Rattle.damage_run.proofs.Values.{thing}
 use Rattle.damage_run.proofs.Steps.{counts, state_21}

@@ -1,21 +1,21 @@
 -- The run up to the moment at which the repair's record is in doubt, and then a block is lost once more.
 use Rattle.std.proofs.Common.{List, ◌∷◌, refl, arith}
 use Rattle.std.specs.Option.{option_map}
-use Rattle.hail_columns.specs.Columns.{is_wrong}
-use Rattle.hail_devices.specs.Providers.{Provider, without_block}
-use Rattle.hail_machine.specs.Events.{Lose, Replaced}
-use Rattle.hail_machine.specs.States.{State, setup_in, with_provider}
-use Rattle.hail_machine.specs.Machine.{Happens}
-use Rattle.hail_machine.specs.Runs.{Moment, first_moments}
-use Rattle.hail_machine.specs.Calm.{since}
-use Rattle.hail_machine.specs.Examples.{set_up}
+use Rattle.column_defs.specs.Columns.{is_wrong}
+use Rattle.device_defs.specs.Providers.{Provider, without_block}
+use Rattle.machine_defs.specs.Events.{Lose, Replaced}
+use Rattle.machine_defs.specs.States.{State, setup_in, with_provider}
+use Rattle.machine_defs.specs.Machine.{Happens}
+use Rattle.machine_defs.specs.Runs.{Moment, first_moments}
+use Rattle.machine_defs.specs.Calm.{since}
+use Rattle.machine_defs.specs.Examples.{set_up}
 use Rattle.run_laws.proofs.FirstHalf.{first_run}
-use Rattle.mark_laws.specs.MarkedRuns.{IsCalmRun}
+use Rattle.second_half_laws.specs.MarkedRuns.{IsCalmRun}
 use Rattle.damage_run.specs.Points.{at, IsDamaged, InDoubt}
 use Rattle.damage_run.proofs.Run.{moments, is_run}
 use Rattle.damage_run.proofs.CalmRun.{calm_by_test, scrubs_by_test, found, outright}
 use Rattle.damage_run.proofs.Points.{doubt_at, maker_of, the_file}
-use Rattle.hail_records.specs.Records.{RepairDone}
+use Rattle.record_defs.specs.Records.{RepairDone}
 
 -- without its block
 abbrev pub robbed : Provider → Provider

@@ -1,22 +1,22 @@
 -- After the run a second block is lost, and a get over what is left is lost: two of four blocks are absent, where one may be wrong.
 use Rattle.std.proofs.Common.{ℕ, ◌+◌, ◌<◌, ◌≤◌, ◌^◌, Bool, true, false, cond, List, [], ◌∷◌, Option, Some, None, refl, inl, arith}
 use Rattle.poly_laws.specs.Poly.{agree as agree_over, is_seen as is_seen_over}
-use Rattle.hail_codes.specs.Polynomials.{value, agree, is_seen}
-use Rattle.hail_columns.specs.Opened.{SeenBlock, LosesRow, symbol_in}
-use Rattle.hail_columns.specs.Objects.{point}
-use Rattle.hail_devices.specs.Faults.{one_more}
-use Rattle.hail_devices.specs.Providers.{Provider}
-use Rattle.hail_machine.specs.Jobs.{GetJob, Fetched, advanced_with}
-use Rattle.hail_machine.specs.Actions.{actions_of}
-use Rattle.hail_machine.specs.Answers.{Lost}
-use Rattle.hail_machine.specs.Events.{Begin, Step, Lose, Begun, More, Ended, Replaced}
-use Rattle.hail_machine.specs.States.{State, setup_in, going_on, ended, with_provider}
-use Rattle.hail_machine.specs.Machine.{Happens}
-use Rattle.hail_machine.specs.Runs.{Moment, IsRun}
-use Rattle.hail_machine.specs.Examples.{set_up}
-use Rattle.hail_machine.proofs.RunParts.{begun, job_at, stepped}
+use Rattle.code_defs.specs.Polynomials.{value, agree, is_seen}
+use Rattle.column_defs.specs.Opened.{SeenBlock, LosesRow, symbol_in}
+use Rattle.column_defs.specs.Objects.{point}
+use Rattle.device_defs.specs.Faults.{one_more}
+use Rattle.device_defs.specs.Providers.{Provider}
+use Rattle.machine_defs.specs.Jobs.{GetJob, Fetched, advanced_with}
+use Rattle.machine_defs.specs.Actions.{actions_of}
+use Rattle.machine_defs.specs.Answers.{Lost}
+use Rattle.machine_defs.specs.Events.{Begin, Step, Lose, Begun, More, Ended, Replaced}
+use Rattle.machine_defs.specs.States.{State, setup_in, going_on, ended, with_provider}
+use Rattle.machine_defs.specs.Machine.{Happens}
+use Rattle.machine_defs.specs.Runs.{Moment, IsRun}
+use Rattle.machine_defs.specs.Examples.{set_up}
+use Rattle.machine_defs.proofs.RunParts.{begun, job_at, stepped}
 use Rattle.column_laws.proofs.Worked.{opens-own}
-use Rattle.step_laws.proofs.ByteSteps.{block_sized, block}
+use Rattle.second_half_laws.proofs.ByteSteps.{block_sized, block}
 use Rattle.damage_run.specs.Schedule.{name, byte}
 use Rattle.damage_run.specs.Points.{EndsBy}
 use Rattle.damage_run.proofs.Values.{thing, shown}

@@ -1,14 +1,14 @@
 -- The places in the run, computed.
 use Rattle.std.proofs.Common.{List, [], ◌∷◌, Option, Some, None, refl}
-use Rattle.hail_records.specs.Records.{PutDone}
-use Rattle.hail_records.specs.Table.{File}
-use Rattle.hail_machine.specs.Jobs.{Job}
-use Rattle.hail_machine.specs.Events.{Reopen, Opened}
-use Rattle.hail_machine.specs.States.{State, Doubt, setup_in}
-use Rattle.hail_machine.specs.Runs.{Moment, first_moments}
-use Rattle.hail_machine.proofs.RunParts.{job_at}
-use Rattle.hail_columns.specs.Columns.{is_wrong}
-use Rattle.hail_machine.specs.Examples.{set_up}
+use Rattle.record_defs.specs.Records.{PutDone}
+use Rattle.record_defs.specs.Table.{File}
+use Rattle.machine_defs.specs.Jobs.{Job}
+use Rattle.machine_defs.specs.Events.{Reopen, Opened}
+use Rattle.machine_defs.specs.States.{State, Doubt, setup_in}
+use Rattle.machine_defs.specs.Runs.{Moment, first_moments}
+use Rattle.machine_defs.proofs.RunParts.{job_at}
+use Rattle.column_defs.specs.Columns.{is_wrong}
+use Rattle.machine_defs.specs.Examples.{set_up}
 use Rattle.damage_run.specs.Schedule.{name}
 use Rattle.damage_run.specs.Points.{at, HasPoints}
 use Rattle.damage_run.proofs.Run.{moments}

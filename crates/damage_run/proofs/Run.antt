@@ -2,17 +2,17 @@
 use Rattle.std.proofs.Common.{ℕ, ◌<◌, ◌^◌, List, [], ◌∷◌, ◌++◌, refl, arith}
 use Rattle.std.specs.Prelude.{codes}
 use Rattle.std.specs.Fmt.{digits}
-use Rattle.hail_machine.specs.Jobs.{PutJob, GetJob, AuditJob, RepairJob}
-use Rattle.hail_machine.specs.Answers.{Got, Audited, Repaired}
-use Rattle.hail_machine.specs.Events.{Begin, Step, Lose, Reopen, Begun, More, Ended, Replaced}
-use Rattle.hail_machine.specs.States.{setup_in}
-use Rattle.hail_machine.specs.Machine.{Happens}
-use Rattle.hail_machine.specs.Runs.{Moment, IsRun}
-use Rattle.hail_machine.specs.Transcripts.{Once, RunJob, CarriesOut}
-use Rattle.hail_machine.specs.Examples.{set_up}
-use Rattle.hail_machine.proofs.RunParts.{stepped, not_more, fits}
-use Rattle.hail_machine.proofs.PutSteps.{state_1, state_2, happens_0, happens_2, happens_3, happens_4, happens_5, happens_6, happens_7, happens_8, happens_9, happens_10, happens_11, happens_12, happens_13, happens_14}
-use Rattle.hail_machine.proofs.PutRun.{moments as stored, transcript as stored_lines}
+use Rattle.machine_defs.specs.Jobs.{PutJob, GetJob, AuditJob, RepairJob}
+use Rattle.machine_defs.specs.Answers.{Got, Audited, Repaired}
+use Rattle.machine_defs.specs.Events.{Begin, Step, Lose, Reopen, Begun, More, Ended, Replaced}
+use Rattle.machine_defs.specs.States.{setup_in}
+use Rattle.machine_defs.specs.Machine.{Happens}
+use Rattle.machine_defs.specs.Runs.{Moment, IsRun}
+use Rattle.machine_defs.specs.Transcripts.{Once, RunJob, CarriesOut}
+use Rattle.machine_defs.specs.Examples.{set_up}
+use Rattle.machine_defs.proofs.RunParts.{stepped, not_more, fits}
+use Rattle.machine_defs.proofs.PutSteps.{state_1, state_2, happens_0, happens_2, happens_3, happens_4, happens_5, happens_6, happens_7, happens_8, happens_9, happens_10, happens_11, happens_12, happens_13, happens_14}
+use Rattle.machine_defs.proofs.PutRun.{moments as stored, transcript as stored_lines}
 use Rattle.damage_run.specs.Schedule.{name, byte, schedule, written_lines}
 use Rattle.damage_run.proofs.Steps.{counts, state_16, state_17, state_18, state_19, state_20, state_21, state_22, state_23, state_24, state_25, state_26, state_27, state_28, state_29, state_30, state_31, state_32, state_33, state_34, state_35, state_36, state_37, state_38, state_39, state_40, state_41, state_42, state_43, state_44, state_45, state_46, state_47, state_48, state_49, state_50, state_51, state_52, state_53, state_54, state_55, state_56, state_57, happens_15, happens_16, happens_17, happens_18, happens_19, happens_20, happens_21, happens_22, happens_23, happens_24, happens_25, happens_26, happens_27, happens_28, happens_29, happens_30, happens_31, happens_32, happens_33, happens_34, happens_35, happens_36, happens_37, happens_38, happens_39, happens_40, happens_41, happens_42, happens_43, happens_44, happens_45, happens_46, happens_47, happens_48, happens_49, happens_50, happens_51, happens_52, happens_53, happens_54, happens_55, happens_56}
 

@@ -1,21 +1,21 @@
 -- The states and steps of the run, from the end of its put on.
 use Rattle.std.proofs.Common.{ℕ, ◌==◌, true, false, List, [], ◌∷◌, Option, Some, None, refl, sym, inl, arith}
 use Rattle.std.specs.Prelude.{if◌then◌else◌}
-use Rattle.hail_records.specs.Records.{Record, SetUp, PutStart, PutDone, AuditStart, AuditDone, RepairDone}
-use Rattle.hail_records.specs.Areas.{A}
-use Rattle.hail_devices.specs.Faults.{one_more}
-use Rattle.hail_devices.specs.Providers.{Provider, with_block, without_block}
-use Rattle.hail_machine.specs.Jobs.{GetJob, AuditJob, RepairJob, Job, Given, Fetched, Answered, Worked}
-use Rattle.hail_machine.specs.Actions.{actions_of}
-use Rattle.hail_machine.specs.Answers.{Got, Audited, Repaired}
-use Rattle.hail_machine.specs.Events.{Begin, Step, Lose, Begun, More, Ended, Replaced}
-use Rattle.hail_machine.specs.States.{State, Append, Doubt, setup_in, with_provider}
-use Rattle.hail_machine.specs.Begins.{new_job}
-use Rattle.hail_machine.specs.Audits.{HasSums}
-use Rattle.hail_machine.specs.Machine.{Happens}
-use Rattle.hail_records.specs.Examples.{four}
-use Rattle.hail_machine.proofs.PutSteps.{state_15}
-use Rattle.step_laws.proofs.ByteSteps.{block_sized, block, symbols, byte_back, own_work}
+use Rattle.record_defs.specs.Records.{Record, SetUp, PutStart, PutDone, AuditStart, AuditDone, RepairDone}
+use Rattle.record_defs.specs.Areas.{A}
+use Rattle.device_defs.specs.Faults.{one_more}
+use Rattle.device_defs.specs.Providers.{Provider, with_block, without_block}
+use Rattle.machine_defs.specs.Jobs.{GetJob, AuditJob, RepairJob, Job, Given, Fetched, Answered, Worked}
+use Rattle.machine_defs.specs.Actions.{actions_of}
+use Rattle.machine_defs.specs.Answers.{Got, Audited, Repaired}
+use Rattle.machine_defs.specs.Events.{Begin, Step, Lose, Begun, More, Ended, Replaced}
+use Rattle.machine_defs.specs.States.{State, Append, Doubt, setup_in, with_provider}
+use Rattle.machine_defs.specs.Begins.{new_job}
+use Rattle.machine_defs.specs.Audits.{HasSums}
+use Rattle.machine_defs.specs.Machine.{Happens}
+use Rattle.record_defs.specs.Examples.{four}
+use Rattle.machine_defs.proofs.PutSteps.{state_15}
+use Rattle.second_half_laws.proofs.ByteSteps.{block_sized, block, symbols, byte_back, own_work}
 use Rattle.damage_run.specs.Schedule.{name, byte}
 use Rattle.damage_run.proofs.Values.{without_two_give, without_zero_give, right, same_first, no_answer, sums, judged}
 

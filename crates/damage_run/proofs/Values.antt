@@ -1,25 +1,25 @@
 -- What the providers hold and answer in the run: the blocks of a file of one byte over four providers, one of which is lost.
-use Rattle.hail_columns.specs.Forgeries.{count_of}
+use Rattle.column_defs.specs.Forgeries.{count_of}
 use Rattle.std.proofs.Common.{◌≡◌, ℕ, ◌/◌, ◌%◌, ◌<◌, true, false, ◌&&◌, List, [], ◌∷◌, Option, Some, None, refl, ap, sym, ◌∙◌, inl, arith, zero, suc, ◌≤◌}
 use Rattle.std.specs.Prelude.{is_some, unwrap_or, if◌then◌else◌}
 use Rattle.hail_field.specs.Nim.{nim_add, nim_mul, nim_pow}
 use Rattle.hail_field.proofs.AllNumbers.{nim_laws}
 use Rattle.poly_laws.specs.Poly.{is_seen as is_seen_over, agree as agree_over}
-use Rattle.hail_codes.specs.Polynomials.{value, agree, is_seen}
-use Rattle.hail_codes.specs.Points.{upto}
-use Rattle.hail_columns.specs.Objects.{Object, symbols_in, point}
-use Rattle.hail_columns.specs.Columns.{is_wrong_block}
-use Rattle.hail_columns.specs.Opened.{SeenBlock, bare, GivesSymbols, OpensFile, block_at}
-use Rattle.hail_columns.specs.Challenges.{Challenge, challenge_of, alpha, picked_row, sum_over, all_held, held_symbol, honest_answer, right_answer, bare_answer}
-use Rattle.hail_columns.specs.Verdicts.{Sums, counts_after, Judges}
+use Rattle.code_defs.specs.Polynomials.{value, agree, is_seen}
+use Rattle.code_defs.specs.Points.{upto}
+use Rattle.column_defs.specs.Objects.{Object, symbols_in, point}
+use Rattle.column_defs.specs.Columns.{is_wrong_block}
+use Rattle.column_defs.specs.Opened.{SeenBlock, bare, GivesSymbols, OpensFile, block_at}
+use Rattle.column_defs.specs.Challenges.{Challenge, challenge_of, alpha, picked_row, sum_over, all_held, held_symbol, honest_answer, right_answer, bare_answer}
+use Rattle.column_defs.specs.Verdicts.{Sums, counts_after, Judges}
 use Rattle.column_laws.proofs.Worked.{column-right, opens-own}
-use Rattle.hail_machine.specs.Setups.{object_of}
-use Rattle.hail_records.specs.Examples.{four}
+use Rattle.machine_defs.specs.Setups.{object_of}
+use Rattle.record_defs.specs.Examples.{four}
 use Rattle.column_laws.proofs.RightRows.{given-right}
 use Rattle.damage_run.specs.Schedule.{byte}
 use Rattle.damage_run.specs.Points.{without_two}
-use Rattle.calm_laws.specs.FewWrong.{is_wrong_seen}
-use Rattle.step_laws.proofs.ByteSteps.{block, symbols, byte_back}
+use Rattle.second_half_laws.specs.FewWrong.{is_wrong_seen}
+use Rattle.second_half_laws.proofs.ByteSteps.{block, symbols, byte_back}
 use Rattle.aggregate.proofs.RightRow.{right_row, IsRightRow-right_row}
 
 -- the object of the file

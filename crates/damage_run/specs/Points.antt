@@ -11,20 +11,20 @@
 --   HasPoints ms                == what runs, ends, is in doubt, takes effect and is wrong in the run, and
 --                                  when
 use Rattle.std.specs.Prelude.{◌≡◌, ℕ, suc, true, List, [], ◌∷◌, Some, None}
-use Rattle.hail_columns.specs.Columns.{columns}
-use Rattle.hail_columns.specs.Opened.{SeenBlock}
-use Rattle.hail_records.specs.Records.{Record, PutDone, AuditDone, RepairDone}
-use Rattle.hail_records.specs.Table.{File, due_of}
-use Rattle.hail_machine.specs.Setups.{object_of}
-use Rattle.hail_machine.specs.Jobs.{Kind, PutJob, GetJob, AuditJob, RepairJob, Job, job_of}
-use Rattle.hail_machine.specs.Answers.{Answer, Put, Got}
-use Rattle.hail_machine.specs.Events.{Step, Ended}
-use Rattle.hail_machine.specs.States.{State, Doubt, file_in}
-use Rattle.hail_machine.specs.Runs.{Moment, now, first_moments, came}
-use Rattle.hail_machine.specs.Calm.{since}
-use Rattle.hail_machine.specs.Missed.{is_wrong_now}
-use Rattle.hail_machine.specs.Examples.{set_up}
-use Rattle.hail_records.specs.Examples.{four}
+use Rattle.column_defs.specs.Columns.{columns}
+use Rattle.column_defs.specs.Opened.{SeenBlock}
+use Rattle.record_defs.specs.Records.{Record, PutDone, AuditDone, RepairDone}
+use Rattle.record_defs.specs.Table.{File, due_of}
+use Rattle.machine_defs.specs.Setups.{object_of}
+use Rattle.machine_defs.specs.Jobs.{Kind, PutJob, GetJob, AuditJob, RepairJob, Job, job_of}
+use Rattle.machine_defs.specs.Answers.{Answer, Put, Got}
+use Rattle.machine_defs.specs.Events.{Step, Ended}
+use Rattle.machine_defs.specs.States.{State, Doubt, file_in}
+use Rattle.machine_defs.specs.Runs.{Moment, now, first_moments, came}
+use Rattle.machine_defs.specs.Calm.{since}
+use Rattle.machine_defs.specs.Missed.{is_wrong_now}
+use Rattle.machine_defs.specs.Examples.{set_up}
+use Rattle.record_defs.specs.Examples.{four}
 use Rattle.damage_run.specs.Schedule.{name, byte}
 
 -- the state after the first events

@@ -7,17 +7,17 @@
 --                      two jobs run at once; the run is calm, and no audit missed damage
 use Rattle.std.specs.Prelude.{◌≡◌, ℕ, List, [], ◌∷◌, length, codes}
 use Rattle.std.specs.List.{flat_map}
-use Rattle.hail_machine.specs.Jobs.{PutJob, GetJob, AuditJob, RepairJob}
-use Rattle.hail_machine.specs.Events.{Begin, Step, Lose, Reopen}
-use Rattle.hail_machine.specs.States.{IsStart}
-use Rattle.hail_machine.specs.Runs.{Moment, IsRun, now, first_moments}
-use Rattle.hail_machine.specs.Calm.{IsCalm, since, relies}
-use Rattle.hail_machine.specs.Scrubs.{AreScrubsCalm}
-use Rattle.hail_machine.specs.Missed.{NoneMissed}
-use Rattle.hail_machine.specs.Halves.{AllTell}
-use Rattle.hail_machine.specs.Lines.{line}
-use Rattle.hail_machine.specs.Transcripts.{Instruction, Once, RunJob, CarriesOut}
-use Rattle.hail_machine.specs.Examples.{set_up}
+use Rattle.machine_defs.specs.Jobs.{PutJob, GetJob, AuditJob, RepairJob}
+use Rattle.machine_defs.specs.Events.{Begin, Step, Lose, Reopen}
+use Rattle.machine_defs.specs.States.{IsStart}
+use Rattle.machine_defs.specs.Runs.{Moment, IsRun, now, first_moments}
+use Rattle.machine_defs.specs.Calm.{IsCalm, since, relies}
+use Rattle.machine_defs.specs.Scrubs.{AreScrubsCalm}
+use Rattle.machine_defs.specs.Missed.{NoneMissed}
+use Rattle.machine_defs.specs.Halves.{AllTell}
+use Rattle.machine_defs.specs.Lines.{line}
+use Rattle.machine_defs.specs.Transcripts.{Instruction, Once, RunJob, CarriesOut}
+use Rattle.machine_defs.specs.Examples.{set_up}
 
 -- the file: its name is "a"
 abbrev pub name : List ℕ

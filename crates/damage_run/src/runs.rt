@@ -1,23 +1,23 @@
 //! A run, given outright.
 ghost use Rattle.std.specs.Prelude.{◌≡◌, ℕ, ◌≤◌, List};
 ghost use Rattle.hail_field.specs.Shape.{IsShape};
-ghost use Rattle.hail_codes.specs.Points.{upto};
-ghost use Rattle.hail_codes.specs.Profiles.{profile_of};
-ghost use Rattle.hail_columns.specs.Opened.{OpensFile, block_at};
-ghost use Rattle.hail_columns.specs.Forgeries.{count_of, IsRow};
-ghost use Rattle.hail_machine.specs.Events.{AreBytes};
-ghost use Rattle.hail_machine.specs.Setups.{object_of};
-ghost use Rattle.hail_machine.specs.Runs.{Moment, IsRun, now};
-ghost use Rattle.hail_machine.specs.Answers.{Lost};
-ghost use Rattle.hail_machine.specs.Halves.{FirstHalf, SecondHalf};
-ghost use Rattle.hail_machine.specs.Examples.{set_up};
-ghost use Rattle.hail_records.specs.Examples.{four};
+ghost use Rattle.code_defs.specs.Points.{upto};
+ghost use Rattle.code_defs.specs.Profiles.{profile_of};
+ghost use Rattle.column_defs.specs.Opened.{OpensFile, block_at};
+ghost use Rattle.column_defs.specs.Forgeries.{count_of, IsRow};
+ghost use Rattle.machine_defs.specs.Events.{AreBytes};
+ghost use Rattle.machine_defs.specs.Setups.{object_of};
+ghost use Rattle.machine_defs.specs.Runs.{Moment, IsRun, now};
+ghost use Rattle.machine_defs.specs.Answers.{Lost};
+ghost use Rattle.machine_defs.specs.Halves.{FirstHalf, SecondHalf};
+ghost use Rattle.machine_defs.specs.Examples.{set_up};
+ghost use Rattle.record_defs.specs.Examples.{four};
 ghost use Rattle.headline.specs.Headline.{Headline};
 ghost use Rattle.damage_run.specs.Schedule.{byte, IsOutright};
 ghost use Rattle.damage_run.specs.Points.{without_two, EndsBy, InDoubt, IsDamaged, HasPoints};
-ghost use Rattle.mark_laws.specs.MarkedRuns.{IsCalmRun};
-ghost use Rattle.hail_records.specs.Records.{RepairDone};
-ghost use Rattle.calm_laws.specs.FewWrong.{is_wrong_seen};
+ghost use Rattle.second_half_laws.specs.MarkedRuns.{IsCalmRun};
+ghost use Rattle.record_defs.specs.Records.{RepairDone};
+ghost use Rattle.second_half_laws.specs.FewWrong.{is_wrong_seen};
 
 /// A run of 57 events at limit 8, and both halves of it: a put; a get and an audit that run at once; a lost block that the audit finds and
 /// a repair restores; another lost block, and a get over it. Two providers were damaged in all, where one may be wrong.

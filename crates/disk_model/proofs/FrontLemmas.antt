@@ -2,7 +2,7 @@
 use Rattle.std.proofs.Common.{◌≡◌, ℕ, min, List, length, take, drop, Option, Some, None, ap, ◌∙◌, subst, arith}
 use Rattle.std.specs.Prelude.{IfSome}
 use Rattle.std.proofs.lemmas.List.{take_min, length-map}
-use Rattle.hail_devices.specs.Cells.{Cells, reads}
+use Rattle.device_defs.specs.Cells.{Cells, reads}
 
 pub front_read : (held mid : Option Cells) (len n k limit : ℕ) (out items : List ℕ) → mid ≡ held → IfSome held (λ cells. len ≡ length cells) → n ≡ min len limit
     → IfSome mid (λ cells. take k out ≡ take n (drop 0 (reads cells))) → items ≡ take k out → IfSome held (λ cells. items ≡ take limit (reads cells))

@@ -2,9 +2,9 @@
 use Rattle.std.proofs.Common.{◌≡◌, ◌⊎◌, inl, inr, ⊎_elim, ℕ, ◌+◌, ◌<◌, ◌≤◌, Bool, true, false, List, [], ◌∷◌, ◌++◌, length, get_or, set, take, drop, replicate, refl, ap, ◌∙◌, sym, arith, append_assoc}
 use Rattle.std.proofs.lemmas.List.{drop_more, take_more, drop_all, take_more_set, drop-set-lt}
 use Rattle.std.specs.List.{zip}
-use Rattle.hail_devices.specs.Cells.{Cells, firm}
-use Rattle.hail_devices.specs.Picks.{picked}
-use Rattle.hail_devices.proofs.PickLaws.{length-picked}
+use Rattle.device_defs.specs.Cells.{Cells, firm}
+use Rattle.device_defs.specs.Picks.{picked}
+use Rattle.device_defs.proofs.PickLaws.{length-picked}
 use Rattle.std.proofs.lemmas.Slice.Zip.{length-zip}
 use Rattle.disk_model.proofs.Zips.{zip_marked}
 

@@ -4,9 +4,9 @@ use Rattle.std.specs.Prelude.{OnOk, OnErr}
 use Rattle.std.specs.List.{zip}
 use Rattle.std.proofs.lemmas.List.{length-replicate}
 use Rattle.std.proofs.lemmas.Slice.Zip.{length-zip, firsts-zip}
-use Rattle.hail_devices.specs.Cells.{Cells, loose, reads}
-use Rattle.hail_devices.specs.Disks.{spliced, written, halved, marked}
-use Rattle.hail_devices.proofs.Splices.{spliced_itself}
+use Rattle.device_defs.specs.Cells.{Cells, loose, reads}
+use Rattle.device_defs.specs.Disks.{spliced, written, halved, marked}
+use Rattle.device_defs.proofs.Splices.{spliced_itself}
 use Rattle.disk_model.proofs.Zips.{zip_marked, zip_spliced, zip-take, zip-drop}
 
 module _ (at n : ℕ) (held : List ℕ) (marks : List Bool) (same : length marks ≡ length held) where

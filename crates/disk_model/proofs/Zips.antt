@@ -3,8 +3,8 @@ use Rattle.std.proofs.Common.{◌≡◌, ℕ, zero, suc, ◌+◌, ◌-◌, ◌�
 use Rattle.std.proofs.lemmas.Slice.Zip.{length-zip, firsts-zip}
 use Rattle.std.proofs.lemmas.List.{length-replicate, replicate-append-replicate}
 use Rattle.std.specs.List.{zip}
-use Rattle.hail_devices.specs.Cells.{firm, loose, reads}
-use Rattle.hail_devices.specs.Disks.{spliced, written}
+use Rattle.device_defs.specs.Cells.{firm, loose, reads}
+use Rattle.device_defs.specs.Disks.{spliced, written}
 
 -- marked all the same
 pub zip_marked : (v : Bool) (n : ℕ) (bytes : List ℕ) → n ≡ length bytes → zip bytes (replicate n v) ≡ map (λ b. (b, v)) bytes

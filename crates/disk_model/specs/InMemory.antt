@@ -1,7 +1,7 @@
 -- The disks in memory, as contracts see them.
 use Rattle.std.specs.Prelude.{ℕ}
-use Rattle.hail_devices.specs.Calls.{CallCount}
-use Rattle.hail_devices.specs.Cells.{Cells}
+use Rattle.device_defs.specs.Calls.{CallCount}
+use Rattle.device_defs.specs.Cells.{Cells}
 
 -- the bytes of one that fails at listed calls, each with whether it is loose, and its calls but for stops
 pub record DiskInMemory : Type 0 where

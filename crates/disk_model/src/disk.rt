@@ -1,10 +1,10 @@
 ghost use Rattle.std.specs.Prelude.{◌≡◌, ◌+◌, ◌^◌, ◌≤◌, ℕ, Option, length, take, drop, IfOk, OnOk, IsErr, IfSome, IsErrOf};
 ghost use Rattle.std.specs.Option.{option_map};
 ghost use Rattle.stream_model.specs.declared.fault.WriteFault.TheVariants as write_fault;
-ghost use Rattle.hail_devices.specs.Faults.{HasCause, one_more};
-ghost use Rattle.hail_devices.specs.Told.{Goes};
-ghost use Rattle.hail_devices.specs.Cells.{Cells, reads};
-ghost use Rattle.hail_devices.specs.Disks.{written, Torn, synced, Stopped};
+ghost use Rattle.device_defs.specs.Faults.{HasCause, one_more};
+ghost use Rattle.device_defs.specs.Told.{Goes};
+ghost use Rattle.device_defs.specs.Cells.{Cells, reads};
+ghost use Rattle.device_defs.specs.Disks.{written, Torn, synced, Stopped};
 
 use stream_model::{Failed, WriteFault};
 

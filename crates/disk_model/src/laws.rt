@@ -1,3 +1,3 @@
 //! What holds of every disk that tells its cells.
 
-pub use hail_devices::laws::{images, offsets, picks, what_is_read};
+pub use device_defs::laws::{images, offsets, picks, what_is_read};

@@ -1,10 +1,10 @@
 ghost use Rattle.std.specs.Prelude.{◌≡◌, ◌⊎◌, ◌↔◌, ◌+◌, ◌^◌, ◌≤◌, Some, length, take, drop, IfOk, OnOk, OnErr, IsErr, IsErrOf, IsTrue};
 ghost use Rattle.stream_model.specs.declared.fault.WriteFault.TheVariants as write_fault;
-ghost use Rattle.hail_devices.specs.Faults.{HasCause};
-ghost use Rattle.hail_devices.specs.Calls.{fails_next, no_calls, called};
-ghost use Rattle.hail_devices.specs.Cells.{reads, firm};
-ghost use Rattle.hail_devices.specs.Disks.{written, halved, marked, Torn, synced, Stopped};
-ghost use Rattle.hail_devices.specs.Picks.{picked};
+ghost use Rattle.device_defs.specs.Faults.{HasCause};
+ghost use Rattle.device_defs.specs.Calls.{fails_next, no_calls, called};
+ghost use Rattle.device_defs.specs.Cells.{reads, firm};
+ghost use Rattle.device_defs.specs.Disks.{written, halved, marked, Torn, synced, Stopped};
+ghost use Rattle.device_defs.specs.Picks.{picked};
 
 use crate::disk::Disk;
 use crate::sure::SureDisk;

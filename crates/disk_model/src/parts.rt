@@ -1,8 +1,8 @@
 // Bytes of a disk in memory, and beside them marks that tell which are loose.
 ghost use Rattle.std.specs.Prelude.{◌≡◌, ◌⊎◌, ◌+◌, ◌-◌, ◌^◌, ◌≤◌, length, replicate, true, false, ◌++◌, OnOk, OnErr};
 ghost use Rattle.std.specs.List.{zip};
-ghost use Rattle.hail_devices.specs.Disks.{spliced, written, halved, marked};
-ghost use Rattle.hail_devices.specs.Picks.{picked};
+ghost use Rattle.device_defs.specs.Disks.{spliced, written, halved, marked};
+ghost use Rattle.device_defs.specs.Picks.{picked};
 
 use std::alloc::AllocError;
 

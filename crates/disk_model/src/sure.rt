@@ -1,9 +1,9 @@
 ghost use Rattle.std.specs.Prelude.{◌≡◌, ◌+◌, ◌^◌, ◌≤◌, Some, min, length, take, drop, IfOk, IfErr, OnOk, OnErr, IsOk};
 ghost use Rattle.stream_model.specs.declared.fault.WriteFault.TheVariants as write_fault;
-ghost use Rattle.hail_devices.specs.Cells.{reads, firm};
-ghost use Rattle.hail_devices.specs.Disks.{written, halved, marked, synced, Stopped};
-ghost use Rattle.hail_devices.specs.Faults.{one_more};
-ghost use Rattle.hail_devices.specs.Picks.{picked};
+ghost use Rattle.device_defs.specs.Cells.{reads, firm};
+ghost use Rattle.device_defs.specs.Disks.{written, halved, marked, synced, Stopped};
+ghost use Rattle.device_defs.specs.Faults.{one_more};
+ghost use Rattle.device_defs.specs.Picks.{picked};
 
 use crate::disk::Disk;
 use crate::parts::{pick, put, tear};
@@ -33,8 +33,8 @@ impl Model for SureDisk {
 
 impl SureDisk {
     ghost use Rattle.std.specs.Prelude.{◌≡◌, ◌⊎◌, ◌+◌, ◌^◌, ◌≤◌, length, IfOk};
-    ghost use Rattle.hail_devices.specs.Cells.{reads, firm};
-    ghost use Rattle.hail_devices.specs.Disks.{halved, marked};
+    ghost use Rattle.device_defs.specs.Cells.{reads, firm};
+    ghost use Rattle.device_defs.specs.Disks.{halved, marked};
 
     /// A disk that reads these bytes, none of them loose.
     pub fn new(alloc: Global, bytes: &[u8]) -> Result<SureDisk, Memory>

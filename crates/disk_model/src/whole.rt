@@ -1,7 +1,7 @@
 ghost use Rattle.std.specs.Prelude.{◌≡◌, ◌^◌, take, IfOk, IfSome, IsErrOf};
 ghost use Rattle.stream_model.specs.declared.fault.WriteFault.TheVariants as write_fault;
-ghost use Rattle.hail_devices.specs.Faults.{HasCause};
-ghost use Rattle.hail_devices.specs.Cells.{reads};
+ghost use Rattle.device_defs.specs.Faults.{HasCause};
+ghost use Rattle.device_defs.specs.Cells.{reads};
 
 use crate::disk::Disk;
 use std::alloc::Global;

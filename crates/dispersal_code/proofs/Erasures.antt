@@ -1,6 +1,6 @@
 -- A row with absent symbols: it is its present symbols that are decoded.
 use Rattle.std.proofs.Common.{◌≡◌, ◌≢◌, ◌≤◌, ◌<◌, ◌+◌, ◌*◌, ℕ, List, [], ◌∷◌, length, Option, Some, None, refl, ap, arith}
-use Rattle.plain_facts.specs.Lists.{Each}
+use Rattle.plain_laws.specs.Lists.{Each}
 use Rattle.field_laws.specs.Field.{Apart}
 use Rattle.hail_field.specs.Nim.{nim}
 use Rattle.hail_field.specs.Shape.{IsShape}
@@ -10,8 +10,8 @@ use Rattle.poly_laws.proofs.Agree.{agree_le}
 use Rattle.poly_laws.proofs.Steps.{is_seen-none}
 use Rattle.poly_laws.proofs.Trim.{length-trim}
 use Rattle.poly_laws.proofs.Interpolate.{length-interpolate}
-use Rattle.hail_codes.specs.Polynomials.{value, agree, trim, interpolate}
-use Rattle.hail_codes.specs.DispersalCode.{Accepts, AcceptsNone, IsOnlyAccepted}
+use Rattle.code_defs.specs.Polynomials.{value, agree, trim, interpolate}
+use Rattle.code_defs.specs.DispersalCode.{Accepts, AcceptsNone, IsOnlyAccepted}
 use Rattle.hail_poly.specs.Decoding.{matches, IsDecoded, NoneDecodes}
 use Rattle.dispersal_code.specs.Present.{present_points, present_symbols, room_for}
 

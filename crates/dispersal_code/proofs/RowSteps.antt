@@ -4,9 +4,9 @@ use Rattle.std.proofs.lemmas.List.{take_more, take_all, get_or_read, map-append}
 use Rattle.hail_field.specs.Nim.{nim}
 use Rattle.hail_field.proofs.AllNumbers.{nim_laws}
 use Rattle.poly_laws.proofs.Trim.{value-trim}
-use Rattle.hail_codes.specs.Polynomials.{value, interpolate, trim}
-use Rattle.hail_codes.specs.Points.{values_at}
-use Rattle.hail_codes.specs.DispersalCode.{row_of}
+use Rattle.code_defs.specs.Polynomials.{value, interpolate, trim}
+use Rattle.code_defs.specs.Points.{values_at}
+use Rattle.code_defs.specs.DispersalCode.{row_of}
 
 -- one value more
 pub values_more : (p points : List ℕ) (k x : ℕ) → k < length points → x ≡ get_or points k x →

@@ -1,6 +1,6 @@
 -- At most one polynomial is accepted.
 use Rattle.std.proofs.Common.{◌≡◌, ◌≤◌, ℕ, List, [], ◌∷◌, length, Option, Some, None, arith}
-use Rattle.plain_facts.specs.Lists.{Each}
+use Rattle.plain_laws.specs.Lists.{Each}
 use Rattle.field_laws.specs.Field.{Apart}
 use Rattle.hail_field.specs.Nim.{nim}
 use Rattle.hail_field.specs.Shape.{IsShape}
@@ -9,8 +9,8 @@ use Rattle.poly_laws.specs.Poly.{present}
 use Rattle.poly_laws.proofs.Agree.{unique}
 use Rattle.poly_laws.proofs.Roots.{same_values}
 use Rattle.poly_laws.proofs.Trim.{trim_same}
-use Rattle.hail_codes.specs.Polynomials.{value, plus, trim}
-use Rattle.hail_codes.specs.DispersalCode.{Accepts}
+use Rattle.code_defs.specs.Polynomials.{value, plus, trim}
+use Rattle.code_defs.specs.DispersalCode.{Accepts}
 
 -- no more symbols are present than there are places
 present_at_most : (ss : List (Option ℕ)) → present ss ≤ length ss

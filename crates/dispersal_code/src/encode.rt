@@ -1,6 +1,6 @@
 ghost use Rattle.std.specs.Prelude.{◌≡◌, ◌≤◌, length};
 ghost use Rattle.field_laws.specs.Field.{Apart};
-ghost use Rattle.hail_codes.specs.DispersalCode.{row_of};
+ghost use Rattle.code_defs.specs.DispersalCode.{row_of};
 
 use hail_field::Symbol;
 use hail_poly::Work;

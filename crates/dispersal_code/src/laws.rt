@@ -4,8 +4,8 @@ ghost use Rattle.field_laws.specs.Field.{Apart};
 ghost use Rattle.hail_field.specs.Shape.{IsShape};
 ghost use Rattle.hail_field.specs.Nim.{nim};
 ghost use Rattle.poly_laws.specs.Poly.{Decodes};
-ghost use Rattle.hail_codes.specs.Polynomials.{trim, value};
-ghost use Rattle.hail_codes.specs.DispersalCode.{Accepts, AcceptsNone};
+ghost use Rattle.code_defs.specs.Polynomials.{trim, value};
+ghost use Rattle.code_defs.specs.DispersalCode.{Accepts, AcceptsNone};
 ghost use Rattle.dispersal_code.specs.Present.{present_points, present_symbols, room_for};
 
 /// At most one polynomial is accepted: two have one value everywhere, and the same coefficients but for zeros at the end.

@@ -1,6 +1,6 @@
 ghost use Rattle.std.specs.Prelude.{◌≡◌, ◌≤◌, length, OnSome, IfNone};
 ghost use Rattle.field_laws.specs.Field.{Apart};
-ghost use Rattle.hail_codes.specs.DispersalCode.{Accepts, AcceptsNone, IsOnlyAccepted};
+ghost use Rattle.code_defs.specs.DispersalCode.{Accepts, AcceptsNone, IsOnlyAccepted};
 
 use crate::present::present_of;
 use hail_field::{Shape, Symbol};

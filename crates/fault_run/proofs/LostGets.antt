@@ -1,17 +1,17 @@
 -- A get that is lost in a calm run is so by faults.
 use Rattle.std.proofs.Common.{◌≡◌, ℕ, List, ◌∷◌, Some, ap, sym, subst, ◌∙◌, inl, inr}
-use Rattle.hail_machine.specs.Answers.{Answer, Lost}
-use Rattle.hail_machine.specs.Events.{Step, Ended}
-use Rattle.hail_machine.specs.Jobs.{GetJob, Job, job_of}
-use Rattle.hail_machine.specs.States.{State, IsStart}
-use Rattle.hail_machine.specs.Runs.{Moment, IsRun, now, first_moments}
-use Rattle.hail_machine.specs.Calm.{Mark, IsCalm, relies}
-use Rattle.hail_machine.specs.Scrubs.{AreScrubsCalm}
-use Rattle.hail_machine.specs.Halves.{AllTell}
-use Rattle.hail_machine.specs.Examples.{set_up}
+use Rattle.machine_defs.specs.Answers.{Answer, Lost}
+use Rattle.machine_defs.specs.Events.{Step, Ended}
+use Rattle.machine_defs.specs.Jobs.{GetJob, Job, job_of}
+use Rattle.machine_defs.specs.States.{State, IsStart}
+use Rattle.machine_defs.specs.Runs.{Moment, IsRun, now, first_moments}
+use Rattle.machine_defs.specs.Calm.{Mark, IsCalm, relies}
+use Rattle.machine_defs.specs.Scrubs.{AreScrubsCalm}
+use Rattle.machine_defs.specs.Halves.{AllTell}
+use Rattle.machine_defs.specs.Examples.{set_up}
 use Rattle.run_laws.proofs.FirstHalf.{first_run}
-use Rattle.mark_laws.specs.MarkedRuns.{IsMarkedRun}
-use Rattle.mark_laws.specs.Sharp.{IsLostByFaults, GivesOrIsLost}
+use Rattle.second_half_laws.specs.MarkedRuns.{IsMarkedRun}
+use Rattle.second_half_laws.specs.Sharp.{IsLostByFaults, GivesOrIsLost}
 use Rattle.damage_run.specs.Schedule.{name}
 use Rattle.damage_run.specs.Points.{at}
 use Rattle.fault_run.specs.Faults.{IsFaulty}

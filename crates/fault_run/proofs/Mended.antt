@@ -2,11 +2,11 @@
 use Rattle.std.proofs.Common.{◌≡◌, ℕ, Bool, true, false, ◌&&◌, List, [], ◌∷◌, Option, Some, None, refl, ap, sym, subst, ◌∙◌}
 use Rattle.std.specs.Prelude.{nat_le}
 use Rattle.std.proofs.lemmas.Bool.{and_parts, leb-true}
-use Rattle.hail_machine.specs.States.{State, Scrub, Alone, Scrubbing, Packing, setup_in}
-use Rattle.hail_machine.specs.Runs.{Moment, first_moments}
-use Rattle.hail_machine.specs.Calm.{Mark, replaced_count}
-use Rattle.hail_machine.specs.Scrubs.{scrubbed, AreScrubsCalm, IsScrubCalm}
-use Rattle.hail_machine.specs.Examples.{set_up}
+use Rattle.machine_defs.specs.States.{State, Scrub, Alone, Scrubbing, Packing, setup_in}
+use Rattle.machine_defs.specs.Runs.{Moment, first_moments}
+use Rattle.machine_defs.specs.Calm.{Mark, replaced_count}
+use Rattle.machine_defs.specs.Scrubs.{scrubbed, AreScrubsCalm, IsScrubCalm}
+use Rattle.machine_defs.specs.Examples.{set_up}
 use Rattle.damage_run.proofs.CalmRun.{calm_by_test}
 use Rattle.upgrade_run.proofs.Run.{moments}
 

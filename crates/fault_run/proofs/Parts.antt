@@ -1,12 +1,12 @@
 -- Parts of a run, by what is known of its events.
 use Rattle.std.proofs.Common.{◌≡◌, ℕ, suc, Bool, true, false, List, [], ◌∷◌, ◌++◌, refl, ap, sym, subst, inr}
 use Rattle.std.specs.Prelude.{length, nat_le, if◌then◌else◌}
-use Rattle.hail_machine.specs.States.{State}
-use Rattle.hail_machine.specs.Runs.{Moment, IsRun, now, first_moments}
-use Rattle.hail_machine.specs.Calm.{Mark, IsCalm, relies}
-use Rattle.hail_machine.specs.Scrubs.{AreScrubsCalm}
-use Rattle.hail_machine.specs.Failures.{Count, count_in, HasFailures, RoseBy}
-use Rattle.hail_machine.specs.Examples.{set_up}
+use Rattle.machine_defs.specs.States.{State}
+use Rattle.machine_defs.specs.Runs.{Moment, IsRun, now, first_moments}
+use Rattle.machine_defs.specs.Calm.{Mark, IsCalm, relies}
+use Rattle.machine_defs.specs.Scrubs.{AreScrubsCalm}
+use Rattle.machine_defs.specs.Failures.{Count, count_in, HasFailures, RoseBy}
+use Rattle.machine_defs.specs.Examples.{set_up}
 use Rattle.run_laws.proofs.FirstHalf.{first_run}
 use Rattle.damage_run.specs.Points.{at}
 use Rattle.fault_run.specs.Met.{Happened, Fails}

@@ -3,26 +3,26 @@ use Rattle.std.proofs.Common.{◌≡◌, ℕ, suc, Bool, true, false, ◌&&◌, 
 use Rattle.std.specs.Prelude.{not, take}
 use Rattle.std.specs.Option.{option_map}
 use Rattle.std.proofs.lemmas.Bool.{and_parts, false≢true, not-true}
-use Rattle.hail_codes.specs.Polynomials.{value, is_seen}
-use Rattle.hail_codes.proofs.Values.{is_seen-none}
-use Rattle.hail_columns.specs.Objects.{point}
-use Rattle.hail_columns.specs.Challenges.{bare_answer}
-use Rattle.hail_devices.specs.Providers.{Held}
-use Rattle.hail_records.specs.Records.{Record}
-use Rattle.hail_machine.specs.Jobs.{Given, Fetched, Answered, Job}
-use Rattle.hail_machine.specs.Actions.{Fetch, Ask, Remove, actions_of}
-use Rattle.hail_machine.specs.Answers.{Got}
-use Rattle.hail_machine.specs.Events.{Event, BeginScrub, Continue}
-use Rattle.hail_machine.specs.Scrubs.{scrubbed}
-use Rattle.hail_machine.specs.Examples.{set_up}
-use Rattle.mark_laws.specs.MarkedRuns.{BeginsNoScrub}
-use Rattle.hail_machine.specs.States.{Doubt, setup_in}
-use Rattle.hail_machine.specs.Runs.{Moment, first_moments}
-use Rattle.hail_machine.specs.Failures.{OfOthers}
-use Rattle.hail_machine.specs.Heard.{NoneContinues}
-use Rattle.hail_machine.specs.Survival.{takes_out, NeverTakenOut}
-use Rattle.hail_machine.proofs.RunParts.{job_at, append_at}
-use Rattle.step_laws.proofs.ByteSteps.{block_sized, block}
+use Rattle.code_defs.specs.Polynomials.{value, is_seen}
+use Rattle.code_defs.proofs.Values.{is_seen-none}
+use Rattle.column_defs.specs.Objects.{point}
+use Rattle.column_defs.specs.Challenges.{bare_answer}
+use Rattle.device_defs.specs.Providers.{Held}
+use Rattle.record_defs.specs.Records.{Record}
+use Rattle.machine_defs.specs.Jobs.{Given, Fetched, Answered, Job}
+use Rattle.machine_defs.specs.Actions.{Fetch, Ask, Remove, actions_of}
+use Rattle.machine_defs.specs.Answers.{Got}
+use Rattle.machine_defs.specs.Events.{Event, BeginScrub, Continue}
+use Rattle.machine_defs.specs.Scrubs.{scrubbed}
+use Rattle.machine_defs.specs.Examples.{set_up}
+use Rattle.second_half_laws.specs.MarkedRuns.{BeginsNoScrub}
+use Rattle.machine_defs.specs.States.{Doubt, setup_in}
+use Rattle.machine_defs.specs.Runs.{Moment, first_moments}
+use Rattle.machine_defs.specs.Failures.{OfOthers}
+use Rattle.machine_defs.specs.Heard.{NoneContinues}
+use Rattle.machine_defs.specs.Survival.{takes_out, NeverTakenOut}
+use Rattle.machine_defs.proofs.RunParts.{job_at, append_at}
+use Rattle.second_half_laws.proofs.ByteSteps.{block_sized, block}
 use Rattle.damage_run.specs.Schedule.{name, byte}
 use Rattle.damage_run.specs.Points.{at}
 use Rattle.damage_run.proofs.Values.{thing, right, same_first, asked, decider, agrees_at}

@@ -1,12 +1,12 @@
 -- The run: its moments.
 use Rattle.std.proofs.Common.{◌<◌, ◌^◌, List, [], ◌∷◌, refl, arith}
-use Rattle.hail_machine.specs.Jobs.{PutJob, GetJob, DropJob, AuditJob}
-use Rattle.hail_machine.specs.Answers.{Got, Dropped, Audited, Lost, ProviderFault, DiskFault}
-use Rattle.hail_machine.specs.Refusals as refusal
-use Rattle.hail_machine.specs.Events.{Begin, Step, Stop, Reopen, Continue, Refused, Opened, Begun, More, Ended, Stopped, Closed, Continued}
-use Rattle.hail_machine.specs.States.{setup_in}
-use Rattle.hail_machine.specs.Runs.{Moment, IsRun, first_moments}
-use Rattle.hail_machine.specs.Examples.{set_up}
+use Rattle.machine_defs.specs.Jobs.{PutJob, GetJob, DropJob, AuditJob}
+use Rattle.machine_defs.specs.Answers.{Got, Dropped, Audited, Lost, ProviderFault, DiskFault}
+use Rattle.machine_defs.specs.Refusals as refusal
+use Rattle.machine_defs.specs.Events.{Begin, Step, Stop, Reopen, Continue, Refused, Opened, Begun, More, Ended, Stopped, Closed, Continued}
+use Rattle.machine_defs.specs.States.{setup_in}
+use Rattle.machine_defs.specs.Runs.{Moment, IsRun, first_moments}
+use Rattle.machine_defs.specs.Examples.{set_up}
 use Rattle.run_laws.proofs.FirstHalf.{first_run}
 use Rattle.damage_run.specs.Schedule.{name, byte}
 use Rattle.damage_run.specs.Points.{counts}

@@ -2,22 +2,22 @@
 use Rattle.std.proofs.Common.{ℕ, ◌==◌, true, false, List, [], ◌∷◌, Option, Some, None, refl, inl, inr, arith}
 use Rattle.std.specs.Prelude.{if◌then◌else◌}
 use Rattle.std.specs.Option.{option_map}
-use Rattle.hail_records.specs.Records.{Record, SetUp, PutStart, PutDone, Drop, AuditStart, AuditDone}
-use Rattle.hail_records.specs.Areas.{A}
-use Rattle.hail_devices.specs.Faults.{one_more}
-use Rattle.hail_devices.specs.Providers.{Provider, without_object}
-use Rattle.hail_machine.specs.Jobs.{PutJob, GetJob, DropJob, AuditJob, Job, Fetched, Answered, Worked}
-use Rattle.hail_machine.specs.Actions.{actions_of}
-use Rattle.hail_machine.specs.Answers.{Got, Dropped, Audited, Lost, ProviderFault, DiskFault}
-use Rattle.hail_machine.specs.Refusals as refusal
-use Rattle.hail_machine.specs.Events.{Begin, Step, Stop, Reopen, Continue, Refused, Opened, Begun, More, Ended, Stopped, Closed, Continued}
-use Rattle.hail_machine.specs.States.{State, Append, Doubt, setup_in, given_up, with_provider}
-use Rattle.hail_machine.specs.Begins.{new_job}
-use Rattle.hail_machine.specs.Audits.{HasSums}
-use Rattle.hail_machine.specs.Machine.{Happens}
-use Rattle.hail_records.specs.Examples.{four}
-use Rattle.hail_machine.proofs.PutSteps.{state_15}
-use Rattle.step_laws.proofs.ByteSteps.{block_sized, block, symbols, byte_back, own_work}
+use Rattle.record_defs.specs.Records.{Record, SetUp, PutStart, PutDone, Drop, AuditStart, AuditDone}
+use Rattle.record_defs.specs.Areas.{A}
+use Rattle.device_defs.specs.Faults.{one_more}
+use Rattle.device_defs.specs.Providers.{Provider, without_object}
+use Rattle.machine_defs.specs.Jobs.{PutJob, GetJob, DropJob, AuditJob, Job, Fetched, Answered, Worked}
+use Rattle.machine_defs.specs.Actions.{actions_of}
+use Rattle.machine_defs.specs.Answers.{Got, Dropped, Audited, Lost, ProviderFault, DiskFault}
+use Rattle.machine_defs.specs.Refusals as refusal
+use Rattle.machine_defs.specs.Events.{Begin, Step, Stop, Reopen, Continue, Refused, Opened, Begun, More, Ended, Stopped, Closed, Continued}
+use Rattle.machine_defs.specs.States.{State, Append, Doubt, setup_in, given_up, with_provider}
+use Rattle.machine_defs.specs.Begins.{new_job}
+use Rattle.machine_defs.specs.Audits.{HasSums}
+use Rattle.machine_defs.specs.Machine.{Happens}
+use Rattle.record_defs.specs.Examples.{four}
+use Rattle.machine_defs.proofs.PutSteps.{state_15}
+use Rattle.second_half_laws.proofs.ByteSteps.{block_sized, block, symbols, byte_back, own_work}
 use Rattle.damage_run.specs.Schedule.{name, byte}
 use Rattle.damage_run.specs.Points.{counts}
 use Rattle.damage_run.proofs.Values.{right, same_first, sums, judged}

@@ -6,17 +6,17 @@
 --   IsFaulty ms     == these moments are the run: from a start of four providers that tell, at limit 8, and
 --                      nothing is ever replaced
 use Rattle.std.specs.Prelude.{◌≡◌, ℕ, List, [], ◌∷◌, ◌++◌, replicate}
-use Rattle.hail_machine.specs.Jobs.{PutJob, GetJob, DropJob, AuditJob}
-use Rattle.hail_machine.specs.Answers.{Put, Got, Dropped, Audited, Lost, ProviderFault, DiskFault}
-use Rattle.hail_machine.specs.Refusals as refusal
-use Rattle.hail_machine.specs.Events.{Event, Outcome, Begin, Step, Stop, Reopen, Continue, Refused, Opened, Begun, More, Ended, Stopped, Closed, Continued}
-use Rattle.hail_machine.specs.States.{IsStart}
-use Rattle.hail_machine.specs.Runs.{Moment, IsRun}
-use Rattle.hail_machine.specs.Calm.{IsCalm, relies}
-use Rattle.hail_machine.specs.Scrubs.{AreScrubsCalm, IsScrubCalm}
-use Rattle.hail_machine.specs.Halves.{AllTell}
-use Rattle.hail_machine.specs.Examples.{set_up}
-use Rattle.mark_laws.specs.MarkedRuns.{BeginsNoScrub}
+use Rattle.machine_defs.specs.Jobs.{PutJob, GetJob, DropJob, AuditJob}
+use Rattle.machine_defs.specs.Answers.{Put, Got, Dropped, Audited, Lost, ProviderFault, DiskFault}
+use Rattle.machine_defs.specs.Refusals as refusal
+use Rattle.machine_defs.specs.Events.{Event, Outcome, Begin, Step, Stop, Reopen, Continue, Refused, Opened, Begun, More, Ended, Stopped, Closed, Continued}
+use Rattle.machine_defs.specs.States.{IsStart}
+use Rattle.machine_defs.specs.Runs.{Moment, IsRun}
+use Rattle.machine_defs.specs.Calm.{IsCalm, relies}
+use Rattle.machine_defs.specs.Scrubs.{AreScrubsCalm, IsScrubCalm}
+use Rattle.machine_defs.specs.Halves.{AllTell}
+use Rattle.machine_defs.specs.Examples.{set_up}
+use Rattle.second_half_laws.specs.MarkedRuns.{BeginsNoScrub}
 use Rattle.damage_run.specs.Schedule.{name, byte}
 use Rattle.damage_run.specs.Points.{counts}
 

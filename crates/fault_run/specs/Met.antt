@@ -10,21 +10,21 @@
 --   HasFaults ms              == what fails, is refused, cut off and settled in the run, and when
 use Rattle.std.specs.Prelude.{◌≡◌, ℕ, suc, ◌<◌, List, [], ◌∷◌, ◌++◌, length, Some, None}
 use Rattle.std.specs.List.{Contains}
-use Rattle.hail_columns.specs.Objects.{stripes}
-use Rattle.hail_records.specs.Records.{Record, PutDone, AuditDone}
-use Rattle.hail_records.specs.Table.{File}
-use Rattle.hail_machine.specs.Jobs.{GetJob, Fetched, Job, job_of}
-use Rattle.hail_machine.specs.Refusals as refusal
-use Rattle.hail_machine.specs.Answers.{Got, Lost}
-use Rattle.hail_machine.specs.Events.{Begin, Refused}
-use Rattle.hail_machine.specs.States.{State, Append, setup_in, object_in, file_in}
-use Rattle.hail_machine.specs.Runs.{Moment, first_moments, came}
-use Rattle.hail_machine.specs.Failures.{Count, OfDisk, OfStores, OfOthers, IsFailure}
-use Rattle.hail_machine.specs.Heard.{EndsJob, NoneContinues, heard_in}
-use Rattle.hail_machine.specs.Survival.{ComesIn, NeverTakenOut}
-use Rattle.hail_machine.specs.Deeds.{HasStored, HasAsked}
-use Rattle.hail_machine.specs.Examples.{set_up}
-use Rattle.mark_laws.specs.Damage.{RoseSince}
+use Rattle.column_defs.specs.Objects.{stripes}
+use Rattle.record_defs.specs.Records.{Record, PutDone, AuditDone}
+use Rattle.record_defs.specs.Table.{File}
+use Rattle.machine_defs.specs.Jobs.{GetJob, Fetched, Job, job_of}
+use Rattle.machine_defs.specs.Refusals as refusal
+use Rattle.machine_defs.specs.Answers.{Got, Lost}
+use Rattle.machine_defs.specs.Events.{Begin, Refused}
+use Rattle.machine_defs.specs.States.{State, Append, setup_in, object_in, file_in}
+use Rattle.machine_defs.specs.Runs.{Moment, first_moments, came}
+use Rattle.machine_defs.specs.Failures.{Count, OfDisk, OfStores, OfOthers, IsFailure}
+use Rattle.machine_defs.specs.Heard.{EndsJob, NoneContinues, heard_in}
+use Rattle.machine_defs.specs.Survival.{ComesIn, NeverTakenOut}
+use Rattle.machine_defs.specs.Deeds.{HasStored, HasAsked}
+use Rattle.machine_defs.specs.Examples.{set_up}
+use Rattle.second_half_laws.specs.Damage.{RoseSince}
 use Rattle.damage_run.specs.Schedule.{name, byte}
 use Rattle.damage_run.specs.Points.{at, counts, InDoubt, EndsBy}
 use Rattle.fault_run.specs.Faults.{other}

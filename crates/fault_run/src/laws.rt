@@ -1,41 +1,41 @@
 //! What laws about faults say of the run given outright: each premise is met, and the law is called.
 ghost use Rattle.std.specs.Prelude.{◌≡◌, ◌⊎◌, ◌<◌, ℕ, List, Some};
-ghost use Rattle.hail_records.specs.Table.{next_id, next_audit};
-ghost use Rattle.hail_machine.specs.Deeds.{HasStored, HasAsked};
-ghost use Rattle.hail_machine.specs.Answers.{Lost};
-ghost use Rattle.hail_machine.specs.Halves.{FirstHalf, SecondHalf};
-ghost use Rattle.hail_machine.specs.Heard.{heard_in, heard_by, given_to};
-ghost use Rattle.hail_machine.specs.States.{State};
-ghost use Rattle.hail_machine.specs.Survival.{IsKept};
-ghost use Rattle.hail_machine.specs.Runs.{Moment, first_moments};
-ghost use Rattle.hail_machine.specs.Jobs.{Job};
-ghost use Rattle.hail_machine.specs.Failures.{OfDisk, OfStores, OfOthers, count_in, RoseBy};
-ghost use Rattle.hail_machine.specs.Scrubs.{scrubbed, AreScrubsCalm, IsScrubCalm};
+ghost use Rattle.record_defs.specs.Table.{next_id, next_audit};
+ghost use Rattle.machine_defs.specs.Deeds.{HasStored, HasAsked};
+ghost use Rattle.machine_defs.specs.Answers.{Lost};
+ghost use Rattle.machine_defs.specs.Halves.{FirstHalf, SecondHalf};
+ghost use Rattle.machine_defs.specs.Heard.{heard_in, heard_by, given_to};
+ghost use Rattle.machine_defs.specs.States.{State};
+ghost use Rattle.machine_defs.specs.Survival.{IsKept};
+ghost use Rattle.machine_defs.specs.Runs.{Moment, first_moments};
+ghost use Rattle.machine_defs.specs.Jobs.{Job};
+ghost use Rattle.machine_defs.specs.Failures.{OfDisk, OfStores, OfOthers, count_in, RoseBy};
+ghost use Rattle.machine_defs.specs.Scrubs.{scrubbed, AreScrubsCalm, IsScrubCalm};
 ghost use Rattle.upgrade_run.specs.Schedule.{HasAll};
-ghost use Rattle.hail_machine.specs.Refusals as refusal;
-ghost use Rattle.hail_machine.specs.Halves.{IsGetRefusal};
-ghost use Rattle.hail_machine.specs.Examples.{set_up};
+ghost use Rattle.machine_defs.specs.Refusals as refusal;
+ghost use Rattle.machine_defs.specs.Halves.{IsGetRefusal};
+ghost use Rattle.machine_defs.specs.Examples.{set_up};
 ghost use Rattle.headline.specs.Headline.{Headline};
-ghost use Rattle.step_laws.specs.Whole.{PutIsWhole, AuditIsWhole};
-ghost use Rattle.mark_laws.specs.Damage.{IsReplaced, RoseSince};
-ghost use Rattle.mark_laws.specs.MarkedRuns.{IsMarkedRun};
-ghost use Rattle.mark_laws.specs.Sharp.{IsLostByFaults};
+ghost use Rattle.second_half_laws.specs.Whole.{PutIsWhole, AuditIsWhole};
+ghost use Rattle.second_half_laws.specs.Damage.{IsReplaced, RoseSince};
+ghost use Rattle.second_half_laws.specs.MarkedRuns.{IsMarkedRun};
+ghost use Rattle.second_half_laws.specs.Sharp.{IsLostByFaults};
 ghost use Rattle.damage_run.specs.Schedule.{name};
 ghost use Rattle.damage_run.specs.Points.{at, counts};
 ghost use Rattle.fault_run.specs.Faults.{IsFaulty};
 ghost use Rattle.fault_run.specs.Met.{HasFaults};
 
-use calm_laws::laws::{failed_calls_are_counted, stored_names_begin};
-use hail_machine::laws::{
+use second_half_laws::laws::{failed_calls_are_counted, stored_names_begin};
+use machine_defs::laws::{
     acknowledged_files_survive, challenges_are_made_once, reports_have_what_jobs_heard,
     stores_name_their_own_object, used_numbers_are_below,
 };
 use headline::laws::every_run_keeps_the_headline;
-use mark_laws::laws::{
+use second_half_laws::laws::{
     any_mark_will_do, damage_of_pinned_files_is_new, finished_scrubs_are_marks,
     gets_give_or_are_lost, the_start_is_a_mark, unscrubbed_runs_are_scrub_calm,
 };
-use step_laws::laws::{done_audits_are_whole, done_puts_are_whole};
+use second_half_laws::laws::{done_audits_are_whole, done_puts_are_whole};
 
 /// Each failed call raised its count.
 pub fn failed_calls_raise_counts()

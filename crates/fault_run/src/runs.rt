@@ -1,6 +1,6 @@
 //! A run with faults, given outright.
 ghost use Rattle.std.specs.Prelude.{List};
-ghost use Rattle.hail_machine.specs.Runs.{Moment};
+ghost use Rattle.machine_defs.specs.Runs.{Moment};
 ghost use Rattle.fault_run.specs.Faults.{IsFaulty};
 ghost use Rattle.fault_run.specs.Met.{HasFaults};
 

@@ -1,7 +1,7 @@
 -- Elements that are apart.
 use Rattle.std.proofs.Common.{◌≢◌, ◌++◌, [], ◌∷◌, ℕ, List, take, drop}
 use Rattle.std.proofs.lemmas.List.{take-append-drop}
-use Rattle.plain_facts.specs.Lists.{Each}
+use Rattle.plain_laws.specs.Lists.{Each}
 use Rattle.field_laws.specs.Field.{Apart}
 
 -- points that are apart stay so without the last ones

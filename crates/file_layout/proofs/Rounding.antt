@@ -2,8 +2,8 @@
 use Rattle.std.specs.Prelude.{◌≡◌, ℕ, ◌+◌, ◌-◌, ◌*◌, ◌/◌, ◌≤◌, Bool, true, false, nat_lt}
 use Rattle.std.proofs.Common.{arith, refl}
 use Rattle.std.proofs.Math.Nat.{mul-div-le, mul-le-mul_left, mul-le-mul_right, mul-le-mul}
-use Rattle.hail_codes.proofs.Profiles.{some_kept}
-use Rattle.hail_codes.specs.Profiles.{profile_of}
+use Rattle.code_defs.proofs.Profiles.{some_kept}
+use Rattle.code_defs.specs.Profiles.{profile_of}
 
 -- a quotient rounded up is at most the number
 pub rounded : (b s : ℕ) → 1 ≤ s → (b + (s - 1)) / s ≤ b

@@ -2,7 +2,7 @@
 use Rattle.std.specs.Prelude.{ℕ, List}
 use Rattle.code_points.specs.Profile.{plain_profile}
 use Rattle.file_layout.specs.declared.file.FileShape.{FileShape}
-use Rattle.hail_columns.specs.Objects.{Object}
+use Rattle.column_defs.specs.Objects.{Object}
 
 -- the object that a file's shape and a master key make
 abbrev pub shaped_object : List ℕ → FileShape → Object

@@ -26,7 +26,7 @@ fn first_symbol(bytes: &[u8]) -> Symbol
 
 impl FileShape {
     ghost use Rattle.std.specs.Prelude.{◌≡◌, ◌≤◌, ◌^◌, ◌*◌, ℕ, List};
-    ghost use Rattle.hail_columns.specs.Objects as spec;
+    ghost use Rattle.column_defs.specs.Objects as spec;
     ghost use Rattle.file_layout.specs.Files.{shaped_object};
 
     /// How many stripes the file has: each holds 16 bytes for each kept symbol of each primary provider.
@@ -50,7 +50,7 @@ impl FileShape {
     }
 
     /// The symbol of this number of a file of these bytes: 16 bytes, those past the end being zero.
-    #[tactic(auto, unfolding(hail_columns::specs::Objects::symbol_of))]
+    #[tactic(auto, unfolding(column_defs::specs::Objects::symbol_of))]
     pub fn symbol_at(&self, bytes: &[u8], number: u64) -> Symbol
         ensures { result ≡ spec.symbol_of bytes.now number }
     {

@@ -5,8 +5,8 @@ use Rattle.std.proofs.Common.{arith, ap, sym, ◌∙◌, get_or, set}
 use Rattle.std.proofs.Math.Seq.{take-add}
 use Rattle.std.proofs.lemmas.List.{take_more, take_more_set}
 use Rattle.std.proofs.lemmas.Slice.{take-put_mid}
-use Rattle.hail_columns.specs.Objects.{bytes_of_symbols}
-use Rattle.hail_columns.proofs.SymbolBytes.{bytes_of_symbols-push}
+use Rattle.column_defs.specs.Objects.{bytes_of_symbols}
+use Rattle.column_defs.proofs.SymbolBytes.{bytes_of_symbols-push}
 use borrow.Rule.Slice.PartMut.{put_mid}
 
 -- the bytes of one symbol more are written

@@ -3,8 +3,8 @@ use Rattle.std.specs.Prelude.{◌≡◌, ℕ, ◌<◌, map, Some, None}
 use Rattle.std.proofs.Common.{arith}
 use Rattle.std.proofs.lemmas.Option.{slice_get-get_or}
 use Rattle.std.proofs.lemmas.List.FromFn.{get_or-map-range_with_len, length-map-range_with_len}
-use Rattle.hail_codes.specs.Points.{upto}
-use Rattle.hail_columns.specs.Challenges.{symbol_at}
+use Rattle.code_defs.specs.Points.{upto}
+use Rattle.column_defs.specs.Challenges.{symbol_at}
 
 -- what stands at a place of such a block
 pub symbol_at-map : (f : ℕ → ℕ) (size place : ℕ) → place < size → symbol_at size place (Some (map f (upto size))) ≡ Some (f place)

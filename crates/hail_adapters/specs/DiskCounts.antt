@@ -5,7 +5,7 @@
 --   with_call counts   == there was one more call
 --   with_fault counts  == one more call failed
 use Rattle.std.specs.Prelude.{ℕ}
-use Rattle.hail_devices.specs.Faults.{one_more}
+use Rattle.device_defs.specs.Faults.{one_more}
 
 -- how many calls failed, and how many there were, but for stops
 pub record DiskCounts : Type 0 where

@@ -8,7 +8,7 @@
 --   with_fetch counts        == there was one more fetch
 --   with_call counts         == there was one more call
 use Rattle.std.specs.Prelude.{ℕ}
-use Rattle.hail_devices.specs.Faults.{one_more}
+use Rattle.device_defs.specs.Faults.{one_more}
 
 -- how many stores failed, how many other calls failed, and how many fetches and calls there were
 pub record FolderCounts : Type 0 where

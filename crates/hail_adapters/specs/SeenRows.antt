@@ -4,7 +4,7 @@
 --   seen_blocks size seen      == by stripe the block of the size that holds these symbols
 use Rattle.std.specs.Prelude.{ℕ, ◌+◌, ◌*◌, ◌==◌, List, map, find, Option, Some}
 use Rattle.std.specs.Option.{option_map_or}
-use Rattle.hail_codes.specs.Points.{upto}
+use Rattle.code_defs.specs.Points.{upto}
 
 -- the symbol that was first read in a row, and 0 where none was
 abbrev pub seen_symbol : List (ℕ × ℕ) → ℕ → ℕ

@@ -1,7 +1,7 @@
 // The bytes of a block: 16 a symbol, the lowest first.
 ghost use Rattle.std.specs.Prelude.{◌≡◌, ◌*◌, ◌≤◌, length};
 ghost use Rattle.std.specs.Int.{w128, to_le_bytes};
-ghost use Rattle.hail_columns.specs.Objects.{bytes_of_symbols};
+ghost use Rattle.column_defs.specs.Objects.{bytes_of_symbols};
 
 use hail_field::{Symbol, laws};
 

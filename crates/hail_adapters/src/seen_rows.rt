@@ -1,5 +1,5 @@
 ghost use Rattle.std.specs.Prelude.{◌≡◌};
-ghost use Rattle.hail_columns.specs.Challenges.{honest_answer};
+ghost use Rattle.column_defs.specs.Challenges.{honest_answer};
 ghost use Rattle.challenge.specs.Asked.{asked};
 ghost use Rattle.hail_adapters.specs.SeenRows.{seen_symbol, seen_blocks};
 

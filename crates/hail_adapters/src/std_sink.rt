@@ -1,6 +1,6 @@
 ghost use Rattle.std.specs.Prelude.{◌≡◌, ◌<◌, ◌≤◌, None, length, IfOk, OnOk, IsErrOf};
 ghost use Rattle.stream_model.specs.declared.fault.WriteFault.TheVariants as write_fault;
-ghost use Rattle.hail_devices.specs.Faults.{one_more};
+ghost use Rattle.device_defs.specs.Faults.{one_more};
 
 use crate::transfer::write_some;
 use crate::tried::tried_writing;

@@ -1,5 +1,5 @@
 ghost use Rattle.std.specs.Prelude.{◌≡◌, ◌≤◌, None, length, IfOk, OnOk, OnErr};
-ghost use Rattle.hail_devices.specs.Faults.{one_more};
+ghost use Rattle.device_defs.specs.Faults.{one_more};
 
 use crate::transfer::read_some;
 use crate::tried::tried;

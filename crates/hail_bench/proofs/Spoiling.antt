@@ -3,11 +3,11 @@ use Rattle.std.proofs.Common.{◌≡◌, ◌≢◌, ◌≤◌, ◌<◌, ℕ, zer
 use Rattle.std.proofs.lemmas.List.FromFn.{length-range_with_len, length-map-range_with_len}
 use Rattle.hail_field.specs.Nim.{nim_add}
 use Rattle.hail_field.proofs.AllNumbers.{nim_laws, nim_ring}
-use Rattle.hail_codes.specs.Polynomials.{value}
-use Rattle.hail_codes.specs.Points.{upto, values_at}
-use Rattle.hail_codes.specs.Profiles.{Profile}
-use Rattle.hail_codes.specs.ServerCode.{differences, IsCodeword, Opens}
-use Rattle.hail_codes.proofs.Points.{nat_eq-differ}
+use Rattle.code_defs.specs.Polynomials.{value}
+use Rattle.code_defs.specs.Points.{upto, values_at}
+use Rattle.code_defs.specs.Profiles.{Profile}
+use Rattle.code_defs.specs.ServerCode.{differences, IsCodeword, Opens}
+use Rattle.code_defs.proofs.Points.{nat_eq-differ}
 use Rattle.column_laws.proofs.RightBlocks.{agree-differences}
 
 -- an error that is not zero changes a symbol

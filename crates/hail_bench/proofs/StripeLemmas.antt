@@ -9,15 +9,15 @@ use Rattle.std.proofs.lemmas.List.{take_more, take-append-le, drop-append-le, le
 use Rattle.std.proofs.lemmas.Grind.{get_or-set_at}
 use Rattle.std.proofs.lemmas.Option.{slice_get-get_or}
 use Rattle.hail_field.specs.Shape.{IsShape}
-use Rattle.hail_codes.specs.Points.{upto}
-use Rattle.hail_codes.specs.Profiles.{profile_of}
-use Rattle.hail_codes.specs.ServerCode.{differences}
-use Rattle.hail_codes.proofs.Codewords.{differences-same}
-use Rattle.hail_columns.specs.Objects.{Object, symbols_in}
-use Rattle.hail_columns.specs.Columns.{columns, is_wrong_block}
-use Rattle.hail_columns.specs.Opened.{block_at, GivesSymbols}
-use Rattle.hail_columns.specs.Forgeries.{count_of}
-use Rattle.hail_columns.proofs.ColumnLaws.{length-column_of_symbols}
+use Rattle.code_defs.specs.Points.{upto}
+use Rattle.code_defs.specs.Profiles.{profile_of}
+use Rattle.code_defs.specs.ServerCode.{differences}
+use Rattle.code_defs.proofs.Codewords.{differences-same}
+use Rattle.column_defs.specs.Objects.{Object, symbols_in}
+use Rattle.column_defs.specs.Columns.{columns, is_wrong_block}
+use Rattle.column_defs.specs.Opened.{block_at, GivesSymbols}
+use Rattle.column_defs.specs.Forgeries.{count_of}
+use Rattle.column_defs.proofs.ColumnLaws.{length-column_of_symbols}
 use Rattle.column_laws.proofs.RightRows.{symbols-right}
 use Rattle.column_codec.specs.PresentBlocks.{present_blocks}
 use Rattle.column_codec.proofs.PresentLemmas.{length-present_blocks, get_or-present_blocks}

@@ -1,9 +1,9 @@
 -- The steps of the checksums of the two decoders.
 use Rattle.std.proofs.Common.{◌≡◌, ◌+◌, ℕ, suc, List, ◌++◌, drop, add-one, sym, subst, ap, ◌∙◌}
 use Rattle.std.proofs.Math.Seq.{drop-append_seam}
-use Rattle.hail_codes.specs.Points.{upto}
-use Rattle.hail_codes.specs.Profiles.{Profile}
-use Rattle.hail_codes.specs.ServerCode.{codeword}
+use Rattle.code_defs.specs.Points.{upto}
+use Rattle.code_defs.specs.Profiles.{Profile}
+use Rattle.code_defs.specs.ServerCode.{codeword}
 use Rattle.hail_poly.specs.Decoding.{IsDecoded, NoneDecodes}
 use Rattle.hail_bench.specs.Blocks.{kept_symbols, mixed, mixed_all}
 use Rattle.hail_bench.specs.Words.{IsDecodersChecksum, MixesWord}

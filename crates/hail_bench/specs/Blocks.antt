@@ -1,9 +1,9 @@
 -- What the checksums of the works on blocks are.
 use Rattle.std.specs.Prelude.{ℕ, zero, suc, ◌+◌, List, [], ◌∷◌, map}
 use Rattle.hail_field.specs.Nim.{nim_add}
-use Rattle.hail_codes.specs.Points.{upto}
-use Rattle.hail_codes.specs.Profiles.{Profile}
-use Rattle.hail_codes.specs.ServerCode.{codeword}
+use Rattle.code_defs.specs.Points.{upto}
+use Rattle.code_defs.specs.Profiles.{Profile}
+use Rattle.code_defs.specs.ServerCode.{codeword}
 use Rattle.hail_bench.specs.Checksum.{number_after}
 
 -- the kept symbols of the n-th block

@@ -9,10 +9,10 @@
 --                                     of the first liars differ from the provider's own at no more places
 --                                         than are corrected
 use Rattle.std.specs.Prelude.{◌≡◌, ℕ, zero, suc, ◌+◌, ◌*◌, ◌/◌, ◌%◌, ◌^◌, ◌<◌, ◌≤◌, List, [], ◌∷◌, length, map, take, drop}
-use Rattle.hail_codes.specs.Points.{upto}
-use Rattle.hail_columns.specs.Objects.{Object, symbols_in}
-use Rattle.hail_columns.specs.Columns.{columns}
-use Rattle.hail_codes.specs.ServerCode.{differences}
+use Rattle.code_defs.specs.Points.{upto}
+use Rattle.column_defs.specs.Objects.{Object, symbols_in}
+use Rattle.column_defs.specs.Columns.{columns}
+use Rattle.code_defs.specs.ServerCode.{differences}
 use Rattle.hail_bench.specs.Blocks.{mixed_all}
 use Rattle.hail_bench.specs.Checksum.{drawn_number}
 

@@ -1,8 +1,8 @@
 -- What the checksums of the two decoders are.
 use Rattle.std.specs.Prelude.{◌≡◌, ℕ, zero, suc, List, ◌++◌, drop}
-use Rattle.hail_codes.specs.Points.{upto}
-use Rattle.hail_codes.specs.Profiles.{Profile}
-use Rattle.hail_codes.specs.ServerCode.{codeword}
+use Rattle.code_defs.specs.Points.{upto}
+use Rattle.code_defs.specs.Profiles.{Profile}
+use Rattle.code_defs.specs.ServerCode.{codeword}
 use Rattle.hail_poly.specs.Decoding.{IsDecoded, NoneDecodes}
 use Rattle.hail_bench.specs.Blocks.{kept_symbols, mixed, mixed_all}
 

@@ -1,7 +1,7 @@
 //! Rounds of an audit of a file, in memory.
 ghost use Rattle.std.specs.Prelude.{◌≡◌, ◌≤◌, ◌<◌, ◌+◌, ◌*◌, ℕ, IfOk, length, slice_get, slice_index};
-ghost use Rattle.hail_columns.specs.Objects.{stripes};
-ghost use Rattle.hail_columns.specs.Challenges.{symbol_at as symbol_at_of};
+ghost use Rattle.column_defs.specs.Objects.{stripes};
+ghost use Rattle.column_defs.specs.Challenges.{symbol_at as symbol_at_of};
 ghost use Rattle.file_layout.specs.Files.{shaped_object};
 ghost use Rattle.hail_bench.specs.declared.stripes.TheConstants.{MASTER};
 

@@ -1,6 +1,6 @@
 //! Correcting of blocks.
 ghost use Rattle.std.specs.Prelude.{◌≡◌, ◌≢◌, ◌≤◌, IfOk, length};
-ghost use Rattle.hail_codes.specs.ServerCode.{IsCodeword, differences};
+ghost use Rattle.code_defs.specs.ServerCode.{IsCodeword, differences};
 ghost use Rattle.code_points.specs.Profile.{plain_profile};
 ghost use Rattle.server_code.specs.Any.{code_profile};
 ghost use Rattle.hail_bench.specs.Blocks.{decoding_checksum};

@@ -1,6 +1,6 @@
 //! The two decoders of values at any points, side by side.
 ghost use Rattle.std.specs.Prelude.{◌≡◌, ◌≤◌, ◌<◌, ◌++◌, suc, IfOk, MatchOption, drop, length};
-ghost use Rattle.hail_codes.specs.Points.{upto};
+ghost use Rattle.code_defs.specs.Points.{upto};
 ghost use Rattle.hail_poly.specs.Decoding.{IsDecoded, NoneDecodes};
 ghost use Rattle.code_points.specs.Profile.{plain_profile};
 ghost use Rattle.server_code.specs.Any.{code_profile};
@@ -57,7 +57,7 @@ pub struct DecodersWork {
 }
 
 /// The points 0 to count - 1.
-#[tactic(auto, using(hail_codes::proofs::Points::upto_more))]
+#[tactic(auto, using(code_defs::proofs::Points::upto_more))]
 fn points(alloc: Global, count: u32) -> Result<Vec<Symbol>, AllocError>
     ensures { IfOk result (λ points. points.items ≡ upto count) }
 {

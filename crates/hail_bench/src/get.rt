@@ -1,7 +1,7 @@
 //! Opening of a file's stripes.
 ghost use Rattle.std.specs.Prelude.{◌≡◌, ◌≤◌, ◌<◌, ◌+◌, ◌*◌, IfOk, OnOk, All, [], length, take, drop};
-ghost use Rattle.hail_columns.specs.Objects.{stripes, symbols_in};
-ghost use Rattle.hail_columns.specs.Columns.{columns};
+ghost use Rattle.column_defs.specs.Objects.{stripes, symbols_in};
+ghost use Rattle.column_defs.specs.Columns.{columns};
 ghost use Rattle.file_layout.specs.Files.{shaped_object};
 ghost use Rattle.hail_bench.specs.Stripes.{file_bytes, opening_checksum, HoldsNear};
 ghost use Rattle.hail_bench.specs.declared.stripes.TheConstants.{MASTER};

@@ -1,6 +1,6 @@
 //! Making of the blocks of a file's stripes.
 ghost use Rattle.std.specs.Prelude.{◌≡◌, IfOk, All, length};
-ghost use Rattle.hail_columns.specs.Objects.{stripes};
+ghost use Rattle.column_defs.specs.Objects.{stripes};
 ghost use Rattle.file_layout.specs.Files.{shaped_object};
 ghost use Rattle.hail_bench.specs.Stripes.{file_bytes, making_checksum};
 ghost use Rattle.hail_bench.specs.declared.stripes.TheConstants.{MASTER};

@@ -1,6 +1,6 @@
 //! Providers that do not give their blocks as they were made.
 ghost use Rattle.std.specs.Prelude.{◌≡◌, ◌≤◌, ◌<◌, ◌*◌, ◌↔◌, IsTrue, length};
-ghost use Rattle.hail_codes.specs.ServerCode.{differences};
+ghost use Rattle.code_defs.specs.ServerCode.{differences};
 
 use crate::blocks::fill;
 use crate::decode;

@@ -3,30 +3,30 @@ use Rattle.std.proofs.Common.{◌≡◌, ℕ, ◌<◌, ◌≤◌, true, false, L
 use Rattle.std.specs.Prelude.{IsSome, IfSome, IsTrue, IsErrAnd, is_some}
 use Rattle.std.specs.List.{list_all}
 use Rattle.std.proofs.lemmas.Bool.{false≢true}
-use Rattle.plain_facts.proofs.Options.{is_some-none}
-use Rattle.hail_devices.specs.Cells.{Cells}
-use Rattle.hail_devices.specs.Faults.{Rose}
-use Rattle.hail_devices.specs.Images.{EachImage}
-use Rattle.hail_devices.specs.Providers.{Provider}
-use Rattle.hail_devices.specs.Told.{Goes}
-use Rattle.hail_records.specs.Records.{Record, Setup, is_in_grammar, largest_journal}
-use Rattle.hail_records.specs.Journal.{text_size}
-use Rattle.hail_records.specs.Acceptance.{AreAccepted}
-use Rattle.hail_records.specs.Areas.{A}
-use Rattle.hail_machine.specs.Events as events
-use Rattle.hail_machine.specs.Events.{Outcome, Reopen}
-use Rattle.hail_machine.specs.Refusals as refusal
-use Rattle.hail_machine.specs.States.{State, setup_in}
-use Rattle.hail_machine.specs.Openings.{IsSetUp, Rereads, Reopens}
-use Rattle.hail_machine.specs.Stands.{StandsForState}
-use Rattle.sound_states.specs.Sound.{IsWholeJournal, IsSound, IsAtRest}
-use Rattle.sound_states.proofs.Resting.{rest-sound}
+use Rattle.plain_laws.proofs.Options.{is_some-none}
+use Rattle.device_defs.specs.Cells.{Cells}
+use Rattle.device_defs.specs.Faults.{Rose}
+use Rattle.device_defs.specs.Images.{EachImage}
+use Rattle.device_defs.specs.Providers.{Provider}
+use Rattle.device_defs.specs.Told.{Goes}
+use Rattle.record_defs.specs.Records.{Record, Setup, is_in_grammar, largest_journal}
+use Rattle.record_defs.specs.Journal.{text_size}
+use Rattle.record_defs.specs.Acceptance.{AreAccepted}
+use Rattle.record_defs.specs.Areas.{A}
+use Rattle.machine_defs.specs.Events as events
+use Rattle.machine_defs.specs.Events.{Outcome, Reopen}
+use Rattle.machine_defs.specs.Refusals as refusal
+use Rattle.machine_defs.specs.States.{State, setup_in}
+use Rattle.machine_defs.specs.Openings.{IsSetUp, Rereads, Reopens}
+use Rattle.machine_defs.specs.Stands.{StandsForState}
+use Rattle.state_laws.specs.Sound.{IsWholeJournal, IsSound, IsAtRest}
+use Rattle.state_laws.proofs.Resting.{rest-sound}
 use Rattle.vault_open.specs.declared.fault.StartFault.{StartFault}
 use Rattle.vault_open.specs.declared.fault.StartFault.TheVariants as start_fault
 use Rattle.vault.specs.declared.vault.Vault.{Vault}
-use Rattle.hail_openings.specs.Opened.{IsJustOpened}
+use Rattle.opening_defs.specs.Opened.{IsJustOpened}
 use Rattle.vault_open.specs.Devices.{devices}
-use Rattle.hail_openings.specs.Journals.{IsRead, IsResynced, MayBeLeft}
+use Rattle.opening_defs.specs.Journals.{IsRead, IsResynced, MayBeLeft}
 use Rattle.vault.specs.Seen.{provider_count}
 use Rattle.vault.specs.Stands.{Stands}
 use Rattle.hail_client.specs.declared.client.Client.{Client}

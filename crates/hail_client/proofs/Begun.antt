@@ -2,14 +2,14 @@
 use Rattle.std.proofs.Common.{◌≡◌, inl, inr, ℕ, Bool, true, false, List, Option, Some, None, Result, refl, ap, sym, subst, ◌∙◌, arith}
 use Rattle.std.specs.Prelude.{IsSome, is_some}
 use Rattle.std.proofs.lemmas.Bool.{false≢true}
-use Rattle.hail_devices.specs.Cells.{Cells}
-use Rattle.hail_devices.specs.Providers.{Provider}
-use Rattle.hail_records.specs.Records.{Setup, is_setup}
-use Rattle.hail_machine.specs.Events.{Outcome, Init, Ready, Refused, IsSpelled}
-use Rattle.hail_machine.specs.Refusals as refusal
-use Rattle.hail_machine.specs.States.{State, Settles}
-use Rattle.hail_machine.specs.Openings.{Inits, InitsBy, InitsClosed}
-use Rattle.sound_states.proofs.Events.{events-sound}
+use Rattle.device_defs.specs.Cells.{Cells}
+use Rattle.device_defs.specs.Providers.{Provider}
+use Rattle.record_defs.specs.Records.{Setup, is_setup}
+use Rattle.machine_defs.specs.Events.{Outcome, Init, Ready, Refused, IsSpelled}
+use Rattle.machine_defs.specs.Refusals as refusal
+use Rattle.machine_defs.specs.States.{State, Settles}
+use Rattle.machine_defs.specs.Openings.{Inits, InitsBy, InitsClosed}
+use Rattle.state_laws.proofs.Events.{events-sound}
 use Rattle.vault_open.specs.declared.fault.InitFault.{InitFault}
 use Rattle.vault.specs.declared.vault.Vault.{Vault}
 use Rattle.vault_open.specs.Devices.{Devices, devices, AreDevices}

@@ -2,19 +2,19 @@
 use Rattle.std.proofs.Common.{◌≡◌, ℕ, zero, suc, [], ◌∷◌, replicate, codes, Some, None, refl, ap, sym, subst, ◌∙◌, inl, inr, arith}
 use Rattle.std.specs.Prelude.{slice_get, IsSome}
 use Rattle.std.proofs.lemmas.Bool.{cases_Bool, false≢true}
-use Rattle.hail_devices.specs.Providers.{Provider}
-use Rattle.hail_records.specs.Journal.{text, StandsFor}
-use Rattle.hail_records.specs.Table.{File, is_same_name}
-use Rattle.hail_machine.specs.Events.{Names, Closed}
-use Rattle.hail_machine.specs.Examples.{empty_provider, one_file, hundred}
-use Rattle.hail_machine.specs.Runs.{Moment}
-use Rattle.hail_machine.specs.States.{IsStart}
-use Rattle.hail_machine.specs.Stands.{IsFresh}
-use Rattle.hail_machine.specs.Survival.{IsKept}
-use Rattle.hail_machine.proofs.JobLists.{cond_true, cond_false}
-use Rattle.sound_states.specs.Follows.{AreHeld}
-use Rattle.sound_states.specs.Sound.{IsAtRest}
-use Rattle.sound_states.proofs.Resting.{rest-sound}
+use Rattle.device_defs.specs.Providers.{Provider}
+use Rattle.record_defs.specs.Journal.{text, StandsFor}
+use Rattle.record_defs.specs.Table.{File, is_same_name}
+use Rattle.machine_defs.specs.Events.{Names, Closed}
+use Rattle.machine_defs.specs.Examples.{empty_provider, one_file, hundred}
+use Rattle.machine_defs.specs.Runs.{Moment}
+use Rattle.machine_defs.specs.States.{IsStart}
+use Rattle.machine_defs.specs.Stands.{IsFresh}
+use Rattle.machine_defs.specs.Survival.{IsKept}
+use Rattle.machine_defs.proofs.JobLists.{cond_true, cond_false}
+use Rattle.state_laws.specs.Follows.{AreHeld}
+use Rattle.state_laws.specs.Sound.{IsAtRest}
+use Rattle.state_laws.proofs.Resting.{rest-sound}
 use Rattle.vault_open.specs.Devices.{AreDevices}
 use Rattle.hail_client.specs.Examples.{closed_client, fresh, hidden, stored, stored_state, notes}
 use Rattle.hail_client.specs.Start.{start_of, TellAll}

@@ -1,14 +1,14 @@
 -- A disk before its first use, and the state before the first event.
 use Rattle.std.proofs.Common.{◌≡◌, ◌⊎◌, inl, inr, ℕ, zero, suc, ◌<◌, true, false, List, [], ◌∷◌, length, Option, Some, None, refl, ap, sym, subst, arith}
-use Rattle.hail_devices.specs.Cells.{Cells, reads, firm, loose_from}
+use Rattle.device_defs.specs.Cells.{Cells, reads, firm, loose_from}
 use Rattle.std.specs.Prelude.{IsTrue, IsSome, slice_get}
 use Rattle.std.specs.List.{list_all}
-use Rattle.hail_devices.specs.Providers.{Provider}
-use Rattle.hail_records.specs.Records.{Record, Setup, SetUp, is_in_grammar}
-use Rattle.hail_records.specs.Journal.{StandsFor, StandsOrIsEmpty}
-use Rattle.hail_records.specs.Areas.{A}
-use Rattle.hail_machine.specs.States.{State, IsStart, AreFirst}
-use Rattle.hail_machine.specs.Stands.{IsFresh, StandsForState}
+use Rattle.device_defs.specs.Providers.{Provider}
+use Rattle.record_defs.specs.Records.{Record, Setup, SetUp, is_in_grammar}
+use Rattle.record_defs.specs.Journal.{StandsFor, StandsOrIsEmpty}
+use Rattle.record_defs.specs.Areas.{A}
+use Rattle.machine_defs.specs.States.{State, IsStart, AreFirst}
+use Rattle.machine_defs.specs.Stands.{IsFresh, StandsForState}
 use Rattle.vault_open.specs.Devices.{Devices, AreDevices}
 use Rattle.hail_client.specs.Start.{provider_or_empty, start_of, TellAll}
 use Rattle.hail_client.proofs.Settled.{firm-stands}

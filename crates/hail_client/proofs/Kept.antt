@@ -1,13 +1,13 @@
 -- What the images of a client's disk have.
 use Rattle.std.proofs.Common.{◌≡◌, inl, inr, ℕ, List, [], ◌∷◌, Option, Some, None, sym, ◌∙◌, ap}
-use Rattle.hail_devices.specs.Cells.{Cells}
-use Rattle.hail_devices.specs.Images.{EachImage}
-use Rattle.hail_records.specs.Records.{Record}
-use Rattle.hail_records.specs.Table.{File, file_of}
-use Rattle.hail_machine.specs.States.{State}
-use Rattle.hail_machine.specs.Stands.{StandsForState}
-use Rattle.hail_machine.specs.Survival.{IsKept}
-use Rattle.sound_states.specs.Sound.{IsSound}
+use Rattle.device_defs.specs.Cells.{Cells}
+use Rattle.device_defs.specs.Images.{EachImage}
+use Rattle.record_defs.specs.Records.{Record}
+use Rattle.record_defs.specs.Table.{File, file_of}
+use Rattle.machine_defs.specs.States.{State}
+use Rattle.machine_defs.specs.Stands.{StandsForState}
+use Rattle.machine_defs.specs.Survival.{IsKept}
+use Rattle.state_laws.specs.Sound.{IsSound}
 use Rattle.vault_open.proofs.FirstVersion.{ShowsFirst, shows-first, version-shown}
 use Rattle.hail_client.specs.Stands.{ImageHasFile}
 

@@ -1,15 +1,15 @@
 -- Begins, steps and lists of files, as events of the machine.
 use Rattle.std.proofs.Common.{◌≡◌, ℕ, ◌<◌, ◌^◌, false, Option, Some, None, Result, refl, sym, subst}
 use Rattle.std.specs.Option.{option_map}
-use Rattle.hail_machine.specs.Events.{Begin, Step, Names, Closed, Ended, IsSpelledKind}
-use Rattle.hail_machine.specs.Answers as answers
-use Rattle.hail_machine.specs.Steps.{Steps}
+use Rattle.machine_defs.specs.Events.{Begin, Step, Names, Closed, Ended, IsSpelledKind}
+use Rattle.machine_defs.specs.Answers as answers
+use Rattle.machine_defs.specs.Steps.{Steps}
 use Rattle.journal_core.proofs.BeyondLemmas.{goes_still}
-use Rattle.hail_machine.specs.Events as events
-use Rattle.hail_machine.specs.Heard.{heard_by}
-use Rattle.hail_machine.specs.Jobs.{Kind, job_of}
-use Rattle.hail_machine.specs.States.{State}
-use Rattle.hail_machine.specs.Machine.{Lists}
+use Rattle.machine_defs.specs.Events as events
+use Rattle.machine_defs.specs.Heard.{heard_by}
+use Rattle.machine_defs.specs.Jobs.{Kind, job_of}
+use Rattle.machine_defs.specs.States.{State}
+use Rattle.machine_defs.specs.Machine.{Lists}
 use Rattle.vault_core.specs.declared.wish.BeginFault.{BeginFault}
 use Rattle.vault_table.specs.Values.{Kept}
 use Rattle.vault.specs.declared.turn.Turn.{Turn}

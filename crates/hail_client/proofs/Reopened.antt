@@ -5,44 +5,44 @@ use Rattle.std.specs.List.{list_all}
 use Rattle.std.specs.Option.{option_map}
 use Rattle.std.proofs.lemmas.List.{length-replicate}
 use Rattle.std.proofs.lemmas.Bool.{cases_Bool}
-use Rattle.hail_devices.specs.Cells.{Cells, reads}
-use Rattle.hail_devices.specs.Disks.{synced}
-use Rattle.hail_devices.specs.Faults.{Rose}
-use Rattle.hail_devices.specs.Told.{Goes}
-use Rattle.hail_devices.specs.Providers.{Provider}
-use Rattle.hail_records.specs.Records.{Record, Setup, is_in_grammar, largest_journal}
-use Rattle.hail_records.specs.Journal.{StandsFor, StandsOrIsEmpty}
-use Rattle.hail_records.specs.Table.{setup_of}
-use Rattle.hail_records.specs.Areas.{A}
-use Rattle.hail_machine.specs.Events as events
-use Rattle.hail_machine.specs.Events.{Reopen}
-use Rattle.hail_machine.specs.Refusals as refusal
-use Rattle.hail_machine.specs.States.{State, setup_in, given_up}
-use Rattle.hail_machine.specs.Stands.{StandsForState}
-use Rattle.hail_machine.specs.Openings.{Reopens, IsSetUp}
-use Rattle.sound_states.specs.Sound.{IsWholeJournal, IsSound, IsAtRest}
-use Rattle.sound_states.proofs.Events.{events-sound}
-use Rattle.sound_states.proofs.Records.{none-set_up}
+use Rattle.device_defs.specs.Cells.{Cells, reads}
+use Rattle.device_defs.specs.Disks.{synced}
+use Rattle.device_defs.specs.Faults.{Rose}
+use Rattle.device_defs.specs.Told.{Goes}
+use Rattle.device_defs.specs.Providers.{Provider}
+use Rattle.record_defs.specs.Records.{Record, Setup, is_in_grammar, largest_journal}
+use Rattle.record_defs.specs.Journal.{StandsFor, StandsOrIsEmpty}
+use Rattle.record_defs.specs.Table.{setup_of}
+use Rattle.record_defs.specs.Areas.{A}
+use Rattle.machine_defs.specs.Events as events
+use Rattle.machine_defs.specs.Events.{Reopen}
+use Rattle.machine_defs.specs.Refusals as refusal
+use Rattle.machine_defs.specs.States.{State, setup_in, given_up}
+use Rattle.machine_defs.specs.Stands.{StandsForState}
+use Rattle.machine_defs.specs.Openings.{Reopens, IsSetUp}
+use Rattle.state_laws.specs.Sound.{IsWholeJournal, IsSound, IsAtRest}
+use Rattle.state_laws.proofs.Events.{events-sound}
+use Rattle.state_laws.proofs.Records.{none-set_up}
 use Rattle.vault_open.specs.declared.fault.StartFault.{StartFault}
 use Rattle.vault_open.specs.declared.fault.StartFault.TheVariants as start_fault
 use Rattle.vault.specs.declared.vault.Vault.{Vault}
-use Rattle.hail_openings.specs.Opened.{AreHanded, IsJustOpened}
+use Rattle.opening_defs.specs.Opened.{AreHanded, IsJustOpened}
 use Rattle.vault_open.specs.Devices.{devices, AreDevices}
-use Rattle.hail_openings.specs.Journals.{journal_read, IsRead, IsResynced}
+use Rattle.opening_defs.specs.Journals.{journal_read, IsRead, IsResynced}
 use Rattle.vault_open.specs.Causes.{IsStartFault, LiesInJournal}
 use Rattle.vault.specs.Seen.{provider_count}
 use Rattle.vault.specs.Stands.{Stands}
-use Rattle.sound_states.proofs.Written.{whole-end}
+use Rattle.state_laws.proofs.Written.{whole-end}
 use Rattle.vault_open.proofs.FirstVersion.{Shows, ShowsFirst, shows-first, version-shown}
 use Rattle.hail_client.specs.declared.client.Client.{Client}
 use Rattle.hail_client.specs.Outcomes.{start_refusal}
 use Rattle.hail_client.specs.Start.{anyone}
 use Rattle.hail_client.specs.Stands.{StandsClosed, MakesEvent}
 use Rattle.hail_client.proofs.Settled.{AreKept, settled, settled-whole, rereads, settled-sound, same-images, read-kept, kept-accepted, kept-fits, firm-stands, short-read, whole-read}
-use Rattle.hail_openings.proofs.Readings.{bad-none}
-use Rattle.hail_devices.proofs.PickLaws.{IsImage-reads}
-use Rattle.hail_devices.proofs.Lasting.{image-firm}
-use Rattle.hail_records.proofs.Standing.{stands-take}
+use Rattle.opening_defs.proofs.Readings.{bad-none}
+use Rattle.device_defs.proofs.PickLaws.{IsImage-reads}
+use Rattle.device_defs.proofs.Lasting.{image-firm}
+use Rattle.record_defs.proofs.Standing.{stands-take}
 
 each-anyone : (n j : ℕ) → j < n → slice_get (replicate n anyone) j ≡ Some anyone
 each-anyone zero j l = absurd (omega (arith, l))

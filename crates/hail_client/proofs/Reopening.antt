@@ -3,24 +3,24 @@ use Rattle.std.proofs.Common.{◌≡◌, ℕ, ◌<◌, ◌≤◌, List, length, 
 use Rattle.std.specs.Prelude.{IfSome, IsSome, IsErrAnd}
 use Rattle.std.specs.Option.{option_map}
 use Rattle.std.proofs.lemmas.Bool.{false≢true}
-use Rattle.hail_devices.specs.Cells.{Cells}
-use Rattle.hail_devices.specs.Disks.{synced}
-use Rattle.hail_devices.specs.Faults.{Rose}
-use Rattle.hail_devices.specs.Providers.{Provider}
-use Rattle.hail_devices.specs.Told.{Goes}
-use Rattle.hail_records.specs.Records.{Record}
-use Rattle.hail_machine.specs.Events.{Reopen, Opened, Refused}
-use Rattle.hail_machine.specs.Refusals.{TooFewProviders}
-use Rattle.hail_machine.specs.States.{State}
+use Rattle.device_defs.specs.Cells.{Cells}
+use Rattle.device_defs.specs.Disks.{synced}
+use Rattle.device_defs.specs.Faults.{Rose}
+use Rattle.device_defs.specs.Providers.{Provider}
+use Rattle.device_defs.specs.Told.{Goes}
+use Rattle.record_defs.specs.Records.{Record}
+use Rattle.machine_defs.specs.Events.{Reopen, Opened, Refused}
+use Rattle.machine_defs.specs.Refusals.{TooFewProviders}
+use Rattle.machine_defs.specs.States.{State}
 use Rattle.vault_open.specs.declared.fault.StartFault.{StartFault}
 use Rattle.vault_open.specs.declared.fault.StartFault.TheVariants as start_fault
 use Rattle.vault.specs.declared.vault.Vault.{Vault}
 use Rattle.vault_open.specs.Devices.{devices}
-use Rattle.hail_openings.specs.Journals.{journal_read, IsRead, IsResynced}
+use Rattle.opening_defs.specs.Journals.{journal_read, IsRead, IsResynced}
 use Rattle.vault_open.specs.Causes.{IsStartFault, LiesInJournal}
 use Rattle.vault.specs.Seen.{provider_count}
 use Rattle.vault.specs.Stands.{Stands}
-use Rattle.hail_openings.specs.Opened.{IsJustOpened}
+use Rattle.opening_defs.specs.Opened.{IsJustOpened}
 use Rattle.hail_client.specs.declared.client.Client.{Client}
 use Rattle.hail_client.specs.declared.fault.ReopenFault.{ReopenFault}
 use Rattle.hail_client.specs.declared.fault.ReopenFault.TheVariants as reopen_fault

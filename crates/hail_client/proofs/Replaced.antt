@@ -3,17 +3,17 @@ use Rattle.std.proofs.Common.{◌≡◌, ◌↔◌, ℕ, ◌<◌, ◌≤◌, Boo
 use Rattle.std.specs.Prelude.{IsTrue, IsSome, IfSome, nat_lt, slice_get, slice_set, if◌then◌else◌}
 use Rattle.std.specs.Option.{option_map}
 use Rattle.std.proofs.lemmas.Bool.{lt-ltb, le-ltb}
-use Rattle.hail_devices.specs.Cells.{Cells}
-use Rattle.hail_devices.specs.Providers.{Held, Provider}
-use Rattle.hail_devices.specs.ProviderCalls.{Replaces}
-use Rattle.hail_machine.specs.Events.{Event, Outcome, IsSpelled, NothingHeld}
-use Rattle.hail_machine.specs.States.{State, setup_in, with_provider}
-use Rattle.hail_machine.specs.Replacements.{ReplacesAt, ReplacesIf}
-use Rattle.hail_machine.specs.Machine.{Happens}
-use Rattle.sound_states.specs.Sound.{IsSound}
-use Rattle.sound_states.proofs.Events.{devices-sound}
+use Rattle.device_defs.specs.Cells.{Cells}
+use Rattle.device_defs.specs.Providers.{Held, Provider}
+use Rattle.device_defs.specs.ProviderCalls.{Replaces}
+use Rattle.machine_defs.specs.Events.{Event, Outcome, IsSpelled, NothingHeld}
+use Rattle.machine_defs.specs.States.{State, setup_in, with_provider}
+use Rattle.machine_defs.specs.Replacements.{ReplacesAt, ReplacesIf}
+use Rattle.machine_defs.specs.Machine.{Happens}
+use Rattle.state_laws.specs.Sound.{IsSound}
+use Rattle.state_laws.proofs.Events.{devices-sound}
 use Rattle.vault.specs.declared.vault.Vault.{Vault}
-use Rattle.hail_openings.specs.Opened.{AreHanded}
+use Rattle.opening_defs.specs.Opened.{AreHanded}
 use Rattle.vault_open.specs.Devices.{devices}
 use Rattle.vault.specs.Stands.{Stands}
 use Rattle.vault.proofs.Ways.{handed_on, setup_same}

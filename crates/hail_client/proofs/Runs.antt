@@ -2,12 +2,12 @@
 use Rattle.std.proofs.Common.{◌≡◌, ◌≢◌, ℕ, true, false, List, [], ◌∷◌, ◌++◌, length, Option, Some, None, refl, ap, sym, subst, ◌∙◌}
 use Rattle.std.specs.Prelude.{IfSome}
 use Rattle.std.proofs.lemmas.Bool.{false≢true}
-use Rattle.hail_machine.specs.Events.{Step, More}
-use Rattle.hail_machine.specs.Heard.{heard_by}
-use Rattle.hail_machine.specs.Jobs.{job_of}
-use Rattle.hail_machine.specs.States.{State}
-use Rattle.hail_machine.specs.Runs.{Moment, now}
-use Rattle.hail_machine.specs.Transcripts.{GoOn}
+use Rattle.machine_defs.specs.Events.{Step, More}
+use Rattle.machine_defs.specs.Heard.{heard_by}
+use Rattle.machine_defs.specs.Jobs.{job_of}
+use Rattle.machine_defs.specs.States.{State}
+use Rattle.machine_defs.specs.Runs.{Moment, now}
+use Rattle.machine_defs.specs.Transcripts.{GoOn}
 use Rattle.vault.specs.declared.turn.Turn.{Turn}
 use Rattle.vault.specs.declared.turn.Turn.TheVariants as turn
 use Rattle.vault_open.specs.Devices.{Devices}

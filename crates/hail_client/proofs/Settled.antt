@@ -1,24 +1,24 @@
 -- What a disk that tells reads, of the records in effect and the one in doubt.
 use Rattle.std.proofs.Common.{◌≡◌, ◌⊎◌, inl, inr, ℕ, ◌≤◌, List, [], ◌∷◌, length, Option, Some, None, refl, ap, sym, subst, ◌∙◌, arith, length-take}
-use Rattle.hail_devices.specs.Cells.{Cells, reads, firm}
-use Rattle.hail_devices.proofs.Lasting.{image-firm, each_image-mono}
-use Rattle.hail_records.specs.Records.{Record, largest_journal}
-use Rattle.hail_records.specs.Journal.{text_size, StandsFor, StandsOrIsEmpty}
-use Rattle.hail_records.specs.Acceptance.{AreAccepted}
-use Rattle.hail_records.specs.Areas.{Area, A, other_area}
-use Rattle.hail_records.specs.Packed.{packed}
-use Rattle.hail_records.proofs.Standing.{stands-front}
-use Rattle.hail_machine.specs.Events.{Stop, Stopped}
-use Rattle.hail_machine.specs.States.{State, Doubt, Settles}
-use Rattle.hail_machine.specs.Openings.{reread, Rereads}
-use Rattle.hail_machine.specs.Stands.{StandsIn, StandsPlain, StandsForState}
+use Rattle.device_defs.specs.Cells.{Cells, reads, firm}
+use Rattle.device_defs.proofs.Lasting.{image-firm, each_image-mono}
+use Rattle.record_defs.specs.Records.{Record, largest_journal}
+use Rattle.record_defs.specs.Journal.{text_size, StandsFor, StandsOrIsEmpty}
+use Rattle.record_defs.specs.Acceptance.{AreAccepted}
+use Rattle.record_defs.specs.Areas.{Area, A, other_area}
+use Rattle.record_defs.specs.Packed.{packed}
+use Rattle.record_defs.proofs.Standing.{stands-front}
+use Rattle.machine_defs.specs.Events.{Stop, Stopped}
+use Rattle.machine_defs.specs.States.{State, Doubt, Settles}
+use Rattle.machine_defs.specs.Openings.{reread, Rereads}
+use Rattle.machine_defs.specs.Stands.{StandsIn, StandsPlain, StandsForState}
 use Rattle.journal_core.proofs.Meanings.{one_meaning}
-use Rattle.sound_states.specs.Sound.{IsWholeJournal, IsSound}
-use Rattle.sound_states.proofs.Events.{events-sound}
-use Rattle.hail_openings.specs.Journals.{journal_read}
+use Rattle.state_laws.specs.Sound.{IsWholeJournal, IsSound}
+use Rattle.state_laws.proofs.Events.{events-sound}
+use Rattle.opening_defs.specs.Journals.{journal_read}
 use Rattle.vault_open.proofs.Texts.{short-none}
 use Rattle.vault_open.proofs.FirstVersion.{Shows, ShowsFirst}
-use Rattle.sound_states.proofs.Written.{whole-end}
+use Rattle.state_laws.proofs.Written.{whole-end}
 
 -- ---- what bytes stand for
 

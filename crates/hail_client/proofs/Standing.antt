@@ -1,11 +1,11 @@
 -- What a client and its devices stand for.
 use Rattle.std.proofs.Common.{◌≡◌, ℕ, ◌≤◌, length, Option, Some, None, refl, ap, sym, arith}
-use Rattle.hail_records.specs.Records.{Setup}
-use Rattle.hail_machine.specs.Events.{Continue, Continued}
-use Rattle.hail_machine.specs.States.{State, IsStart, continued}
-use Rattle.sound_states.specs.Sound.{IsSound}
-use Rattle.sound_states.proofs.Resting.{start-sound}
-use Rattle.sound_states.proofs.Events.{events-sound}
+use Rattle.record_defs.specs.Records.{Setup}
+use Rattle.machine_defs.specs.Events.{Continue, Continued}
+use Rattle.machine_defs.specs.States.{State, IsStart, continued}
+use Rattle.state_laws.specs.Sound.{IsSound}
+use Rattle.state_laws.proofs.Resting.{start-sound}
+use Rattle.state_laws.proofs.Events.{events-sound}
 use Rattle.vault.specs.declared.vault.Vault.{Vault}
 use Rattle.vault_open.specs.Devices.{Devices, AreDevices}
 use Rattle.vault.proofs.Ways.{images_on}

@@ -1,15 +1,15 @@
 -- A stop as an event of the machine.
 use Rattle.std.proofs.Common.{◌≡◌, ℕ, List, Option, Some, None, refl, sym, subst, ◌∙◌, inl}
-use Rattle.hail_devices.specs.Cells.{Cells}
-use Rattle.hail_devices.specs.Disks.{Stopped}
-use Rattle.hail_devices.specs.Told.{Goes}
-use Rattle.hail_devices.specs.Providers.{Provider}
-use Rattle.hail_records.specs.Records.{Record}
-use Rattle.hail_machine.specs.Events as events
-use Rattle.hail_machine.specs.Events.{Stop, AreBytes}
-use Rattle.hail_machine.specs.States.{State}
-use Rattle.hail_machine.specs.Stands.{StandsForState}
-use Rattle.sound_states.specs.Sound.{IsSound}
+use Rattle.device_defs.specs.Cells.{Cells}
+use Rattle.device_defs.specs.Disks.{Stopped}
+use Rattle.device_defs.specs.Told.{Goes}
+use Rattle.device_defs.specs.Providers.{Provider}
+use Rattle.record_defs.specs.Records.{Record}
+use Rattle.machine_defs.specs.Events as events
+use Rattle.machine_defs.specs.Events.{Stop, AreBytes}
+use Rattle.machine_defs.specs.States.{State}
+use Rattle.machine_defs.specs.Stands.{StandsForState}
+use Rattle.state_laws.specs.Sound.{IsSound}
 use Rattle.vault_open.specs.Devices.{devices, AreDevices}
 use Rattle.hail_client.specs.declared.client.Client.{Client}
 use Rattle.hail_client.specs.Client.{client_next_job}

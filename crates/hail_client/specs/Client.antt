@@ -11,7 +11,7 @@
 --                           open
 --   IsSame old new == nothing changed but spare room of the open vault
 use Rattle.std.specs.Prelude.{◌≡◌, ℕ, Bool, Option, Some, None, is_some}
-use Rattle.hail_records.specs.Records.{Record}
+use Rattle.record_defs.specs.Records.{Record}
 use Rattle.vault_core.specs.Coming.{Coming, IsNoJob}
 use Rattle.std.specs.Option.{option_map}
 use Rattle.vault.specs.declared.vault.Vault.{Vault}

@@ -8,12 +8,12 @@
 --   notes          == that file
 --   stored_state   == the state at rest over that journal, with no vault open
 use Rattle.std.specs.Prelude.{false, [], replicate, codes, Some, None}
-use Rattle.hail_devices.specs.Cells.{firm}
-use Rattle.hail_devices.specs.Providers.{Provider}
-use Rattle.hail_records.specs.Journal.{text}
-use Rattle.hail_records.specs.Table.{File}
-use Rattle.hail_machine.specs.Examples.{empty_provider, one_file, hundred, opened}
-use Rattle.hail_machine.specs.States.{State}
+use Rattle.device_defs.specs.Cells.{firm}
+use Rattle.device_defs.specs.Providers.{Provider}
+use Rattle.record_defs.specs.Journal.{text}
+use Rattle.record_defs.specs.Table.{File}
+use Rattle.machine_defs.specs.Examples.{empty_provider, one_file, hundred, opened}
+use Rattle.machine_defs.specs.States.{State}
 use Rattle.vault_open.specs.Devices.{Devices, devices}
 use Rattle.hail_client.specs.declared.client.Client.{Client}
 use Rattle.hail_client.specs.Start.{provider_or_empty}

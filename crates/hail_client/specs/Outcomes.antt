@@ -10,10 +10,10 @@
 --   replace_outcome result == of an alteration or a loss
 --   names_outcome files    == of a list of the files in effect, by the table that has them
 use Rattle.std.specs.Prelude.{ℕ, Bool, true, false, Option, Some, None, Result, Ok, Err}
-use Rattle.hail_machine.specs.Refusals as refusal
-use Rattle.hail_machine.specs.Refusals.{Refusal}
-use Rattle.hail_machine.specs.Events as events
-use Rattle.hail_machine.specs.Events.{Outcome}
+use Rattle.machine_defs.specs.Refusals as refusal
+use Rattle.machine_defs.specs.Refusals.{Refusal}
+use Rattle.machine_defs.specs.Events as events
+use Rattle.machine_defs.specs.Events.{Outcome}
 use Rattle.vault_core.specs.declared.wish.BeginFault.{BeginFault}
 use Rattle.vault_table.specs.Values.{Kept}
 use Rattle.vault_open.specs.declared.fault.StartFault.{StartFault}

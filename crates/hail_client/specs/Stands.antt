@@ -19,26 +19,26 @@
 --   RunsJobOn start ms job turn c d == behind these moments a job was stepped until this turn, at which it
 --                                      did not go on
 use Rattle.std.specs.Prelude.{◌≡◌, ◌≢◌, ℕ, false, List, ◌∷◌, ◌++◌, length, Option, Some, None, IfSome}
-use Rattle.hail_devices.specs.Cells.{Cells}
-use Rattle.hail_devices.specs.Providers.{Provider}
-use Rattle.hail_records.specs.Records.{Record}
-use Rattle.hail_records.specs.Journal.{StandsFor}
-use Rattle.hail_records.specs.Table.{File, file_of}
-use Rattle.hail_machine.specs.Answers as answers
-use Rattle.hail_machine.specs.Events.{Event, Step, Outcome, Ended, IsSpelled}
-use Rattle.hail_machine.specs.States.{State}
-use Rattle.hail_machine.specs.Machine.{Happens}
-use Rattle.hail_machine.specs.Heard.{heard_by}
-use Rattle.hail_machine.specs.Jobs.{job_of}
-use Rattle.hail_machine.specs.Runs.{Moment, now, IsRun}
-use Rattle.hail_machine.specs.Transcripts.{RunsToEnd}
-use Rattle.sound_states.specs.Sound.{IsSound}
+use Rattle.device_defs.specs.Cells.{Cells}
+use Rattle.device_defs.specs.Providers.{Provider}
+use Rattle.record_defs.specs.Records.{Record}
+use Rattle.record_defs.specs.Journal.{StandsFor}
+use Rattle.record_defs.specs.Table.{File, file_of}
+use Rattle.machine_defs.specs.Answers as answers
+use Rattle.machine_defs.specs.Events.{Event, Step, Outcome, Ended, IsSpelled}
+use Rattle.machine_defs.specs.States.{State}
+use Rattle.machine_defs.specs.Machine.{Happens}
+use Rattle.machine_defs.specs.Heard.{heard_by}
+use Rattle.machine_defs.specs.Jobs.{job_of}
+use Rattle.machine_defs.specs.Runs.{Moment, now, IsRun}
+use Rattle.machine_defs.specs.Transcripts.{RunsToEnd}
+use Rattle.state_laws.specs.Sound.{IsSound}
 use Rattle.vault.specs.declared.turn.Turn.{Turn}
 use Rattle.vault.specs.declared.vault.Vault.{Vault}
 use Rattle.vault_open.specs.Devices.{Devices, devices, AreDevices}
 use Rattle.vault.specs.Devices.{IsSameBeyond}
-use Rattle.hail_openings.specs.Journals.{IsRead}
-use Rattle.hail_openings.specs.Opened.{IsJustOpened}
+use Rattle.opening_defs.specs.Journals.{IsRead}
+use Rattle.opening_defs.specs.Opened.{IsJustOpened}
 use Rattle.vault.specs.Outcomes.{IfEnded}
 use Rattle.vault.specs.Stands.{Stands, IsSamePast}
 use Rattle.hail_client.specs.declared.client.Client.{Client}

@@ -6,10 +6,10 @@
 --                        these records
 --   TellAll ps        == each provider handed in tells what it holds
 use Rattle.std.specs.Prelude.{◌≡◌, ℕ, zero, suc, false, List, [], ◌∷◌, length, slice_get, None, Some, IsSome}
-use Rattle.hail_devices.specs.Providers.{Provider}
-use Rattle.hail_records.specs.Records.{Record}
-use Rattle.hail_records.specs.Areas.{A}
-use Rattle.hail_machine.specs.States.{State}
+use Rattle.device_defs.specs.Providers.{Provider}
+use Rattle.record_defs.specs.Records.{Record}
+use Rattle.record_defs.specs.Areas.{A}
+use Rattle.machine_defs.specs.States.{State}
 use Rattle.vault_open.specs.Devices.{Devices}
 
 -- a provider that tells that it holds nothing, and counts nothing: it stands at each place past those

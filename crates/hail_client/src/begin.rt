@@ -1,7 +1,7 @@
 ghost use Rattle.std.specs.Prelude.{◌≡◌, ◌<◌, ◌-◌, ◌^◌, ℕ};
-ghost use Rattle.hail_machine.specs.Events.{Begin, AreBytes};
-ghost use Rattle.hail_machine.specs.Jobs.{PutJob, GetJob, DropJob, AuditJob, RepairJob};
-ghost use Rattle.hail_machine.specs.States.{State};
+ghost use Rattle.machine_defs.specs.Events.{Begin, AreBytes};
+ghost use Rattle.machine_defs.specs.Jobs.{PutJob, GetJob, DropJob, AuditJob, RepairJob};
+ghost use Rattle.machine_defs.specs.States.{State};
 ghost use Rattle.vault_open.specs.Devices.{Devices};
 ghost use Rattle.hail_client.specs.Client.{client_next_job, IsSame};
 ghost use Rattle.hail_client.specs.Outcomes.{client_begin_outcome, UnlessBegun};

@@ -1,7 +1,7 @@
 ghost use Rattle.std.specs.Prelude.{◌≡◌, ℕ, false, option_copied};
-ghost use Rattle.hail_machine.specs.Events.{Names};
-ghost use Rattle.hail_machine.specs.States.{State, IsStart, continued};
-ghost use Rattle.sound_states.specs.Sound.{IsSound};
+ghost use Rattle.machine_defs.specs.Events.{Names};
+ghost use Rattle.machine_defs.specs.States.{State, IsStart, continued};
+ghost use Rattle.state_laws.specs.Sound.{IsSound};
 ghost use Rattle.vault_open.specs.Devices.{Devices, AreDevices};
 ghost use Rattle.hail_client.specs.Client.{is_open, client_next_job, names_of, uses};
 ghost use Rattle.hail_client.specs.Outcomes.{names_outcome};

@@ -1,9 +1,9 @@
 ghost use Rattle.std.specs.Prelude.{ℕ, Option, IsSome, map};
-ghost use Rattle.hail_devices.specs.Cells.{Cells};
-ghost use Rattle.hail_devices.specs.ProviderCalls.{Replaces};
-ghost use Rattle.hail_devices.specs.Providers.{HasPlace, with_symbol, without_block};
-ghost use Rattle.hail_machine.specs.Events.{Alter, Lose};
-ghost use Rattle.hail_machine.specs.States.{State};
+ghost use Rattle.device_defs.specs.Cells.{Cells};
+ghost use Rattle.device_defs.specs.ProviderCalls.{Replaces};
+ghost use Rattle.device_defs.specs.Providers.{HasPlace, with_symbol, without_block};
+ghost use Rattle.machine_defs.specs.Events.{Alter, Lose};
+ghost use Rattle.machine_defs.specs.States.{State};
 ghost use Rattle.vault_open.specs.Devices.{devices};
 ghost use Rattle.provider_model.specs.Seen.{provider_seen};
 ghost use Rattle.hail_client.specs.Outcomes.{replace_outcome};

@@ -1,6 +1,6 @@
 ghost use Rattle.std.specs.Prelude.{◌≡◌, ◌≢◌, List, true, Some, IfSome, is_some, length, map};
-ghost use Rattle.hail_machine.specs.Runs.{Moment};
-ghost use Rattle.hail_machine.specs.States.{State};
+ghost use Rattle.machine_defs.specs.Runs.{Moment};
+ghost use Rattle.machine_defs.specs.States.{State};
 ghost use Rattle.vault.specs.declared.turn.Turn.TheVariants as turn;
 ghost use Rattle.vault_open.specs.Devices.{devices};
 ghost use Rattle.vault.specs.Devices.{devices_seen};

@@ -1,10 +1,10 @@
 ghost use Rattle.std.specs.Prelude.{◌≡◌, ◌≢◌, ◌<◌, ◌≤◌, ◌++◌, ◌∷◌, [], ℕ, true, false, Some, None, IfSome, is_some, length, map, slice_get};
-ghost use Rattle.hail_devices.specs.Faults.{one_more};
-ghost use Rattle.hail_machine.specs.Heard.{heard_by};
-ghost use Rattle.hail_machine.specs.Jobs.{job_of};
-ghost use Rattle.hail_machine.specs.States.{State};
-ghost use Rattle.hail_records.specs.Records.{Record as Entry};
-ghost use Rattle.hail_records.specs.Spellings.{spelling};
+ghost use Rattle.device_defs.specs.Faults.{one_more};
+ghost use Rattle.machine_defs.specs.Heard.{heard_by};
+ghost use Rattle.machine_defs.specs.Jobs.{job_of};
+ghost use Rattle.machine_defs.specs.States.{State};
+ghost use Rattle.record_defs.specs.Records.{Record as Entry};
+ghost use Rattle.record_defs.specs.Spellings.{spelling};
 ghost use Rattle.vault.specs.declared.turn.Turn.TheVariants as turn;
 ghost use Rattle.vault.specs.Calls.{moves_before_next, CalledOnce, MovesCells};
 ghost use Rattle.vault.specs.Devices.{devices_seen};

@@ -6,7 +6,7 @@ use Rattle.hail_field.proofs.AllNumbers.{nim_laws}
 use Rattle.poly_laws.specs.Poly.{Decodes}
 use Rattle.poly_laws.proofs.Agree.{agree_same}
 use Rattle.poly_laws.proofs.Trim.{value-trim, length-trim}
-use Rattle.hail_codes.specs.Polynomials.{value, trim}
+use Rattle.code_defs.specs.Polynomials.{value, trim}
 use Rattle.hail_poly.specs.Quotient.{IsQuotient, HasNoQuotient}
 use Rattle.hail_poly.proofs.Decoding.{IsFound, decoded, none_decodes}
 use Rattle.hail_poly.specs.Decoding.{matches, IsDecoded, NoneDecodes}

@@ -14,7 +14,7 @@ use Rattle.poly_laws.proofs.Interpolate.{interpolate_takes, length-interpolate}
 use Rattle.poly_laws.proofs.Everywhere.{same_from_values}
 use Rattle.poly_laws.proofs.Shifts.{shifted, value-added}
 use Rattle.poly_laws.proofs.Places.{value-next, Takes-trim}
-use Rattle.hail_codes.specs.Polynomials.{value, plus, scale, times, trim, interpolate, TakesSymbols}
+use Rattle.code_defs.specs.Polynomials.{value, plus, scale, times, trim, interpolate, TakesSymbols}
 use Rattle.hail_poly.specs.Rows.{Reduces}
 use Rattle.hail_poly.specs.Quotient.{IsDivision}
 use Rattle.hail_poly.proofs.RowSteps.{Each-zeros, trim_trim}

@@ -6,8 +6,8 @@ use Rattle.hail_field.proofs.AllNumbers.{nim_laws, nim_ring}
 use Rattle.poly_laws.specs.Poly.{value as value_over, FirstRow, here, next}
 use Rattle.poly_laws.proofs.Trim.{value-trim}
 use Rattle.poly_laws.proofs.Values.{value-plus, value-times}
-use Rattle.hail_codes.specs.Polynomials.{value, plus, times}
-use Rattle.hail_codes.proofs.Values.{value-constant}
+use Rattle.code_defs.specs.Polynomials.{value, plus, times}
+use Rattle.code_defs.proofs.Values.{value-constant}
 use Rattle.hail_poly.specs.Quotient.{IsCombination}
 
 -- the first short row is short

@@ -1,6 +1,6 @@
 -- What a decoder concludes of the row that `euclid` found after `load`, and of what `divide` answered.
 use Rattle.std.proofs.Common.{◌≡◌, ◌≢◌, ◌≤◌, ◌<◌, ◌+◌, ◌*◌, [], ◌∷◌, ℕ, List, length, refl, sym, ◌∙◌, subst, arith}
-use Rattle.plain_facts.specs.Lists.{Each}
+use Rattle.plain_laws.specs.Lists.{Each}
 use Rattle.field_laws.specs.Field.{Apart}
 use Rattle.hail_field.specs.Nim.{nim}
 use Rattle.hail_field.proofs.AllNumbers.{nim_laws, nim_endless}
@@ -10,7 +10,7 @@ use Rattle.poly_laws.proofs.Trim.{length-trim}
 use Rattle.poly_laws.proofs.Everywhere.{same_from_values}
 use Rattle.poly_laws.proofs.Euclid.{key_row, factor_not_zero}
 use Rattle.poly_laws.proofs.Decode.{first_rows, decode_exact}
-use Rattle.hail_codes.specs.Polynomials.{vanish, interpolate, trim}
+use Rattle.code_defs.specs.Polynomials.{vanish, interpolate, trim}
 use Rattle.hail_poly.specs.Registers.{Registers, IsLoaded}
 use Rattle.hail_poly.specs.Quotient.{IsQuotient, HasNoQuotient}
 

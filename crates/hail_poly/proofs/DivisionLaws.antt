@@ -10,7 +10,7 @@ use Rattle.poly_laws.proofs.Values.{value-plus, value-times}
 use Rattle.poly_laws.proofs.Roots.{length-plus}
 use Rattle.poly_laws.proofs.Everywhere.{same_from_values}
 use Rattle.poly_laws.proofs.Degree.{product_not_shorter}
-use Rattle.hail_codes.specs.Polynomials.{value, plus, times, trim}
+use Rattle.code_defs.specs.Polynomials.{value, plus, times, trim}
 use Rattle.hail_poly.specs.Quotient.{IsDivision}
 use Rattle.hail_poly.proofs.EuclidSteps.{lead_of}
 use Rattle.hail_poly.proofs.RowSteps.{trim_trim}

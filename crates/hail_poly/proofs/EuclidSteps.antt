@@ -3,7 +3,7 @@ use Rattle.std.proofs.lemmas.List.{take_more, length-append, length-take, length
 use Rattle.std.proofs.Math.Seq.{take-take, take-length, take-append_seam}
 use Rattle.hail_poly.proofs.TrimSteps.{last_of}
 use Rattle.hail_field.specs.Nim.{nim, nim_add, nim_mul, nim_inv}
-use Rattle.hail_codes.specs.Polynomials.{trim, value, plus, scale}
+use Rattle.code_defs.specs.Polynomials.{trim, value, plus, scale}
 use Rattle.hail_poly.specs.Rows.{Reduces}
 use Rattle.hail_field.proofs.AllNumbers.{nim_laws, nim_endless}
 use Rattle.field_laws.proofs.Ring.{zero_add, zero_mul}

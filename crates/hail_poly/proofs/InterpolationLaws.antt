@@ -8,8 +8,8 @@ use Rattle.hail_field.proofs.AllNumbers.{nim_laws}
 use Rattle.poly_laws.proofs.Headlines.{one_takes}
 use Rattle.poly_laws.proofs.Trim.{value-trim}
 use Rattle.poly_laws.proofs.Interpolate.{interpolate_takes, length-interpolate}
-use Rattle.hail_codes.specs.Points.{values_at}
-use Rattle.hail_codes.specs.Polynomials.{value, interpolate, trim, TakesSymbols}
+use Rattle.code_defs.specs.Points.{values_at}
+use Rattle.code_defs.specs.Polynomials.{value, interpolate, trim, TakesSymbols}
 
 -- a polynomial takes its values
 pub takes_values : (p xs : List ℕ) → TakesSymbols p xs (values_at xs p)

@@ -5,7 +5,7 @@ use Rattle.std.proofs.Math.Seq.{take-append_seam}
 use Rattle.hail_field.specs.Nim.{nim}
 use Rattle.hail_field.proofs.AllNumbers.{nim_laws}
 use Rattle.poly_laws.proofs.Trim.{trim-last, length-trim}
-use Rattle.hail_codes.specs.Polynomials.{trim}
+use Rattle.code_defs.specs.Polynomials.{trim}
 use Rattle.hail_poly.specs.Key.{power, key}
 use Rattle.hail_poly.specs.Registers.{Registers, IsLoaded}
 

@@ -1,10 +1,10 @@
 -- The steps of interpolate_into.
 use Rattle.std.proofs.Common.{◌≡◌, ◌≢◌, ◌≤◌, ◌<◌, ◌+◌, ◌-◌, ◌++◌, [], ◌∷◌, ℕ, zero, suc, List, length, drop, take, set, get_or, add-one, refl, sym, ◌∙◌, ap, subst, arith}
 use Rattle.std.proofs.lemmas.List.{take_more_set, drop_all, drop_more, length-append, length-drop}
-use Rattle.plain_facts.specs.Lists.{Each}
-use Rattle.plain_facts.proofs.Lists.{take-front}
+use Rattle.plain_laws.specs.Lists.{Each}
+use Rattle.plain_laws.proofs.Lists.{take-front}
 use Rattle.hail_field.specs.Nim.{nim, nim_add, nim_mul, nim_inv}
-use Rattle.hail_codes.specs.Polynomials.{value, plus, scale, root_times, vanish, interpolate}
+use Rattle.code_defs.specs.Polynomials.{value, plus, scale, root_times, vanish, interpolate}
 use Rattle.hail_field.proofs.AllNumbers.{nim_laws}
 use Rattle.field_laws.specs.Field.{Apart}
 use Rattle.poly_laws.specs.Poly.{vanish as vanish_over, interpolate as interpolate_over}

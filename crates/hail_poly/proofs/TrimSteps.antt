@@ -1,7 +1,7 @@
 use Rattle.std.proofs.Common.{◌≡◌, ◌≢◌, ◌≤◌, ◌<◌, ◌+◌, ◌-◌, ◌++◌, [], ◌∷◌, ℕ, zero, suc, List, length, take, get_or, refl, arith}
 use Rattle.std.proofs.lemmas.List.{take_more}
 use Rattle.hail_field.specs.Nim.{nim}
-use Rattle.hail_codes.specs.Polynomials.{trim}
+use Rattle.code_defs.specs.Polynomials.{trim}
 use Rattle.hail_field.proofs.AllNumbers.{nim_laws}
 use Rattle.poly_laws.proofs.Trim.{trim-zero_last, trim-last}
 use Rattle.poly_laws.specs.Poly.{trim as trim_over}

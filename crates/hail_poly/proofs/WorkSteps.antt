@@ -9,8 +9,8 @@ use Rattle.poly_laws.proofs.Trim.{value-trim}
 use Rattle.poly_laws.proofs.Values.{value-plus, value-times}
 use Rattle.poly_laws.proofs.Everywhere.{same_from_values}
 use Rattle.poly_laws.proofs.Degree.{product_not_shorter}
-use Rattle.hail_codes.specs.Polynomials.{value, plus, times, trim}
-use Rattle.hail_codes.proofs.Values.{value-constant}
+use Rattle.code_defs.specs.Polynomials.{value, plus, times, trim}
+use Rattle.code_defs.proofs.Values.{value-constant}
 use Rattle.hail_poly.specs.Rows.{Reduces}
 use Rattle.hail_poly.specs.Quotient.{IsProduct, IsQuotient, HasNoQuotient}
 use Rattle.hail_poly.proofs.EuclidSteps.{lead_of}

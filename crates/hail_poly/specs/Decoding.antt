@@ -2,7 +2,7 @@
 use Rattle.std.specs.Prelude.{◌≡◌, ℕ, List, Some, map}
 use Rattle.hail_field.specs.Nim.{nim}
 use Rattle.poly_laws.specs.Poly.{Decodes}
-use Rattle.hail_codes.specs.Polynomials.{agree, trim}
+use Rattle.code_defs.specs.Polynomials.{agree, trim}
 
 -- at how many points p takes the value
 abbrev pub matches : List ℕ → List ℕ → List ℕ → ℕ

@@ -1,6 +1,6 @@
 -- The key equation of a decoder by syndromes: what `load_key` puts into the registers.
 use Rattle.std.specs.Prelude.{ℕ, List, [], ◌∷◌, ◌++◌, replicate, reverse}
-use Rattle.hail_codes.specs.Polynomials.{trim}
+use Rattle.code_defs.specs.Polynomials.{trim}
 
 -- x to the power m
 abbrev pub power : ℕ → List ℕ

@@ -1,7 +1,7 @@
 -- Division, with and without a remainder, and what Euclid's algorithm keeps.
 use Rattle.std.specs.Prelude.{◌≡◌, ◌<◌, ℕ, List, length}
 use Rattle.hail_field.specs.Nim.{nim_add, nim_mul}
-use Rattle.hail_codes.specs.Polynomials.{value, plus, times, trim}
+use Rattle.code_defs.specs.Polynomials.{value, plus, times, trim}
 
 -- p is f times q
 abbrev pub IsProduct : List ℕ → List ℕ → List ℕ → Type 0

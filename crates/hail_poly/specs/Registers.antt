@@ -1,6 +1,6 @@
 -- The registers of a Work.
 use Rattle.std.specs.Prelude.{◌≡◌, ◌≤◌, ◌<◌, ◌+◌, ℕ, List, [], ◌∷◌, length, take}
-use Rattle.hail_codes.specs.Polynomials.{trim}
+use Rattle.code_defs.specs.Polynomials.{trim}
 use Rattle.hail_poly.specs.RowState.{RowState}
 
 -- the three polynomials, and how many points there is room for

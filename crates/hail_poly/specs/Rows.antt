@@ -1,6 +1,6 @@
 use Rattle.std.specs.Prelude.{◌≡◌, ◌≤◌, ◌+◌, ◌-◌, ℕ, List, length}
 use Rattle.hail_field.specs.Nim.{nim_add, nim_mul}
-use Rattle.hail_codes.specs.Polynomials.{value}
+use Rattle.code_defs.specs.Polynomials.{value}
 
 -- the row (r2, f2) is the row (r0, f0) less a multiple of the row (r1, f1)
 pub record Reduces (r0 f0 r1 f1 r2 f2 : List ℕ) : Type 0 where

@@ -1,5 +1,5 @@
 ghost use Rattle.std.specs.Prelude.{◌≡◌, ◌≢◌, ◌<◌, ◌≤◌, ◌+◌, [], length, take};
-ghost use Rattle.hail_codes.specs.Polynomials.{plus, times, trim};
+ghost use Rattle.code_defs.specs.Polynomials.{plus, times, trim};
 ghost use Rattle.hail_poly.specs.Quotient.{IsDivision};
 
 use crate::euclid::reduce;

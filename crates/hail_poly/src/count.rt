@@ -1,5 +1,5 @@
 ghost use Rattle.std.specs.Prelude.{◌≡◌, ◌≤◌, length, Some};
-ghost use Rattle.hail_codes.specs.Polynomials.{is_seen};
+ghost use Rattle.code_defs.specs.Polynomials.{is_seen};
 ghost use Rattle.hail_poly.specs.Decoding.{matches};
 
 use crate::read::eval;

@@ -1,5 +1,5 @@
 ghost use Rattle.std.specs.Prelude.{◌≡◌, ◌≢◌, ◌<◌, ◌≤◌, ◌+◌, ◌-◌, length, take, slice_index};
-ghost use Rattle.hail_codes.specs.Polynomials.{trim};
+ghost use Rattle.code_defs.specs.Polynomials.{trim};
 ghost use Rattle.hail_poly.specs.Rows.{Reduces};
 
 use crate::read::used;

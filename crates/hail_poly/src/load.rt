@@ -1,5 +1,5 @@
 ghost use Rattle.std.specs.Prelude.{◌≡◌, ◌<◌, ◌≤◌, ◌^◌, ◌+◌, ◌++◌, ◌∷◌, [], length, take};
-ghost use Rattle.hail_codes.specs.Polynomials.{vanish, interpolate};
+ghost use Rattle.code_defs.specs.Polynomials.{vanish, interpolate};
 ghost use Rattle.field_laws.specs.Field.{Apart};
 
 use crate::read::eval;

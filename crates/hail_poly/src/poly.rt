@@ -15,7 +15,7 @@ pub struct Poly {
 
 impl Model for Poly {
     ghost use Rattle.std.specs.Prelude.{◌≡◌, ℕ, List};
-    ghost use Rattle.hail_codes.specs.Polynomials.{trim};
+    ghost use Rattle.code_defs.specs.Polynomials.{trim};
 
     ghost Value = { List ℕ };
 
@@ -27,7 +27,7 @@ impl Model for Poly {
 impl Poly {
     ghost use Rattle.std.specs.Prelude.{◌≡◌, ◌≢◌, ◌≤◌, [], length, IfOk};
     ghost use Rattle.field_laws.specs.Field.{Apart};
-    ghost use Rattle.hail_codes.specs.Polynomials.{value, plus, times, interpolate, trim, TakesSymbols};
+    ghost use Rattle.code_defs.specs.Polynomials.{value, plus, times, interpolate, trim, TakesSymbols};
     ghost use Rattle.hail_poly.specs.Quotient.{IsDivision};
 
     /// The polynomial of coefficients in memory.

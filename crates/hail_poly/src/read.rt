@@ -1,5 +1,5 @@
 ghost use Rattle.std.specs.Prelude.{◌≡◌, ◌<◌, ◌^◌, ◌≤◌, length, take};
-ghost use Rattle.hail_codes.specs.Polynomials.{value, trim};
+ghost use Rattle.code_defs.specs.Polynomials.{value, trim};
 
 use hail_field::Symbol;
 

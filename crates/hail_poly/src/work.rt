@@ -42,7 +42,7 @@ impl Work {
     ghost use Rattle.field_laws.specs.Field.{Apart};
     ghost use Rattle.poly_laws.specs.Poly.{FirstRow};
     ghost use Rattle.hail_field.specs.Nim.{nim};
-    ghost use Rattle.hail_codes.specs.Polynomials.{value, vanish, interpolate, trim};
+    ghost use Rattle.code_defs.specs.Polynomials.{value, vanish, interpolate, trim};
     ghost use Rattle.hail_poly.specs.Key.{power, key};
     ghost use Rattle.hail_poly.specs.Registers.{IsLoaded};
     ghost use Rattle.hail_poly.specs.Quotient.{IsQuotient, HasNoQuotient, IsCombination};

@@ -2,13 +2,13 @@
 use Rattle.std.proofs.Common.{◌≡◌, ℕ, ◌<◌, ◌^◌, false, List, [], ◌∷◌, ◌++◌, length, Option, Some, None, refl, ap₂, sym, subst, ◌∙◌}
 use Rattle.std.specs.Prelude.{IfSome}
 use Rattle.std.proofs.lemmas.List.{append-nil}
-use Rattle.hail_machine.specs.Events.{Event, Step, Outcome, More, Closed}
-use Rattle.hail_machine.specs.Heard.{Entry, heard_by, heard_at, heard_in, reported_after}
-use Rattle.hail_machine.specs.Jobs.{job_of}
-use Rattle.hail_machine.specs.Runs.{Moment, now}
-use Rattle.hail_machine.specs.States.{State}
-use Rattle.hail_machine.specs.Steps.{Steps}
-use Rattle.hail_machine.specs.Transcripts.{Once, RunJob, GoOn}
+use Rattle.machine_defs.specs.Events.{Event, Step, Outcome, More, Closed}
+use Rattle.machine_defs.specs.Heard.{Entry, heard_by, heard_at, heard_in, reported_after}
+use Rattle.machine_defs.specs.Jobs.{job_of}
+use Rattle.machine_defs.specs.Runs.{Moment, now}
+use Rattle.machine_defs.specs.States.{State}
+use Rattle.machine_defs.specs.Steps.{Steps}
+use Rattle.machine_defs.specs.Transcripts.{Once, RunJob, GoOn}
 use Rattle.vault.specs.declared.turn.Turn.{Turn}
 use Rattle.vault.specs.declared.turn.Turn.TheVariants as turn
 use Rattle.vault_open.specs.Devices.{Devices}

@@ -1,11 +1,11 @@
 -- No count of faults falls, and no provider comes or goes.
 use Rattle.std.proofs.Common.{◌≡◌, ℕ, zero, suc, ◌<◌, List, [], ◌∷◌, length, Some, refl, sym, subst, ◌∙◌, arith}
 use Rattle.std.specs.Prelude.{slice_get, unwrap_or}
-use Rattle.hail_devices.specs.Providers.{Provider}
-use Rattle.hail_commands.specs.Seen.{provider_at, nobody}
-use Rattle.hail_machine.specs.Runs.{Moment, now, IsRun}
-use Rattle.hail_machine.specs.States.{State}
-use Rattle.calm_laws.proofs.Onward.{Onward, AllOnward, run_onward}
+use Rattle.device_defs.specs.Providers.{Provider}
+use Rattle.command_defs.specs.Seen.{provider_at, nobody}
+use Rattle.machine_defs.specs.Runs.{Moment, now, IsRun}
+use Rattle.machine_defs.specs.States.{State}
+use Rattle.second_half_laws.proofs.Onward.{Onward, AllOnward, run_onward}
 use Rattle.vault_open.specs.Devices.{Devices, AreDevices}
 use Rattle.hail_replay.specs.Performed.{NoCountFell}
 

@@ -2,15 +2,15 @@
 use Rattle.std.proofs.Common.{◌≡◌, ℕ, ◌≤◌, List, [], ◌∷◌, ◌++◌, reverse, Option, Result, Ok, Err, refl, ap, sym, subst, ◌∙◌}
 use Rattle.std.specs.Prelude.{OnOk, OnErr}
 use Rattle.std.proofs.lemmas.List.{append_assoc, reverse-append}
-use Rattle.hail_commands.specs.Sinking.{WritesLine}
-use Rattle.hail_machine.specs.Failures.{Count, count_in, HasFailures, RoseBy}
-use Rattle.hail_machine.specs.Heard.{Entry, heard_in}
-use Rattle.hail_machine.specs.Lines.{lines_of}
-use Rattle.hail_machine.specs.Runs.{Moment, now, IsRun}
-use Rattle.hail_machine.specs.States.{State, IsStart, continued}
-use Rattle.hail_machine.specs.Transcripts.{Instruction, Once, RunJob, GoOn, CarriesOut}
+use Rattle.command_defs.specs.Sinking.{WritesLine}
+use Rattle.machine_defs.specs.Failures.{Count, count_in, HasFailures, RoseBy}
+use Rattle.machine_defs.specs.Heard.{Entry, heard_in}
+use Rattle.machine_defs.specs.Lines.{lines_of}
+use Rattle.machine_defs.specs.Runs.{Moment, now, IsRun}
+use Rattle.machine_defs.specs.States.{State, IsStart, continued}
+use Rattle.machine_defs.specs.Transcripts.{Instruction, Once, RunJob, GoOn, CarriesOut}
 use Rattle.headline.specs.Headline.{Headline}
-use Rattle.sound_states.specs.Sound.{IsSound}
+use Rattle.state_laws.specs.Sound.{IsSound}
 use Rattle.trial_counts.specs.Counts.{TrialCounts}
 use Rattle.trial_counts.specs.Seen.{SeesOne}
 use Rattle.vault_open.specs.Devices.{Devices, AreDevices}

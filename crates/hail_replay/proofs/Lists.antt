@@ -1,7 +1,7 @@
 -- Lists of what jobs heard, one behind the other.
 use Rattle.std.proofs.Common.{◌≡◌, List, [], ◌∷◌, ◌++◌, ap, sym, ◌∙◌}
 use Rattle.std.proofs.lemmas.List.{append-nil, append_assoc}
-use Rattle.hail_machine.specs.Heard.{Entry}
+use Rattle.machine_defs.specs.Heard.{Entry}
 use Rattle.hail_replay.specs.Heard.{joined}
 
 pub joined-push : (lists : List (List Entry)) (list : List Entry) → joined (lists ++ list ∷ []) ≡ joined lists ++ list

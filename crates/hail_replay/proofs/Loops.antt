@@ -3,14 +3,14 @@ use Rattle.std.proofs.Common.{◌≡◌, ◌≢◌, inr, ℕ, ◌+◌, ◌≤◌
 use Rattle.std.specs.Prelude.{IsSome, is_some}
 use Rattle.std.proofs.lemmas.Bool.{false≢true}
 use Rattle.std.proofs.lemmas.List.{append-nil, reverse-reverse}
-use Rattle.hail_commands.specs.Sinking.{Sinking, WritesLine}
-use Rattle.hail_machine.specs.Failures.{Count, count_in, HasFailures, RoseBy}
-use Rattle.hail_machine.specs.Heard.{Entry}
-use Rattle.hail_machine.specs.Runs.{Moment, now, IsRun}
-use Rattle.hail_machine.specs.States.{State, IsStart, continued}
-use Rattle.hail_machine.specs.Transcripts.{Instruction}
+use Rattle.command_defs.specs.Sinking.{Sinking, WritesLine}
+use Rattle.machine_defs.specs.Failures.{Count, count_in, HasFailures, RoseBy}
+use Rattle.machine_defs.specs.Heard.{Entry}
+use Rattle.machine_defs.specs.Runs.{Moment, now, IsRun}
+use Rattle.machine_defs.specs.States.{State, IsStart, continued}
+use Rattle.machine_defs.specs.Transcripts.{Instruction}
 use Rattle.headline.specs.Headline.{Headline}
-use Rattle.sound_states.specs.Sound.{IsLimit, IsSound}
+use Rattle.state_laws.specs.Sound.{IsLimit, IsSound}
 use Rattle.trial_maker.specs.Trials.{trial_bytes, trial_commands}
 use Rattle.trial_counts.specs.Counts.{TrialCounts, counts_of, trial_lines}
 use Rattle.vault_open.specs.Devices.{Devices, AreDevices}

@@ -2,15 +2,15 @@
 use Rattle.std.proofs.Common.{◌≡◌, ℕ, ◌<◌, ◌^◌, Bool, true, false, List, [], ◌++◌, Option, Some, None, Result, inl, inr, refl, ap, sym, subst}
 use Rattle.std.specs.Prelude.{IfSome, is_some}
 use Rattle.std.proofs.lemmas.Bool.{cases_Bool}
-use Rattle.hail_devices.specs.Cells.{Cells}
-use Rattle.hail_devices.specs.Providers.{Provider}
-use Rattle.hail_machine.specs.Events.{Event, Begin, Step, Names}
-use Rattle.hail_machine.specs.Heard.{Entry, heard_by, heard_at, reported_after}
-use Rattle.hail_machine.specs.Jobs.{Kind, job_of}
-use Rattle.hail_machine.specs.Machine.{Happens}
-use Rattle.hail_machine.specs.Runs.{Moment}
-use Rattle.hail_machine.specs.States.{State}
-use Rattle.hail_machine.specs.Transcripts.{Once, RunJob}
+use Rattle.device_defs.specs.Cells.{Cells}
+use Rattle.device_defs.specs.Providers.{Provider}
+use Rattle.machine_defs.specs.Events.{Event, Begin, Step, Names}
+use Rattle.machine_defs.specs.Heard.{Entry, heard_by, heard_at, reported_after}
+use Rattle.machine_defs.specs.Jobs.{Kind, job_of}
+use Rattle.machine_defs.specs.Machine.{Happens}
+use Rattle.machine_defs.specs.Runs.{Moment}
+use Rattle.machine_defs.specs.States.{State}
+use Rattle.machine_defs.specs.Transcripts.{Once, RunJob}
 use Rattle.schedule_text.specs.declared.event.Event.{Event as Read}
 use Rattle.schedule_text.specs.Events.{event_command}
 use Rattle.vault_core.specs.declared.wish.BeginFault.{BeginFault}

@@ -1,21 +1,21 @@
 -- What events leave of a state: how many providers are handed in, whether a vault is open, and the number of the next job.
 use Rattle.std.proofs.Common.{◌≡◌, ℕ, ◌+◌, ◌≤◌, ◌==◌, Bool, true, false, List, [], ◌∷◌, ◌++◌, length, Option, Some, None, refl, ap, ◌∙◌, subst, arith}
-use Rattle.hail_devices.specs.Providers.{Held}
-use Rattle.hail_machine.specs.Jobs.{Kind, Job, job_of}
-use Rattle.hail_machine.specs.Actions.{Action, WriteBody, SyncBody, WriteGate, SyncGate, Store, Fetch, Ask, Work, Remove, End}
-use Rattle.hail_machine.specs.Refusals as refusal
-use Rattle.hail_machine.specs.Answers as answer
-use Rattle.hail_machine.specs.Events.{Event, Step, Outcome, Refused, Begun, More, Waiting, Ended, Replaced, NothingHeld, Closed}
-use Rattle.hail_machine.specs.States.{State, Append, Alone}
-use Rattle.hail_machine.specs.Begins.{Begins}
-use Rattle.hail_machine.specs.Appends.{Moves}
-use Rattle.hail_machine.specs.Steps.{next_action, holder_of, Acts, ActsOrWaits, StepsOn, StepsJob, StepsMine, StepsOne, StepsOpen, Steps}
-use Rattle.hail_machine.specs.Alone.{number_alone}
-use Rattle.hail_machine.specs.Replacements.{ReplacesAt, ReplacesIf}
-use Rattle.hail_machine.specs.Machine.{Happens}
-use Rattle.hail_machine.specs.Runs.{Moment, now, IsRun}
-use Rattle.hail_machine.specs.Transcripts.{GoOn}
-use Rattle.hail_machine.proofs.Asides.{steps_aside}
+use Rattle.device_defs.specs.Providers.{Held}
+use Rattle.machine_defs.specs.Jobs.{Kind, Job, job_of}
+use Rattle.machine_defs.specs.Actions.{Action, WriteBody, SyncBody, WriteGate, SyncGate, Store, Fetch, Ask, Work, Remove, End}
+use Rattle.machine_defs.specs.Refusals as refusal
+use Rattle.machine_defs.specs.Answers as answer
+use Rattle.machine_defs.specs.Events.{Event, Step, Outcome, Refused, Begun, More, Waiting, Ended, Replaced, NothingHeld, Closed}
+use Rattle.machine_defs.specs.States.{State, Append, Alone}
+use Rattle.machine_defs.specs.Begins.{Begins}
+use Rattle.machine_defs.specs.Appends.{Moves}
+use Rattle.machine_defs.specs.Steps.{next_action, holder_of, Acts, ActsOrWaits, StepsOn, StepsJob, StepsMine, StepsOne, StepsOpen, Steps}
+use Rattle.machine_defs.specs.Alone.{number_alone}
+use Rattle.machine_defs.specs.Replacements.{ReplacesAt, ReplacesIf}
+use Rattle.machine_defs.specs.Machine.{Happens}
+use Rattle.machine_defs.specs.Runs.{Moment, now, IsRun}
+use Rattle.machine_defs.specs.Transcripts.{GoOn}
+use Rattle.machine_defs.proofs.Asides.{steps_aside}
 
 -- none of the three changes
 pub record Same (old new : State) : Type 0 where

@@ -2,11 +2,11 @@
 use Rattle.std.proofs.Common.{◌≡◌, ℕ, false, List, Option, Some, None, refl, sym, subst}
 use Rattle.std.specs.Prelude.{is_some}
 use Rattle.std.specs.Option.{option_map}
-use Rattle.hail_devices.specs.Providers.{Provider}
-use Rattle.hail_machine.specs.Events.{Names, Closed}
-use Rattle.hail_machine.specs.Events as events
-use Rattle.hail_machine.specs.Machine.{Lists}
-use Rattle.hail_machine.specs.States.{State}
+use Rattle.device_defs.specs.Providers.{Provider}
+use Rattle.machine_defs.specs.Events.{Names, Closed}
+use Rattle.machine_defs.specs.Events as events
+use Rattle.machine_defs.specs.Machine.{Lists}
+use Rattle.machine_defs.specs.States.{State}
 use Rattle.vault.specs.declared.vault.Vault.{Vault}
 use Rattle.vault_open.specs.Devices.{Devices, devices}
 use Rattle.vault.specs.Seen.{table_of}

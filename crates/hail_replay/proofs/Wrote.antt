@@ -1,9 +1,9 @@
 -- The lines of several events, one behind the other.
 use Rattle.std.proofs.Common.{◌≡◌, ◌≢◌, inl, inr, ℕ, suc, ◌+◌, ◌≤◌, List, [], ◌∷◌, ◌++◌, length, take, Option, refl, ap, sym, ◌∙◌, arith}
 use Rattle.std.proofs.lemmas.List.{length-append, take_all}
-use Rattle.hail_devices.specs.Told.{told_then, TakesFront}
-use Rattle.hail_devices.proofs.Lasting.{rose-before, told_then-nothing}
-use Rattle.hail_commands.specs.Sinking.{Sinking, WritesLine}
+use Rattle.device_defs.specs.Told.{told_then, TakesFront}
+use Rattle.device_defs.proofs.Lasting.{rose-before, told_then-nothing}
+use Rattle.command_defs.specs.Sinking.{Sinking, WritesLine}
 use Rattle.hail_replay.specs.Answers.{CarriedOut}
 use Rattle.stream_model.proofs.ToldLemmas.{told_then-append}
 

@@ -10,12 +10,12 @@
 --                                 it reads
 --   AnswersTrial number old new end == `trial`: it does the events of the trial of a number
 use Rattle.std.specs.Prelude.{◌≡◌, ◌⊎◌, ℕ, ◌+◌, ◌<◌, ◌≤◌, ◌^◌, List, [], length, IsSome}
-use Rattle.hail_commands.specs.Seen.{Seen, Ending, SameSource, ReadsAtMost, ReadsUpTo, sinking}
-use Rattle.hail_commands.specs.Sinking.{Sinking}
-use Rattle.hail_devices.specs.Faults.{Rose}
-use Rattle.hail_machine.specs.Runs.{Moment}
-use Rattle.hail_machine.specs.States.{State}
-use Rattle.hail_machine.specs.Transcripts.{Instruction}
+use Rattle.command_defs.specs.Seen.{Seen, Ending, SameSource, ReadsAtMost, ReadsUpTo, sinking}
+use Rattle.command_defs.specs.Sinking.{Sinking}
+use Rattle.device_defs.specs.Faults.{Rose}
+use Rattle.machine_defs.specs.Runs.{Moment}
+use Rattle.machine_defs.specs.States.{State}
+use Rattle.machine_defs.specs.Transcripts.{Instruction}
 use Rattle.schedule_text.specs.Schedules.{IsSchedule, IsFirstBadLine}
 use Rattle.vault_open.specs.Devices.{Devices, devices}
 use Rattle.hail_replay.specs.Starts.{AreLeft}

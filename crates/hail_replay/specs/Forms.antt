@@ -6,8 +6,8 @@
 use Rattle.std.specs.Prelude.{◌≡◌, ℕ, ◌<◌, ◌^◌, List, [], ◌∷◌, codes, String}
 use Rattle.std.specs.String.{string_bytes}
 use Rattle.std.specs.declared.alloc.Global.{Global}
-use Rattle.hail_commands.specs.Forms.{IsBareForm}
-use Rattle.hail_commands.specs.Words.{IsNumberWord}
+use Rattle.command_defs.specs.Forms.{IsBareForm}
+use Rattle.command_defs.specs.Words.{IsNumberWord}
 use Rattle.hail_replay.specs.declared.forms.Form.{Form}
 use Rattle.hail_replay.specs.declared.forms.Form.TheVariants as form
 

@@ -6,7 +6,7 @@
 use Rattle.std.specs.Prelude.{ℕ, ◌-◌, List, [], ◌∷◌, ◌++◌, Option, Some, None, vec_len, vec_capacity}
 use Rattle.std.specs.declared.alloc.Global.{Global}
 use Rattle.std.specs.declared.vec.Vec.{Vec}
-use Rattle.hail_machine.specs.Heard.{Entry}
+use Rattle.machine_defs.specs.Heard.{Entry}
 use Rattle.hail_replay.specs.declared.heard.HeardLists.{HeardLists}
 
 -- lists, one behind the other

@@ -17,12 +17,12 @@
 --   IsPerformed command came c next old new == one call performs a command, behind every run, and they are
 --                                          kept
 use Rattle.std.specs.Prelude.{◌≡◌, ℕ, ◌+◌, ◌≤◌, true, List, [], ◌∷◌, ◌++◌, Option, Some, None, IsSome, is_some, length}
-use Rattle.hail_commands.specs.Seen.{provider_at}
-use Rattle.hail_machine.specs.Events.{Outcome}
-use Rattle.hail_machine.specs.Heard.{Entry, heard_in}
-use Rattle.hail_machine.specs.Runs.{Moment}
-use Rattle.hail_machine.specs.States.{State}
-use Rattle.hail_machine.specs.Transcripts.{Instruction, Once, RunJob, RunsToEnd}
+use Rattle.command_defs.specs.Seen.{provider_at}
+use Rattle.machine_defs.specs.Events.{Outcome}
+use Rattle.machine_defs.specs.Heard.{Entry, heard_in}
+use Rattle.machine_defs.specs.Runs.{Moment}
+use Rattle.machine_defs.specs.States.{State}
+use Rattle.machine_defs.specs.Transcripts.{Instruction, Once, RunJob, RunsToEnd}
 use Rattle.vault.specs.declared.turn.Turn.{Turn}
 use Rattle.vault.specs.declared.turn.Turn.TheVariants as turn
 use Rattle.vault_open.specs.Devices.{Devices}

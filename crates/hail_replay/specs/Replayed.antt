@@ -8,12 +8,12 @@
 --       to those left, of which there are none at status 0; their lines are written, or a front of them
 --       where a counted fault of the sink or want of memory cut them off
 use Rattle.std.specs.Prelude.{◌≡◌, ℕ, List, [], ◌++◌, reverse}
-use Rattle.hail_commands.specs.Sinking.{Sinking, WritesLine}
-use Rattle.hail_machine.specs.Failures.{Count, count_in, HasFailures, RoseBy}
-use Rattle.hail_machine.specs.Heard.{Entry, heard_in}
-use Rattle.hail_machine.specs.Runs.{Moment, now, IsRun}
-use Rattle.hail_machine.specs.States.{State}
-use Rattle.hail_machine.specs.Transcripts.{Instruction, CarriesOut}
+use Rattle.command_defs.specs.Sinking.{Sinking, WritesLine}
+use Rattle.machine_defs.specs.Failures.{Count, count_in, HasFailures, RoseBy}
+use Rattle.machine_defs.specs.Heard.{Entry, heard_in}
+use Rattle.machine_defs.specs.Runs.{Moment, now, IsRun}
+use Rattle.machine_defs.specs.States.{State}
+use Rattle.machine_defs.specs.Transcripts.{Instruction, CarriesOut}
 use Rattle.headline.specs.Headline.{Headline}
 use Rattle.vault_open.specs.Devices.{Devices, AreDevices}
 use Rattle.hail_replay.specs.Starts.{called_behind}

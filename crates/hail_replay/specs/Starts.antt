@@ -11,10 +11,10 @@ use Rattle.std.specs.Prelude.{ℕ, List, ◌∷◌, Option, map}
 use Rattle.disk_model.specs.declared.disk.Disk.{Ghosts as DiskGhosts}
 use Rattle.provider_model.specs.declared.provider.Provider.{Ghosts as ProviderGhosts}
 use Rattle.stream_model.specs.declared.sink.Sink.{Ghosts as SinkGhosts}
-use Rattle.hail_commands.specs.Sinking.{Sinking}
-use Rattle.hail_machine.specs.Events.{Continue, Continued}
-use Rattle.hail_machine.specs.Runs.{Moment, now, IsRun}
-use Rattle.hail_machine.specs.States.{State, IsStart, continued}
+use Rattle.command_defs.specs.Sinking.{Sinking}
+use Rattle.machine_defs.specs.Events.{Continue, Continued}
+use Rattle.machine_defs.specs.Runs.{Moment, now, IsRun}
+use Rattle.machine_defs.specs.States.{State, IsStart, continued}
 use Rattle.vault_open.specs.Devices.{Devices, AreDevices, devices}
 use Rattle.provider_model.specs.Seen.{provider_seen}
 

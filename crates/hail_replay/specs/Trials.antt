@@ -6,11 +6,11 @@
 --   CountsTo expected start before commands counts heard d == all of these commands are carried out, and
 --                                          come to these counts
 use Rattle.std.specs.Prelude.{◌≡◌, ℕ, List, ◌++◌, reverse}
-use Rattle.hail_commands.specs.Sinking.{Sinking, WritesLine}
-use Rattle.hail_machine.specs.Heard.{Entry}
-use Rattle.hail_machine.specs.Runs.{Moment}
-use Rattle.hail_machine.specs.States.{State}
-use Rattle.hail_machine.specs.Transcripts.{Instruction}
+use Rattle.command_defs.specs.Sinking.{Sinking, WritesLine}
+use Rattle.machine_defs.specs.Heard.{Entry}
+use Rattle.machine_defs.specs.Runs.{Moment}
+use Rattle.machine_defs.specs.States.{State}
+use Rattle.machine_defs.specs.Transcripts.{Instruction}
 use Rattle.trial_counts.specs.Counts.{TrialCounts, counts_of}
 use Rattle.trial_counts.specs.Trials.{TellsTrial}
 use Rattle.trial_maker.specs.Trials.{trial_commands}

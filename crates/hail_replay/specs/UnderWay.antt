@@ -9,11 +9,11 @@
 --   HasCounted expected start base done counts heard c d == the same of some moments, which come to these
 --                                          counts
 use Rattle.std.specs.Prelude.{◌≡◌, ℕ, List, ◌++◌}
-use Rattle.hail_commands.specs.Sinking.{Sinking, WritesLine}
-use Rattle.hail_machine.specs.Heard.{Entry, heard_in}
-use Rattle.hail_machine.specs.Runs.{Moment}
-use Rattle.hail_machine.specs.States.{State}
-use Rattle.hail_machine.specs.Transcripts.{Instruction, CarriesOut}
+use Rattle.command_defs.specs.Sinking.{Sinking, WritesLine}
+use Rattle.machine_defs.specs.Heard.{Entry, heard_in}
+use Rattle.machine_defs.specs.Runs.{Moment}
+use Rattle.machine_defs.specs.States.{State}
+use Rattle.machine_defs.specs.Transcripts.{Instruction, CarriesOut}
 use Rattle.trial_counts.specs.Counts.{TrialCounts, counts_of}
 use Rattle.vault_open.specs.Devices.{Devices}
 use Rattle.hail_client.specs.declared.client.Client.{Client}

@@ -1,8 +1,8 @@
 // The events of a trial, one after the other, counted.
 ghost use Rattle.std.specs.Prelude.{◌≡◌, ◌⊎◌, ◌≤◌, ◌<◌, ◌-◌, ◌^◌, ◌+◌, ◌∷◌, [], ℕ, List, IsSome, IfOk, OnOk, OnErr, is_some, length};
-ghost use Rattle.hail_machine.specs.Runs.{Moment};
-ghost use Rattle.hail_machine.specs.States.{State};
-ghost use Rattle.hail_machine.specs.Transcripts.{Instruction};
+ghost use Rattle.machine_defs.specs.Runs.{Moment};
+ghost use Rattle.machine_defs.specs.States.{State};
+ghost use Rattle.machine_defs.specs.Transcripts.{Instruction};
 ghost use Rattle.schedule_text.specs.Events.{event_command, commands_of};
 ghost use Rattle.trial_maker.specs.Trials.{trial_bytes, trial_commands};
 ghost use Rattle.hail_client.specs.Client.{client_next_job};
@@ -16,14 +16,14 @@ ghost use Rattle.hail_replay.specs.UnderWay.{HasRun, HasCounted};
 use crate::event::perform;
 use crate::heard::HeardLists;
 use crate::schedule::{Replayed, heard_of, named};
-use calm_laws::laws::failed_calls_are_counted;
+use second_half_laws::laws::failed_calls_are_counted;
 use command_lines::{NO_MEMORY, write_text};
 use disk_model::Disk;
 use hail_client::Client;
 use headline::laws::every_run_keeps_the_headline;
 use provider_model::Tamper;
 use schedule_text::Event;
-use sound_states::laws::runs_are_sound;
+use state_laws::laws::runs_are_sound;
 use std::alloc::Global;
 use stream_model::{Memory, Sink};
 use trial_counts::Tally;

@@ -1,6 +1,6 @@
 // One event of a schedule.
 ghost use Rattle.std.specs.Prelude.{◌<◌, ◌-◌, ◌^◌, Some};
-ghost use Rattle.hail_machine.specs.Transcripts.{RunJob};
+ghost use Rattle.machine_defs.specs.Transcripts.{RunJob};
 ghost use Rattle.schedule_text.specs.Events.{event_command};
 ghost use Rattle.transcript_lines.specs.declared.came.Came.TheVariants as came;
 ghost use Rattle.hail_client.specs.Client.{client_next_job};

@@ -1,10 +1,10 @@
 // The events of a schedule, one after the other, each with its lines.
 ghost use Rattle.std.specs.Prelude.{◌≡◌, ◌≤◌, ◌<◌, ◌-◌, ◌^◌, ℕ, List, ◌∷◌, Option, Some, IsSome, is_some, length};
-ghost use Rattle.hail_commands.specs.Sinking.{Sinking, WritesLine};
-ghost use Rattle.hail_machine.specs.Lines.{lines_of};
-ghost use Rattle.hail_machine.specs.Runs.{Moment};
-ghost use Rattle.hail_machine.specs.States.{State};
-ghost use Rattle.hail_machine.specs.Transcripts.{Instruction};
+ghost use Rattle.command_defs.specs.Sinking.{Sinking, WritesLine};
+ghost use Rattle.machine_defs.specs.Lines.{lines_of};
+ghost use Rattle.machine_defs.specs.Runs.{Moment};
+ghost use Rattle.machine_defs.specs.States.{State};
+ghost use Rattle.machine_defs.specs.Transcripts.{Instruction};
 ghost use Rattle.schedule_text.specs.Events.{event_command, commands_of};
 ghost use Rattle.transcript_lines.specs.Came.{came_outcome};
 ghost use Rattle.hail_client.specs.Client.{client_next_job};
@@ -17,14 +17,14 @@ ghost use Rattle.hail_replay.specs.UnderWay.{HasDone};
 
 use crate::event::perform;
 use crate::heard::HeardLists;
-use calm_laws::laws::failed_calls_are_counted;
+use second_half_laws::laws::failed_calls_are_counted;
 use command_lines::{NO_MEMORY, WRITTEN, write_text};
 use disk_model::Disk;
 use hail_client::Client;
 use headline::laws::every_run_keeps_the_headline;
 use provider_model::Tamper;
 use schedule_text::Event;
-use sound_states::laws::runs_are_sound;
+use state_laws::laws::runs_are_sound;
 use std::alloc::Global;
 use stream_model::{Memory, Sink};
 use transcript_lines::{Came, came_lines};

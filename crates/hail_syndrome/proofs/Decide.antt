@@ -10,7 +10,7 @@ use Rattle.poly_laws.proofs.Agree.{agree_same}
 use Rattle.poly_laws.proofs.Trim.{value-trim, length-trim}
 use Rattle.poly_laws.proofs.Interpolate.{interpolate_takes, length-interpolate}
 use Rattle.poly_laws.proofs.Headlines.{one_takes}
-use Rattle.hail_codes.specs.Polynomials.{value, vanish, interpolate, trim, TakesSymbols}
+use Rattle.code_defs.specs.Polynomials.{value, vanish, interpolate, trim, TakesSymbols}
 use Rattle.hail_poly.specs.Decoding.{matches, IsDecoded, NoneDecodes}
 use Rattle.hail_poly.specs.Key.{power, key}
 use Rattle.hail_poly.specs.Quotient.{IsCombination}

@@ -2,7 +2,7 @@
 use Rattle.std.proofs.Common.{◌≡◌, ◌≢◌, ◌≤◌, ◌<◌, ◌+◌, ◌++◌, ℕ, zero, suc, List, [], ◌∷◌, length, set, take, drop, get_or, add-one, Bool, true, false, nat_eq, eqb-true, sym, ◌∙◌, ap, refl, arith}
 use Rattle.std.proofs.lemmas.List.{take_more_set, append_assoc, drop_all}
 use Rattle.hail_field.specs.Nim.{nim}
-use Rattle.hail_codes.specs.Polynomials.{value}
+use Rattle.code_defs.specs.Polynomials.{value}
 use Rattle.hail_syndrome.specs.Sound.{sound_points, sound_values}
 
 -- what the test says of 0

@@ -1,7 +1,7 @@
 -- The first short row of Euclid's algorithm on a power of x and the polynomial of the syndromes.
 use Rattle.std.proofs.Common.{◌≡◌, ◌≢◌, ◌≤◌, ◌<◌, ◌+◌, ◌-◌, ◌*◌, ℕ, zero, suc, sym, ◌∙◌, ap, subst, refl, arith, List, [], ◌∷◌, length, take, replicate}
 use Rattle.std.proofs.lemmas.List.{length-take, length-replicate}
-use Rattle.plain_facts.specs.Lists.{Each}
+use Rattle.plain_laws.specs.Lists.{Each}
 use Rattle.field_laws.specs.Field.{FieldOf, IsField, IsEndless, Apart}
 use Rattle.field_laws.proofs.Ring.{zero_mul, zero_add, sum_zero}
 use Rattle.field_laws.proofs.Inverse.{factor_zero}

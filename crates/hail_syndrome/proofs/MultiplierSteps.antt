@@ -3,7 +3,7 @@ use Rattle.std.proofs.Common.{◌≡◌, ◌≤◌, ◌<◌, ◌+◌, ℕ, List,
 use Rattle.std.proofs.lemmas.List.{at_drop_more, at_drop_all}
 use Rattle.std.proofs.lemmas.List.FromFn.{fill_by_all, length-range_with_len, get_or-range_with_len}
 use Rattle.hail_field.specs.Nim.{nim_add, nim_mul}
-use Rattle.hail_codes.specs.Points.{upto, others_product, multiplier}
+use Rattle.code_defs.specs.Points.{upto, others_product, multiplier}
 
 -- one point more
 pub others_step : (x : ℕ) (points : List ℕ) (k : ℕ) → k < length points →

@@ -1,7 +1,7 @@
 -- The places at which a polynomial is not 0.
 use Rattle.std.proofs.Common.{◌≡◌, ◌≢◌, ◌≤◌, ◌<◌, ◌+◌, ℕ, zero, ◌⊎◌, inl, inr, refl, arith, List, [], ◌∷◌, length, take, Bool, true, false, cond, suc}
-use Rattle.plain_facts.specs.Lists.{Each}
-use Rattle.plain_facts.proofs.Each.{each_take}
+use Rattle.plain_laws.specs.Lists.{Each}
+use Rattle.plain_laws.proofs.Each.{each_take}
 use Rattle.field_laws.specs.Field.{FieldOf, IsField, Apart}
 use Rattle.poly_laws.specs.Poly.{value, Takes}
 use Rattle.poly_laws.proofs.Roots.{zero_from_roots}

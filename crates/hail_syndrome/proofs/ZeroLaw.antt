@@ -1,7 +1,7 @@
 -- The syndromes are all 0 exactly where the values are those of a polynomial of low degree.
 use Rattle.std.proofs.Common.{◌≡◌, ◌+◌, ◌++◌, ℕ, zero, suc, sym, ◌∙◌, ap, subst, refl, arith, List, [], ◌∷◌, length, take, reverse, replicate}
 use Rattle.std.proofs.lemmas.List.{length-take, length-append, length-replicate}
-use Rattle.plain_facts.specs.Lists.{Each}
+use Rattle.plain_laws.specs.Lists.{Each}
 use Rattle.field_laws.specs.Field.{Apart}
 use Rattle.hail_field.specs.Nim.{nim, nim_add, nim_mul}
 use Rattle.hail_field.proofs.AllNumbers.{nim_laws, nim_ring, nim_endless}
@@ -10,8 +10,8 @@ use Rattle.poly_laws.proofs.Roots.{zero_from_roots, plus_zero, same_values, leng
 use Rattle.poly_laws.proofs.Interpolate.{interpolate_takes, vanish_roots, length-interpolate}
 use Rattle.poly_laws.proofs.Euclid.{vanish-monic}
 use Rattle.poly_laws.proofs.Everywhere.{cancel}
-use Rattle.hail_codes.specs.Polynomials.{value, plus, vanish, interpolate, TakesSymbols}
-use Rattle.hail_codes.specs.Points.{values_at}
+use Rattle.code_defs.specs.Polynomials.{value, plus, vanish, interpolate, TakesSymbols}
+use Rattle.code_defs.specs.Points.{values_at}
 use Rattle.hail_poly.specs.Key.{power}
 use Rattle.hail_syndrome.specs.Syndromes.{syndrome, syndromes_of, AreValues}
 use Rattle.hail_syndrome.proofs.Shift.{value-shift, short_factor}

@@ -6,8 +6,8 @@
 -- are those of a polynomial of degree below keep
 use Rattle.std.specs.Prelude.{◌≡◌, ◌≤◌, ℕ, List, length, map}
 use Rattle.hail_field.specs.Nim.{nim_mul, nim_pow}
-use Rattle.hail_codes.specs.Points.{upto, values_at, multiplier}
-use Rattle.hail_codes.specs.Sums.{dot}
+use Rattle.code_defs.specs.Points.{upto, values_at, multiplier}
+use Rattle.code_defs.specs.Sums.{dot}
 
 -- the sum over the places of multiplier times value times the point to the power k
 abbrev pub syndrome : List ℕ → List ℕ → ℕ → ℕ

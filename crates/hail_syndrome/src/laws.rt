@@ -1,6 +1,6 @@
 //! The law of syndromes, and an instance.
 ghost use Rattle.std.specs.Prelude.{◌≡◌, ◌+◌, ◌↔◌, ℕ, List, [], ◌∷◌, length};
-ghost use Rattle.plain_facts.specs.Lists.{Each};
+ghost use Rattle.plain_laws.specs.Lists.{Each};
 ghost use Rattle.field_laws.specs.Field.{Apart};
 ghost use Rattle.hail_syndrome.specs.Syndromes.{syndromes_of, AreValues};
 

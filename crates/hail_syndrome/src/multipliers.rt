@@ -1,7 +1,7 @@
 ghost use Rattle.std.specs.Prelude.{◌≡◌, ◌<◌, length, slice_index, IfSome, cond, nat_eq};
 ghost use Rattle.std.specs.Bool.{OnTrue};
 ghost use Rattle.hail_field.specs.Nim.{nim_add, nim_mul};
-ghost use Rattle.hail_codes.specs.Points.{upto, others_product as others_product_of, multiplier as multiplier_of};
+ghost use Rattle.code_defs.specs.Points.{upto, others_product as others_product_of, multiplier as multiplier_of};
 
 use code_points::{Profile, find_profile, multiplier};
 use hail_field::Symbol;

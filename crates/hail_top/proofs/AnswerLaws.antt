@@ -1,11 +1,11 @@
 -- What an answer to a row leaves open.
 use Rattle.std.proofs.Common.{◌≡◌, ℕ, ◌<◌, List, Option, inl, inr, ◌⊎◌, arith}
 use Rattle.hail_field.specs.Shape.{IsShape}
-use Rattle.hail_devices.specs.Faults.{last_count}
-use Rattle.hail_codes.specs.Points.{upto}
-use Rattle.hail_codes.specs.DispersalCode.{Accepts}
-use Rattle.hail_commands.specs.Sinking.{Sinking, WritesLine}
-use Rattle.hail_commands.specs.Row.{AnswersRow}
+use Rattle.device_defs.specs.Faults.{last_count}
+use Rattle.code_defs.specs.Points.{upto}
+use Rattle.code_defs.specs.DispersalCode.{Accepts}
+use Rattle.command_defs.specs.Sinking.{Sinking, WritesLine}
+use Rattle.command_defs.specs.Row.{AnswersRow}
 
 -- without a fault nothing but memory cuts a line off
 Writes-complete : (line : List ℕ) (status : ℕ) (sink : Sinking) → WritesLine line status sink → sink.before < last_count → sink.now ≡ sink.before → (status ≡ 0) ⊎ (status ≡ 70)

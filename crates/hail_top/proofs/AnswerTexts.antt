@@ -1,13 +1,13 @@
 -- What a job's answer tells, by its kind.
 use Rattle.std.proofs.Common.{◌≡◌, ℕ, List, take, Option, None, Some, refl, ap, sym, ◌∙◌, inl, inr, subst, arith, append-nil}
-use Rattle.hail_devices.specs.Told.{told_then, TakesFront}
-use Rattle.hail_machine.specs.Jobs.{Kind, PutJob, GetJob, DropJob, AuditJob, RepairJob, UpgradeJob}
-use Rattle.hail_machine.specs.Answers.{Answer, Put, Got, Dropped, Audited, Repaired, Upgraded, Scrubbed, Packed, Lost, ProviderFault, DiskFault, Memory}
-use Rattle.hail_commands.specs.Sinking.{WritesLine}
-use Rattle.hail_commands.specs.Seen.{Seen, Ending, sinking}
-use Rattle.hail_commands.specs.Lines.{text_of, stored_line, dropped_line, audit_lines}
-use Rattle.hail_commands.specs.Ran.{Ran}
-use Rattle.hail_commands.specs.Jobs.{LeavesBy, EndsByAnswer}
+use Rattle.device_defs.specs.Told.{told_then, TakesFront}
+use Rattle.machine_defs.specs.Jobs.{Kind, PutJob, GetJob, DropJob, AuditJob, RepairJob, UpgradeJob}
+use Rattle.machine_defs.specs.Answers.{Answer, Put, Got, Dropped, Audited, Repaired, Upgraded, Scrubbed, Packed, Lost, ProviderFault, DiskFault, Memory}
+use Rattle.command_defs.specs.Sinking.{WritesLine}
+use Rattle.command_defs.specs.Seen.{Seen, Ending, sinking}
+use Rattle.command_defs.specs.Lines.{text_of, stored_line, dropped_line, audit_lines}
+use Rattle.command_defs.specs.Ran.{Ran}
+use Rattle.command_defs.specs.Jobs.{LeavesBy, EndsByAnswer}
 use Rattle.hail_top.specs.declared.tell.Subject.{Subject}
 use Rattle.hail_top.specs.Telling.{TellsOf, IsTextOf, IsFaultEnd, TellsAnswer}
 

@@ -1,18 +1,18 @@
 -- A command was answered.
 use Rattle.std.proofs.Common.{◌≡◌, ℕ, List, Option, refl, sym, subst, inr}
-use Rattle.hail_devices.specs.Told.{TakesFront}
-use Rattle.hail_codes.specs.Points.{upto, values_at}
-use Rattle.hail_openings.proofs.Resyncs.{resynced-same}
-use Rattle.hail_commands.specs.Forms.{Command as Spelled}
-use Rattle.hail_commands.specs.Forms.{RowOf, InitWith, PutUnder, GetOf, DropOf, ListAll, AuditAll, RepairDue}
-use Rattle.hail_commands.specs.Keys.{longest_key}
-use Rattle.hail_commands.specs.Seen.{Seen, Ending, IsRefused, sinking}
-use Rattle.hail_commands.specs.Line.{values_line, no_row_line}
-use Rattle.hail_commands.specs.Row.{AnswersRow}
-use Rattle.hail_commands.specs.Opens as opens
-use Rattle.hail_commands.specs.Inits as inits
-use Rattle.hail_commands.specs.Commands as commands
-use Rattle.hail_commands.specs.Commands.{Answers}
+use Rattle.device_defs.specs.Told.{TakesFront}
+use Rattle.code_defs.specs.Points.{upto, values_at}
+use Rattle.opening_defs.proofs.Resyncs.{resynced-same}
+use Rattle.command_defs.specs.Forms.{Command as Spelled}
+use Rattle.command_defs.specs.Forms.{RowOf, InitWith, PutUnder, GetOf, DropOf, ListAll, AuditAll, RepairDue}
+use Rattle.command_defs.specs.Keys.{longest_key}
+use Rattle.command_defs.specs.Seen.{Seen, Ending, IsRefused, sinking}
+use Rattle.command_defs.specs.Line.{values_line, no_row_line}
+use Rattle.command_defs.specs.Row.{AnswersRow}
+use Rattle.command_defs.specs.Opens as opens
+use Rattle.command_defs.specs.Inits as inits
+use Rattle.command_defs.specs.Commands as commands
+use Rattle.command_defs.specs.Commands.{Answers}
 use Rattle.command_words.specs.declared.command.Command.{Command}
 use Rattle.command_words.specs.Commands.{command_of}
 use Rattle.hail_top.specs.Endings.{ending_with}

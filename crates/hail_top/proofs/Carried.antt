@@ -1,12 +1,12 @@
 -- A schedule or a trial, carried out or not.
 use Rattle.std.proofs.Common.{◌≡◌, ◌⊎◌, inl, inr, ℕ, ◌≤◌, ◌+◌, List, length, reverse, refl, ap, sym, subst, arith}
-use Rattle.hail_commands.specs.Seen.{Seen, Ending, NoCountFalls, provider_at, sinking}
-use Rattle.hail_devices.specs.Faults.{Rose}
-use Rattle.hail_commands.specs.Sinking.{Sinking}
-use Rattle.hail_machine.specs.Heard.{Entry}
-use Rattle.hail_machine.specs.Runs.{Moment}
-use Rattle.hail_machine.specs.States.{State}
-use Rattle.hail_machine.specs.Transcripts.{Instruction}
+use Rattle.command_defs.specs.Seen.{Seen, Ending, NoCountFalls, provider_at, sinking}
+use Rattle.device_defs.specs.Faults.{Rose}
+use Rattle.command_defs.specs.Sinking.{Sinking}
+use Rattle.machine_defs.specs.Heard.{Entry}
+use Rattle.machine_defs.specs.Runs.{Moment}
+use Rattle.machine_defs.specs.States.{State}
+use Rattle.machine_defs.specs.Transcripts.{Instruction}
 use Rattle.vault_open.specs.Devices.{Devices}
 use Rattle.vault.specs.Devices.{devices_seen}
 use Rattle.hail_replay.specs.Replayed.{Replays}

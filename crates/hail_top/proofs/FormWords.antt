@@ -5,9 +5,9 @@ use Rattle.std.specs.Str.{bytes_eq}
 use Rattle.std.specs.String.{string_bytes}
 use Rattle.std.specs.declared.alloc.Global.{Global}
 use Rattle.std.proofs.lemmas.Bool.{false≢true}
-use Rattle.hail_commands.specs.Seen.{Seen, Ending}
-use Rattle.hail_commands.specs.Row.{IsRowForm}
-use Rattle.hail_commands.specs.Forms.{Numbers, Command as Spelled, RowOf, InitWith, PutUnder, GetOf, DropOf, ListAll, AuditAll, RepairDue, IsForm, IsInitForm, IsNamedForm, IsBareForm}
+use Rattle.command_defs.specs.Seen.{Seen, Ending}
+use Rattle.command_defs.specs.Row.{IsRowForm}
+use Rattle.command_defs.specs.Forms.{Numbers, Command as Spelled, RowOf, InitWith, PutUnder, GetOf, DropOf, ListAll, AuditAll, RepairDue, IsForm, IsInitForm, IsNamedForm, IsBareForm}
 use Rattle.hail_replay.specs.Forms.{IsReplayForm, IsTrialForm, IsFormOf}
 use Rattle.hail_replay.specs.declared.forms.Form.{Form}
 use Rattle.hail_replay.specs.declared.forms.Form.TheVariants as forms

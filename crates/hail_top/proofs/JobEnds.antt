@@ -1,17 +1,17 @@
 -- How a command ends that runs a job over a vault just opened.
 use Rattle.std.proofs.Common.{◌≡◌, ℕ, List, length, Option, ap, sym, ◌∙◌, inl, inr, subst, arith}
 use Rattle.std.specs.Option.{option_map}
-use Rattle.hail_devices.specs.Disks.{synced}
-use Rattle.hail_devices.specs.Providers.{Provider}
-use Rattle.hail_records.specs.Records.{Record}
-use Rattle.hail_machine.specs.Jobs.{Kind}
-use Rattle.hail_machine.specs.Heard.{Entry}
-use Rattle.hail_commands.specs.Seen.{Seen, Ending, KeepsDisk, IsSynced, provider_at, sinking}
-use Rattle.hail_commands.specs.Opens.{setup_in_effect}
-use Rattle.hail_commands.specs.Refusals.{status_of}
-use Rattle.hail_commands.specs.Ran.{ran_alone}
-use Rattle.hail_commands.specs.Jobs as jobs
-use Rattle.hail_commands.specs.Jobs.{RunsAlone, LeftAlone, AnswersJob}
+use Rattle.device_defs.specs.Disks.{synced}
+use Rattle.device_defs.specs.Providers.{Provider}
+use Rattle.record_defs.specs.Records.{Record}
+use Rattle.machine_defs.specs.Jobs.{Kind}
+use Rattle.machine_defs.specs.Heard.{Entry}
+use Rattle.command_defs.specs.Seen.{Seen, Ending, KeepsDisk, IsSynced, provider_at, sinking}
+use Rattle.command_defs.specs.Opens.{setup_in_effect}
+use Rattle.command_defs.specs.Refusals.{status_of}
+use Rattle.command_defs.specs.Ran.{ran_alone}
+use Rattle.command_defs.specs.Jobs as jobs
+use Rattle.command_defs.specs.Jobs.{RunsAlone, LeftAlone, AnswersJob}
 use Rattle.vault_core.specs.declared.wish.BeginFault.{BeginFault}
 use Rattle.vault_core.specs.Carried.{refusal_of}
 use Rattle.vault_open.specs.Devices.{Devices}

@@ -1,12 +1,12 @@
 -- How a list ends whose vault was opened.
 use Rattle.std.proofs.Common.{◌≡◌, ℕ, List, refl, sym, subst}
-use Rattle.hail_records.specs.Records.{Record}
-use Rattle.hail_records.specs.Table.{files_of}
-use Rattle.hail_commands.specs.Lines.{list_lines}
-use Rattle.hail_commands.specs.Seen.{Seen, Ending, IsSynced, sinking}
-use Rattle.hail_commands.specs.Sinking.{WritesLine}
-use Rattle.hail_commands.specs.Opens.{IsOpened}
-use Rattle.hail_commands.specs.Commands.{AnswersList, listed}
+use Rattle.record_defs.specs.Records.{Record}
+use Rattle.record_defs.specs.Table.{files_of}
+use Rattle.command_defs.specs.Lines.{list_lines}
+use Rattle.command_defs.specs.Seen.{Seen, Ending, IsSynced, sinking}
+use Rattle.command_defs.specs.Sinking.{WritesLine}
+use Rattle.command_defs.specs.Opens.{IsOpened}
+use Rattle.command_defs.specs.Commands.{AnswersList, listed}
 use Rattle.hail_top.specs.Endings.{ending_with}
 
 -- the files were written, or cut off

@@ -1,8 +1,8 @@
 -- A vault was opened for a command.
 use Rattle.std.proofs.Common.{◌≡◌, ℕ, ◌≤◌, List, length, subst, arith}
-use Rattle.hail_records.specs.Records.{Record}
-use Rattle.hail_commands.specs.Seen.{Seen, NoCountFalls}
-use Rattle.hail_commands.specs.Opens.{setup_in_effect, IsOpened}
+use Rattle.record_defs.specs.Records.{Record}
+use Rattle.command_defs.specs.Seen.{Seen, NoCountFalls}
+use Rattle.command_defs.specs.Opens.{setup_in_effect, IsOpened}
 use Rattle.command_jobs.specs.Opened.{IsReadFor}
 use Rattle.command_jobs.specs.Ends.{NoFaultUndone}
 

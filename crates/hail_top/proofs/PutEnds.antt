@@ -1,13 +1,13 @@
 -- How a put ends whose vault was opened.
 use Rattle.std.proofs.Common.{◌≡◌, ℕ, ◌+◌, List, Option, refl, sym, ◌∙◌, subst}
 use Rattle.std.specs.Option.{option_map}
-use Rattle.hail_devices.specs.Disks.{synced}
-use Rattle.hail_devices.specs.Faults.{Rose}
-use Rattle.hail_records.specs.Records.{Record, largest_file}
-use Rattle.hail_machine.specs.Jobs.{PutJob}
-use Rattle.hail_commands.specs.Seen.{Seen, Ending, KeepsDisk, IsSynced, ReadsAtMost, ReadsUpTo}
-use Rattle.hail_commands.specs.Opens.{IsOpened}
-use Rattle.hail_commands.specs.Commands.{AnswersPut, begun, source_fault, no_memory}
+use Rattle.device_defs.specs.Disks.{synced}
+use Rattle.device_defs.specs.Faults.{Rose}
+use Rattle.record_defs.specs.Records.{Record, largest_file}
+use Rattle.machine_defs.specs.Jobs.{PutJob}
+use Rattle.command_defs.specs.Seen.{Seen, Ending, KeepsDisk, IsSynced, ReadsAtMost, ReadsUpTo}
+use Rattle.command_defs.specs.Opens.{IsOpened}
+use Rattle.command_defs.specs.Commands.{AnswersPut, begun, source_fault, no_memory}
 use Rattle.vault_open.specs.Devices.{Devices}
 use Rattle.command_jobs.specs.Ends.{IsSeenBefore}
 use Rattle.hail_top.specs.declared.reading.ReadFault.{ReadFault}

@@ -1,6 +1,6 @@
 -- A command that ended without a word.
 use Rattle.std.proofs.Common.{◌≡◌, ℕ, refl, sym, subst}
-use Rattle.hail_commands.specs.Seen.{Seen, Ending, KeepsDisk, IsRefused}
+use Rattle.command_defs.specs.Seen.{Seen, Ending, KeepsDisk, IsRefused}
 use Rattle.hail_top.specs.Endings.{ending_with}
 
 -- the disk was at most synced, the providers are as before, and nothing was written

@@ -1,13 +1,13 @@
 -- The answer to a row follows from what was found in it.
 use Rattle.std.proofs.Common.{◌≡◌, ℕ, List, [], Option, ap, ◌∙◌, subst}
 use Rattle.hail_field.specs.Shape.{IsShape}
-use Rattle.hail_codes.specs.Polynomials.{value}
-use Rattle.hail_codes.specs.Points.{upto}
-use Rattle.hail_codes.specs.DispersalCode.{Accepts}
-use Rattle.hail_codes.proofs.Values.{values_at-same}
-use Rattle.hail_commands.specs.Line.{values_line}
-use Rattle.hail_commands.specs.Sinking.{Sinking, WritesLine}
-use Rattle.hail_commands.specs.Row.{OpensRow, AnswersRow}
+use Rattle.code_defs.specs.Polynomials.{value}
+use Rattle.code_defs.specs.Points.{upto}
+use Rattle.code_defs.specs.DispersalCode.{Accepts}
+use Rattle.code_defs.proofs.Values.{values_at-same}
+use Rattle.command_defs.specs.Line.{values_line}
+use Rattle.command_defs.specs.Sinking.{Sinking, WritesLine}
+use Rattle.command_defs.specs.Row.{OpensRow, AnswersRow}
 
 -- the line of the values that were found answers the row
 pub answers_held : (n l b : ℕ) (seen : List (Option ℕ)) (values shown : List ℕ) (status : ℕ) (sink : Sinking) → IsShape n l b → OpensRow n l b seen values

@@ -1,9 +1,9 @@
 -- The words of a row are as many as its first number says.
 use Rattle.std.proofs.Common.{◌≡◌, ℕ, List, [], ◌∷◌, length, Option, String, arith, refl, ◌∙◌}
 use Rattle.std.specs.declared.alloc.Global.{Global}
-use Rattle.hail_commands.specs.Words.{AreSymbolWords}
-use Rattle.hail_commands.specs.Row.{IsRowForm}
-use Rattle.hail_commands.specs.Forms.{Command, RowOf, InitWith, PutUnder, GetOf, DropOf, ListAll, AuditAll, RepairDue, IsForm}
+use Rattle.command_defs.specs.Words.{AreSymbolWords}
+use Rattle.command_defs.specs.Row.{IsRowForm}
+use Rattle.command_defs.specs.Forms.{Command, RowOf, InitWith, PutUnder, GetOf, DropOf, ListAll, AuditAll, RepairDue, IsForm}
 use Rattle.hail_top.specs.Rows.{HasItsSymbols}
 
 length-AreSymbolWords : (words : List (String Global)) (symbols : List (Option ℕ)) → AreSymbolWords words symbols → length symbols ≡ length words

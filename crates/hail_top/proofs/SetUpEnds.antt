@@ -1,16 +1,16 @@
 -- How an `init` ends that has come to the disk.
 use Rattle.std.proofs.Common.{◌≡◌, ℕ, List, refl, sym, subst}
 use Rattle.std.specs.Prelude.{IfSome}
-use Rattle.hail_devices.specs.Faults.{Rose}
-use Rattle.hail_devices.specs.Images.{EachImage}
-use Rattle.hail_devices.specs.Told.{Goes}
-use Rattle.hail_records.specs.Records.{Setup}
-use Rattle.hail_commands.specs.Seen.{Seen, Ending, IsRefused, sinking}
-use Rattle.hail_commands.specs.Sinking.{WritesLine}
-use Rattle.hail_commands.specs.Lines.{ready_line}
-use Rattle.hail_commands.specs.Inits.{InitsDisk, FailsToInit}
-use Rattle.hail_commands.specs.Inits as inits
-use Rattle.hail_openings.specs.Journals.{IsSetUpOn, IsResynced, MayBeLeft, journal_read}
+use Rattle.device_defs.specs.Faults.{Rose}
+use Rattle.device_defs.specs.Images.{EachImage}
+use Rattle.device_defs.specs.Told.{Goes}
+use Rattle.record_defs.specs.Records.{Setup}
+use Rattle.command_defs.specs.Seen.{Seen, Ending, IsRefused, sinking}
+use Rattle.command_defs.specs.Sinking.{WritesLine}
+use Rattle.command_defs.specs.Lines.{ready_line}
+use Rattle.command_defs.specs.Inits.{InitsDisk, FailsToInit}
+use Rattle.command_defs.specs.Inits as inits
+use Rattle.opening_defs.specs.Journals.{IsSetUpOn, IsResynced, MayBeLeft, journal_read}
 use Rattle.vault_open.specs.Causes.{IsInitFault, IsNoWrite}
 use Rattle.vault_open.specs.declared.fault.InitFault.{InitFault}
 use Rattle.vault_open.specs.declared.fault.InitFault.TheVariants as init_fault

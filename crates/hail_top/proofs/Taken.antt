@@ -1,7 +1,7 @@
 -- How much of a source was taken, also where no more came.
 use Rattle.std.proofs.Common.{◌≡◌, ℕ, zero, suc, ◌+◌, ◌≤◌, List, [], ◌∷◌, ◌++◌, length, take, Option, None, Some, refl, ap, sym, ◌∙◌, arith, length-append, append_assoc}
-use Rattle.hail_devices.specs.Told.{then_told}
-use Rattle.hail_commands.specs.Seen.{ReadsAtMost}
+use Rattle.device_defs.specs.Told.{then_told}
+use Rattle.command_defs.specs.Seen.{ReadsAtMost}
 
 pub none-taken : (most : ℕ) (told : Option (List ℕ)) → ReadsAtMost most told told
 none-taken most told = record { bytes = []; front = same told; few = omega arith }

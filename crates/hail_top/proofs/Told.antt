@@ -1,10 +1,10 @@
 -- A disk that was synced, or left as it was.
 use Rattle.std.proofs.Common.{◌≡◌, Option, None, Some, refl, sym, subst, inr}
 use Rattle.std.specs.Option.{option_map}
-use Rattle.hail_devices.specs.Cells.{Cells}
-use Rattle.hail_devices.specs.Disks.{synced}
-use Rattle.hail_devices.specs.Told.{Goes}
-use Rattle.hail_openings.specs.Journals.{IsResynced}
+use Rattle.device_defs.specs.Cells.{Cells}
+use Rattle.device_defs.specs.Disks.{synced}
+use Rattle.device_defs.specs.Told.{Goes}
+use Rattle.opening_defs.specs.Journals.{IsResynced}
 
 -- a disk that was synced
 pub resynced : (old new : Option Cells) → new ≡ option_map synced old → Goes IsResynced old new

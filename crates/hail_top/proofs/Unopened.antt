@@ -1,8 +1,8 @@
 -- How a command ends for which no vault was opened.
 use Rattle.std.proofs.Common.{◌≡◌, ℕ, ◌<◌, length, refl, subst}
-use Rattle.hail_devices.specs.Faults.{Rose}
-use Rattle.hail_commands.specs.Seen.{Seen, Ending, KeepsDisk, IsSynced}
-use Rattle.hail_commands.specs.Opens.{setup_in_effect, Unstarted, disk_fault, not_set_up, bad_journal, too_few_providers, no_memory}
+use Rattle.device_defs.specs.Faults.{Rose}
+use Rattle.command_defs.specs.Seen.{Seen, Ending, KeepsDisk, IsSynced}
+use Rattle.command_defs.specs.Opens.{setup_in_effect, Unstarted, disk_fault, not_set_up, bad_journal, too_few_providers, no_memory}
 use Rattle.command_jobs.specs.declared.open.Unopened.{Unopened}
 use Rattle.command_jobs.specs.declared.open.Unopened.TheVariants as unopened
 use Rattle.command_jobs.specs.Opened.{IsUnopened}

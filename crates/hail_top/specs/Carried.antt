@@ -7,11 +7,11 @@
 --   KeepsTheHeadline old new end  == no event was done, or whatever run from a start has left the devices,
 --                                    the command goes on with it
 use Rattle.std.specs.Prelude.{◌⊎◌, ℕ, List, IsSome}
-use Rattle.hail_commands.specs.Seen.{Seen, Ending}
-use Rattle.hail_machine.specs.Heard.{Entry}
-use Rattle.hail_machine.specs.Runs.{Moment}
-use Rattle.hail_machine.specs.States.{State}
-use Rattle.hail_machine.specs.Transcripts.{Instruction}
+use Rattle.command_defs.specs.Seen.{Seen, Ending}
+use Rattle.machine_defs.specs.Heard.{Entry}
+use Rattle.machine_defs.specs.Runs.{Moment}
+use Rattle.machine_defs.specs.States.{State}
+use Rattle.machine_defs.specs.Transcripts.{Instruction}
 use Rattle.vault_open.specs.Devices.{Devices}
 use Rattle.vault.specs.Devices.{devices_seen}
 use Rattle.hail_replay.specs.Starts.{AreLeft}

@@ -14,9 +14,9 @@ use Rattle.disk_model.specs.declared.disk.Disk.{Ghosts as DiskGhosts}
 use Rattle.provider_model.specs.declared.provider.Provider.{Ghosts as ProviderGhosts}
 use Rattle.stream_model.specs.declared.sink.Sink.{Ghosts as SinkGhosts}
 use Rattle.stream_model.specs.declared.source.Source.{Ghosts as SourceGhosts}
-use Rattle.hail_devices.specs.Cells.{Cells}
-use Rattle.hail_devices.specs.Providers.{Provider}
-use Rattle.hail_commands.specs.Seen.{Seen, Ending, seen}
+use Rattle.device_defs.specs.Cells.{Cells}
+use Rattle.device_defs.specs.Providers.{Provider}
+use Rattle.command_defs.specs.Seen.{Seen, Ending, seen}
 use Rattle.provider_model.specs.Seen.{provider_seen}
 use Rattle.hail_replay.specs.Heard.{entries_heard}
 use Rattle.hail_top.specs.declared.report.Report.{Report}

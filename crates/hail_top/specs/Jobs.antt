@@ -4,11 +4,11 @@
 --                                          records, and no count of faults fell
 --   PutsOver name old new end == the same of a put, which reads its source first
 use Rattle.std.specs.Prelude.{ℕ, List}
-use Rattle.hail_records.specs.Records.{Record}
-use Rattle.hail_machine.specs.Jobs.{Kind}
-use Rattle.hail_commands.specs.Seen.{Seen, Ending}
-use Rattle.hail_commands.specs.Jobs.{AnswersJob}
-use Rattle.hail_commands.specs.Commands.{AnswersPut}
+use Rattle.record_defs.specs.Records.{Record}
+use Rattle.machine_defs.specs.Jobs.{Kind}
+use Rattle.command_defs.specs.Seen.{Seen, Ending}
+use Rattle.command_defs.specs.Jobs.{AnswersJob}
+use Rattle.command_defs.specs.Commands.{AnswersPut}
 use Rattle.command_jobs.specs.Ends.{NoFaultUndone}
 
 -- a job was refused over these records, or ended, and no count of faults fell

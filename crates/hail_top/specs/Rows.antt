@@ -2,7 +2,7 @@
 --
 --   HasItsSymbols command == a row has as many symbols as it says
 use Rattle.std.specs.Prelude.{◌≡◌, length}
-use Rattle.hail_commands.specs.Forms.{Command, RowOf}
+use Rattle.command_defs.specs.Forms.{Command, RowOf}
 
 -- a row has as many symbols as it says
 abbrev pub HasItsSymbols : Command → Type 0

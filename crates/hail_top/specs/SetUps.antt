@@ -4,10 +4,10 @@
 --                                      are handed in
 --   init_ending fault      == how an init ends whose disk was not set up
 use Rattle.std.specs.Prelude.{◌≡◌, ℕ, ◌≤◌, true, List, []}
-use Rattle.hail_records.specs.Records.{is_setup}
-use Rattle.hail_commands.specs.Forms.{Numbers}
-use Rattle.hail_commands.specs.Inits.{setup_with}
-use Rattle.hail_commands.specs.Seen.{Ending}
+use Rattle.record_defs.specs.Records.{is_setup}
+use Rattle.command_defs.specs.Forms.{Numbers}
+use Rattle.command_defs.specs.Inits.{setup_with}
+use Rattle.command_defs.specs.Seen.{Ending}
 use Rattle.record_codec.specs.declared.setup.Setup.{Setup}
 use Rattle.record_codec.specs.Entries.{with_master}
 use Rattle.vault_open.specs.declared.fault.InitFault.{InitFault}

@@ -9,11 +9,11 @@
 --                                  has want of memory
 --   TellsAnswer s answer status at sink == the text of the answer is written or cut off, or its fault is told
 use Rattle.std.specs.Prelude.{◌≡◌, ◌⊎◌, ℕ, List, length}
-use Rattle.hail_machine.specs.Jobs.{Kind, PutJob, GetJob, DropJob, AuditJob, RepairJob, UpgradeJob}
-use Rattle.hail_machine.specs.Answers.{Answer, Put, Got, Dropped, Audited, Repaired, Lost, ProviderFault, DiskFault}
-use Rattle.hail_commands.specs.Lines.{stored_line, dropped_line, audit_lines, repaired_line}
-use Rattle.hail_commands.specs.Seen.{Ending}
-use Rattle.hail_commands.specs.Sinking.{Sinking, WritesLine}
+use Rattle.machine_defs.specs.Jobs.{Kind, PutJob, GetJob, DropJob, AuditJob, RepairJob, UpgradeJob}
+use Rattle.machine_defs.specs.Answers.{Answer, Put, Got, Dropped, Audited, Repaired, Lost, ProviderFault, DiskFault}
+use Rattle.command_defs.specs.Lines.{stored_line, dropped_line, audit_lines, repaired_line}
+use Rattle.command_defs.specs.Seen.{Ending}
+use Rattle.command_defs.specs.Sinking.{Sinking, WritesLine}
 use Rattle.command_jobs.specs.declared.open.Unopened.{Unopened}
 use Rattle.command_jobs.specs.declared.open.Unopened.TheVariants as unopened
 use Rattle.hail_top.specs.declared.reading.ReadFault.{ReadFault}

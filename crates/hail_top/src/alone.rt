@@ -1,11 +1,11 @@
 // Commands that run one job.
 ghost use Rattle.std.specs.Prelude.{◌≡◌, ◌≤◌, ℕ, List, Option, length, map, is_some};
 ghost use Rattle.std.specs.Option.{option_map};
-ghost use Rattle.hail_devices.specs.Disks.{synced};
-ghost use Rattle.hail_records.specs.Records.{Record};
-ghost use Rattle.hail_commands.specs.Seen.{Seen, NoCountFalls, seen};
-ghost use Rattle.hail_commands.specs.Opens.{IsOpened};
-ghost use Rattle.hail_commands.specs.Commands.{AnswersAlone};
+ghost use Rattle.device_defs.specs.Disks.{synced};
+ghost use Rattle.record_defs.specs.Records.{Record};
+ghost use Rattle.command_defs.specs.Seen.{Seen, NoCountFalls, seen};
+ghost use Rattle.command_defs.specs.Opens.{IsOpened};
+ghost use Rattle.command_defs.specs.Commands.{AnswersAlone};
 ghost use Rattle.vault.specs.Devices.{devices_seen};
 ghost use Rattle.provider_model.specs.Seen.{provider_seen};
 ghost use Rattle.command_jobs.specs.Kinds.{kind_of};

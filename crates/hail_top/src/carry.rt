@@ -1,6 +1,6 @@
 // The commands `replay` and `trial`.
 ghost use Rattle.std.specs.Prelude.{◌≡◌, ◌≤◌, ◌+◌, ℕ, List, Option, is_some};
-ghost use Rattle.hail_commands.specs.Seen.{ReadsUpTo, NoCountFalls};
+ghost use Rattle.command_defs.specs.Seen.{ReadsUpTo, NoCountFalls};
 ghost use Rattle.hail_replay.specs.Answers.{longest_schedule, AnswersReplay, AnswersTrial};
 ghost use Rattle.hail_replay.specs.Heard.{entries_heard};
 ghost use Rattle.hail_replay.specs.Performed.{NoCountFell};

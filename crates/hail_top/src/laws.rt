@@ -1,12 +1,12 @@
 //! What follows from the definition of an answer to `row`.
 ghost use Rattle.std.specs.Prelude.{◌≡◌, ◌⊎◌, ◌<◌, ℕ, List, Option, length};
 ghost use Rattle.hail_field.specs.Shape.{IsShape};
-ghost use Rattle.hail_devices.specs.Faults.{last_count};
-ghost use Rattle.hail_codes.specs.Points.{upto, values_at};
-ghost use Rattle.hail_codes.specs.DispersalCode.{Accepts};
-ghost use Rattle.hail_commands.specs.Line.{values_line};
-ghost use Rattle.hail_commands.specs.Sinking.{Sinking};
-ghost use Rattle.hail_commands.specs.Row.{AnswersRow};
+ghost use Rattle.device_defs.specs.Faults.{last_count};
+ghost use Rattle.code_defs.specs.Points.{upto, values_at};
+ghost use Rattle.code_defs.specs.DispersalCode.{Accepts};
+ghost use Rattle.command_defs.specs.Line.{values_line};
+ghost use Rattle.command_defs.specs.Sinking.{Sinking};
+ghost use Rattle.command_defs.specs.Row.{AnswersRow};
 
 use dispersal_code::laws::accepted_polynomial_is_unique;
 

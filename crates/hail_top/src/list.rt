@@ -1,15 +1,15 @@
 // The command `list`.
 ghost use Rattle.std.specs.Prelude.{◌≡◌, ◌≤◌, ℕ, List, Option, length, is_some};
-ghost use Rattle.hail_devices.specs.Providers.{Provider};
-ghost use Rattle.hail_records.specs.Records.{Record};
-ghost use Rattle.hail_records.specs.Table.{files_of};
-ghost use Rattle.hail_commands.specs.Lines.{list_lines};
-ghost use Rattle.hail_commands.specs.Sinking.{WritesLine};
-ghost use Rattle.hail_commands.specs.Commands.{AnswersList};
+ghost use Rattle.device_defs.specs.Providers.{Provider};
+ghost use Rattle.record_defs.specs.Records.{Record};
+ghost use Rattle.record_defs.specs.Table.{files_of};
+ghost use Rattle.command_defs.specs.Lines.{list_lines};
+ghost use Rattle.command_defs.specs.Sinking.{WritesLine};
+ghost use Rattle.command_defs.specs.Commands.{AnswersList};
 ghost use Rattle.vault.specs.Seen.{table_of};
 ghost use Rattle.vault_table.specs.Values.{IsFoldOf};
 ghost use Rattle.hail_top.specs.Endings.{ending_of};
-ghost use Rattle.hail_commands.specs.Seen.{seen};
+ghost use Rattle.command_defs.specs.Seen.{seen};
 
 use crate::refusals::unopened;
 use crate::report::{NO_MEMORY, Report};

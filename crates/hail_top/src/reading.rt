@@ -1,8 +1,8 @@
 // Reads the first bytes of a source.
 ghost use Rattle.std.specs.Prelude.{◌≡◌, IfOk, IsErrOf};
-ghost use Rattle.hail_devices.specs.Faults.{HasCause};
-ghost use Rattle.hail_machine.specs.Events.{AreBytes};
-ghost use Rattle.hail_commands.specs.Seen.{ReadsAtMost, ReadsUpTo};
+ghost use Rattle.device_defs.specs.Faults.{HasCause};
+ghost use Rattle.machine_defs.specs.Events.{AreBytes};
+ghost use Rattle.command_defs.specs.Seen.{ReadsAtMost, ReadsUpTo};
 ghost use Rattle.hail_top.specs.declared.reading.ReadFault.TheVariants as read_fault;
 
 use std::alloc::{AllocError, Global};

@@ -1,6 +1,6 @@
 // How a command ends that runs no job.
 ghost use Rattle.std.specs.Prelude.{◌≡◌};
-ghost use Rattle.hail_commands.specs.Refusals.{status_of};
+ghost use Rattle.command_defs.specs.Refusals.{status_of};
 ghost use Rattle.vault_core.specs.Carried.{refusal_of};
 ghost use Rattle.hail_top.specs.Endings.{ending_of, ending_with};
 ghost use Rattle.hail_top.specs.Telling.{unread_ending, unopened_ending};

@@ -1,11 +1,11 @@
 // The command `row`.
 ghost use Rattle.std.specs.Prelude.{◌≡◌, ◌≤◌, ◌↔◌, length, IsSome, IfSome, IfOk, MatchOption};
 ghost use Rattle.hail_field.specs.Shape.{IsShape};
-ghost use Rattle.hail_codes.specs.Points.{upto, values_at};
-ghost use Rattle.hail_codes.specs.DispersalCode.{AcceptsNone};
-ghost use Rattle.hail_commands.specs.Row.{AnswersRow, OpensRow};
-ghost use Rattle.hail_commands.specs.Line.{values_line};
-ghost use Rattle.hail_commands.specs.Sinking.{WritesLine};
+ghost use Rattle.code_defs.specs.Points.{upto, values_at};
+ghost use Rattle.code_defs.specs.DispersalCode.{AcceptsNone};
+ghost use Rattle.command_defs.specs.Row.{AnswersRow, OpensRow};
+ghost use Rattle.command_defs.specs.Line.{values_line};
+ghost use Rattle.command_defs.specs.Sinking.{WritesLine};
 
 use crate::report::{BAD_SETUP, NO_MEMORY};
 use command_lines::{tell_no_row, values_line, write_text};

@@ -1,8 +1,8 @@
 // The command `serve`.
 ghost use Rattle.std.specs.Prelude.{◌≡◌, ℕ, Option};
-ghost use Rattle.hail_devices.specs.Cells.{Cells};
-ghost use Rattle.hail_commands.specs.Commands.{IsUsage};
-ghost use Rattle.hail_commands.specs.Seen.{NoCountFalls};
+ghost use Rattle.device_defs.specs.Cells.{Cells};
+ghost use Rattle.command_defs.specs.Commands.{IsUsage};
+ghost use Rattle.command_defs.specs.Seen.{NoCountFalls};
 ghost use Rattle.provider_server.specs.Answers.{AnswersServe};
 ghost use Rattle.provider_server.specs.Statuses as statuses;
 ghost use Rattle.provider_server.specs.Words.{IsServeForm};

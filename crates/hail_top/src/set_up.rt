@@ -1,11 +1,11 @@
 // The command `init`.
 ghost use Rattle.std.specs.Prelude.{◌≡◌, ◌≤◌, ℕ, List, Option, length, is_some};
-ghost use Rattle.hail_devices.specs.Providers.{Provider};
-ghost use Rattle.hail_commands.specs.Forms.{Numbers as SevenNumbers};
-ghost use Rattle.hail_commands.specs.Keys.{longest_key};
-ghost use Rattle.hail_commands.specs.Seen.{ReadsUpTo, seen};
+ghost use Rattle.device_defs.specs.Providers.{Provider};
+ghost use Rattle.command_defs.specs.Forms.{Numbers as SevenNumbers};
+ghost use Rattle.command_defs.specs.Keys.{longest_key};
+ghost use Rattle.command_defs.specs.Seen.{ReadsUpTo, seen};
 ghost use Rattle.record_codec.specs.Entries.{with_master};
-ghost use Rattle.hail_commands.specs.Inits.{AnswersInit, InitsDisk};
+ghost use Rattle.command_defs.specs.Inits.{AnswersInit, InitsDisk};
 ghost use Rattle.command_words.specs.Commands.{numbers_of};
 ghost use Rattle.hail_top.specs.Endings.{ending_of};
 ghost use Rattle.hail_top.specs.SetUps.{IsSetupFor, init_ending};

@@ -1,7 +1,7 @@
 ghost use Rattle.std.specs.Prelude.{◌≡◌, ℕ, map, is_some};
-ghost use Rattle.hail_commands.specs.Forms.{Command as Spelled, IsForm};
-ghost use Rattle.hail_commands.specs.Seen.{NoCountFalls, seen};
-ghost use Rattle.hail_commands.specs.Commands.{Answers, IsUsage};
+ghost use Rattle.command_defs.specs.Forms.{Command as Spelled, IsForm};
+ghost use Rattle.command_defs.specs.Seen.{NoCountFalls, seen};
+ghost use Rattle.command_defs.specs.Commands.{Answers, IsUsage};
 ghost use Rattle.provider_model.specs.Seen.{provider_seen};
 ghost use Rattle.command_words.specs.Commands.{command_of};
 ghost use Rattle.hail_top.specs.Carried.{AnswersForm, KeepsTheHeadline};

@@ -1,18 +1,18 @@
 -- The parts of the headline, of one run.
 use Rattle.std.proofs.Common.{◌≡◌, ℕ, List, ◌∷◌, ◌++◌, ap, sym, subst, ◌∙◌}
 use Rattle.std.proofs.lemmas.List.{append_assoc}
-use Rattle.hail_records.specs.Table.{File}
-use Rattle.hail_machine.specs.Jobs.{Job}
-use Rattle.hail_machine.specs.States.{State, IsStart}
-use Rattle.hail_machine.specs.Runs.{Moment, now, IsRun}
-use Rattle.hail_machine.specs.Survival.{EndsPut, HasComeIn, IsKept}
-use Rattle.hail_machine.proofs.Acknowledged.{acknowledged}
-use Rattle.hail_machine.proofs.Survive.{survives}
-use Rattle.hail_machine.proofs.Uses.{stored_once, asked_once}
-use Rattle.hail_machine.proofs.Given.{run_part}
+use Rattle.record_defs.specs.Table.{File}
+use Rattle.machine_defs.specs.Jobs.{Job}
+use Rattle.machine_defs.specs.States.{State, IsStart}
+use Rattle.machine_defs.specs.Runs.{Moment, now, IsRun}
+use Rattle.machine_defs.specs.Survival.{EndsPut, HasComeIn, IsKept}
+use Rattle.machine_defs.proofs.Acknowledged.{acknowledged}
+use Rattle.machine_defs.proofs.Survive.{survives}
+use Rattle.machine_defs.proofs.Uses.{stored_once, asked_once}
+use Rattle.machine_defs.proofs.Given.{run_part}
 use Rattle.run_laws.proofs.PutBytes.{put_bytes_stay}
 use Rattle.run_laws.proofs.FirstHalf.{first_half}
-use Rattle.mark_laws.proofs.SecondHalf.{second_half}
+use Rattle.second_half_laws.proofs.SecondHalf.{second_half}
 use Rattle.headline.specs.Headline.{file_of_put, IsSafe, AcknowledgedFilesSurvive, Headline}
 
 module _ (limit : ℕ) (start : State) (clean : IsStart start) where

@@ -5,7 +5,7 @@
 -- run in which no audit missed damage each get of a stored name ends Ok, save for want of memory or a
 -- counted fault; and acknowledged files survive every stop.
 --
--- Where each phrase is defined, in hail_machine/specs unless another crate is named:
+-- Where each phrase is defined, in machine_defs/specs unless another crate is named:
 --
 --   every schedule of .. == IsStart start, IsRun limit start ms (States, Runs): moments, the newest first, of
 --                           events in any order, each of which may come to what Happens allows (Machine)
@@ -18,7 +18,7 @@
 --   last put in effect   == begin_state.bytes file.id of the file in effect under the name at the get's begin
 --   under its name (Halves). They are the bytes of the put that drew the file's number: `bytes_are` of
 --                           IsSafe below, and `stay` of laws::done_puts_are_whole of step_laws
---   unless a fetched row == HoldsForgery (Heard) of what the get's fetches gave: IsForgery (hail_columns,
+--   unless a fetched row == HoldsForgery (Heard) of what the get's fetches gave: IsForgery (column_defs,
 --   is a forgery            Forgeries)
 --   a calm run           == IsCalm relies (since start) (Calm): while a get or a repair runs, at most b
 --                           providers were replaced since the begin of the audit that was the last settled
@@ -41,16 +41,16 @@
 --   numbers              == HasStored, HasAsked (Deeds): no two puts store under one number, no two audits
 --                           make one challenge
 use Rattle.std.specs.Prelude.{◌≡◌, ℕ, List, ◌∷◌, ◌++◌, length}
-use Rattle.hail_records.specs.Table.{File, file_as}
-use Rattle.hail_machine.specs.Jobs.{Job}
-use Rattle.hail_machine.specs.States.{State}
-use Rattle.hail_machine.specs.Runs.{Moment, now}
-use Rattle.hail_machine.specs.Calm.{IsCalm, since, relies}
-use Rattle.hail_machine.specs.Missed.{NoneMissed}
-use Rattle.hail_machine.specs.Scrubs.{AreScrubsCalm}
-use Rattle.hail_machine.specs.Halves.{AllTell, FirstHalf, SecondHalf}
-use Rattle.hail_machine.specs.Survival.{EndsPut, HasComeIn, NeverTakenOut, IsKept}
-use Rattle.hail_machine.specs.Deeds.{HasStored, HasAsked}
+use Rattle.record_defs.specs.Table.{File, file_as}
+use Rattle.machine_defs.specs.Jobs.{Job}
+use Rattle.machine_defs.specs.States.{State}
+use Rattle.machine_defs.specs.Runs.{Moment, now}
+use Rattle.machine_defs.specs.Calm.{IsCalm, since, relies}
+use Rattle.machine_defs.specs.Missed.{NoneMissed}
+use Rattle.machine_defs.specs.Scrubs.{AreScrubsCalm}
+use Rattle.machine_defs.specs.Halves.{AllTell, FirstHalf, SecondHalf}
+use Rattle.machine_defs.specs.Survival.{EndsPut, HasComeIn, NeverTakenOut, IsKept}
+use Rattle.machine_defs.specs.Deeds.{HasStored, HasAsked}
 
 -- the file of a put
 abbrev pub file_of_put : Job → List ℕ → List ℕ → File

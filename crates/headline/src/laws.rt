@@ -1,7 +1,7 @@
 //! The main theorem of every run.
 ghost use Rattle.std.specs.Prelude.{ℕ, List};
-ghost use Rattle.hail_machine.specs.States.{State, IsStart};
-ghost use Rattle.hail_machine.specs.Runs.{Moment, IsRun};
+ghost use Rattle.machine_defs.specs.States.{State, IsStart};
+ghost use Rattle.machine_defs.specs.Runs.{Moment, IsRun};
 ghost use Rattle.headline.specs.Headline.{Headline};
 
 /// The headline, of every run from a start at every limit of running jobs.

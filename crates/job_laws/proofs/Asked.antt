@@ -4,20 +4,20 @@ use Rattle.std.specs.Prelude.{nat_lt}
 use Rattle.std.specs.List.{flat_map}
 use Rattle.std.proofs.lemmas.Bool.{cases_Bool}
 use Rattle.std.proofs.lemmas.Grind.{flat_map-append}
-use Rattle.plain_facts.specs.Lists.{Each}
-use Rattle.plain_facts.proofs.Each.{each_append, each_map, each_flat}
-use Rattle.hail_codes.specs.Points.{upto}
-use Rattle.hail_records.specs.Records.{Setup}
-use Rattle.hail_records.specs.Table.{File}
-use Rattle.hail_machine.specs.Jobs.{Pinned, Given, Answered, Job}
-use Rattle.hail_machine.specs.Setups.{profiled, stripes_of}
-use Rattle.hail_machine.specs.Actions.{Action, Ask, machine_pins, rounds_of, ask_actions}
-use Rattle.hail_machine.specs.Begins.{pinned_file, pin_by, pin_all}
-use Rattle.hail_machine.specs.Given.{answer_given}
-use Rattle.hail_machine.specs.States.{State}
-use Rattle.hail_machine.proofs.JobLists.{cond_true, cond_false}
-use Rattle.hail_commands.specs.Audits.{with_number, files_by_number, Question, questions}
-use Rattle.sound_states.specs.Orders.{AreAscending}
+use Rattle.plain_laws.specs.Lists.{Each}
+use Rattle.plain_laws.proofs.Each.{each_append, each_map, each_flat}
+use Rattle.code_defs.specs.Points.{upto}
+use Rattle.record_defs.specs.Records.{Setup}
+use Rattle.record_defs.specs.Table.{File}
+use Rattle.machine_defs.specs.Jobs.{Pinned, Given, Answered, Job}
+use Rattle.machine_defs.specs.Setups.{profiled, stripes_of}
+use Rattle.machine_defs.specs.Actions.{Action, Ask, machine_pins, rounds_of, ask_actions}
+use Rattle.machine_defs.specs.Begins.{pinned_file, pin_by, pin_all}
+use Rattle.machine_defs.specs.Given.{answer_given}
+use Rattle.machine_defs.specs.States.{State}
+use Rattle.machine_defs.proofs.JobLists.{cond_true, cond_false}
+use Rattle.command_defs.specs.Audits.{with_number, files_by_number, Question, questions}
+use Rattle.state_laws.specs.Orders.{AreAscending}
 use Rattle.job_laws.proofs.Heard.{AreDistinct, distinct-append, distinct-range, distinct-map, apart-by, entry_for}
 
 -- ---- files by number, as they are pinned

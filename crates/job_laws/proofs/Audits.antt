@@ -5,42 +5,42 @@ use Rattle.std.specs.Option.{option_map}
 use Rattle.std.specs.List.{flat_map}
 use Rattle.std.proofs.lemmas.Bool.{cases_lt}
 use Rattle.std.proofs.lemmas.List.{take-append-drop}
-use Rattle.plain_facts.specs.Lists.{Each}
-use Rattle.plain_facts.proofs.Each.{each_get, each_append, each_map, each_flat, each_take}
-use Rattle.plain_facts.proofs.Lists.{drop-get}
-use Rattle.hail_codes.specs.Points.{upto}
-use Rattle.hail_columns.specs.Challenges.{challenge_of, honest_answer}
-use Rattle.hail_columns.specs.Verdicts.{Sums, Judges}
-use Rattle.hail_devices.specs.Providers.{Held, Provider}
-use Rattle.hail_devices.proofs.Lasting.{rose-before}
-use Rattle.hail_records.specs.Records.{Setup, Record, AuditStart, AuditDone}
-use Rattle.hail_records.specs.Table.{File, next_audit, files_of}
-use Rattle.hail_machine.specs.Jobs.{AuditJob, Pinned, Given, Answered, Job}
-use Rattle.hail_machine.specs.Setups.{profiled, object_of}
-use Rattle.hail_machine.specs.Actions.{Action, WriteBody, SyncBody, WriteGate, SyncGate, Store, Fetch, Ask, Work, Remove, End, append_actions, ask_actions, rounds_of, actions_of, actions_left, appends_left}
-use Rattle.hail_machine.specs.Answers as answer
-use Rattle.hail_machine.specs.Answers.{Answer}
-use Rattle.hail_machine.specs.Audits.{challenge_in, HasSums, JudgesFiles}
-use Rattle.hail_machine.specs.Events.{Ended}
-use Rattle.hail_machine.specs.Given.{answer_given, answers_given, pinned_size}
-use Rattle.hail_machine.specs.Heard.{Entry, entries_of, heard_by_kind}
-use Rattle.hail_machine.specs.States.{State, Append, Doubt, setup_in}
-use Rattle.hail_machine.specs.Appends.{Moves}
-use Rattle.hail_machine.specs.Steps.{next_action, holder_of, Acts, Ends as EndsAs}
-use Rattle.hail_machine.proofs.Numbers.{next_by, next_is_by}
-use Rattle.hail_machine.proofs.RecordFacts.{listed_file}
-use Rattle.hail_machine.proofs.NextActions.{next_stands}
-use Rattle.hail_commands.specs.Audits.{Question, files_by_number, questions, challenge_at, answer_heard, answer_entries, HearsRounds, JudgesOne, no_sums, CountsHeard, audit_records, AuditIsCut, AuditGives, AuditLeaves}
-use Rattle.hail_commands.specs.JobRuns.{RunsJob}
-use Rattle.hail_commands.specs.Jobs.{Leaves}
-use Rattle.hail_commands.specs.Ran.{Ran, ran_from, IsWhole}
-use Rattle.hail_commands.specs.Truthful.{IsTruthful}
-use Rattle.sound_states.specs.Orders.{moves_made, IsInOrder}
-use Rattle.sound_states.proofs.Given.{valid-shape}
-use Rattle.sound_states.proofs.Orders.{audit_rest, audit-list, audit-first, audit-later, appends_in, appends-cons}
-use Rattle.sound_states.proofs.Written.{setup-valid}
+use Rattle.plain_laws.specs.Lists.{Each}
+use Rattle.plain_laws.proofs.Each.{each_get, each_append, each_map, each_flat, each_take}
+use Rattle.plain_laws.proofs.Lists.{drop-get}
+use Rattle.code_defs.specs.Points.{upto}
+use Rattle.column_defs.specs.Challenges.{challenge_of, honest_answer}
+use Rattle.column_defs.specs.Verdicts.{Sums, Judges}
+use Rattle.device_defs.specs.Providers.{Held, Provider}
+use Rattle.device_defs.proofs.Lasting.{rose-before}
+use Rattle.record_defs.specs.Records.{Setup, Record, AuditStart, AuditDone}
+use Rattle.record_defs.specs.Table.{File, next_audit, files_of}
+use Rattle.machine_defs.specs.Jobs.{AuditJob, Pinned, Given, Answered, Job}
+use Rattle.machine_defs.specs.Setups.{profiled, object_of}
+use Rattle.machine_defs.specs.Actions.{Action, WriteBody, SyncBody, WriteGate, SyncGate, Store, Fetch, Ask, Work, Remove, End, append_actions, ask_actions, rounds_of, actions_of, actions_left, appends_left}
+use Rattle.machine_defs.specs.Answers as answer
+use Rattle.machine_defs.specs.Answers.{Answer}
+use Rattle.machine_defs.specs.Audits.{challenge_in, HasSums, JudgesFiles}
+use Rattle.machine_defs.specs.Events.{Ended}
+use Rattle.machine_defs.specs.Given.{answer_given, answers_given, pinned_size}
+use Rattle.machine_defs.specs.Heard.{Entry, entries_of, heard_by_kind}
+use Rattle.machine_defs.specs.States.{State, Append, Doubt, setup_in}
+use Rattle.machine_defs.specs.Appends.{Moves}
+use Rattle.machine_defs.specs.Steps.{next_action, holder_of, Acts, Ends as EndsAs}
+use Rattle.machine_defs.proofs.Numbers.{next_by, next_is_by}
+use Rattle.machine_defs.proofs.RecordFacts.{listed_file}
+use Rattle.machine_defs.proofs.NextActions.{next_stands}
+use Rattle.command_defs.specs.Audits.{Question, files_by_number, questions, challenge_at, answer_heard, answer_entries, HearsRounds, JudgesOne, no_sums, CountsHeard, audit_records, AuditIsCut, AuditGives, AuditLeaves}
+use Rattle.command_defs.specs.JobRuns.{RunsJob}
+use Rattle.command_defs.specs.Jobs.{Leaves}
+use Rattle.command_defs.specs.Ran.{Ran, ran_from, IsWhole}
+use Rattle.command_defs.specs.Truthful.{IsTruthful}
+use Rattle.state_laws.specs.Orders.{moves_made, IsInOrder}
+use Rattle.state_laws.proofs.Given.{valid-shape}
+use Rattle.state_laws.proofs.Orders.{audit_rest, audit-list, audit-first, audit-later, appends_in, appends-cons}
+use Rattle.state_laws.proofs.Written.{setup-valid}
 use Rattle.lone_laws.specs.Made.{With, Made}
-use Rattle.hail_openings.specs.Opened.{IsOpenAtRest}
+use Rattle.opening_defs.specs.Opened.{IsOpenAtRest}
 use Rattle.lone_laws.specs.Walked.{RecordsAre, with_job_of, Walked}
 use Rattle.lone_laws.proofs.Lists.{made-append, made-split, made-one}
 use Rattle.lone_laws.proofs.Walk.{Wrote, wrote, runs, left-start, opened-sound, first-body}
@@ -56,7 +56,7 @@ use Rattle.job_laws.proofs.Plain.{plain-files, made-plain}
 use Rattle.job_laws.proofs.Judged.{sums-one, files-questions}
 use Rattle.job_laws.proofs.Truth.{IsQuiet, asks-told}
 use Rattle.job_laws.proofs.Questions.{each-in, each-both, all-each, each-question, sizes-pinned, Fits, told-questions, lacks-questions}
-use Rattle.hail_columns.specs.Objects.{Object}
+use Rattle.column_defs.specs.Objects.{Object}
 
 -- ---- the actions of an audit
 

@@ -1,23 +1,23 @@
 -- Where no job runs, a begin of the machine is refused as that of a command.
 use Rattle.std.proofs.Common.{◌≡◌, ◌+◌, ◌==◌, ◌||◌, Option, None, ◌∙◌, Bool, false, List, [], ◌∷◌, ap, sym, subst, not, length, add-zero, sum}
 use Rattle.std.specs.Prelude.{is_some, nat_lt}
-use Rattle.hail_records.specs.Records.{Record, is_name, largest_file, largest_journal}
-use Rattle.hail_records.specs.Journal.{text_size}
-use Rattle.hail_records.specs.Table.{version_of, file_of, due_of}
-use Rattle.hail_records.specs.Areas.{Area, A, end_in}
-use Rattle.hail_records.proofs.AreaLaws.{text_size-end}
-use Rattle.hail_machine.proofs.Sights.{stored-file}
-use Rattle.hail_machine.specs.Jobs.{Kind, PutJob, GetJob, DropJob, AuditJob, RepairJob, UpgradeJob, ToDrop, aim_of, Job}
-use Rattle.hail_machine.specs.Refusals as refusal
-use Rattle.hail_machine.specs.Refusals.{first_refusal}
-use Rattle.hail_machine.specs.States.{State, Alone, setup_in}
-use Rattle.hail_machine.specs.Space.{append_sizes}
-use Rattle.hail_machine.specs.Sights.{sight_of, is_full}
-use Rattle.hail_machine.specs.Begins.{begin_refusal}
-use Rattle.sound_states.specs.Sound.{IsWholeJournal}
-use Rattle.hail_commands.specs.Opens.{setup_in_effect}
-use Rattle.hail_commands.specs.Refusals as commands
-use Rattle.hail_commands.specs.Refusals.{has_no_number, is_crowded_by}
+use Rattle.record_defs.specs.Records.{Record, is_name, largest_file, largest_journal}
+use Rattle.record_defs.specs.Journal.{text_size}
+use Rattle.record_defs.specs.Table.{version_of, file_of, due_of}
+use Rattle.record_defs.specs.Areas.{Area, A, end_in}
+use Rattle.record_defs.proofs.AreaLaws.{text_size-end}
+use Rattle.machine_defs.proofs.Sights.{stored-file}
+use Rattle.machine_defs.specs.Jobs.{Kind, PutJob, GetJob, DropJob, AuditJob, RepairJob, UpgradeJob, ToDrop, aim_of, Job}
+use Rattle.machine_defs.specs.Refusals as refusal
+use Rattle.machine_defs.specs.Refusals.{first_refusal}
+use Rattle.machine_defs.specs.States.{State, Alone, setup_in}
+use Rattle.machine_defs.specs.Space.{append_sizes}
+use Rattle.machine_defs.specs.Sights.{sight_of, is_full}
+use Rattle.machine_defs.specs.Begins.{begin_refusal}
+use Rattle.state_laws.specs.Sound.{IsWholeJournal}
+use Rattle.command_defs.specs.Opens.{setup_in_effect}
+use Rattle.command_defs.specs.Refusals as commands
+use Rattle.command_defs.specs.Refusals.{has_no_number, is_crowded_by}
 
 module _ (w : State) where
   -- the state with no job, in which jobs go on, over the whole history

@@ -4,38 +4,38 @@ use Rattle.std.specs.Prelude.{IfSome, nat_lt, nat_le, is_some, is_none}
 use Rattle.std.specs.List.{range_with_len, list_any}
 use Rattle.std.proofs.lemmas.Bool.{cases_Bool, cases_eq, and_parts, false≢true, or_parts}
 use Rattle.std.proofs.lemmas.Bool.Decides.{nat_tests}
-use Rattle.plain_facts.proofs.Lists.{get-map_range}
+use Rattle.plain_laws.proofs.Lists.{get-map_range}
 use Rattle.hail_field.specs.Shape.{IsShape}
-use Rattle.hail_codes.specs.Points.{upto}
-use Rattle.hail_codes.specs.ServerCode.{differences}
-use Rattle.hail_columns.specs.Objects.{Object, stripes, symbols_in}
-use Rattle.hail_columns.specs.Columns.{columns, is_wrong_block, is_wrong, row_polynomial}
-use Rattle.hail_columns.specs.Opened.{SeenBlock, OpensFile, block_at}
-use Rattle.hail_columns.specs.Forgeries.{is_agreeing, IsForgery}
+use Rattle.code_defs.specs.Points.{upto}
+use Rattle.code_defs.specs.ServerCode.{differences}
+use Rattle.column_defs.specs.Objects.{Object, stripes, symbols_in}
+use Rattle.column_defs.specs.Columns.{columns, is_wrong_block, is_wrong, row_polynomial}
+use Rattle.column_defs.specs.Opened.{SeenBlock, OpensFile, block_at}
+use Rattle.column_defs.specs.Forgeries.{is_agreeing, IsForgery}
 use Rattle.column_laws.proofs.Counts.{count_of-within}
 use Rattle.column_laws.proofs.RightRows.{row-right}
 use Rattle.column_laws.proofs.UniqueLaws.{profile-room}
-use Rattle.hail_devices.specs.Faults.{Rose, last_count}
-use Rattle.hail_devices.specs.Providers.{Held, sized}
-use Rattle.hail_records.specs.Table.{File, file_of}
-use Rattle.hail_machine.specs.Setups.{profiled, stripes_of}
-use Rattle.hail_machine.specs.Answers as answer
-use Rattle.hail_machine.specs.Answers.{Answer}
-use Rattle.hail_machine.specs.Events.{AreBytes}
-use Rattle.hail_machine.specs.Heard.{Entry, HoldsForgery}
-use Rattle.hail_machine.specs.States.{State, setup_in}
-use Rattle.hail_machine.proofs.JobLists.{cond_true, cond_false, same_value}
+use Rattle.device_defs.specs.Faults.{Rose, last_count}
+use Rattle.device_defs.specs.Providers.{Held, sized}
+use Rattle.record_defs.specs.Table.{File, file_of}
+use Rattle.machine_defs.specs.Setups.{profiled, stripes_of}
+use Rattle.machine_defs.specs.Answers as answer
+use Rattle.machine_defs.specs.Answers.{Answer}
+use Rattle.machine_defs.specs.Events.{AreBytes}
+use Rattle.machine_defs.specs.Heard.{Entry, HoldsForgery}
+use Rattle.machine_defs.specs.States.{State, setup_in}
+use Rattle.machine_defs.proofs.JobLists.{cond_true, cond_false, same_value}
 use Rattle.run_laws.proofs.Files.{file_or_forged}
-use Rattle.hail_commands.specs.Gets.{block_heard, blocks_heard, HearsStripes, GetGives, GetLeaves}
-use Rattle.hail_commands.specs.Puts.{PutLeaves}
-use Rattle.hail_commands.specs.Drops.{DropLeaves}
-use Rattle.hail_commands.specs.Upgrades.{UpgradeLeaves}
-use Rattle.hail_commands.specs.Audits.{AuditGives}
-use Rattle.hail_commands.specs.Ran.{Ran, ran_from, setup_at_begin, object_at_begin, stripes_at_begin, job_number}
-use Rattle.hail_commands.specs.Truthful.{missing, IsTruthful}
-use Rattle.sound_states.proofs.Given.{valid-shape}
-use Rattle.sound_states.proofs.Written.{setup-valid}
-use Rattle.hail_openings.specs.Opened.{IsOpenAtRest}
+use Rattle.command_defs.specs.Gets.{block_heard, blocks_heard, HearsStripes, GetGives, GetLeaves}
+use Rattle.command_defs.specs.Puts.{PutLeaves}
+use Rattle.command_defs.specs.Drops.{DropLeaves}
+use Rattle.command_defs.specs.Upgrades.{UpgradeLeaves}
+use Rattle.command_defs.specs.Audits.{AuditGives}
+use Rattle.command_defs.specs.Ran.{Ran, ran_from, setup_at_begin, object_at_begin, stripes_at_begin, job_number}
+use Rattle.command_defs.specs.Truthful.{missing, IsTruthful}
+use Rattle.state_laws.proofs.Given.{valid-shape}
+use Rattle.state_laws.proofs.Written.{setup-valid}
+use Rattle.opening_defs.specs.Opened.{IsOpenAtRest}
 use Rattle.lone_laws.proofs.Walk.{opened-sound}
 use Rattle.job_laws.specs.Failing.{has_risen, is_bad_with, is_bad, bad_count}
 

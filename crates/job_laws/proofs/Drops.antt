@@ -4,39 +4,39 @@ use Rattle.std.specs.Prelude.{slice_get, is_some}
 use Rattle.std.specs.Option.{option_map}
 use Rattle.std.proofs.lemmas.Bool.{cases_Bool, and_parts, eqb-true, false≢true}
 use Rattle.std.proofs.lemmas.List.{take-append-drop}
-use Rattle.plain_facts.specs.Lists.{Each}
-use Rattle.plain_facts.proofs.Each.{each_get, each_append, each_map, each_flat, each_take}
-use Rattle.plain_facts.proofs.Lists.{drop-get}
-use Rattle.hail_codes.specs.Points.{upto}
-use Rattle.hail_devices.specs.Faults.{Rose}
-use Rattle.hail_devices.specs.Told.{Goes}
-use Rattle.hail_devices.specs.Providers.{Provider}
-use Rattle.hail_devices.proofs.Lasting.{rose-before}
-use Rattle.hail_records.specs.Records.{Setup, Record, Drop}
-use Rattle.hail_records.specs.Table.{File, file_of}
-use Rattle.hail_machine.specs.Jobs.{DropJob, Given, Job}
-use Rattle.hail_machine.specs.Actions.{Action, WriteBody, SyncBody, WriteGate, SyncGate, Store, Fetch, Ask, Work, Remove, End, append_actions, on_each_provider, remove_actions, actions_by, actions_of, actions_left, appends_left}
-use Rattle.hail_machine.specs.Answers as answer
-use Rattle.hail_machine.specs.Answers.{Answer}
-use Rattle.hail_machine.specs.Events.{Ended}
-use Rattle.hail_machine.specs.Heard.{Entry, heard_by_kind}
-use Rattle.hail_machine.specs.States.{State, Doubt, setup_in, file_in}
-use Rattle.hail_machine.specs.Appends.{Moves, removable}
-use Rattle.hail_machine.specs.Steps as step
-use Rattle.hail_machine.specs.Steps.{is_idle_drop, holder_of, Acts}
-use Rattle.hail_machine.proofs.JobLists.{cond_false}
-use Rattle.hail_machine.proofs.ActionLists.{split_get}
-use Rattle.hail_machine.proofs.Numbers.{next_by, next_is_by}
-use Rattle.hail_machine.proofs.NextActions.{next_stands}
-use Rattle.hail_commands.specs.Blocks.{DroppedFrom}
-use Rattle.hail_commands.specs.Drops.{DropsFile, DropLeaves}
-use Rattle.hail_commands.specs.Jobs.{Leaves}
-use Rattle.hail_commands.specs.Ran.{Ran, ran_from, SameHeld, NoFetches}
-use Rattle.sound_states.specs.Orders.{moves_made, IsInOrder}
-use Rattle.sound_states.proofs.Orders.{drop_rest, appends_in, appends-cons}
-use Rattle.sound_states.proofs.Gates.{drop-list}
+use Rattle.plain_laws.specs.Lists.{Each}
+use Rattle.plain_laws.proofs.Each.{each_get, each_append, each_map, each_flat, each_take}
+use Rattle.plain_laws.proofs.Lists.{drop-get}
+use Rattle.code_defs.specs.Points.{upto}
+use Rattle.device_defs.specs.Faults.{Rose}
+use Rattle.device_defs.specs.Told.{Goes}
+use Rattle.device_defs.specs.Providers.{Provider}
+use Rattle.device_defs.proofs.Lasting.{rose-before}
+use Rattle.record_defs.specs.Records.{Setup, Record, Drop}
+use Rattle.record_defs.specs.Table.{File, file_of}
+use Rattle.machine_defs.specs.Jobs.{DropJob, Given, Job}
+use Rattle.machine_defs.specs.Actions.{Action, WriteBody, SyncBody, WriteGate, SyncGate, Store, Fetch, Ask, Work, Remove, End, append_actions, on_each_provider, remove_actions, actions_by, actions_of, actions_left, appends_left}
+use Rattle.machine_defs.specs.Answers as answer
+use Rattle.machine_defs.specs.Answers.{Answer}
+use Rattle.machine_defs.specs.Events.{Ended}
+use Rattle.machine_defs.specs.Heard.{Entry, heard_by_kind}
+use Rattle.machine_defs.specs.States.{State, Doubt, setup_in, file_in}
+use Rattle.machine_defs.specs.Appends.{Moves, removable}
+use Rattle.machine_defs.specs.Steps as step
+use Rattle.machine_defs.specs.Steps.{is_idle_drop, holder_of, Acts}
+use Rattle.machine_defs.proofs.JobLists.{cond_false}
+use Rattle.machine_defs.proofs.ActionLists.{split_get}
+use Rattle.machine_defs.proofs.Numbers.{next_by, next_is_by}
+use Rattle.machine_defs.proofs.NextActions.{next_stands}
+use Rattle.command_defs.specs.Blocks.{DroppedFrom}
+use Rattle.command_defs.specs.Drops.{DropsFile, DropLeaves}
+use Rattle.command_defs.specs.Jobs.{Leaves}
+use Rattle.command_defs.specs.Ran.{Ran, ran_from, SameHeld, NoFetches}
+use Rattle.state_laws.specs.Orders.{moves_made, IsInOrder}
+use Rattle.state_laws.proofs.Orders.{drop_rest, appends_in, appends-cons}
+use Rattle.state_laws.proofs.Gates.{drop-list}
 use Rattle.lone_laws.specs.Made.{With, Made}
-use Rattle.hail_openings.specs.Opened.{IsOpenAtRest}
+use Rattle.opening_defs.specs.Opened.{IsOpenAtRest}
 use Rattle.lone_laws.specs.Walked.{RecordsAre, with_job_of}
 use Rattle.lone_laws.proofs.Prefixes.{appends-whole}
 use Rattle.lone_laws.proofs.Lists.{made-append, made-split, made-one}

@@ -6,40 +6,40 @@ use Rattle.std.specs.List.{flat_map, range_with_len}
 use Rattle.std.proofs.lemmas.Bool.{cases_eq, eq-eqb, ne_eqb}
 use Rattle.std.proofs.lemmas.List.{append_assoc, append-nil}
 use Rattle.std.proofs.lemmas.List.Sums.{sum_by-cons, sum_by-append}
-use Rattle.plain_facts.specs.Lists.{Each}
-use Rattle.plain_facts.proofs.Each.{each_get, each_append, each_map}
-use Rattle.hail_codes.specs.Points.{upto}
-use Rattle.hail_columns.specs.Objects.{Object}
-use Rattle.hail_columns.specs.Opened.{GivesSymbols, LosesRow, OpensFile}
-use Rattle.hail_devices.specs.Faults.{last_count}
-use Rattle.hail_devices.specs.Providers.{Held, Provider, sized}
-use Rattle.hail_devices.specs.ProviderCalls.{Fetches, FetchGives, FailsToGive}
-use Rattle.hail_records.specs.Records.{Setup, Record}
-use Rattle.hail_records.specs.Table.{File}
-use Rattle.hail_machine.specs.Jobs.{GetJob, Given, Fetched, Worked, Job}
-use Rattle.hail_machine.specs.Setups.{profiled, object_of, stripes_of}
-use Rattle.hail_machine.specs.Actions.{Action, WriteBody, SyncBody, WriteGate, SyncGate, Store, Fetch, Ask, Work, Remove, End, on_each_provider, open_actions, read_actions, actions_by, actions_of, actions_left}
-use Rattle.hail_machine.specs.Answers as answer
-use Rattle.hail_machine.specs.Answers.{Answer}
-use Rattle.hail_machine.specs.Begins.{pinned_file, pin_found}
-use Rattle.hail_machine.specs.Events.{Ended}
-use Rattle.hail_machine.specs.Given.{block_given, blocks_given, symbols_given, file_given}
-use Rattle.hail_machine.specs.Heard.{Entry, entries_of, given_to, heard_by_kind}
-use Rattle.hail_machine.specs.States.{State, Doubt, setup_in, file_in, worked_object}
-use Rattle.hail_machine.specs.Steps as step
-use Rattle.hail_machine.specs.Steps.{Acts, GotBytes}
-use Rattle.hail_machine.proofs.JobLists.{cond_true, cond_false}
-use Rattle.hail_machine.proofs.ActionLists.{split_get}
-use Rattle.hail_machine.proofs.Numbers.{next_by, next_is_by}
-use Rattle.hail_machine.proofs.Given.{symbols_given-newest}
-use Rattle.hail_commands.specs.Gets.{block_heard, blocks_heard, HearsStripes, GetGives, GetLeaves}
-use Rattle.hail_commands.specs.Jobs.{Leaves}
-use Rattle.hail_commands.specs.Ran.{Ran, ran_from, object_at_begin, stripes_at_begin}
-use Rattle.hail_commands.specs.Truthful.{missing, IsTruthful}
-use Rattle.sound_states.specs.Orders.{moves_made}
-use Rattle.sound_states.proofs.Orders.{appends-order, get-none}
+use Rattle.plain_laws.specs.Lists.{Each}
+use Rattle.plain_laws.proofs.Each.{each_get, each_append, each_map}
+use Rattle.code_defs.specs.Points.{upto}
+use Rattle.column_defs.specs.Objects.{Object}
+use Rattle.column_defs.specs.Opened.{GivesSymbols, LosesRow, OpensFile}
+use Rattle.device_defs.specs.Faults.{last_count}
+use Rattle.device_defs.specs.Providers.{Held, Provider, sized}
+use Rattle.device_defs.specs.ProviderCalls.{Fetches, FetchGives, FailsToGive}
+use Rattle.record_defs.specs.Records.{Setup, Record}
+use Rattle.record_defs.specs.Table.{File}
+use Rattle.machine_defs.specs.Jobs.{GetJob, Given, Fetched, Worked, Job}
+use Rattle.machine_defs.specs.Setups.{profiled, object_of, stripes_of}
+use Rattle.machine_defs.specs.Actions.{Action, WriteBody, SyncBody, WriteGate, SyncGate, Store, Fetch, Ask, Work, Remove, End, on_each_provider, open_actions, read_actions, actions_by, actions_of, actions_left}
+use Rattle.machine_defs.specs.Answers as answer
+use Rattle.machine_defs.specs.Answers.{Answer}
+use Rattle.machine_defs.specs.Begins.{pinned_file, pin_found}
+use Rattle.machine_defs.specs.Events.{Ended}
+use Rattle.machine_defs.specs.Given.{block_given, blocks_given, symbols_given, file_given}
+use Rattle.machine_defs.specs.Heard.{Entry, entries_of, given_to, heard_by_kind}
+use Rattle.machine_defs.specs.States.{State, Doubt, setup_in, file_in, worked_object}
+use Rattle.machine_defs.specs.Steps as step
+use Rattle.machine_defs.specs.Steps.{Acts, GotBytes}
+use Rattle.machine_defs.proofs.JobLists.{cond_true, cond_false}
+use Rattle.machine_defs.proofs.ActionLists.{split_get}
+use Rattle.machine_defs.proofs.Numbers.{next_by, next_is_by}
+use Rattle.machine_defs.proofs.Given.{symbols_given-newest}
+use Rattle.command_defs.specs.Gets.{block_heard, blocks_heard, HearsStripes, GetGives, GetLeaves}
+use Rattle.command_defs.specs.Jobs.{Leaves}
+use Rattle.command_defs.specs.Ran.{Ran, ran_from, object_at_begin, stripes_at_begin}
+use Rattle.command_defs.specs.Truthful.{missing, IsTruthful}
+use Rattle.state_laws.specs.Orders.{moves_made}
+use Rattle.state_laws.proofs.Orders.{appends-order, get-none}
 use Rattle.lone_laws.specs.Made.{With, Did, Made, object_made}
-use Rattle.hail_openings.specs.Opened.{IsOpenAtRest}
+use Rattle.opening_defs.specs.Opened.{IsOpenAtRest}
 use Rattle.lone_laws.specs.Walked.{RecordsAre, with_job_of, Walked}
 use Rattle.lone_laws.proofs.Lists.{made-split, take-append-add}
 use Rattle.lone_laws.proofs.Walk.{runs}

@@ -1,9 +1,9 @@
 -- What a job heard, and what it was given.
 use Rattle.std.proofs.Common.{◌≡◌, ℕ, ◌==◌, ◌&&◌, cond, List, [], ◌∷◌, refl, ap, ◌∙◌}
-use Rattle.hail_machine.specs.Jobs.{Given, Fetched, Answered, Worked}
-use Rattle.hail_machine.specs.Given.{block_given, answer_given}
-use Rattle.hail_machine.specs.Heard.{entries_of, given_to}
-use Rattle.hail_machine.proofs.Given.{given_to-more}
+use Rattle.machine_defs.specs.Jobs.{Given, Fetched, Answered, Worked}
+use Rattle.machine_defs.specs.Given.{block_given, answer_given}
+use Rattle.machine_defs.specs.Heard.{entries_of, given_to}
+use Rattle.machine_defs.proofs.Given.{given_to-more}
 
 -- what a job was given by what it heard gives the same blocks and answers
 pub block-heard : (n : ℕ) (given : List Given) (object stripe j : ℕ) → block_given (given_to n (entries_of n given)) object stripe j ≡ block_given given object stripe j

@@ -3,14 +3,14 @@ use Rattle.std.proofs.Common.{◌≡◌, ℕ, zero, suc, ◌+◌, ◌<◌, ◌�
 use Rattle.std.specs.List.{flat_map, range_with_len}
 use Rattle.std.proofs.lemmas.Bool.{cases_Bool, eqb-true, eq-eqb, and_parts, and_from}
 use Rattle.std.proofs.lemmas.List.{append_assoc, append-nil}
-use Rattle.plain_facts.specs.Lists.{Each}
-use Rattle.plain_facts.proofs.Each.{each_append, each_mono, each_take}
-use Rattle.hail_devices.specs.Providers.{Provider}
-use Rattle.hail_machine.specs.Jobs.{Given, Fetched, Answered}
-use Rattle.hail_machine.specs.Actions.{Action, WriteBody, SyncBody, WriteGate, SyncGate, Store, Fetch, Ask, Work, Remove, End}
-use Rattle.hail_machine.specs.Given.{block_given, answer_given, symbols_given}
-use Rattle.hail_machine.specs.Heard.{Entry, entries_of}
-use Rattle.hail_machine.proofs.JobLists.{cond_true, cond_false}
+use Rattle.plain_laws.specs.Lists.{Each}
+use Rattle.plain_laws.proofs.Each.{each_append, each_mono, each_take}
+use Rattle.device_defs.specs.Providers.{Provider}
+use Rattle.machine_defs.specs.Jobs.{Given, Fetched, Answered}
+use Rattle.machine_defs.specs.Actions.{Action, WriteBody, SyncBody, WriteGate, SyncGate, Store, Fetch, Ask, Work, Remove, End}
+use Rattle.machine_defs.specs.Given.{block_given, answer_given, symbols_given}
+use Rattle.machine_defs.specs.Heard.{Entry, entries_of}
+use Rattle.machine_defs.proofs.JobLists.{cond_true, cond_false}
 use Rattle.lone_laws.specs.Made.{With, Did, Made}
 
 -- ---- actions of which no two are the same

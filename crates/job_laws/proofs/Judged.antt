@@ -1,25 +1,25 @@
 -- The verdict of an audit is one, and is that over its questions.
 use Rattle.std.proofs.Common.{◌≡◌, ℕ, ◌+◌, ◌*◌, ◌≤◌, cond, List, [], ◌∷◌, ◌++◌, length, map, replicate, Option, refl, ap, sym, subst, ◌∙◌, inl, inr, arith}
 use Rattle.std.proofs.lemmas.List.FromFn.{length-map-range_with_len}
-use Rattle.plain_facts.specs.Lists.{Each}
+use Rattle.plain_laws.specs.Lists.{Each}
 use Rattle.hail_field.specs.Shape.{IsShape}
-use Rattle.hail_codes.specs.Polynomials.{value, is_seen}
-use Rattle.hail_columns.specs.Objects.{Object, point, points}
-use Rattle.hail_columns.specs.Challenges.{Challenge, bare_answers}
-use Rattle.hail_columns.specs.Verdicts.{Sums, Judges, counts_after}
-use Rattle.hail_columns.proofs.PointLaws.{Apart-points}
+use Rattle.code_defs.specs.Polynomials.{value, is_seen}
+use Rattle.column_defs.specs.Objects.{Object, point, points}
+use Rattle.column_defs.specs.Challenges.{Challenge, bare_answers}
+use Rattle.column_defs.specs.Verdicts.{Sums, Judges, counts_after}
+use Rattle.column_defs.proofs.PointLaws.{Apart-points}
 use Rattle.column_laws.proofs.UniqueLaws.{often_same}
-use Rattle.hail_records.specs.Records.{Setup}
-use Rattle.hail_records.specs.Table.{File}
-use Rattle.hail_machine.specs.Jobs.{Pinned, Job}
-use Rattle.hail_machine.specs.Setups.{profiled, object_of}
-use Rattle.hail_machine.specs.Actions.{rounds_of}
-use Rattle.hail_machine.specs.Audits.{challenge_in, JudgesRounds, JudgesFiles, HasSums}
-use Rattle.hail_machine.specs.Begins.{pinned_file}
-use Rattle.hail_machine.specs.Given.{answers_given}
-use Rattle.hail_machine.specs.States.{State}
-use Rattle.hail_commands.specs.Ran.{Ran}
-use Rattle.hail_commands.specs.Audits.{Question, JudgesOne, JudgesAll}
+use Rattle.record_defs.specs.Records.{Setup}
+use Rattle.record_defs.specs.Table.{File}
+use Rattle.machine_defs.specs.Jobs.{Pinned, Job}
+use Rattle.machine_defs.specs.Setups.{profiled, object_of}
+use Rattle.machine_defs.specs.Actions.{rounds_of}
+use Rattle.machine_defs.specs.Audits.{challenge_in, JudgesRounds, JudgesFiles, HasSums}
+use Rattle.machine_defs.specs.Begins.{pinned_file}
+use Rattle.machine_defs.specs.Given.{answers_given}
+use Rattle.machine_defs.specs.States.{State}
+use Rattle.command_defs.specs.Ran.{Ran}
+use Rattle.command_defs.specs.Audits.{Question, JudgesOne, JudgesAll}
 use Rattle.job_laws.proofs.Asked.{questions_in}
 
 -- ---- one verdict

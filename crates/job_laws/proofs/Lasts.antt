@@ -1,21 +1,21 @@
 -- The last step of a job: what it does to the records, to what is in doubt and to the disk's count.
 use Rattle.std.proofs.Common.{◌≡◌, ℕ, ◌<◌, ◌≤◌, ◌==◌, ◌⊎◌, Bool, true, false, cond, [], ◌∷◌, Option, Some, None, refl, ap, sym, subst, ◌∙◌, inl, inr, arith}
-use Rattle.plain_facts.proofs.Options.{some-not-none}
-use Rattle.hail_devices.specs.Faults.{Rose}
-use Rattle.hail_machine.specs.Jobs.{Kind, Job, job_of, advanced}
-use Rattle.hail_machine.specs.Actions.{Action, WriteBody, SyncBody, WriteGate, SyncGate, actions_left, appends_left}
-use Rattle.hail_machine.specs.Answers as answer
-use Rattle.hail_machine.specs.Events.{Ended}
-use Rattle.hail_machine.specs.States.{State, Append, Doubt, setup_in}
-use Rattle.hail_machine.specs.Appends.{Writes, Moves}
-use Rattle.hail_machine.specs.Steps.{next_action, holder_of}
-use Rattle.hail_machine.proofs.JobLists.{number_of}
-use Rattle.sound_states.specs.Orders.{moves_made}
-use Rattle.sound_states.specs.Sound.{IsGatedDoubt, IsDoubtOf}
-use Rattle.sound_states.proofs.Orders.{appends-order}
-use Rattle.sound_states.proofs.JobLists.{mine}
-use Rattle.sound_states.proofs.Written.{body-left}
-use Rattle.hail_openings.specs.Opened.{IsOpenAtRest}
+use Rattle.plain_laws.proofs.Options.{some-not-none}
+use Rattle.device_defs.specs.Faults.{Rose}
+use Rattle.machine_defs.specs.Jobs.{Kind, Job, job_of, advanced}
+use Rattle.machine_defs.specs.Actions.{Action, WriteBody, SyncBody, WriteGate, SyncGate, actions_left, appends_left}
+use Rattle.machine_defs.specs.Answers as answer
+use Rattle.machine_defs.specs.Events.{Ended}
+use Rattle.machine_defs.specs.States.{State, Append, Doubt, setup_in}
+use Rattle.machine_defs.specs.Appends.{Writes, Moves}
+use Rattle.machine_defs.specs.Steps.{next_action, holder_of}
+use Rattle.machine_defs.proofs.JobLists.{number_of}
+use Rattle.state_laws.specs.Orders.{moves_made}
+use Rattle.state_laws.specs.Sound.{IsGatedDoubt, IsDoubtOf}
+use Rattle.state_laws.proofs.Orders.{appends-order}
+use Rattle.state_laws.proofs.JobLists.{mine}
+use Rattle.state_laws.proofs.Written.{body-left}
+use Rattle.opening_defs.specs.Opened.{IsOpenAtRest}
 use Rattle.lone_laws.specs.Walked.{Walked}
 use Rattle.lone_laws.proofs.Walk.{runs}
 

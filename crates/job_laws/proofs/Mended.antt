@@ -3,31 +3,31 @@ use Rattle.std.proofs.Common.{◌≡◌, ℕ, zero, suc, ◌+◌, ◌<◌, ◌�
 use Rattle.std.specs.Prelude.{IfSome, is_some, is_none}
 use Rattle.std.specs.List.{flat_map, range_with_len}
 use Rattle.std.proofs.lemmas.Bool.{cases_Bool, false≢true, or_parts}
-use Rattle.plain_facts.specs.Lists.{Each}
-use Rattle.plain_facts.proofs.Each.{each_append, each_middle}
+use Rattle.plain_laws.specs.Lists.{Each}
+use Rattle.plain_laws.proofs.Each.{each_append, each_middle}
 use Rattle.hail_field.specs.Shape.{IsShape}
-use Rattle.hail_codes.specs.Points.{upto}
-use Rattle.hail_columns.specs.Objects.{Object, stripes, symbols_in}
-use Rattle.hail_columns.specs.Columns.{is_wrong_block, is_wrong, row_polynomial}
-use Rattle.hail_columns.specs.Opened.{LosesRow, block_at}
-use Rattle.hail_columns.specs.Forgeries.{count_of}
+use Rattle.code_defs.specs.Points.{upto}
+use Rattle.column_defs.specs.Objects.{Object, stripes, symbols_in}
+use Rattle.column_defs.specs.Columns.{is_wrong_block, is_wrong, row_polynomial}
+use Rattle.column_defs.specs.Opened.{LosesRow, block_at}
+use Rattle.column_defs.specs.Forgeries.{count_of}
 use Rattle.column_laws.proofs.Counts.{count_of-within}
 use Rattle.column_laws.proofs.RightRows.{row-right}
 use Rattle.column_laws.proofs.UniqueLaws.{profile-room}
-use Rattle.hail_devices.specs.Faults.{Rose}
-use Rattle.hail_devices.specs.Providers.{Held}
-use Rattle.hail_records.specs.Records.{Setup}
-use Rattle.hail_records.specs.Table.{File, Due, file_of, files_of}
-use Rattle.hail_records.specs.Acceptance.{AreAccepted}
-use Rattle.hail_machine.specs.Setups.{profiled, stripes_of}
-use Rattle.hail_machine.specs.Answers as answer
-use Rattle.hail_machine.specs.Answers.{Answer}
-use Rattle.hail_machine.proofs.JobLists.{cond_true}
-use Rattle.hail_machine.proofs.RecordFacts.{listed_file}
-use Rattle.hail_commands.specs.Audits.{files_by_number}
-use Rattle.hail_commands.specs.Ran.{Ran, setup_at_begin, object_at_begin, object_numbered, profile_among}
-use Rattle.hail_commands.specs.Repairs.{Place, blocks_at, held_at, LosesAtPlace, RepairLeaves}
-use Rattle.hail_commands.specs.Truthful.{missing, IsTruthful}
+use Rattle.device_defs.specs.Faults.{Rose}
+use Rattle.device_defs.specs.Providers.{Held}
+use Rattle.record_defs.specs.Records.{Setup}
+use Rattle.record_defs.specs.Table.{File, Due, file_of, files_of}
+use Rattle.record_defs.specs.Acceptance.{AreAccepted}
+use Rattle.machine_defs.specs.Setups.{profiled, stripes_of}
+use Rattle.machine_defs.specs.Answers as answer
+use Rattle.machine_defs.specs.Answers.{Answer}
+use Rattle.machine_defs.proofs.JobLists.{cond_true}
+use Rattle.machine_defs.proofs.RecordFacts.{listed_file}
+use Rattle.command_defs.specs.Audits.{files_by_number}
+use Rattle.command_defs.specs.Ran.{Ran, setup_at_begin, object_at_begin, object_numbered, profile_among}
+use Rattle.command_defs.specs.Repairs.{Place, blocks_at, held_at, LosesAtPlace, RepairLeaves}
+use Rattle.command_defs.specs.Truthful.{missing, IsTruthful}
 use Rattle.job_laws.specs.Failing.{has_risen, is_bad_with, is_bad_for, bad_count}
 use Rattle.job_laws.proofs.Asked.{each-by_number}
 use Rattle.job_laws.proofs.Questions.{each-in}

@@ -2,16 +2,16 @@
 -- between them.
 use Rattle.std.proofs.Common.{◌≡◌, ℕ, zero, suc, ◌+◌, ◌-◌, ◌<◌, ◌≤◌, List, [], ◌∷◌, ◌++◌, length, take, Some, ap, sym, subst, ◌∙◌, inl, inr, arith}
 use Rattle.std.specs.Prelude.{slice_get}
-use Rattle.plain_facts.specs.Lists.{Each}
-use Rattle.plain_facts.proofs.Each.{each_get}
-use Rattle.hail_devices.specs.Providers.{Provider}
-use Rattle.hail_machine.specs.Jobs.{Given, Job}
-use Rattle.hail_machine.specs.Actions.{Action, WriteBody, SyncBody, WriteGate, SyncGate, Store, Fetch, Ask, Work, Remove, End, append_actions}
-use Rattle.hail_machine.specs.Answers as answer
-use Rattle.hail_machine.specs.Events.{Ended}
-use Rattle.hail_machine.specs.States.{State}
-use Rattle.hail_machine.specs.Appends.{Moves}
-use Rattle.hail_machine.proofs.ActionLists.{split_get}
+use Rattle.plain_laws.specs.Lists.{Each}
+use Rattle.plain_laws.proofs.Each.{each_get}
+use Rattle.device_defs.specs.Providers.{Provider}
+use Rattle.machine_defs.specs.Jobs.{Given, Job}
+use Rattle.machine_defs.specs.Actions.{Action, WriteBody, SyncBody, WriteGate, SyncGate, Store, Fetch, Ask, Work, Remove, End, append_actions}
+use Rattle.machine_defs.specs.Answers as answer
+use Rattle.machine_defs.specs.Events.{Ended}
+use Rattle.machine_defs.specs.States.{State}
+use Rattle.machine_defs.specs.Appends.{Moves}
+use Rattle.machine_defs.proofs.ActionLists.{split_get}
 use Rattle.lone_laws.specs.Made.{With, Did, Made}
 use Rattle.lone_laws.proofs.Lists.{take-append-add, made-split}
 

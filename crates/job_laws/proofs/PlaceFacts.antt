@@ -5,19 +5,19 @@ use Rattle.std.specs.List.{flat_map, range_with_len}
 use Rattle.std.proofs.lemmas.Bool.{cases_eq, eq-eqb, ne_eqb}
 use Rattle.std.proofs.lemmas.List.{append_assoc, append-nil}
 use Rattle.std.proofs.lemmas.List.Sums.{sum_by-append}
-use Rattle.plain_facts.specs.Lists.{Each, In}
-use Rattle.plain_facts.proofs.Each.{each_get, each_append, each_map, each_mono, in_left, in_right}
-use Rattle.hail_codes.specs.Points.{upto}
-use Rattle.hail_columns.specs.Opened.{SeenBlock, GivesSymbols}
-use Rattle.hail_devices.specs.Providers.{Held, sized}
-use Rattle.hail_records.specs.Records.{Setup}
-use Rattle.hail_machine.specs.Jobs.{RepairJob, Given, Job}
-use Rattle.hail_machine.specs.Actions.{Action, WriteBody, SyncBody, WriteGate, SyncGate, Store, Fetch, Ask, Work, Remove, End, open_actions, rewrite_actions}
-use Rattle.hail_machine.specs.Given.{block_given, blocks_given, symbols_given}
-use Rattle.hail_machine.proofs.JobLists.{cond_true, cond_false}
-use Rattle.hail_machine.proofs.ActionLists.{split_get}
-use Rattle.hail_commands.specs.Repairs.{Place}
-use Rattle.hail_commands.specs.Truthful.{missing}
+use Rattle.plain_laws.specs.Lists.{Each, In}
+use Rattle.plain_laws.proofs.Each.{each_get, each_append, each_map, each_mono, in_left, in_right}
+use Rattle.code_defs.specs.Points.{upto}
+use Rattle.column_defs.specs.Opened.{SeenBlock, GivesSymbols}
+use Rattle.device_defs.specs.Providers.{Held, sized}
+use Rattle.record_defs.specs.Records.{Setup}
+use Rattle.machine_defs.specs.Jobs.{RepairJob, Given, Job}
+use Rattle.machine_defs.specs.Actions.{Action, WriteBody, SyncBody, WriteGate, SyncGate, Store, Fetch, Ask, Work, Remove, End, open_actions, rewrite_actions}
+use Rattle.machine_defs.specs.Given.{block_given, blocks_given, symbols_given}
+use Rattle.machine_defs.proofs.JobLists.{cond_true, cond_false}
+use Rattle.machine_defs.proofs.ActionLists.{split_get}
+use Rattle.command_defs.specs.Repairs.{Place}
+use Rattle.command_defs.specs.Truthful.{missing}
 use Rattle.lone_laws.specs.Made.{With, object_made}
 use Rattle.lone_laws.proofs.Lists.{take-append-add}
 use Rattle.job_laws.proofs.Heard.{IsNot}

@@ -4,20 +4,20 @@ use Rattle.std.specs.Prelude.{slice_get}
 use Rattle.std.specs.List.{flat_map, range_with_len}
 use Rattle.std.proofs.lemmas.Grind.{flat_map-append}
 use Rattle.std.proofs.lemmas.List.{append_assoc, take-append-le}
-use Rattle.plain_facts.specs.Lists.{Each}
-use Rattle.plain_facts.proofs.Each.{each_append, each_map, each_flat, each_mono}
-use Rattle.hail_codes.specs.Points.{upto}
-use Rattle.hail_records.specs.Records.{Setup}
-use Rattle.hail_records.specs.Table.{File}
-use Rattle.hail_machine.specs.Jobs.{Pinned, Job}
-use Rattle.hail_machine.specs.Setups.{profiled, stripes_of}
-use Rattle.hail_machine.specs.Actions.{Action, WriteBody, SyncBody, WriteGate, SyncGate, Store, Fetch, Ask, Work, Remove, End, on_each_stripe, open_actions, rewrite_actions, repair_actions}
-use Rattle.hail_machine.specs.Begins.{pinned_file, pin_all}
-use Rattle.hail_machine.specs.States.{State}
-use Rattle.hail_machine.proofs.ActionLists.{split_get}
-use Rattle.hail_commands.specs.Audits.{files_by_number}
-use Rattle.hail_commands.specs.Repairs.{Place, places}
-use Rattle.sound_states.specs.Orders.{AreAscending}
+use Rattle.plain_laws.specs.Lists.{Each}
+use Rattle.plain_laws.proofs.Each.{each_append, each_map, each_flat, each_mono}
+use Rattle.code_defs.specs.Points.{upto}
+use Rattle.record_defs.specs.Records.{Setup}
+use Rattle.record_defs.specs.Table.{File}
+use Rattle.machine_defs.specs.Jobs.{Pinned, Job}
+use Rattle.machine_defs.specs.Setups.{profiled, stripes_of}
+use Rattle.machine_defs.specs.Actions.{Action, WriteBody, SyncBody, WriteGate, SyncGate, Store, Fetch, Ask, Work, Remove, End, on_each_stripe, open_actions, rewrite_actions, repair_actions}
+use Rattle.machine_defs.specs.Begins.{pinned_file, pin_all}
+use Rattle.machine_defs.specs.States.{State}
+use Rattle.machine_defs.proofs.ActionLists.{split_get}
+use Rattle.command_defs.specs.Audits.{files_by_number}
+use Rattle.command_defs.specs.Repairs.{Place, places}
+use Rattle.state_laws.specs.Orders.{AreAscending}
 use Rattle.lone_laws.proofs.Lists.{take-append-add}
 use Rattle.job_laws.proofs.Asked.{pinned-by_number, each-by_number}
 use Rattle.job_laws.proofs.Heard.{IsNot}

@@ -1,21 +1,21 @@
 -- As long as journals have their first version, files have the setup's profile: their objects are those of the setup.
 use Rattle.std.proofs.Common.{◌≡◌, ℕ, ◌==◌, true, false, List, [], ◌∷◌, map, Option, Some, None, refl, ap, sym, subst, ◌∙◌, inl, inr}
 use Rattle.std.proofs.lemmas.Bool.{cases_Bool, eqb-true, eq-eqb}
-use Rattle.plain_facts.specs.Lists.{Each, In}
-use Rattle.hail_records.specs.Records.{Setup, PutDone}
-use Rattle.hail_records.specs.Table.{File, profile_in, setup_of, version_of, files_of, file_of}
-use Rattle.hail_records.specs.Acceptance.{AreAccepted}
-use Rattle.hail_machine.specs.Jobs.{Kind, PutJob, GetJob, DropJob, AuditJob, RepairJob, UpgradeJob, Pinned, Job}
-use Rattle.hail_machine.specs.Setups.{setup_or_none, profiled, object_of}
-use Rattle.hail_machine.specs.Appends.{done_record}
-use Rattle.hail_machine.specs.Begins.{pinned_file, pin_found, pin_all, pinned_for}
-use Rattle.hail_machine.specs.Given.{pinned_profile}
-use Rattle.hail_machine.specs.States.{State, setup_in, file_in, worked_object}
-use Rattle.hail_machine.proofs.JobLists.{cond_true, cond_false, same_value}
-use Rattle.hail_machine.proofs.RecordFacts.{listed_file}
-use Rattle.hail_commands.specs.Ran.{Ran, setup_at_begin, object_at_begin, object_numbered, profile_among}
-use Rattle.sound_states.proofs.Records.{version-first, sound-accepted, file-plain}
-use Rattle.hail_openings.specs.Opened.{IsOpenAtRest}
+use Rattle.plain_laws.specs.Lists.{Each, In}
+use Rattle.record_defs.specs.Records.{Setup, PutDone}
+use Rattle.record_defs.specs.Table.{File, profile_in, setup_of, version_of, files_of, file_of}
+use Rattle.record_defs.specs.Acceptance.{AreAccepted}
+use Rattle.machine_defs.specs.Jobs.{Kind, PutJob, GetJob, DropJob, AuditJob, RepairJob, UpgradeJob, Pinned, Job}
+use Rattle.machine_defs.specs.Setups.{setup_or_none, profiled, object_of}
+use Rattle.machine_defs.specs.Appends.{done_record}
+use Rattle.machine_defs.specs.Begins.{pinned_file, pin_found, pin_all, pinned_for}
+use Rattle.machine_defs.specs.Given.{pinned_profile}
+use Rattle.machine_defs.specs.States.{State, setup_in, file_in, worked_object}
+use Rattle.machine_defs.proofs.JobLists.{cond_true, cond_false, same_value}
+use Rattle.machine_defs.proofs.RecordFacts.{listed_file}
+use Rattle.command_defs.specs.Ran.{Ran, setup_at_begin, object_at_begin, object_numbered, profile_among}
+use Rattle.state_laws.proofs.Records.{version-first, sound-accepted, file-plain}
+use Rattle.opening_defs.specs.Opened.{IsOpenAtRest}
 use Rattle.lone_laws.specs.Made.{object_made}
 use Rattle.lone_laws.specs.Walked.{with_job_of, Walked}
 use Rattle.job_laws.proofs.Asked.{pinned-by_number, each-by_number}

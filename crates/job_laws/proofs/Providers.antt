@@ -2,13 +2,13 @@
 use Rattle.std.proofs.Common.{◌≡◌, ℕ, zero, suc, ◌+◌, ◌<◌, ◌≤◌, ◌==◌, ◌⊎◌, List, [], ◌∷◌, map, Option, ap, sym, subst, ◌∙◌, inl, inr, arith}
 use Rattle.std.specs.List.{range_with_len}
 use Rattle.std.proofs.lemmas.Bool.{cases_Bool, eqb-true}
-use Rattle.plain_facts.specs.Lists.{Each}
-use Rattle.hail_columns.specs.Challenges.{honest_answer}
-use Rattle.hail_devices.specs.Providers.{Provider}
-use Rattle.hail_devices.specs.ProviderCalls.{Stores, Fetches, Asks, Removes}
-use Rattle.hail_machine.specs.Jobs.{Given, Fetched, Answered}
-use Rattle.hail_machine.specs.Actions.{Action, WriteBody, SyncBody, WriteGate, SyncGate, Store, Fetch, Ask, Work, Remove, End}
-use Rattle.hail_machine.proofs.JobLists.{cond_true, cond_false}
+use Rattle.plain_laws.specs.Lists.{Each}
+use Rattle.column_defs.specs.Challenges.{honest_answer}
+use Rattle.device_defs.specs.Providers.{Provider}
+use Rattle.device_defs.specs.ProviderCalls.{Stores, Fetches, Asks, Removes}
+use Rattle.machine_defs.specs.Jobs.{Given, Fetched, Answered}
+use Rattle.machine_defs.specs.Actions.{Action, WriteBody, SyncBody, WriteGate, SyncGate, Store, Fetch, Ask, Work, Remove, End}
+use Rattle.machine_defs.proofs.JobLists.{cond_true, cond_false}
 use Rattle.lone_laws.specs.Made.{With, block_stored, challenge_made, CallsOne, Did, Made, object_made}
 
 -- what an action did to the provider that it called, if that is the one of this number

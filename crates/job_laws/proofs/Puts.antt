@@ -5,43 +5,43 @@ use Rattle.std.specs.Option.{option_map}
 use Rattle.std.specs.List.{flat_map, range_with_len}
 use Rattle.std.proofs.lemmas.Bool.{cases_Bool, cases_eq, cases_lt, eq-eqb, eqb-true, and_parts, and_from}
 use Rattle.std.proofs.lemmas.List.{append_assoc, take-append-drop}
-use Rattle.plain_facts.specs.Lists.{Each}
-use Rattle.plain_facts.proofs.Each.{each_get, each_append, each_map, each_flat, each_take}
-use Rattle.plain_facts.proofs.Lists.{drop-get}
-use Rattle.hail_codes.specs.Points.{upto}
-use Rattle.hail_columns.specs.Columns.{columns}
-use Rattle.hail_columns.specs.Objects.{stripes}
-use Rattle.hail_devices.specs.Faults.{Rose}
-use Rattle.hail_devices.specs.Told.{Goes}
-use Rattle.hail_devices.specs.Providers.{Held, Provider, with_block}
-use Rattle.hail_devices.specs.ProviderCalls.{Stores}
-use Rattle.hail_devices.proofs.Lasting.{rose-before}
-use Rattle.hail_records.specs.Records.{Setup, Record, PutStart, PutDone}
-use Rattle.hail_records.specs.Table.{File, file_of, next_id}
-use Rattle.hail_machine.specs.Jobs.{PutJob, Pinned, Given, Job}
-use Rattle.hail_machine.specs.Setups.{profiled, object_of, stripes_of}
-use Rattle.hail_machine.specs.Actions.{Action, WriteBody, SyncBody, WriteGate, SyncGate, Store, Fetch, Ask, Work, Remove, End, append_actions, on_each_provider, store_actions, remove_actions, actions_of, actions_left, appends_left}
-use Rattle.hail_machine.specs.Answers as answer
-use Rattle.hail_machine.specs.Answers.{Answer}
-use Rattle.hail_machine.specs.Events.{Ended}
-use Rattle.hail_machine.specs.Heard.{Entry, heard_by_kind}
-use Rattle.hail_machine.specs.States.{State, Doubt, setup_in}
-use Rattle.hail_machine.specs.Appends.{Moves}
-use Rattle.hail_machine.specs.Steps as step
-use Rattle.hail_machine.specs.Steps.{holder_of, Acts}
-use Rattle.hail_machine.proofs.JobLists.{cond_true, cond_false}
-use Rattle.hail_machine.proofs.ActionLists.{split_get}
-use Rattle.hail_machine.proofs.Numbers.{next_by, next_is_by}
-use Rattle.hail_machine.proofs.NextActions.{next_stands}
-use Rattle.hail_commands.specs.Blocks.{StoredOn, PartlyStored, DroppedFrom}
-use Rattle.hail_commands.specs.Puts.{put_records, StoresFile, StoresAll, PutIsCut, StoresPart, PutLeaves}
-use Rattle.hail_commands.specs.Jobs.{Leaves}
-use Rattle.hail_commands.specs.Ran.{Ran, ran_from, NoFetches}
-use Rattle.sound_states.specs.Orders.{moves_made, IsInOrder}
-use Rattle.sound_states.proofs.Orders.{put_rest, put-list, put-first, put-later, appends_in, appends-append, appends-cons, moves-first}
-use Rattle.sound_states.proofs.Records.{sound-accepted}
+use Rattle.plain_laws.specs.Lists.{Each}
+use Rattle.plain_laws.proofs.Each.{each_get, each_append, each_map, each_flat, each_take}
+use Rattle.plain_laws.proofs.Lists.{drop-get}
+use Rattle.code_defs.specs.Points.{upto}
+use Rattle.column_defs.specs.Columns.{columns}
+use Rattle.column_defs.specs.Objects.{stripes}
+use Rattle.device_defs.specs.Faults.{Rose}
+use Rattle.device_defs.specs.Told.{Goes}
+use Rattle.device_defs.specs.Providers.{Held, Provider, with_block}
+use Rattle.device_defs.specs.ProviderCalls.{Stores}
+use Rattle.device_defs.proofs.Lasting.{rose-before}
+use Rattle.record_defs.specs.Records.{Setup, Record, PutStart, PutDone}
+use Rattle.record_defs.specs.Table.{File, file_of, next_id}
+use Rattle.machine_defs.specs.Jobs.{PutJob, Pinned, Given, Job}
+use Rattle.machine_defs.specs.Setups.{profiled, object_of, stripes_of}
+use Rattle.machine_defs.specs.Actions.{Action, WriteBody, SyncBody, WriteGate, SyncGate, Store, Fetch, Ask, Work, Remove, End, append_actions, on_each_provider, store_actions, remove_actions, actions_of, actions_left, appends_left}
+use Rattle.machine_defs.specs.Answers as answer
+use Rattle.machine_defs.specs.Answers.{Answer}
+use Rattle.machine_defs.specs.Events.{Ended}
+use Rattle.machine_defs.specs.Heard.{Entry, heard_by_kind}
+use Rattle.machine_defs.specs.States.{State, Doubt, setup_in}
+use Rattle.machine_defs.specs.Appends.{Moves}
+use Rattle.machine_defs.specs.Steps as step
+use Rattle.machine_defs.specs.Steps.{holder_of, Acts}
+use Rattle.machine_defs.proofs.JobLists.{cond_true, cond_false}
+use Rattle.machine_defs.proofs.ActionLists.{split_get}
+use Rattle.machine_defs.proofs.Numbers.{next_by, next_is_by}
+use Rattle.machine_defs.proofs.NextActions.{next_stands}
+use Rattle.command_defs.specs.Blocks.{StoredOn, PartlyStored, DroppedFrom}
+use Rattle.command_defs.specs.Puts.{put_records, StoresFile, StoresAll, PutIsCut, StoresPart, PutLeaves}
+use Rattle.command_defs.specs.Jobs.{Leaves}
+use Rattle.command_defs.specs.Ran.{Ran, ran_from, NoFetches}
+use Rattle.state_laws.specs.Orders.{moves_made, IsInOrder}
+use Rattle.state_laws.proofs.Orders.{put_rest, put-list, put-first, put-later, appends_in, appends-append, appends-cons, moves-first}
+use Rattle.state_laws.proofs.Records.{sound-accepted}
 use Rattle.lone_laws.specs.Made.{With, Made}
-use Rattle.hail_openings.specs.Opened.{IsOpenAtRest}
+use Rattle.opening_defs.specs.Opened.{IsOpenAtRest}
 use Rattle.lone_laws.specs.Walked.{RecordsAre, with_job_of}
 use Rattle.lone_laws.proofs.Lists.{made-append, made-split, made-one}
 use Rattle.lone_laws.proofs.Walk.{Wrote, wrote, runs, left-start, first-body}

@@ -4,21 +4,21 @@ use Rattle.std.specs.List.{range_with_len}
 use Rattle.std.proofs.lemmas.Bool.{cases_eq, cases_Bool, eqb-true, eq-eqb, ne_eqb}
 use Rattle.std.proofs.lemmas.List.Sums.{sum_by-append}
 use Rattle.std.proofs.lemmas.List.Elements.{All-cons}
-use Rattle.plain_facts.specs.Lists.{Each, In}
-use Rattle.plain_facts.proofs.Each.{each_append, each_map}
-use Rattle.hail_columns.specs.Challenges.{honest_answer}
-use Rattle.hail_devices.specs.Providers.{Held}
-use Rattle.hail_records.specs.Records.{Setup}
-use Rattle.hail_records.specs.Table.{File}
-use Rattle.hail_machine.specs.Jobs.{Given}
-use Rattle.hail_machine.specs.Setups.{profiled}
-use Rattle.hail_machine.specs.Actions.{Action, Ask, rounds_of}
-use Rattle.hail_machine.specs.Begins.{pinned_file}
-use Rattle.hail_machine.specs.Given.{answer_given, pinned_size}
-use Rattle.hail_machine.specs.States.{State}
-use Rattle.hail_machine.proofs.JobLists.{cond_true, cond_false}
-use Rattle.hail_commands.specs.Audits.{Question}
-use Rattle.hail_commands.specs.Truthful.{missing}
+use Rattle.plain_laws.specs.Lists.{Each, In}
+use Rattle.plain_laws.proofs.Each.{each_append, each_map}
+use Rattle.column_defs.specs.Challenges.{honest_answer}
+use Rattle.device_defs.specs.Providers.{Held}
+use Rattle.record_defs.specs.Records.{Setup}
+use Rattle.record_defs.specs.Table.{File}
+use Rattle.machine_defs.specs.Jobs.{Given}
+use Rattle.machine_defs.specs.Setups.{profiled}
+use Rattle.machine_defs.specs.Actions.{Action, Ask, rounds_of}
+use Rattle.machine_defs.specs.Begins.{pinned_file}
+use Rattle.machine_defs.specs.Given.{answer_given, pinned_size}
+use Rattle.machine_defs.specs.States.{State}
+use Rattle.machine_defs.proofs.JobLists.{cond_true, cond_false}
+use Rattle.command_defs.specs.Audits.{Question}
+use Rattle.command_defs.specs.Truthful.{missing}
 use Rattle.lone_laws.specs.Made.{With, challenge_made}
 use Rattle.job_laws.proofs.Asked.{asks_one, asks_of, questions_in}
 use Rattle.job_laws.proofs.Truth.{lacks, IsTold, lack_at, range-hit}

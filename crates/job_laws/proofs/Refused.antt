@@ -2,13 +2,13 @@
 use Rattle.std.proofs.Common.{◌≡◌, ℕ, true, false, List, Option, None, Some, refl, ap, sym, ◌∙◌, not}
 use Rattle.std.specs.Prelude.{is_some}
 use Rattle.std.proofs.lemmas.Bool.{false≢true}
-use Rattle.hail_records.specs.Table.{File}
-use Rattle.hail_machine.specs.Jobs.{DropJob, aim_of}
-use Rattle.hail_machine.specs.States.{State, file_in}
-use Rattle.hail_machine.specs.Begins.{begin_refusal}
-use Rattle.hail_machine.specs.Sights.{sight_of, causes}
-use Rattle.hail_machine.proofs.Sights.{stored-file}
-use Rattle.sound_states.proofs.Begun.{none-applies}
+use Rattle.record_defs.specs.Table.{File}
+use Rattle.machine_defs.specs.Jobs.{DropJob, aim_of}
+use Rattle.machine_defs.specs.States.{State, file_in}
+use Rattle.machine_defs.specs.Begins.{begin_refusal}
+use Rattle.machine_defs.specs.Sights.{sight_of, causes}
+use Rattle.machine_defs.proofs.Sights.{stored-file}
+use Rattle.state_laws.proofs.Begun.{none-applies}
 
 -- a drop that begins has a file
 pub drop-has : (limit : ℕ) (w : State) (name : List ℕ) → begin_refusal limit w (DropJob name) ≡ None → (f : File) × (file_in w name ≡ Some f)

@@ -4,20 +4,20 @@ use Rattle.std.specs.Option.{option_map}
 use Rattle.std.specs.List.{flat_map, list_any, range_with_len}
 use Rattle.std.proofs.lemmas.Bool.{cases_eq, eq-eqb, ne_eqb}
 use Rattle.std.proofs.lemmas.List.{append-nil}
-use Rattle.plain_facts.specs.Lists.{Each}
-use Rattle.hail_devices.specs.Faults.{Rose}
-use Rattle.hail_devices.specs.Told.{Goes}
-use Rattle.hail_devices.specs.Providers.{Held, Provider, without_object, LosesPart}
-use Rattle.hail_devices.specs.ProviderCalls.{Removes, StoreCounts}
-use Rattle.hail_records.specs.Records.{Setup}
-use Rattle.hail_records.specs.Table.{File}
-use Rattle.hail_machine.specs.Jobs.{Given, Pinned, Job}
-use Rattle.hail_machine.specs.Actions.{Action, WriteBody, SyncBody, WriteGate, SyncGate, Store, Fetch, Ask, Work, Remove, End, on_each_provider, remove_actions}
-use Rattle.hail_machine.specs.Appends.{is_pinned, removable}
-use Rattle.hail_machine.specs.States.{State}
-use Rattle.hail_machine.proofs.JobLists.{cond_true, cond_false}
-use Rattle.hail_commands.specs.Blocks.{DroppedFrom}
-use Rattle.sound_states.proofs.Orders.{appends_in, appends-append}
+use Rattle.plain_laws.specs.Lists.{Each}
+use Rattle.device_defs.specs.Faults.{Rose}
+use Rattle.device_defs.specs.Told.{Goes}
+use Rattle.device_defs.specs.Providers.{Held, Provider, without_object, LosesPart}
+use Rattle.device_defs.specs.ProviderCalls.{Removes, StoreCounts}
+use Rattle.record_defs.specs.Records.{Setup}
+use Rattle.record_defs.specs.Table.{File}
+use Rattle.machine_defs.specs.Jobs.{Given, Pinned, Job}
+use Rattle.machine_defs.specs.Actions.{Action, WriteBody, SyncBody, WriteGate, SyncGate, Store, Fetch, Ask, Work, Remove, End, on_each_provider, remove_actions}
+use Rattle.machine_defs.specs.Appends.{is_pinned, removable}
+use Rattle.machine_defs.specs.States.{State}
+use Rattle.machine_defs.proofs.JobLists.{cond_true, cond_false}
+use Rattle.command_defs.specs.Blocks.{DroppedFrom}
+use Rattle.state_laws.proofs.Orders.{appends_in, appends-append}
 use Rattle.lone_laws.specs.Made.{With, CallsOne, Did, Made}
 use Rattle.job_laws.proofs.Providers.{Called, calls-at, made-keeps}
 use Rattle.job_laws.proofs.Truth.{call-hit, call-miss}

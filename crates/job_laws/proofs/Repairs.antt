@@ -5,48 +5,48 @@ use Rattle.std.specs.Option.{option_map}
 use Rattle.std.specs.List.{flat_map}
 use Rattle.std.proofs.lemmas.Bool.{eq-eqb, false≢true}
 use Rattle.std.proofs.lemmas.List.{append_assoc, append-nil}
-use Rattle.plain_facts.specs.Lists.{Each, In}
-use Rattle.plain_facts.proofs.Each.{each_get, each_append, each_map, each_mono, each_take, in_contains, in_left, in_right}
-use Rattle.plain_facts.proofs.Lists.{drop-get}
-use Rattle.hail_codes.specs.Points.{upto}
-use Rattle.hail_columns.specs.Objects.{Object}
-use Rattle.hail_columns.specs.Opened.{GivesSymbols, LosesRow}
-use Rattle.hail_devices.specs.Faults.{Rose}
-use Rattle.hail_devices.specs.Providers.{Held, Provider, sized}
-use Rattle.hail_devices.specs.ProviderCalls.{FailsToStore, FindsNoMemory, StoreCounts}
-use Rattle.hail_devices.specs.Told.{Goes}
-use Rattle.hail_devices.proofs.Lasting.{rose-before}
-use Rattle.hail_records.specs.Records.{Setup, Record, RepairDone}
-use Rattle.hail_records.specs.Table.{File, Due, files_of, due_of}
-use Rattle.hail_machine.specs.Jobs.{RepairJob, Given, Job}
-use Rattle.hail_machine.specs.Setups.{object_of}
-use Rattle.hail_machine.specs.Actions.{Action, WriteBody, SyncBody, WriteGate, SyncGate, Store, Fetch, Ask, Work, Remove, End, append_actions, open_actions, rewrite_actions, repair_actions, actions_of, appends_left}
-use Rattle.hail_machine.specs.Answers as answer
-use Rattle.hail_machine.specs.Answers.{Answer}
-use Rattle.hail_machine.specs.Begins.{due_number, due_flags}
-use Rattle.hail_machine.specs.Events.{Ended}
-use Rattle.hail_machine.specs.Given.{block_given, blocks_given, symbols_given}
-use Rattle.hail_machine.specs.Heard.{Entry, heard_by_kind}
-use Rattle.hail_machine.specs.States.{State, Doubt, setup_in, worked_object, with_provider, ended}
-use Rattle.hail_machine.specs.Appends.{Moves}
-use Rattle.hail_machine.specs.Steps.{next_action, holder_of, Acts, Ends as EndsAs}
-use Rattle.hail_machine.proofs.ActionLists.{split_get}
-use Rattle.hail_machine.proofs.JobLists.{cond_true}
-use Rattle.hail_machine.proofs.Numbers.{next_by, next_is_by}
-use Rattle.hail_machine.proofs.RecordFacts.{listed_file}
-use Rattle.hail_machine.proofs.NextActions.{next_stands}
-use Rattle.hail_commands.specs.JobRuns.{RunsJob}
-use Rattle.hail_commands.specs.Jobs.{Leaves}
-use Rattle.hail_commands.specs.Ran.{Ran, ran_from, object_numbered, EachHeldGoes, IsWhole, IsCut}
-use Rattle.hail_commands.specs.Repairs.{Place, places, Gave, blocks_at, held_at, IsTruth, GivesPlace, RewrittenOn, PartlyRewrittenOn, IfFlagged, flags, RewritesAll, RewritesPart, RewritesSome, LosesAtPlace, RepairGives}
-use Rattle.hail_commands.specs.Truthful.{IsTruthful}
-use Rattle.sound_states.specs.Orders.{moves_made, moves_before, IsInOrder, AreAscending}
-use Rattle.sound_states.proofs.Begun.{begun-repair}
-use Rattle.sound_states.proofs.Events.{moves-next}
-use Rattle.sound_states.proofs.Orders.{appends_in, appends-cons}
-use Rattle.sound_states.proofs.Records.{is_some-at}
+use Rattle.plain_laws.specs.Lists.{Each, In}
+use Rattle.plain_laws.proofs.Each.{each_get, each_append, each_map, each_mono, each_take, in_contains, in_left, in_right}
+use Rattle.plain_laws.proofs.Lists.{drop-get}
+use Rattle.code_defs.specs.Points.{upto}
+use Rattle.column_defs.specs.Objects.{Object}
+use Rattle.column_defs.specs.Opened.{GivesSymbols, LosesRow}
+use Rattle.device_defs.specs.Faults.{Rose}
+use Rattle.device_defs.specs.Providers.{Held, Provider, sized}
+use Rattle.device_defs.specs.ProviderCalls.{FailsToStore, FindsNoMemory, StoreCounts}
+use Rattle.device_defs.specs.Told.{Goes}
+use Rattle.device_defs.proofs.Lasting.{rose-before}
+use Rattle.record_defs.specs.Records.{Setup, Record, RepairDone}
+use Rattle.record_defs.specs.Table.{File, Due, files_of, due_of}
+use Rattle.machine_defs.specs.Jobs.{RepairJob, Given, Job}
+use Rattle.machine_defs.specs.Setups.{object_of}
+use Rattle.machine_defs.specs.Actions.{Action, WriteBody, SyncBody, WriteGate, SyncGate, Store, Fetch, Ask, Work, Remove, End, append_actions, open_actions, rewrite_actions, repair_actions, actions_of, appends_left}
+use Rattle.machine_defs.specs.Answers as answer
+use Rattle.machine_defs.specs.Answers.{Answer}
+use Rattle.machine_defs.specs.Begins.{due_number, due_flags}
+use Rattle.machine_defs.specs.Events.{Ended}
+use Rattle.machine_defs.specs.Given.{block_given, blocks_given, symbols_given}
+use Rattle.machine_defs.specs.Heard.{Entry, heard_by_kind}
+use Rattle.machine_defs.specs.States.{State, Doubt, setup_in, worked_object, with_provider, ended}
+use Rattle.machine_defs.specs.Appends.{Moves}
+use Rattle.machine_defs.specs.Steps.{next_action, holder_of, Acts, Ends as EndsAs}
+use Rattle.machine_defs.proofs.ActionLists.{split_get}
+use Rattle.machine_defs.proofs.JobLists.{cond_true}
+use Rattle.machine_defs.proofs.Numbers.{next_by, next_is_by}
+use Rattle.machine_defs.proofs.RecordFacts.{listed_file}
+use Rattle.machine_defs.proofs.NextActions.{next_stands}
+use Rattle.command_defs.specs.JobRuns.{RunsJob}
+use Rattle.command_defs.specs.Jobs.{Leaves}
+use Rattle.command_defs.specs.Ran.{Ran, ran_from, object_numbered, EachHeldGoes, IsWhole, IsCut}
+use Rattle.command_defs.specs.Repairs.{Place, places, Gave, blocks_at, held_at, IsTruth, GivesPlace, RewrittenOn, PartlyRewrittenOn, IfFlagged, flags, RewritesAll, RewritesPart, RewritesSome, LosesAtPlace, RepairGives}
+use Rattle.command_defs.specs.Truthful.{IsTruthful}
+use Rattle.state_laws.specs.Orders.{moves_made, moves_before, IsInOrder, AreAscending}
+use Rattle.state_laws.proofs.Begun.{begun-repair}
+use Rattle.state_laws.proofs.Events.{moves-next}
+use Rattle.state_laws.proofs.Orders.{appends_in, appends-cons}
+use Rattle.state_laws.proofs.Records.{is_some-at}
 use Rattle.lone_laws.specs.Made.{With, Made, object_made}
-use Rattle.hail_openings.specs.Opened.{IsOpenAtRest}
+use Rattle.opening_defs.specs.Opened.{IsOpenAtRest}
 use Rattle.lone_laws.specs.Walked.{RecordsAre, with_job_of, Walked}
 use Rattle.lone_laws.proofs.Prefixes.{repair-list, audit-within}
 use Rattle.lone_laws.proofs.Walk.{Wrote, wrote, runs, left-start}

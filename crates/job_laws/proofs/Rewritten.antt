@@ -3,19 +3,19 @@ use Rattle.std.proofs.Common.{◌≡◌, ℕ, ◌+◌, ◌<◌, ◌≤◌, ◌==
 use Rattle.std.specs.Option.{option_map}
 use Rattle.std.proofs.lemmas.Bool.{cases_Bool, cases_eq, eq-eqb, ne_eqb, eqb-true, and_parts, and_from}
 use Rattle.std.proofs.lemmas.List.Sums.{sum_by-cons}
-use Rattle.plain_facts.specs.Lists.{Each, In}
-use Rattle.plain_facts.proofs.Each.{each_mono}
-use Rattle.hail_codes.specs.Points.{upto}
-use Rattle.hail_columns.specs.Columns.{column_of_symbols}
-use Rattle.hail_columns.specs.Opened.{GivesSymbols}
-use Rattle.hail_devices.specs.Faults.{last_count}
-use Rattle.hail_devices.specs.Providers.{Held, Provider, sized, with_block}
-use Rattle.hail_devices.specs.ProviderCalls.{Stores, Fetches, FetchGives, FailsToGive}
-use Rattle.hail_machine.specs.Jobs.{RepairJob, Given}
-use Rattle.hail_machine.specs.Actions.{Action, WriteBody, SyncBody, WriteGate, SyncGate, Store, Fetch, Ask, Work, Remove, End}
-use Rattle.hail_machine.specs.Given.{block_given, blocks_given, symbols_given}
-use Rattle.hail_machine.proofs.JobLists.{cond_true, cond_false}
-use Rattle.hail_machine.proofs.Given.{symbols_given-newest}
+use Rattle.plain_laws.specs.Lists.{Each, In}
+use Rattle.plain_laws.proofs.Each.{each_mono}
+use Rattle.code_defs.specs.Points.{upto}
+use Rattle.column_defs.specs.Columns.{column_of_symbols}
+use Rattle.column_defs.specs.Opened.{GivesSymbols}
+use Rattle.device_defs.specs.Faults.{last_count}
+use Rattle.device_defs.specs.Providers.{Held, Provider, sized, with_block}
+use Rattle.device_defs.specs.ProviderCalls.{Stores, Fetches, FetchGives, FailsToGive}
+use Rattle.machine_defs.specs.Jobs.{RepairJob, Given}
+use Rattle.machine_defs.specs.Actions.{Action, WriteBody, SyncBody, WriteGate, SyncGate, Store, Fetch, Ask, Work, Remove, End}
+use Rattle.machine_defs.specs.Given.{block_given, blocks_given, symbols_given}
+use Rattle.machine_defs.proofs.JobLists.{cond_true, cond_false}
+use Rattle.machine_defs.proofs.Given.{symbols_given-newest}
 use Rattle.lone_laws.specs.Made.{With, block_stored, Did, Made, object_made}
 use Rattle.job_laws.proofs.Heard.{IsNot, block-later, block-newest, symbols-later}
 use Rattle.job_laws.proofs.Truth.{call-hit, call-miss, lacks, lacks-same, lacks-few, made-rises}

@@ -2,23 +2,23 @@
 use Rattle.std.proofs.Common.{◌≡◌, ℕ, ◌+◌, ◌≤◌, true, List, [], ◌∷◌, length, Some, None, ap, sym, subst, ◌∙◌}
 use Rattle.std.specs.Prelude.{is_some, IsTrue}
 use Rattle.std.specs.List.{list_all}
-use Rattle.hail_machine.specs.Jobs.{Kind, Job}
-use Rattle.hail_machine.specs.Actions.{Action}
-use Rattle.hail_machine.specs.Answers.{Answer}
-use Rattle.hail_machine.specs.Events.{Ended, IsSpelledKind}
-use Rattle.hail_machine.specs.States.{State, setup_in}
-use Rattle.hail_devices.specs.Providers.{Provider}
-use Rattle.hail_records.specs.Records.{Record, is_in_grammar, largest_journal}
-use Rattle.hail_records.specs.Journal.{text_size}
-use Rattle.hail_records.specs.Table.{setup_of, file_of}
-use Rattle.hail_records.specs.Acceptance.{AreAccepted}
-use Rattle.hail_commands.specs.Opens.{setup_in_effect}
-use Rattle.hail_machine.specs.Begins.{new_job}
-use Rattle.hail_machine.specs.Steps.{next_action, holder_of, Acts}
-use Rattle.hail_machine.specs.Runs.{Moment, now}
-use Rattle.hail_machine.specs.Heard.{Entry, heard_by}
-use Rattle.hail_openings.specs.Opened.{IsOpenedOver, IsOpenAtRest}
-use Rattle.hail_commands.specs.JobRuns.{AreSteps, GoesOnTo, RunsJob}
+use Rattle.machine_defs.specs.Jobs.{Kind, Job}
+use Rattle.machine_defs.specs.Actions.{Action}
+use Rattle.machine_defs.specs.Answers.{Answer}
+use Rattle.machine_defs.specs.Events.{Ended, IsSpelledKind}
+use Rattle.machine_defs.specs.States.{State, setup_in}
+use Rattle.device_defs.specs.Providers.{Provider}
+use Rattle.record_defs.specs.Records.{Record, is_in_grammar, largest_journal}
+use Rattle.record_defs.specs.Journal.{text_size}
+use Rattle.record_defs.specs.Table.{setup_of, file_of}
+use Rattle.record_defs.specs.Acceptance.{AreAccepted}
+use Rattle.command_defs.specs.Opens.{setup_in_effect}
+use Rattle.machine_defs.specs.Begins.{new_job}
+use Rattle.machine_defs.specs.Steps.{next_action, holder_of, Acts}
+use Rattle.machine_defs.specs.Runs.{Moment, now}
+use Rattle.machine_defs.specs.Heard.{Entry, heard_by}
+use Rattle.opening_defs.specs.Opened.{IsOpenedOver, IsOpenAtRest}
+use Rattle.command_defs.specs.JobRuns.{AreSteps, GoesOnTo, RunsJob}
 use Rattle.lone_laws.specs.Walked.{Walked}
 use Rattle.lone_laws.proofs.Walk.{walk-begin, walk-step, walk-last, found}
 

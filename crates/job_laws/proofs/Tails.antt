@@ -1,11 +1,11 @@
 -- What a job does once its record is written: it takes copies away, and ends.
 use Rattle.std.proofs.Common.{[], ◌∷◌, ◌++◌}
-use Rattle.plain_facts.specs.Lists.{Each}
-use Rattle.plain_facts.proofs.Each.{each_append, each_map, each_flat}
-use Rattle.hail_codes.specs.Points.{upto}
-use Rattle.hail_records.specs.Records.{Setup}
-use Rattle.hail_machine.specs.Jobs.{Job}
-use Rattle.hail_machine.specs.Actions.{Action, Remove, End, on_each_provider, remove_actions}
+use Rattle.plain_laws.specs.Lists.{Each}
+use Rattle.plain_laws.proofs.Each.{each_append, each_map, each_flat}
+use Rattle.code_defs.specs.Points.{upto}
+use Rattle.record_defs.specs.Records.{Setup}
+use Rattle.machine_defs.specs.Jobs.{Job}
+use Rattle.machine_defs.specs.Actions.{Action, Remove, End, on_each_provider, remove_actions}
 
 -- a removal or the end
 abbrev pub IsTail : Action → Type 0

@@ -4,30 +4,30 @@ use Rattle.std.specs.Prelude.{slice_get, is_some, IsSomeAnd}
 use Rattle.std.specs.Option.{option_map}
 use Rattle.std.proofs.lemmas.Bool.{cases_Bool, cases_lt, false≢true}
 use Rattle.std.proofs.lemmas.List.{length-replicate}
-use Rattle.hail_devices.specs.Cells.{Cells}
-use Rattle.hail_devices.specs.Images.{EachImage}
-use Rattle.hail_devices.specs.Providers.{Provider}
-use Rattle.hail_records.specs.Records.{Record}
-use Rattle.hail_records.specs.Table.{files_of, setup_of}
-use Rattle.hail_records.specs.Acceptance.{AreAccepted}
-use Rattle.hail_records.specs.Areas.{A}
-use Rattle.hail_records.specs.Journal.{StandsFor, StandsOrIsEmpty}
-use Rattle.hail_records.proofs.SizeLaws.{size_by_id, size-in_effect}
-use Rattle.hail_machine.specs.Jobs.{Kind, PutJob, GetJob, DropJob, AuditJob, RepairJob, UpgradeJob}
-use Rattle.hail_machine.specs.Answers.{Answer}
-use Rattle.hail_machine.specs.Events.{IsSpelledKind}
-use Rattle.hail_machine.specs.Heard.{Entry}
-use Rattle.hail_machine.specs.States.{State, Doubt}
-use Rattle.hail_machine.specs.Stands.{StandsPlain, StandsWithDoubt, StandsSwitched}
-use Rattle.hail_machine.proofs.Given.{zeros-bytes}
-use Rattle.hail_commands.specs.Seen.{Seen, nobody, provider_at}
-use Rattle.hail_commands.specs.Opens as opens
-use Rattle.hail_commands.specs.Ran.{ran_from, ran_alone}
-use Rattle.hail_openings.specs.Opened.{IsOpenedOver, IsOpenAtRest}
-use Rattle.hail_commands.specs.JobRuns.{RunsJob}
-use Rattle.hail_commands.specs.Jobs.{Leaves, LeftAlone, RanAlone, RunsAlone}
-use Rattle.sound_states.proofs.Records.{none-set_up}
-use Rattle.sound_states.specs.Sound.{IsWholeJournal}
+use Rattle.device_defs.specs.Cells.{Cells}
+use Rattle.device_defs.specs.Images.{EachImage}
+use Rattle.device_defs.specs.Providers.{Provider}
+use Rattle.record_defs.specs.Records.{Record}
+use Rattle.record_defs.specs.Table.{files_of, setup_of}
+use Rattle.record_defs.specs.Acceptance.{AreAccepted}
+use Rattle.record_defs.specs.Areas.{A}
+use Rattle.record_defs.specs.Journal.{StandsFor, StandsOrIsEmpty}
+use Rattle.record_defs.proofs.SizeLaws.{size_by_id, size-in_effect}
+use Rattle.machine_defs.specs.Jobs.{Kind, PutJob, GetJob, DropJob, AuditJob, RepairJob, UpgradeJob}
+use Rattle.machine_defs.specs.Answers.{Answer}
+use Rattle.machine_defs.specs.Events.{IsSpelledKind}
+use Rattle.machine_defs.specs.Heard.{Entry}
+use Rattle.machine_defs.specs.States.{State, Doubt}
+use Rattle.machine_defs.specs.Stands.{StandsPlain, StandsWithDoubt, StandsSwitched}
+use Rattle.machine_defs.proofs.Given.{zeros-bytes}
+use Rattle.command_defs.specs.Seen.{Seen, nobody, provider_at}
+use Rattle.command_defs.specs.Opens as opens
+use Rattle.command_defs.specs.Ran.{ran_from, ran_alone}
+use Rattle.opening_defs.specs.Opened.{IsOpenedOver, IsOpenAtRest}
+use Rattle.command_defs.specs.JobRuns.{RunsJob}
+use Rattle.command_defs.specs.Jobs.{Leaves, LeftAlone, RanAlone, RunsAlone}
+use Rattle.state_laws.proofs.Records.{none-set_up}
+use Rattle.state_laws.specs.Sound.{IsWholeJournal}
 use Rattle.job_laws.proofs.Runs.{job-ends, opened-over}
 use Rattle.job_laws.proofs.Whole.{runs-whole}
 use Rattle.job_laws.proofs.Audits.{audits-leave}

@@ -5,15 +5,15 @@ use Rattle.std.specs.Prelude.{is_some, is_none}
 use Rattle.std.specs.List.{range_with_len}
 use Rattle.std.proofs.lemmas.Bool.{cases_eq, eq-eqb, ne_eqb}
 use Rattle.std.proofs.lemmas.List.Sums.{sum_by-cons}
-use Rattle.plain_facts.specs.Lists.{Each}
-use Rattle.hail_columns.specs.Challenges.{honest_answer}
-use Rattle.hail_devices.specs.Faults.{last_count}
-use Rattle.hail_devices.specs.Providers.{Held, Provider}
-use Rattle.hail_devices.specs.ProviderCalls.{Fetches, Asks, AskGives, FailsToGive}
-use Rattle.hail_machine.specs.Jobs.{Given}
-use Rattle.hail_machine.specs.Actions.{Action, WriteBody, SyncBody, WriteGate, SyncGate, Store, Fetch, Ask, Work, Remove, End}
-use Rattle.hail_machine.specs.Given.{answer_given}
-use Rattle.hail_machine.proofs.JobLists.{cond_true, cond_false}
+use Rattle.plain_laws.specs.Lists.{Each}
+use Rattle.column_defs.specs.Challenges.{honest_answer}
+use Rattle.device_defs.specs.Faults.{last_count}
+use Rattle.device_defs.specs.Providers.{Held, Provider}
+use Rattle.device_defs.specs.ProviderCalls.{Fetches, Asks, AskGives, FailsToGive}
+use Rattle.machine_defs.specs.Jobs.{Given}
+use Rattle.machine_defs.specs.Actions.{Action, WriteBody, SyncBody, WriteGate, SyncGate, Store, Fetch, Ask, Work, Remove, End}
+use Rattle.machine_defs.specs.Given.{answer_given}
+use Rattle.machine_defs.proofs.JobLists.{cond_true, cond_false}
 use Rattle.lone_laws.specs.Made.{With, challenge_made, CallsOne, Did, Made, object_made}
 use Rattle.job_laws.proofs.Providers.{Rises, rises-same, rises-more, called-rises, made-keeps}
 use Rattle.job_laws.proofs.Heard.{IsOver, AreDistinct, answer-later, answer-newest}

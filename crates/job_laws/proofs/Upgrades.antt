@@ -2,31 +2,31 @@
 use Rattle.std.proofs.Common.{◌≡◌, ℕ, ◌+◌, ◌<◌, ◌≤◌, ◌⊎◌, List, [], ◌∷◌, take, drop, Option, None, Some, refl, ap, sym, subst, ◌∙◌, inl, inr, arith}
 use Rattle.std.specs.Prelude.{slice_get}
 use Rattle.std.specs.Option.{option_map}
-use Rattle.plain_facts.specs.Lists.{Each}
-use Rattle.plain_facts.proofs.Each.{each_get, each_take}
-use Rattle.plain_facts.proofs.Lists.{drop-get}
-use Rattle.hail_devices.specs.Providers.{Provider}
-use Rattle.hail_devices.proofs.Lasting.{rose-before}
-use Rattle.hail_records.specs.Records.{Setup, Record, Version}
-use Rattle.hail_machine.specs.Jobs.{UpgradeJob, Given}
-use Rattle.hail_machine.specs.Actions.{Action, WriteBody, SyncBody, WriteGate, SyncGate, Store, Fetch, Ask, Work, Remove, End, actions_of, actions_left, appends_left}
-use Rattle.hail_machine.specs.Answers as answer
-use Rattle.hail_machine.specs.Answers.{Answer}
-use Rattle.hail_machine.specs.Events.{Ended}
-use Rattle.hail_machine.specs.Heard.{Entry, heard_by_kind}
-use Rattle.hail_machine.specs.States.{State, Doubt, setup_in}
-use Rattle.hail_machine.specs.Appends.{Moves}
-use Rattle.hail_machine.specs.Steps as step
-use Rattle.hail_machine.specs.Steps.{holder_of, Acts}
-use Rattle.hail_machine.proofs.Numbers.{next_by, next_is_by}
-use Rattle.hail_machine.proofs.NextActions.{next_stands}
-use Rattle.hail_commands.specs.Upgrades.{UpgradeLeaves}
-use Rattle.hail_commands.specs.Jobs.{Leaves}
-use Rattle.hail_commands.specs.Ran.{Ran, ran_from, SameHeld, NoFetches}
-use Rattle.sound_states.specs.Orders.{moves_made, IsInOrder}
-use Rattle.sound_states.proofs.Orders.{appends_in, appends-cons}
+use Rattle.plain_laws.specs.Lists.{Each}
+use Rattle.plain_laws.proofs.Each.{each_get, each_take}
+use Rattle.plain_laws.proofs.Lists.{drop-get}
+use Rattle.device_defs.specs.Providers.{Provider}
+use Rattle.device_defs.proofs.Lasting.{rose-before}
+use Rattle.record_defs.specs.Records.{Setup, Record, Version}
+use Rattle.machine_defs.specs.Jobs.{UpgradeJob, Given}
+use Rattle.machine_defs.specs.Actions.{Action, WriteBody, SyncBody, WriteGate, SyncGate, Store, Fetch, Ask, Work, Remove, End, actions_of, actions_left, appends_left}
+use Rattle.machine_defs.specs.Answers as answer
+use Rattle.machine_defs.specs.Answers.{Answer}
+use Rattle.machine_defs.specs.Events.{Ended}
+use Rattle.machine_defs.specs.Heard.{Entry, heard_by_kind}
+use Rattle.machine_defs.specs.States.{State, Doubt, setup_in}
+use Rattle.machine_defs.specs.Appends.{Moves}
+use Rattle.machine_defs.specs.Steps as step
+use Rattle.machine_defs.specs.Steps.{holder_of, Acts}
+use Rattle.machine_defs.proofs.Numbers.{next_by, next_is_by}
+use Rattle.machine_defs.proofs.NextActions.{next_stands}
+use Rattle.command_defs.specs.Upgrades.{UpgradeLeaves}
+use Rattle.command_defs.specs.Jobs.{Leaves}
+use Rattle.command_defs.specs.Ran.{Ran, ran_from, SameHeld, NoFetches}
+use Rattle.state_laws.specs.Orders.{moves_made, IsInOrder}
+use Rattle.state_laws.proofs.Orders.{appends_in, appends-cons}
 use Rattle.lone_laws.specs.Made.{With}
-use Rattle.hail_openings.specs.Opened.{IsOpenAtRest}
+use Rattle.opening_defs.specs.Opened.{IsOpenAtRest}
 use Rattle.lone_laws.specs.Walked.{RecordsAre, with_job_of}
 use Rattle.lone_laws.proofs.Walk.{Wrote, wrote, runs, left-start}
 use Rattle.lone_laws.proofs.Prefixes.{upgrade-list}

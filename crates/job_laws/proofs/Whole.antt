@@ -1,19 +1,19 @@
 -- A job that runs alone leaves the disk with the whole history, in the same area.
 use Rattle.std.proofs.Common.{◌≡◌, ℕ, ◌+◌, List, [], ◌∷◌, Option, Some, refl, ap, sym, subst, ◌∙◌}
-use Rattle.hail_machine.specs.Jobs.{Kind, Job}
-use Rattle.hail_machine.specs.Actions.{Action, WriteBody, SyncBody, WriteGate, SyncGate, Store, Fetch, Ask, Work, Remove, End}
-use Rattle.hail_machine.specs.Answers as answer
-use Rattle.hail_machine.specs.Answers.{Answer}
-use Rattle.hail_machine.specs.Events.{IsSpelledKind, Outcome, More, Ended, Waiting}
-use Rattle.hail_machine.specs.Heard.{Entry}
-use Rattle.hail_machine.specs.States.{State, Append}
-use Rattle.hail_machine.specs.Begins.{new_job}
-use Rattle.hail_machine.specs.Appends.{Moves}
-use Rattle.hail_machine.specs.Steps.{Acts}
-use Rattle.hail_machine.specs.Runs.{Moment, now}
-use Rattle.hail_openings.specs.Opened.{IsOpenAtRest}
-use Rattle.hail_commands.specs.JobRuns.{AreSteps, GoesOnTo, RunsJob}
-use Rattle.sound_states.specs.Sound.{IsWholeJournal}
+use Rattle.machine_defs.specs.Jobs.{Kind, Job}
+use Rattle.machine_defs.specs.Actions.{Action, WriteBody, SyncBody, WriteGate, SyncGate, Store, Fetch, Ask, Work, Remove, End}
+use Rattle.machine_defs.specs.Answers as answer
+use Rattle.machine_defs.specs.Answers.{Answer}
+use Rattle.machine_defs.specs.Events.{IsSpelledKind, Outcome, More, Ended, Waiting}
+use Rattle.machine_defs.specs.Heard.{Entry}
+use Rattle.machine_defs.specs.States.{State, Append}
+use Rattle.machine_defs.specs.Begins.{new_job}
+use Rattle.machine_defs.specs.Appends.{Moves}
+use Rattle.machine_defs.specs.Steps.{Acts}
+use Rattle.machine_defs.specs.Runs.{Moment, now}
+use Rattle.opening_defs.specs.Opened.{IsOpenAtRest}
+use Rattle.command_defs.specs.JobRuns.{AreSteps, GoesOnTo, RunsJob}
+use Rattle.state_laws.specs.Sound.{IsWholeJournal}
 use Rattle.lone_laws.specs.Walked.{Walked}
 use Rattle.lone_laws.proofs.Walk.{walk-begin, step-acts}
 use Rattle.job_laws.proofs.Runs.{walk-steps}

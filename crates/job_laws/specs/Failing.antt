@@ -8,17 +8,17 @@
 --   bad_count x file bytes    == how many providers of the setup are so in a run
 --   bad_seen records old new file bytes  == how many providers of the setup are so, as the devices are seen
 use Rattle.std.specs.Prelude.{ℕ, ◌||◌, Bool, true, List, Option, None, Some, nat_lt, nat_le}
-use Rattle.hail_codes.specs.Points.{upto}
-use Rattle.hail_columns.specs.Objects.{Object}
-use Rattle.hail_columns.specs.Columns.{is_wrong}
-use Rattle.hail_columns.specs.Forgeries.{count_of}
-use Rattle.hail_devices.specs.Faults.{last_count}
-use Rattle.hail_devices.specs.Providers.{Held, Provider}
-use Rattle.hail_records.specs.Records.{Record}
-use Rattle.hail_records.specs.Table.{File}
-use Rattle.hail_commands.specs.Seen.{Seen, provider_at}
-use Rattle.hail_commands.specs.Opens.{setup_in_effect, object_in_effect}
-use Rattle.hail_commands.specs.Ran.{Ran, setup_at_begin, object_at_begin}
+use Rattle.code_defs.specs.Points.{upto}
+use Rattle.column_defs.specs.Objects.{Object}
+use Rattle.column_defs.specs.Columns.{is_wrong}
+use Rattle.column_defs.specs.Forgeries.{count_of}
+use Rattle.device_defs.specs.Faults.{last_count}
+use Rattle.device_defs.specs.Providers.{Held, Provider}
+use Rattle.record_defs.specs.Records.{Record}
+use Rattle.record_defs.specs.Table.{File}
+use Rattle.command_defs.specs.Seen.{Seen, provider_at}
+use Rattle.command_defs.specs.Opens.{setup_in_effect, object_in_effect}
+use Rattle.command_defs.specs.Ran.{Ran, setup_at_begin, object_at_begin}
 
 -- a count rose, or it stands at its last value
 abbrev pub has_risen : ℕ → ℕ → Bool

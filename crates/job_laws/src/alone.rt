@@ -1,17 +1,17 @@
 //! What the job of a command leaves, by the run that the command tells of.
 ghost use Rattle.std.specs.Prelude.{◌≡◌, ℕ, List, length};
-ghost use Rattle.hail_devices.specs.Providers.{Provider};
-ghost use Rattle.hail_records.specs.Records.{Record};
-ghost use Rattle.hail_records.specs.Acceptance.{AreAccepted};
-ghost use Rattle.hail_machine.specs.Jobs.{Kind};
-ghost use Rattle.hail_machine.specs.Answers.{Answer};
-ghost use Rattle.hail_machine.specs.Events.{IsSpelledKind};
-ghost use Rattle.hail_machine.specs.States.{State};
-ghost use Rattle.hail_machine.specs.Heard.{Entry};
-ghost use Rattle.hail_commands.specs.Seen.{Seen};
-ghost use Rattle.hail_commands.specs.Opens as opens;
-ghost use Rattle.hail_openings.specs.Opened.{IsOpenedOver, IsOpenAtRest};
-ghost use Rattle.hail_commands.specs.Jobs.{RunsAlone, LeftAlone};
+ghost use Rattle.device_defs.specs.Providers.{Provider};
+ghost use Rattle.record_defs.specs.Records.{Record};
+ghost use Rattle.record_defs.specs.Acceptance.{AreAccepted};
+ghost use Rattle.machine_defs.specs.Jobs.{Kind};
+ghost use Rattle.machine_defs.specs.Answers.{Answer};
+ghost use Rattle.machine_defs.specs.Events.{IsSpelledKind};
+ghost use Rattle.machine_defs.specs.States.{State};
+ghost use Rattle.machine_defs.specs.Heard.{Entry};
+ghost use Rattle.command_defs.specs.Seen.{Seen};
+ghost use Rattle.command_defs.specs.Opens as opens;
+ghost use Rattle.opening_defs.specs.Opened.{IsOpenedOver, IsOpenAtRest};
+ghost use Rattle.command_defs.specs.Jobs.{RunsAlone, LeftAlone};
 
 /// A state that was opened over records which a start has read, with enough providers, is one from which the laws of runs speak; and
 /// over all accepted records there is one.

@@ -1,16 +1,16 @@
 //! What gets, puts, drops and upgrades leave that run alone, and when jobs end well, from a state whose vault was just opened.
 ghost use Rattle.std.specs.Prelude.{◌≡◌, ◌⊎◌, ℕ, ◌+◌, ◌<◌, ◌≤◌, List, length, Some};
-ghost use Rattle.hail_devices.specs.Faults.{Rose};
-ghost use Rattle.hail_records.specs.Table.{File};
-ghost use Rattle.hail_machine.specs.Jobs.{PutJob, GetJob, DropJob, AuditJob, RepairJob, UpgradeJob};
-ghost use Rattle.hail_machine.specs.Answers.{Answer, Put, Got, Dropped, Audited, Repaired, Upgraded, Memory};
-ghost use Rattle.hail_machine.specs.Events.{IsSpelledKind, AreBytes};
-ghost use Rattle.hail_machine.specs.States.{State, setup_in, file_object, file_in};
-ghost use Rattle.hail_machine.specs.Heard.{Entry, HoldsForgery};
-ghost use Rattle.hail_commands.specs.Ran.{ran_from};
-ghost use Rattle.hail_commands.specs.JobRuns.{RunsJob};
-ghost use Rattle.hail_commands.specs.Jobs.{Leaves};
-ghost use Rattle.hail_openings.specs.Opened.{IsOpenAtRest};
+ghost use Rattle.device_defs.specs.Faults.{Rose};
+ghost use Rattle.record_defs.specs.Table.{File};
+ghost use Rattle.machine_defs.specs.Jobs.{PutJob, GetJob, DropJob, AuditJob, RepairJob, UpgradeJob};
+ghost use Rattle.machine_defs.specs.Answers.{Answer, Put, Got, Dropped, Audited, Repaired, Upgraded, Memory};
+ghost use Rattle.machine_defs.specs.Events.{IsSpelledKind, AreBytes};
+ghost use Rattle.machine_defs.specs.States.{State, setup_in, file_object, file_in};
+ghost use Rattle.machine_defs.specs.Heard.{Entry, HoldsForgery};
+ghost use Rattle.command_defs.specs.Ran.{ran_from};
+ghost use Rattle.command_defs.specs.JobRuns.{RunsJob};
+ghost use Rattle.command_defs.specs.Jobs.{Leaves};
+ghost use Rattle.opening_defs.specs.Opened.{IsOpenAtRest};
 ghost use Rattle.job_laws.specs.Failing.{bad_count};
 
 /// What a get leaves, however it ends: it gives what it heard, and changes nothing.

@@ -1,21 +1,21 @@
 //! What a job leaves that runs alone, from a state whose vault was just opened.
 ghost use Rattle.std.specs.Prelude.{◌≡◌, ℕ, ◌≤◌, true, IsTrue, List, length, is_some};
 ghost use Rattle.std.specs.List.{list_all};
-ghost use Rattle.hail_devices.specs.Providers.{Provider};
-ghost use Rattle.hail_records.specs.Records.{Record, is_in_grammar, largest_journal};
-ghost use Rattle.hail_records.specs.Journal.{text_size};
-ghost use Rattle.hail_records.specs.Table.{setup_of};
-ghost use Rattle.hail_records.specs.Acceptance.{AreAccepted};
-ghost use Rattle.hail_machine.specs.Jobs.{Kind, AuditJob, RepairJob};
-ghost use Rattle.hail_machine.specs.Answers.{Answer};
-ghost use Rattle.hail_machine.specs.Events.{IsSpelledKind};
-ghost use Rattle.hail_machine.specs.States.{State};
-ghost use Rattle.hail_machine.specs.Heard.{Entry};
-ghost use Rattle.hail_commands.specs.Opens.{setup_in_effect};
-ghost use Rattle.hail_commands.specs.Ran.{ran_from};
-ghost use Rattle.hail_openings.specs.Opened.{IsOpenedOver, IsOpenAtRest};
-ghost use Rattle.hail_commands.specs.JobRuns.{RunsJob};
-ghost use Rattle.hail_commands.specs.Jobs.{Leaves};
+ghost use Rattle.device_defs.specs.Providers.{Provider};
+ghost use Rattle.record_defs.specs.Records.{Record, is_in_grammar, largest_journal};
+ghost use Rattle.record_defs.specs.Journal.{text_size};
+ghost use Rattle.record_defs.specs.Table.{setup_of};
+ghost use Rattle.record_defs.specs.Acceptance.{AreAccepted};
+ghost use Rattle.machine_defs.specs.Jobs.{Kind, AuditJob, RepairJob};
+ghost use Rattle.machine_defs.specs.Answers.{Answer};
+ghost use Rattle.machine_defs.specs.Events.{IsSpelledKind};
+ghost use Rattle.machine_defs.specs.States.{State};
+ghost use Rattle.machine_defs.specs.Heard.{Entry};
+ghost use Rattle.command_defs.specs.Opens.{setup_in_effect};
+ghost use Rattle.command_defs.specs.Ran.{ran_from};
+ghost use Rattle.opening_defs.specs.Opened.{IsOpenedOver, IsOpenAtRest};
+ghost use Rattle.command_defs.specs.JobRuns.{RunsJob};
+ghost use Rattle.command_defs.specs.Jobs.{Leaves};
 
 /// A state that was opened over records that a journal may hold and the fold accepts, with a setup and enough providers, is one whose
 /// vault was just opened.

@@ -1,11 +1,11 @@
 -- While no byte of the front and of the active text is loose, every image of a disk stands for the records of that text.
 use Rattle.std.proofs.Common.{◌≡◌, ℕ, zero, suc, List, [], ◌∷◌, length, take, drop, refl, sym, arith}
-use Rattle.hail_devices.specs.Cells.{Cells, reads}
-use Rattle.hail_devices.specs.Images.{IsImage}
+use Rattle.device_defs.specs.Cells.{Cells, reads}
+use Rattle.device_defs.specs.Images.{IsImage}
 use Rattle.journal_core.specs.Firm.{AreFirm}
-use Rattle.hail_records.specs.Records.{Record}
-use Rattle.hail_records.specs.Areas.{Area, base_of, entries, StandsActive}
-use Rattle.hail_records.proofs.AreaLaws.{active_again}
+use Rattle.record_defs.specs.Records.{Record}
+use Rattle.record_defs.specs.Areas.{Area, base_of, entries, StandsActive}
+use Rattle.record_defs.proofs.AreaLaws.{active_again}
 
 -- an image agrees with what is read on the first bytes that are firm
 front_same : (n : ℕ) (cells : Cells) (image : List ℕ) → AreFirm 0 n cells → IsImage cells image → take n (reads cells) ≡ take n image

@@ -5,10 +5,10 @@ use Rattle.std.proofs.lemmas.List.{drop-drop, length-map, length-replicate, drop
 use Rattle.std.proofs.Math.Seq.{drop-append-add}
 use Rattle.stream_model.specs.declared.fault.WriteFault.{WriteFault}
 use Rattle.stream_model.specs.declared.fault.WriteFault.TheVariants as write_fault
-use Rattle.hail_devices.specs.Cells.{Cells, reads, loose}
-use Rattle.hail_devices.specs.Disks.{spliced, written, Torn}
-use Rattle.hail_devices.specs.Told.{Goes}
-use Rattle.hail_devices.proofs.Lasting.{reads-firm}
+use Rattle.device_defs.specs.Cells.{Cells, reads, loose}
+use Rattle.device_defs.specs.Disks.{spliced, written, Torn}
+use Rattle.device_defs.specs.Told.{Goes}
+use Rattle.device_defs.proofs.Lasting.{reads-firm}
 use Rattle.journal_core.specs.Moves.{SameFrom}
 use Rattle.journal_core.proofs.CellLemmas.{settled}
 

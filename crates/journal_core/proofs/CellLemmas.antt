@@ -2,11 +2,11 @@
 use Rattle.std.proofs.Common.{◌≡◌, ℕ, ◌+◌, ◌-◌, min, Bool, true, false, List, [], ◌∷◌, ◌++◌, length, drop, replicate, refl, sym, ap, ◌∙◌, arith, length-append}
 use Rattle.std.proofs.lemmas.List.{take_at, map-append, length-map}
 use Rattle.std.proofs.Math.Seq.{drop-append-add}
-use Rattle.hail_devices.specs.Cells.{Cells, reads, firm, loose}
-use Rattle.hail_devices.specs.Images.{IsImage}
-use Rattle.hail_devices.specs.Disks.{spliced, written, Torn}
-use Rattle.hail_devices.proofs.Lasting.{reads-firm}
-use Rattle.hail_devices.proofs.WriteLaws.{reads-loose}
+use Rattle.device_defs.specs.Cells.{Cells, reads, firm, loose}
+use Rattle.device_defs.specs.Images.{IsImage}
+use Rattle.device_defs.specs.Disks.{spliced, written, Torn}
+use Rattle.device_defs.proofs.Lasting.{reads-firm}
+use Rattle.device_defs.proofs.WriteLaws.{reads-loose}
 
 pub spliced-behind : {X : Type 0} (front new rest : List X) (at : ℕ) → at ≡ length front → spliced at new (front ++ rest) ≡ front ++ (new ++ drop (length new) rest)
 spliced-behind front new rest at is =

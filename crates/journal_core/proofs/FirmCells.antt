@@ -1,7 +1,7 @@
 -- Cells of which none is loose.
 use Rattle.std.specs.Prelude.{◌≡◌, ℕ, zero, suc, false, List, [], ◌∷◌}
 use Rattle.std.proofs.Common.{refl}
-use Rattle.hail_devices.specs.Cells.{firm, is_loose_at}
+use Rattle.device_defs.specs.Cells.{firm, is_loose_at}
 use Rattle.journal_core.specs.Firm.{AreFirm}
 
 -- no place of firm bytes is loose

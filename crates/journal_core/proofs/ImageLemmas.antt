@@ -4,11 +4,11 @@ use Rattle.std.specs.Prelude.{IfSome, IsTrue}
 use Rattle.std.specs.List.{list_all}
 use Rattle.std.proofs.lemmas.Bool.{cases_eq}
 use Rattle.std.proofs.lemmas.List.{map-append}
-use Rattle.hail_devices.specs.Cells.{Cells, firm, loose}
-use Rattle.hail_devices.specs.Images.{IsImage}
-use Rattle.hail_records.specs.Records.{Record, is_in_grammar}
-use Rattle.hail_records.specs.Spellings.{spelling}
-use Rattle.hail_records.specs.Journal.{before_gate, StandsFor}
+use Rattle.device_defs.specs.Cells.{Cells, firm, loose}
+use Rattle.device_defs.specs.Images.{IsImage}
+use Rattle.record_defs.specs.Records.{Record, is_in_grammar}
+use Rattle.record_defs.specs.Spellings.{spelling}
+use Rattle.record_defs.specs.Journal.{before_gate, StandsFor}
 use Rattle.journal_core.specs.Moves.{IsClosed, IsInDoubt, IsAfterMoves, IsGivenUp, AllStandFor, MayStandFor}
 use Rattle.journal_core.proofs.CellLemmas.{IsImage-firm}
 

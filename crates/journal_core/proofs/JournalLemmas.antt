@@ -3,9 +3,9 @@ use Rattle.std.proofs.Common.{◌≡◌, ◌≢◌, inl, inr, ℕ, suc, ◌+◌,
 use Rattle.std.specs.Prelude.{reverse}
 use Rattle.std.proofs.lemmas.List.{drop-replicate, drop_more, take_more, take_all, map-append, reverse-append}
 use Rattle.std.proofs.Math.Seq.{take-add, take-append-add}
-use Rattle.hail_records.specs.Records.{Record as Entry}
-use Rattle.hail_records.specs.Spellings.{spelling, Spells}
-use Rattle.hail_records.specs.Journal.{before_gate, StandsFor, SpellsNone, IsBadAt}
+use Rattle.record_defs.specs.Records.{Record as Entry}
+use Rattle.record_defs.specs.Spellings.{spelling, Spells}
+use Rattle.record_defs.specs.Journal.{before_gate, StandsFor, SpellsNone, IsBadAt}
 use Rattle.record_codec.specs.declared.records.Record.{Record}
 use Rattle.record_codec.specs.Entries.{entry_of}
 use Rattle.journal_core.specs.Lists.{newest_first}

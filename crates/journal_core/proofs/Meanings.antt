@@ -5,10 +5,10 @@ use Rattle.std.specs.List.{list_all}
 use Rattle.std.proofs.lemmas.List.{append_cancel_left, append-nil, reverse-append, reverse-reverse}
 use Rattle.std.proofs.lemmas.List.Folds.{list_all-append}
 use Rattle.std.proofs.lemmas.List.{map-append}
-use Rattle.hail_devices.specs.Cells.{firm}
-use Rattle.hail_records.specs.Records.{Record, is_in_grammar}
-use Rattle.hail_records.specs.Spellings.{spelling, Spells}
-use Rattle.hail_records.specs.Journal.{magic, before_gate, StandsFor, SpellsNone, IsBadAt, EndsAtGate, BreaksAfterGate}
+use Rattle.device_defs.specs.Cells.{firm}
+use Rattle.record_defs.specs.Records.{Record, is_in_grammar}
+use Rattle.record_defs.specs.Spellings.{spelling, Spells}
+use Rattle.record_defs.specs.Journal.{magic, before_gate, StandsFor, SpellsNone, IsBadAt, EndsAtGate, BreaksAfterGate}
 use Rattle.record_codec.proofs.Takes.{one_front}
 use Rattle.journal_core.specs.Moves.{IsClosed}
 

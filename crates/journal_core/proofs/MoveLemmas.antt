@@ -5,9 +5,9 @@ use Rattle.std.specs.Option.{option_map}
 use Rattle.std.proofs.lemmas.List.{length-map}
 use Rattle.stream_model.specs.declared.fault.WriteFault.{WriteFault}
 use Rattle.stream_model.specs.declared.fault.WriteFault.TheVariants as write_fault
-use Rattle.hail_devices.specs.Cells.{Cells, firm, loose}
-use Rattle.hail_devices.specs.Disks.{written, Torn}
-use Rattle.hail_devices.specs.Told.{Goes}
+use Rattle.device_defs.specs.Cells.{Cells, firm, loose}
+use Rattle.device_defs.specs.Disks.{written, Torn}
+use Rattle.device_defs.specs.Told.{Goes}
 use Rattle.journal_core.specs.Moves.{IsClosed, IsInDoubt, IsInDoubtOrClosed, IsAfterMoves}
 use Rattle.journal_core.proofs.CellLemmas.{written-behind, torn-behind, torn_gate, settled, settled-append, settled-firm, settled-loose}
 

@@ -7,10 +7,10 @@
 --       moves so far
 use Rattle.std.specs.Prelude.{◌≡◌, ℕ, IsTrue, IfSome, List, [], ◌∷◌, ◌++◌, length, take, Option}
 use Rattle.std.specs.List.{list_all}
-use Rattle.hail_devices.specs.Cells.{Cells}
-use Rattle.hail_records.specs.Records.{Record, is_in_grammar}
-use Rattle.hail_records.specs.Spellings.{spelling}
-use Rattle.hail_records.specs.Journal.{before_gate}
+use Rattle.device_defs.specs.Cells.{Cells}
+use Rattle.record_defs.specs.Records.{Record, is_in_grammar}
+use Rattle.record_defs.specs.Spellings.{spelling}
+use Rattle.record_defs.specs.Journal.{before_gate}
 use Rattle.journal_core.specs.declared.append.Append.{Append}
 use Rattle.journal_core.specs.Moves.{IsAfterMoves}
 

@@ -1,6 +1,6 @@
 -- What a fault of reading says.
 use Rattle.std.specs.Prelude.{ℕ, List}
-use Rattle.hail_records.specs.Journal.{IsBadAt}
+use Rattle.record_defs.specs.Journal.{IsBadAt}
 use Rattle.journal_core.specs.declared.fault.JournalFault.{JournalFault}
 use Rattle.journal_core.specs.declared.fault.JournalFault.TheVariants as journal_fault
 

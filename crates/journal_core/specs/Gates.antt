@@ -6,8 +6,8 @@
 --   StopsAt bytes rs at            == behind these records the bytes end at a gate, or no record stands
 use Rattle.std.specs.Prelude.{◌≡◌, ◌⊎◌, ℕ, ◌<◌, ◌≤◌, IsTrue, List, ◌∷◌, length, take, Option, None, Some}
 use Rattle.std.specs.List.{list_all}
-use Rattle.hail_records.specs.Records.{Record as Entry, is_in_grammar}
-use Rattle.hail_records.specs.Journal.{before_gate, StandsFor, EndsAtGate, BreaksAfterGate}
+use Rattle.record_defs.specs.Records.{Record as Entry, is_in_grammar}
+use Rattle.record_defs.specs.Journal.{before_gate, StandsFor, EndsAtGate, BreaksAfterGate}
 use Rattle.record_codec.specs.declared.records.Record.{Record}
 use Rattle.record_codec.specs.Entries.{entry_of, IsInGrammar}
 

@@ -1,7 +1,7 @@
 -- The records of the program, as plain data with the newest first.
 use Rattle.std.specs.Prelude.{List, map}
 use Rattle.std.specs.Prelude.{reverse}
-use Rattle.hail_records.specs.Records.{Record as Entry}
+use Rattle.record_defs.specs.Records.{Record as Entry}
 use Rattle.record_codec.specs.declared.records.Record.{Record}
 use Rattle.record_codec.specs.Entries.{entry_of}
 

@@ -13,11 +13,11 @@
 --   MayTear n gate body old new how the cells may go where that move failed: torn by a write, as before at
 --       a sync
 use Rattle.std.specs.Prelude.{◌≡◌, ◌≢◌, ◌⊎◌, ℕ, zero, suc, ◌+◌, true, false, List, [], ◌∷◌, ◌++◌, length, drop, Option}
-use Rattle.hail_devices.specs.Cells.{Cells, reads, firm, loose}
-use Rattle.hail_devices.specs.Disks.{written, Torn, synced}
-use Rattle.hail_devices.specs.Images.{EachImage}
-use Rattle.hail_records.specs.Records.{Record}
-use Rattle.hail_records.specs.Journal.{StandsFor}
+use Rattle.device_defs.specs.Cells.{Cells, reads, firm, loose}
+use Rattle.device_defs.specs.Disks.{written, Torn, synced}
+use Rattle.device_defs.specs.Images.{EachImage}
+use Rattle.record_defs.specs.Records.{Record}
+use Rattle.record_defs.specs.Journal.{StandsFor}
 
 -- a closed gate stands behind these bytes, and nothing up to it is loose
 abbrev pub IsClosed : List ℕ → Cells → Type 0

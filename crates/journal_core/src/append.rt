@@ -1,11 +1,11 @@
 ghost use Rattle.std.specs.Prelude.{◌≡◌, ◌+◌, ◌^◌, ◌<◌, ◌≤◌, ◌++◌, [], ◌∷◌, ℕ, List, length, drop, OnOk, OnErr, IfSome, IfOk, IsErrOf, IsTrue, ◌↔◌};
 ghost use Rattle.stream_model.specs.declared.fault.WriteFault.TheVariants as write_fault;
 ghost use Rattle.std.specs.Option.{option_map};
-ghost use Rattle.hail_devices.specs.Faults.{HasCause, one_more};
-ghost use Rattle.hail_devices.specs.Told.{Goes};
-ghost use Rattle.hail_records.specs.Records.{Record as Entry, record_size};
-ghost use Rattle.hail_records.specs.Spellings.{spelling};
-ghost use Rattle.hail_records.specs.Journal.{before_gate};
+ghost use Rattle.device_defs.specs.Faults.{HasCause, one_more};
+ghost use Rattle.device_defs.specs.Told.{Goes};
+ghost use Rattle.record_defs.specs.Records.{Record as Entry, record_size};
+ghost use Rattle.record_defs.specs.Spellings.{spelling};
+ghost use Rattle.record_defs.specs.Journal.{before_gate};
 ghost use Rattle.record_codec.specs.Entries.{entry_of, IsInGrammar};
 ghost use Rattle.journal_core.specs.Moves.{IsClosed, IsAfterMoves, IsGivenUp, AllStandFor, MayStandFor, SameFrom, IsWrite, cells_after, MayTear};
 

@@ -1,6 +1,6 @@
 ghost use Rattle.std.specs.Prelude.{◌≡◌, ◌≢◌, ◌↔◌, List, [], take, IfOk, IfErr, IsTrue};
-ghost use Rattle.hail_records.specs.Records.{Record as Entry};
-ghost use Rattle.hail_records.specs.Journal.{magic};
+ghost use Rattle.record_defs.specs.Records.{Record as Entry};
+ghost use Rattle.record_defs.specs.Journal.{magic};
 ghost use Rattle.journal_core.specs.Gates.{IsReadTo, TakesRecord, StopsAt};
 
 use crate::fault::BadJournal;

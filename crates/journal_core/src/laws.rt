@@ -1,11 +1,11 @@
 //! What holds of every journal.
 ghost use Rattle.std.specs.Prelude.{◌≡◌, ℕ, suc, List, length};
-ghost use Rattle.hail_records.specs.Records.{Record};
-ghost use Rattle.hail_records.specs.Journal.{text, before_gate, StandsFor, IsBadAt};
-ghost use Rattle.hail_records.specs.Examples.{four_set_up};
-ghost use Rattle.hail_records.specs.Areas.{Area, A, base_of, entries, StandsActive};
-ghost use Rattle.hail_devices.specs.Cells.{Cells, reads, firm};
-ghost use Rattle.hail_devices.specs.Images.{IsImage};
+ghost use Rattle.record_defs.specs.Records.{Record};
+ghost use Rattle.record_defs.specs.Journal.{text, before_gate, StandsFor, IsBadAt};
+ghost use Rattle.record_defs.specs.Examples.{four_set_up};
+ghost use Rattle.record_defs.specs.Areas.{Area, A, base_of, entries, StandsActive};
+ghost use Rattle.device_defs.specs.Cells.{Cells, reads, firm};
+ghost use Rattle.device_defs.specs.Images.{IsImage};
 ghost use Rattle.journal_core.specs.Moves.{IsClosed};
 ghost use Rattle.journal_core.specs.Firm.{AreFirm};
 

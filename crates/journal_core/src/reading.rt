@@ -1,5 +1,5 @@
 ghost use Rattle.std.specs.Prelude.{All, IfOk, IfErr};
-ghost use Rattle.hail_records.specs.Journal.{StandsFor};
+ghost use Rattle.record_defs.specs.Journal.{StandsFor};
 ghost use Rattle.record_codec.specs.Entries.{IsInGrammar};
 ghost use Rattle.journal_core.specs.Lists.{newest_first};
 ghost use Rattle.journal_core.specs.Faults.{IsFaultOf};

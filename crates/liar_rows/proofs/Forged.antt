@@ -2,19 +2,19 @@
 use Rattle.std.proofs.Common.{◌≡◌, ◌≢◌, ◌⊎◌, ℕ, ◌≤◌, List, [], length, Some, refl, sym, ◌∙◌, ap, inl, inr, arith}
 use Rattle.std.specs.Prelude.{IsTrue}
 use Rattle.std.specs.List.{list_all}
-use Rattle.hail_devices.specs.Cells.{Cells, reads}
-use Rattle.hail_devices.specs.Told.{told_then}
-use Rattle.hail_records.specs.Records.{Record, is_in_grammar, largest_journal}
-use Rattle.hail_records.specs.Journal.{text, text_size, StandsFor}
-use Rattle.hail_records.specs.Acceptance.{AreAccepted}
-use Rattle.hail_records.specs.Table.{File, file_of}
-use Rattle.hail_machine.specs.Events.{AreBytes}
-use Rattle.hail_machine.specs.Heard.{HoldsForgery}
-use Rattle.hail_machine.specs.Setups.{object_of}
-use Rattle.hail_commands.specs.Forms.{GetOf}
-use Rattle.hail_commands.specs.Seen.{Seen, Ending}
-use Rattle.hail_commands.specs.Opens.{object_in_effect}
-use Rattle.hail_commands.specs.Commands.{Answers}
+use Rattle.device_defs.specs.Cells.{Cells, reads}
+use Rattle.device_defs.specs.Told.{told_then}
+use Rattle.record_defs.specs.Records.{Record, is_in_grammar, largest_journal}
+use Rattle.record_defs.specs.Journal.{text, text_size, StandsFor}
+use Rattle.record_defs.specs.Acceptance.{AreAccepted}
+use Rattle.record_defs.specs.Table.{File, file_of}
+use Rattle.machine_defs.specs.Events.{AreBytes}
+use Rattle.machine_defs.specs.Heard.{HoldsForgery}
+use Rattle.machine_defs.specs.Setups.{object_of}
+use Rattle.command_defs.specs.Forms.{GetOf}
+use Rattle.command_defs.specs.Seen.{Seen, Ending}
+use Rattle.command_defs.specs.Opens.{object_in_effect}
+use Rattle.command_defs.specs.Commands.{Answers}
 use Rattle.command_laws.specs.Ends.{IsKnown}
 use Rattle.command_laws.proofs.Knowing.{known-good}
 use Rattle.liar_rows.specs.declared.stored.Stored.{Stored}

@@ -5,8 +5,8 @@
 --   records_of stored  == its records: the setup, and the put of the file
 --   name_of_file       == the name `a`
 use Rattle.std.specs.Prelude.{ℕ, List, [], ◌∷◌, length, replicate}
-use Rattle.hail_codes.specs.Points.{upto}
-use Rattle.hail_records.specs.Records.{Record, Setup, SetUp, PutStart, PutDone}
+use Rattle.code_defs.specs.Points.{upto}
+use Rattle.record_defs.specs.Records.{Record, Setup, SetUp, PutStart, PutDone}
 use Rattle.liar_rows.specs.declared.stored.Stored.{Stored}
 use Rattle.liar_rows.specs.declared.stored.Stored.TheVariants as stored
 

@@ -1,12 +1,12 @@
 //! What follows for a get over a store of the rows.
 ghost use Rattle.std.specs.Prelude.{◌≡◌, ◌≢◌, ◌≤◌, ℕ, List, [], length, Some};
-ghost use Rattle.hail_devices.specs.Cells.{Cells, reads};
-ghost use Rattle.hail_records.specs.Journal.{text};
-ghost use Rattle.hail_machine.specs.Heard.{HoldsForgery};
-ghost use Rattle.hail_machine.specs.Setups.{object_of};
-ghost use Rattle.hail_commands.specs.Forms.{GetOf};
-ghost use Rattle.hail_commands.specs.Seen.{Seen, Ending};
-ghost use Rattle.hail_commands.specs.Commands.{Answers};
+ghost use Rattle.device_defs.specs.Cells.{Cells, reads};
+ghost use Rattle.record_defs.specs.Journal.{text};
+ghost use Rattle.machine_defs.specs.Heard.{HoldsForgery};
+ghost use Rattle.machine_defs.specs.Setups.{object_of};
+ghost use Rattle.command_defs.specs.Forms.{GetOf};
+ghost use Rattle.command_defs.specs.Seen.{Seen, Ending};
+ghost use Rattle.command_defs.specs.Commands.{Answers};
 ghost use Rattle.liar_rows.specs.Stored.{setup_numbers, stored_bytes, name_of_file, records_of};
 ghost use Rattle.liar_rows.specs.declared.stored.Stored.{Stored as Kept};
 

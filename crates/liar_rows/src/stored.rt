@@ -1,6 +1,6 @@
 // The stores of which a forgery is shown.
 ghost use Rattle.std.specs.Prelude.{◌≡◌};
-ghost use Rattle.hail_records.specs.Journal.{text};
+ghost use Rattle.record_defs.specs.Journal.{text};
 ghost use Rattle.liar_rows.specs.Stored.{setup_numbers, stored_bytes, records_of};
 
 /// A store after an `init` and a `put a`. The bytes of the master key are 0 to 31.
@@ -14,7 +14,7 @@ pub enum Stored {
 
 impl Stored {
     /// The whole journal.
-    #[tactic(auto, unfolding(hail_records::specs::Spellings::spelling))]
+    #[tactic(auto, unfolding(record_defs::specs::Spellings::spelling))]
     pub fn journal(self) -> &'static [u8]
         ensures { result.now ≡ text (records_of self) }
     {

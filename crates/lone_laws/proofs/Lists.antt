@@ -1,9 +1,9 @@
 -- First parts of lists, and actions that were made one after the other.
 use Rattle.std.proofs.Common.{◌≡◌, ℕ, zero, suc, ◌+◌, List, [], ◌∷◌, ◌++◌, length, take, Some, None, refl, ap, subst, ◌∙◌, arith}
 use Rattle.std.specs.Prelude.{slice_get}
-use Rattle.hail_devices.specs.Providers.{Provider}
-use Rattle.hail_machine.specs.Jobs.{Given}
-use Rattle.hail_machine.specs.Actions.{Action}
+use Rattle.device_defs.specs.Providers.{Provider}
+use Rattle.machine_defs.specs.Jobs.{Given}
+use Rattle.machine_defs.specs.Actions.{Action}
 use Rattle.lone_laws.specs.Made.{With, Did, Made}
 
 pub take-more : {X : Type 0} (xs : List X) (p : ℕ) (x : X) → slice_get xs p ≡ Some x → take (p + 1) xs ≡ take p xs ++ x ∷ []

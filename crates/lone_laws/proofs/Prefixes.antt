@@ -3,18 +3,18 @@ use Rattle.std.proofs.Common.{◌≡◌, ℕ, zero, suc, ◌+◌, ◌-◌, ◌<�
 use Rattle.std.specs.Prelude.{slice_get}
 use Rattle.std.proofs.Math.Seq.{drop-append-add}
 use Rattle.std.proofs.lemmas.Bool.{cases_lt}
-use Rattle.hail_records.specs.Records.{Setup}
-use Rattle.hail_records.specs.Table.{version_of}
-use Rattle.hail_machine.specs.Jobs.{Kind, PutJob, GetJob, DropJob, AuditJob, RepairJob, UpgradeJob, aim_of, Job}
-use Rattle.hail_machine.specs.Actions.{Action, SyncBody, WriteGate, SyncGate, End, append_actions, store_actions, ask_actions, repair_actions, actions_by, actions_of, appends_left}
-use Rattle.hail_machine.specs.States.{State, setup_in}
-use Rattle.hail_machine.specs.Space.{append_sizes}
-use Rattle.hail_machine.specs.Steps.{next_action}
-use Rattle.hail_machine.proofs.ActionLists.{split_get}
-use Rattle.hail_machine.proofs.Fair.{gate_place}
-use Rattle.hail_machine.proofs.NextActions.{next_stands}
-use Rattle.sound_states.proofs.Orders.{others-repairs, put_rest, drop_rest, audit_rest, put-list, audit-list, appends_in, appends-append, appends-move, appends-others, appends-removals, put-first, audit-first, get-none}
-use Rattle.sound_states.proofs.Gates.{decided, drop-list, drop-gate, audit-same, repair-same, upgrade-same}
+use Rattle.record_defs.specs.Records.{Setup}
+use Rattle.record_defs.specs.Table.{version_of}
+use Rattle.machine_defs.specs.Jobs.{Kind, PutJob, GetJob, DropJob, AuditJob, RepairJob, UpgradeJob, aim_of, Job}
+use Rattle.machine_defs.specs.Actions.{Action, SyncBody, WriteGate, SyncGate, End, append_actions, store_actions, ask_actions, repair_actions, actions_by, actions_of, appends_left}
+use Rattle.machine_defs.specs.States.{State, setup_in}
+use Rattle.machine_defs.specs.Space.{append_sizes}
+use Rattle.machine_defs.specs.Steps.{next_action}
+use Rattle.machine_defs.proofs.ActionLists.{split_get}
+use Rattle.machine_defs.proofs.Fair.{gate_place}
+use Rattle.machine_defs.proofs.NextActions.{next_stands}
+use Rattle.state_laws.proofs.Orders.{others-repairs, put_rest, drop_rest, audit_rest, put-list, audit-list, appends_in, appends-append, appends-move, appends-others, appends-removals, put-first, audit-first, get-none}
+use Rattle.state_laws.proofs.Gates.{decided, drop-list, drop-gate, audit-same, repair-same, upgrade-same}
 use Rattle.lone_laws.proofs.Lists.{take-append-add}
 
 -- behind the second append of a put nothing of the part before depends on what is taken away

@@ -3,46 +3,46 @@ use Rattle.std.proofs.Common.{◌≡◌, ℕ, ◌+◌, ◌<◌, ◌≤◌, ◌==
 use Rattle.std.specs.Prelude.{slice_get}
 use Rattle.std.specs.List.{list_any}
 use Rattle.std.proofs.lemmas.Bool.{cases_lt, cases_eq, eq-eqb}
-use Rattle.plain_facts.proofs.Options.{some-not-none}
-use Rattle.hail_columns.specs.Objects.{Object}
-use Rattle.hail_columns.specs.Challenges.{honest_answer}
-use Rattle.hail_columns.specs.Columns.{columns, column_of_symbols}
-use Rattle.hail_columns.specs.Opened.{GivesSymbols}
-use Rattle.hail_columns.specs.Verdicts.{Sums}
-use Rattle.hail_records.specs.Records.{Setup, Record, PutStart, AuditStart, AuditDone, RepairDone}
-use Rattle.hail_records.specs.Table.{File, version_of, next_id, next_audit, file_of}
-use Rattle.hail_devices.specs.Providers.{Provider}
-use Rattle.hail_devices.specs.ProviderCalls.{Stores, Fetches, Asks}
-use Rattle.hail_machine.specs.Jobs.{Kind, PutJob, GetJob, DropJob, AuditJob, RepairJob, UpgradeJob, Pinned, Given, Fetched, Answered, Worked, Job, job_of, with_job, advanced}
-use Rattle.hail_machine.specs.Setups.{profiled, object_of}
-use Rattle.hail_machine.specs.Actions.{Action, WriteBody, SyncBody, WriteGate, SyncGate, Store, Fetch, Ask, Work, Remove, End, append_actions, ends_append, actions_of, appends_left}
-use Rattle.hail_machine.specs.Audits.{challenge_in, asked_challenge, HasSums}
-use Rattle.hail_machine.specs.Given.{blocks_given, symbols_given, pinned_size, pinned_profile}
-use Rattle.hail_machine.specs.Answers as answer
-use Rattle.hail_machine.specs.Events.{Step, Begun, More, Ended, Waiting, IsSpelledKind, Outcome}
-use Rattle.hail_machine.specs.States.{State, Append, Doubt, Alone, worked_object, setup_in, file_in, with_provider, going_on}
-use Rattle.hail_machine.specs.Begins.{Begins, BeginsAt, pinned_for, chosen, beginning, new_job}
-use Rattle.hail_machine.specs.Appends.{Writes, done_record, is_pinned, removable, taken_out, subject_drawn, is_first_append, begun_append, done_append, Moves}
-use Rattle.hail_machine.specs.Steps.{block_to_store, next_action, holder_of, Acts, ActsOrWaits, StepsOn, StepsJob, StepsOne, StepsOpen, Steps}
-use Rattle.hail_machine.specs.Machine.{Happens}
-use Rattle.hail_machine.proofs.JobLists.{cond_true, cond_false, same_value, found_none}
-use Rattle.hail_machine.proofs.Numbers.{next_by, next_is_by, first_above, first_below, drawn_later}
-use Rattle.hail_machine.proofs.PinFacts.{setup_same}
-use Rattle.hail_machine.proofs.NextActions.{next_stands}
-use Rattle.sound_states.specs.Sound.{IsSound}
-use Rattle.sound_states.proofs.Orders.{gates, body-within, put_rest, audit_rest, put-list, audit-list, put-first, put-later, audit-first, audit-later, drop-first, repair-first, upgrade-first}
-use Rattle.sound_states.proofs.Records.{setup-more}
-use Rattle.sound_states.proofs.Written.{body-left}
-use Rattle.sound_states.proofs.Moves.{body-order}
-use Rattle.sound_states.proofs.Gates.{decided}
-use Rattle.sound_states.proofs.Done.{done-writes, one-less}
-use Rattle.sound_states.proofs.Rooms.{put-writes_first, put-writes_later, audit-writes_first, audit-writes_later}
-use Rattle.sound_states.proofs.Going.{onward, actions-onward, count-onward}
-use Rattle.sound_states.proofs.Begun.{begun-job}
-use Rattle.sound_states.proofs.Resting.{rest-sound}
-use Rattle.sound_states.proofs.Events.{events-sound}
+use Rattle.plain_laws.proofs.Options.{some-not-none}
+use Rattle.column_defs.specs.Objects.{Object}
+use Rattle.column_defs.specs.Challenges.{honest_answer}
+use Rattle.column_defs.specs.Columns.{columns, column_of_symbols}
+use Rattle.column_defs.specs.Opened.{GivesSymbols}
+use Rattle.column_defs.specs.Verdicts.{Sums}
+use Rattle.record_defs.specs.Records.{Setup, Record, PutStart, AuditStart, AuditDone, RepairDone}
+use Rattle.record_defs.specs.Table.{File, version_of, next_id, next_audit, file_of}
+use Rattle.device_defs.specs.Providers.{Provider}
+use Rattle.device_defs.specs.ProviderCalls.{Stores, Fetches, Asks}
+use Rattle.machine_defs.specs.Jobs.{Kind, PutJob, GetJob, DropJob, AuditJob, RepairJob, UpgradeJob, Pinned, Given, Fetched, Answered, Worked, Job, job_of, with_job, advanced}
+use Rattle.machine_defs.specs.Setups.{profiled, object_of}
+use Rattle.machine_defs.specs.Actions.{Action, WriteBody, SyncBody, WriteGate, SyncGate, Store, Fetch, Ask, Work, Remove, End, append_actions, ends_append, actions_of, appends_left}
+use Rattle.machine_defs.specs.Audits.{challenge_in, asked_challenge, HasSums}
+use Rattle.machine_defs.specs.Given.{blocks_given, symbols_given, pinned_size, pinned_profile}
+use Rattle.machine_defs.specs.Answers as answer
+use Rattle.machine_defs.specs.Events.{Step, Begun, More, Ended, Waiting, IsSpelledKind, Outcome}
+use Rattle.machine_defs.specs.States.{State, Append, Doubt, Alone, worked_object, setup_in, file_in, with_provider, going_on}
+use Rattle.machine_defs.specs.Begins.{Begins, BeginsAt, pinned_for, chosen, beginning, new_job}
+use Rattle.machine_defs.specs.Appends.{Writes, done_record, is_pinned, removable, taken_out, subject_drawn, is_first_append, begun_append, done_append, Moves}
+use Rattle.machine_defs.specs.Steps.{block_to_store, next_action, holder_of, Acts, ActsOrWaits, StepsOn, StepsJob, StepsOne, StepsOpen, Steps}
+use Rattle.machine_defs.specs.Machine.{Happens}
+use Rattle.machine_defs.proofs.JobLists.{cond_true, cond_false, same_value, found_none}
+use Rattle.machine_defs.proofs.Numbers.{next_by, next_is_by, first_above, first_below, drawn_later}
+use Rattle.machine_defs.proofs.PinFacts.{setup_same}
+use Rattle.machine_defs.proofs.NextActions.{next_stands}
+use Rattle.state_laws.specs.Sound.{IsSound}
+use Rattle.state_laws.proofs.Orders.{gates, body-within, put_rest, audit_rest, put-list, audit-list, put-first, put-later, audit-first, audit-later, drop-first, repair-first, upgrade-first}
+use Rattle.state_laws.proofs.Records.{setup-more}
+use Rattle.state_laws.proofs.Written.{body-left}
+use Rattle.state_laws.proofs.Moves.{body-order}
+use Rattle.state_laws.proofs.Gates.{decided}
+use Rattle.state_laws.proofs.Done.{done-writes, one-less}
+use Rattle.state_laws.proofs.Rooms.{put-writes_first, put-writes_later, audit-writes_first, audit-writes_later}
+use Rattle.state_laws.proofs.Going.{onward, actions-onward, count-onward}
+use Rattle.state_laws.proofs.Begun.{begun-job}
+use Rattle.state_laws.proofs.Resting.{rest-sound}
+use Rattle.state_laws.proofs.Events.{events-sound}
 use Rattle.lone_laws.specs.Made.{object_made, block_stored, challenge_made, Did, Made}
-use Rattle.hail_openings.specs.Opened.{IsOpenAtRest}
+use Rattle.opening_defs.specs.Opened.{IsOpenAtRest}
 use Rattle.lone_laws.specs.Walked.{appends_of, first_record, IsSecondRecord, HasSubject, RecordsAre, with_job_at, TakesAway, WalkedAt, Walked}
 use Rattle.lone_laws.proofs.Lists.{take-more, made-append, made-one}
 use Rattle.lone_laws.proofs.Prefixes.{same-front, appends-whole, audit-over}

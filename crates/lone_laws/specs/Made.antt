@@ -13,18 +13,18 @@
 --                                          before and after it
 --   Made x actions old new given now      == these actions went on, one after the other, the first one first
 use Rattle.std.specs.Prelude.{◌≡◌, ℕ, List, [], ◌∷◌, Option}
-use Rattle.hail_columns.specs.Objects.{Object}
-use Rattle.hail_columns.specs.Challenges.{Challenge, challenge_of, honest_answer}
-use Rattle.hail_columns.specs.Columns.{columns, column_of_symbols}
-use Rattle.hail_columns.specs.Opened.{GivesSymbols}
-use Rattle.hail_records.specs.Records.{Setup}
-use Rattle.hail_devices.specs.Providers.{Provider}
-use Rattle.hail_devices.specs.ProviderCalls.{Stores, Fetches, Asks, Removes}
-use Rattle.hail_machine.specs.Jobs.{Kind, PutJob, Pinned, Given, Fetched, Answered, Worked}
-use Rattle.hail_machine.specs.Setups.{profiled, object_of}
-use Rattle.hail_machine.specs.Actions.{Action, Store, Fetch, Ask, Work, Remove}
-use Rattle.hail_machine.specs.States.{with_provider}
-use Rattle.hail_machine.specs.Given.{blocks_given, symbols_given, pinned_size, pinned_profile}
+use Rattle.column_defs.specs.Objects.{Object}
+use Rattle.column_defs.specs.Challenges.{Challenge, challenge_of, honest_answer}
+use Rattle.column_defs.specs.Columns.{columns, column_of_symbols}
+use Rattle.column_defs.specs.Opened.{GivesSymbols}
+use Rattle.record_defs.specs.Records.{Setup}
+use Rattle.device_defs.specs.Providers.{Provider}
+use Rattle.device_defs.specs.ProviderCalls.{Stores, Fetches, Asks, Removes}
+use Rattle.machine_defs.specs.Jobs.{Kind, PutJob, Pinned, Given, Fetched, Answered, Worked}
+use Rattle.machine_defs.specs.Setups.{profiled, object_of}
+use Rattle.machine_defs.specs.Actions.{Action, Store, Fetch, Ask, Work, Remove}
+use Rattle.machine_defs.specs.States.{with_provider}
+use Rattle.machine_defs.specs.Given.{blocks_given, symbols_given, pinned_size, pinned_profile}
 
 -- what the actions of a job are made with
 pub record With : Type 0 where

@@ -15,17 +15,17 @@
 --                               on, since the job began in `start`, with this profile
 --   Walked start kind w job  == the same of a job with the setup's profile
 use Rattle.std.specs.Prelude.{◌≡◌, ℕ, ◌+◌, ◌≤◌, true, false, List, [], ◌∷◌, length, take}
-use Rattle.hail_columns.specs.Verdicts.{Sums}
-use Rattle.hail_records.specs.Records.{Record, PutStart, Drop, AuditStart, AuditDone, RepairDone, Version}
-use Rattle.hail_records.specs.Table.{version_of, next_id, next_audit, due_of}
-use Rattle.hail_machine.specs.Jobs.{Kind, PutJob, DropJob, AuditJob, RepairJob, UpgradeJob, aim_of, Job}
-use Rattle.hail_machine.specs.Actions.{actions_of, appends_left}
-use Rattle.hail_machine.specs.States.{State, setup_in, file_in}
-use Rattle.hail_machine.specs.Space.{append_sizes}
-use Rattle.hail_machine.specs.Begins.{due_number, due_flags, pinned_for}
-use Rattle.hail_machine.specs.Audits.{HasSums}
-use Rattle.hail_machine.specs.Appends.{done_record, removable}
-use Rattle.sound_states.specs.Sound.{IsSound}
+use Rattle.column_defs.specs.Verdicts.{Sums}
+use Rattle.record_defs.specs.Records.{Record, PutStart, Drop, AuditStart, AuditDone, RepairDone, Version}
+use Rattle.record_defs.specs.Table.{version_of, next_id, next_audit, due_of}
+use Rattle.machine_defs.specs.Jobs.{Kind, PutJob, DropJob, AuditJob, RepairJob, UpgradeJob, aim_of, Job}
+use Rattle.machine_defs.specs.Actions.{actions_of, appends_left}
+use Rattle.machine_defs.specs.States.{State, setup_in, file_in}
+use Rattle.machine_defs.specs.Space.{append_sizes}
+use Rattle.machine_defs.specs.Begins.{due_number, due_flags, pinned_for}
+use Rattle.machine_defs.specs.Audits.{HasSums}
+use Rattle.machine_defs.specs.Appends.{done_record, removable}
+use Rattle.state_laws.specs.Sound.{IsSound}
 use Rattle.lone_laws.specs.Made.{With, Made}
 
 -- how many records a job of this kind appends

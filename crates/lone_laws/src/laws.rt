@@ -1,14 +1,14 @@
 //! A job that runs alone: its begin, its steps, and its last one.
 ghost use Rattle.std.specs.Prelude.{◌≡◌, ℕ, Some, None};
-ghost use Rattle.hail_machine.specs.Jobs.{Kind, Job, job_of};
-ghost use Rattle.hail_machine.specs.Actions.{Action};
-ghost use Rattle.hail_machine.specs.Answers.{Answer};
-ghost use Rattle.hail_machine.specs.Events.{Step, Begun, More, Ended, IsSpelledKind};
-ghost use Rattle.hail_machine.specs.States.{State};
-ghost use Rattle.hail_machine.specs.Begins.{Begins};
-ghost use Rattle.hail_machine.specs.Steps.{next_action, holder_of, Acts};
-ghost use Rattle.hail_machine.specs.Machine.{Happens};
-ghost use Rattle.hail_openings.specs.Opened.{IsOpenAtRest};
+ghost use Rattle.machine_defs.specs.Jobs.{Kind, Job, job_of};
+ghost use Rattle.machine_defs.specs.Actions.{Action};
+ghost use Rattle.machine_defs.specs.Answers.{Answer};
+ghost use Rattle.machine_defs.specs.Events.{Step, Begun, More, Ended, IsSpelledKind};
+ghost use Rattle.machine_defs.specs.States.{State};
+ghost use Rattle.machine_defs.specs.Begins.{Begins};
+ghost use Rattle.machine_defs.specs.Steps.{next_action, holder_of, Acts};
+ghost use Rattle.machine_defs.specs.Machine.{Happens};
+ghost use Rattle.opening_defs.specs.Opened.{IsOpenAtRest};
 ghost use Rattle.lone_laws.specs.Walked.{WalkedAt, Walked};
 
 /// A job that begins in a state whose vault was just opened has made no step.

@@ -2,7 +2,7 @@ pub mod Turns
 pub mod Quiet
 pub mod Scrubbing
 pub mod Blocks
-pub mod Places
+pub mod MovePlaces
 pub mod Files
 pub mod EveryRun
 pub mod Points

@@ -1,27 +1,27 @@
 //! Laws over runs on what providers hold since a mark, and the second half of the main theorem.
 ghost use Rattle.std.specs.Prelude.{◌≡◌, ◌⊎◌, ℕ, ◌<◌, ◌≤◌, true, false, List, ◌∷◌, length, Option, Some, None};
 ghost use Rattle.std.specs.List.{Contains};
-ghost use Rattle.hail_columns.specs.Objects.{stripes, symbols_in};
-ghost use Rattle.hail_columns.specs.Columns.{columns, is_wrong_block};
-ghost use Rattle.hail_columns.specs.Verdicts.{is_flagged};
-ghost use Rattle.hail_records.specs.Records.{Record, AuditDone, RepairDone};
-ghost use Rattle.hail_records.specs.Table.{File, Due, due_of};
-ghost use Rattle.hail_machine.specs.Jobs.{PutJob, GetJob, AuditJob, RepairJob, Pinned, Fetched, Worked, Job, job_of};
-ghost use Rattle.hail_machine.specs.Answers.{Answer};
-ghost use Rattle.hail_machine.specs.Events.{Step, Ended};
-ghost use Rattle.hail_machine.specs.Heard.{heard_by, HoldsForgery};
-ghost use Rattle.hail_machine.specs.States.{State, Doubt, IsStart, setup_in, object_in, file_object, pinned_object, worked_object, file_in};
-ghost use Rattle.hail_machine.specs.Appends.{done_record};
-ghost use Rattle.hail_machine.specs.Runs.{Moment, IsRun, now, first_moments, is_replaced_since, came};
-ghost use Rattle.hail_machine.specs.Calm.{Mark, since, relies, IsCalm};
-ghost use Rattle.hail_machine.specs.Missed.{is_wrong_now};
-ghost use Rattle.hail_machine.specs.Scrubs.{scrubbed, AreScrubsCalm, IsScrubCalm};
-ghost use Rattle.hail_machine.specs.Halves.{begun_of, AllTell, SecondHalf, SecondHalfHolds};
-ghost use Rattle.hail_machine.specs.Deeds.{told_block, HasMadeStore};
-ghost use Rattle.mark_laws.specs.Damage.{IsBad, IsReplaced, RoseSince};
-ghost use Rattle.mark_laws.specs.Marks.{WasWrong, Remains, IsEndOfPut, PrecedesPuts, IsMark};
-ghost use Rattle.mark_laws.specs.MarkedRuns.{BeginsNoScrub, IsMarkedRun, IsCalmRun};
-ghost use Rattle.mark_laws.specs.Sharp.{GivesOrIsLost};
+ghost use Rattle.column_defs.specs.Objects.{stripes, symbols_in};
+ghost use Rattle.column_defs.specs.Columns.{columns, is_wrong_block};
+ghost use Rattle.column_defs.specs.Verdicts.{is_flagged};
+ghost use Rattle.record_defs.specs.Records.{Record, AuditDone, RepairDone};
+ghost use Rattle.record_defs.specs.Table.{File, Due, due_of};
+ghost use Rattle.machine_defs.specs.Jobs.{PutJob, GetJob, AuditJob, RepairJob, Pinned, Fetched, Worked, Job, job_of};
+ghost use Rattle.machine_defs.specs.Answers.{Answer};
+ghost use Rattle.machine_defs.specs.Events.{Step, Ended};
+ghost use Rattle.machine_defs.specs.Heard.{heard_by, HoldsForgery};
+ghost use Rattle.machine_defs.specs.States.{State, Doubt, IsStart, setup_in, object_in, file_object, pinned_object, worked_object, file_in};
+ghost use Rattle.machine_defs.specs.Appends.{done_record};
+ghost use Rattle.machine_defs.specs.Runs.{Moment, IsRun, now, first_moments, is_replaced_since, came};
+ghost use Rattle.machine_defs.specs.Calm.{Mark, since, relies, IsCalm};
+ghost use Rattle.machine_defs.specs.Missed.{is_wrong_now};
+ghost use Rattle.machine_defs.specs.Scrubs.{scrubbed, AreScrubsCalm, IsScrubCalm};
+ghost use Rattle.machine_defs.specs.Halves.{begun_of, AllTell, SecondHalf, SecondHalfHolds};
+ghost use Rattle.machine_defs.specs.Deeds.{told_block, HasMadeStore};
+ghost use Rattle.second_half_laws.specs.Damage.{IsBad, IsReplaced, RoseSince};
+ghost use Rattle.second_half_laws.specs.Marks.{WasWrong, Remains, IsEndOfPut, PrecedesPuts, IsMark};
+ghost use Rattle.second_half_laws.specs.MarkedRuns.{BeginsNoScrub, IsMarkedRun, IsCalmRun};
+ghost use Rattle.second_half_laws.specs.Sharp.{GivesOrIsLost};
 
 /// The second half of the main theorem: in every calm run, with calm scrubs, in which no audit missed damage, of providers that tell what
 /// they hold, every

@@ -4,8 +4,8 @@ use Rattle.std.proofs.Common.{ap, sym, ◌∙◌, refl, arith, take, set}
 use Rattle.std.proofs.lemmas.List.{take_more_set}
 use Rattle.std.proofs.lemmas.List.FromFn.{map-range_with_len_more}
 use Rattle.rand_chacha.specs.ChaCha.{ChaCha, of_seed}
-use Rattle.hail_columns.specs.Keys.{mask_of, masks_from, stream_symbol}
-use Rattle.hail_columns.specs.Generator.{next_symbol, moved_on}
+use Rattle.column_defs.specs.Keys.{mask_of, masks_from, stream_symbol}
+use Rattle.column_defs.specs.Generator.{next_symbol, moved_on}
 
 -- the generator under a key at the masks of a row
 abbrev pub at_row : List ℕ → ℕ → ChaCha

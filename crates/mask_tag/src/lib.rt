@@ -2,8 +2,8 @@
 #![tactic(auto)]
 
 ghost use Rattle.std.specs.Prelude.{◌≡◌, ◌≤◌, ◌*◌, ◌+◌, ◌^◌, ◌<◌, length};
-ghost use Rattle.hail_columns.specs.Keys.{mask_of, masks_from};
-ghost use Rattle.hail_columns.specs.Generator.{next_symbol, moved_on};
+ghost use Rattle.column_defs.specs.Keys.{mask_of, masks_from};
+ghost use Rattle.column_defs.specs.Generator.{next_symbol, moved_on};
 
 use hail_field::Symbol;
 use rand_chacha::ChaCha20Rng;
@@ -33,7 +33,7 @@ fn next_symbol(rng: &mut ChaCha20Rng) -> Symbol
 
 /// The mask of a row: the symbol of the words `4 * row` to `4 * row + 3` of stream 0 of ChaCha20 (RFC 8439) under the
 /// key of a provider's masks, the first word lowest.
-#[tactic(auto, unfolding(hail_columns::specs::Keys::stream_symbol))]
+#[tactic(auto, unfolding(column_defs::specs::Keys::stream_symbol))]
 pub fn mask(key: &[u8; 32], row: u64) -> Symbol
     ensures { result ≡ mask_of key.now row }
 {
@@ -43,7 +43,7 @@ pub fn mask(key: &[u8; 32], row: u64) -> Symbol
 }
 
 /// Fills `out`, at most 128 symbols, with the masks of a stripe's rows, which are those from `stripe * out.len()` on.
-#[tactic(auto, unfolding(hail_columns::specs::Keys::stream_symbol))]
+#[tactic(auto, unfolding(column_defs::specs::Keys::stream_symbol))]
 pub fn mask_block(key: &[u8; 32], stripe: u32, out: &mut [Symbol])
     requires { length out.old ≤ 128 }
     ensures { out.new ≡ masks_from key.now (stripe * length out.old) (length out.old) }

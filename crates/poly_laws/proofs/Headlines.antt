@@ -1,6 +1,6 @@
 -- The theorems of the laws, from the lemmas.
 use Rattle.std.proofs.Common.{◌≡◌, ◌≢◌, ◌≤◌, ◌+◌, ◌*◌, ℕ, ◌∙◌, arith, List, [], ◌∷◌, length, Option, Some, None, get_or}
-use Rattle.plain_facts.specs.Lists.{Each}
+use Rattle.plain_laws.specs.Lists.{Each}
 use Rattle.field_laws.specs.Field.{FieldOf, IsField, Apart, IsEndless}
 use Rattle.poly_laws.specs.Poly.{value, vanish, interpolate, Takes, agree, present, trim, quotient, remainder, FirstRow}
 use Rattle.poly_laws.specs.Rows.{IsKeyEquation}

@@ -1,6 +1,6 @@
 -- What is zero at points is a multiple of the product of all x + point.
 use Rattle.std.proofs.Common.{◌≡◌, sym, ◌∙◌, ap, refl, List, [], ◌∷◌}
-use Rattle.plain_facts.specs.Lists.{Each}
+use Rattle.plain_laws.specs.Lists.{Each}
 use Rattle.field_laws.specs.Field.{FieldOf, IsField, Apart}
 use Rattle.field_laws.proofs.Ring.{zero_mul}
 use Rattle.field_laws.proofs.Solve.{v, o, i, ◌⊞◌, ◌⊡◌, solve}

@@ -1,6 +1,6 @@
 -- What the rows of Euclid's algorithm on the product of all x + point and the interpolating polynomial are.
 use Rattle.std.proofs.Common.{◌≡◌, ◌≤◌, ◌+◌, ℕ, List, [], ◌∷◌, length}
-use Rattle.plain_facts.specs.Lists.{Each}
+use Rattle.plain_laws.specs.Lists.{Each}
 use Rattle.field_laws.specs.Field.{FieldOf}
 use Rattle.poly_laws.specs.Poly.{value, vanish, interpolate}
 

@@ -3,7 +3,7 @@ use Rattle.std.proofs.Common.{◌≡◌, ◌↔◌, ℕ, Bool, true, false, List
 use Rattle.std.specs.Prelude.{IsTrue, ◌==◌, if◌then◌else◌}
 use Rattle.std.proofs.lemmas.Bool.Decides.{nat_tests}
 use Rattle.std.proofs.lemmas.Bool.{eq-eqb}
-use Rattle.hail_devices.specs.Providers.{HasSize, sized}
+use Rattle.device_defs.specs.Providers.{HasSize, sized}
 
 unequal : (a b : ℕ) → (a ≡ b → ⊥) → (a == b) ≡ false
 unequal a b is = grind (arith, nat_tests)

@@ -9,7 +9,7 @@ use Rattle.std.specs.Map.{lookup}
 use Rattle.std.specs.List.{filter}
 use Rattle.std.proofs.lemmas.Bool.Decides.{nat_tests}
 use Rattle.std.proofs.lemmas.Map.Entries.{lookup-filter-keys}
-use Rattle.hail_devices.specs.Providers.{Held, with_block, without_block, without_object, with_symbol}
+use Rattle.device_defs.specs.Providers.{Held, with_block, without_block, without_object, with_symbol}
 use Rattle.provider_model.specs.HeldBlocks.{place_cmp}
 
 same_number : (a b : ℕ) → is_eq (nat_cmp a b) ≡ (b == a)

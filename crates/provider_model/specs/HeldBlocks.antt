@@ -5,7 +5,7 @@ use Rattle.std.specs.Ordering.{nat_cmp, ordering_then}
 use Rattle.std.specs.declared.cmp.Ordering.{Ordering}
 use Rattle.std.specs.BTreeMap.{get}
 use Rattle.provider_model.specs.declared.held.HeldBlocks.{HeldBlocks}
-use Rattle.hail_devices.specs.Providers.{Held}
+use Rattle.device_defs.specs.Providers.{Held}
 
 -- the order of the keys: by object, and then by stripe
 abbrev pub place_cmp : ℕ × ℕ → ℕ × ℕ → Ordering

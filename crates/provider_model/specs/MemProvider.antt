@@ -1,7 +1,7 @@
 -- The provider in memory, of whose calls those fail that are listed.
 use Rattle.std.specs.Prelude.{ℕ}
-use Rattle.hail_devices.specs.Calls.{CallCount}
-use Rattle.hail_devices.specs.Providers.{Held}
+use Rattle.device_defs.specs.Calls.{CallCount}
+use Rattle.device_defs.specs.Providers.{Held}
 use Rattle.provider_model.specs.HeldBlocks.{blocks_of}
 use Rattle.provider_model.specs.declared.memory.MemProvider.{MemProvider}
 

@@ -4,8 +4,8 @@
 --                               counts
 --   StoresAs object stripe block result old new == a call of a provider's store that came to this
 use Rattle.std.specs.Prelude.{ℕ, List, Result, Ok, Err}
-use Rattle.hail_devices.specs.Providers.{Provider}
-use Rattle.hail_devices.specs.ProviderCalls.{Stores, FailsToStore, FindsNoMemory}
+use Rattle.device_defs.specs.Providers.{Provider}
+use Rattle.device_defs.specs.ProviderCalls.{Stores, FailsToStore, FindsNoMemory}
 use Rattle.provider_model.specs.declared.provider.Provider.{Ghosts}
 use Rattle.provider_model.specs.declared.fault.StoreFault.{StoreFault}
 use Rattle.provider_model.specs.declared.fault.StoreFault.TheVariants as store_fault

@@ -1,6 +1,6 @@
 -- The provider in memory that never fails.
 use Rattle.std.specs.Prelude.{ℕ}
-use Rattle.hail_devices.specs.Providers.{Held}
+use Rattle.device_defs.specs.Providers.{Held}
 use Rattle.provider_model.specs.HeldBlocks.{blocks_of}
 use Rattle.provider_model.specs.declared.sure.SureProvider.{SureProvider}
 

@@ -1,11 +1,11 @@
 ghost use Rattle.std.specs.Prelude.{◌≡◌, ◌↔◌, ◌≤◌, ℕ, Option, Some, false, length, IfOk, OnOk, OnErr, IsErr, IsErrOf, IsSome, IsTrue, IfSome, if◌then◌else◌};
 ghost use Rattle.std.specs.Option.{option_map};
 ghost use Rattle.provider_model.specs.declared.fault.StoreFault.TheVariants as store_fault;
-ghost use Rattle.hail_columns.specs.Challenges.{honest_answer};
+ghost use Rattle.column_defs.specs.Challenges.{honest_answer};
 ghost use Rattle.challenge.specs.Asked.{asked};
-ghost use Rattle.hail_devices.specs.Faults.{HasCause, one_more};
-ghost use Rattle.hail_devices.specs.Told.{Goes};
-ghost use Rattle.hail_devices.specs.Providers.{Held, with_block, without_block, without_object, with_symbol, HasSize, HasPlace, LosesPart};
+ghost use Rattle.device_defs.specs.Faults.{HasCause, one_more};
+ghost use Rattle.device_defs.specs.Told.{Goes};
+ghost use Rattle.device_defs.specs.Providers.{Held, with_block, without_block, without_object, with_symbol, HasSize, HasPlace, LosesPart};
 
 use crate::fault::StoreFault;
 use challenge::Challenge;

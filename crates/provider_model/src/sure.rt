@@ -1,9 +1,9 @@
 ghost use Rattle.std.specs.Prelude.{◌≡◌, ◌↔◌, ◌≤◌, None, Some, false, length, option_copied, IfOk, IfErr, OnOk, OnErr, IsOk, IsTrue, IsSome, if◌then◌else◌};
 ghost use Rattle.provider_model.specs.declared.fault.StoreFault.TheVariants as store_fault;
-ghost use Rattle.hail_columns.specs.Challenges.{honest_answer};
+ghost use Rattle.column_defs.specs.Challenges.{honest_answer};
 ghost use Rattle.challenge.specs.Asked.{asked};
-ghost use Rattle.hail_devices.specs.Faults.{one_more};
-ghost use Rattle.hail_devices.specs.Providers.{with_block, without_block, without_object, with_symbol, HasSize, HasPlace};
+ghost use Rattle.device_defs.specs.Faults.{one_more};
+ghost use Rattle.device_defs.specs.Providers.{with_block, without_block, without_object, with_symbol, HasSize, HasPlace};
 
 use crate::fault::StoreFault;
 use crate::held::HeldBlocks;

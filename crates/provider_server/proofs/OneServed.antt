@@ -5,14 +5,14 @@ use Rattle.std.specs.Option.{option_map}
 use Rattle.std.proofs.lemmas.Bool.{cases_lt}
 use Rattle.std.proofs.lemmas.Option.{slice_get-map, slice_get_within}
 use Rattle.std.proofs.lemmas.List.{length-set, length-map}
-use Rattle.plain_facts.proofs.Lists.{get-set_there, get-set_other}
-use Rattle.hail_devices.specs.Cells.{Cells}
-use Rattle.hail_devices.specs.Faults.{HasCause}
-use Rattle.hail_devices.specs.Providers.{Provider}
-use Rattle.hail_commands.specs.Seen.{NoCountFalls, nobody, provider_at, seen}
-use Rattle.hail_wire.specs.Serving.{End, SourceFailed, SinkFailed, HasServed}
-use Rattle.hail_wire.specs.Requests.{Request}
-use Rattle.hail_wire.specs.Replies.{Reply, Serves as ServesRequests}
+use Rattle.plain_laws.proofs.Lists.{get-set_there, get-set_other}
+use Rattle.device_defs.specs.Cells.{Cells}
+use Rattle.device_defs.specs.Faults.{HasCause}
+use Rattle.device_defs.specs.Providers.{Provider}
+use Rattle.command_defs.specs.Seen.{NoCountFalls, nobody, provider_at, seen}
+use Rattle.wire_defs.specs.Serving.{End, SourceFailed, SinkFailed, HasServed}
+use Rattle.wire_defs.specs.Requests.{Request}
+use Rattle.wire_defs.specs.Replies.{Reply, Serves as ServesRequests}
 use Rattle.provider_wire.specs.Ends.{end_of}
 use Rattle.provider_wire.specs.declared.end.ServeEnd.{ServeEnd}
 use Rattle.provider_wire.specs.declared.end.ServeEnd.TheVariants as serve_end

@@ -6,9 +6,9 @@
 --   AnswersServe number old new end == `serve`: 22 exactly where the provider was not handed in, unless
 --                                      there was no memory for the words
 use Rattle.std.specs.Prelude.{◌≡◌, ◌≢◌, ℕ, ◌<◌, ◌≤◌, List, [], length}
-use Rattle.hail_devices.specs.Faults.{HasCause}
-use Rattle.hail_commands.specs.Seen.{Seen, Ending, provider_at}
-use Rattle.hail_wire.specs.Serving.{End, Finished, BadAt, TooMany, SourceFailed, SinkFailed, OutOfMemory, HasServed}
+use Rattle.device_defs.specs.Faults.{HasCause}
+use Rattle.command_defs.specs.Seen.{Seen, Ending, provider_at}
+use Rattle.wire_defs.specs.Serving.{End, Finished, BadAt, TooMany, SourceFailed, SinkFailed, OutOfMemory, HasServed}
 
 -- the status of a server's end
 abbrev pub served_status : End → ℕ

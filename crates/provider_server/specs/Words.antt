@@ -4,7 +4,7 @@
 use Rattle.std.specs.Prelude.{◌≡◌, ℕ, ◌<◌, List, [], ◌∷◌, codes, String}
 use Rattle.std.specs.String.{string_bytes}
 use Rattle.std.specs.declared.alloc.Global.{Global}
-use Rattle.hail_commands.specs.Words.{IsNumberWord}
+use Rattle.command_defs.specs.Words.{IsNumberWord}
 
 -- `serve` and the number of a provider
 abbrev pub IsServeForm : List (String Global) → ℕ → Type 0

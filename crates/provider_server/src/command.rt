@@ -1,6 +1,6 @@
 ghost use Rattle.std.specs.Prelude.{ℕ, Option, map};
-ghost use Rattle.hail_devices.specs.Cells.{Cells};
-ghost use Rattle.hail_commands.specs.Seen.{NoCountFalls, seen};
+ghost use Rattle.device_defs.specs.Cells.{Cells};
+ghost use Rattle.command_defs.specs.Seen.{NoCountFalls, seen};
 ghost use Rattle.provider_model.specs.Seen.{provider_seen};
 ghost use Rattle.provider_server.specs.Answers.{AnswersServe};
 ghost use Rattle.provider_server.specs.Statuses.{served_ending};

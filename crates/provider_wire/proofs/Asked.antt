@@ -2,12 +2,12 @@
 use Rattle.std.proofs.Common.{◌≡◌, ◌≢◌, ℕ, ◌*◌, Bool, true, false, List, [], ◌∷◌, length, Option, Some, None, refl, sym, ap, subst, ◌∙◌, arith}
 use Rattle.std.specs.Prelude.{◌==◌, if◌then◌else◌}
 use Rattle.std.proofs.lemmas.Bool.{eqb-true}
-use Rattle.hail_devices.specs.Told.{Goes}
-use Rattle.hail_devices.specs.Providers.{sized}
-use Rattle.hail_columns.proofs.SymbolBytes.{length-bytes_of_symbols}
-use Rattle.hail_wire.specs.Requests.{Request, Store, Fetch, Ask, Remove, SpellsRequest}
-use Rattle.hail_wire.specs.Replies.{Reply, Done, Found, Missing, Failed, NoMemory, AnswersRequest, reply_bytes}
-use Rattle.hail_wire.specs.Links.{Behind, Sends, provider_behind}
+use Rattle.device_defs.specs.Told.{Goes}
+use Rattle.device_defs.specs.Providers.{sized}
+use Rattle.column_defs.proofs.SymbolBytes.{length-bytes_of_symbols}
+use Rattle.wire_defs.specs.Requests.{Request, Store, Fetch, Ask, Remove, SpellsRequest}
+use Rattle.wire_defs.specs.Replies.{Reply, Done, Found, Missing, Failed, NoMemory, AnswersRequest, reply_bytes}
+use Rattle.wire_defs.specs.Links.{Behind, Sends, provider_behind}
 use Rattle.provider_wire.specs.Linked.{AskedFor, answer_size, first_byte_of, tail_of}
 
 -- an answer is its first byte and the bytes behind it

@@ -4,8 +4,8 @@ use Rattle.std.specs.Prelude.{◌&&◌, ◌||◌, not, nat_lt, nat_le, ◌==◌}
 use Rattle.std.specs.Int.{w64, to_le_bytes, from_le_bytes}
 use Rattle.std.proofs.lemmas.Bool.Decides.{nat_tests}
 use Rattle.std.proofs.lemmas.List.{take-append-le, drop-append-le, drop_at, get_or_append_left, get_or-append_right}
-use Rattle.hail_columns.specs.Challenges.{Challenge}
-use Rattle.hail_wire.specs.Requests.{Request, Store, Fetch, Ask, Remove, SpellsRequest, SpellsNoRequest, is_within, is_request, is_challenge, misses, number_misses, is_bad_request, request_bytes}
+use Rattle.column_defs.specs.Challenges.{Challenge}
+use Rattle.wire_defs.specs.Requests.{Request, Store, Fetch, Ask, Remove, SpellsRequest, SpellsNoRequest, is_within, is_request, is_challenge, misses, number_misses, is_bad_request, request_bytes}
 use Rattle.record_codec.proofs.Fields.{wide64}
 
 and_grows : (a b c d : Bool) → (a && b) ≡ true → (a ≡ true → c ≡ true) → (b ≡ true → d ≡ true) → (c && d) ≡ true

@@ -4,7 +4,7 @@ use Rattle.std.specs.Prelude.{not, min, IsSome}
 use Rattle.std.specs.Option.{option_eq}
 use Rattle.std.proofs.Common.{eqb}
 use Rattle.std.proofs.lemmas.Bool.Decides.{nat_tests}
-use Rattle.hail_devices.specs.Faults.{last_count, one_more}
+use Rattle.device_defs.specs.Faults.{last_count, one_more}
 use Rattle.provider_wire.specs.LinkProviders.{CountsFaults}
 
 pub one_more_is : (n : ℕ) → n < 2 ^ 64 → min (n + 1) last_count ≡ one_more n

@@ -2,12 +2,12 @@
 use Rattle.std.proofs.Common.{◌≡◌, ℕ, ◌+◌, ◌<◌, ◌≤◌, Bool, true, false, List, [], ◌∷◌, ◌++◌, Option, Some, None, refl, sym, ap, subst, ◌∙◌, arith, ◌⊎◌, inl, inr, ⊎_elim}
 use Rattle.std.specs.Prelude.{if◌then◌else◌}
 use Rattle.std.specs.Option.{option_map}
-use Rattle.hail_columns.specs.Challenges.{honest_answer}
-use Rattle.hail_devices.specs.Faults.{last_count, Rose}
-use Rattle.hail_devices.specs.Providers.{Held, Provider, sized, with_block, without_object}
-use Rattle.hail_devices.specs.ProviderCalls.{FetchGives, AskGives}
-use Rattle.hail_wire.specs.Requests.{Request, Store, Fetch, Ask, Remove}
-use Rattle.hail_wire.specs.Replies.{Reply, Done, Found, Missing, Failed, NoMemory, AnswersRequest, Serves, AreClean, is_failed, failed_count, found, reply_to, held_after, served, reply_bytes, replies_text}
+use Rattle.column_defs.specs.Challenges.{honest_answer}
+use Rattle.device_defs.specs.Faults.{last_count, Rose}
+use Rattle.device_defs.specs.Providers.{Held, Provider, sized, with_block, without_object}
+use Rattle.device_defs.specs.ProviderCalls.{FetchGives, AskGives}
+use Rattle.wire_defs.specs.Requests.{Request, Store, Fetch, Ask, Remove}
+use Rattle.wire_defs.specs.Replies.{Reply, Done, Found, Missing, Failed, NoMemory, AnswersRequest, Serves, AreClean, is_failed, failed_count, found, reply_to, held_after, served, reply_bytes, replies_text}
 
 -- the answer to one request
 answer_is : (r : Request) (a : Reply) (old new : Provider) (held : Held) → old.held ≡ Some held → AnswersRequest r old a new → AreClean (a ∷ []) → (a ≡ reply_to r held) × (new.held ≡ Some (held_after r held))

@@ -5,10 +5,10 @@ use Rattle.std.specs.Int.{w32, w64, to_le_bytes}
 use Rattle.std.specs.List.{list_all}
 use Rattle.std.proofs.lemmas.Bool.{lt-ltb}
 use Rattle.std.proofs.lemmas.Bool.Decides.{nat_tests}
-use Rattle.hail_columns.specs.Challenges.{Challenge}
-use Rattle.hail_columns.specs.Objects.{bytes_of_symbols}
-use Rattle.hail_devices.specs.Told.{IsByte}
-use Rattle.hail_wire.specs.Requests.{Request, Store, Fetch, Ask, Remove, SpellsRequest, request_bytes, place_bytes, block_bytes, challenge_bytes, is_within, is_block, is_challenge, is_request}
+use Rattle.column_defs.specs.Challenges.{Challenge}
+use Rattle.column_defs.specs.Objects.{bytes_of_symbols}
+use Rattle.device_defs.specs.Told.{IsByte}
+use Rattle.wire_defs.specs.Requests.{Request, Store, Fetch, Ask, Remove, SpellsRequest, request_bytes, place_bytes, block_bytes, challenge_bytes, is_within, is_block, is_challenge, is_request}
 
 pub all_below : (limit : ℕ) (xs : List ℕ) → All (λ x. x < limit) xs → list_all (λ x. nat_lt x limit) xs ≡ true
 all_below limit [] all = refl

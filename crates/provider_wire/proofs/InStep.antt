@@ -1,7 +1,7 @@
 -- A provider over a link stays in step where the link tells what is behind it.
 use Rattle.std.proofs.Common.{◌≡◌, ℕ, Bool, true, false, List, [], ◌∷◌, Option, Some, None, is_some, refl, sym, ap, subst, ◌∙◌}
-use Rattle.hail_wire.specs.Requests.{Request}
-use Rattle.hail_wire.specs.Links.{Behind}
+use Rattle.wire_defs.specs.Requests.{Request}
+use Rattle.wire_defs.specs.Links.{Behind}
 use Rattle.provider_wire.specs.Linked.{AskedFor, out_of_step}
 
 pub idle : (b : Behind) (behind : Option Behind) (broken : Bool) → behind ≡ Some b → out_of_step behind broken ≡ [] → (broken ≡ false) × (b.due ≡ [])

@@ -1,10 +1,10 @@
 -- A removal of the object 1, and a byte 9 behind it.
 use Rattle.std.proofs.Common.{◌≡◌, ℕ, List, [], ◌∷◌, Some, refl, arith, inl}
-use Rattle.hail_devices.specs.Providers.{Held, Provider, without_object}
-use Rattle.hail_wire.specs.Requests.{Request, Remove, AreFrames, request_bytes}
-use Rattle.hail_wire.specs.Replies.{Reply, Done, Serves}
-use Rattle.hail_wire.specs.Links.{provider_behind}
-use Rattle.hail_wire.specs.Serving.{BadAt, HasServed}
+use Rattle.device_defs.specs.Providers.{Held, Provider, without_object}
+use Rattle.wire_defs.specs.Requests.{Request, Remove, AreFrames, request_bytes}
+use Rattle.wire_defs.specs.Replies.{Reply, Done, Serves}
+use Rattle.wire_defs.specs.Links.{provider_behind}
+use Rattle.wire_defs.specs.Serving.{BadAt, HasServed}
 use Rattle.provider_wire.specs.Loops.{idle}
 
 pub removal-frames : AreFrames (4 ∷ 1 ∷ 0 ∷ 0 ∷ 0 ∷ 0 ∷ 0 ∷ 0 ∷ 0 ∷ []) (Remove 1 ∷ [])

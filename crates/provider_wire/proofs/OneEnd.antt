@@ -4,10 +4,10 @@ use Rattle.std.specs.List.{list_all}
 use Rattle.std.proofs.Math.Seq.{take-append-add}
 use Rattle.std.proofs.lemmas.Bool.{cases_lt, and_from, and_parts}
 use Rattle.std.proofs.lemmas.List.{append-nil, take_all, take-append-le}
-use Rattle.hail_devices.specs.Providers.{Provider}
-use Rattle.hail_devices.specs.Told.{then_told}
-use Rattle.hail_wire.specs.Requests.{Request, SpellsNoRequest, AreFrames, is_request, is_bad_request, request_bytes, requests_text}
-use Rattle.hail_wire.specs.Serving.{most_bytes, End, Finished, BadAt, TooMany, SourceFailed, SinkFailed, OutOfMemory, HasServed, IsAtEnd, IsOfBytes, EndsOf, within_limit}
+use Rattle.device_defs.specs.Providers.{Provider}
+use Rattle.device_defs.specs.Told.{then_told}
+use Rattle.wire_defs.specs.Requests.{Request, SpellsNoRequest, AreFrames, is_request, is_bad_request, request_bytes, requests_text}
+use Rattle.wire_defs.specs.Serving.{most_bytes, End, Finished, BadAt, TooMany, SourceFailed, SinkFailed, OutOfMemory, HasServed, IsAtEnd, IsOfBytes, EndsOf, within_limit}
 use Rattle.provider_wire.proofs.Takes.{one_front}
 use Rattle.provider_wire.proofs.Progress.{nothing_spells}
 use Rattle.provider_wire.proofs.BadBytes.{bad-grows, bad-none}

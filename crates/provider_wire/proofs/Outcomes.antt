@@ -8,14 +8,14 @@ use Rattle.provider_wire.specs.Reading.{symbols_read}
 use Rattle.provider_wire.proofs.Symbols.{symbols-bytes}
 use Rattle.provider_wire.proofs.Framed.{all_below}
 use Rattle.provider_wire.proofs.Asked.{sized-length}
-use Rattle.hail_columns.specs.Objects.{bytes_of_symbols}
-use Rattle.hail_devices.specs.Faults.{last_count}
-use Rattle.hail_devices.specs.Providers.{Provider}
-use Rattle.hail_devices.specs.ProviderCalls.{Stores, FailsToStore, FindsNoMemory, RemovesAll, FailsToRemove}
-use Rattle.hail_wire.specs.Requests.{Request, Store, Fetch, Ask, Remove}
-use Rattle.hail_wire.specs.Replies.{Reply, Done, Found, Missing, Failed, NoMemory, AnswersRequest, FetchesAs, FailsToFetch, AsksAs, FailsToAnswer}
-use Rattle.hail_wire.specs.Links.{Behind, provider_behind}
-use Rattle.hail_columns.specs.Challenges.{Challenge, honest_answer}
+use Rattle.column_defs.specs.Objects.{bytes_of_symbols}
+use Rattle.device_defs.specs.Faults.{last_count}
+use Rattle.device_defs.specs.Providers.{Provider}
+use Rattle.device_defs.specs.ProviderCalls.{Stores, FailsToStore, FindsNoMemory, RemovesAll, FailsToRemove}
+use Rattle.wire_defs.specs.Requests.{Request, Store, Fetch, Ask, Remove}
+use Rattle.wire_defs.specs.Replies.{Reply, Done, Found, Missing, Failed, NoMemory, AnswersRequest, FetchesAs, FailsToFetch, AsksAs, FailsToAnswer}
+use Rattle.wire_defs.specs.Links.{Behind, provider_behind}
+use Rattle.column_defs.specs.Challenges.{Challenge, honest_answer}
 use Rattle.provider_wire.specs.Linked.{AskedFor, first_byte_of, tail_of, seen_behind, out_of_step}
 use Rattle.provider_wire.proofs.Counting.{one_more_is}
 

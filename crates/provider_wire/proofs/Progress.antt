@@ -5,12 +5,12 @@ use Rattle.std.proofs.Math.Seq.{take-take}
 use Rattle.std.proofs.lemmas.Bool.{cases_lt, and_from}
 use Rattle.std.proofs.lemmas.List.{append-nil, take_all, drop-take}
 use Rattle.std.proofs.lemmas.List.Folds.{list_all-append}
-use Rattle.hail_devices.specs.Told.{told_then, then_told, TakesFront}
-use Rattle.hail_devices.specs.Providers.{Provider}
-use Rattle.hail_devices.proofs.Lasting.{told_then-nothing}
-use Rattle.hail_wire.specs.Requests.{Request, is_request, is_bad_request, request_bytes, requests_text, SpellsNoRequest, AreFrames}
-use Rattle.hail_wire.specs.Replies.{Reply, Serves, reply_bytes, replies_text}
-use Rattle.hail_wire.specs.Serving.{most_bytes, Finished, BadAt, TooMany, SourceFailed, SinkFailed, OutOfMemory, IsAtEnd, WritesPart, ServesAll, ServesPart, HasServed}
+use Rattle.device_defs.specs.Told.{told_then, then_told, TakesFront}
+use Rattle.device_defs.specs.Providers.{Provider}
+use Rattle.device_defs.proofs.Lasting.{told_then-nothing}
+use Rattle.wire_defs.specs.Requests.{Request, is_request, is_bad_request, request_bytes, requests_text, SpellsNoRequest, AreFrames}
+use Rattle.wire_defs.specs.Replies.{Reply, Serves, reply_bytes, replies_text}
+use Rattle.wire_defs.specs.Serving.{most_bytes, Finished, BadAt, TooMany, SourceFailed, SinkFailed, OutOfMemory, IsAtEnd, WritesPart, ServesAll, ServesPart, HasServed}
 use Rattle.stream_model.specs.declared.fault.WriteFault.{WriteFault}
 use Rattle.stream_model.specs.declared.fault.WriteFault.TheVariants as write_fault
 use Rattle.provider_wire.specs.declared.end.ServeEnd.{ServeEnd}

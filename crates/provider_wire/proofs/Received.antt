@@ -1,8 +1,8 @@
 -- What is received over a link that tells what is behind it.
 use Rattle.std.proofs.Common.{◌≡◌, ◌≢◌, ℕ, suc, ◌+◌, ◌*◌, ◌-◌, ◌<◌, ◌≤◌, Bool, true, false, List, [], ◌∷◌, ◌++◌, length, take, drop, Option, Some, None, refl, sym, ap, subst, ◌∙◌, append_assoc, arith, length-append, length-take, get_or}
 use Rattle.std.proofs.lemmas.List.{append-nil, take_all}
-use Rattle.hail_devices.specs.Told.{Goes}
-use Rattle.hail_wire.specs.Links.{Behind, Receives, provider_behind}
+use Rattle.device_defs.specs.Told.{Goes}
+use Rattle.wire_defs.specs.Links.{Behind, Receives, provider_behind}
 
 -- a provider behind a link is known by what is seen of it
 pub same_behind : (old new : Behind) (rest : List ℕ) → provider_behind new ≡ provider_behind old → new.due ≡ rest → new ≡ record old { due = rest }

@@ -4,12 +4,12 @@ use Rattle.std.specs.Prelude.{IfErr, Result, Ok, Err}
 use Rattle.std.specs.List.{list_all}
 use Rattle.std.proofs.Math.Seq.{take-add}
 use Rattle.std.proofs.lemmas.Bool.{and_from}
-use Rattle.hail_devices.specs.Told.{told_then, then_told, TakesFront}
-use Rattle.hail_devices.specs.Providers.{Provider}
-use Rattle.hail_devices.proofs.Lasting.{told_then-nothing}
-use Rattle.hail_wire.specs.Requests.{Request, is_request, SpellsRequest, AreFrames}
-use Rattle.hail_wire.specs.Replies.{AnswersIn, reply_bytes, replies_text}
-use Rattle.hail_wire.specs.Serving.{ServesAll, ServesPart}
+use Rattle.device_defs.specs.Told.{told_then, then_told, TakesFront}
+use Rattle.device_defs.specs.Providers.{Provider}
+use Rattle.device_defs.proofs.Lasting.{told_then-nothing}
+use Rattle.wire_defs.specs.Requests.{Request, is_request, SpellsRequest, AreFrames}
+use Rattle.wire_defs.specs.Replies.{AnswersIn, reply_bytes, replies_text}
+use Rattle.wire_defs.specs.Serving.{ServesAll, ServesPart}
 use Rattle.stream_model.proofs.ToldLemmas.{told_then-append}
 
 pub nothing_told : (told : Option (List ℕ)) → told ≡ then_told [] told

@@ -9,8 +9,8 @@ use Rattle.std.proofs.lemmas.List.{take_more_set, take_all, take_at, drop_at, le
 use Rattle.std.proofs.lemmas.List.Folds.{list_all-append}
 use Rattle.std.proofs.lemmas.Bool.{lt-ltb}
 use Rattle.std.proofs.lemmas.Bool.Decides.{nat_tests}
-use Rattle.hail_columns.specs.Objects.{bytes_of_symbols}
-use Rattle.hail_columns.proofs.SymbolBytes.{bytes_of_symbols-push, bytes_of_symbols-more, length-bytes_of_symbols}
+use Rattle.column_defs.specs.Objects.{bytes_of_symbols}
+use Rattle.column_defs.proofs.SymbolBytes.{bytes_of_symbols-push, bytes_of_symbols-more, length-bytes_of_symbols}
 use Rattle.hail_field.proofs.Bytes.{from_to, to_from}
 use Rattle.record_codec.proofs.Fields.{IsBytes, IsBytes-take, IsBytes-drop, IsWide}
 use Rattle.provider_wire.specs.Reading.{symbols_read}

@@ -6,11 +6,11 @@ use Rattle.std.specs.List.{list_all}
 use Rattle.std.proofs.lemmas.Bool.{eqb-true, ltb-false, le-ltb, lt-ltb, and_from, and_parts}
 use Rattle.std.proofs.lemmas.Bool.Decides.{nat_tests}
 use Rattle.std.proofs.lemmas.List.{take_at, drop_at}
-use Rattle.plain_facts.proofs.Options.{cond-cases}
-use Rattle.hail_columns.specs.Challenges.{Challenge}
-use Rattle.hail_columns.specs.Objects.{bytes_of_symbols}
-use Rattle.hail_columns.proofs.SymbolBytes.{length-bytes_of_symbols}
-use Rattle.hail_wire.specs.Requests.{Request, Store, Fetch, Ask, Remove, is_within, is_block, is_challenge, is_request, place_bytes, block_bytes, challenge_bytes, request_bytes}
+use Rattle.plain_laws.proofs.Options.{cond-cases}
+use Rattle.column_defs.specs.Challenges.{Challenge}
+use Rattle.column_defs.specs.Objects.{bytes_of_symbols}
+use Rattle.column_defs.proofs.SymbolBytes.{length-bytes_of_symbols}
+use Rattle.wire_defs.specs.Requests.{Request, Store, Fetch, Ask, Remove, is_within, is_block, is_challenge, is_request, place_bytes, block_bytes, challenge_bytes, request_bytes}
 use Rattle.record_codec.specs.Reading.{◌>>=◌, number_at}
 use Rattle.record_codec.proofs.Fields.{IsBytes, IsBytes-rest, IsBytes-take, IsBytes-drop, bind_some, passed, stopped, some_is, Takes, Takes-then, wide32, wide64, number_takes, number_again}
 use Rattle.provider_wire.specs.Reading.{symbols_read, within_at, block_read_at, store_at, fetch_at, seed_at, rows_at, challenge_read_at, ask_at, remove_at, request_at}

@@ -1,6 +1,6 @@
 -- The plain data of the program's requests.
 use Rattle.challenge.specs.Asked.{asked}
-use Rattle.hail_wire.specs.Requests.{Request as Asking, Store, Fetch, Ask, Remove}
+use Rattle.wire_defs.specs.Requests.{Request as Asking, Store, Fetch, Ask, Remove}
 use Rattle.provider_wire.specs.declared.request.Request.{Request}
 use Rattle.provider_wire.specs.declared.request.Request.TheVariants as kind
 

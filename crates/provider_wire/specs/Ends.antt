@@ -1,5 +1,5 @@
 -- What a server says at its end, as plain data, and what it says after a write that did nothing.
-use Rattle.hail_wire.specs.Serving.{End, Finished, BadAt, TooMany, SourceFailed, SinkFailed, OutOfMemory}
+use Rattle.wire_defs.specs.Serving.{End, Finished, BadAt, TooMany, SourceFailed, SinkFailed, OutOfMemory}
 use Rattle.stream_model.specs.declared.fault.WriteFault.{WriteFault}
 use Rattle.stream_model.specs.declared.fault.WriteFault.TheVariants as write_fault
 use Rattle.provider_wire.specs.declared.end.ServeEnd.{ServeEnd}

@@ -1,6 +1,6 @@
 -- A provider over a link: the link, whether it is out of step, and the counts that are kept here.
 use Rattle.std.specs.Prelude.{◌≡◌, ℕ, Bool, true}
-use Rattle.hail_devices.specs.Faults.{one_more}
+use Rattle.device_defs.specs.Faults.{one_more}
 use Rattle.provider_wire.specs.declared.link.Link.{Ghosts}
 use Rattle.provider_wire.specs.declared.link_provider.LinkProvider.{LinkProvider}
 

@@ -7,15 +7,15 @@
 --   seen_behind behind stores others fetches == what is seen of a provider over a link: the one behind it
 --                       where the link tells it, and else the counts that are kept here
 use Rattle.std.specs.Prelude.{◌≡◌, ℕ, ◌*◌, Bool, true, false, List, [], ◌∷◌, length, Option, Some, None, Result, Ok, Err, if◌then◌else◌}
-use Rattle.hail_columns.specs.Objects.{bytes_of_symbols}
-use Rattle.hail_devices.specs.Providers.{Held, Provider}
-use Rattle.hail_devices.specs.ProviderCalls.{Stores, FailsToStore, FindsNoMemory, RemovesAll, FailsToRemove}
+use Rattle.column_defs.specs.Objects.{bytes_of_symbols}
+use Rattle.device_defs.specs.Providers.{Held, Provider}
+use Rattle.device_defs.specs.ProviderCalls.{Stores, FailsToStore, FindsNoMemory, RemovesAll, FailsToRemove}
 use Rattle.provider_model.specs.declared.fault.StoreFault.{StoreFault}
 use Rattle.provider_model.specs.declared.fault.StoreFault.TheVariants as store_fault
 use Rattle.stream_model.specs.declared.fault.Failed.{Failed}
-use Rattle.hail_wire.specs.Requests.{Request, Store, Fetch, Ask, Remove}
-use Rattle.hail_wire.specs.Replies.{Reply, Done, Found, Missing, Failed as FailedReply, NoMemory, AnswersRequest, FetchesAs, FailsToFetch, AsksAs, FailsToAnswer}
-use Rattle.hail_wire.specs.Links.{Behind, provider_behind}
+use Rattle.wire_defs.specs.Requests.{Request, Store, Fetch, Ask, Remove}
+use Rattle.wire_defs.specs.Replies.{Reply, Done, Found, Missing, Failed as FailedReply, NoMemory, AnswersRequest, FetchesAs, FailsToFetch, AsksAs, FailsToAnswer}
+use Rattle.wire_defs.specs.Links.{Behind, provider_behind}
 
 -- how many bytes of symbols stand in an answer that gives some
 abbrev pub answer_size : Request → ℕ

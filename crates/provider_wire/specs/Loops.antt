@@ -4,8 +4,8 @@
 --   idle stores others fetches held == a provider that holds this, with nothing due
 use Rattle.std.specs.Prelude.{ℕ, List, [], drop, Option}
 use Rattle.std.specs.Option.{option_map}
-use Rattle.hail_devices.specs.Providers.{Held}
-use Rattle.hail_wire.specs.Links.{Behind}
+use Rattle.device_defs.specs.Providers.{Held}
+use Rattle.wire_defs.specs.Links.{Behind}
 use Rattle.provider_wire.specs.declared.loop_link.LoopLink.{LoopLink}
 
 -- what such a link tells: nothing where its provider tells nothing

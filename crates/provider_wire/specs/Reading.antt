@@ -3,8 +3,8 @@
 use Rattle.std.specs.Prelude.{ℕ, zero, suc, ◌+◌, ◌*◌, ◌^◌, List, [], ◌∷◌, ◌++◌, length, take, drop, Option, Some, None, nat_lt, ◌==◌, if◌then◌else◌}
 use Rattle.std.specs.Int.{w32, w64, w128, from_le_bytes}
 use Rattle.record_codec.specs.Reading.{◌>>=◌, number_at}
-use Rattle.hail_columns.specs.Challenges.{Challenge}
-use Rattle.hail_wire.specs.Requests.{Request, Store, Fetch, Ask, Remove, is_within}
+use Rattle.column_defs.specs.Challenges.{Challenge}
+use Rattle.wire_defs.specs.Requests.{Request, Store, Fetch, Ask, Remove, is_within}
 
 -- the symbols of the first bytes, 16 a symbol
 unfoldable pub symbols_read : ℕ → List ℕ → List ℕ

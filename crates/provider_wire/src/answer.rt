@@ -1,9 +1,9 @@
 // What a provider is made to do by a request, and the bytes of its answer.
 ghost use Rattle.std.specs.Prelude.{◌≡◌, ◌≤◌, ◌^◌, ◌<◌, ◌∷◌, [], Some, None, length, IsTrue};
 ghost use Rattle.challenge.specs.Asked.{asked};
-ghost use Rattle.hail_wire.specs.Requests.{Store, Fetch, Ask, Remove, is_request};
-ghost use Rattle.hail_wire.specs.Replies.{AnswersIn};
-ghost use Rattle.hail_columns.specs.Objects.{bytes_of_symbols};
+ghost use Rattle.wire_defs.specs.Requests.{Store, Fetch, Ask, Remove, is_request};
+ghost use Rattle.wire_defs.specs.Replies.{AnswersIn};
+ghost use Rattle.column_defs.specs.Objects.{bytes_of_symbols};
 ghost use Rattle.provider_wire.specs.Asking.{request_of};
 ghost use Rattle.provider_model.specs.Seen.{provider_seen};
 

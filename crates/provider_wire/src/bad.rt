@@ -1,5 +1,5 @@
 ghost use Rattle.std.specs.Prelude.{◌≡◌, ◌≤◌, ◌^◌, ◌+◌};
-ghost use Rattle.hail_wire.specs.Requests.{is_bad_request, misses, number_misses};
+ghost use Rattle.wire_defs.specs.Requests.{is_bad_request, misses, number_misses};
 
 /// Whether the byte at a place is there, and not from `low` to `high`.
 fn misses(place: usize, low: u8, high: u8, bytes: &[u8]) -> bool

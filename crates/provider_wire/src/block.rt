@@ -1,5 +1,5 @@
 ghost use Rattle.std.specs.Prelude.{◌≡◌, ◌*◌, ◌≤◌, length, IsTrue};
-ghost use Rattle.hail_wire.specs.Requests.{is_block};
+ghost use Rattle.wire_defs.specs.Requests.{is_block};
 ghost use Rattle.provider_wire.specs.Reading.{symbols_read};
 
 use crate::symbol_bytes::take_symbols;

@@ -2,7 +2,7 @@
 ghost use Rattle.std.specs.Prelude.{◌≡◌, ◌≤◌, ◌∷◌, ◌++◌, length};
 ghost use Rattle.std.specs.Int.{w64, to_le_bytes};
 ghost use Rattle.challenge.specs.Asked.{asked};
-ghost use Rattle.hail_wire.specs.Requests.{Store, Fetch, Ask, Remove, SpellsRequest, place_bytes};
+ghost use Rattle.wire_defs.specs.Requests.{Store, Fetch, Ask, Remove, SpellsRequest, place_bytes};
 
 use crate::piece::Piece;
 use challenge::Challenge;

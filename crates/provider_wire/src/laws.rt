@@ -1,12 +1,12 @@
 //! What holds of every request, and of every list of requests that a provider answered.
 ghost use Rattle.std.specs.Prelude.{◌≡◌, ◌∷◌, ◌++◌, ◌+◌, ◌<◌, ◌≤◌, [], ℕ, List, Option, Some, true};
-ghost use Rattle.hail_devices.specs.Faults.{last_count};
-ghost use Rattle.hail_devices.specs.Providers.{Held, Provider, without_object};
-ghost use Rattle.hail_wire.specs.Requests.{Request, Remove, SpellsRequest, SpellsNoRequest, AreFrames, is_bad_request};
-ghost use Rattle.hail_wire.specs.Links.{provider_behind};
-ghost use Rattle.hail_wire.specs.Serving.{End, BadAt, HasServed, IsOfBytes, EndsOf};
+ghost use Rattle.device_defs.specs.Faults.{last_count};
+ghost use Rattle.device_defs.specs.Providers.{Held, Provider, without_object};
+ghost use Rattle.wire_defs.specs.Requests.{Request, Remove, SpellsRequest, SpellsNoRequest, AreFrames, is_bad_request};
+ghost use Rattle.wire_defs.specs.Links.{provider_behind};
+ghost use Rattle.wire_defs.specs.Serving.{End, BadAt, HasServed, IsOfBytes, EndsOf};
 ghost use Rattle.provider_wire.specs.Loops.{idle};
-ghost use Rattle.hail_wire.specs.Replies.{Reply, Serves, AreClean, served, replies_text, failed_count};
+ghost use Rattle.wire_defs.specs.Replies.{Reply, Serves, AreClean, served, replies_text, failed_count};
 
 /// A request has one spelling, and no spelling begins another: what is read from the front of bytes is determined.
 pub fn one_spelling()

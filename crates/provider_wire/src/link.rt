@@ -1,7 +1,7 @@
 ghost use Rattle.std.specs.Prelude.{◌≡◌, ◌≤◌, ℕ, Option, None, length, IfOk, OnOk, IsOk, IsErr, IsSome};
-ghost use Rattle.hail_devices.specs.Faults.{HasCause};
-ghost use Rattle.hail_devices.specs.Told.{Goes};
-ghost use Rattle.hail_wire.specs.Links.{Behind, Sends, Receives};
+ghost use Rattle.device_defs.specs.Faults.{HasCause};
+ghost use Rattle.device_defs.specs.Told.{Goes};
+ghost use Rattle.wire_defs.specs.Links.{Behind, Sends, Receives};
 
 use stream_model::Failed;
 

@@ -1,8 +1,8 @@
 // The four calls of a provider over a link.
 ghost use Rattle.std.specs.Prelude.{◌≡◌, ◌≤◌, ◌*◌, length, IsErr, IsErrOf};
 ghost use Rattle.provider_model.specs.declared.fault.StoreFault.TheVariants as store_fault;
-ghost use Rattle.hail_devices.specs.Faults.{one_more};
-ghost use Rattle.hail_columns.specs.Challenges.{honest_answer};
+ghost use Rattle.device_defs.specs.Faults.{one_more};
+ghost use Rattle.column_defs.specs.Challenges.{honest_answer};
 ghost use Rattle.challenge.specs.Asked.{asked};
 ghost use Rattle.provider_wire.specs.Linked.{seen_behind, FetchedAs, AskedAs, RemovedAs};
 ghost use Rattle.provider_model.specs.Seen.{StoresAs};

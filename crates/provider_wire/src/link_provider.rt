@@ -20,8 +20,8 @@ pub struct LinkProvider<L: Link> {
 
 impl<L: Link> LinkProvider<L> {
     ghost use Rattle.std.specs.Prelude.{◌≡◌, ◌^◌, ℕ, List, Some, None, [], false, true, length, IfOk, IfSome, IsSome};
-    ghost use Rattle.hail_wire.specs.Requests.{Request, SpellsRequest};
-    ghost use Rattle.hail_wire.specs.Links.{Behind};
+    ghost use Rattle.wire_defs.specs.Requests.{Request, SpellsRequest};
+    ghost use Rattle.wire_defs.specs.Links.{Behind};
     ghost use Rattle.provider_wire.specs.Linked.{AskedFor, answer_size};
     ghost use Rattle.provider_wire.specs.LinkProviders.{link_of, broken_of, link_store_faults, link_other_faults, link_fetches, link_calls};
 

@@ -1,5 +1,5 @@
 ghost use Rattle.std.specs.Prelude.{◌≡◌, ◌+◌, ◌-◌, ◌≤◌, ◌++◌, min, length, take, drop, IfOk, IsOk, IfSome, IfNone};
-ghost use Rattle.hail_wire.specs.Requests.{Request as Asking, SpellsRequest};
+ghost use Rattle.wire_defs.specs.Requests.{Request as Asking, SpellsRequest};
 ghost use Rattle.provider_wire.specs.Asking.{request_of};
 
 use crate::answer::answer;
@@ -45,7 +45,7 @@ fn whole(bytes: &[u8]) -> Option<Request>
 
 impl<P: Provider> LoopLink<P> {
     ghost use Rattle.std.specs.Prelude.{◌≡◌, IfOk, option_map};
-    ghost use Rattle.hail_devices.specs.Providers.{Held};
+    ghost use Rattle.device_defs.specs.Providers.{Held};
     ghost use Rattle.provider_wire.specs.Loops.{behind_loop, idle};
 
     /// A link to this provider, with nothing due.

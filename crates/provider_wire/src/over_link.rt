@@ -1,8 +1,8 @@
 // A provider over a link, as a provider, and over a link in the same program as one whose blocks may be changed.
 ghost use Rattle.std.specs.Prelude.{◌≡◌, ◌≤◌, length, IsErr, IsErrOf};
 ghost use Rattle.provider_model.specs.declared.fault.StoreFault.TheVariants as store_fault;
-ghost use Rattle.hail_columns.specs.Challenges.{honest_answer};
-ghost use Rattle.hail_devices.specs.Faults.{one_more};
+ghost use Rattle.column_defs.specs.Challenges.{honest_answer};
+ghost use Rattle.device_defs.specs.Faults.{one_more};
 ghost use Rattle.challenge.specs.Asked.{asked};
 ghost use Rattle.provider_wire.specs.Linked.{seen_behind, FetchedAs, AskedAs, RemovedAs, held_over, store_faults_over, other_faults_over, fetches_over};
 ghost use Rattle.provider_model.specs.Seen.{StoresAs};

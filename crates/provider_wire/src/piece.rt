@@ -1,5 +1,5 @@
 ghost use Rattle.std.specs.Prelude.{◌≡◌, ◌+◌, ◌*◌, ◌≤◌, ◌++◌, [], length, take};
-ghost use Rattle.hail_columns.specs.Objects.{bytes_of_symbols};
+ghost use Rattle.column_defs.specs.Objects.{bytes_of_symbols};
 
 use hail_field::Symbol;
 use std::marker::Model;

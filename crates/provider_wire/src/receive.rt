@@ -1,7 +1,7 @@
 // Sends a request over a link, and receives its answer.
 ghost use Rattle.std.specs.Prelude.{◌≡◌, ◌≢◌, ◌≤◌, ◌++◌, ◌∷◌, ℕ, List, true, Some, None, [], length};
-ghost use Rattle.hail_wire.specs.Requests.{Request, SpellsRequest};
-ghost use Rattle.hail_wire.specs.Links.{Behind};
+ghost use Rattle.wire_defs.specs.Requests.{Request, SpellsRequest};
+ghost use Rattle.wire_defs.specs.Links.{Behind};
 ghost use Rattle.provider_wire.specs.Linked.{AskedFor, answer_size};
 
 use crate::link::Link;

@@ -1,9 +1,9 @@
 // Serves the requests of a source.
 ghost use Rattle.std.specs.Prelude.{◌≡◌, ◌≤◌, ◌<◌, ◌-◌, ℕ, [], false, length, take, drop, IfOk, IfErr, IsErrOf};
 ghost use Rattle.stream_model.specs.declared.fault.WriteFault.TheVariants as write_fault;
-ghost use Rattle.hail_devices.specs.Faults.{HasCause};
-ghost use Rattle.hail_wire.specs.Requests.{SpellsNoRequest, is_bad_request};
-ghost use Rattle.hail_wire.specs.Serving.{ServesAll, ServesPart, HasServed};
+ghost use Rattle.device_defs.specs.Faults.{HasCause};
+ghost use Rattle.wire_defs.specs.Requests.{SpellsNoRequest, is_bad_request};
+ghost use Rattle.wire_defs.specs.Serving.{ServesAll, ServesPart, HasServed};
 ghost use Rattle.provider_model.specs.Seen.{provider_seen};
 ghost use Rattle.provider_wire.specs.Ends.{end_of, end_after};
 ghost use Rattle.provider_wire.specs.declared.end.ServeEnd.TheVariants as serve_end;

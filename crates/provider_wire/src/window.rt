@@ -1,6 +1,6 @@
 ghost use Rattle.std.specs.Prelude.{◌≡◌, ◌<◌, ◌≤◌, ◌+◌, ◌-◌, ◌++◌, List, ℕ, [], length, take, drop, IfOk, OnErr, IsErr, IfSome};
-ghost use Rattle.hail_devices.specs.Faults.{HasCause};
-ghost use Rattle.hail_devices.specs.Told.{then_told};
+ghost use Rattle.device_defs.specs.Faults.{HasCause};
+ghost use Rattle.device_defs.specs.Told.{then_told};
 
 use std::alloc::Global;
 use std::marker::Model;

@@ -5,7 +5,7 @@ use Rattle.std.specs.List.{flat_map, list_all}
 use Rattle.std.proofs.lemmas.List.{drop-replicate, append-nil, take_at, drop_at, length-replicate}
 use Rattle.std.proofs.lemmas.Bool.{le-leb}
 use Rattle.std.proofs.lemmas.Bool.Decides.{nat_tests}
-use Rattle.hail_records.specs.Spellings.{counts_bytes}
+use Rattle.record_defs.specs.Spellings.{counts_bytes}
 use Rattle.record_codec.specs.Reading.{◌>>=◌, number_at, numbers_at, counts_at}
 use Rattle.record_codec.proofs.Fields.{IsBytes, IsBytes-rest, bind_some, passed_to, some_is, Takes, Takes-then, wide32, number_takes, number_again}
 

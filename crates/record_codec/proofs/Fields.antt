@@ -4,8 +4,8 @@ use Rattle.std.specs.Int.{Width, w16, w32, w64, byte_len, from_le_bytes, to_le_b
 use Rattle.std.proofs.lemmas.Bool.{cases_lt, ltb-false, le-ltb}
 use Rattle.std.proofs.lemmas.List.{take_at, drop_at, take-append-drop, length-append, length-take, get_or-drop, get_or-take, get_or_past}
 use Rattle.std.proofs.lemmas.Nat.{le_bytes_2, le_bytes_4, le_bytes_8, from_le_bytes-to_le_bytes_2, from_le_bytes-to_le_bytes_4, from_le_bytes-to_le_bytes_8}
-use Rattle.hail_records.specs.Records.{is_name}
-use Rattle.hail_records.specs.Spellings.{name_bytes}
+use Rattle.record_defs.specs.Records.{is_name}
+use Rattle.record_defs.specs.Spellings.{name_bytes}
 use Rattle.record_codec.specs.Reading.{◌>>=◌, number_at, name_at}
 
 abbrev pub IsBytes : List ℕ → Type 0

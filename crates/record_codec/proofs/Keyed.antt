@@ -1,7 +1,7 @@
 -- The master key behind the numbers of a setup, by cases.
 use Rattle.std.proofs.Common.{◌≡◌, ◌≤◌, ◌<◌, ℕ, true, false, List, length, take, drop, Some, None, refl}
 use Rattle.std.proofs.lemmas.Bool.{le-ltb, lt-ltb}
-use Rattle.hail_records.specs.Records.{Setup, SetUp, is_setup}
+use Rattle.record_defs.specs.Records.{Setup, SetUp, is_setup}
 use Rattle.record_codec.specs.Reading.{keyed_at}
 
 pub keyed_no_setup : (s : Setup) (bytes : List ℕ) → is_setup s ≡ false → None ≡ keyed_at s bytes

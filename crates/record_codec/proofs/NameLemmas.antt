@@ -1,7 +1,7 @@
 use Rattle.std.proofs.Common.{◌≡◌, ℕ, ◌-◌, ◌≤◌, true, List, ◌++◌, length, take, drop, replicate, sym, ap, ◌∙◌, arith, length-append}
 use Rattle.std.proofs.lemmas.List.{take_at, drop_at, drop-replicate, length-replicate}
 use Rattle.std.proofs.lemmas.Bool.Decides.{nat_tests}
-use Rattle.hail_records.specs.Records.{is_name}
+use Rattle.record_defs.specs.Records.{is_name}
 use Rattle.record_codec.specs.NameParts.{IsNameKept}
 
 pub IsKept-made : (name all : List ℕ) (n : ℕ) → all ≡ name ++ drop (length name) (replicate 64 0) → n ≡ length name → length name ≤ 64 → is_name name ≡ true → IsNameKept (record { bytes = all; len = n })

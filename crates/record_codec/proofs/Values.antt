@@ -1,8 +1,8 @@
 -- A record of the program can be made again from its plain data.
 use Rattle.std.proofs.Common.{◌≡◌, ℕ, ◌-◌, ◌+◌, ◌*◌, subst, List, ◌++◌, length, take, replicate, refl, sym, ap, ◌∙◌, arith, length-take, take-append-drop}
-use Rattle.hail_records.specs.Records.{SetUp, PutStart, PutDone, Drop, AuditStart, AuditDone, RepairDone, PutDoneIn, Version, Resume, InEffect, RepairDue, record_size}
-use Rattle.hail_records.specs.Records.{Record as Entry}
-use Rattle.hail_records.proofs.Grammar.{grammar-spelled}
+use Rattle.record_defs.specs.Records.{SetUp, PutStart, PutDone, Drop, AuditStart, AuditDone, RepairDone, PutDoneIn, Version, Resume, InEffect, RepairDue, record_size}
+use Rattle.record_defs.specs.Records.{Record as Entry}
+use Rattle.record_defs.proofs.Grammar.{grammar-spelled}
 use Rattle.record_codec.specs.declared.counts.Counts.{Counts}
 use Rattle.record_codec.specs.declared.records.Record.{Record}
 use Rattle.record_codec.specs.declared.records.Record.TheVariants as kind

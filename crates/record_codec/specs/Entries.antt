@@ -7,8 +7,8 @@
 --   HasSpelling r           each field is within its limits, and the counts are padded
 --   IsInGrammar r           so it is, and a journal may hold the record's kind
 use Rattle.std.specs.Prelude.{◌≡◌, ◌≤◌, ◌-◌, ℕ, List, length, take, drop, replicate, IsTrue}
-use Rattle.hail_records.specs.Records.{SetUp, PutStart, PutDone, Drop, AuditStart, AuditDone, RepairDone, PutDoneIn, Version, Resume, InEffect, RepairDue, is_spelled, is_in_grammar}
-use Rattle.hail_records.specs.Records.{Setup as SetupData, Record as Entry}
+use Rattle.record_defs.specs.Records.{SetUp, PutStart, PutDone, Drop, AuditStart, AuditDone, RepairDone, PutDoneIn, Version, Resume, InEffect, RepairDue, is_spelled, is_in_grammar}
+use Rattle.record_defs.specs.Records.{Setup as SetupData, Record as Entry}
 use Rattle.record_codec.specs.declared.setup.Setup.{Setup}
 use Rattle.record_codec.specs.declared.counts.Counts.{Counts}
 use Rattle.record_codec.specs.declared.records.Record.{Record}

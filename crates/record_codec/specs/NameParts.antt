@@ -3,7 +3,7 @@ use Rattle.std.specs.Prelude.{◌≡◌, ℕ, ◌-◌, ◌≤◌, true, List, �
 use Rattle.std.proofs.Common.{sym, ap, subst, ◌∙◌, take-append-drop}
 use Rattle.std.proofs.lemmas.List.{length-take-le}
 use Rattle.record_codec.specs.declared.name.Name.TheInside.{Inside}
-use Rattle.hail_records.specs.Records.{is_name}
+use Rattle.record_defs.specs.Records.{is_name}
 
 -- the name that is kept
 abbrev pub bytes_of : Inside → List ℕ

@@ -1,7 +1,7 @@
 //! What holds of every record.
 ghost use Rattle.std.specs.Prelude.{◌≡◌, ◌++◌, ℕ, List};
-ghost use Rattle.hail_records.specs.Records.{Record as Entry};
-ghost use Rattle.hail_records.specs.Spellings.{Spells};
+ghost use Rattle.record_defs.specs.Records.{Record as Entry};
+ghost use Rattle.record_defs.specs.Spellings.{Spells};
 ghost use Rattle.record_codec.specs.declared.records.Record.{Record as RecordValue};
 ghost use Rattle.record_codec.specs.Entries.{entry_of, IsInGrammar};
 

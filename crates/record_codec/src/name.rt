@@ -1,6 +1,6 @@
 ghost use Rattle.std.specs.Prelude.{◌≡◌, ◌≤◌, ◌++◌, length, drop, IsTrue, Some, None, if◌then◌else◌};
 ghost use Rattle.std.specs.List.{list_all};
-ghost use Rattle.hail_records.specs.Records.{is_name_byte, is_name};
+ghost use Rattle.record_defs.specs.Records.{is_name_byte, is_name};
 
 use std::marker::Model;
 

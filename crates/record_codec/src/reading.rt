@@ -1,8 +1,8 @@
 ghost use Rattle.std.specs.Prelude.{◌≡◌, ◌++◌, ◌≤◌, ◌-◌, ℕ, [], List, length, take, drop, replicate, IfSome, IfNone, IsTrue};
 ghost use Rattle.std.specs.Option.{option_map};
 ghost use Rattle.std.specs.Int.{w32, w64};
-ghost use Rattle.hail_records.specs.Records.{Record as Entry, is_spelled, is_held};
-ghost use Rattle.hail_records.specs.Spellings.{spelling, Spells};
+ghost use Rattle.record_defs.specs.Records.{Record as Entry, is_spelled, is_held};
+ghost use Rattle.record_defs.specs.Spellings.{spelling, Spells};
 ghost use Rattle.record_codec.specs.Entries.{entry_of, with_master, counted, IsPadded, HasPadding, HasSpelling, IsInGrammar};
 ghost use Rattle.record_codec.specs.Reading.{number_at, name_at, keyed_at, setup_at, put_start_at, put_done_at, drop_at, audit_start_at, numbers_at, counts_at, audit_done_at, repair_done_at, profile_at, object_at, put_done_in_at, version_at, resume_at, in_effect_at, repair_due_at, spelled_at};
 

@@ -1,5 +1,5 @@
 ghost use Rattle.std.specs.Prelude.{◌≡◌, ℕ, List};
-ghost use Rattle.hail_records.specs.Records.{is_setup};
+ghost use Rattle.record_defs.specs.Records.{is_setup};
 ghost use Rattle.record_codec.specs.Entries.{with_master};
 ghost use Rattle.record_codec.specs.Limits.{are_providers, is_audit};
 

@@ -1,8 +1,8 @@
 ghost use Rattle.std.specs.Prelude.{◌≡◌, ◌++◌, ◌∷◌, [], ◌+◌, ◌*◌, ◌≤◌, length, take, drop};
 ghost use Rattle.std.specs.Int.{w32, w64, to_le_bytes};
 ghost use Rattle.std.specs.List.{flat_map};
-ghost use Rattle.hail_records.specs.Records.{record_size};
-ghost use Rattle.hail_records.specs.Spellings.{spelling, setup_bytes};
+ghost use Rattle.record_defs.specs.Records.{record_size};
+ghost use Rattle.record_defs.specs.Spellings.{spelling, setup_bytes};
 ghost use Rattle.record_codec.specs.Entries.{entry_of, with_master, HasSpelling};
 
 use crate::records::Record;
@@ -64,7 +64,7 @@ fn put_object(out: &mut [u8], kind: u8, id: u64, size: u32, profile: u8) -> usiz
 impl Record {
     /// Writes the record's bytes to the front of `out`, and answers how many they are. What stands behind them is not
     /// promised. Condition: each field is within its limits.
-    #[tactic(auto, unfolding(hail_records::specs::Spellings::spelling))]
+    #[tactic(auto, unfolding(record_defs::specs::Spellings::spelling))]
     pub fn write(&self, out: &mut [u8; 80]) -> usize
         requires { HasSpelling self.now }
         ensures size { result ≡ record_size (entry_of self.now) }

@@ -3,26 +3,26 @@
 use Rattle.std.proofs.Common.{◌≡◌, ℕ, ◌==◌, Bool, true, false, ◌⊎◌, List, [], ◌∷◌, ◌++◌, Option, Some, None, refl, ap, sym, subst, ◌∙◌, inl, inr}
 use Rattle.std.specs.Prelude.{IsTrue, IsSome, is_some, nat_lt}
 use Rattle.std.proofs.lemmas.Bool.{and_from, false≢true}
-use Rattle.plain_facts.proofs.Options.{some-not-none}
-use Rattle.hail_records.specs.Records.{Record, Setup, SetUp, is_setup, is_master, is_in_grammar}
-use Rattle.hail_records.specs.Table.{setup_of}
-use Rattle.hail_devices.specs.Providers.{Held, with_symbol, without_block, HasPlace}
-use Rattle.hail_machine.specs.Jobs.{Kind, PutJob, Job, job_of, with_job, without_job, advanced}
-use Rattle.hail_machine.specs.Actions.{Action, WriteBody, SyncBody, WriteGate, SyncGate, Store, Fetch, Ask, Work, Remove, End}
-use Rattle.hail_machine.specs.Refusals as refusal
-use Rattle.hail_machine.specs.Refusals.{Refusal}
-use Rattle.hail_machine.specs.Answers as answer
-use Rattle.hail_machine.specs.Events.{Event, Init, Begin, BeginAt, BeginScrub, BeginPack, Step, Alter, Lose, Stop, Reopen, Names, Continue, Outcome, Ready, Refused, Opened, Begun, More, Waiting, Ended, Replaced, NothingHeld, Stopped, Listed, Closed, Continued, IsSpelled, IsSpelledKind}
-use Rattle.hail_machine.specs.States.{State, Append, Doubt, Alone, Settles}
-use Rattle.hail_machine.specs.Begins.{beginning, BeginsAt}
-use Rattle.hail_machine.specs.Appends.{bytes_drawn, Moves}
-use Rattle.hail_machine.specs.Steps.{next_action, holder_of, Acts, ActsOrWaits, StepsOn, StepsJob, StepsMine, StepsOne, StepsOpen, Steps}
-use Rattle.hail_machine.specs.Alone.{number_alone, StepsAlone, BeginsAlone}
-use Rattle.hail_machine.specs.Openings.{LeavesDoubt, reread, Rereads, Stops, Reopens, InitsClosed, InitsBy, Inits, Continues}
-use Rattle.hail_machine.specs.Replacements.{ReplacesAt, ReplacesIf}
-use Rattle.hail_machine.specs.Machine.{Lists, Happens}
-use Rattle.hail_machine.proofs.JobLists.{number_of}
-use Rattle.hail_machine.proofs.Asides.{steps_aside}
+use Rattle.plain_laws.proofs.Options.{some-not-none}
+use Rattle.record_defs.specs.Records.{Record, Setup, SetUp, is_setup, is_master, is_in_grammar}
+use Rattle.record_defs.specs.Table.{setup_of}
+use Rattle.device_defs.specs.Providers.{Held, with_symbol, without_block, HasPlace}
+use Rattle.machine_defs.specs.Jobs.{Kind, PutJob, Job, job_of, with_job, without_job, advanced}
+use Rattle.machine_defs.specs.Actions.{Action, WriteBody, SyncBody, WriteGate, SyncGate, Store, Fetch, Ask, Work, Remove, End}
+use Rattle.machine_defs.specs.Refusals as refusal
+use Rattle.machine_defs.specs.Refusals.{Refusal}
+use Rattle.machine_defs.specs.Answers as answer
+use Rattle.machine_defs.specs.Events.{Event, Init, Begin, BeginAt, BeginScrub, BeginPack, Step, Alter, Lose, Stop, Reopen, Names, Continue, Outcome, Ready, Refused, Opened, Begun, More, Waiting, Ended, Replaced, NothingHeld, Stopped, Listed, Closed, Continued, IsSpelled, IsSpelledKind}
+use Rattle.machine_defs.specs.States.{State, Append, Doubt, Alone, Settles}
+use Rattle.machine_defs.specs.Begins.{beginning, BeginsAt}
+use Rattle.machine_defs.specs.Appends.{bytes_drawn, Moves}
+use Rattle.machine_defs.specs.Steps.{next_action, holder_of, Acts, ActsOrWaits, StepsOn, StepsJob, StepsMine, StepsOne, StepsOpen, Steps}
+use Rattle.machine_defs.specs.Alone.{number_alone, StepsAlone, BeginsAlone}
+use Rattle.machine_defs.specs.Openings.{LeavesDoubt, reread, Rereads, Stops, Reopens, InitsClosed, InitsBy, Inits, Continues}
+use Rattle.machine_defs.specs.Replacements.{ReplacesAt, ReplacesIf}
+use Rattle.machine_defs.specs.Machine.{Lists, Happens}
+use Rattle.machine_defs.proofs.JobLists.{number_of}
+use Rattle.machine_defs.proofs.Asides.{steps_aside}
 
 -- a setup that a journal may hold
 abbrev pub IsValid : Setup → Type 0

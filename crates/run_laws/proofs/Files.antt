@@ -4,23 +4,23 @@ use Rattle.std.specs.Prelude.{slice_index}
 use Rattle.std.proofs.lemmas.Bool.{cases_eq}
 use Rattle.std.proofs.lemmas.List.FromFn.{fill_by_all}
 use Rattle.std.proofs.lemmas.Option.{get_or_from_slice_get}
-use Rattle.plain_facts.proofs.Lists.{flat_map-range_same, map-range_at, same_or_other}
-use Rattle.plain_facts.proofs.Places.{IsPlace, place-of}
+use Rattle.plain_laws.proofs.Lists.{flat_map-range_same, map-range_at, same_or_other}
+use Rattle.plain_laws.proofs.Places.{IsPlace, place-of}
 use Rattle.hail_field.specs.Shape.{IsShape}
-use Rattle.hail_codes.specs.Polynomials.{value}
-use Rattle.hail_codes.specs.Points.{upto, values_at}
-use Rattle.hail_codes.specs.Profiles.{profile_of}
-use Rattle.hail_codes.specs.ServerCode.{codeword}
-use Rattle.hail_codes.proofs.Profiles.{some_kept}
-use Rattle.hail_columns.specs.Objects.{Object, stripes, stripe_symbols, symbol_of, symbols_in, bytes_of_symbols, kept_by}
-use Rattle.hail_columns.specs.Columns.{primary_row}
-use Rattle.hail_columns.specs.Opened.{SeenBlock, AcceptsSymbols, GivesSymbols, OpensFile}
-use Rattle.hail_columns.specs.Forgeries.{IsForgery}
-use Rattle.hail_columns.proofs.ForgeryLaws.{forgery-of_stripe}
+use Rattle.code_defs.specs.Polynomials.{value}
+use Rattle.code_defs.specs.Points.{upto, values_at}
+use Rattle.code_defs.specs.Profiles.{profile_of}
+use Rattle.code_defs.specs.ServerCode.{codeword}
+use Rattle.code_defs.proofs.Profiles.{some_kept}
+use Rattle.column_defs.specs.Objects.{Object, stripes, stripe_symbols, symbol_of, symbols_in, bytes_of_symbols, kept_by}
+use Rattle.column_defs.specs.Columns.{primary_row}
+use Rattle.column_defs.specs.Opened.{SeenBlock, AcceptsSymbols, GivesSymbols, OpensFile}
+use Rattle.column_defs.specs.Forgeries.{IsForgery}
+use Rattle.column_defs.proofs.ForgeryLaws.{forgery-of_stripe}
 use Rattle.column_laws.proofs.UniqueLaws.{profile-room}
 use Rattle.column_laws.proofs.RightRows.{kept-symbol}
 use Rattle.column_laws.proofs.OtherRows.{forgery-of_other}
-use Rattle.hail_machine.specs.Events.{AreBytes}
+use Rattle.machine_defs.specs.Events.{AreBytes}
 use Rattle.run_laws.proofs.SymbolBytes.{bytes_back}
 
 -- of so many numbers all are of one kind, or there is one of the other

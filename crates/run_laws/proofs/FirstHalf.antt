@@ -3,20 +3,20 @@ use Rattle.std.proofs.Common.{◌≡◌, ℕ, true, List, [], ◌∷◌, length,
 use Rattle.std.specs.Prelude.{is_some, nat_le}
 use Rattle.std.proofs.lemmas.Bool.{cases_Bool, false≢true}
 use Rattle.hail_field.specs.Shape.{IsShape}
-use Rattle.hail_records.specs.Records.{Setup}
-use Rattle.hail_records.specs.Table.{setup_of}
-use Rattle.hail_machine.specs.Jobs.{Kind, GetJob, Job, job_of}
-use Rattle.hail_machine.specs.Setups.{setup_or_none}
-use Rattle.hail_machine.specs.Answers as answer
-use Rattle.hail_machine.specs.Answers.{Answer}
-use Rattle.hail_machine.specs.Events.{Event, Step, Outcome, Ended}
-use Rattle.hail_machine.specs.States.{State, IsStart, setup_in, file_object}
-use Rattle.hail_machine.specs.Runs.{Moment, now, first_moments, IsRun}
-use Rattle.hail_machine.specs.Given.{blocks_given}
-use Rattle.hail_machine.specs.Heard.{heard_by, given_to}
-use Rattle.hail_machine.specs.Halves.{IsRightGet, EndsRight, at_begin, KeepsFirstHalf, FirstHalf, FirstHalfHolds, EndsGet}
-use Rattle.hail_machine.proofs.JobLists.{cond_true, cond_false, number_of}
-use Rattle.hail_machine.proofs.Gets.{got_is_opened}
+use Rattle.record_defs.specs.Records.{Setup}
+use Rattle.record_defs.specs.Table.{setup_of}
+use Rattle.machine_defs.specs.Jobs.{Kind, GetJob, Job, job_of}
+use Rattle.machine_defs.specs.Setups.{setup_or_none}
+use Rattle.machine_defs.specs.Answers as answer
+use Rattle.machine_defs.specs.Answers.{Answer}
+use Rattle.machine_defs.specs.Events.{Event, Step, Outcome, Ended}
+use Rattle.machine_defs.specs.States.{State, IsStart, setup_in, file_object}
+use Rattle.machine_defs.specs.Runs.{Moment, now, first_moments, IsRun}
+use Rattle.machine_defs.specs.Given.{blocks_given}
+use Rattle.machine_defs.specs.Heard.{heard_by, given_to}
+use Rattle.machine_defs.specs.Halves.{IsRightGet, EndsRight, at_begin, KeepsFirstHalf, FirstHalf, FirstHalfHolds, EndsGet}
+use Rattle.machine_defs.proofs.JobLists.{cond_true, cond_false, number_of}
+use Rattle.machine_defs.proofs.Gets.{got_is_opened}
 use Rattle.run_laws.proofs.InEffect.{valid_setup, valid_shape, held_file}
 use Rattle.run_laws.proofs.Files.{file_or_forged}
 

@@ -2,23 +2,23 @@
 use Rattle.std.proofs.Common.{◌≡◌, ℕ, ◌+◌, ◌<◌, ◌≤◌, ◌==◌, ◌&&◌, true, List, [], ◌∷◌, length, Some, None, refl, ap, sym, subst, ◌∙◌, inl, inr, arith}
 use Rattle.std.specs.Prelude.{is_some}
 use Rattle.std.proofs.lemmas.Bool.{cases_Bool, cases_eq, cases_lt, eq-eqb, and_from, and_parts, false≢true}
-use Rattle.plain_facts.proofs.Options.{some-not-none}
+use Rattle.plain_laws.proofs.Options.{some-not-none}
 use Rattle.hail_field.specs.Shape.{IsShape}
-use Rattle.hail_records.specs.Records.{Record, Setup, SetUp, PutStart, PutDone, Drop, AuditStart, AuditDone, RepairDone, PutDoneIn, Version, Resume, InEffect, RepairDue, is_setup, is_master}
-use Rattle.hail_records.specs.Table.{File, file_as, profile_in, version_of, setup_of, next_id, started_as, is_start_of, is_same_name, file_of}
-use Rattle.hail_machine.specs.Jobs.{Kind, PutJob, GetJob, DropJob, AuditJob, RepairJob, UpgradeJob, Job, job_of}
-use Rattle.hail_machine.specs.Actions.{WriteBody, SyncGate}
-use Rattle.hail_machine.specs.Events.{AreBytes, IsSpelledKind}
-use Rattle.hail_machine.specs.States.{State, Append, Doubt, AreFirst, IsStart, file_in}
-use Rattle.hail_machine.specs.Appends.{Writes, done_record, is_first_append, bytes_drawn}
-use Rattle.hail_machine.specs.Steps.{next_action}
-use Rattle.hail_machine.specs.Runs.{Moment, now, IsRun}
-use Rattle.hail_machine.proofs.JobLists.{cond_true, cond_false, same_value, found_none, found_with, found_without, found_more}
-use Rattle.hail_machine.proofs.Done.{by_version}
-use Rattle.hail_machine.proofs.Changes.{IsPlain, Job_is, Append_is, Changes}
-use Rattle.hail_machine.proofs.Events.{changes}
-use Rattle.hail_machine.proofs.Numbers.{objects, Draws, HasNumber, next_of_records, at_three, first_above, first_below, drawn_later, drawn_first}
-use Rattle.hail_machine.proofs.Numbers as num
+use Rattle.record_defs.specs.Records.{Record, Setup, SetUp, PutStart, PutDone, Drop, AuditStart, AuditDone, RepairDone, PutDoneIn, Version, Resume, InEffect, RepairDue, is_setup, is_master}
+use Rattle.record_defs.specs.Table.{File, file_as, profile_in, version_of, setup_of, next_id, started_as, is_start_of, is_same_name, file_of}
+use Rattle.machine_defs.specs.Jobs.{Kind, PutJob, GetJob, DropJob, AuditJob, RepairJob, UpgradeJob, Job, job_of}
+use Rattle.machine_defs.specs.Actions.{WriteBody, SyncGate}
+use Rattle.machine_defs.specs.Events.{AreBytes, IsSpelledKind}
+use Rattle.machine_defs.specs.States.{State, Append, Doubt, AreFirst, IsStart, file_in}
+use Rattle.machine_defs.specs.Appends.{Writes, done_record, is_first_append, bytes_drawn}
+use Rattle.machine_defs.specs.Steps.{next_action}
+use Rattle.machine_defs.specs.Runs.{Moment, now, IsRun}
+use Rattle.machine_defs.proofs.JobLists.{cond_true, cond_false, same_value, found_none, found_with, found_without, found_more}
+use Rattle.machine_defs.proofs.Done.{by_version}
+use Rattle.machine_defs.proofs.Changes.{IsPlain, Job_is, Append_is, Changes}
+use Rattle.machine_defs.proofs.Events.{changes}
+use Rattle.machine_defs.proofs.Numbers.{objects, Draws, HasNumber, next_of_records, at_three, first_above, first_below, drawn_later, drawn_first}
+use Rattle.machine_defs.proofs.Numbers as num
 use Rattle.run_laws.proofs.Direct.{IsValid, Records_are, Doubt_was, Jobs_are, Bytes_are, Direct, direct}
 
 -- ---- records

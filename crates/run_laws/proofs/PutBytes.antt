@@ -1,24 +1,24 @@
 -- From the end of a put on, what states keep of its object number are its bytes.
 use Rattle.std.proofs.Common.{◌≡◌, ℕ, zero, suc, ◌<◌, ◌≤◌, ◌⊎◌, List, [], ◌∷◌, ◌++◌, length, Some, refl, ap, sym, subst, ◌∙◌, arith}
-use Rattle.hail_records.specs.Table.{File, next_id}
-use Rattle.hail_machine.specs.Jobs.{PutJob, Job}
-use Rattle.hail_machine.specs.Actions.{WriteBody, SyncBody, WriteGate, SyncGate, End}
-use Rattle.hail_machine.specs.Answers as answer
-use Rattle.hail_machine.specs.Events.{Event, Outcome}
-use Rattle.hail_machine.specs.States.{State, IsStart, file_object, file_in}
-use Rattle.hail_machine.specs.Steps.{next_action}
-use Rattle.hail_machine.specs.Runs.{Moment, now, first_moments, IsRun}
-use Rattle.hail_machine.specs.Heard.{heard_by, HoldsForgery}
-use Rattle.hail_machine.specs.Halves.{EndsGet}
-use Rattle.hail_machine.specs.Survival.{EndsPut}
-use Rattle.hail_machine.proofs.JobLists.{same_value}
-use Rattle.hail_machine.proofs.Changes.{Changes}
-use Rattle.hail_machine.proofs.Written.{IsWritten}
-use Rattle.hail_machine.proofs.StepEnds.{event_end}
-use Rattle.hail_machine.proofs.Events.{changes}
-use Rattle.hail_machine.proofs.Numbers.{objects, Draws, next_by, next_is_by, next_of_records}
-use Rattle.hail_machine.proofs.Numbers as num
-use Rattle.hail_machine.proofs.Given.{run_part}
+use Rattle.record_defs.specs.Table.{File, next_id}
+use Rattle.machine_defs.specs.Jobs.{PutJob, Job}
+use Rattle.machine_defs.specs.Actions.{WriteBody, SyncBody, WriteGate, SyncGate, End}
+use Rattle.machine_defs.specs.Answers as answer
+use Rattle.machine_defs.specs.Events.{Event, Outcome}
+use Rattle.machine_defs.specs.States.{State, IsStart, file_object, file_in}
+use Rattle.machine_defs.specs.Steps.{next_action}
+use Rattle.machine_defs.specs.Runs.{Moment, now, first_moments, IsRun}
+use Rattle.machine_defs.specs.Heard.{heard_by, HoldsForgery}
+use Rattle.machine_defs.specs.Halves.{EndsGet}
+use Rattle.machine_defs.specs.Survival.{EndsPut}
+use Rattle.machine_defs.proofs.JobLists.{same_value}
+use Rattle.machine_defs.proofs.Changes.{Changes}
+use Rattle.machine_defs.proofs.Written.{IsWritten}
+use Rattle.machine_defs.proofs.StepEnds.{event_end}
+use Rattle.machine_defs.proofs.Events.{changes}
+use Rattle.machine_defs.proofs.Numbers.{objects, Draws, next_by, next_is_by, next_of_records}
+use Rattle.machine_defs.proofs.Numbers as num
+use Rattle.machine_defs.proofs.Given.{run_part}
 use Rattle.run_laws.proofs.InEffect.{facts}
 use Rattle.run_laws.proofs.FirstHalf.{first_run, got_right}
 

@@ -5,12 +5,12 @@ use Rattle.std.specs.Int.{w128, from_le_bytes, to_le_bytes}
 use Rattle.std.proofs.lemmas.Bool.{ltb-true, and_parts}
 use Rattle.std.proofs.lemmas.List.{drop-drop}
 use Rattle.std.proofs.Math.Nat.{mul-le-mul, div-add-mod, mod-lt}
-use Rattle.plain_facts.proofs.Numbers.{from_le_bytes-same}
+use Rattle.plain_laws.proofs.Numbers.{from_le_bytes-same}
 use Rattle.hail_field.proofs.Bytes.{to_from}
-use Rattle.hail_records.specs.Records.{is_byte}
-use Rattle.hail_codes.specs.Points.{upto}
-use Rattle.hail_columns.specs.Objects.{Object, stripes, stripe_symbols, symbol_of, symbols_in, bytes_of_symbols}
-use Rattle.hail_machine.specs.Events.{AreBytes}
+use Rattle.record_defs.specs.Records.{is_byte}
+use Rattle.code_defs.specs.Points.{upto}
+use Rattle.column_defs.specs.Objects.{Object, stripes, stripe_symbols, symbol_of, symbols_in, bytes_of_symbols}
+use Rattle.machine_defs.specs.Events.{AreBytes}
 
 -- the first so many of a list, with zeros after it
 abbrev padded : ℕ → List ℕ → List ℕ

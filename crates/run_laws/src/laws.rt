@@ -1,21 +1,21 @@
 //! Laws over runs, and the laws of layout that they rest on.
 ghost use Rattle.std.specs.Prelude.{◌≡◌, ◌⊎◌, ◌≤◌, ℕ, IsTrue, List, ◌∷◌, ◌++◌, Some, length, take};
 ghost use Rattle.std.specs.List.{flat_map};
-ghost use Rattle.hail_codes.specs.Points.{upto};
-ghost use Rattle.hail_columns.specs.Objects.{Object, stripes, symbols_in, bytes_of_symbols};
+ghost use Rattle.code_defs.specs.Points.{upto};
+ghost use Rattle.column_defs.specs.Objects.{Object, stripes, symbols_in, bytes_of_symbols};
 ghost use Rattle.hail_field.specs.Shape.{IsShape};
-ghost use Rattle.hail_records.specs.Records.{Setup, SetUp, is_in_grammar};
-ghost use Rattle.hail_records.specs.Table.{File, setup_of};
-ghost use Rattle.hail_codes.specs.Profiles.{profile_of};
-ghost use Rattle.hail_columns.specs.Opened.{SeenBlock, OpensFile};
-ghost use Rattle.hail_columns.specs.Forgeries.{IsForgery};
-ghost use Rattle.hail_machine.specs.Events.{AreBytes};
-ghost use Rattle.hail_machine.specs.Jobs.{Job};
-ghost use Rattle.hail_machine.specs.Halves.{IsRightGet, EndsGet, FirstHalfHolds};
-ghost use Rattle.hail_machine.specs.Heard.{heard_by, HoldsForgery};
-ghost use Rattle.hail_machine.specs.States.{State, IsStart, file_object, file_in};
-ghost use Rattle.hail_machine.specs.Survival.{EndsPut};
-ghost use Rattle.hail_machine.specs.Runs.{Moment, IsRun, now, first_moments};
+ghost use Rattle.record_defs.specs.Records.{Setup, SetUp, is_in_grammar};
+ghost use Rattle.record_defs.specs.Table.{File, setup_of};
+ghost use Rattle.code_defs.specs.Profiles.{profile_of};
+ghost use Rattle.column_defs.specs.Opened.{SeenBlock, OpensFile};
+ghost use Rattle.column_defs.specs.Forgeries.{IsForgery};
+ghost use Rattle.machine_defs.specs.Events.{AreBytes};
+ghost use Rattle.machine_defs.specs.Jobs.{Job};
+ghost use Rattle.machine_defs.specs.Halves.{IsRightGet, EndsGet, FirstHalfHolds};
+ghost use Rattle.machine_defs.specs.Heard.{heard_by, HoldsForgery};
+ghost use Rattle.machine_defs.specs.States.{State, IsStart, file_object, file_in};
+ghost use Rattle.machine_defs.specs.Survival.{EndsPut};
+ghost use Rattle.machine_defs.specs.Runs.{Moment, IsRun, now, first_moments};
 
 /// The bytes of the symbols of all stripes of a file, cut to its length, are the file.
 pub fn symbols_give_bytes_back()

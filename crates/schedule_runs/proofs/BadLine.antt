@@ -1,9 +1,9 @@
 -- A text whose second line is outside the grammar.
 use Rattle.std.proofs.Common.{List, [], ◌∷◌, length, refl, ap, inl, inr, arith}
 use Rattle.std.specs.Prelude.{codes}
-use Rattle.hail_machine.specs.Events.{Init, Begin, BeginAt, BeginScrub, BeginPack, Step, Alter, Lose, Stop, Reopen, Names, Continue}
-use Rattle.hail_machine.specs.Jobs.{PutJob, GetJob, DropJob, AuditJob, RepairJob, UpgradeJob}
-use Rattle.hail_machine.specs.Transcripts.{Instruction, Once, RunJob}
+use Rattle.machine_defs.specs.Events.{Init, Begin, BeginAt, BeginScrub, BeginPack, Step, Alter, Lose, Stop, Reopen, Names, Continue}
+use Rattle.machine_defs.specs.Jobs.{PutJob, GetJob, DropJob, AuditJob, RepairJob, UpgradeJob}
+use Rattle.machine_defs.specs.Transcripts.{Instruction, Once, RunJob}
 use Rattle.schedule_text.specs.Grammar.{Word, SpellsCommand}
 use Rattle.schedule_text.specs.Schedules.{IsLine, IsFirstBadLine}
 use Rattle.schedule_runs.specs.Schedule.{bad_text}

@@ -1,11 +1,11 @@
 -- What a command over the devices that a run has left does, by its clauses.
 use Rattle.std.proofs.Common.{◌≡◌, ℕ, List, [], ◌∷◌, ◌++◌, sym, subst, inl, inr, append_assoc}
 use Rattle.std.specs.Prelude.{IsSome}
-use Rattle.hail_records.specs.Table.{File}
-use Rattle.hail_machine.specs.Runs.{Moment, IsRun, now}
-use Rattle.hail_machine.specs.States.{State, IsStart}
-use Rattle.hail_machine.specs.Survival.{NoneTakesOut, NeverTakenOut, IsKept, ComesIn, Survives}
-use Rattle.hail_commands.specs.Seen.{Seen, Ending}
+use Rattle.record_defs.specs.Table.{File}
+use Rattle.machine_defs.specs.Runs.{Moment, IsRun, now}
+use Rattle.machine_defs.specs.States.{State, IsStart}
+use Rattle.machine_defs.specs.Survival.{NoneTakesOut, NeverTakenOut, IsKept, ComesIn, Survives}
+use Rattle.command_defs.specs.Seen.{Seen, Ending}
 use Rattle.vault_open.specs.Devices.{Devices}
 use Rattle.hail_replay.specs.Answers.{devices_of_seen}
 use Rattle.hail_replay.specs.Starts.{AreLeft, call_from}

@@ -2,15 +2,15 @@
 use Rattle.std.proofs.Common.{◌≡◌, IsTrue, List, [], refl, sym, subst, inl, arith}
 use Rattle.std.proofs.lemmas.List.FromFn.{length-map-range_with_len}
 use Rattle.std.specs.List.{list_all}
-use Rattle.hail_records.specs.Records.{Record, is_in_grammar}
-use Rattle.hail_records.specs.Journal.{text, StandsFor}
-use Rattle.hail_records.specs.Table.{version_of}
-use Rattle.hail_machine.specs.States.{State}
-use Rattle.hail_openings.specs.Opened.{AreHanded}
-use Rattle.sound_states.specs.Sound.{IsSound}
-use Rattle.sound_states.proofs.Written.{grammar-now}
+use Rattle.record_defs.specs.Records.{Record, is_in_grammar}
+use Rattle.record_defs.specs.Journal.{text, StandsFor}
+use Rattle.record_defs.specs.Table.{version_of}
+use Rattle.machine_defs.specs.States.{State}
+use Rattle.opening_defs.specs.Opened.{AreHanded}
+use Rattle.state_laws.specs.Sound.{IsSound}
+use Rattle.state_laws.proofs.Written.{grammar-now}
 use Rattle.hail_client.proofs.Settled.{firm-stands}
-use Rattle.step_laws.proofs.Lists.{get_map_upto}
+use Rattle.second_half_laws.proofs.Lists.{get_map_upto}
 use Rattle.vault_open.specs.Devices.{AreDevices}
 use Rattle.schedule_runs.specs.Left.{devices_left}
 

@@ -2,20 +2,20 @@
 use Rattle.std.proofs.Common.{ℕ, ◌<◌, ◌^◌, ◌++◌, List, [], ◌∷◌, Some, None, refl, inl, arith}
 use Rattle.std.specs.Prelude.{codes}
 use Rattle.std.specs.Fmt.{digits}
-use Rattle.hail_columns.specs.Opened.{SeenBlock}
-use Rattle.hail_devices.specs.Faults.{one_more}
-use Rattle.hail_devices.specs.Providers.{Provider}
-use Rattle.hail_machine.specs.Jobs.{GetJob, Fetched, Worked, advanced_with}
-use Rattle.hail_machine.specs.Actions.{actions_of}
-use Rattle.hail_machine.specs.Answers.{Got}
-use Rattle.hail_machine.specs.Events.{Begin, Step, Stop, Reopen, Begun, More, Ended, Stopped, Opened}
-use Rattle.hail_machine.specs.States.{State, setup_in, going_on, ended, given_up, with_provider}
-use Rattle.hail_machine.specs.Machine.{Happens}
-use Rattle.hail_machine.specs.Runs.{Moment, IsRun}
-use Rattle.hail_machine.specs.Transcripts.{Once, CarriesOut}
-use Rattle.hail_machine.specs.Examples.{set_up}
-use Rattle.hail_machine.proofs.RunParts.{begun, job_at, stepped, not_more, reopened}
-use Rattle.step_laws.proofs.ByteSteps.{block_sized, block, symbols, byte_back}
+use Rattle.column_defs.specs.Opened.{SeenBlock}
+use Rattle.device_defs.specs.Faults.{one_more}
+use Rattle.device_defs.specs.Providers.{Provider}
+use Rattle.machine_defs.specs.Jobs.{GetJob, Fetched, Worked, advanced_with}
+use Rattle.machine_defs.specs.Actions.{actions_of}
+use Rattle.machine_defs.specs.Answers.{Got}
+use Rattle.machine_defs.specs.Events.{Begin, Step, Stop, Reopen, Begun, More, Ended, Stopped, Opened}
+use Rattle.machine_defs.specs.States.{State, setup_in, going_on, ended, given_up, with_provider}
+use Rattle.machine_defs.specs.Machine.{Happens}
+use Rattle.machine_defs.specs.Runs.{Moment, IsRun}
+use Rattle.machine_defs.specs.Transcripts.{Once, CarriesOut}
+use Rattle.machine_defs.specs.Examples.{set_up}
+use Rattle.machine_defs.proofs.RunParts.{begun, job_at, stepped, not_more, reopened}
+use Rattle.second_half_laws.proofs.ByteSteps.{block_sized, block, symbols, byte_back}
 use Rattle.damage_run.specs.Schedule.{name, byte, schedule, written_lines}
 use Rattle.damage_run.proofs.Values.{without_zero_give}
 use Rattle.damage_run.proofs.Steps.{state_57}

@@ -4,9 +4,9 @@ use Rattle.std.specs.Prelude.{reverse, codes}
 use Rattle.std.specs.List.{AllByRecursion}
 use Rattle.std.specs.Fmt.{decimal, digits}
 use Rattle.hex.specs.Hex.{decode_pairs}
-use Rattle.hail_machine.specs.Events.{Begin, Step, Lose, Stop, Reopen}
-use Rattle.hail_machine.specs.Jobs.{PutJob, GetJob, AuditJob, RepairJob}
-use Rattle.hail_machine.specs.Transcripts.{Instruction, Once, RunJob}
+use Rattle.machine_defs.specs.Events.{Begin, Step, Lose, Stop, Reopen}
+use Rattle.machine_defs.specs.Jobs.{PutJob, GetJob, AuditJob, RepairJob}
+use Rattle.machine_defs.specs.Transcripts.{Instruction, Once, RunJob}
 use Rattle.schedule_text.specs.Grammar.{IsNumber, IsHex}
 use Rattle.schedule_text.specs.Schedules.{AreLines, IsSchedule}
 use Rattle.schedule_text.specs.Spelling.{IsName, CanBeSpelled}

@@ -7,14 +7,14 @@
 --   KeepsItsFile start ms name file old new end == the same, and the file is kept for as long as no record
 --                                          takes it out
 use Rattle.std.specs.Prelude.{ℕ, List, ◌++◌, map, Some, ◌⊎◌}
-use Rattle.hail_codes.specs.Points.{upto}
-use Rattle.hail_devices.specs.Cells.{firm}
-use Rattle.hail_records.specs.Journal.{text}
-use Rattle.hail_records.specs.Table.{File}
-use Rattle.hail_machine.specs.Runs.{Moment, now}
-use Rattle.hail_machine.specs.States.{State}
-use Rattle.hail_machine.specs.Survival.{NeverTakenOut, IsKept}
-use Rattle.hail_commands.specs.Seen.{Seen, Ending}
+use Rattle.code_defs.specs.Points.{upto}
+use Rattle.device_defs.specs.Cells.{firm}
+use Rattle.record_defs.specs.Journal.{text}
+use Rattle.record_defs.specs.Table.{File}
+use Rattle.machine_defs.specs.Runs.{Moment, now}
+use Rattle.machine_defs.specs.States.{State}
+use Rattle.machine_defs.specs.Survival.{NeverTakenOut, IsKept}
+use Rattle.command_defs.specs.Seen.{Seen, Ending}
 use Rattle.vault_open.specs.Devices.{Devices, devices}
 use Rattle.hail_replay.specs.Answers.{IsUndone, devices_of_seen}
 use Rattle.hail_replay.specs.Starts.{called_behind}

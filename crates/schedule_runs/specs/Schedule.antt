@@ -9,14 +9,14 @@
 --                             gives the file
 use Rattle.std.specs.Prelude.{ℕ, List, [], ◌∷◌, ◌++◌, codes}
 use Rattle.std.specs.List.{flat_map}
-use Rattle.hail_machine.specs.Answers.{Got}
-use Rattle.hail_machine.specs.Events.{Begin, Stop, Reopen}
-use Rattle.hail_machine.specs.Examples.{set_up}
-use Rattle.hail_machine.specs.Jobs.{GetJob}
-use Rattle.hail_machine.specs.Lines.{line}
-use Rattle.hail_machine.specs.Runs.{Moment, IsRun}
-use Rattle.hail_machine.specs.States.{IsStart}
-use Rattle.hail_machine.specs.Transcripts.{Instruction, Once, RunJob, CarriesOut}
+use Rattle.machine_defs.specs.Answers.{Got}
+use Rattle.machine_defs.specs.Events.{Begin, Stop, Reopen}
+use Rattle.machine_defs.specs.Examples.{set_up}
+use Rattle.machine_defs.specs.Jobs.{GetJob}
+use Rattle.machine_defs.specs.Lines.{line}
+use Rattle.machine_defs.specs.Runs.{Moment, IsRun}
+use Rattle.machine_defs.specs.States.{IsStart}
+use Rattle.machine_defs.specs.Transcripts.{Instruction, Once, RunJob, CarriesOut}
 use Rattle.damage_run.specs.Schedule.{name, byte, schedule, written_lines}
 use Rattle.damage_run.specs.Points.{EndsBy}
 

@@ -1,12 +1,12 @@
 //! What a replay and a trial suppose of their devices is met, and what they promise is used.
 ghost use Rattle.std.specs.Prelude.{◌≡◌, ◌⊎◌, ℕ, List, [], IsSome, reverse};
 ghost use Rattle.std.specs.List.{AllByRecursion};
-ghost use Rattle.hail_records.specs.Table.{version_of};
-ghost use Rattle.hail_commands.specs.Seen.{Seen, Ending, sinking};
-ghost use Rattle.hail_machine.specs.Examples.{set_up};
-ghost use Rattle.hail_machine.specs.Runs.{Moment, now, IsRun};
-ghost use Rattle.hail_machine.specs.States.{State, IsStart};
-ghost use Rattle.hail_machine.specs.Transcripts.{Instruction};
+ghost use Rattle.record_defs.specs.Table.{version_of};
+ghost use Rattle.command_defs.specs.Seen.{Seen, Ending, sinking};
+ghost use Rattle.machine_defs.specs.Examples.{set_up};
+ghost use Rattle.machine_defs.specs.Runs.{Moment, now, IsRun};
+ghost use Rattle.machine_defs.specs.States.{State, IsStart};
+ghost use Rattle.machine_defs.specs.Transcripts.{Instruction};
 ghost use Rattle.hail_client.specs.Examples.{fresh};
 ghost use Rattle.hail_client.specs.Start.{start_of};
 ghost use Rattle.schedule_text.specs.Schedules.{IsSchedule, IsFirstBadLine};
@@ -24,8 +24,8 @@ ghost use Rattle.schedule_runs.specs.Schedule.{stopped_schedule, stopped_text, b
 ghost use Rattle.vault.specs.Devices.{devices_seen};
 
 use hail_client::laws::a_fresh_disk_has_a_start;
-use hail_machine::laws::acknowledged_files_survive;
-use sound_states::laws::runs_are_sound;
+use machine_defs::laws::acknowledged_files_survive;
+use state_laws::laws::runs_are_sound;
 
 /// Each run whose journal has its first version has left devices that tell: those of its last state. So have the run of no event, over a disk
 /// before its first use, and the runs given outright: one with damage, an audit that finds it and a repair; one with calls of every device

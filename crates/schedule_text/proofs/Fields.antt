@@ -5,11 +5,11 @@ use Rattle.std.specs.Str.{bytes_eq}
 use Rattle.std.proofs.lemmas.Bool.{eqb-true, lt-ltb, ltb-true, eq-eqb}
 use Rattle.std.proofs.lemmas.Slice.Eq.{bytes_eq-Decides}
 use Rattle.hex.specs.Hex.{decode_of}
-use Rattle.plain_facts.proofs.Options.{cond-cases}
+use Rattle.plain_laws.proofs.Options.{cond-cases}
 use Rattle.record_codec.specs.Reading.{◌>>=◌}
 use Rattle.record_codec.proofs.Fields.{bind_some, some_is, done}
-use Rattle.hail_machine.specs.Transcripts.{Instruction}
-use Rattle.hail_commands.specs.Words.{IsNumberWord}
+use Rattle.machine_defs.specs.Transcripts.{Instruction}
+use Rattle.command_defs.specs.Words.{IsNumberWord}
 use Rattle.schedule_text.specs.Grammar.{Word, IsNumber, IsHex, IsKey}
 use Rattle.schedule_text.specs.Reading.{only_if, found_in, word_at, only_command, number_in, bytes_in, key_in, numeral_at, number_word_at, bytes_at, key_at}
 use Rattle.schedule_text.proofs.Numbers.{word-number_in, number_in-word}

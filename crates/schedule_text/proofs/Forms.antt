@@ -3,12 +3,12 @@ use Rattle.std.proofs.Common.{◌≡◌, true, List, [], ◌∷◌, ◌++◌, So
 use Rattle.std.specs.Prelude.{codes}
 use Rattle.std.specs.Str.{bytes_eq}
 use Rattle.std.proofs.lemmas.Slice.Eq.{bytes_eq-Decides}
-use Rattle.plain_facts.proofs.Options.{cond-cases}
-use Rattle.hail_records.specs.Records.{Setup}
+use Rattle.plain_laws.proofs.Options.{cond-cases}
+use Rattle.record_defs.specs.Records.{Setup}
 use Rattle.record_codec.proofs.Fields.{bind_some, some_is}
-use Rattle.hail_machine.specs.Jobs.{PutJob, GetJob, DropJob, AuditJob, RepairJob}
-use Rattle.hail_machine.specs.Events.{Init, Begin, Step, Alter, Lose, Stop, Reopen, Names}
-use Rattle.hail_machine.specs.Transcripts.{Instruction, Once, RunJob}
+use Rattle.machine_defs.specs.Jobs.{PutJob, GetJob, DropJob, AuditJob, RepairJob}
+use Rattle.machine_defs.specs.Events.{Init, Begin, Step, Alter, Lose, Stop, Reopen, Names}
+use Rattle.machine_defs.specs.Transcripts.{Instruction, Once, RunJob}
 use Rattle.schedule_text.specs.Grammar.{Word, IsNumber, SpellsCommand}
 use Rattle.schedule_text.specs.Reading.{only_command, setup_words_at, init_at, put_at, get_at, drop_words_at, begun_at, begin_at, step_at, run_at, alter_at, lose_at, stop_at, apart_at, behind_at}
 use Rattle.schedule_text.proofs.Fields.{word-took, ended-took, numeral-took, number-took, bytes-took, key-took}

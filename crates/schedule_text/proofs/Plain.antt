@@ -10,9 +10,9 @@ use Rattle.std.proofs.lemmas.List.{get_or_append_left}
 use Rattle.std.proofs.lemmas.Str.Parse.{digit_from_value}
 use Rattle.hex.specs.Hex.{encode_with, encode_lower, lower_digits}
 use Rattle.hex.proofs.HexLemmas.{decode_of-encode_lower, length-encode_with}
-use Rattle.hail_records.specs.Records.{is_byte, is_master}
+use Rattle.record_defs.specs.Records.{is_byte, is_master}
 use Rattle.record_codec.proofs.Takes.{IsBytes-from_all}
-use Rattle.hail_commands.specs.Words.{IsNumberWord}
+use Rattle.command_defs.specs.Words.{IsNumberWord}
 use Rattle.schedule_text.specs.Grammar.{Word, IsNumber, IsHex, IsKey}
 use Rattle.schedule_text.specs.Spelling.{IsInWord, IsName, hex_of}
 use Rattle.schedule_text.proofs.Pieces.{Free}

@@ -2,8 +2,8 @@
 use Rattle.std.proofs.Common.{◌≡◌, inl, inr, ℕ, ◌+◌, ◌==◌, ◌&&◌, ◌≤◌, Bool, true, false, List, [], ◌∷◌, length, refl, ap, sym, subst, arith}
 use Rattle.std.specs.Prelude.{slice_index}
 use Rattle.std.proofs.lemmas.Bool.{cases_Bool}
-use Rattle.hail_machine.specs.Transcripts.{Instruction}
-use Rattle.hail_machine.proofs.JobLists.{cond_true, cond_false}
+use Rattle.machine_defs.specs.Transcripts.{Instruction}
+use Rattle.machine_defs.proofs.JobLists.{cond_true, cond_false}
 use Rattle.schedule_text.specs.Grammar.{begun_piece, pieces}
 use Rattle.schedule_text.specs.Schedules.{without_returns, lines, AreLines, IsSchedule}
 

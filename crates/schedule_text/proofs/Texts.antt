@@ -3,7 +3,7 @@ use Rattle.std.proofs.Common.{◌≡◌, ℕ, suc, ◌+◌, ◌<◌, ◌≤◌, 
 use Rattle.std.specs.Prelude.{IfSome, IfOk, IfErr, MatchResult, Result, Ok, Err}
 use Rattle.std.specs.List.{AllByRecursion}
 use Rattle.std.proofs.lemmas.List.{map-append}
-use Rattle.hail_machine.specs.Transcripts.{Instruction}
+use Rattle.machine_defs.specs.Transcripts.{Instruction}
 use Rattle.schedule_text.specs.Grammar.{words, SpellsCommand, IsSkipped}
 use Rattle.schedule_text.specs.Schedules.{lines, IsLine, AreLines, IsSchedule, IsFirstBadLine}
 use Rattle.schedule_text.specs.declared.event.Event.{Event}

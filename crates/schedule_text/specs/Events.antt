@@ -5,9 +5,9 @@
 --   commands_of events  == the same of each
 use Rattle.std.specs.Prelude.{List, map}
 use Rattle.record_codec.specs.Entries.{with_master}
-use Rattle.hail_machine.specs.Jobs.{PutJob, GetJob, DropJob, AuditJob, RepairJob}
-use Rattle.hail_machine.specs.Events.{Init, Begin, Step, Alter, Lose, Stop, Reopen, Names}
-use Rattle.hail_machine.specs.Transcripts.{Instruction, Once, RunJob}
+use Rattle.machine_defs.specs.Jobs.{PutJob, GetJob, DropJob, AuditJob, RepairJob}
+use Rattle.machine_defs.specs.Events.{Init, Begin, Step, Alter, Lose, Stop, Reopen, Names}
+use Rattle.machine_defs.specs.Transcripts.{Instruction, Once, RunJob}
 use Rattle.schedule_text.specs.declared.event.Event.{Event}
 use Rattle.schedule_text.specs.declared.event.Event.TheVariants as kind
 

@@ -4,11 +4,11 @@ use Rattle.std.specs.Prelude.{◌≡◌, ℕ, ◌^◌, ◌==◌, ◌&&◌, ◌||
 use Rattle.std.specs.Str.{bytes_eq, all_ascii_digits}
 use Rattle.std.specs.Str.Parse.{digits_value}
 use Rattle.hex.specs.Hex.{decode_of}
-use Rattle.hail_records.specs.Records.{Setup}
+use Rattle.record_defs.specs.Records.{Setup}
 use Rattle.record_codec.specs.Reading.{◌>>=◌}
-use Rattle.hail_machine.specs.Jobs.{PutJob, GetJob, DropJob, AuditJob, RepairJob}
-use Rattle.hail_machine.specs.Events.{Init, Begin, Step, Alter, Lose, Stop, Reopen, Names}
-use Rattle.hail_machine.specs.Transcripts.{Instruction, Once, RunJob}
+use Rattle.machine_defs.specs.Jobs.{PutJob, GetJob, DropJob, AuditJob, RepairJob}
+use Rattle.machine_defs.specs.Events.{Init, Begin, Step, Alter, Lose, Stop, Reopen, Names}
+use Rattle.machine_defs.specs.Transcripts.{Instruction, Once, RunJob}
 use Rattle.schedule_text.specs.declared.fault.LineFault.{LineFault}
 use Rattle.schedule_text.specs.declared.fault.LineFault.TheVariants as faults
 use Rattle.schedule_text.specs.Grammar.{Word}

@@ -12,7 +12,7 @@
 -- stands the line behind it has no words.
 use Rattle.std.specs.Prelude.{◌≡◌, ◌⊎◌, ℕ, ◌+◌, ◌==◌, ◌&&◌, List, [], ◌∷◌, ◌++◌, length, slice_index, if◌then◌else◌}
 use Rattle.std.specs.List.{AllByRecursion}
-use Rattle.hail_machine.specs.Transcripts.{Instruction}
+use Rattle.machine_defs.specs.Transcripts.{Instruction}
 use Rattle.schedule_text.specs.Grammar.{pieces, words, SpellsCommand, IsSkipped}
 
 -- the text without each carriage return directly before a newline

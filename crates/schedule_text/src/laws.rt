@@ -1,7 +1,7 @@
 //! What follows from the grammar of schedules.
 ghost use Rattle.std.specs.Prelude.{◌≡◌, ◌≤◌, ◌+◌, ℕ, List, length};
 ghost use Rattle.std.specs.List.{AllByRecursion};
-ghost use Rattle.hail_machine.specs.Transcripts.{Instruction};
+ghost use Rattle.machine_defs.specs.Transcripts.{Instruction};
 ghost use Rattle.schedule_text.specs.Schedules.{IsSchedule, IsFirstBadLine};
 ghost use Rattle.schedule_text.specs.Spelling.{CanBeSpelled, schedule_bytes};
 

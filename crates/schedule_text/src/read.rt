@@ -1,7 +1,7 @@
 // Reads a whole text, line by line.
 ghost use Rattle.std.specs.Prelude.{◌≡◌, ◌∷◌, ◌⊎◌, ◌<◌, ℕ, List, length, IfOk, IfSome, IfErr, MatchResult};
 ghost use Rattle.std.specs.Option.{option_map};
-ghost use Rattle.hail_machine.specs.Transcripts.{Instruction};
+ghost use Rattle.machine_defs.specs.Transcripts.{Instruction};
 ghost use Rattle.schedule_text.specs.Schedules.{lines, IsSchedule, IsFirstBadLine};
 ghost use Rattle.schedule_text.specs.Events.{commands_of};
 ghost use Rattle.schedule_text.specs.Answers.{without_return, lines_behind, IsCauseOf};

@@ -4,7 +4,7 @@ use Rattle.std.specs.List.{range_with_len}
 use Rattle.std.proofs.Math.Seq.{drop-append_seam}
 use Rattle.std.proofs.lemmas.List.{take_more_set, take_all, length-append, length-drop}
 use Rattle.std.proofs.lemmas.List.FromFn.{length-range_with_len}
-use Rattle.plain_facts.proofs.Lists.{take-front}
+use Rattle.plain_laws.proofs.Lists.{take-front}
 use Rattle.field_laws.specs.Field.{Apart}
 use Rattle.field_laws.proofs.Solve.{v, o, ◌⊞◌, ◌⊡◌, solve}
 use Rattle.hail_field.specs.Nim.{nim, nim_add, nim_mul}
@@ -12,9 +12,9 @@ use Rattle.hail_field.proofs.AllNumbers.{nim_laws, nim_ring}
 use Rattle.poly_laws.specs.Poly.{value as value_over, root_times as root_times_over, vanish as vanish_over}
 use Rattle.poly_laws.proofs.Interpolate.{value-vanish, vanish_else}
 use Rattle.poly_laws.proofs.Trim.{value-trim}
-use Rattle.hail_codes.specs.Polynomials.{value, vanish, trim, root_times}
-use Rattle.hail_codes.specs.Points.{upto}
-use Rattle.hail_codes.proofs.Points.{one_not_zero, Each-outside, Apart-range, range_with_len-append}
+use Rattle.code_defs.specs.Polynomials.{value, vanish, trim, root_times}
+use Rattle.code_defs.specs.Points.{upto}
+use Rattle.code_defs.proofs.Points.{one_not_zero, Each-outside, Apart-range, range_with_len-append}
 
 -- the value of x + r times a polynomial
 pub value-root_times : (r c : ℕ) (p : List ℕ) (x : ℕ) → value (root_times r c p) x ≡ nim_add (nim_mul (nim_add r x) (value p x)) c

@@ -4,12 +4,12 @@ use Rattle.std.proofs.lemmas.List.{get_or_append_left, get_or-append_right}
 use Rattle.std.proofs.lemmas.List.FromFn.{fill_by_all, length-map-range_with_len, length-range_with_len}
 use Rattle.std.proofs.lemmas.Bool.{cases_lt}
 use Rattle.poly_laws.specs.Poly.{agree as agree_over, is_seen as is_seen_over}
-use Rattle.hail_codes.specs.Polynomials.{value, agree, interpolate}
-use Rattle.hail_codes.specs.Points.{upto, values_at}
-use Rattle.hail_codes.specs.Profiles.{Profile}
-use Rattle.hail_codes.specs.Sums.{dot}
-use Rattle.hail_codes.specs.ServerCode.{codeword, differences, Opens}
-use Rattle.hail_codes.proofs.Generators.{value-kept, get_or-codeword}
+use Rattle.code_defs.specs.Polynomials.{value, agree, interpolate}
+use Rattle.code_defs.specs.Points.{upto, values_at}
+use Rattle.code_defs.specs.Profiles.{Profile}
+use Rattle.code_defs.specs.Sums.{dot}
+use Rattle.code_defs.specs.ServerCode.{codeword, differences, Opens}
+use Rattle.code_defs.proofs.Generators.{value-kept, get_or-codeword}
 use Rattle.server_code.specs.Generator.{row_at, sums, IsGenerator}
 use Rattle.server_code.proofs.RowSteps.{get_or-sums}
 

@@ -2,9 +2,9 @@
 use Rattle.std.proofs.Common.{◌≡◌, ◌≤◌, ◌-◌, ◌++◌, ℕ, List, length, take, drop, sym, ap, subst, ◌∙◌, arith}
 use Rattle.std.proofs.Math.Seq.{drop-append_seam}
 use Rattle.std.proofs.lemmas.List.{take-append-drop, length-take}
-use Rattle.hail_codes.specs.Profiles.{Profile}
-use Rattle.hail_codes.specs.ServerCode.{codeword, IsCodeword, IsNear, Opens}
-use Rattle.hail_codes.proofs.Codewords.{near_itself}
+use Rattle.code_defs.specs.Profiles.{Profile}
+use Rattle.code_defs.specs.ServerCode.{codeword, IsCodeword, IsNear, Opens}
+use Rattle.code_defs.proofs.Codewords.{near_itself}
 use Rattle.server_code.specs.Generator.{sums, IsGenerator}
 use Rattle.server_code.proofs.Blocks.{extended_is_codeword}
 use Rattle.server_code.proofs.Linear.{codeword_is, codeword_of_front}

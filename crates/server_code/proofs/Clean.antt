@@ -1,11 +1,11 @@
 -- Codewords are the blocks whose syndromes are all 0.
 use Rattle.std.proofs.Common.{◌≡◌, ◌≤◌, ◌+◌, ◌-◌, ℕ, List, length, sym, ◌∙◌, arith}
 use Rattle.std.proofs.lemmas.List.FromFn.{length-range_with_len}
-use Rattle.plain_facts.specs.Lists.{Each}
-use Rattle.hail_codes.specs.Points.{upto}
-use Rattle.hail_codes.specs.Profiles.{Profile}
-use Rattle.hail_codes.specs.ServerCode.{IsCodeword}
-use Rattle.hail_codes.proofs.Points.{Apart-range}
+use Rattle.plain_laws.specs.Lists.{Each}
+use Rattle.code_defs.specs.Points.{upto}
+use Rattle.code_defs.specs.Profiles.{Profile}
+use Rattle.code_defs.specs.ServerCode.{IsCodeword}
+use Rattle.code_defs.proofs.Points.{Apart-range}
 use Rattle.hail_syndrome.specs.Syndromes.{syndromes_of}
 use Rattle.hail_syndrome.proofs.ZeroLaw.{values_from_zero, zero_from_values}
 

@@ -3,7 +3,7 @@ use Rattle.std.proofs.Common.{◌≡◌, ◌≤◌, ◌<◌, ◌+◌, ◌-◌, �
 use Rattle.std.specs.List.{range_with_len}
 use Rattle.std.proofs.lemmas.List.{take-append-drop, get_or-drop, length-take, length-drop}
 use Rattle.std.proofs.lemmas.List.FromFn.{length-range_with_len}
-use Rattle.plain_facts.specs.Lists.{Each}
+use Rattle.plain_laws.specs.Lists.{Each}
 use Rattle.hail_field.specs.Nim.{nim, nim_add, nim_mul}
 use Rattle.hail_field.proofs.AllNumbers.{nim_laws, nim_ring, nim_endless}
 use Rattle.poly_laws.specs.Poly.{FirstRow, plus as plus_over}
@@ -15,11 +15,11 @@ use Rattle.poly_laws.proofs.Everywhere.{cancel}
 use Rattle.poly_laws.proofs.Euclid.{IsKeyRow, key_row, factor_not_zero}
 use Rattle.poly_laws.proofs.Decode.{first_rows}
 use Rattle.poly_laws.proofs.Gao.{row_is_product}
-use Rattle.hail_codes.specs.Polynomials.{value, vanish, interpolate, trim, plus, times}
-use Rattle.hail_codes.specs.Points.{upto}
-use Rattle.hail_codes.specs.Profiles.{Profile}
-use Rattle.hail_codes.specs.ServerCode.{IsNear, OpensToNone}
-use Rattle.hail_codes.proofs.Points.{one_not_zero, Apart-range, range_with_len-append}
+use Rattle.code_defs.specs.Polynomials.{value, vanish, interpolate, trim, plus, times}
+use Rattle.code_defs.specs.Points.{upto}
+use Rattle.code_defs.specs.Profiles.{Profile}
+use Rattle.code_defs.specs.ServerCode.{IsNear, OpensToNone}
+use Rattle.code_defs.proofs.Points.{one_not_zero, Apart-range, range_with_len-append}
 use Rattle.hail_poly.specs.Quotient.{IsQuotient, HasNoQuotient}
 use Rattle.server_code.specs.Behind.{TakesNear}
 

@@ -9,13 +9,13 @@ use Rattle.poly_laws.proofs.Values.{value-plus, value-scale}
 use Rattle.poly_laws.proofs.Roots.{plus_zero, same_values, length-plus}
 use Rattle.poly_laws.proofs.Agree.{unique}
 use Rattle.poly_laws.proofs.Interpolate.{length-scale, interpolate_takes}
-use Rattle.hail_codes.specs.Polynomials.{value, plus, scale, interpolate, TakesSymbols}
-use Rattle.hail_codes.specs.Points.{upto, values_at}
-use Rattle.hail_codes.specs.Profiles.{Profile}
-use Rattle.hail_codes.specs.ServerCode.{codeword, IsCodeword, Opens}
-use Rattle.hail_codes.proofs.Points.{one_not_zero, Apart-range}
-use Rattle.hail_codes.proofs.Codewords.{codeword-short}
-use Rattle.hail_codes.proofs.Values.{values_at-same, takes_same}
+use Rattle.code_defs.specs.Polynomials.{value, plus, scale, interpolate, TakesSymbols}
+use Rattle.code_defs.specs.Points.{upto, values_at}
+use Rattle.code_defs.specs.Profiles.{Profile}
+use Rattle.code_defs.specs.ServerCode.{codeword, IsCodeword, Opens}
+use Rattle.code_defs.proofs.Points.{one_not_zero, Apart-range}
+use Rattle.code_defs.proofs.Codewords.{codeword-short}
+use Rattle.code_defs.proofs.Values.{values_at-same, takes_same}
 
 -- the codeword of kept symbols is a codeword
 pub codeword_is : (profile : Profile) (kept : List ℕ) → length kept ≡ profile.keep → IsCodeword profile (codeword profile kept)

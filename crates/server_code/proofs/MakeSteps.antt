@@ -2,8 +2,8 @@
 use Rattle.std.proofs.Common.{◌≡◌, ◌≤◌, ◌<◌, ◌+◌, ◌-◌, ◌*◌, ◌++◌, ◌⊎◌, inl, inr, ℕ, suc, List, [], length, take, drop, sym, ap, ◌∙◌, arith, mul-le-mul_right, suc-mul, zero-mul, length-append, length-drop}
 use Rattle.std.proofs.Math.Seq.{drop-append_seam}
 use Rattle.std.proofs.lemmas.List.{drop-append-le, take-append-le, take_all}
-use Rattle.hail_codes.specs.Profiles.{Profile}
-use Rattle.hail_codes.specs.ServerCode.{IsGeneratorRow}
+use Rattle.code_defs.specs.Profiles.{Profile}
+use Rattle.code_defs.specs.ServerCode.{IsGeneratorRow}
 use Rattle.server_code.specs.Generator.{row_at, IsGenerator}
 
 -- the rows of the places from keep on to before a place

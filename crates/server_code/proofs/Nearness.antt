@@ -8,13 +8,13 @@ use Rattle.hail_field.proofs.AllNumbers.{nim_laws, nim_ring}
 use Rattle.poly_laws.specs.Poly.{Decodes, plus as plus_over, agree as agree_over, is_seen as is_seen_over}
 use Rattle.poly_laws.proofs.Values.{value-plus}
 use Rattle.poly_laws.proofs.Roots.{length-plus}
-use Rattle.hail_codes.specs.Polynomials.{value, agree, plus, interpolate}
-use Rattle.hail_codes.specs.Points.{upto, values_at}
-use Rattle.hail_codes.specs.Profiles.{Profile}
-use Rattle.hail_codes.specs.ServerCode.{codeword, differences, IsNear, Opens, OpensToNone}
-use Rattle.hail_codes.proofs.Generators.{value-kept}
-use Rattle.hail_codes.proofs.Codewords.{codeword-short, opens_itself}
-use Rattle.hail_codes.proofs.Values.{equal-added}
+use Rattle.code_defs.specs.Polynomials.{value, agree, plus, interpolate}
+use Rattle.code_defs.specs.Points.{upto, values_at}
+use Rattle.code_defs.specs.Profiles.{Profile}
+use Rattle.code_defs.specs.ServerCode.{codeword, differences, IsNear, Opens, OpensToNone}
+use Rattle.code_defs.proofs.Generators.{value-kept}
+use Rattle.code_defs.proofs.Codewords.{codeword-short, opens_itself}
+use Rattle.code_defs.proofs.Values.{equal-added}
 use Rattle.server_code.specs.Behind.{TakesNear}
 use Rattle.server_code.proofs.Blocks.{agree-differences, near_opens}
 use Rattle.server_code.proofs.KeyRows.{length-sums}

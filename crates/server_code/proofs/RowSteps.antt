@@ -3,7 +3,7 @@ use Rattle.std.proofs.Common.{◌≡◌, ◌≤◌, ◌<◌, ◌+◌, ◌*◌, �
 use Rattle.std.proofs.lemmas.List.{drop_more, at_drop_all}
 use Rattle.std.proofs.lemmas.List.FromFn.{fill_by_all, get_or-map-range_with_len}
 use Rattle.hail_field.specs.Nim.{nim_add, nim_mul}
-use Rattle.hail_codes.specs.Sums.{dot}
+use Rattle.code_defs.specs.Sums.{dot}
 use Rattle.server_code.specs.Generator.{row_at, sums}
 
 -- one coefficient more

@@ -1,9 +1,9 @@
 -- The rows of coefficients behind the kept places, one after the other.
 use Rattle.std.specs.Prelude.{◌≡◌, ◌<◌, ◌+◌, ◌*◌, ◌-◌, ℕ, List, length, take, drop, map}
-use Rattle.hail_codes.specs.Profiles.{Profile}
-use Rattle.hail_codes.specs.Points.{upto}
-use Rattle.hail_codes.specs.Sums.{dot}
-use Rattle.hail_codes.specs.ServerCode.{IsGeneratorRow}
+use Rattle.code_defs.specs.Profiles.{Profile}
+use Rattle.code_defs.specs.Points.{upto}
+use Rattle.code_defs.specs.Sums.{dot}
+use Rattle.code_defs.specs.ServerCode.{IsGeneratorRow}
 
 -- row r of rows of keep coefficients
 abbrev pub row_at : ℕ → List ℕ → ℕ → List ℕ

@@ -1,5 +1,5 @@
 ghost use Rattle.std.specs.Prelude.{◌≡◌, ◌≤◌, ◌↔◌, IfOk, IfNone, OnSome, IfSome, IsTrue, length};
-ghost use Rattle.hail_codes.specs.ServerCode.{codeword, IsCodeword, Opens, OpensToNone, differences};
+ghost use Rattle.code_defs.specs.ServerCode.{codeword, IsCodeword, Opens, OpensToNone, differences};
 ghost use Rattle.code_points.specs.Profile.{plain_profile};
 ghost use Rattle.server_code.specs.Any.{code_profile};
 

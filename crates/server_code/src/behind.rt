@@ -5,9 +5,9 @@
 ghost use Rattle.std.specs.Prelude.{◌≡◌, ◌≢◌, ◌≤◌, ◌<◌, ◌+◌, ◌++◌, ◌∷◌, [], ℕ, length, take, drop, slice_index, IfNone, IfSome, OnSome};
 ghost use Rattle.std.specs.Bool.{OnTrue, OnFalse};
 ghost use Rattle.hail_field.specs.Nim.{nim_add, nim_mul};
-ghost use Rattle.hail_codes.specs.Polynomials.{value, vanish, plus, root_times};
-ghost use Rattle.hail_codes.specs.Points.{upto};
-ghost use Rattle.hail_codes.specs.ServerCode.{Opens, OpensToNone, differences};
+ghost use Rattle.code_defs.specs.Polynomials.{value, vanish, plus, root_times};
+ghost use Rattle.code_defs.specs.Points.{upto};
+ghost use Rattle.code_defs.specs.ServerCode.{Opens, OpensToNone, differences};
 ghost use Rattle.code_points.specs.Profile.{plain_profile};
 ghost use Rattle.server_code.specs.Behind.{IsLoadedBehind, TakesNear};
 ghost use Rattle.server_code.specs.Products.{AreProducts};

@@ -20,7 +20,7 @@ pub struct ServerCode<const N: usize, const K: usize> {
 
 impl<const N: usize, const K: usize> ServerCode<N, K> {
     ghost use Rattle.std.specs.Prelude.{◌≤◌, ◌↔◌, IfOk, IfNone, OnSome, IfSome, IsTrue, length};
-    ghost use Rattle.hail_codes.specs.ServerCode.{codeword, IsCodeword, Opens, OpensToNone, differences};
+    ghost use Rattle.code_defs.specs.ServerCode.{codeword, IsCodeword, Opens, OpensToNone, differences};
 
     /// The code of a profile, with its coefficients.
     pub fn new(alloc: Global, profile: Profile) -> Result<ServerCode<N, K>, Memory>

@@ -1,6 +1,6 @@
 //! Correcting a block by a guess, whatever that is, that turns out to be right.
 ghost use Rattle.std.specs.Prelude.{◌≡◌, ◌≤◌, ◌<◌, length, IfNone, IfSome, OnSome};
-ghost use Rattle.hail_codes.specs.ServerCode.{codeword, differences, Opens};
+ghost use Rattle.code_defs.specs.ServerCode.{codeword, differences, Opens};
 ghost use Rattle.code_points.specs.Profile.{plain_profile};
 
 use crate::locator::guess;

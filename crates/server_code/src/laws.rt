@@ -1,10 +1,10 @@
 //! The laws of the server code.
 ghost use Rattle.std.specs.Prelude.{◌≡◌, ◌≤◌, ◌+◌, ◌-◌, ◌*◌, ◌↔◌, ℕ, List, [], ◌∷◌, length, take, replicate};
-ghost use Rattle.plain_facts.specs.Lists.{Each};
-ghost use Rattle.hail_codes.specs.Polynomials.{plus, scale};
-ghost use Rattle.hail_codes.specs.Points.{upto};
-ghost use Rattle.hail_codes.specs.Profiles.{Profile, profile_of};
-ghost use Rattle.hail_codes.specs.ServerCode.{codeword, IsCodeword, Opens};
+ghost use Rattle.plain_laws.specs.Lists.{Each};
+ghost use Rattle.code_defs.specs.Polynomials.{plus, scale};
+ghost use Rattle.code_defs.specs.Points.{upto};
+ghost use Rattle.code_defs.specs.Profiles.{Profile, profile_of};
+ghost use Rattle.code_defs.specs.ServerCode.{codeword, IsCodeword, Opens};
 ghost use Rattle.hail_syndrome.specs.Syndromes.{syndromes_of};
 
 /// The codeword of kept symbols is a codeword, and a codeword is that of its first kept symbols: there is one codeword for each list

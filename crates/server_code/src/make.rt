@@ -1,5 +1,5 @@
 ghost use Rattle.std.specs.Prelude.{◌≡◌, ◌<◌, ◌++◌, IfOk, OnOk, EachIndex, length, slice_index};
-ghost use Rattle.hail_codes.specs.Points.{upto};
+ghost use Rattle.code_defs.specs.Points.{upto};
 ghost use Rattle.code_points.specs.Profile.{plain_profile, AreKeptMultipliers};
 ghost use Rattle.server_code.specs.Generator.{IsGenerator};
 
@@ -8,7 +8,7 @@ use hail_field::Symbol;
 use std::alloc::{AllocError, Global};
 
 /// The points 0 to count - 1.
-#[tactic(auto, using(hail_codes::proofs::Points::upto_more))]
+#[tactic(auto, using(code_defs::proofs::Points::upto_more))]
 pub fn points(alloc: Global, count: u32) -> Result<Vec<Symbol>, AllocError>
     ensures { IfOk result (λ points. points.items ≡ upto count) }
 {

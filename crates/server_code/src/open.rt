@@ -1,5 +1,5 @@
 ghost use Rattle.std.specs.Prelude.{◌≡◌, ◌≤◌, IfNone, OnSome, IfSome, length};
-ghost use Rattle.hail_codes.specs.ServerCode.{Opens, OpensToNone, differences};
+ghost use Rattle.code_defs.specs.ServerCode.{Opens, OpensToNone, differences};
 ghost use Rattle.code_points.specs.Profile.{plain_profile};
 
 use crate::behind::decode;

@@ -1,5 +1,5 @@
 ghost use Rattle.std.specs.Prelude.{◌≡◌, ◌≤◌, ◌+◌, ◌-◌, ◌*◌, ◌++◌, ◌↔◌, ◌==◌, if◌then◌else◌, IsTrue, length, take, drop};
-ghost use Rattle.hail_codes.specs.Sums.{dot as dot_of};
+ghost use Rattle.code_defs.specs.Sums.{dot as dot_of};
 ghost use Rattle.server_code.specs.Generator.{row_at, sums};
 ghost use Rattle.server_code.specs.Products.{AreProducts};
 

@@ -1,5 +1,5 @@
 ghost use Rattle.std.specs.Prelude.{◌≡◌};
-ghost use Rattle.hail_codes.specs.Points.{upto};
+ghost use Rattle.code_defs.specs.Points.{upto};
 ghost use Rattle.code_points.specs.Profile.{plain_profile};
 ghost use Rattle.server_code.specs.Generator.{IsGenerator};
 ghost use Rattle.server_code.specs.Products.{AreProducts};
@@ -27,7 +27,7 @@ impl Tables {
     ghost use Rattle.std.specs.Prelude.{◌-◌, ◌↔◌, IfOk, IsTrue, length};
     ghost use Rattle.std.specs.Bool.{OnTrue};
     ghost use Rattle.std.specs.List.{range_with_len};
-    ghost use Rattle.hail_codes.specs.ServerCode.{codeword, IsCodeword, Opens};
+    ghost use Rattle.code_defs.specs.ServerCode.{codeword, IsCodeword, Opens};
 
     /// The tables of a profile.
     pub fn new(alloc: Global, profile: Profile) -> Result<Tables, Memory>

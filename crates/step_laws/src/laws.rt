@@ -1,27 +1,27 @@
 //! What a job has done by the time that it comes to a place in its list of actions.
 ghost use Rattle.std.specs.Prelude.{◌≡◌, ◌⊎◌, ℕ, suc, ◌+◌, ◌<◌, ◌≤◌, ◌==◌, false, List, ◌∷◌, ◌++◌, length, Option, Some, slice_get};
 ghost use Rattle.std.specs.List.{Contains};
-ghost use Rattle.hail_records.specs.Records.{Setup, Record, AuditDone, RepairDone};
-ghost use Rattle.hail_records.specs.Table.{File, setup_of};
+ghost use Rattle.record_defs.specs.Records.{Setup, Record, AuditDone, RepairDone};
+ghost use Rattle.record_defs.specs.Table.{File, setup_of};
 ghost use Rattle.hail_field.specs.Shape.{IsShape};
-ghost use Rattle.hail_codes.specs.Profiles.{profile_of};
-ghost use Rattle.hail_columns.specs.Objects.{Object, stripes, symbols_in};
-ghost use Rattle.hail_columns.specs.Opened.{GivesSymbols};
-ghost use Rattle.hail_machine.specs.Jobs.{PutJob, GetJob, RepairJob, Fetched, Answered, Job, job_of};
-ghost use Rattle.hail_machine.specs.Actions.{Action, Store, Work, store_actions, repair_actions, actions_of};
-ghost use Rattle.hail_machine.specs.Answers.{Got, Lost};
-ghost use Rattle.hail_machine.specs.Events.{Step, More, Ended};
-ghost use Rattle.hail_machine.specs.States.{State, Append, Doubt, IsStart, setup_in, file_object, file_in};
-ghost use Rattle.hail_machine.specs.Appends.{done_record};
-ghost use Rattle.hail_machine.specs.Given.{block_given, symbols_given};
-ghost use Rattle.hail_machine.specs.Steps.{next_action};
-ghost use Rattle.hail_machine.specs.Left.{most_left};
-ghost use Rattle.hail_machine.specs.Runs.{Moment, IsRun, now, first_moments, came};
-ghost use Rattle.step_laws.specs.Made.{WasMade};
-ghost use Rattle.step_laws.specs.Own.{own_blocks};
-ghost use Rattle.step_laws.specs.Gave.{WasFetched, WasAsked, WasOpened};
-ghost use Rattle.step_laws.specs.Skips.{SkipsRemovals};
-ghost use Rattle.step_laws.specs.Whole.{PutIsWhole, RepairIsWhole, AuditIsWhole};
+ghost use Rattle.code_defs.specs.Profiles.{profile_of};
+ghost use Rattle.column_defs.specs.Objects.{Object, stripes, symbols_in};
+ghost use Rattle.column_defs.specs.Opened.{GivesSymbols};
+ghost use Rattle.machine_defs.specs.Jobs.{PutJob, GetJob, RepairJob, Fetched, Answered, Job, job_of};
+ghost use Rattle.machine_defs.specs.Actions.{Action, Store, Work, store_actions, repair_actions, actions_of};
+ghost use Rattle.machine_defs.specs.Answers.{Got, Lost};
+ghost use Rattle.machine_defs.specs.Events.{Step, More, Ended};
+ghost use Rattle.machine_defs.specs.States.{State, Append, Doubt, IsStart, setup_in, file_object, file_in};
+ghost use Rattle.machine_defs.specs.Appends.{done_record};
+ghost use Rattle.machine_defs.specs.Given.{block_given, symbols_given};
+ghost use Rattle.machine_defs.specs.Steps.{next_action};
+ghost use Rattle.machine_defs.specs.Left.{most_left};
+ghost use Rattle.machine_defs.specs.Runs.{Moment, IsRun, now, first_moments, came};
+ghost use Rattle.second_half_laws.specs.Made.{WasMade};
+ghost use Rattle.second_half_laws.specs.Own.{own_blocks};
+ghost use Rattle.second_half_laws.specs.Gave.{WasFetched, WasAsked, WasOpened};
+ghost use Rattle.second_half_laws.specs.Skips.{SkipsRemovals};
+ghost use Rattle.second_half_laws.specs.Whole.{PutIsWhole, RepairIsWhole, AuditIsWhole};
 
 /// A setup in effect stays in effect.
 pub fn setups_stay()

@@ -1,7 +1,7 @@
 -- Bytes that a device may tell, one call after another.
 use Rattle.std.proofs.Common.{◌≡◌, ℕ, ◌+◌, List, ◌++◌, take, drop, Option, Some, None, refl, sym, ap, ◌∙◌, append_assoc}
 use Rattle.std.proofs.Math.Seq.{take-add}
-use Rattle.hail_devices.specs.Told.{told_then}
+use Rattle.device_defs.specs.Told.{told_then}
 
 pub told_then-append : (told : Option (List ℕ)) (xs ys : List ℕ) → told_then (told_then told xs) ys ≡ told_then told (xs ++ ys)
 told_then-append None xs ys = refl

@@ -1,6 +1,6 @@
 -- Streams in memory, as contracts see them.
 use Rattle.std.specs.Prelude.{ℕ, List}
-use Rattle.hail_devices.specs.Calls.{CallCount}
+use Rattle.device_defs.specs.Calls.{CallCount}
 
 -- a sink: the bytes written so far, and its calls
 pub record SinkInMemory : Type 0 where

@@ -1,6 +1,6 @@
 ghost use Rattle.std.specs.Prelude.{◌≡◌, IfOk, IsTrue};
-ghost use Rattle.hail_devices.specs.Faults.{HasCause};
-ghost use Rattle.hail_devices.specs.Calls.{fails_next, no_calls, called};
+ghost use Rattle.device_defs.specs.Faults.{HasCause};
+ghost use Rattle.device_defs.specs.Calls.{fails_next, no_calls, called};
 
 use crate::fault::Memory;
 use std::alloc::Global;
@@ -15,7 +15,7 @@ pub struct Calls {
 }
 
 impl Model for Calls {
-    ghost use Rattle.hail_devices.specs.Calls.{CallCount};
+    ghost use Rattle.device_defs.specs.Calls.{CallCount};
 
     ghost Value = { CallCount };
 

@@ -1,6 +1,6 @@
 //! What holds of every byte.
 ghost use Rattle.std.specs.Prelude.{All};
-ghost use Rattle.hail_devices.specs.Told.{IsByte};
+ghost use Rattle.device_defs.specs.Told.{IsByte};
 
 /// A byte is a number below 256.
 pub fn byte_is_in_range(byte: u8)

@@ -1,9 +1,9 @@
 // A sink and a source in memory, some of whose calls fail.
 ghost use Rattle.std.specs.Prelude.{◌≡◌, ◌<◌, ◌≤◌, ◌↔◌, min, ℕ, Some, [], length, take, IfOk, OnErr, IsErr, IfSome, IsErrOf, IsTrue};
 ghost use Rattle.stream_model.specs.declared.fault.WriteFault.TheVariants as write_fault;
-ghost use Rattle.hail_devices.specs.Faults.{HasCause};
-ghost use Rattle.hail_devices.specs.Told.{told_then, then_told};
-ghost use Rattle.hail_devices.specs.Calls.{fails_next, no_calls, called};
+ghost use Rattle.device_defs.specs.Faults.{HasCause};
+ghost use Rattle.device_defs.specs.Told.{told_then, then_told};
+ghost use Rattle.device_defs.specs.Calls.{fails_next, no_calls, called};
 
 use crate::calls::Calls;
 use crate::fault::{Failed, Memory, WriteFault};

@@ -1,7 +1,7 @@
 ghost use Rattle.std.specs.Prelude.{◌≡◌, OnOk, OnErr, IsErrOf};
 ghost use Rattle.stream_model.specs.declared.fault.WriteFault.TheVariants as write_fault;
-ghost use Rattle.hail_devices.specs.Faults.{HasCause};
-ghost use Rattle.hail_devices.specs.Told.{told_then, TakesFront};
+ghost use Rattle.device_defs.specs.Faults.{HasCause};
+ghost use Rattle.device_defs.specs.Told.{told_then, TakesFront};
 
 use crate::fault::WriteFault;
 use crate::sink::Sink;

@@ -3,8 +3,8 @@ use Rattle.std.proofs.Common.{◌≡◌, ℕ, ◌+◌, ◌<◌, codes, List, [],
 use Rattle.std.proofs.lemmas.List.{take_more, flat_map_more}
 use Rattle.std.specs.List.{flat_map}
 use Rattle.std.specs.Fmt.{decimal}
-use Rattle.hail_machine.specs.Answers.{Audited}
-use Rattle.hail_machine.specs.Lines.{line, then_number, answer_text}
+use Rattle.machine_defs.specs.Answers.{Audited}
+use Rattle.machine_defs.specs.Lines.{line, then_number, answer_text}
 
 -- one number more
 pub numbered_more : (numbers start text : List ℕ) (place : ℕ) → place < length numbers

@@ -2,8 +2,8 @@
 --
 --   came_outcome came  == the outcome of what the call for an event answered
 use Rattle.std.specs.Prelude.{option_copied}
-use Rattle.hail_machine.specs.Events.{Outcome}
-use Rattle.hail_machine.specs.Events as events
+use Rattle.machine_defs.specs.Events.{Outcome}
+use Rattle.machine_defs.specs.Events as events
 use Rattle.vault_open.specs.Inits.{init_outcome}
 use Rattle.hail_client.specs.Outcomes.{client_begin_outcome, step_outcome, reopen_outcome, replace_outcome, names_outcome}
 use Rattle.transcript_lines.specs.declared.came.Came.{Came}

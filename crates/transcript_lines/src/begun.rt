@@ -1,6 +1,6 @@
 // The line of a begin.
 ghost use Rattle.std.specs.Prelude.{◌≡◌, IfOk};
-ghost use Rattle.hail_machine.specs.Lines.{lines_of, refusal_text};
+ghost use Rattle.machine_defs.specs.Lines.{lines_of, refusal_text};
 ghost use Rattle.vault_core.specs.Carried.{refusal_of};
 ghost use Rattle.hail_client.specs.Outcomes.{client_begin_outcome};
 

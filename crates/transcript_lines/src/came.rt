@@ -1,5 +1,5 @@
 ghost use Rattle.std.specs.Prelude.{◌≡◌, IfOk};
-ghost use Rattle.hail_machine.specs.Lines.{lines_of};
+ghost use Rattle.machine_defs.specs.Lines.{lines_of};
 ghost use Rattle.transcript_lines.specs.Came.{came_outcome};
 
 use crate::begun::begin_line;

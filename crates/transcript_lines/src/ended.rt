@@ -2,8 +2,8 @@
 ghost use Rattle.std.specs.Prelude.{◌≡◌, ◌≤◌, ◌++◌, codes, length, IfOk, OnOk};
 ghost use Rattle.std.specs.List.{flat_map};
 ghost use Rattle.std.specs.String.{string_bytes};
-ghost use Rattle.hail_machine.specs.Answers.{Got, Audited};
-ghost use Rattle.hail_machine.specs.Lines.{line, then_number, hex, hex_or_dash, answer_text};
+ghost use Rattle.machine_defs.specs.Answers.{Got, Audited};
+ghost use Rattle.machine_defs.specs.Lines.{line, then_number, hex, hex_or_dash, answer_text};
 ghost use Rattle.record_codec.specs.Entries.{counted};
 ghost use Rattle.vault.specs.Outcomes.{machine_answer};
 

@@ -1,7 +1,7 @@
 // The lines of a list of the files in effect.
 ghost use Rattle.std.specs.Prelude.{◌≡◌, IfOk, option_copied};
-ghost use Rattle.hail_machine.specs.Events.{Listed};
-ghost use Rattle.hail_machine.specs.Lines.{lines_of};
+ghost use Rattle.machine_defs.specs.Events.{Listed};
+ghost use Rattle.machine_defs.specs.Lines.{lines_of};
 ghost use Rattle.hail_client.specs.Outcomes.{names_outcome};
 
 use command_lines::list_lines;

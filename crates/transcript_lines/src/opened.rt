@@ -1,7 +1,7 @@
 // The lines of an init and of a reopening.
 ghost use Rattle.std.specs.Prelude.{◌≡◌, IfOk};
-ghost use Rattle.hail_machine.specs.Events.{Refused};
-ghost use Rattle.hail_machine.specs.Lines.{lines_of};
+ghost use Rattle.machine_defs.specs.Events.{Refused};
+ghost use Rattle.machine_defs.specs.Lines.{lines_of};
 ghost use Rattle.vault_open.specs.Inits.{init_outcome};
 ghost use Rattle.hail_client.specs.Outcomes.{start_refusal, reopen_outcome};
 

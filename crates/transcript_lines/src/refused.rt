@@ -1,7 +1,7 @@
 // The line of a refusal.
 ghost use Rattle.std.specs.Prelude.{◌≡◌, ◌++◌, codes, IfOk};
-ghost use Rattle.hail_machine.specs.Lines.{line, refusal_text};
-ghost use Rattle.hail_machine.specs.Refusals.{BadJournal};
+ghost use Rattle.machine_defs.specs.Lines.{line, refusal_text};
+ghost use Rattle.machine_defs.specs.Refusals.{BadJournal};
 
 use crate::text::of_text;
 use std::alloc::Global;

@@ -1,7 +1,7 @@
 // The lines of an adversary's changes and of a stop.
 ghost use Rattle.std.specs.Prelude.{◌≡◌};
-ghost use Rattle.hail_machine.specs.Events.{Stopped};
-ghost use Rattle.hail_machine.specs.Lines.{lines_of};
+ghost use Rattle.machine_defs.specs.Events.{Stopped};
+ghost use Rattle.machine_defs.specs.Lines.{lines_of};
 ghost use Rattle.hail_client.specs.Outcomes.{replace_outcome};
 
 /// The line of an alteration or a loss: whether what it meets was held.

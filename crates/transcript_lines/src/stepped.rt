@@ -1,6 +1,6 @@
 // The line of a step.
 ghost use Rattle.std.specs.Prelude.{◌≡◌, IfOk};
-ghost use Rattle.hail_machine.specs.Lines.{lines_of};
+ghost use Rattle.machine_defs.specs.Lines.{lines_of};
 ghost use Rattle.hail_client.specs.Outcomes.{step_outcome};
 
 use crate::ended::answer_line;

@@ -1,9 +1,9 @@
 -- Steps that went on count nothing, so a run's counts grow by those of its last moment.
 use Rattle.std.proofs.Common.{◌≡◌, ℕ, ◌+◌, Bool, false, List, [], ◌∷◌, ◌++◌, length, refl, sym, ap, ◌∙◌, arith}
 use Rattle.std.proofs.lemmas.List.{append-nil}
-use Rattle.hail_machine.specs.Events.{Outcome, More}
-use Rattle.hail_machine.specs.Runs.{Moment}
-use Rattle.hail_machine.specs.Transcripts.{Instruction, GoOn}
+use Rattle.machine_defs.specs.Events.{Outcome, More}
+use Rattle.machine_defs.specs.Runs.{Moment}
+use Rattle.machine_defs.specs.Transcripts.{Instruction, GoOn}
 use Rattle.trial_counts.specs.Counts.{TrialCounts, one_if, how_many, is_got, is_expected, is_audited, is_repaired, is_stopped, flagged_by, flagged_in, counts_of, counts_on}
 use Rattle.trial_counts.specs.Seen.{SeesOne}
 

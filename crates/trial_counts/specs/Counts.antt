@@ -17,11 +17,11 @@
 use Rattle.std.specs.Prelude.{ℕ, ◌+◌, Bool, true, false, List, [], ◌∷◌, ◌++◌, length, codes, nat_lt, if◌then◌else◌}
 use Rattle.std.specs.List.{flat_map}
 use Rattle.std.specs.Str.{bytes_eq}
-use Rattle.hail_machine.specs.Answers.{Got, Audited, Repaired}
-use Rattle.hail_machine.specs.Events.{Outcome, Ended, Stopped}
-use Rattle.hail_machine.specs.Runs.{Moment}
-use Rattle.hail_machine.specs.Transcripts.{Instruction}
-use Rattle.hail_machine.specs.Lines.{line, then_number}
+use Rattle.machine_defs.specs.Answers.{Got, Audited, Repaired}
+use Rattle.machine_defs.specs.Events.{Outcome, Ended, Stopped}
+use Rattle.machine_defs.specs.Runs.{Moment}
+use Rattle.machine_defs.specs.Transcripts.{Instruction}
+use Rattle.machine_defs.specs.Lines.{line, then_number}
 use Rattle.trial_maker.specs.Trials.{trial_tolerance}
 
 -- what a trial counts

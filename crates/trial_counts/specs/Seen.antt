@@ -7,9 +7,9 @@
 --   counts_in t                        == the counts that a tally keeps
 --   IsTally t                          == none of them is above the count of events
 use Rattle.std.specs.Prelude.{◌≡◌, ◌≤◌, ℕ, List, ◌∷◌, ◌++◌}
-use Rattle.hail_machine.specs.Events.{Outcome}
-use Rattle.hail_machine.specs.Runs.{Moment}
-use Rattle.hail_machine.specs.Transcripts.{Instruction, GoOn}
+use Rattle.machine_defs.specs.Events.{Outcome}
+use Rattle.machine_defs.specs.Runs.{Moment}
+use Rattle.machine_defs.specs.Transcripts.{Instruction, GoOn}
 use Rattle.trial_counts.specs.declared.seen.Seen.{Seen}
 use Rattle.trial_counts.specs.declared.tally.Tally.TheInside.{Inside}
 use Rattle.trial_counts.specs.Counts.{TrialCounts, is_got, is_expected, is_audited, is_repaired, is_stopped, flagged_by, counts_of}

@@ -3,8 +3,8 @@
 --   TellsTrial number ms text  == these moments carry out the events of the trial of a number, and the text
 --                                 is the six lines of their counts
 use Rattle.std.specs.Prelude.{◌≡◌, ℕ, List, reverse}
-use Rattle.hail_machine.specs.Runs.{Moment}
-use Rattle.hail_machine.specs.Transcripts.{CarriesOut}
+use Rattle.machine_defs.specs.Runs.{Moment}
+use Rattle.machine_defs.specs.Transcripts.{CarriesOut}
 use Rattle.trial_maker.specs.Trials.{trial_bytes, trial_commands}
 use Rattle.trial_counts.specs.Counts.{counts_of, trial_lines}
 

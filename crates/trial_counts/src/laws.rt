@@ -1,7 +1,7 @@
 //! Laws of what a trial tells.
 ghost use Rattle.std.specs.Prelude.{◌≡◌, ◌++◌, ◌∷◌, ℕ, List, [], codes};
-ghost use Rattle.hail_machine.specs.Runs.{Moment};
-ghost use Rattle.hail_machine.specs.Lines.{line};
+ghost use Rattle.machine_defs.specs.Runs.{Moment};
+ghost use Rattle.machine_defs.specs.Lines.{line};
 ghost use Rattle.trial_maker.specs.Trials.{trial_bytes};
 ghost use Rattle.trial_counts.specs.Counts.{counts_of, trial_lines};
 ghost use Rattle.trial_counts.specs.Trials.{TellsTrial};

@@ -2,7 +2,7 @@
 ghost use Rattle.std.specs.Prelude.{◌≡◌, ◌++◌, codes, IfOk, OnOk};
 ghost use Rattle.std.specs.List.{flat_map};
 ghost use Rattle.std.specs.String.{string_bytes};
-ghost use Rattle.hail_machine.specs.Lines.{line, then_number};
+ghost use Rattle.machine_defs.specs.Lines.{line, then_number};
 ghost use Rattle.trial_counts.specs.Counts.{trial_lines};
 
 use crate::tally::Tally;

@@ -1,6 +1,6 @@
 // What one event is to the counts of a trial.
 ghost use Rattle.std.specs.Prelude.{◌≡◌, ◌≤◌, false, [], length, IfOk};
-ghost use Rattle.hail_machine.specs.Events.{Ended};
+ghost use Rattle.machine_defs.specs.Events.{Ended};
 ghost use Rattle.vault.specs.Outcomes.{machine_answer};
 ghost use Rattle.transcript_lines.specs.Came.{came_outcome};
 ghost use Rattle.trial_counts.specs.Counts.{flagged_from};

@@ -1,9 +1,9 @@
 -- Events behind events.
 use Rattle.std.proofs.Common.{◌≡◌, ℕ, ◌+◌, List, [], ◌∷◌, ◌++◌, refl, ap, ◌∙◌, append_assoc, arith}
 use Rattle.std.proofs.lemmas.List.FromFn.{map-range_with_len_more}
-use Rattle.hail_machine.specs.Jobs.{PutJob}
-use Rattle.hail_machine.specs.Events.{Init, Lose, Reopen}
-use Rattle.hail_machine.specs.Transcripts.{Instruction, Once}
+use Rattle.machine_defs.specs.Jobs.{PutJob}
+use Rattle.machine_defs.specs.Events.{Init, Lose, Reopen}
+use Rattle.machine_defs.specs.Transcripts.{Instruction, Once}
 use Rattle.trial_maker.specs.Trials.{trial_key, trial_bytes, trial_name, whole, opening, losses}
 
 -- one loss more

@@ -5,7 +5,7 @@
 --   byte_of x             == the byte that a draw gives: its upper eight bits
 --   bytes_behind seed k n == the bytes of the n draws behind the k-th
 use Rattle.std.specs.Prelude.{ℕ, zero, suc, ◌+◌, ◌*◌, ◌/◌, ◌%◌, ◌^◌, List, map}
-use Rattle.hail_codes.specs.Points.{upto}
+use Rattle.code_defs.specs.Points.{upto}
 
 -- the draw behind a draw
 abbrev pub next_draw : ℕ → ℕ

@@ -15,11 +15,11 @@
 --   epoch provider job, last_epoch provider job == an epoch whose first job has this number
 --   trial_commands seed              == all of these, in order
 use Rattle.std.specs.Prelude.{ℕ, ◌+◌, ◌/◌, ◌%◌, ◌^◌, List, [], ◌∷◌, ◌++◌, map, replicate, codes}
-use Rattle.hail_codes.specs.Points.{upto}
-use Rattle.hail_records.specs.Records.{Setup}
-use Rattle.hail_machine.specs.Jobs.{Kind, PutJob, GetJob, AuditJob, RepairJob}
-use Rattle.hail_machine.specs.Events.{Init, Begin, Step, Lose, Stop, Reopen}
-use Rattle.hail_machine.specs.Transcripts.{Instruction, Once, RunJob}
+use Rattle.code_defs.specs.Points.{upto}
+use Rattle.record_defs.specs.Records.{Setup}
+use Rattle.machine_defs.specs.Jobs.{Kind, PutJob, GetJob, AuditJob, RepairJob}
+use Rattle.machine_defs.specs.Events.{Init, Begin, Step, Lose, Stop, Reopen}
+use Rattle.machine_defs.specs.Transcripts.{Instruction, Once, RunJob}
 use Rattle.trial_maker.specs.Draws.{draw, bytes_behind}
 
 -- the master key

@@ -1,8 +1,8 @@
 // Puts the events of a trial behind others.
 ghost use Rattle.std.specs.Prelude.{◌≡◌, ◌++◌, ◌∷◌, ◌+◌, ◌<◌, ◌^◌, [], OnOk, replicate};
-ghost use Rattle.hail_machine.specs.Events.{Step};
-ghost use Rattle.hail_machine.specs.Transcripts.{Once, RunJob};
-ghost use Rattle.hail_machine.specs.Jobs.{GetJob, AuditJob, RepairJob};
+ghost use Rattle.machine_defs.specs.Events.{Step};
+ghost use Rattle.machine_defs.specs.Transcripts.{Once, RunJob};
+ghost use Rattle.machine_defs.specs.Jobs.{GetJob, AuditJob, RepairJob};
 ghost use Rattle.schedule_text.specs.Events.{event_command, commands_of};
 ghost use Rattle.trial_maker.specs.Trials.{losses, cut, whole, trial_name, epoch, last_epoch};
 

@@ -1,6 +1,6 @@
 //! Laws of the trial.
 ghost use Rattle.std.specs.Prelude.{◌≡◌, length, codes};
-ghost use Rattle.hail_machine.specs.Lines.{hex};
+ghost use Rattle.machine_defs.specs.Lines.{hex};
 ghost use Rattle.trial_maker.specs.Draws.{draw, bytes_behind};
 ghost use Rattle.trial_maker.specs.Trials.{losing_provider, trial_key, trial_bytes, trial_commands};
 

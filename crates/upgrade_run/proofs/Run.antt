@@ -1,12 +1,12 @@
 -- The moments of the run, and what it comes to.
 use Rattle.std.proofs.Common.{◌<◌, ◌^◌, List, [], ◌∷◌, refl, inr, arith}
-use Rattle.hail_machine.specs.Jobs.{GetJob, UpgradeJob}
-use Rattle.hail_machine.specs.Answers.{Put, Got, Upgraded, Scrubbed}
-use Rattle.hail_machine.specs.Events.{Begin, BeginAt, BeginScrub, BeginPack, Step, Alter, Stop, Reopen, Opened, Begun, More, Ended, Replaced, Stopped}
-use Rattle.hail_machine.specs.States.{setup_in}
-use Rattle.hail_machine.specs.Runs.{Moment, IsRun}
-use Rattle.hail_machine.specs.Examples.{set_up}
-use Rattle.hail_records.specs.Examples.{four}
+use Rattle.machine_defs.specs.Jobs.{GetJob, UpgradeJob}
+use Rattle.machine_defs.specs.Answers.{Put, Got, Upgraded, Scrubbed}
+use Rattle.machine_defs.specs.Events.{Begin, BeginAt, BeginScrub, BeginPack, Step, Alter, Stop, Reopen, Opened, Begun, More, Ended, Replaced, Stopped}
+use Rattle.machine_defs.specs.States.{setup_in}
+use Rattle.machine_defs.specs.Runs.{Moment, IsRun}
+use Rattle.machine_defs.specs.Examples.{set_up}
+use Rattle.record_defs.specs.Examples.{four}
 use Rattle.damage_run.specs.Schedule.{name, byte}
 use Rattle.upgrade_run.specs.Schedule.{HasAll}
 use Rattle.upgrade_run.proofs.Steps.{state_1, state_2, state_3, state_4, state_5, state_6, state_7, state_8, state_9, state_10, state_11, state_12, state_13, state_14, state_15, state_16, state_17, state_18, state_19, state_20, state_21, state_22, state_23, state_24, state_25, state_26, state_27, state_28, state_29, state_30, state_31, state_32, state_33, state_34, state_35, state_36, state_37, state_38, state_39, state_40, state_41, state_42, state_43, happens_0, happens_1, happens_2, happens_3, happens_4, happens_5, happens_6, happens_7, happens_8, happens_9, happens_10, happens_11, happens_12, happens_13, happens_14, happens_15, happens_16, happens_17, happens_18, happens_19, happens_20, happens_21, happens_22, happens_23, happens_24, happens_25, happens_26, happens_27, happens_28, happens_29, happens_30, happens_31, happens_32, happens_33, happens_34, happens_35, happens_36, happens_37, happens_38, happens_39, happens_40, happens_41, happens_42}

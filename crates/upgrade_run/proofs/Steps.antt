@@ -1,23 +1,23 @@
 -- The states and steps of the run.
 use Rattle.std.proofs.Common.{◌≡◌, ℕ, ◌+◌, ◌<◌, List, [], ◌∷◌, ◌++◌, Some, None, refl, ap, sym, inl, inr, arith}
-use Rattle.hail_records.specs.Records.{PutStart, PutDoneIn, Version}
-use Rattle.hail_records.specs.Packed.{packed}
-use Rattle.hail_records.specs.Areas.{B}
-use Rattle.hail_devices.specs.Faults.{one_more}
-use Rattle.hail_devices.specs.Providers.{Provider, with_block, with_symbol, Held}
+use Rattle.record_defs.specs.Records.{PutStart, PutDoneIn, Version}
+use Rattle.record_defs.specs.Packed.{packed}
+use Rattle.record_defs.specs.Areas.{B}
+use Rattle.device_defs.specs.Faults.{one_more}
+use Rattle.device_defs.specs.Providers.{Provider, with_block, with_symbol, Held}
 use Rattle.std.specs.Option.{option_map}
-use Rattle.hail_machine.specs.Jobs.{PutJob, GetJob, UpgradeJob, Fetched, Worked, advanced_with}
-use Rattle.hail_machine.specs.Actions.{Action, Fetch, Work, Store, End, actions_of}
-use Rattle.hail_machine.specs.Answers.{Put, Got, Upgraded, Scrubbed}
-use Rattle.hail_machine.specs.Events.{Begin, BeginAt, BeginScrub, BeginPack, Step, Alter, Stop, Reopen, Opened, Begun, More, Ended, Replaced, Stopped}
-use Rattle.hail_machine.specs.States.{State, Scrub, Pack, Scrubbing, Packing, setup_in, ended, going_on, given_up, with_provider}
-use Rattle.hail_machine.specs.Begins.{beginning}
-use Rattle.hail_machine.specs.Appends.{begun_append, done_append}
-use Rattle.hail_machine.specs.Alone.{new_scrub, new_pack, off_by, found_more, scrubbing, unalone, block_to_scrub, packing, switching}
-use Rattle.hail_machine.specs.Openings.{reread}
-use Rattle.hail_machine.specs.Machine.{Happens}
-use Rattle.hail_machine.specs.Examples.{set_up}
-use Rattle.hail_machine.proofs.RunParts.{reopened, begun, job_at, append_at, synced, gated, with_store, store_call}
+use Rattle.machine_defs.specs.Jobs.{PutJob, GetJob, UpgradeJob, Fetched, Worked, advanced_with}
+use Rattle.machine_defs.specs.Actions.{Action, Fetch, Work, Store, End, actions_of}
+use Rattle.machine_defs.specs.Answers.{Put, Got, Upgraded, Scrubbed}
+use Rattle.machine_defs.specs.Events.{Begin, BeginAt, BeginScrub, BeginPack, Step, Alter, Stop, Reopen, Opened, Begun, More, Ended, Replaced, Stopped}
+use Rattle.machine_defs.specs.States.{State, Scrub, Pack, Scrubbing, Packing, setup_in, ended, going_on, given_up, with_provider}
+use Rattle.machine_defs.specs.Begins.{beginning}
+use Rattle.machine_defs.specs.Appends.{begun_append, done_append}
+use Rattle.machine_defs.specs.Alone.{new_scrub, new_pack, off_by, found_more, scrubbing, unalone, block_to_scrub, packing, switching}
+use Rattle.machine_defs.specs.Openings.{reread}
+use Rattle.machine_defs.specs.Machine.{Happens}
+use Rattle.machine_defs.specs.Examples.{set_up}
+use Rattle.machine_defs.proofs.RunParts.{reopened, begun, job_at, append_at, synced, gated, with_store, store_call}
 use Rattle.damage_run.specs.Schedule.{name, byte}
 use Rattle.upgrade_run.proofs.Values.{symbols, byte_back, block, length-block, block_sized, altered, length-altered, differs_0, differs_not, damaged_give, all_give, one_store, one_symbol, one_block}
 

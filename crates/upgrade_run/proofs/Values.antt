@@ -3,21 +3,21 @@ use Rattle.std.proofs.Common.{◌≡◌, ℕ, suc, ◌+◌, ◌==◌, false, Lis
 use Rattle.std.specs.Prelude.{take, slice_set, slice_index, if◌then◌else◌}
 use Rattle.std.specs.List.{flat_map}
 use Rattle.std.proofs.lemmas.Bool.{eq-eqb}
-use Rattle.hail_codes.specs.Points.{upto}
-use Rattle.hail_codes.specs.ServerCode.{differences}
-use Rattle.hail_codes.proofs.Codewords.{differences-same}
-use Rattle.hail_columns.specs.Objects.{symbol_of, symbols_in, bytes_of_symbols}
-use Rattle.hail_columns.specs.Columns.{columns, column_of_symbols, is_wrong_block}
-use Rattle.hail_columns.specs.Opened.{SeenBlock, bare, OpensTo, GivesSymbols}
-use Rattle.hail_columns.proofs.ColumnLaws.{length-column_of_symbols}
-use Rattle.hail_devices.specs.Providers.{sized}
+use Rattle.code_defs.specs.Points.{upto}
+use Rattle.code_defs.specs.ServerCode.{differences}
+use Rattle.code_defs.proofs.Codewords.{differences-same}
+use Rattle.column_defs.specs.Objects.{symbol_of, symbols_in, bytes_of_symbols}
+use Rattle.column_defs.specs.Columns.{columns, column_of_symbols, is_wrong_block}
+use Rattle.column_defs.specs.Opened.{SeenBlock, bare, OpensTo, GivesSymbols}
+use Rattle.column_defs.proofs.ColumnLaws.{length-column_of_symbols}
+use Rattle.device_defs.specs.Providers.{sized}
 use Rattle.column_laws.proofs.RightBlocks.{opens-right}
 use Rattle.column_laws.proofs.Worked.{column-right, opens-own}
-use Rattle.hail_machine.specs.Actions.{Store, End}
-use Rattle.hail_machine.proofs.JobLists.{cond_true}
+use Rattle.machine_defs.specs.Actions.{Store, End}
+use Rattle.machine_defs.proofs.JobLists.{cond_true}
 use Rattle.column_laws.proofs.RightRows.{given-right, kept-symbol}
 use Rattle.run_laws.proofs.SymbolBytes.{bytes_back}
-use Rattle.step_laws.proofs.GivesRight.{own_give}
+use Rattle.second_half_laws.proofs.GivesRight.{own_give}
 use Rattle.damage_run.specs.Schedule.{byte}
 use Rattle.upgrade_run.specs.Schedule.{thing}
 

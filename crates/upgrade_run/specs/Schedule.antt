@@ -5,20 +5,20 @@
 --   HasAll ms       == these moments are a run from a start of four providers, at limit 8, in which all that
 --                      the second version brings happens
 use Rattle.std.specs.Prelude.{◌≡◌, ℕ, suc, true, List, [], ◌∷◌, length, Some}
-use Rattle.hail_columns.specs.Objects.{Object}
-use Rattle.hail_columns.specs.Columns.{columns}
-use Rattle.hail_records.specs.Records.{Record, SetUp, PutStart, PutDoneIn, Version}
-use Rattle.hail_records.specs.Table.{version_of}
-use Rattle.hail_records.specs.Packed.{packed}
-use Rattle.hail_records.specs.Areas.{A, B}
-use Rattle.hail_records.specs.Examples.{four}
-use Rattle.hail_machine.specs.Setups.{profiled, object_of}
-use Rattle.hail_machine.specs.Answers.{Put, Got, Upgraded, Scrubbed}
-use Rattle.hail_machine.specs.Events.{Event, BeginAt, Alter, Stop, Step, Outcome, Begun, Replaced, Stopped, Ended}
-use Rattle.hail_machine.specs.States.{State, IsStart, Packing, setup_in, file_in}
-use Rattle.hail_machine.specs.Runs.{Moment, IsRun, now, first_moments}
-use Rattle.hail_machine.specs.Deeds.{told_block}
-use Rattle.hail_machine.specs.Examples.{set_up}
+use Rattle.column_defs.specs.Objects.{Object}
+use Rattle.column_defs.specs.Columns.{columns}
+use Rattle.record_defs.specs.Records.{Record, SetUp, PutStart, PutDoneIn, Version}
+use Rattle.record_defs.specs.Table.{version_of}
+use Rattle.record_defs.specs.Packed.{packed}
+use Rattle.record_defs.specs.Areas.{A, B}
+use Rattle.record_defs.specs.Examples.{four}
+use Rattle.machine_defs.specs.Setups.{profiled, object_of}
+use Rattle.machine_defs.specs.Answers.{Put, Got, Upgraded, Scrubbed}
+use Rattle.machine_defs.specs.Events.{Event, BeginAt, Alter, Stop, Step, Outcome, Begun, Replaced, Stopped, Ended}
+use Rattle.machine_defs.specs.States.{State, IsStart, Packing, setup_in, file_in}
+use Rattle.machine_defs.specs.Runs.{Moment, IsRun, now, first_moments}
+use Rattle.machine_defs.specs.Deeds.{told_block}
+use Rattle.machine_defs.specs.Examples.{set_up}
 use Rattle.damage_run.specs.Schedule.{name, byte}
 use Rattle.damage_run.specs.Points.{at}
 

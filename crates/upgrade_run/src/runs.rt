@@ -1,6 +1,6 @@
 //! A run, given outright.
 ghost use Rattle.std.specs.Prelude.{List};
-ghost use Rattle.hail_machine.specs.Runs.{Moment};
+ghost use Rattle.machine_defs.specs.Runs.{Moment};
 ghost use Rattle.upgrade_run.specs.Schedule.{HasAll};
 
 /// A run of 43 events: an upgrade; a put of a file with a profile of its own; one altered symbol; a scrub that finds it and mends its

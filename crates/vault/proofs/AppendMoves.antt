@@ -1,27 +1,27 @@
 -- The moves of an append are steps of the machine.
 use Rattle.std.proofs.Common.{◌≡◌, ℕ, ◌+◌, ◌<◌, ◌≤◌, ◌==◌, true, false, List, ◌∷◌, length, Option, Some, None, refl, sym, ap, subst, ◌∙◌, inl, inr, arith}
 use Rattle.std.specs.Prelude.{IfSome, is_some}
-use Rattle.hail_devices.specs.Cells.{Cells}
-use Rattle.hail_devices.specs.Faults.{HasCause, Rose}
-use Rattle.hail_devices.specs.Providers.{Provider}
-use Rattle.hail_devices.specs.Told.{Goes}
-use Rattle.hail_records.specs.Records.{Record}
-use Rattle.hail_records.specs.Journal.{before_gate, text_size}
-use Rattle.hail_records.specs.Table.{setup_of}
-use Rattle.hail_records.specs.Acceptance.{refused}
-use Rattle.hail_records.proofs.Sizes.{length-before_gate}
-use Rattle.hail_machine.specs.Actions.{Action, WriteBody, SyncBody, WriteGate, SyncGate, Store, Fetch, Ask, Work, Remove, End}
-use Rattle.hail_machine.specs.Appends.{Moves, Writes, subject_drawn, begun_append, taken_out, moved, doubted, barred, unappended, done_append, IsAt}
-use Rattle.hail_machine.specs.Events.{More, Ended}
-use Rattle.hail_machine.specs.Answers as answers
-use Rattle.hail_machine.specs.Jobs.{Job, job_of, advanced, without_job}
-use Rattle.hail_machine.specs.Setups.{setup_or_none}
-use Rattle.hail_machine.specs.States.{State, Append, Doubt, setup_in, going_on, ended}
-use Rattle.hail_machine.proofs.JobLists.{number_of, same_value}
-use Rattle.sound_states.specs.Orders.{moves_before}
-use Rattle.sound_states.specs.Sound.{IsGatedDoubt, IsDoubtOf}
-use Rattle.sound_states.proofs.Given.{mover}
-use Rattle.sound_states.proofs.Records.{setup-more}
+use Rattle.device_defs.specs.Cells.{Cells}
+use Rattle.device_defs.specs.Faults.{HasCause, Rose}
+use Rattle.device_defs.specs.Providers.{Provider}
+use Rattle.device_defs.specs.Told.{Goes}
+use Rattle.record_defs.specs.Records.{Record}
+use Rattle.record_defs.specs.Journal.{before_gate, text_size}
+use Rattle.record_defs.specs.Table.{setup_of}
+use Rattle.record_defs.specs.Acceptance.{refused}
+use Rattle.record_defs.proofs.Sizes.{length-before_gate}
+use Rattle.machine_defs.specs.Actions.{Action, WriteBody, SyncBody, WriteGate, SyncGate, Store, Fetch, Ask, Work, Remove, End}
+use Rattle.machine_defs.specs.Appends.{Moves, Writes, subject_drawn, begun_append, taken_out, moved, doubted, barred, unappended, done_append, IsAt}
+use Rattle.machine_defs.specs.Events.{More, Ended}
+use Rattle.machine_defs.specs.Answers as answers
+use Rattle.machine_defs.specs.Jobs.{Job, job_of, advanced, without_job}
+use Rattle.machine_defs.specs.Setups.{setup_or_none}
+use Rattle.machine_defs.specs.States.{State, Append, Doubt, setup_in, going_on, ended}
+use Rattle.machine_defs.proofs.JobLists.{number_of, same_value}
+use Rattle.state_laws.specs.Orders.{moves_before}
+use Rattle.state_laws.specs.Sound.{IsGatedDoubt, IsDoubtOf}
+use Rattle.state_laws.proofs.Given.{mover}
+use Rattle.state_laws.proofs.Records.{setup-more}
 use Rattle.journal_core.specs.Appends.{Appends, gate_of, body_of, moves_of}
 use Rattle.journal_core.specs.Moves.{IsClosed, IsAfterMoves, SameFrom}
 use Rattle.journal_core.proofs.BeyondLemmas.{goes_still}

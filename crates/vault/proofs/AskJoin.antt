@@ -9,31 +9,31 @@ use Rattle.std.proofs.lemmas.List.{append-nil}
 use Rattle.std.proofs.lemmas.List.Sums.{sum_by-cons}
 use Rattle.std.proofs.lemmas.Iterator.Adapters.{position_from-zero}
 use Rattle.std.proofs.Common.{zero-add}
-use Rattle.plain_facts.specs.Lists.{Each}
-use Rattle.plain_facts.proofs.Each.{each_middle}
+use Rattle.plain_laws.specs.Lists.{Each}
+use Rattle.plain_laws.proofs.Each.{each_middle}
 use Rattle.code_points.specs.Profile.{plain_profile}
-use Rattle.hail_codes.specs.Profiles.{Profile as PlainProfile, profile_of}
-use Rattle.hail_columns.specs.Challenges.{challenge_of, honest_answer}
-use Rattle.hail_columns.specs.Objects.{stripes}
-use Rattle.hail_devices.specs.Cells.{Cells}
-use Rattle.hail_devices.specs.Providers.{Provider}
-use Rattle.hail_devices.specs.ProviderCalls.{Asks}
-use Rattle.hail_records.specs.Records.{Setup}
-use Rattle.hail_machine.specs.Actions.{Action, Ask, WriteBody, SyncBody, WriteGate, SyncGate, End, actions_of, actions_by, actions_left, append_actions, ask_actions}
-use Rattle.hail_machine.specs.Audits.{challenge_in, asked_challenge, HasSums}
-use Rattle.hail_machine.specs.Events.{More}
-use Rattle.hail_machine.specs.Given.{pinned_size, pinned_profile}
-use Rattle.hail_machine.specs.Jobs.{Kind, AuditJob, Pinned, Answered, Job, job_of, with_job, advanced_with}
-use Rattle.hail_machine.specs.Setups.{profiled, object_of, stripes_of}
-use Rattle.hail_machine.specs.States.{State, setup_in, going_on, with_provider}
-use Rattle.hail_machine.proofs.JobLists.{cond_true, cond_false, number_of, same_value, found_itself}
+use Rattle.code_defs.specs.Profiles.{Profile as PlainProfile, profile_of}
+use Rattle.column_defs.specs.Challenges.{challenge_of, honest_answer}
+use Rattle.column_defs.specs.Objects.{stripes}
+use Rattle.device_defs.specs.Cells.{Cells}
+use Rattle.device_defs.specs.Providers.{Provider}
+use Rattle.device_defs.specs.ProviderCalls.{Asks}
+use Rattle.record_defs.specs.Records.{Setup}
+use Rattle.machine_defs.specs.Actions.{Action, Ask, WriteBody, SyncBody, WriteGate, SyncGate, End, actions_of, actions_by, actions_left, append_actions, ask_actions}
+use Rattle.machine_defs.specs.Audits.{challenge_in, asked_challenge, HasSums}
+use Rattle.machine_defs.specs.Events.{More}
+use Rattle.machine_defs.specs.Given.{pinned_size, pinned_profile}
+use Rattle.machine_defs.specs.Jobs.{Kind, AuditJob, Pinned, Answered, Job, job_of, with_job, advanced_with}
+use Rattle.machine_defs.specs.Setups.{profiled, object_of, stripes_of}
+use Rattle.machine_defs.specs.States.{State, setup_in, going_on, with_provider}
+use Rattle.machine_defs.proofs.JobLists.{cond_true, cond_false, number_of, same_value, found_itself}
 use Rattle.file_layout.specs.Files as layout
 use Rattle.record_codec.specs.Entries.{counted}
 use Rattle.hail_field.specs.declared.shape.Shape.{Shape as ShapeValue}
-use Rattle.sound_states.proofs.Orders.{next-left, get-drop}
-use Rattle.sound_states.proofs.Written.{setup-rounds}
-use Rattle.sound_states.specs.SoundJobs.{IsPlainJob, IsSoundJob}
-use Rattle.sound_states.specs.Orders.{moves_made}
+use Rattle.state_laws.proofs.Orders.{next-left, get-drop}
+use Rattle.state_laws.proofs.Written.{setup-rounds}
+use Rattle.state_laws.specs.SoundJobs.{IsPlainJob, IsSoundJob}
+use Rattle.state_laws.specs.Orders.{moves_made}
 use Rattle.vault_core.specs.Carried.{IsJobOf, ComesNext, pin_of}
 use Rattle.vault_core.specs.Coming.{is_last_ask, is_last_ask_of}
 use Rattle.vault_core.specs.Replies.{Tells}
@@ -49,7 +49,7 @@ use Rattle.vault.specs.declared.tasks.Task.TheVariants as task
 use Rattle.vault.specs.declared.turn.Turn.TheVariants as turn
 use Rattle.vault.specs.declared.vault.Vault.{Vault}
 use Rattle.vault.specs.Asking.{length_among, length_at, length_in, length_found, IsAuditNumber, IsQuestion, challenge_put, sums_on, TakesAsk, HasJudged, CanAsk, Asked, MayAsk, TellsAsk, MayTell, MayPut, vault_object}
-use Rattle.hail_openings.specs.Opened.{AreHanded}
+use Rattle.opening_defs.specs.Opened.{AreHanded}
 use Rattle.vault_open.specs.Devices.{devices}
 use Rattle.vault.specs.Orders.{is_ask}
 use Rattle.vault.specs.Rounds.{Round, rounds_in, asked_after, AsksOn, JudgesEach}
@@ -175,11 +175,11 @@ starts_append k o r (WriteBody ∷ more) h = (more, refl)
 starts_append k o r (SyncBody ∷ more) h = absurd (false≢true h)
 starts_append k o r (WriteGate ∷ more) h = absurd (false≢true h)
 starts_append k o r (SyncGate ∷ more) h = absurd (false≢true h)
-starts_append k o r (Rattle.hail_machine.specs.Actions.Store a b c ∷ more) h = absurd (false≢true h)
-starts_append k o r (Rattle.hail_machine.specs.Actions.Fetch a b c ∷ more) h = absurd (false≢true h)
+starts_append k o r (Rattle.machine_defs.specs.Actions.Store a b c ∷ more) h = absurd (false≢true h)
+starts_append k o r (Rattle.machine_defs.specs.Actions.Fetch a b c ∷ more) h = absurd (false≢true h)
 starts_append k o r (Ask a b c ∷ more) h = absurd (false≢true h)
-starts_append k o r (Rattle.hail_machine.specs.Actions.Work a b ∷ more) h = absurd (false≢true h)
-starts_append k o r (Rattle.hail_machine.specs.Actions.Remove a b ∷ more) h = absurd (false≢true h)
+starts_append k o r (Rattle.machine_defs.specs.Actions.Work a b ∷ more) h = absurd (false≢true h)
+starts_append k o r (Rattle.machine_defs.specs.Actions.Remove a b ∷ more) h = absurd (false≢true h)
 starts_append k o r (End ∷ more) h = absurd (false≢true h)
 
 late_by : (s : Setup) (job : Job) (k o r : ℕ) (rest : List Action) → job.kind ≡ AuditJob → actions_left s job ≡ Ask k o r ∷ rest → 4 ≤ job.place

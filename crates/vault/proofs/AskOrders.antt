@@ -4,11 +4,11 @@ use Rattle.std.specs.List.{flat_map, range_with_len}
 use Rattle.std.proofs.lemmas.Bool.{cases_Bool, eq-eqb, ne_eqb}
 use Rattle.std.proofs.lemmas.List.FromFn.{length-range_with_len}
 use Rattle.std.proofs.lemmas.List.Sums.{sum_by-append}
-use Rattle.hail_codes.specs.Points.{upto}
-use Rattle.hail_records.specs.Records.{Setup}
-use Rattle.hail_machine.specs.Actions.{Action, Ask, End, append_actions, on_each_provider, rounds_of, ask_actions, actions_of}
-use Rattle.hail_machine.specs.Jobs.{Pinned, Job, AuditJob}
-use Rattle.hail_machine.specs.Setups.{profiled, stripes_of}
+use Rattle.code_defs.specs.Points.{upto}
+use Rattle.record_defs.specs.Records.{Setup}
+use Rattle.machine_defs.specs.Actions.{Action, Ask, End, append_actions, on_each_provider, rounds_of, ask_actions, actions_of}
+use Rattle.machine_defs.specs.Jobs.{Pinned, Job, AuditJob}
+use Rattle.machine_defs.specs.Setups.{profiled, stripes_of}
 use Rattle.vault.specs.Orders.{is_ask, asks_left}
 use Rattle.vault.specs.Rounds.{Round, rounds_in, AsksOn}
 

@@ -4,16 +4,16 @@ use Rattle.std.specs.Prelude.{vec_len, vec_capacity}
 use Rattle.std.specs.List.{list_all}
 use Rattle.std.proofs.lemmas.Bool.{eqb-true, and_parts}
 use Rattle.std.proofs.lemmas.List.{append-nil}
-use Rattle.hail_columns.specs.Objects.{Object}
-use Rattle.hail_columns.specs.Challenges.{Challenge}
-use Rattle.hail_columns.specs.Verdicts.{Judges}
-use Rattle.hail_records.specs.Records.{Setup}
-use Rattle.hail_machine.specs.Actions.{Action, Ask}
-use Rattle.hail_machine.specs.Audits.{challenge_in, JudgesRound}
-use Rattle.hail_machine.specs.Given.{answers_given}
-use Rattle.hail_machine.specs.Jobs.{Kind, PutJob, GetJob, DropJob, AuditJob, RepairJob, UpgradeJob, Given, Answered, Job, advanced_with}
-use Rattle.hail_machine.specs.Setups.{profiled, object_of}
-use Rattle.hail_machine.specs.States.{State, setup_in}
+use Rattle.column_defs.specs.Objects.{Object}
+use Rattle.column_defs.specs.Challenges.{Challenge}
+use Rattle.column_defs.specs.Verdicts.{Judges}
+use Rattle.record_defs.specs.Records.{Setup}
+use Rattle.machine_defs.specs.Actions.{Action, Ask}
+use Rattle.machine_defs.specs.Audits.{challenge_in, JudgesRound}
+use Rattle.machine_defs.specs.Given.{answers_given}
+use Rattle.machine_defs.specs.Jobs.{Kind, PutJob, GetJob, DropJob, AuditJob, RepairJob, UpgradeJob, Given, Answered, Job, advanced_with}
+use Rattle.machine_defs.specs.Setups.{profiled, object_of}
+use Rattle.machine_defs.specs.States.{State, setup_in}
 use Rattle.file_layout.specs.Files as layout
 use Rattle.audit_verdict.specs.Rounds.{sums_of}
 use Rattle.record_codec.specs.Entries.{IsPadded}
@@ -23,8 +23,8 @@ use Rattle.vault.specs.Asking.{challenge_put, last_answers, sums_on, ask_put, Ha
 use Rattle.vault.specs.Heard.{answered_entries}
 use Rattle.vault.specs.Rounds.{Round, rounds_in, rounds_after, asked_after, AsksOn, JudgesEach}
 use Rattle.vault.specs.Tasks.{HasAnswered, IsAsked, IsAudit, empty_sums}
-use Rattle.hail_devices.specs.Cells.{Cells}
-use Rattle.hail_devices.specs.Providers.{Provider}
+use Rattle.device_defs.specs.Cells.{Cells}
+use Rattle.device_defs.specs.Providers.{Provider}
 use Rattle.vault_core.specs.Carried.{ComesNext}
 use Rattle.vault.specs.declared.vault.Vault.{Vault}
 use Rattle.vault_open.specs.Devices.{devices}
@@ -78,7 +78,7 @@ module _ (s : Setup) (job : Job) (rising : Rattle.vault.proofs.Asks.Rising 0 0 (
         (judges_still s job k x.file.id x.number symbol over (empty_sums s) (sums_on t) (apart 0 0 over x xs (subst (Rattle.vault.proofs.Asks.Rising 0 0) rounds rising)) sums)
 
     -- all but the round in work
-    entries : answered_entries m.heard.job m.heard.asks.items m.heard.symbols.items ≡ Rattle.hail_machine.specs.Heard.entries_of job.number (Answered k x.file.id x.number symbol ∷ job.given)
+    entries : answered_entries m.heard.job m.heard.asks.items m.heard.symbols.items ≡ Rattle.machine_defs.specs.Heard.entries_of job.number (Answered k x.file.id x.number symbol ∷ job.given)
     entries =
         (λ i. answered_entries (hears.heard.job i) (hears.heard.asks i) (hears.heard.symbols i))
         ∙ entries_more t.heard.job t.heard.asks.items t.heard.symbols.items (ask_put q k) symbol is.asks

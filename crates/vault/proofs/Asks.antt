@@ -3,22 +3,22 @@ use Rattle.std.proofs.Common.{◌≡◌, ℕ, zero, suc, ◌+◌, ◌-◌, ◌*�
 use Rattle.std.specs.List.{range_with_len, Contains}
 use Rattle.std.proofs.Math.Seq.{drop-append_seam}
 use Rattle.std.proofs.lemmas.Bool.{cases_Bool, eq-eqb, ne_eqb, eqb-true, eqb-false, false≢true}
-use Rattle.plain_facts.specs.Lists.{Each}
-use Rattle.plain_facts.proofs.Each.{each_append, each_at_most, each_zero}
-use Rattle.hail_codes.specs.Points.{upto}
-use Rattle.hail_columns.specs.Objects.{points}
-use Rattle.hail_columns.specs.Challenges.{bare_answers}
-use Rattle.hail_columns.specs.Verdicts.{Sums, Judges}
-use Rattle.hail_columns.proofs.CountLaws.{counts_after-within}
-use Rattle.hail_records.specs.Records.{Setup}
-use Rattle.hail_machine.specs.Actions.{Action, WriteBody, Ask, End, append_actions, rounds_of}
-use Rattle.hail_machine.specs.Audits.{challenge_in, JudgesRound, JudgesRounds, JudgesFiles}
-use Rattle.hail_machine.specs.Given.{answer_given, answers_given, pinned_size}
-use Rattle.hail_machine.specs.Heard.{Entry}
-use Rattle.hail_machine.specs.Jobs.{Pinned, Given, Answered, Job, advanced_with}
-use Rattle.hail_machine.specs.Setups.{profiled, object_of, stripes_of}
-use Rattle.hail_machine.proofs.JobLists.{cond_true, cond_false}
-use Rattle.sound_states.specs.Orders.{AreAscending}
+use Rattle.plain_laws.specs.Lists.{Each}
+use Rattle.plain_laws.proofs.Each.{each_append, each_at_most, each_zero}
+use Rattle.code_defs.specs.Points.{upto}
+use Rattle.column_defs.specs.Objects.{points}
+use Rattle.column_defs.specs.Challenges.{bare_answers}
+use Rattle.column_defs.specs.Verdicts.{Sums, Judges}
+use Rattle.column_defs.proofs.CountLaws.{counts_after-within}
+use Rattle.record_defs.specs.Records.{Setup}
+use Rattle.machine_defs.specs.Actions.{Action, WriteBody, Ask, End, append_actions, rounds_of}
+use Rattle.machine_defs.specs.Audits.{challenge_in, JudgesRound, JudgesRounds, JudgesFiles}
+use Rattle.machine_defs.specs.Given.{answer_given, answers_given, pinned_size}
+use Rattle.machine_defs.specs.Heard.{Entry}
+use Rattle.machine_defs.specs.Jobs.{Pinned, Given, Answered, Job, advanced_with}
+use Rattle.machine_defs.specs.Setups.{profiled, object_of, stripes_of}
+use Rattle.machine_defs.proofs.JobLists.{cond_true, cond_false}
+use Rattle.state_laws.specs.Orders.{AreAscending}
 use Rattle.vault.specs.declared.heard.Ask.{Ask as AskValue}
 use Rattle.vault.specs.Asking.{last_answers}
 use Rattle.vault.specs.Heard.{answered_entries}

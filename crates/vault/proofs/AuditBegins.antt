@@ -1,16 +1,16 @@
 -- What an audit begins with.
 use Rattle.std.proofs.Common.{◌≡◌, ℕ, ◌*◌, ◌≤◌, List, [], ◌∷◌, length, take, drop, replicate, Option, refl, sym, ap, ◌∙◌, arith}
 use Rattle.std.proofs.lemmas.List.{take-replicate, drop-replicate}
-use Rattle.hail_records.specs.Records.{Setup, most_files}
-use Rattle.hail_records.specs.Table.{File, files_of}
-use Rattle.hail_records.proofs.OrderLaws.{few-files_of}
-use Rattle.hail_machine.specs.Actions.{actions_left}
-use Rattle.hail_machine.specs.Begins.{new_job}
-use Rattle.hail_machine.specs.Jobs.{AuditJob}
-use Rattle.hail_machine.specs.States.{State, setup_in}
-use Rattle.sound_states.proofs.Written.{setup-providers}
+use Rattle.record_defs.specs.Records.{Setup, most_files}
+use Rattle.record_defs.specs.Table.{File, files_of}
+use Rattle.record_defs.proofs.OrderLaws.{few-files_of}
+use Rattle.machine_defs.specs.Actions.{actions_left}
+use Rattle.machine_defs.specs.Begins.{new_job}
+use Rattle.machine_defs.specs.Jobs.{AuditJob}
+use Rattle.machine_defs.specs.States.{State, setup_in}
+use Rattle.state_laws.proofs.Written.{setup-providers}
 use Rattle.record_codec.specs.Entries.{counted}
-use Rattle.sound_states.proofs.Pinning.{length-pin_all}
+use Rattle.state_laws.proofs.Pinning.{length-pin_all}
 use Rattle.vault.specs.declared.heard.Ask.{Ask}
 use Rattle.vault.specs.declared.tasks.AuditTask.{AuditTask}
 use Rattle.vault.specs.declared.vault.Vault.{Vault}

@@ -1,15 +1,15 @@
 -- Begins, accepted and refused, and the states that a vault stands for after them.
 use Rattle.std.proofs.Common.{◌≡◌, inl, ℕ, List, [], ◌∷◌, ◌++◌, Some, None, Ok, Err, refl, ap, sym, ◌∙◌, subst}
 use Rattle.std.specs.Prelude.{◌||◌, length, nat_le, not}
-use Rattle.hail_records.specs.Records.{Setup}
-use Rattle.hail_machine.specs.Actions.{actions_left}
-use Rattle.hail_machine.specs.Begins.{begin_refusal, new_job}
-use Rattle.hail_machine.specs.Jobs.{Kind, aim_of, Job}
-use Rattle.hail_machine.specs.Refusals as refusal
-use Rattle.hail_machine.specs.Refusals.{Cause, first_refusal}
-use Rattle.hail_machine.specs.Sights.{sight_of, aims_of, is_shut, is_stored, is_full}
-use Rattle.hail_machine.specs.States.{State, setup_in}
-use Rattle.hail_machine.proofs.Sights.{length-aims}
+use Rattle.record_defs.specs.Records.{Setup}
+use Rattle.machine_defs.specs.Actions.{actions_left}
+use Rattle.machine_defs.specs.Begins.{begin_refusal, new_job}
+use Rattle.machine_defs.specs.Jobs.{Kind, aim_of, Job}
+use Rattle.machine_defs.specs.Refusals as refusal
+use Rattle.machine_defs.specs.Refusals.{Cause, first_refusal}
+use Rattle.machine_defs.specs.Sights.{sight_of, aims_of, is_shut, is_stored, is_full}
+use Rattle.machine_defs.specs.States.{State, setup_in}
+use Rattle.machine_defs.proofs.Sights.{length-aims}
 use Rattle.vault_core.specs.declared.wish.BeginFault.{BeginFault}
 use Rattle.vault_core.specs.Carried.{CoreIs, refusal_of, begun}
 use Rattle.vault.specs.declared.vault.Vault.{Vault}

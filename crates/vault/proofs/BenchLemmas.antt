@@ -3,8 +3,8 @@ use Rattle.std.proofs.Common.{◌≡◌, ℕ, ap, sym, ◌∙◌}
 use Rattle.hail_field.specs.declared.shape.Shape.{Shape}
 use Rattle.code_points.specs.Profile.{plain_profile}
 use Rattle.key_schedule.specs.declared.master.Master.{Master}
-use Rattle.hail_codes.specs.Profiles.{profile_of}
-use Rattle.hail_records.specs.Records.{Setup}
+use Rattle.code_defs.specs.Profiles.{profile_of}
+use Rattle.record_defs.specs.Records.{Setup}
 use Rattle.record_codec.specs.Entries.{with_master}
 use Rattle.vault.specs.declared.bench.Bench.{Bench}
 use Rattle.vault.specs.declared.vault.Vault.{Vault}

@@ -1,9 +1,9 @@
 -- A vault that stands for a state is carried by its disk.
 use Rattle.std.proofs.Common.{◌≡◌, false, List, Option, Some, None}
-use Rattle.hail_devices.specs.Cells.{Cells}
-use Rattle.hail_records.specs.Records.{Record}
-use Rattle.hail_machine.specs.States.{State}
-use Rattle.hail_machine.specs.States as states
+use Rattle.device_defs.specs.Cells.{Cells}
+use Rattle.record_defs.specs.Records.{Record}
+use Rattle.machine_defs.specs.States.{State}
+use Rattle.machine_defs.specs.States as states
 use Rattle.vault.specs.declared.flight.Flight.{Flight}
 use Rattle.vault.specs.declared.vault.Vault.{Vault}
 use Rattle.vault_open.specs.Devices.{Devices}

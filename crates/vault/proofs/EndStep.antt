@@ -5,21 +5,21 @@ use Rattle.std.specs.List.{flat_map, AllZip}
 use Rattle.std.specs.Option.{option_map}
 use Rattle.std.proofs.lemmas.Bool.{cases_Bool}
 use Rattle.std.proofs.lemmas.Bool.{le-ltb}
-use Rattle.hail_codes.specs.Points.{upto}
-use Rattle.hail_columns.specs.Objects.{bytes_of_symbols}
-use Rattle.hail_columns.specs.Verdicts.{Sums}
-use Rattle.hail_records.specs.Records.{Setup}
-use Rattle.hail_machine.specs.Actions.{Action, WriteBody, SyncBody, WriteGate, SyncGate, End, actions_of, actions_by, actions_left}
-use Rattle.hail_machine.specs.Answers as answers
-use Rattle.hail_machine.specs.Events.{Ended}
-use Rattle.hail_machine.specs.Appends.{is_first_append}
-use Rattle.hail_machine.specs.Audits.{HasSums}
-use Rattle.hail_machine.specs.Given.{symbols_given}
-use Rattle.hail_machine.specs.Jobs.{Kind, GetJob, AuditJob, Pinned, Job, job_of, without_job}
-use Rattle.hail_machine.specs.Setups.{pinned_stripes}
-use Rattle.hail_machine.specs.States.{State, setup_in, ended}
-use Rattle.hail_machine.specs.Steps.{Ends, GotBytes, next_action, is_idle_drop}
-use Rattle.hail_machine.proofs.JobLists.{number_of, cond_true, cond_false, same_value}
+use Rattle.code_defs.specs.Points.{upto}
+use Rattle.column_defs.specs.Objects.{bytes_of_symbols}
+use Rattle.column_defs.specs.Verdicts.{Sums}
+use Rattle.record_defs.specs.Records.{Setup}
+use Rattle.machine_defs.specs.Actions.{Action, WriteBody, SyncBody, WriteGate, SyncGate, End, actions_of, actions_by, actions_left}
+use Rattle.machine_defs.specs.Answers as answers
+use Rattle.machine_defs.specs.Events.{Ended}
+use Rattle.machine_defs.specs.Appends.{is_first_append}
+use Rattle.machine_defs.specs.Audits.{HasSums}
+use Rattle.machine_defs.specs.Given.{symbols_given}
+use Rattle.machine_defs.specs.Jobs.{Kind, GetJob, AuditJob, Pinned, Job, job_of, without_job}
+use Rattle.machine_defs.specs.Setups.{pinned_stripes}
+use Rattle.machine_defs.specs.States.{State, setup_in, ended}
+use Rattle.machine_defs.specs.Steps.{Ends, GotBytes, next_action, is_idle_drop}
+use Rattle.machine_defs.proofs.JobLists.{number_of, cond_true, cond_false, same_value}
 use Rattle.record_codec.specs.declared.counts.Counts.{Counts}
 use Rattle.record_codec.specs.Entries.{counted}
 use Rattle.vault_core.specs.Wished.{is_opener}

@@ -1,15 +1,15 @@
 -- A fetch is a step of the machine.
 use Rattle.std.proofs.Common.{◌≡◌, ℕ, ◌<◌, Bool, List, ◌∷◌, length, Option, Some, None, refl, sym, ap, subst, ◌∙◌}
 use Rattle.std.specs.Prelude.{slice_get, slice_set}
-use Rattle.hail_columns.specs.Objects.{Object}
-use Rattle.hail_devices.specs.Cells.{Cells}
-use Rattle.hail_devices.specs.Providers.{Provider}
-use Rattle.hail_devices.specs.ProviderCalls.{Fetches}
-use Rattle.hail_machine.specs.Actions.{Action, Fetch}
-use Rattle.hail_machine.specs.Jobs.{Kind, PutJob, DropJob, AuditJob, Fetched, Job, advanced_with}
-use Rattle.hail_machine.specs.States.{State, setup_in, worked_object, going_on, with_provider}
-use Rattle.hail_machine.specs.Steps.{next_action}
-use Rattle.sound_states.specs.SoundJobs.{IsPlainJob}
+use Rattle.column_defs.specs.Objects.{Object}
+use Rattle.device_defs.specs.Cells.{Cells}
+use Rattle.device_defs.specs.Providers.{Provider}
+use Rattle.device_defs.specs.ProviderCalls.{Fetches}
+use Rattle.machine_defs.specs.Actions.{Action, Fetch}
+use Rattle.machine_defs.specs.Jobs.{Kind, PutJob, DropJob, AuditJob, Fetched, Job, advanced_with}
+use Rattle.machine_defs.specs.States.{State, setup_in, worked_object, going_on, with_provider}
+use Rattle.machine_defs.specs.Steps.{next_action}
+use Rattle.state_laws.specs.SoundJobs.{IsPlainJob}
 use Rattle.vault_core.specs.Carried.{ComesNext}
 use Rattle.vault_core.specs.declared.reply.Reply.TheVariants as reply
 use Rattle.vault.specs.declared.heard.Fetch.{Fetch as FetchValue}
@@ -78,5 +78,5 @@ module _ (v : Vault) (w : State) (holds : Option Cells) (faults moment number k 
         refl refl
         (runs_on w job k o s coming.comes r r' fetch found block runs same_number fetch_is takes)
         at jobs
-        (subst (λ (l : List Provider). Rattle.hail_openings.specs.Opened.AreHanded l new) (sym ps_is) (handed_on ps w new k q stands.devices.providers provider_there refl (λ j. refl)))
+        (subst (λ (l : List Provider). Rattle.opening_defs.specs.Opened.AreHanded l new) (sym ps_is) (handed_on ps w new k q stands.devices.providers provider_there refl (λ j. refl)))
         keeps flight fed

@@ -5,19 +5,19 @@ use Rattle.std.proofs.Math.Nat.{mul-le-mul_left}
 use Rattle.std.proofs.lemmas.List.Sums.{sum_by-cons}
 use Rattle.column_codec.specs.PresentBlocks.{present_blocks}
 use Rattle.column_codec.proofs.PresentLemmas.{length-present_blocks}
-use Rattle.hail_records.specs.Records.{Setup}
-use Rattle.hail_machine.specs.Actions.{Action, Fetch, actions_of, actions_left}
-use Rattle.hail_machine.specs.Jobs.{Kind, PutJob, GetJob, DropJob, AuditJob, RepairJob, UpgradeJob, Given, Fetched, Job, advanced_with}
-use Rattle.hail_machine.specs.Heard.{Entry}
-use Rattle.hail_machine.specs.States.{State, setup_in}
-use Rattle.hail_machine.specs.Steps.{next_action}
-use Rattle.sound_states.proofs.Orders.{next-left}
+use Rattle.record_defs.specs.Records.{Setup}
+use Rattle.machine_defs.specs.Actions.{Action, Fetch, actions_of, actions_left}
+use Rattle.machine_defs.specs.Jobs.{Kind, PutJob, GetJob, DropJob, AuditJob, RepairJob, UpgradeJob, Given, Fetched, Job, advanced_with}
+use Rattle.machine_defs.specs.Heard.{Entry}
+use Rattle.machine_defs.specs.States.{State, setup_in}
+use Rattle.machine_defs.specs.Steps.{next_action}
+use Rattle.state_laws.proofs.Orders.{next-left}
 use Rattle.vault.specs.declared.blocks.Blocks.{Blocks}
 use Rattle.vault.specs.declared.heard.Fetch.{Fetch as FetchValue}
 use Rattle.vault.specs.declared.heard.Fetches.{Fetches}
 use Rattle.vault.specs.declared.tasks.GetTask.{GetTask}
 use Rattle.vault.specs.declared.tasks.RepairTask.{RepairTask}
-use Rattle.hail_columns.specs.Objects.{stripe_symbols}
+use Rattle.column_defs.specs.Objects.{stripe_symbols}
 use Rattle.vault.specs.declared.tasks.Running.{Running}
 use Rattle.vault.specs.declared.tasks.Task.{Task}
 use Rattle.vault.specs.declared.tasks.Task.TheVariants as task

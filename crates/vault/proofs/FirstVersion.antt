@@ -3,15 +3,15 @@ use Rattle.std.proofs.Common.{◌≡◌, ℕ, suc, ◌==◌, List, [], ◌∷◌
 use Rattle.std.specs.Prelude.{IsTrue}
 use Rattle.std.specs.List.{list_all, Contains}
 use Rattle.std.proofs.lemmas.Bool.{cases_Bool}
-use Rattle.hail_records.specs.Records.{is_in_grammar}
-use Rattle.hail_machine.specs.Jobs.{Pinned, Job, job_of}
-use Rattle.hail_machine.specs.Given.{pinned_profile}
-use Rattle.hail_machine.specs.Setups.{profiled, object_of}
-use Rattle.hail_machine.specs.States.{State, setup_in, put_object, worked_object}
-use Rattle.hail_machine.proofs.JobLists.{cond_true, cond_false}
-use Rattle.sound_states.specs.Sound.{IsWholeJournal}
-use Rattle.sound_states.specs.SoundJobs.{IsPlainJob}
-use Rattle.sound_states.proofs.Written.{whole-first, grammar-now}
+use Rattle.record_defs.specs.Records.{is_in_grammar}
+use Rattle.machine_defs.specs.Jobs.{Pinned, Job, job_of}
+use Rattle.machine_defs.specs.Given.{pinned_profile}
+use Rattle.machine_defs.specs.Setups.{profiled, object_of}
+use Rattle.machine_defs.specs.States.{State, setup_in, put_object, worked_object}
+use Rattle.machine_defs.proofs.JobLists.{cond_true, cond_false}
+use Rattle.state_laws.specs.Sound.{IsWholeJournal}
+use Rattle.state_laws.specs.SoundJobs.{IsPlainJob}
+use Rattle.state_laws.proofs.Written.{whole-first, grammar-now}
 use Rattle.vault_core.specs.View.{CoreView}
 use Rattle.vault_core.specs.Carried.{CoreIs}
 

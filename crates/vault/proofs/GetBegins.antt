@@ -2,21 +2,21 @@
 use Rattle.std.proofs.Common.{◌≡◌, ℕ, ◌+◌, ◌*◌, ◌≤◌, List, [], ◌∷◌, ◌++◌, length, min, Some, None, refl, sym, ap, ◌∙◌, subst, arith, append_assoc}
 use Rattle.std.specs.Prelude.{IsTrue, is_some, vec_len, vec_capacity}
 use Rattle.std.specs.List.{flat_map}
-use Rattle.hail_codes.specs.Points.{upto}
-use Rattle.hail_columns.specs.Objects.{Object, stripes, stripe_symbols}
-use Rattle.hail_records.specs.Records.{Setup, is_name, largest_file}
-use Rattle.hail_records.specs.Table.{File, find_file}
-use Rattle.hail_records.proofs.FilesLaws.{find-files_of}
-use Rattle.hail_machine.specs.Actions.{End, open_actions, actions_left, actions_of}
-use Rattle.hail_machine.specs.Begins.{new_job, pin_found, pinned_file}
-use Rattle.hail_machine.specs.Jobs.{GetJob}
-use Rattle.hail_machine.specs.Refusals as refusal
-use Rattle.hail_machine.specs.Refusals.{first_refusal}
-use Rattle.hail_machine.specs.Setups.{profiled, stripes_of, pinned_stripes}
-use Rattle.hail_machine.specs.States.{State, setup_in, file_in}
-use Rattle.hail_machine.proofs.Sights.{stored-file}
-use Rattle.sound_states.proofs.Records.{file-spelled}
-use Rattle.sound_states.proofs.Written.{setup-providers, file-first}
+use Rattle.code_defs.specs.Points.{upto}
+use Rattle.column_defs.specs.Objects.{Object, stripes, stripe_symbols}
+use Rattle.record_defs.specs.Records.{Setup, is_name, largest_file}
+use Rattle.record_defs.specs.Table.{File, find_file}
+use Rattle.record_defs.proofs.FilesLaws.{find-files_of}
+use Rattle.machine_defs.specs.Actions.{End, open_actions, actions_left, actions_of}
+use Rattle.machine_defs.specs.Begins.{new_job, pin_found, pinned_file}
+use Rattle.machine_defs.specs.Jobs.{GetJob}
+use Rattle.machine_defs.specs.Refusals as refusal
+use Rattle.machine_defs.specs.Refusals.{first_refusal}
+use Rattle.machine_defs.specs.Setups.{profiled, stripes_of, pinned_stripes}
+use Rattle.machine_defs.specs.States.{State, setup_in, file_in}
+use Rattle.machine_defs.proofs.Sights.{stored-file}
+use Rattle.state_laws.proofs.Records.{file-spelled}
+use Rattle.state_laws.proofs.Written.{setup-providers, file-first}
 use Rattle.vault.specs.declared.bench.Bench.{Bench}
 use Rattle.vault.specs.declared.tasks.GetTask.{GetTask}
 use Rattle.vault.specs.declared.vault.Vault.{Vault}

@@ -4,8 +4,8 @@ use Rattle.std.specs.Prelude.{slice_get, if◌then◌else◌}
 use Rattle.std.specs.Option.{option_map}
 use Rattle.std.proofs.lemmas.List.{drop-drop}
 use Rattle.column_codec.specs.PresentBlocks.{present_blocks}
-use Rattle.hail_machine.specs.Jobs.{Fetched, Answered}
-use Rattle.hail_machine.specs.Heard.{Entry}
+use Rattle.machine_defs.specs.Jobs.{Fetched, Answered}
+use Rattle.machine_defs.specs.Heard.{Entry}
 use Rattle.vault.specs.declared.heard.Fetch.{Fetch}
 use Rattle.vault.specs.declared.heard.Ask.{Ask}
 use Rattle.vault.specs.Heard.{fetched_entries, answered_entries}

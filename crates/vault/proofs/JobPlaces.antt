@@ -7,11 +7,11 @@ use Rattle.std.proofs.lemmas.Bool.{cases_Bool, eqb-true, eq-eqb}
 use Rattle.std.proofs.lemmas.Option.{slice_get-get_or}
 use Rattle.std.proofs.lemmas.List.Quantifiers.{position-Some}
 use Rattle.std.proofs.lemmas.Iterator.Adapters.{position_from-zero}
-use Rattle.hail_records.specs.Records.{Setup}
-use Rattle.hail_machine.specs.Jobs.{Job, job_of, with_job, without_job}
-use Rattle.hail_machine.proofs.JobLists.{cond_true, cond_false, same_value}
-use Rattle.sound_states.specs.Orders.{AreNumbered}
-use Rattle.sound_states.proofs.JobLists.{without_job-none}
+use Rattle.record_defs.specs.Records.{Setup}
+use Rattle.machine_defs.specs.Jobs.{Job, job_of, with_job, without_job}
+use Rattle.machine_defs.proofs.JobLists.{cond_true, cond_false, same_value}
+use Rattle.state_laws.specs.Orders.{AreNumbered}
+use Rattle.state_laws.proofs.JobLists.{without_job-none}
 use Rattle.vault.specs.declared.tasks.Running.{Running}
 use Rattle.vault.specs.Tasks.{IsRunning, AreRunning}
 use Rattle.vault.specs.Running.{place_in}

@@ -3,7 +3,7 @@ use Rattle.std.proofs.Common.{◌≤◌, arith}
 use Rattle.std.specs.Prelude.{IsTrue}
 use Rattle.std.proofs.lemmas.Bool.Decides.{nat_tests}
 use Rattle.hail_field.specs.Shape.{IsShape}
-use Rattle.hail_records.specs.Records.{Setup, is_setup}
+use Rattle.record_defs.specs.Records.{Setup, is_setup}
 
 pub setup-shape : (s : Setup) → IsTrue (is_setup s) → IsShape s.n s.l s.b
 setup-shape s is = grind (arith, nat_tests, is)

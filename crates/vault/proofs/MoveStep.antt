@@ -2,21 +2,21 @@
 use Rattle.std.proofs.Common.{◌≡◌, ℕ, zero, suc, ◌+◌, ◌≤◌, false, List, [], ◌∷◌, ◌++◌, length, Option, Some, None, refl, sym, ap, subst, ◌∙◌, inl, inr, arith, length-append}
 use Rattle.std.specs.Prelude.{◌≢◌, IfSome, slice_get, slice_set, nat_lt}
 use Rattle.std.proofs.lemmas.Bool.{cases_Bool}
-use Rattle.hail_devices.specs.Cells.{Cells}
-use Rattle.hail_devices.specs.Providers.{Provider}
-use Rattle.hail_devices.specs.Told.{Goes}
-use Rattle.hail_records.specs.Records.{Record, Setup}
-use Rattle.hail_records.specs.Spellings.{spelling}
-use Rattle.hail_records.specs.Journal.{text_size}
-use Rattle.hail_records.proofs.Sizes.{length-spelling, length-before_gate}
-use Rattle.hail_machine.specs.Actions.{Action}
-use Rattle.hail_machine.specs.Answers as answers
-use Rattle.hail_machine.specs.Appends.{subject_drawn}
-use Rattle.hail_machine.specs.Events.{More, Ended}
-use Rattle.hail_machine.specs.Jobs.{Kind, PutJob, GetJob, DropJob, AuditJob, RepairJob, UpgradeJob, Job, with_job, without_job}
-use Rattle.hail_machine.specs.States.{State, Append, Doubt, setup_in}
-use Rattle.hail_machine.specs.Steps.{Acts}
-use Rattle.hail_machine.proofs.JobLists.{number_of, cond_false}
+use Rattle.device_defs.specs.Cells.{Cells}
+use Rattle.device_defs.specs.Providers.{Provider}
+use Rattle.device_defs.specs.Told.{Goes}
+use Rattle.record_defs.specs.Records.{Record, Setup}
+use Rattle.record_defs.specs.Spellings.{spelling}
+use Rattle.record_defs.specs.Journal.{text_size}
+use Rattle.record_defs.proofs.Sizes.{length-spelling, length-before_gate}
+use Rattle.machine_defs.specs.Actions.{Action}
+use Rattle.machine_defs.specs.Answers as answers
+use Rattle.machine_defs.specs.Appends.{subject_drawn}
+use Rattle.machine_defs.specs.Events.{More, Ended}
+use Rattle.machine_defs.specs.Jobs.{Kind, PutJob, GetJob, DropJob, AuditJob, RepairJob, UpgradeJob, Job, with_job, without_job}
+use Rattle.machine_defs.specs.States.{State, Append, Doubt, setup_in}
+use Rattle.machine_defs.specs.Steps.{Acts}
+use Rattle.machine_defs.proofs.JobLists.{number_of, cond_false}
 use Rattle.record_codec.specs.Entries.{with_master}
 use Rattle.journal_core.specs.declared.append.Append.{Append as AppendValue}
 use Rattle.journal_core.specs.Appends.{Appends, gate_of, body_of}
@@ -32,7 +32,7 @@ use Rattle.vault.specs.declared.turn.Answer.{Answer}
 use Rattle.vault.specs.declared.turn.Turn.{Turn}
 use Rattle.vault.specs.declared.turn.Turn.TheVariants as turn
 use Rattle.vault.specs.declared.vault.Vault.{Vault}
-use Rattle.hail_openings.specs.Opened.{AreHanded}
+use Rattle.opening_defs.specs.Opened.{AreHanded}
 use Rattle.vault_open.specs.Devices.{devices}
 use Rattle.vault.specs.Devices.{IsSameBeyond}
 use Rattle.vault.specs.Outcomes.{machine_answer}
@@ -164,13 +164,13 @@ pub doubted_images : (told : Option Cells) (new : State) (entry : Record) (d : D
 doubted_images None new entry d doubt same may = tt
 doubted_images (Some cells) new entry d doubt same may = λ image is. elim (may image is) [
   | inl s ↦ inl (inl s)
-  | inr s ↦ inr (record { doubt = d; in_doubt = doubt; stands = subst (λ (r : Record). Rattle.hail_records.specs.Journal.StandsFor image (r ∷ new.records)) (sym same) s })
+  | inr s ↦ inr (record { doubt = d; in_doubt = doubt; stands = subst (λ (r : Record). Rattle.record_defs.specs.Journal.StandsFor image (r ∷ new.records)) (sym same) s })
 ]
 
 -- ---- the number of a job
 
 pub subject_kept : (w : State) (job : Job) (kind : Kind) → 4 ≤ job.place → subject_drawn w job kind ≡ job.subject
-subject_kept w job (PutJob name bytes) many = cond_false (nat_lt job.place 4) (Rattle.hail_records.specs.Table.next_id w.records) job.subject (few job.place many)
+subject_kept w job (PutJob name bytes) many = cond_false (nat_lt job.place 4) (Rattle.record_defs.specs.Table.next_id w.records) job.subject (few job.place many)
   where
     few : (n : ℕ) → 4 ≤ n → nat_lt n 4 ≡ false
     few n many = elim (cases_Bool (nat_lt n 4)) [
@@ -179,7 +179,7 @@ subject_kept w job (PutJob name bytes) many = cond_false (nat_lt job.place 4) (R
     ]
 subject_kept w job (GetJob name) many = refl
 subject_kept w job (DropJob name) many = refl
-subject_kept w job AuditJob many = cond_false (nat_lt job.place 4) (Rattle.hail_records.specs.Table.next_audit w.records) job.subject (few job.place many)
+subject_kept w job AuditJob many = cond_false (nat_lt job.place 4) (Rattle.record_defs.specs.Table.next_audit w.records) job.subject (few job.place many)
   where
     few : (n : ℕ) → 4 ≤ n → nat_lt n 4 ≡ false
     few n many = elim (cases_Bool (nat_lt n 4)) [
@@ -193,4 +193,4 @@ subject_kept w job UpgradeJob many = refl
 
 pub closed_after : (told : Option Cells) (front body : List ℕ) → IfSome told (IsAfterMoves 2 front body) → IfSome told (IsClosed front)
 closed_after None front body is = tt
-closed_after (Some cells) front body is = (is.0, Rattle.hail_devices.specs.Cells.firm body ++ is.1, is.2, is.3)
+closed_after (Some cells) front body is = (is.0, Rattle.device_defs.specs.Cells.firm body ++ is.1, is.2, is.3)

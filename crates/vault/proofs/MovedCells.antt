@@ -2,14 +2,14 @@
 use Rattle.std.proofs.Common.{◌≡◌, ℕ, List, [], ◌∷◌, ◌++◌, Option, None, Some, sym, ap, subst, ◌∙◌, arith}
 use Rattle.std.specs.Prelude.{IfSome}
 use Rattle.std.specs.Option.{option_map}
-use Rattle.hail_devices.specs.Cells.{Cells}
-use Rattle.hail_devices.specs.Providers.{Provider}
-use Rattle.hail_devices.specs.Told.{Goes}
-use Rattle.hail_records.specs.Records.{Record}
-use Rattle.hail_records.specs.Spellings.{spelling}
-use Rattle.hail_records.proofs.Sizes.{length-before_gate}
-use Rattle.hail_machine.specs.Actions.{Action}
-use Rattle.hail_machine.specs.States.{State}
+use Rattle.device_defs.specs.Cells.{Cells}
+use Rattle.device_defs.specs.Providers.{Provider}
+use Rattle.device_defs.specs.Told.{Goes}
+use Rattle.record_defs.specs.Records.{Record}
+use Rattle.record_defs.specs.Spellings.{spelling}
+use Rattle.record_defs.proofs.Sizes.{length-before_gate}
+use Rattle.machine_defs.specs.Actions.{Action}
+use Rattle.machine_defs.specs.States.{State}
 use Rattle.journal_core.specs.declared.append.Append.{Append}
 use Rattle.journal_core.specs.Appends.{gate_of, body_of, moves_of}
 use Rattle.journal_core.specs.Moves.{cells_after, MayTear}

@@ -6,13 +6,13 @@ use Rattle.std.proofs.Common.{◌≡◌, ℕ, ◌+◌, ◌<◌, ◌≤◌, ◌�
 use Rattle.std.specs.Prelude.{nat_lt}
 use Rattle.std.proofs.lemmas.Bool.{cases_Bool, ltb-true, ltb-false}
 use Rattle.std.proofs.lemmas.List.Sums.{sum_by-cons}
-use Rattle.hail_columns.specs.Verdicts.{Sums}
-use Rattle.hail_records.specs.Records.{Setup}
-use Rattle.hail_machine.specs.Actions.{Action, WriteBody, SyncBody, WriteGate, SyncGate, Store, Fetch, Ask, Work, Remove, End, actions_of, actions_by, actions_left}
-use Rattle.hail_machine.specs.Jobs.{Kind, GetJob, AuditJob, RepairJob, Job}
-use Rattle.hail_machine.specs.States.{State, setup_in}
-use Rattle.hail_machine.specs.Steps.{next_action}
-use Rattle.sound_states.proofs.Orders.{next-left}
+use Rattle.column_defs.specs.Verdicts.{Sums}
+use Rattle.record_defs.specs.Records.{Setup}
+use Rattle.machine_defs.specs.Actions.{Action, WriteBody, SyncBody, WriteGate, SyncGate, Store, Fetch, Ask, Work, Remove, End, actions_of, actions_by, actions_left}
+use Rattle.machine_defs.specs.Jobs.{Kind, GetJob, AuditJob, RepairJob, Job}
+use Rattle.machine_defs.specs.States.{State, setup_in}
+use Rattle.machine_defs.specs.Steps.{next_action}
+use Rattle.state_laws.proofs.Orders.{next-left}
 use Rattle.vault.specs.declared.tasks.AuditTask.{AuditTask}
 use Rattle.vault.specs.declared.tasks.RepairTask.{RepairTask}
 use Rattle.vault.specs.declared.tasks.Running.{Running}
@@ -117,7 +117,7 @@ pub judges_same : (s : Setup) (job : Job) (place subject : ℕ) (older : List �
 judges_same s job place subject older [] a b same judges = judges
 judges_same s job place subject older (x ∷ xs) a b same judges = (
   judges.0,
-  subst (λ (m : ℕ). Rattle.hail_machine.specs.Audits.JudgesRound s (record job { place = place; subject = m; older = older }) x.file x.number a judges.0) (sym same) judges.1,
+  subst (λ (m : ℕ). Rattle.machine_defs.specs.Audits.JudgesRound s (record job { place = place; subject = m; older = older }) x.file x.number a judges.0) (sym same) judges.1,
   judges_same s job place subject older xs judges.0 b same judges.2,
 )
 

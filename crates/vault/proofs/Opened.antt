@@ -1,26 +1,26 @@
 -- A vault that was just opened.
 use Rattle.std.proofs.Common.{◌≡◌, inl, ℕ, List, Option, Some, None, refl, sym, ap, ◌∙◌, subst}
 use Rattle.std.specs.Prelude.{IfSome}
-use Rattle.hail_devices.specs.Cells.{Cells}
-use Rattle.hail_devices.specs.Images.{EachImage}
-use Rattle.hail_devices.specs.Providers.{Provider}
-use Rattle.hail_records.specs.Records.{Record, RepairDone}
-use Rattle.hail_records.specs.Journal.{before_gate, text_size, StandsFor}
-use Rattle.hail_records.specs.Table.{setup_of}
-use Rattle.hail_machine.specs.Setups.{setup_or_none}
-use Rattle.hail_machine.specs.States.{State, setup_in}
+use Rattle.device_defs.specs.Cells.{Cells}
+use Rattle.device_defs.specs.Images.{EachImage}
+use Rattle.device_defs.specs.Providers.{Provider}
+use Rattle.record_defs.specs.Records.{Record, RepairDone}
+use Rattle.record_defs.specs.Journal.{before_gate, text_size, StandsFor}
+use Rattle.record_defs.specs.Table.{setup_of}
+use Rattle.machine_defs.specs.Setups.{setup_or_none}
+use Rattle.machine_defs.specs.States.{State, setup_in}
 use Rattle.journal_core.specs.Moves.{IsClosed}
 use Rattle.journal_core.proofs.ImageLemmas.{closed_images}
-use Rattle.sound_states.proofs.Records.{version-first}
-use Rattle.sound_states.proofs.Resting.{rest-sound}
+use Rattle.state_laws.proofs.Records.{version-first}
+use Rattle.state_laws.proofs.Resting.{rest-sound}
 use Rattle.vault_table.specs.Values.{IsFoldOf}
 use Rattle.vault_open.specs.declared.store.Store.{Store}
 use Rattle.vault_open.specs.Devices.{devices}
 use Rattle.vault_open.specs.Stores.{IsStoreOf}
 use Rattle.vault_core.specs.View.{CoreView}
 use Rattle.vault_core.specs.Carried.{CoreIs}
-use Rattle.hail_openings.specs.Journals.{IsRead}
-use Rattle.hail_openings.specs.Opened.{IsJustOpened}
+use Rattle.opening_defs.specs.Journals.{IsRead}
+use Rattle.opening_defs.specs.Opened.{IsJustOpened}
 use Rattle.vault.specs.declared.vault.Vault.{Vault}
 use Rattle.vault.specs.Stands.{Stands, Carries}
 use Rattle.vault.specs.Fresh.{IsFreshVault}

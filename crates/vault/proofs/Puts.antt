@@ -2,12 +2,12 @@
 use Rattle.std.proofs.Common.{◌≡◌, ℕ, ◌<◌, true, List, [], ◌∷◌, length, Some, refl}
 use Rattle.std.specs.Prelude.{IsTrue, not, nat_lt}
 use Rattle.std.proofs.lemmas.Bool.{lt-ltb}
-use Rattle.hail_records.specs.Records.{is_name, largest_file}
-use Rattle.hail_machine.specs.Jobs.{PutJob, aim_of}
-use Rattle.hail_machine.specs.Refusals as refusal
-use Rattle.hail_machine.specs.Refusals.{Cause, first_refusal}
-use Rattle.hail_machine.specs.Sights.{sight_of, is_crowded_for, is_full}
-use Rattle.hail_machine.specs.States.{State}
+use Rattle.record_defs.specs.Records.{is_name, largest_file}
+use Rattle.machine_defs.specs.Jobs.{PutJob, aim_of}
+use Rattle.machine_defs.specs.Refusals as refusal
+use Rattle.machine_defs.specs.Refusals.{Cause, first_refusal}
+use Rattle.machine_defs.specs.Sights.{sight_of, is_crowded_for, is_full}
+use Rattle.machine_defs.specs.States.{State}
 
 -- the causes of a put behind that of its name
 abbrev pub causes_of_put : State → List ℕ → List ℕ → List Cause

@@ -1,12 +1,12 @@
 -- What a repair begins with.
 use Rattle.std.proofs.Common.{◌≡◌, ℕ, ◌*◌, ◌≤◌, [], length, refl, sym, ap, ◌∙◌, subst, arith}
 use Rattle.std.specs.Prelude.{vec_capacity}
-use Rattle.hail_records.specs.Records.{Setup}
-use Rattle.hail_machine.specs.Actions.{actions_left}
-use Rattle.hail_machine.specs.Begins.{new_job}
-use Rattle.hail_machine.specs.Jobs.{RepairJob}
-use Rattle.hail_machine.specs.States.{State, setup_in}
-use Rattle.sound_states.proofs.Written.{setup-providers}
+use Rattle.record_defs.specs.Records.{Setup}
+use Rattle.machine_defs.specs.Actions.{actions_left}
+use Rattle.machine_defs.specs.Begins.{new_job}
+use Rattle.machine_defs.specs.Jobs.{RepairJob}
+use Rattle.machine_defs.specs.States.{State, setup_in}
+use Rattle.state_laws.proofs.Written.{setup-providers}
 use Rattle.vault.specs.declared.bench.Bench.{Bench}
 use Rattle.vault.specs.declared.blocks.Blocks.{Blocks}
 use Rattle.vault.specs.declared.vault.Vault.{Vault}

@@ -3,7 +3,7 @@ use Rattle.std.proofs.Common.{◌≡◌, ℕ, Bool, true, false, cond, Option, N
 use Rattle.std.specs.Prelude.{is_some}
 use Rattle.std.specs.Option.{option_map}
 use Rattle.std.proofs.lemmas.Bool.{false≢true}
-use Rattle.hail_machine.specs.Actions.{Action}
+use Rattle.machine_defs.specs.Actions.{Action}
 use Rattle.vault_core.specs.View.{CoreJob, CoreView, job_in}
 use Rattle.vault_core.specs.Coming.{Acts, IsNoJob, IsBarred, next_of, next_in}
 use Rattle.vault.specs.Running.{RunsIn}

@@ -3,17 +3,17 @@ use Rattle.std.proofs.Common.{◌≡◌, ℕ, zero, suc, ◌==◌, cond, List, [
 use Rattle.std.specs.Prelude.{slice_get, slice_set}
 use Rattle.std.specs.List.{remove}
 use Rattle.std.specs.Option.{option_map}
-use Rattle.plain_facts.proofs.Lists.{get-set_there}
-use Rattle.hail_devices.specs.Cells.{Cells}
-use Rattle.hail_devices.specs.Providers.{Provider}
-use Rattle.hail_records.specs.Records.{Setup}
-use Rattle.hail_machine.specs.Actions.{Action, actions_left}
-use Rattle.hail_machine.specs.Answers as answers
-use Rattle.hail_machine.specs.Events.{Ended}
-use Rattle.hail_machine.specs.Heard.{Entry, heard_by, heard_by_kind}
-use Rattle.hail_machine.specs.Jobs.{Job, job_of, without_job}
-use Rattle.hail_machine.specs.States.{State, setup_in}
-use Rattle.hail_machine.specs.Steps.{Acts}
+use Rattle.plain_laws.proofs.Lists.{get-set_there}
+use Rattle.device_defs.specs.Cells.{Cells}
+use Rattle.device_defs.specs.Providers.{Provider}
+use Rattle.record_defs.specs.Records.{Setup}
+use Rattle.machine_defs.specs.Actions.{Action, actions_left}
+use Rattle.machine_defs.specs.Answers as answers
+use Rattle.machine_defs.specs.Events.{Ended}
+use Rattle.machine_defs.specs.Heard.{Entry, heard_by, heard_by_kind}
+use Rattle.machine_defs.specs.Jobs.{Job, job_of, without_job}
+use Rattle.machine_defs.specs.States.{State, setup_in}
+use Rattle.machine_defs.specs.Steps.{Acts}
 use Rattle.vault_core.specs.View.{CoreView}
 use Rattle.vault_core.specs.Carried.{ComesNext}
 use Rattle.vault_core.specs.Replies.{Tells}
@@ -25,7 +25,7 @@ use Rattle.vault.specs.declared.turn.Answer.{Answer}
 use Rattle.vault.specs.declared.turn.Turn.{Turn}
 use Rattle.vault.specs.declared.turn.Turn.TheVariants as turn
 use Rattle.vault.specs.declared.vault.Vault.{Vault}
-use Rattle.hail_openings.specs.Opened.{AreHanded}
+use Rattle.opening_defs.specs.Opened.{AreHanded}
 use Rattle.vault_open.specs.Devices.{Devices, devices}
 use Rattle.vault.specs.Outcomes.{machine_answer}
 use Rattle.vault.specs.Running.{place_in, heard_of, KeepsAll, IsFed, HasStopped, IsStopped}

@@ -1,24 +1,24 @@
 -- A store is a step of the machine.
 use Rattle.std.proofs.Common.{◌≡◌, ℕ, ◌+◌, ◌*◌, ◌<◌, ◌≤◌, Vec, Global, vec_capacity, List, ◌∷◌, length, drop, Option, Some, None, Result, Ok, Err, refl, sym, ap, subst, ◌∙◌}
 use Rattle.std.specs.Prelude.{slice_get, slice_set}
-use Rattle.hail_columns.specs.Columns.{column_of_symbols}
-use Rattle.hail_columns.specs.Objects.{Object, symbols_in}
-use Rattle.hail_devices.specs.Cells.{Cells}
-use Rattle.hail_devices.specs.Providers.{Provider}
-use Rattle.hail_devices.specs.ProviderCalls.{Stores, FailsToStore, FindsNoMemory}
+use Rattle.column_defs.specs.Columns.{column_of_symbols}
+use Rattle.column_defs.specs.Objects.{Object, symbols_in}
+use Rattle.device_defs.specs.Cells.{Cells}
+use Rattle.device_defs.specs.Providers.{Provider}
+use Rattle.device_defs.specs.ProviderCalls.{Stores, FailsToStore, FindsNoMemory}
 use Rattle.hail_field.specs.declared.symbol.Symbol.{Symbol}
-use Rattle.hail_records.specs.Records.{Setup}
-use Rattle.hail_machine.specs.Actions.{Action, Store, actions_of, actions_left}
-use Rattle.hail_machine.specs.Given.{symbols_given}
-use Rattle.hail_machine.specs.Jobs.{Kind, PutJob, GetJob, DropJob, AuditJob, RepairJob, UpgradeJob, Given, Job, advanced, without_job}
-use Rattle.hail_machine.specs.Setups.{object_of}
-use Rattle.hail_machine.specs.States.{State, setup_in, going_on, ended, with_provider}
-use Rattle.hail_machine.specs.Steps.{next_action, block_to_store}
-use Rattle.hail_machine.proofs.JobLists.{number_of}
+use Rattle.record_defs.specs.Records.{Setup}
+use Rattle.machine_defs.specs.Actions.{Action, Store, actions_of, actions_left}
+use Rattle.machine_defs.specs.Given.{symbols_given}
+use Rattle.machine_defs.specs.Jobs.{Kind, PutJob, GetJob, DropJob, AuditJob, RepairJob, UpgradeJob, Given, Job, advanced, without_job}
+use Rattle.machine_defs.specs.Setups.{object_of}
+use Rattle.machine_defs.specs.States.{State, setup_in, going_on, ended, with_provider}
+use Rattle.machine_defs.specs.Steps.{next_action, block_to_store}
+use Rattle.machine_defs.proofs.JobLists.{number_of}
 use Rattle.provider_model.specs.declared.fault.StoreFault.{StoreFault}
 use Rattle.provider_model.specs.declared.fault.StoreFault.TheVariants as store_fault
-use Rattle.sound_states.specs.SoundJobs.{IsPlainJob}
-use Rattle.sound_states.proofs.Orders.{next-left}
+use Rattle.state_laws.specs.SoundJobs.{IsPlainJob}
+use Rattle.state_laws.proofs.Orders.{next-left}
 use Rattle.vault_core.specs.Carried.{ComesNext}
 use Rattle.vault_core.specs.declared.reply.Reply.TheVariants as reply
 use Rattle.vault.specs.declared.bench.Bench.{Bench}
@@ -31,7 +31,7 @@ use Rattle.vault.specs.declared.turn.Answer.TheVariants as answer
 use Rattle.vault.specs.declared.turn.Turn.{Turn}
 use Rattle.vault.specs.declared.turn.Turn.TheVariants as turn
 use Rattle.vault.specs.declared.vault.Vault.{Vault}
-use Rattle.hail_openings.specs.Opened.{AreHanded}
+use Rattle.opening_defs.specs.Opened.{AreHanded}
 use Rattle.vault_open.specs.Devices.{devices}
 use Rattle.vault.specs.Orders.{Phase, Between, Fetching, Opened, GoesOn}
 use Rattle.vault.specs.Running.{place_in, heard_of, KeepsAll, IsFed, IsStopped}

@@ -3,11 +3,11 @@ use Rattle.std.proofs.Common.{◌≡◌, inl, inr, ℕ, zero, suc, ◌+◌, ◌*
 use Rattle.std.specs.Prelude.{if◌then◌else◌}
 use Rattle.std.specs.List.{flat_map, range_with_len}
 use Rattle.std.proofs.lemmas.Bool.{cases_Bool}
-use Rattle.hail_codes.specs.Points.{upto}
-use Rattle.hail_records.specs.Records.{Setup}
-use Rattle.hail_machine.specs.Actions.{Action, Store, Fetch, Work, End, append_actions, on_each_stripe, open_actions, rewrite_actions, actions_of}
-use Rattle.hail_machine.specs.Jobs.{Pinned, Job, RepairJob}
-use Rattle.hail_machine.specs.Setups.{profiled, stripes_of}
+use Rattle.code_defs.specs.Points.{upto}
+use Rattle.record_defs.specs.Records.{Setup}
+use Rattle.machine_defs.specs.Actions.{Action, Store, Fetch, Work, End, append_actions, on_each_stripe, open_actions, rewrite_actions, actions_of}
+use Rattle.machine_defs.specs.Jobs.{Pinned, Job, RepairJob}
+use Rattle.machine_defs.specs.Setups.{profiled, stripes_of}
 use Rattle.std.proofs.lemmas.List.FromFn.{length-range_with_len}
 use Rattle.std.proofs.lemmas.List.Sums.{sum_by-append}
 use Rattle.vault.specs.Orders.{Between, Fetching, Opened, GoesOn, OpensFrom, is_fetch, is_work, fetches_left, works_left}

@@ -3,24 +3,24 @@ use Rattle.std.proofs.Common.{◌≡◌, ℕ, zero, suc, ◌<◌, ◌≤◌, ◌
 use Rattle.std.specs.Prelude.{slice_get, slice_set}
 use Rattle.std.proofs.Common.{length-set}
 use Rattle.std.proofs.lemmas.Bool.{cases_eq, eq-eqb, ne_eqb}
-use Rattle.plain_facts.proofs.Lists.{get-set_same}
-use Rattle.hail_devices.specs.Cells.{Cells}
-use Rattle.hail_devices.specs.Providers.{Provider}
-use Rattle.hail_records.specs.Records.{Setup, Record}
-use Rattle.hail_records.specs.Table.{setup_of}
-use Rattle.hail_records.specs.Journal.{StandsOrIsEmpty, text_size}
-use Rattle.hail_machine.specs.Actions.{Action, actions_of, actions_by}
-use Rattle.hail_machine.specs.Events.{Outcome, Step, More}
-use Rattle.hail_machine.specs.Jobs.{Kind, PutJob, GetJob, DropJob, AuditJob, RepairJob, UpgradeJob, Given, Job, with_job}
-use Rattle.hail_machine.specs.Machine.{Happens}
-use Rattle.hail_machine.specs.Setups.{setup_or_none}
-use Rattle.hail_machine.specs.States.{State, Append, Alone, setup_in, with_provider}
-use Rattle.hail_machine.specs.Steps.{Acts, ActsOrWaits, StepsOn, StepsJob, StepsOne, StepsOpen, Steps}
-use Rattle.hail_machine.proofs.JobLists.{cond_true, cond_false, number_of}
+use Rattle.plain_laws.proofs.Lists.{get-set_same}
+use Rattle.device_defs.specs.Cells.{Cells}
+use Rattle.device_defs.specs.Providers.{Provider}
+use Rattle.record_defs.specs.Records.{Setup, Record}
+use Rattle.record_defs.specs.Table.{setup_of}
+use Rattle.record_defs.specs.Journal.{StandsOrIsEmpty, text_size}
+use Rattle.machine_defs.specs.Actions.{Action, actions_of, actions_by}
+use Rattle.machine_defs.specs.Events.{Outcome, Step, More}
+use Rattle.machine_defs.specs.Jobs.{Kind, PutJob, GetJob, DropJob, AuditJob, RepairJob, UpgradeJob, Given, Job, with_job}
+use Rattle.machine_defs.specs.Machine.{Happens}
+use Rattle.machine_defs.specs.Setups.{setup_or_none}
+use Rattle.machine_defs.specs.States.{State, Append, Alone, setup_in, with_provider}
+use Rattle.machine_defs.specs.Steps.{Acts, ActsOrWaits, StepsOn, StepsJob, StepsOne, StepsOpen, Steps}
+use Rattle.machine_defs.proofs.JobLists.{cond_true, cond_false, number_of}
 use Rattle.vault_core.specs.Carried.{CoreIs, ComesNext, IsCoreFlight}
 use Rattle.vault_core.specs.Coming.{entry_in}
 use Rattle.vault_core.specs.View.{CoreView}
-use Rattle.hail_openings.specs.Opened.{AreHanded}
+use Rattle.opening_defs.specs.Opened.{AreHanded}
 use Rattle.vault_open.specs.Devices.{Devices, devices}
 use Rattle.vault.specs.Devices.{IsSameBeyond, records_in_flight}
 use Rattle.vault.specs.declared.vault.Vault.{Vault}
@@ -28,7 +28,7 @@ use Rattle.vault.specs.declared.flight.Flight.{Flight}
 use Rattle.record_codec.specs.declared.setup.Setup.{Setup as SetupValue}
 use Rattle.record_codec.specs.Entries.{with_master}
 use Rattle.hail_field.specs.declared.shape.Shape.{Shape as ShapeValue}
-use Rattle.hail_codes.specs.Profiles.{profile_of}
+use Rattle.code_defs.specs.Profiles.{profile_of}
 use Rattle.code_points.specs.Profile.{plain_profile}
 use Rattle.vault.specs.Running.{KeepsAll, IsFed, place_in}
 use Rattle.vault.specs.declared.turn.Turn.TheVariants as turn
@@ -77,7 +77,7 @@ pub images_on : (told : Option Cells) (w new : State) → new.records ≡ w.reco
 images_on None w new records doubt stands = tt
 images_on (Some cells) w new records doubt stands = λ image is. elim (stands image is) [
   | inl s ↦ inl (subst (StandsOrIsEmpty image) (sym records) s)
-  | inr s ↦ inr (record { doubt = s.doubt; in_doubt = doubt ∙ s.in_doubt; stands = subst (λ (rs : List Record). Rattle.hail_records.specs.Journal.StandsFor image (s.doubt.entry ∷ rs)) (sym records) s.stands })
+  | inr s ↦ inr (record { doubt = s.doubt; in_doubt = doubt ∙ s.in_doubt; stands = subst (λ (rs : List Record). Rattle.record_defs.specs.Journal.StandsFor image (s.doubt.entry ∷ rs)) (sym records) s.stands })
 ]
 
 -- ---- providers

@@ -5,21 +5,21 @@ use Rattle.std.specs.List.{flat_map, range_with_len}
 use Rattle.std.proofs.lemmas.Grind.{flat_map-append}
 use Rattle.std.proofs.lemmas.List.{append-nil}
 use Rattle.std.proofs.lemmas.List.Sums.{sum_by-cons}
-use Rattle.hail_codes.specs.Points.{upto}
-use Rattle.hail_codes.proofs.Points.{upto_more}
-use Rattle.hail_columns.specs.Objects.{Object, bytes_of_symbols, stripe_symbols}
-use Rattle.hail_columns.specs.Opened.{SeenBlock, GivesSymbols, LosesRow}
-use Rattle.hail_columns.proofs.SymbolBytes.{length-bytes_of_symbols}
-use Rattle.hail_machine.specs.Actions.{Action, Work, actions_of, actions_left}
-use Rattle.hail_machine.specs.Given.{blocks_given, symbols_given}
-use Rattle.hail_machine.specs.Jobs.{Kind, PutJob, DropJob, AuditJob, Given, Worked, Job, advanced_with, without_job}
-use Rattle.hail_machine.specs.Setups.{object_of}
-use Rattle.hail_machine.specs.States.{State, setup_in, worked_object, going_on, ended}
-use Rattle.hail_machine.specs.Steps.{next_action}
-use Rattle.hail_machine.proofs.JobLists.{number_of}
+use Rattle.code_defs.specs.Points.{upto}
+use Rattle.code_defs.proofs.Points.{upto_more}
+use Rattle.column_defs.specs.Objects.{Object, bytes_of_symbols, stripe_symbols}
+use Rattle.column_defs.specs.Opened.{SeenBlock, GivesSymbols, LosesRow}
+use Rattle.column_defs.proofs.SymbolBytes.{length-bytes_of_symbols}
+use Rattle.machine_defs.specs.Actions.{Action, Work, actions_of, actions_left}
+use Rattle.machine_defs.specs.Given.{blocks_given, symbols_given}
+use Rattle.machine_defs.specs.Jobs.{Kind, PutJob, DropJob, AuditJob, Given, Worked, Job, advanced_with, without_job}
+use Rattle.machine_defs.specs.Setups.{object_of}
+use Rattle.machine_defs.specs.States.{State, setup_in, worked_object, going_on, ended}
+use Rattle.machine_defs.specs.Steps.{next_action}
+use Rattle.machine_defs.proofs.JobLists.{number_of}
 use Rattle.column_codec.specs.declared.opening.RowLost.{RowLost}
-use Rattle.sound_states.specs.SoundJobs.{IsPlainJob}
-use Rattle.sound_states.proofs.Orders.{next-left}
+use Rattle.state_laws.specs.SoundJobs.{IsPlainJob}
+use Rattle.state_laws.proofs.Orders.{next-left}
 use Rattle.vault_core.specs.Carried.{ComesNext}
 use Rattle.vault_core.specs.declared.reply.Reply.TheVariants as reply
 use Rattle.vault.specs.declared.heard.Fetches.{Fetches}

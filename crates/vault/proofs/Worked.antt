@@ -3,13 +3,13 @@ use Rattle.std.proofs.Common.{◌≡◌, ℕ, ◌+◌, ◌*◌, ◌-◌, ◌<◌
 use Rattle.std.specs.List.{range_with_len}
 use Rattle.std.proofs.lemmas.Bool.{eq-eqb, ne_eqb}
 use Rattle.std.proofs.Math.Seq.{drop-append_seam}
-use Rattle.hail_columns.specs.Opened.{SeenBlock}
+use Rattle.column_defs.specs.Opened.{SeenBlock}
 use Rattle.column_codec.specs.PresentBlocks.{present_blocks}
 use Rattle.column_codec.proofs.PresentLemmas.{length-present_blocks}
-use Rattle.hail_machine.specs.Actions.{Action, Work}
-use Rattle.hail_machine.specs.Given.{block_given, blocks_given, symbols_given}
-use Rattle.hail_machine.specs.Jobs.{Given, Fetched, Worked}
-use Rattle.hail_machine.proofs.JobLists.{cond_true, cond_false}
+use Rattle.machine_defs.specs.Actions.{Action, Work}
+use Rattle.machine_defs.specs.Given.{block_given, blocks_given, symbols_given}
+use Rattle.machine_defs.specs.Jobs.{Given, Fetched, Worked}
+use Rattle.machine_defs.proofs.JobLists.{cond_true, cond_false}
 use Rattle.vault.specs.declared.blocks.Blocks.{Blocks}
 use Rattle.vault.specs.Opening.{last_blocks}
 use Rattle.vault.specs.Orders.{Phase, Between, Fetching, Opened, GoesOn}

@@ -20,10 +20,10 @@
 use Rattle.std.specs.Prelude.{◌≡◌, ℕ, ◌+◌, ◌-◌, ◌*◌, ◌≤◌, ◌<◌, ◌^◌, ◌==◌, Bool, true, false, List, [], ◌∷◌, ◌++◌, length, drop, Option, None, Some, vec_len, vec_capacity, nat_lt, position, slice_get}
 use Rattle.std.specs.List.{list_all}
 use Rattle.std.specs.Option.{option_map}
-use Rattle.hail_columns.specs.Challenges.{Challenge, challenge_of}
+use Rattle.column_defs.specs.Challenges.{Challenge, challenge_of}
 use Rattle.code_points.specs.Profile.{plain_profile}
-use Rattle.hail_columns.specs.Objects.{Object, stripes}
-use Rattle.hail_columns.specs.Verdicts.{Sums, Judges}
+use Rattle.column_defs.specs.Objects.{Object, stripes}
+use Rattle.column_defs.specs.Verdicts.{Sums, Judges}
 use Rattle.file_layout.specs.Files.{shaped_object}
 use Rattle.record_codec.specs.Entries.{IsPadded}
 use Rattle.audit_verdict.specs.Rounds.{sums_of}

@@ -1,6 +1,6 @@
 -- What a job begins with.
 use Rattle.std.specs.Prelude.{◌≡◌, ℕ, ◌+◌, ◌*◌, ◌≤◌, [], replicate, vec_len, vec_capacity}
-use Rattle.hail_columns.specs.Objects.{stripes, stripe_symbols}
+use Rattle.column_defs.specs.Objects.{stripes, stripe_symbols}
 use Rattle.vault.specs.declared.tasks.AuditTask.{AuditTask}
 use Rattle.vault.specs.declared.tasks.GetTask.{GetTask}
 use Rattle.vault.specs.Tasks.{bench_object}

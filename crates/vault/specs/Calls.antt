@@ -7,10 +7,10 @@
 --                                          of it
 use Rattle.std.specs.Prelude.{◌≡◌, ℕ, List, Option, slice_get}
 use Rattle.std.specs.Option.{option_map}
-use Rattle.hail_devices.specs.Cells.{Cells}
-use Rattle.hail_devices.specs.Faults.{one_more}
-use Rattle.hail_devices.specs.Told.{Goes}
-use Rattle.sound_states.specs.Orders.{moves_before}
+use Rattle.device_defs.specs.Cells.{Cells}
+use Rattle.device_defs.specs.Faults.{one_more}
+use Rattle.device_defs.specs.Told.{Goes}
+use Rattle.state_laws.specs.Orders.{moves_before}
 use Rattle.journal_core.specs.Moves.{cells_after, MayTear}
 use Rattle.vault_core.specs.Coming.{Coming, Acts}
 use Rattle.vault.specs.declared.turn.Answer.{Answer}

@@ -7,10 +7,10 @@ use Rattle.std.specs.Prelude.{List, ◌∷◌, Option, Some, None, map}
 use Rattle.disk_model.specs.declared.disk.Disk.{Ghosts as DiskGhosts}
 use Rattle.provider_model.specs.declared.provider.Provider.{Ghosts as ProviderGhosts}
 use Rattle.provider_model.specs.Seen.{provider_seen}
-use Rattle.hail_devices.specs.Told.{Goes}
-use Rattle.hail_records.specs.Records.{Record}
-use Rattle.hail_records.specs.Journal.{text_size}
-use Rattle.hail_machine.specs.States.{State, Append}
+use Rattle.device_defs.specs.Told.{Goes}
+use Rattle.record_defs.specs.Records.{Record}
+use Rattle.record_defs.specs.Journal.{text_size}
+use Rattle.machine_defs.specs.States.{State, Append}
 use Rattle.journal_core.specs.Moves.{SameFrom}
 use Rattle.vault_open.specs.Devices.{Devices, devices}
 

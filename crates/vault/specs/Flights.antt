@@ -7,10 +7,10 @@
 --   ChangesCells a old moved new  == the cells after a move, by what came of it
 use Rattle.std.specs.Prelude.{◌≡◌, ◌+◌, ◌<◌, List, ◌∷◌, Option, IfSome}
 use Rattle.std.specs.Option.{option_map}
-use Rattle.hail_devices.specs.Cells.{Cells}
-use Rattle.hail_devices.specs.Told.{Goes}
-use Rattle.hail_records.specs.Records.{Record}
-use Rattle.hail_records.specs.Journal.{before_gate}
+use Rattle.device_defs.specs.Cells.{Cells}
+use Rattle.device_defs.specs.Told.{Goes}
+use Rattle.record_defs.specs.Records.{Record}
+use Rattle.record_defs.specs.Journal.{before_gate}
 use Rattle.journal_core.specs.declared.append.Append.{Append}
 use Rattle.journal_core.specs.Appends.{Appends, gate_of, body_of, moves_of}
 use Rattle.journal_core.specs.Moves.{IsClosed, AllStandFor, MayStandFor, IsWrite, cells_after, MayTear}

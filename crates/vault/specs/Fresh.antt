@@ -1,6 +1,6 @@
 -- A vault as it is opened, before any job.
 use Rattle.std.specs.Prelude.{◌≡◌, ℕ, false, [], None, Some}
-use Rattle.hail_machine.specs.Setups.{setup_or_none}
+use Rattle.machine_defs.specs.Setups.{setup_or_none}
 use Rattle.record_codec.specs.Entries.{with_master}
 use Rattle.vault_open.specs.declared.store.Store.{Store}
 use Rattle.vault.specs.declared.vault.Vault.{Vault}

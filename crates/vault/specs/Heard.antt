@@ -7,8 +7,8 @@
 use Rattle.std.specs.Prelude.{ℕ, List, [], ◌∷◌, Option}
 use Rattle.std.specs.Option.{option_map}
 use Rattle.column_codec.specs.PresentBlocks.{present_blocks}
-use Rattle.hail_machine.specs.Jobs.{Fetched, Answered}
-use Rattle.hail_machine.specs.Heard.{Entry}
+use Rattle.machine_defs.specs.Jobs.{Fetched, Answered}
+use Rattle.machine_defs.specs.Heard.{Entry}
 use Rattle.vault.specs.declared.blocks.Blocks.{Blocks}
 use Rattle.vault.specs.declared.heard.Fetch.{Fetch}
 use Rattle.vault.specs.declared.heard.Ask.{Ask}

@@ -5,12 +5,12 @@
 --   IsMover v w told job action f == an append that is at this move of the job: it brings the record that the
 --                            job writes, which is that of the append in flight, if there is one
 use Rattle.std.specs.Prelude.{◌≡◌, ℕ, ◌+◌, true, Option, Some, [], ◌∷◌, ◌++◌, IsTrue}
-use Rattle.hail_devices.specs.Cells.{Cells}
-use Rattle.hail_records.specs.Records.{Record, is_in_grammar}
-use Rattle.hail_records.specs.Spellings.{spelling}
-use Rattle.hail_machine.specs.Actions.{Action}
-use Rattle.hail_machine.specs.States.{State, Append}
-use Rattle.sound_states.specs.Orders.{moves_before}
+use Rattle.device_defs.specs.Cells.{Cells}
+use Rattle.record_defs.specs.Records.{Record, is_in_grammar}
+use Rattle.record_defs.specs.Spellings.{spelling}
+use Rattle.machine_defs.specs.Actions.{Action}
+use Rattle.machine_defs.specs.States.{State, Append}
+use Rattle.state_laws.specs.Orders.{moves_before}
 use Rattle.journal_core.specs.Appends.{Appends, gate_of, body_of, moves_of}
 use Rattle.vault_core.specs.Carried.{IsWriting}
 use Rattle.vault_core.specs.Coming.{is_move, entry_in}

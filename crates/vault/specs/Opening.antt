@@ -12,8 +12,8 @@
 --   WorksAs old new object stripe result == what the work on a stripe came to
 --   CanWork task            == a job has the blocks of a stripe, and room for its bytes
 use Rattle.std.specs.Prelude.{◌≡◌, ℕ, ◌+◌, ◌-◌, ◌*◌, ◌≤◌, List, [], ◌++◌, length, drop, Result, Ok, Err, vec_len, vec_capacity}
-use Rattle.hail_columns.specs.Objects.{Object, bytes_of_symbols, stripe_symbols}
-use Rattle.hail_columns.specs.Opened.{SeenBlock, GivesSymbols, LosesRow}
+use Rattle.column_defs.specs.Objects.{Object, bytes_of_symbols, stripe_symbols}
+use Rattle.column_defs.specs.Opened.{SeenBlock, GivesSymbols, LosesRow}
 use Rattle.column_codec.specs.PresentBlocks.{present_blocks}
 use Rattle.column_codec.specs.declared.opening.RowLost.{RowLost}
 use Rattle.vault.specs.declared.bench.Bench.{Bench}

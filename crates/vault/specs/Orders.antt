@@ -7,7 +7,7 @@
 --                                order, up to the total
 --   fetches_left rest, works_left rest, asks_left rest == how many such actions are left
 use Rattle.std.specs.Prelude.{◌≡◌, ℕ, ◌+◌, ◌<◌, Bool, true, false, List, [], ◌∷◌, count_by}
-use Rattle.hail_machine.specs.Actions.{Action, Store, Fetch, Ask, Work, End}
+use Rattle.machine_defs.specs.Actions.{Action, Store, Fetch, Ask, Work, End}
 
 -- where a job is on its stripes
 pub data Phase : Type 0 where

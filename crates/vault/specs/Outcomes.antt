@@ -7,10 +7,10 @@
 --   IsNoAction turn           == a step that made no action
 --   HasPaddedCounts answer == the counts of an audit are padded
 use Rattle.std.specs.Prelude.{ℕ, Result, Ok, Err}
-use Rattle.hail_machine.specs.Refusals as refusal
-use Rattle.hail_machine.specs.Answers as answers
-use Rattle.hail_machine.specs.Events as events
-use Rattle.hail_machine.specs.Events.{Outcome}
+use Rattle.machine_defs.specs.Refusals as refusal
+use Rattle.machine_defs.specs.Answers as answers
+use Rattle.machine_defs.specs.Events as events
+use Rattle.machine_defs.specs.Events.{Outcome}
 use Rattle.record_codec.specs.Entries.{counted, IsPadded}
 use Rattle.vault_core.specs.declared.wish.BeginFault.{BeginFault}
 use Rattle.vault_core.specs.Carried.{refusal_of}

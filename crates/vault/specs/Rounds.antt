@@ -7,12 +7,12 @@
 --                                the first of them
 use Rattle.std.specs.Prelude.{◌≡◌, ℕ, ◌+◌, ◌==◌, List, [], ◌∷◌, length, map, if◌then◌else◌}
 use Rattle.std.specs.List.{flat_map}
-use Rattle.hail_columns.specs.Verdicts.{Sums}
-use Rattle.hail_records.specs.Records.{Setup}
-use Rattle.hail_machine.specs.Jobs.{Pinned, Job}
-use Rattle.hail_machine.specs.Setups.{profiled}
-use Rattle.hail_machine.specs.Actions.{Action, Ask, End, rounds_of}
-use Rattle.hail_machine.specs.Audits.{JudgesRound}
+use Rattle.column_defs.specs.Verdicts.{Sums}
+use Rattle.record_defs.specs.Records.{Setup}
+use Rattle.machine_defs.specs.Jobs.{Pinned, Job}
+use Rattle.machine_defs.specs.Setups.{profiled}
+use Rattle.machine_defs.specs.Actions.{Action, Ask, End, rounds_of}
+use Rattle.machine_defs.specs.Audits.{JudgesRound}
 
 -- a round of a file
 pub record Round : Type 0 where

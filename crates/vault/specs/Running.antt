@@ -9,10 +9,10 @@
 --   HasStopped, IsStopped   == a job was ended with an answer
 use Rattle.std.specs.Prelude.{◌≡◌, ℕ, ◌==◌, true, List, [], Option, Some, None, is_some, slice_get, position}
 use Rattle.std.specs.List.{remove}
-use Rattle.hail_machine.specs.Events.{Outcome, Step}
-use Rattle.hail_machine.specs.Heard.{Entry}
-use Rattle.hail_machine.specs.Machine.{Happens}
-use Rattle.hail_machine.specs.States.{State}
+use Rattle.machine_defs.specs.Events.{Outcome, Step}
+use Rattle.machine_defs.specs.Heard.{Entry}
+use Rattle.machine_defs.specs.Machine.{Happens}
+use Rattle.machine_defs.specs.States.{State}
 use Rattle.vault_core.specs.declared.reply.Reply.{Reply}
 use Rattle.vault_core.specs.View.{CoreView, job_in}
 use Rattle.vault_core.specs.Carried.{CoreIs}

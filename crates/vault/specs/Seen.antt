@@ -9,7 +9,7 @@
 --   IsUnchanged old new == the same jobs with what they work with, the same core, the same append; spare
 --                          room does not count
 use Rattle.std.specs.Prelude.{◌≡◌, ℕ, ◌-◌, List, Option, unwrap_or}
-use Rattle.hail_records.specs.Records.{Record}
+use Rattle.record_defs.specs.Records.{Record}
 use Rattle.vault_core.specs.Coming.{Coming, next_in, entry_in, left_in}
 use Rattle.record_codec.specs.declared.setup.Setup.{Setup}
 use Rattle.vault_table.specs.Values.{Kept}

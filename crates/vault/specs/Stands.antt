@@ -12,20 +12,20 @@
 --                               before
 --   MakesStep, MakesTurn, MakesBegin == a step and a begin are events of the machine
 use Rattle.std.specs.Prelude.{◌≡◌, ◌≢◌, ℕ, false, List, Option, Some, None, ◌∷◌, Result, IfSome}
-use Rattle.hail_codes.specs.Profiles.{profile_of}
-use Rattle.hail_devices.specs.Cells.{Cells}
-use Rattle.hail_devices.specs.Told.{Goes}
-use Rattle.hail_records.specs.Records.{Record}
-use Rattle.hail_records.specs.Journal.{before_gate, text_size}
-use Rattle.hail_machine.specs.Actions.{Action}
-use Rattle.hail_machine.specs.Jobs.{Kind, job_of}
-use Rattle.hail_machine.specs.Answers as answers
-use Rattle.hail_machine.specs.Events.{Step, Ended}
-use Rattle.hail_machine.specs.Heard.{heard_by}
-use Rattle.hail_machine.specs.Begins.{Begins}
-use Rattle.hail_machine.specs.States.{State, setup_in}
-use Rattle.hail_machine.specs.States as states
-use Rattle.hail_machine.specs.Machine.{Happens}
+use Rattle.code_defs.specs.Profiles.{profile_of}
+use Rattle.device_defs.specs.Cells.{Cells}
+use Rattle.device_defs.specs.Told.{Goes}
+use Rattle.record_defs.specs.Records.{Record}
+use Rattle.record_defs.specs.Journal.{before_gate, text_size}
+use Rattle.machine_defs.specs.Actions.{Action}
+use Rattle.machine_defs.specs.Jobs.{Kind, job_of}
+use Rattle.machine_defs.specs.Answers as answers
+use Rattle.machine_defs.specs.Events.{Step, Ended}
+use Rattle.machine_defs.specs.Heard.{heard_by}
+use Rattle.machine_defs.specs.Begins.{Begins}
+use Rattle.machine_defs.specs.States.{State, setup_in}
+use Rattle.machine_defs.specs.States as states
+use Rattle.machine_defs.specs.Machine.{Happens}
 use Rattle.code_points.specs.Profile.{plain_profile}
 use Rattle.record_codec.specs.Entries.{with_master}
 use Rattle.journal_core.specs.Appends.{Appends, moves_of}

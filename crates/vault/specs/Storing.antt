@@ -8,8 +8,8 @@
 --                               with them
 --   IsStorer task j         == a job that stores, and provider j is one of those of its object
 use Rattle.std.specs.Prelude.{◌≡◌, ℕ, ◌<◌, List, []}
-use Rattle.hail_columns.specs.Columns.{column_of_symbols}
-use Rattle.hail_columns.specs.Objects.{Object, symbols_in}
+use Rattle.column_defs.specs.Columns.{column_of_symbols}
+use Rattle.column_defs.specs.Objects.{Object, symbols_in}
 use Rattle.vault.specs.declared.bench.Bench.{Bench}
 use Rattle.vault.specs.declared.tasks.Task.{Task}
 use Rattle.vault.specs.declared.tasks.Task.TheVariants as task

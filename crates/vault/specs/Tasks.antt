@@ -12,18 +12,18 @@
 --   AreRunning s running jobs       == the running jobs, in order, with what they work with
 use Rattle.std.specs.Prelude.{◌≡◌, ℕ, ◌+◌, ◌*◌, ◌<◌, ◌≤◌, Bool, List, [], ◌∷◌, ◌++◌, length, replicate, Option, vec_len, vec_capacity}
 use Rattle.std.specs.List.{flat_map}
-use Rattle.hail_codes.specs.Points.{upto}
-use Rattle.hail_columns.specs.Objects.{Object, bytes_of_symbols, stripe_symbols}
-use Rattle.hail_columns.specs.Verdicts.{Sums}
-use Rattle.hail_records.specs.Records.{Setup}
+use Rattle.code_defs.specs.Points.{upto}
+use Rattle.column_defs.specs.Objects.{Object, bytes_of_symbols, stripe_symbols}
+use Rattle.column_defs.specs.Verdicts.{Sums}
+use Rattle.record_defs.specs.Records.{Setup}
 use Rattle.record_codec.specs.Entries.{counted, IsPadded}
 use Rattle.file_layout.specs.Files as layout
 use Rattle.column_codec.specs.PresentBlocks.{present_blocks}
-use Rattle.hail_machine.specs.Jobs.{PutJob, GetJob, DropJob, AuditJob, RepairJob, Pinned, Given, Fetched, Answered, Job}
-use Rattle.hail_machine.specs.Setups.{object_of, pinned_stripes}
-use Rattle.hail_machine.specs.Given.{symbols_given}
-use Rattle.hail_machine.specs.Actions.{Action, actions_left}
-use Rattle.hail_machine.specs.Heard.{entries_of}
+use Rattle.machine_defs.specs.Jobs.{PutJob, GetJob, DropJob, AuditJob, RepairJob, Pinned, Given, Fetched, Answered, Job}
+use Rattle.machine_defs.specs.Setups.{object_of, pinned_stripes}
+use Rattle.machine_defs.specs.Given.{symbols_given}
+use Rattle.machine_defs.specs.Actions.{Action, actions_left}
+use Rattle.machine_defs.specs.Heard.{entries_of}
 use Rattle.vault.specs.declared.blocks.Blocks.{Blocks}
 use Rattle.vault.specs.declared.bench.Bench.{Bench}
 use Rattle.vault.specs.declared.tasks.PutTask.{PutTask}

@@ -1,11 +1,11 @@
 ghost use Rattle.std.specs.Prelude.{◌≡◌, ◌≢◌, slice_get, ◌≤◌, ◌<◌, ◌^◌, ◌↔◌, ◌*◌, ℕ, List, Option, Some, length, drop, map, All, slice_index, replicate, nat_lt, position, ◌==◌, IfSome, IsSome, OnSome, IsTrue};
 ghost use Rattle.std.specs.List.{list_all};
-ghost use Rattle.hail_columns.specs.Challenges.{honest_answer};
-ghost use Rattle.hail_devices.specs.Cells.{Cells};
-ghost use Rattle.hail_devices.specs.Faults.{one_more};
-ghost use Rattle.hail_devices.specs.ProviderCalls.{Asks};
-ghost use Rattle.hail_machine.specs.Actions.{Ask as AskAction};
-ghost use Rattle.hail_machine.specs.States.{State};
+ghost use Rattle.column_defs.specs.Challenges.{honest_answer};
+ghost use Rattle.device_defs.specs.Cells.{Cells};
+ghost use Rattle.device_defs.specs.Faults.{one_more};
+ghost use Rattle.device_defs.specs.ProviderCalls.{Asks};
+ghost use Rattle.machine_defs.specs.Actions.{Ask as AskAction};
+ghost use Rattle.machine_defs.specs.States.{State};
 ghost use Rattle.challenge.specs.Asked.{asked};
 ghost use Rattle.record_codec.specs.Entries.{IsPadded};
 ghost use Rattle.vault_core.specs.declared.pinned.Pinned.{Pinned as PinnedValue};
@@ -110,9 +110,9 @@ fn is_padded(counts: &Counts) -> bool
 
 impl AuditTask {
     ghost use Rattle.std.specs.Prelude.{◌≡◌, ◌≤◌, ◌↔◌, ◌+◌, ◌<◌, ◌^◌, ◌*◌, ℕ, Option, OnSome, IfSome, IsSome, All, length, slice_index};
-    ghost use Rattle.hail_columns.specs.Challenges.{honest_answer};
-    ghost use Rattle.hail_devices.specs.Faults.{one_more};
-    ghost use Rattle.hail_devices.specs.ProviderCalls.{Asks};
+    ghost use Rattle.column_defs.specs.Challenges.{honest_answer};
+    ghost use Rattle.device_defs.specs.Faults.{one_more};
+    ghost use Rattle.device_defs.specs.ProviderCalls.{Asks};
     ghost use Rattle.vault.specs.Asking.{challenge_put, HasHeard, HasJudged, TakesAsk, HasRoomForAsk, CanJudge, CanAsk};
 
     /// Asks a provider, and keeps its answer. It takes no memory where there is room.

@@ -1,6 +1,6 @@
 ghost use Rattle.std.specs.Prelude.{◌≡◌, ◌<◌, ◌-◌, ◌^◌, ℕ, OnErr};
-ghost use Rattle.hail_machine.specs.Jobs.{PutJob, GetJob, DropJob, AuditJob, RepairJob};
-ghost use Rattle.hail_machine.specs.States.{State};
+ghost use Rattle.machine_defs.specs.Jobs.{PutJob, GetJob, DropJob, AuditJob, RepairJob};
+ghost use Rattle.machine_defs.specs.States.{State};
 ghost use Rattle.vault_open.specs.Devices.{Devices};
 ghost use Rattle.vault.specs.Seen.{next_job_of, IsUnchanged};
 ghost use Rattle.vault.specs.Stands.{Stands, MakesBegin};

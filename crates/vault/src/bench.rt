@@ -27,8 +27,8 @@ pub struct Bench {
 
 impl Bench {
     ghost use Rattle.std.specs.Prelude.{◌≡◌, ◌<◌, ◌*◌, ◌↔◌, length, IsSome, OnSome, OnOk, OnErr, IfErr, IfSome, IsTrue};
-    ghost use Rattle.hail_columns.specs.Columns.{column_of_symbols};
-    ghost use Rattle.hail_columns.specs.Objects.{symbols_in};
+    ghost use Rattle.column_defs.specs.Columns.{column_of_symbols};
+    ghost use Rattle.column_defs.specs.Objects.{symbols_in};
     ghost use Rattle.file_layout.specs.Files.{shaped_object};
     ghost use Rattle.column_codec.specs.PresentBlocks.{present_blocks};
     ghost use Rattle.vault.specs.Tasks.{bench_object};

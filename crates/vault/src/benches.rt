@@ -1,5 +1,5 @@
 ghost use Rattle.std.specs.Prelude.{◌≡◌, ◌≤◌, ◌^◌, length, All, IfOk, IsErrOf, IsOk, IsErr};
-ghost use Rattle.hail_machine.specs.Events.{AreBytes};
+ghost use Rattle.machine_defs.specs.Events.{AreBytes};
 ghost use Rattle.vault_core.specs.declared.wish.BeginFault.TheVariants as fault;
 ghost use Rattle.vault.specs.Benches.{IsBenchFor};
 

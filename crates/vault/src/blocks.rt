@@ -1,6 +1,6 @@
 ghost use Rattle.std.specs.Prelude.{◌≡◌, ◌+◌, ◌≤◌, ◌++◌, ℕ, Bool, List, Some, None, length, take, drop, replicate, IsOk, OnOk, vec_len, vec_capacity, if◌then◌else◌};
-ghost use Rattle.hail_devices.specs.Faults.{one_more};
-ghost use Rattle.hail_devices.specs.ProviderCalls.{Fetches};
+ghost use Rattle.device_defs.specs.Faults.{one_more};
+ghost use Rattle.device_defs.specs.ProviderCalls.{Fetches};
 ghost use Rattle.provider_model.specs.Seen.{provider_seen};
 
 use hail_field::Symbol;

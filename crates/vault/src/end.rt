@@ -1,8 +1,8 @@
 ghost use Rattle.std.specs.Prelude.{◌≡◌, ◌<◌, ℕ, [], Some, IfSome};
-ghost use Rattle.hail_machine.specs.Actions.{End};
-ghost use Rattle.hail_machine.specs.States.{State};
+ghost use Rattle.machine_defs.specs.Actions.{End};
+ghost use Rattle.machine_defs.specs.States.{State};
 ghost use Rattle.std.specs.Option.{option_map};
-ghost use Rattle.hail_columns.specs.Verdicts.{Sums};
+ghost use Rattle.column_defs.specs.Verdicts.{Sums};
 ghost use Rattle.record_codec.specs.Entries.{counted, IsPadded};
 ghost use Rattle.vault_core.specs.Coming.{TakesReply};
 ghost use Rattle.vault_core.specs.View.{job_in, CoreJob};

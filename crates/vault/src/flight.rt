@@ -28,10 +28,10 @@ pub enum Moved {
 
 impl Flight {
     ghost use Rattle.std.specs.Prelude.{◌≡◌, ◌+◌, ◌^◌, ◌≤◌, ◌++◌, ◌∷◌, [], length, is_some};
-    ghost use Rattle.hail_devices.specs.Faults.{HasCause, one_more};
-    ghost use Rattle.hail_devices.specs.Told.{Goes};
-    ghost use Rattle.hail_records.specs.Records.{record_size};
-    ghost use Rattle.hail_records.specs.Spellings.{spelling};
+    ghost use Rattle.device_defs.specs.Faults.{HasCause, one_more};
+    ghost use Rattle.device_defs.specs.Told.{Goes};
+    ghost use Rattle.record_defs.specs.Records.{record_size};
+    ghost use Rattle.record_defs.specs.Spellings.{spelling};
     ghost use Rattle.record_codec.specs.Entries.{entry_of, IsInGrammar};
     ghost use Rattle.journal_core.specs.Appends.{gate_of, body_of, moves_of};
     ghost use Rattle.journal_core.specs.Moves.{SameFrom};

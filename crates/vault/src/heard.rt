@@ -71,7 +71,7 @@ pub struct HeardList {
 
 impl Model for HeardList {
     ghost use Rattle.std.specs.Prelude.{List};
-    ghost use Rattle.hail_machine.specs.Heard.{Entry};
+    ghost use Rattle.machine_defs.specs.Heard.{Entry};
 
     ghost Value = { List Entry };
 

@@ -1,6 +1,6 @@
 //! What holds of every vault and its devices.
 ghost use Rattle.std.specs.Prelude.{◌≡◌, false};
-ghost use Rattle.hail_machine.specs.States.{State};
+ghost use Rattle.machine_defs.specs.States.{State};
 ghost use Rattle.vault_open.specs.Devices.{Devices};
 ghost use Rattle.vault.specs.declared.vault.Vault.{Vault};
 ghost use Rattle.vault.specs.Stands.{Stands, Carries};

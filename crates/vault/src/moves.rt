@@ -1,11 +1,11 @@
 ghost use Rattle.std.specs.Prelude.{ℕ, List, [], ◌∷◌, ◌++◌, ◌≡◌, ◌<◌, None, Option, Some, IfSome, OnSome, is_some};
-ghost use Rattle.hail_devices.specs.Cells.{Cells};
-ghost use Rattle.hail_devices.specs.Faults.{one_more};
-ghost use Rattle.hail_devices.specs.Providers.{Provider};
-ghost use Rattle.hail_records.specs.Records.{Record as Entry};
-ghost use Rattle.hail_records.specs.Spellings.{spelling};
-ghost use Rattle.hail_machine.specs.Actions.{Action};
-ghost use Rattle.hail_machine.specs.States.{State};
+ghost use Rattle.device_defs.specs.Cells.{Cells};
+ghost use Rattle.device_defs.specs.Faults.{one_more};
+ghost use Rattle.device_defs.specs.Providers.{Provider};
+ghost use Rattle.record_defs.specs.Records.{Record as Entry};
+ghost use Rattle.record_defs.specs.Spellings.{spelling};
+ghost use Rattle.machine_defs.specs.Actions.{Action};
+ghost use Rattle.machine_defs.specs.States.{State};
 ghost use Rattle.vault_open.specs.Devices.{devices};
 ghost use Rattle.vault.specs.Stands.{Stands, Comes, MakesTurn};
 ghost use Rattle.vault.specs.Movers.{ComesMove, IsUnbegun, IsMover};

@@ -1,5 +1,5 @@
 ghost use Rattle.std.specs.Prelude.{◌≤◌, ◌*◌, []};
-ghost use Rattle.hail_columns.specs.Objects.{stripes};
+ghost use Rattle.column_defs.specs.Objects.{stripes};
 ghost use Rattle.file_layout.specs.Files.{shaped_object};
 
 use file_layout::FileShape;

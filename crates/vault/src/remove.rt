@@ -1,9 +1,9 @@
 ghost use Rattle.std.specs.Prelude.{◌≡◌, ◌≢◌, slice_get, ℕ, Option, length, map, ◌<◌};
-ghost use Rattle.hail_devices.specs.Cells.{Cells};
-ghost use Rattle.hail_devices.specs.Faults.{one_more};
-ghost use Rattle.hail_devices.specs.ProviderCalls.{Removes};
-ghost use Rattle.hail_machine.specs.Actions.{Remove};
-ghost use Rattle.hail_machine.specs.States.{State};
+ghost use Rattle.device_defs.specs.Cells.{Cells};
+ghost use Rattle.device_defs.specs.Faults.{one_more};
+ghost use Rattle.device_defs.specs.ProviderCalls.{Removes};
+ghost use Rattle.machine_defs.specs.Actions.{Remove};
+ghost use Rattle.machine_defs.specs.States.{State};
 ghost use Rattle.vault.specs.Calls.{CalledOnce};
 ghost use Rattle.vault_open.specs.Devices.{devices};
 ghost use Rattle.provider_model.specs.Seen.{provider_seen};

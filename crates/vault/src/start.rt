@@ -1,18 +1,18 @@
 ghost use Rattle.std.specs.Prelude.{◌≡◌, ℕ, List, IfSome, IfOk, IfErr, OnOk, IsErrOf, true};
 ghost use Rattle.std.specs.Option.{option_map};
-ghost use Rattle.hail_devices.specs.Disks.{synced};
-ghost use Rattle.hail_devices.specs.Faults.{HasCause};
-ghost use Rattle.hail_devices.specs.Told.{Goes};
-ghost use Rattle.hail_devices.specs.Providers.{Provider};
-ghost use Rattle.hail_records.specs.Records.{Record};
-ghost use Rattle.hail_machine.specs.States.{State};
+ghost use Rattle.device_defs.specs.Disks.{synced};
+ghost use Rattle.device_defs.specs.Faults.{HasCause};
+ghost use Rattle.device_defs.specs.Told.{Goes};
+ghost use Rattle.device_defs.specs.Providers.{Provider};
+ghost use Rattle.record_defs.specs.Records.{Record};
+ghost use Rattle.machine_defs.specs.States.{State};
 ghost use Rattle.vault_open.specs.declared.fault.StartFault.TheVariants as start_fault;
 ghost use Rattle.vault_open.specs.Devices.{devices};
-ghost use Rattle.hail_openings.specs.Journals.{journal_read, IsRead, IsResynced};
+ghost use Rattle.opening_defs.specs.Journals.{journal_read, IsRead, IsResynced};
 ghost use Rattle.vault_open.specs.Causes.{IsStartFault, LiesInJournal};
 ghost use Rattle.vault.specs.Seen.{next_job_of};
 ghost use Rattle.vault.specs.Stands.{Stands, Carries};
-ghost use Rattle.hail_openings.specs.Opened.{IsJustOpened};
+ghost use Rattle.opening_defs.specs.Opened.{IsJustOpened};
 
 use crate::fresh::open_fresh;
 use crate::vault::Vault;

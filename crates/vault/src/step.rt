@@ -1,8 +1,8 @@
 ghost use Rattle.std.specs.Prelude.{◌≡◌, ◌≢◌, ◌<◌, ◌≤◌, ◌++◌, ◌∷◌, [], ℕ, true, false, None, Some, IfSome, OnSome, is_some, length, map, slice_get};
-ghost use Rattle.hail_devices.specs.Faults.{one_more};
-ghost use Rattle.hail_machine.specs.States.{State};
-ghost use Rattle.hail_records.specs.Records.{Record as Entry};
-ghost use Rattle.hail_records.specs.Spellings.{spelling};
+ghost use Rattle.device_defs.specs.Faults.{one_more};
+ghost use Rattle.machine_defs.specs.States.{State};
+ghost use Rattle.record_defs.specs.Records.{Record as Entry};
+ghost use Rattle.record_defs.specs.Spellings.{spelling};
 ghost use Rattle.vault.specs.Calls.{moves_before_next, CalledOnce, MovesCells};
 ghost use Rattle.vault_open.specs.Devices.{Devices};
 ghost use Rattle.vault.specs.Devices.{devices_seen};

@@ -1,9 +1,9 @@
 ghost use Rattle.std.specs.Prelude.{◌≡◌, ◌≢◌, ◌≤◌, ◌<◌, ℕ, List, Option, length, map, slice_get, IfSome, IsSome, OnSome, Some};
-ghost use Rattle.hail_columns.specs.Columns.{column_of_symbols};
-ghost use Rattle.hail_devices.specs.Cells.{Cells};
-ghost use Rattle.hail_devices.specs.Faults.{one_more};
-ghost use Rattle.hail_machine.specs.Actions.{Store};
-ghost use Rattle.hail_machine.specs.States.{State};
+ghost use Rattle.column_defs.specs.Columns.{column_of_symbols};
+ghost use Rattle.device_defs.specs.Cells.{Cells};
+ghost use Rattle.device_defs.specs.Faults.{one_more};
+ghost use Rattle.machine_defs.specs.Actions.{Store};
+ghost use Rattle.machine_defs.specs.States.{State};
 ghost use Rattle.vault.specs.Calls.{CalledOnce};
 ghost use Rattle.vault_open.specs.Devices.{devices};
 ghost use Rattle.vault.specs.Storing.{turned, stored_block, KeepsTask, IsStorer};
@@ -40,8 +40,8 @@ fn store_block<P: Provider>(
 
 impl Bench {
     ghost use Rattle.std.specs.Prelude.{◌≡◌, ◌<◌, IfSome, IsSome, OnSome};
-    ghost use Rattle.hail_columns.specs.Columns.{column_of_symbols};
-    ghost use Rattle.hail_devices.specs.Faults.{one_more};
+    ghost use Rattle.column_defs.specs.Columns.{column_of_symbols};
+    ghost use Rattle.device_defs.specs.Faults.{one_more};
     ghost use Rattle.vault.specs.Storing.{turned};
     ghost use Rattle.vault.specs.Tasks.{bench_object};
 
@@ -72,9 +72,9 @@ impl Bench {
 
 impl PutTask {
     ghost use Rattle.std.specs.Prelude.{◌≡◌, ◌<◌, IfSome, IsSome, OnSome};
-    ghost use Rattle.hail_devices.specs.Faults.{one_more};
-    ghost use Rattle.hail_columns.specs.Columns.{column_of_symbols};
-    ghost use Rattle.hail_columns.specs.Objects.{symbols_in};
+    ghost use Rattle.device_defs.specs.Faults.{one_more};
+    ghost use Rattle.column_defs.specs.Columns.{column_of_symbols};
+    ghost use Rattle.column_defs.specs.Objects.{symbols_in};
     ghost use Rattle.vault.specs.Storing.{turned};
     ghost use Rattle.vault.specs.Tasks.{bench_object};
 

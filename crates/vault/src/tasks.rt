@@ -1,6 +1,6 @@
 ghost use Rattle.std.specs.Prelude.{◌≡◌};
 ghost use Rattle.std.specs.Option.{ForSome};
-ghost use Rattle.hail_columns.specs.Objects.{symbols_in};
+ghost use Rattle.column_defs.specs.Objects.{symbols_in};
 ghost use Rattle.file_layout.specs.Files.{shaped_object};
 
 use crate::bench::Bench;

@@ -1,7 +1,7 @@
 ghost use Rattle.std.specs.Prelude.{◌≡◌, ◌+◌, ◌*◌, ◌≤◌, ◌++◌, ℕ, length, IsOk, IsSome, OnOk, IfSome, vec_len, vec_capacity, ◌<◌, Some};
-ghost use Rattle.hail_columns.specs.Objects.{bytes_of_symbols};
-ghost use Rattle.hail_machine.specs.Actions.{Work};
-ghost use Rattle.hail_machine.specs.States.{State};
+ghost use Rattle.column_defs.specs.Objects.{bytes_of_symbols};
+ghost use Rattle.machine_defs.specs.Actions.{Work};
+ghost use Rattle.machine_defs.specs.States.{State};
 ghost use Rattle.vault_open.specs.Devices.{Devices};
 ghost use Rattle.vault.specs.Opening.{WorksAs, TakesWork, CanWork};
 ghost use Rattle.vault.specs.Running.{heard_of};

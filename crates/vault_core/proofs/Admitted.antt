@@ -8,12 +8,12 @@ use Rattle.std.proofs.lemmas.Bool.Decides.{nat_tests}
 use Rattle.std.proofs.lemmas.List.Elements.{All-push}
 use Rattle.std.proofs.lemmas.List.Sums.{sum_by_push}
 use Rattle.std.proofs.lemmas.List.{length-map}
-use Rattle.hail_records.specs.Records.{Setup, Record, largest_journal}
-use Rattle.hail_machine.specs.Jobs.{Kind, ToPut, ToAudit}
-use Rattle.hail_machine.specs.Events.{Begin, Begun, IsSpelledKind}
-use Rattle.hail_machine.specs.States.{State, Append, setup_in}
-use Rattle.hail_machine.specs.Begins.{begin_refusal, new_job}
-use Rattle.sound_states.proofs.Events.{events-sound}
+use Rattle.record_defs.specs.Records.{Setup, Record, largest_journal}
+use Rattle.machine_defs.specs.Jobs.{Kind, ToPut, ToAudit}
+use Rattle.machine_defs.specs.Events.{Begin, Begun, IsSpelledKind}
+use Rattle.machine_defs.specs.States.{State, Append, setup_in}
+use Rattle.machine_defs.specs.Begins.{begin_refusal, new_job}
+use Rattle.state_laws.proofs.Events.{events-sound}
 use Rattle.vault_table.specs.Values.{Kept}
 use Rattle.vault_core.specs.declared.wish.Wish.{Wish}
 use Rattle.vault_core.specs.declared.wish.Wish.TheVariants as wish
@@ -27,13 +27,13 @@ use Rattle.vault_core.specs.Reserves.{sizes_of, reserved_of, starts_of, Reserves
 use Rattle.vault_core.specs.Coming.{entry_of_found}
 use Rattle.vault_core.specs.Carried.{IsKindOf, IsJobOf, IsCoreFlight, CoreIs, begun}
 use Rattle.vault_core.specs.Parts.{core_job, view_of, IsJobKept, IsCore}
-use Rattle.hail_machine.specs.Sights.{is_busy, is_shut, is_full, are_numbers_used_up, are_jobs_in_the_way}
-use Rattle.hail_machine.proofs.Refused.{left_false, right_false}
+use Rattle.machine_defs.specs.Sights.{is_busy, is_shut, is_full, are_numbers_used_up, are_jobs_in_the_way}
+use Rattle.machine_defs.proofs.Refused.{left_false, right_false}
 use Rattle.vault_core.specs.Wished.{aim_of_wish}
 use Rattle.vault_core.specs.Refusing.{aims_in, sight_in, word_refusal_in, or_full, refusal_in}
 use Rattle.vault_core.specs.Making.{cursor_first, starts_for, admitted, IsMade}
 use Rattle.vault_core.proofs.Counts.{gates_at, reserved_is, reserved_at}
-use Rattle.sound_states.proofs.Written.{file-first}
+use Rattle.state_laws.proofs.Written.{file-first}
 use Rattle.vault_core.proofs.Plain.{pins-plain}
 use Rattle.vault_core.proofs.Joins.{made-is}
 use Rattle.vault_core.proofs.Refusals.{way}

@@ -1,6 +1,6 @@
 -- A wish and a kind of the machine that have one aim, part by part.
 use Rattle.std.proofs.Common.{◌≡◌, refl, subst}
-use Rattle.hail_machine.specs.Jobs.{Kind, Aim, ToPut, ToGet, ToDrop, ToAudit, ToRepair, ToUpgrade, aim_of}
+use Rattle.machine_defs.specs.Jobs.{Kind, Aim, ToPut, ToGet, ToDrop, ToAudit, ToRepair, ToUpgrade, aim_of}
 use Rattle.vault_core.specs.declared.wish.Wish.{Wish}
 use Rattle.vault_core.specs.Wished.{aim_of_wish}
 use Rattle.vault_core.specs.Carried.{IsKindOf}

@@ -5,21 +5,21 @@ use Rattle.std.specs.List.{AllZip, flat_map, list_any, range_with_len}
 use Rattle.std.proofs.Math.Seq.{drop-append-add}
 use Rattle.std.proofs.lemmas.Bool.{cases_Bool, lt-ltb, ltb-false, ltb-true, false≢true, not-true, not-false}
 use Rattle.std.proofs.lemmas.List.{append-nil}
-use Rattle.hail_records.specs.Records.{Setup}
-use Rattle.hail_records.specs.Table.{File, file_of}
-use Rattle.hail_machine.specs.Jobs.{Kind, PutJob, GetJob, DropJob, AuditJob, RepairJob, Pinned as PinnedBytes, Job}
-use Rattle.hail_machine.specs.Actions.{Action, SyncGate, Remove, End, append_actions, on_each_provider, actions_of, actions_left, appends_left}
-use Rattle.hail_machine.specs.States.{State, setup_in, file_in}
-use Rattle.hail_machine.specs.Appends.{is_first_append, removable, taken_out}
-use Rattle.hail_machine.specs.Audits.{HasSums}
-use Rattle.hail_machine.specs.Steps.{next_action}
-use Rattle.hail_machine.proofs.Fair.{gate_place}
-use Rattle.sound_states.proofs.Orders.{get-drop, put-list, audit-list, drop_rest, audit_rest, next-left}
-use Rattle.sound_states.proofs.Gates.{decided, drop-list, drop-gate, put-behind}
-use Rattle.sound_states.proofs.Done.{gate-within}
-use Rattle.sound_states.proofs.Going.{onward}
+use Rattle.record_defs.specs.Records.{Setup}
+use Rattle.record_defs.specs.Table.{File, file_of}
+use Rattle.machine_defs.specs.Jobs.{Kind, PutJob, GetJob, DropJob, AuditJob, RepairJob, Pinned as PinnedBytes, Job}
+use Rattle.machine_defs.specs.Actions.{Action, SyncGate, Remove, End, append_actions, on_each_provider, actions_of, actions_left, appends_left}
+use Rattle.machine_defs.specs.States.{State, setup_in, file_in}
+use Rattle.machine_defs.specs.Appends.{is_first_append, removable, taken_out}
+use Rattle.machine_defs.specs.Audits.{HasSums}
+use Rattle.machine_defs.specs.Steps.{next_action}
+use Rattle.machine_defs.proofs.Fair.{gate_place}
+use Rattle.state_laws.proofs.Orders.{get-drop, put-list, audit-list, drop_rest, audit_rest, next-left}
+use Rattle.state_laws.proofs.Gates.{decided, drop-list, drop-gate, put-behind}
+use Rattle.state_laws.proofs.Done.{gate-within}
+use Rattle.state_laws.proofs.Going.{onward}
 use Rattle.vault_table.specs.Values.{Kept, IsFoldOf}
-use Rattle.hail_machine.proofs.NextActions.{next_stands}
+use Rattle.machine_defs.proofs.NextActions.{next_stands}
 use Rattle.vault_core.proofs.Alike.{IsAlike, alike}
 use Rattle.vault_core.specs.declared.pinned.Pinned.{Pinned}
 use Rattle.vault_core.specs.declared.wish.Wish.{Wish}

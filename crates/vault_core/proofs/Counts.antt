@@ -4,7 +4,7 @@ use Rattle.std.specs.Prelude.{sum, count_by, if◌then◌else◌}
 use Rattle.std.specs.List.{flat_map}
 use Rattle.std.proofs.lemmas.Bool.{cases_Bool, false≢true}
 use Rattle.std.proofs.lemmas.List.Sums.{sum_by-cons, sum_by-append}
-use Rattle.hail_machine.specs.Actions.{Action, Work, Remove, End, ends_append}
+use Rattle.machine_defs.specs.Actions.{Action, Work, Remove, End, ends_append}
 use Rattle.vault_core.specs.declared.wish.Wish.{Wish}
 use Rattle.vault_core.specs.declared.wish.Wish.TheVariants as wish
 use Rattle.vault_core.specs.declared.cursor.Move.{Move}

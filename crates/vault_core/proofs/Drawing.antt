@@ -5,8 +5,8 @@ use Rattle.std.specs.List.{All, flat_map}
 use Rattle.std.proofs.lemmas.List.{map-append, length-map}
 use Rattle.std.proofs.lemmas.List.Elements.{All-map}
 use Rattle.std.specs.declared.vec.Vec.{Vec}
-use Rattle.hail_machine.specs.Actions.{Action, WriteBody, Store, End, append_actions, ends_append}
-use Rattle.hail_machine.specs.Left.{removes_older}
+use Rattle.machine_defs.specs.Actions.{Action, WriteBody, Store, End, append_actions, ends_append}
+use Rattle.machine_defs.specs.Left.{removes_older}
 use Rattle.vault_core.specs.declared.wish.Wish.{Wish}
 use Rattle.vault_core.specs.declared.wish.Wish.TheVariants as wish
 use Rattle.vault_core.specs.declared.cursor.Move.TheVariants as move

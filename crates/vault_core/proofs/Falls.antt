@@ -6,9 +6,9 @@ use Rattle.std.specs.Option.{option_map}
 use Rattle.std.specs.declared.vec.Vec.{Vec}
 use Rattle.std.proofs.lemmas.List.{map-set, length-drop}
 use Rattle.std.proofs.lemmas.Bool.{cases_Bool, lt-ltb, ltb-true, false≢true, ne_eqb, eqb-true, eq-eqb}
-use Rattle.hail_columns.specs.Verdicts.{Sums}
-use Rattle.hail_machine.specs.Actions.{Action, SyncGate, End}
-use Rattle.hail_machine.specs.Left.{removes_older}
+use Rattle.column_defs.specs.Verdicts.{Sums}
+use Rattle.machine_defs.specs.Actions.{Action, SyncGate, End}
+use Rattle.machine_defs.specs.Left.{removes_older}
 use Rattle.vault_table.specs.Values.{Kept}
 use Rattle.vault_core.specs.declared.wish.Wish.{Wish}
 use Rattle.vault_core.specs.declared.wish.Wish.TheVariants as wish

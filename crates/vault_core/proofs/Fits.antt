@@ -4,7 +4,7 @@ use Rattle.std.specs.Prelude.{Option, IfSome, if◌then◌else◌, ◌==◌, ◌
 use Rattle.std.specs.Option.{option_map}
 use Rattle.std.proofs.lemmas.Bool.{cases_Bool, false≢true}
 use Rattle.std.proofs.lemmas.List.Sums.{sum_by-cons}
-use Rattle.hail_records.specs.Records.{Record, record_size}
+use Rattle.record_defs.specs.Records.{Record, record_size}
 use Rattle.record_codec.specs.declared.records.Record.{Record as RecordValue}
 use Rattle.record_codec.specs.Entries.{entry_of}
 use Rattle.vault_table.specs.Values.{Kept}

@@ -7,9 +7,9 @@ use Rattle.std.proofs.lemmas.List.Sums.{sum_by-cons}
 use Rattle.std.proofs.lemmas.List.{length-append, length-map, length-drop}
 use Rattle.std.proofs.lemmas.List.FromFn.{length-range_with_len}
 use Rattle.std.proofs.lemmas.Option.{slice_get_within}
-use Rattle.hail_machine.specs.Actions.{Action, WriteBody, SyncBody, WriteGate, SyncGate, Store, Ask, Work, Remove, End, ends_append}
-use Rattle.hail_machine.specs.Left.{removes_older}
-use Rattle.hail_records.specs.Table.{File, find_file}
+use Rattle.machine_defs.specs.Actions.{Action, WriteBody, SyncBody, WriteGate, SyncGate, Store, Ask, Work, Remove, End, ends_append}
+use Rattle.machine_defs.specs.Left.{removes_older}
+use Rattle.record_defs.specs.Table.{File, find_file}
 use Rattle.vault_table.specs.Values.{Kept}
 use Rattle.vault_core.specs.declared.wish.Wish.{Wish}
 use Rattle.vault_core.specs.declared.wish.Wish.TheVariants as wish

@@ -2,8 +2,8 @@
 use Rattle.std.proofs.Common.{◌≡◌, ℕ, ◌+◌, ◌-◌, ◌<◌, ◌≤◌, Bool, true, false, cond, List, [], ◌∷◌, Some, None, length, map, drop, set, get_or, inl, inr, refl, ap, sym, subst, ◌∙◌, arith, Global}
 use Rattle.std.specs.Prelude.{Option, Result, Ok, Err, is_err, IfErr, OnOk, IsErrOf, IsTrue, sum_by, ◌⊎◌, ◌*◌, ◌&&◌, not, slice_get, if◌then◌else◌}
 use Rattle.std.proofs.lemmas.Bool.{cases_Bool, false≢true}
-use Rattle.hail_machine.specs.Actions.{Action, SyncGate, Remove, End, ends_append}
-use Rattle.hail_records.specs.Records.{Setup, Record, is_setup, PutStart, PutDone, Drop, AuditStart, AuditDone, RepairDone, record_size}
+use Rattle.machine_defs.specs.Actions.{Action, SyncGate, Remove, End, ends_append}
+use Rattle.record_defs.specs.Records.{Setup, Record, is_setup, PutStart, PutDone, Drop, AuditStart, AuditDone, RepairDone, record_size}
 use Rattle.vault_table.specs.Values.{Kept, id_after, IsFoldOf}
 use Rattle.record_codec.specs.Entries.{counted}
 use Rattle.std.specs.List.{All}
@@ -15,7 +15,7 @@ use Rattle.std.proofs.Common.{rules}
 use Rattle.vault_table.specs.Causes.{is_put_start, IsCause}
 use Rattle.vault_table.specs.declared.entry.Refused.{Refused}
 use Rattle.vault_table.specs.declared.entry.Refused.TheVariants as fault
-use Rattle.hail_records.specs.Acceptance.{refused, NoSetup, SecondSetup, BadId, NotStarted, TooMany, NoName, BadAudit, NoRepair, OldKind, OldVersion, NewVersion, BadResume, NameTwice}
+use Rattle.record_defs.specs.Acceptance.{refused, NoSetup, SecondSetup, BadId, NotStarted, TooMany, NoName, BadAudit, NoRepair, OldKind, OldVersion, NewVersion, BadResume, NameTwice}
 use Rattle.vault_core.specs.declared.wish.Wish.{Wish}
 use Rattle.vault_core.specs.declared.wish.Wish.TheVariants as wish
 use Rattle.vault_core.specs.declared.cursor.Move.TheVariants as move

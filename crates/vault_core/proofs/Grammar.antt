@@ -6,7 +6,7 @@ use Rattle.std.proofs.lemmas.Bool.{lt-ltb, le-leb}
 use Rattle.std.proofs.lemmas.List.{length-take-le}
 use Rattle.std.proofs.lemmas.List.Elements.{All-take}
 use Rattle.std.proofs.lemmas.List.Sums.{list_all-from_AllPass}
-use Rattle.hail_records.specs.Records.{AuditDone, is_in_grammar}
+use Rattle.record_defs.specs.Records.{AuditDone, is_in_grammar}
 use Rattle.record_codec.specs.declared.counts.Counts.{Counts}
 use Rattle.record_codec.specs.declared.records.Record.TheVariants as kind
 use Rattle.record_codec.specs.Entries.{IsPadded, IsInGrammar}

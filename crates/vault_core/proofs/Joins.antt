@@ -5,20 +5,20 @@ use Rattle.std.specs.List.{flat_map, range_with_len}
 use Rattle.std.proofs.lemmas.Bool.{cases_Bool, false≢true}
 use Rattle.std.proofs.lemmas.Bool.Decides.{nat_tests}
 use Rattle.std.proofs.lemmas.List.Folds.{flat_map-map}
-use Rattle.plain_facts.specs.Lists.{In}
-use Rattle.hail_codes.specs.Points.{upto}
-use Rattle.hail_columns.specs.Verdicts.{Sums}
-use Rattle.hail_records.specs.Records.{Setup}
-use Rattle.hail_records.specs.Table.{File, Due, find_file, files_of, due_of}
-use Rattle.hail_records.proofs.FilesLaws.{find-files_of}
-use Rattle.hail_machine.specs.Setups.{profiled, stripes_of}
-use Rattle.hail_machine.specs.Jobs.{Kind, PutJob, GetJob, DropJob, AuditJob, RepairJob, ToPut, ToGet, ToDrop, ToAudit, ToRepair, ToUpgrade, Aim, aim_of}
-use Rattle.hail_machine.specs.Jobs.{Job as MachineJob, Pinned as PinnedBytes}
-use Rattle.hail_machine.specs.Actions.{Action, Store, Ask, Work, End, append_actions, on_each_provider, on_each_stripe, store_actions, open_actions, rewrite_actions, rounds_of, remove_actions, actions_by, actions_of, actions_left, machine_pins}
-use Rattle.hail_machine.specs.Begins.{pinned_file, pinned_for, due_number, due_flags, subject_at_begin, new_job, pin_by, pin_each, pin_found, pins_by}
-use Rattle.hail_machine.specs.States.{State, setup_in, file_in}
-use Rattle.hail_machine.proofs.RecordFacts.{listed_file}
-use Rattle.sound_states.specs.Follows.{AreHeld}
+use Rattle.plain_laws.specs.Lists.{In}
+use Rattle.code_defs.specs.Points.{upto}
+use Rattle.column_defs.specs.Verdicts.{Sums}
+use Rattle.record_defs.specs.Records.{Setup}
+use Rattle.record_defs.specs.Table.{File, Due, find_file, files_of, due_of}
+use Rattle.record_defs.proofs.FilesLaws.{find-files_of}
+use Rattle.machine_defs.specs.Setups.{profiled, stripes_of}
+use Rattle.machine_defs.specs.Jobs.{Kind, PutJob, GetJob, DropJob, AuditJob, RepairJob, ToPut, ToGet, ToDrop, ToAudit, ToRepair, ToUpgrade, Aim, aim_of}
+use Rattle.machine_defs.specs.Jobs.{Job as MachineJob, Pinned as PinnedBytes}
+use Rattle.machine_defs.specs.Actions.{Action, Store, Ask, Work, End, append_actions, on_each_provider, on_each_stripe, store_actions, open_actions, rewrite_actions, rounds_of, remove_actions, actions_by, actions_of, actions_left, machine_pins}
+use Rattle.machine_defs.specs.Begins.{pinned_file, pinned_for, due_number, due_flags, subject_at_begin, new_job, pin_by, pin_each, pin_found, pins_by}
+use Rattle.machine_defs.specs.States.{State, setup_in, file_in}
+use Rattle.machine_defs.proofs.RecordFacts.{listed_file}
+use Rattle.state_laws.specs.Follows.{AreHeld}
 use Rattle.record_codec.specs.declared.counts.Counts.{Counts}
 use Rattle.record_codec.specs.Entries.{counted}
 use Rattle.vault_table.specs.Values.{Kept, IsFoldOf}

@@ -3,15 +3,15 @@ use Rattle.std.proofs.Common.{◌≡◌, ℕ, ◌+◌, Bool, true, false, List, 
 use Rattle.std.specs.Prelude.{Option, ◌⊎◌, ◌&&◌, not, slice_get, IsTrue, nat_lt}
 use Rattle.std.proofs.lemmas.Bool.{false≢true, not-true, and_parts}
 use Rattle.std.proofs.Math.Bool.{and-true}
-use Rattle.hail_columns.specs.Verdicts.{Sums}
-use Rattle.hail_machine.specs.Jobs.{Kind, AuditJob, Given, Job}
-use Rattle.hail_machine.specs.Actions.{Action, SyncGate, Ask, End, actions_of}
-use Rattle.hail_machine.specs.States.{State, setup_in}
-use Rattle.hail_machine.specs.Audits.{HasSums}
-use Rattle.hail_machine.specs.Steps.{next_action}
-use Rattle.hail_machine.proofs.NextActions.{next_stands}
-use Rattle.sound_states.proofs.Orders.{get-drop}
-use Rattle.sound_states.proofs.Going.{onward}
+use Rattle.column_defs.specs.Verdicts.{Sums}
+use Rattle.machine_defs.specs.Jobs.{Kind, AuditJob, Given, Job}
+use Rattle.machine_defs.specs.Actions.{Action, SyncGate, Ask, End, actions_of}
+use Rattle.machine_defs.specs.States.{State, setup_in}
+use Rattle.machine_defs.specs.Audits.{HasSums}
+use Rattle.machine_defs.specs.Steps.{next_action}
+use Rattle.machine_defs.proofs.NextActions.{next_stands}
+use Rattle.state_laws.proofs.Orders.{get-drop}
+use Rattle.state_laws.proofs.Going.{onward}
 use Rattle.vault_core.proofs.Alike.{IsAlike, alike}
 use Rattle.vault_core.specs.declared.wish.Wish.{Wish}
 use Rattle.vault_core.specs.declared.wish.Wish.TheVariants as wish

@@ -5,9 +5,9 @@ use Rattle.std.proofs.lemmas.Bool.{false≢true}
 use Rattle.std.proofs.lemmas.Option.{slice_get_within}
 use Rattle.std.proofs.lemmas.List.{length-map}
 use Rattle.std.proofs.lemmas.List.Elements.{All-get_or}
-use Rattle.hail_columns.specs.Verdicts.{Sums}
-use Rattle.hail_machine.specs.Actions.{Action, ends_append}
-use Rattle.hail_machine.specs.Left.{removes_older}
+use Rattle.column_defs.specs.Verdicts.{Sums}
+use Rattle.machine_defs.specs.Actions.{Action, ends_append}
+use Rattle.machine_defs.specs.Left.{removes_older}
 use Rattle.record_codec.specs.Entries.{counted, IsPadded}
 use Rattle.record_codec.specs.declared.counts.Counts.{Counts}
 use Rattle.vault_core.specs.declared.wish.Wish.{Wish}

@@ -1,6 +1,6 @@
 -- A move that comes next is the next action of a job.
 use Rattle.std.proofs.Common.{◌≡◌, ℕ, Bool, true, false, cond, Option, None, Some, refl, subst}
-use Rattle.hail_machine.specs.Actions.{Action, WriteBody}
+use Rattle.machine_defs.specs.Actions.{Action, WriteBody}
 use Rattle.vault_core.specs.View.{CoreJob, CoreView, job_in}
 use Rattle.vault_core.specs.Coming.{Coming, IsBarred, action_next, is_move, calls_disk, waits_or_acts, next_of, next_in}
 

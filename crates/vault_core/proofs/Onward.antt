@@ -3,23 +3,23 @@ use Rattle.std.proofs.Common.{◌≡◌, ℕ, zero, suc, ◌+◌, ◌<◌, Bool,
 use Rattle.std.specs.Prelude.{Option, ◌⊎◌, ◌&&◌, not, nat_lt, slice_get, IsTrue}
 use Rattle.std.specs.List.{flat_map, range_with_len}
 use Rattle.std.proofs.lemmas.Bool.{le-ltb, false≢true}
-use Rattle.plain_facts.specs.Lists.{Each}
-use Rattle.plain_facts.proofs.Each.{each_get, each_append}
-use Rattle.hail_codes.specs.Points.{upto}
-use Rattle.hail_columns.specs.Verdicts.{Sums, Judges}
-use Rattle.hail_columns.specs.Challenges.{challenge_of}
-use Rattle.hail_records.specs.Records.{Setup}
-use Rattle.hail_machine.specs.Setups.{profiled, object_of}
-use Rattle.hail_machine.specs.Jobs.{Kind, PutJob, DropJob, AuditJob, Pinned, Given, Job}
-use Rattle.hail_machine.specs.Actions.{Action, WriteBody, SyncBody, WriteGate, SyncGate, Store, Fetch, Ask, Work, Remove, End, append_actions, on_each_provider, rounds_of, ask_actions, actions_of, actions_left}
-use Rattle.hail_machine.specs.Given.{answers_given}
-use Rattle.hail_machine.specs.States.{State, setup_in}
-use Rattle.hail_machine.specs.Audits.{JudgesRounds, JudgesFiles, HasSums}
-use Rattle.hail_machine.specs.Steps.{next_action}
-use Rattle.hail_machine.proofs.NextActions.{next_stands}
-use Rattle.sound_states.proofs.Orders.{each-ask, put-list, audit-list, put_rest, drop_rest, audit_rest, next-left}
-use Rattle.sound_states.proofs.Gates.{drop-list}
-use Rattle.sound_states.proofs.Going.{onward, actions-onward}
+use Rattle.plain_laws.specs.Lists.{Each}
+use Rattle.plain_laws.proofs.Each.{each_get, each_append}
+use Rattle.code_defs.specs.Points.{upto}
+use Rattle.column_defs.specs.Verdicts.{Sums, Judges}
+use Rattle.column_defs.specs.Challenges.{challenge_of}
+use Rattle.record_defs.specs.Records.{Setup}
+use Rattle.machine_defs.specs.Setups.{profiled, object_of}
+use Rattle.machine_defs.specs.Jobs.{Kind, PutJob, DropJob, AuditJob, Pinned, Given, Job}
+use Rattle.machine_defs.specs.Actions.{Action, WriteBody, SyncBody, WriteGate, SyncGate, Store, Fetch, Ask, Work, Remove, End, append_actions, on_each_provider, rounds_of, ask_actions, actions_of, actions_left}
+use Rattle.machine_defs.specs.Given.{answers_given}
+use Rattle.machine_defs.specs.States.{State, setup_in}
+use Rattle.machine_defs.specs.Audits.{JudgesRounds, JudgesFiles, HasSums}
+use Rattle.machine_defs.specs.Steps.{next_action}
+use Rattle.machine_defs.proofs.NextActions.{next_stands}
+use Rattle.state_laws.proofs.Orders.{each-ask, put-list, audit-list, put_rest, drop_rest, audit_rest, next-left}
+use Rattle.state_laws.proofs.Gates.{drop-list}
+use Rattle.state_laws.proofs.Going.{onward, actions-onward}
 use Rattle.vault_core.proofs.Alike.{IsAlike, alike}
 use Rattle.vault_core.specs.declared.wish.Wish.{Wish}
 use Rattle.vault_core.specs.declared.wish.Wish.TheVariants as wish

@@ -3,10 +3,10 @@ use Rattle.std.proofs.Common.{◌≡◌, ℕ, zero, suc, ◌+◌, Bool, List, []
 use Rattle.std.specs.Prelude.{Option, if◌then◌else◌, ◌==◌, slice_get, remove}
 use Rattle.std.specs.List.{AllZip}
 use Rattle.std.proofs.lemmas.Bool.{cases_Bool, eqb-true, eq-eqb, ne_eqb}
-use Rattle.hail_records.specs.Records.{Setup}
-use Rattle.hail_machine.specs.Jobs.{Job, job_of, with_job, without_job}
-use Rattle.sound_states.specs.Orders.{AreNumbered}
-use Rattle.sound_states.proofs.JobLists.{without_job-none}
+use Rattle.record_defs.specs.Records.{Setup}
+use Rattle.machine_defs.specs.Jobs.{Job, job_of, with_job, without_job}
+use Rattle.state_laws.specs.Orders.{AreNumbered}
+use Rattle.state_laws.proofs.JobLists.{without_job-none}
 use Rattle.vault_core.specs.View.{CoreJob, job_in}
 use Rattle.vault_core.specs.Carried.{IsJobOf}
 

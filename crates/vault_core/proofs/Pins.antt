@@ -3,10 +3,10 @@ use Rattle.std.proofs.Common.{◌≡◌, ℕ, zero, suc, ◌+◌, ◌-◌, ◌<�
 use Rattle.std.specs.Prelude.{nat_lt, ◌==◌, replicate, slice_get, if◌then◌else◌}
 use Rattle.std.proofs.lemmas.Bool.{cases_Bool}
 use Rattle.std.proofs.lemmas.Bool.Decides.{nat_tests}
-use Rattle.plain_facts.proofs.Lists.{drop-get, get_or-zeros}
-use Rattle.hail_records.specs.Records.{Setup}
-use Rattle.hail_records.specs.Table.{File}
-use Rattle.hail_machine.specs.Setups.{stripes_of}
+use Rattle.plain_laws.proofs.Lists.{drop-get, get_or-zeros}
+use Rattle.record_defs.specs.Records.{Setup}
+use Rattle.record_defs.specs.Table.{File}
+use Rattle.machine_defs.specs.Setups.{stripes_of}
 use Rattle.record_codec.specs.declared.counts.Counts.{Counts}
 use Rattle.record_codec.specs.Entries.{counted, IsPadded}
 use Rattle.vault_core.specs.declared.pinned.Pinned.{Pinned}
@@ -15,7 +15,7 @@ use Rattle.vault_core.specs.declared.wish.Wish.TheVariants as wish
 use Rattle.vault_core.specs.declared.job.Task.{Task}
 use Rattle.vault_core.specs.View.{flag_at}
 use Rattle.vault_table.specs.Values.{Kept}
-use Rattle.hail_machine.specs.Begins.{due_number, pin_by, pin_each}
+use Rattle.machine_defs.specs.Begins.{due_number, pin_by, pin_each}
 use Rattle.vault_core.specs.Parts.{is_rewriter}
 use Rattle.vault_core.specs.Rest.{rewrites_from}
 use Rattle.vault_core.specs.Making.{pin_of_file, turns_for, tasks_made, targets_of, subject_for, core_pins}

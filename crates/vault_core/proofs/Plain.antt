@@ -3,14 +3,14 @@ use Rattle.std.proofs.Common.{◌≡◌, ℕ, List, [], ◌∷◌, Option, Some,
 use Rattle.std.specs.Prelude.{nat_lt, if◌then◌else◌}
 use Rattle.std.specs.List.{flat_map}
 use Rattle.std.proofs.lemmas.Bool.{cases_Bool}
-use Rattle.plain_facts.specs.Lists.{In}
-use Rattle.hail_records.specs.Records.{Setup}
-use Rattle.hail_records.specs.Table.{File, files_of}
-use Rattle.hail_machine.specs.Jobs.{Kind, PutJob, GetJob, DropJob, AuditJob, RepairJob, UpgradeJob, Pinned}
-use Rattle.hail_machine.specs.Actions.{Action, machine_pins}
-use Rattle.hail_machine.specs.States.{State, setup_in, file_in}
-use Rattle.hail_machine.specs.Begins.{pinned_file, pin_by, pin_each, pin_found, pinned_for}
-use Rattle.hail_machine.proofs.RecordFacts.{listed_file}
+use Rattle.plain_laws.specs.Lists.{In}
+use Rattle.record_defs.specs.Records.{Setup}
+use Rattle.record_defs.specs.Table.{File, files_of}
+use Rattle.machine_defs.specs.Jobs.{Kind, PutJob, GetJob, DropJob, AuditJob, RepairJob, UpgradeJob, Pinned}
+use Rattle.machine_defs.specs.Actions.{Action, machine_pins}
+use Rattle.machine_defs.specs.States.{State, setup_in, file_in}
+use Rattle.machine_defs.specs.Begins.{pinned_file, pin_by, pin_each, pin_found, pinned_for}
+use Rattle.machine_defs.proofs.RecordFacts.{listed_file}
 
 -- files of the setup's profile
 abbrev pub ArePlain : Setup → List Pinned → Type 0

@@ -9,19 +9,19 @@ use Rattle.std.proofs.Math.Bool.{or-false}
 use Rattle.std.proofs.lemmas.Bool.Decides.{nat_tests}
 use Rattle.std.proofs.lemmas.List.{length-map}
 use Rattle.std.proofs.lemmas.List.Sums.{sum_by-cons}
-use Rattle.hail_records.specs.Records.{Setup, largest_file, largest_journal, most_files}
-use Rattle.hail_records.specs.Table.{File, is_same_name, find_file}
-use Rattle.hail_machine.specs.Jobs.{Aim, ToPut, ToGet, ToDrop, ToAudit, ToRepair, aim_of}
-use Rattle.hail_machine.specs.Jobs.{Job as MachineJob}
-use Rattle.hail_machine.specs.Actions.{Action, ends_append}
-use Rattle.hail_machine.specs.Refusals as refusal
-use Rattle.hail_machine.specs.Refusals.{first_refusal}
-use Rattle.hail_machine.specs.States.{State, Alone, setup_in}
-use Rattle.hail_machine.specs.Space.{append_sizes, room_left, reserved}
-use Rattle.hail_machine.specs.Sights.{Sight, sight_of, aims_of, room_used, is_put_or_check, is_check, is_upgrade, is_shut, are_jobs_in_the_way, is_busy, is_name_among, with_name, is_crowded_for, is_stored, is_full, is_too_full, are_numbers_used_up, causes}
-use Rattle.sound_states.proofs.NamesTaken.{listed-with_puts, listed-files, length-names_in}
-use Rattle.sound_states.proofs.NamesTaken.{puts_name as machine_puts}
-use Rattle.sound_states.proofs.Written.{end-first}
+use Rattle.record_defs.specs.Records.{Setup, largest_file, largest_journal, most_files}
+use Rattle.record_defs.specs.Table.{File, is_same_name, find_file}
+use Rattle.machine_defs.specs.Jobs.{Aim, ToPut, ToGet, ToDrop, ToAudit, ToRepair, aim_of}
+use Rattle.machine_defs.specs.Jobs.{Job as MachineJob}
+use Rattle.machine_defs.specs.Actions.{Action, ends_append}
+use Rattle.machine_defs.specs.Refusals as refusal
+use Rattle.machine_defs.specs.Refusals.{first_refusal}
+use Rattle.machine_defs.specs.States.{State, Alone, setup_in}
+use Rattle.machine_defs.specs.Space.{append_sizes, room_left, reserved}
+use Rattle.machine_defs.specs.Sights.{Sight, sight_of, aims_of, room_used, is_put_or_check, is_check, is_upgrade, is_shut, are_jobs_in_the_way, is_busy, is_name_among, with_name, is_crowded_for, is_stored, is_full, is_too_full, are_numbers_used_up, causes}
+use Rattle.state_laws.proofs.NamesTaken.{listed-with_puts, listed-files, length-names_in}
+use Rattle.state_laws.proofs.NamesTaken.{puts_name as machine_puts}
+use Rattle.state_laws.proofs.Written.{end-first}
 use Rattle.vault_core.specs.declared.wish.Wish.{Wish}
 use Rattle.vault_core.specs.declared.wish.Wish.TheVariants as wish
 use Rattle.vault_core.specs.declared.wish.BeginFault.{BeginFault}

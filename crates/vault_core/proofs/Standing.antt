@@ -3,21 +3,21 @@ use Rattle.std.proofs.Common.{◌≡◌, ℕ, zero, suc, Bool, true, false, List
 use Rattle.std.specs.Prelude.{Option, ◌⊎◌, if◌then◌else◌, ◌==◌, ◌&&◌, not, is_some, nat_lt, nat_le, slice_get}
 use Rattle.std.specs.Option.{option_map}
 use Rattle.std.proofs.lemmas.Bool.{cases_Bool, le-ltb, ne_eqb, false≢true}
-use Rattle.plain_facts.proofs.Each.{each_get, each_append, each_map, each_flat}
-use Rattle.hail_records.specs.Records.{Setup, Record, PutStart, PutDone, Drop, AuditStart, AuditDone, RepairDone}
-use Rattle.hail_records.specs.Table.{File, version_of, find_file, file_of, next_id}
-use Rattle.hail_records.proofs.FilesLaws.{find-files_of}
-use Rattle.hail_machine.specs.Jobs.{Kind, PutJob, GetJob, DropJob, AuditJob, RepairJob, Pinned, Job, job_of, Aim}
-use Rattle.hail_machine.specs.Actions.{Action, WriteBody, Fetch, Ask, Work, End, append_actions, on_each_provider, on_each_stripe, open_actions, read_actions, remove_actions, actions_by, actions_of, actions_left}
-use Rattle.hail_codes.specs.Points.{upto}
-use Rattle.hail_machine.specs.Setups.{profiled, stripes_of}
-use Rattle.hail_machine.specs.States.{State, Append, setup_in, file_in}
-use Rattle.hail_machine.specs.Appends.{Writes, done_record, is_first_append}
-use Rattle.hail_machine.specs.Refusals.{Refusal, MustReopen, Busy}
-use Rattle.hail_machine.specs.Left.{most_left, most_after}
-use Rattle.hail_machine.specs.Steps.{is_idle_drop, next_action, holder_of}
+use Rattle.plain_laws.proofs.Each.{each_get, each_append, each_map, each_flat}
+use Rattle.record_defs.specs.Records.{Setup, Record, PutStart, PutDone, Drop, AuditStart, AuditDone, RepairDone}
+use Rattle.record_defs.specs.Table.{File, version_of, find_file, file_of, next_id}
+use Rattle.record_defs.proofs.FilesLaws.{find-files_of}
+use Rattle.machine_defs.specs.Jobs.{Kind, PutJob, GetJob, DropJob, AuditJob, RepairJob, Pinned, Job, job_of, Aim}
+use Rattle.machine_defs.specs.Actions.{Action, WriteBody, Fetch, Ask, Work, End, append_actions, on_each_provider, on_each_stripe, open_actions, read_actions, remove_actions, actions_by, actions_of, actions_left}
+use Rattle.code_defs.specs.Points.{upto}
+use Rattle.machine_defs.specs.Setups.{profiled, stripes_of}
+use Rattle.machine_defs.specs.States.{State, Append, setup_in, file_in}
+use Rattle.machine_defs.specs.Appends.{Writes, done_record, is_first_append}
+use Rattle.machine_defs.specs.Refusals.{Refusal, MustReopen, Busy}
+use Rattle.machine_defs.specs.Left.{most_left, most_after}
+use Rattle.machine_defs.specs.Steps.{is_idle_drop, next_action, holder_of}
 use Rattle.vault_table.specs.Values.{Kept, IsFoldOf, id_after}
-use Rattle.sound_states.proofs.Orders.{in_order-first, get-drop}
+use Rattle.state_laws.proofs.Orders.{in_order-first, get-drop}
 use Rattle.vault_core.proofs.Alike.{IsAlike, alike}
 use Rattle.vault_core.specs.declared.action.Next.{Next}
 use Rattle.vault_core.specs.declared.action.Next.TheVariants as next

@@ -4,34 +4,34 @@ use Rattle.std.specs.Prelude.{Option, ◌⊎◌, if◌then◌else◌, ◌&&◌, 
 use Rattle.std.specs.List.{AllZip}
 use Rattle.std.proofs.lemmas.Bool.{eq-eqb, ne_eqb, false≢true}
 use Rattle.std.proofs.Math.Bool.{and-false, and-true}
-use Rattle.hail_records.specs.Records.{Record, Setup, PutStart, PutDone, Drop, AuditStart, AuditDone, RepairDone, record_size}
-use Rattle.hail_records.specs.Journal.{text_size}
-use Rattle.hail_records.specs.Table.{setup_of, version_of}
-use Rattle.hail_records.specs.Acceptance.{refused}
-use Rattle.hail_machine.specs.Jobs.{AuditJob, Given, Fetched, Answered, Worked, Job, job_of, with_job, without_job}
-use Rattle.hail_machine.specs.Actions.{Action, WriteBody, SyncBody, WriteGate, SyncGate, Store, Fetch, Ask, Work, Remove, End, actions_of, actions_left}
-use Rattle.hail_machine.specs.Answers.{Answer, Lost, ProviderFault, DiskFault, Memory}
-use Rattle.hail_machine.specs.Events.{Outcome, More, Ended, Step}
-use Rattle.hail_machine.specs.States.{State, Append, Alone, setup_in, going_on, ended, with_provider}
-use Rattle.hail_devices.specs.Providers.{Provider}
-use Rattle.hail_machine.specs.Audits.{HasSums}
-use Rattle.hail_machine.specs.Appends.{Moves, subject_drawn, taken_out, begun_append, done_append}
-use Rattle.hail_machine.specs.Steps.{Acts, Steps, StepsOpen, StepsOne, StepsJob, StepsOn, ActsOrWaits, next_action, holder_of}
-use Rattle.hail_machine.specs.Machine.{Happens}
-use Rattle.hail_machine.proofs.JobLists.{number_of, found_itself, same_value}
-use Rattle.hail_machine.proofs.PinFacts.{setup_same}
-use Rattle.sound_states.specs.Sound.{IsSound}
-use Rattle.sound_states.specs.SoundJobs.{IsSoundJob}
-use Rattle.sound_states.specs.Orders.{moves_made, IsInOrder}
-use Rattle.sound_states.proofs.Events.{events-sound}
-use Rattle.sound_states.proofs.Going.{onward}
-use Rattle.sound_states.proofs.JobLists.{mine}
-use Rattle.sound_states.proofs.Written.{setup-providers}
-use Rattle.sound_states.proofs.Gates.{decided}
+use Rattle.record_defs.specs.Records.{Record, Setup, PutStart, PutDone, Drop, AuditStart, AuditDone, RepairDone, record_size}
+use Rattle.record_defs.specs.Journal.{text_size}
+use Rattle.record_defs.specs.Table.{setup_of, version_of}
+use Rattle.record_defs.specs.Acceptance.{refused}
+use Rattle.machine_defs.specs.Jobs.{AuditJob, Given, Fetched, Answered, Worked, Job, job_of, with_job, without_job}
+use Rattle.machine_defs.specs.Actions.{Action, WriteBody, SyncBody, WriteGate, SyncGate, Store, Fetch, Ask, Work, Remove, End, actions_of, actions_left}
+use Rattle.machine_defs.specs.Answers.{Answer, Lost, ProviderFault, DiskFault, Memory}
+use Rattle.machine_defs.specs.Events.{Outcome, More, Ended, Step}
+use Rattle.machine_defs.specs.States.{State, Append, Alone, setup_in, going_on, ended, with_provider}
+use Rattle.device_defs.specs.Providers.{Provider}
+use Rattle.machine_defs.specs.Audits.{HasSums}
+use Rattle.machine_defs.specs.Appends.{Moves, subject_drawn, taken_out, begun_append, done_append}
+use Rattle.machine_defs.specs.Steps.{Acts, Steps, StepsOpen, StepsOne, StepsJob, StepsOn, ActsOrWaits, next_action, holder_of}
+use Rattle.machine_defs.specs.Machine.{Happens}
+use Rattle.machine_defs.proofs.JobLists.{number_of, found_itself, same_value}
+use Rattle.machine_defs.proofs.PinFacts.{setup_same}
+use Rattle.state_laws.specs.Sound.{IsSound}
+use Rattle.state_laws.specs.SoundJobs.{IsSoundJob}
+use Rattle.state_laws.specs.Orders.{moves_made, IsInOrder}
+use Rattle.state_laws.proofs.Events.{events-sound}
+use Rattle.state_laws.proofs.Going.{onward}
+use Rattle.state_laws.proofs.JobLists.{mine}
+use Rattle.state_laws.proofs.Written.{setup-providers}
+use Rattle.state_laws.proofs.Gates.{decided}
 use Rattle.record_codec.specs.declared.counts.Counts.{Counts}
 use Rattle.record_codec.specs.Entries.{counted}
 use Rattle.vault_table.specs.Values.{Kept, IsFoldOf, id_after}
-use Rattle.hail_machine.proofs.NextActions.{next_stands}
+use Rattle.machine_defs.proofs.NextActions.{next_stands}
 use Rattle.vault_core.specs.declared.action.Action.{Action as ActionValue}
 use Rattle.vault_core.specs.declared.action.Action.TheVariants as act
 use Rattle.vault_core.specs.declared.wish.Wish.{Wish}

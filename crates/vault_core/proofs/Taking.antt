@@ -4,19 +4,19 @@ use Rattle.std.specs.Prelude.{Option, ◌⊎◌, if◌then◌else◌, ◌&&◌, 
 use Rattle.std.specs.List.{flat_map}
 use Rattle.std.proofs.lemmas.List.{map-append}
 use Rattle.std.proofs.Math.Bool.{and-true}
-use Rattle.hail_codes.specs.Points.{upto}
-use Rattle.hail_records.specs.Records.{Setup}
-use Rattle.hail_records.specs.Table.{next_id, next_audit}
-use Rattle.hail_machine.specs.Setups.{profiled, stripes_of}
-use Rattle.hail_machine.specs.Jobs.{Kind, PutJob, GetJob, DropJob, AuditJob, RepairJob, Given, Job}
-use Rattle.hail_machine.specs.Actions.{Action, WriteBody, SyncGate, Store, End, append_actions, store_actions, remove_actions, actions_by, actions_of, actions_left, appends_left}
-use Rattle.hail_machine.specs.States.{State, setup_in}
-use Rattle.hail_machine.specs.Appends.{subject_drawn, is_first_append}
-use Rattle.hail_machine.specs.Audits.{HasSums}
-use Rattle.hail_machine.specs.Steps.{next_action}
-use Rattle.sound_states.specs.Orders.{IsInOrder}
-use Rattle.sound_states.proofs.Orders.{put-list, next-left, in_order-step, appends-order, appends-cons, appends_in}
-use Rattle.sound_states.proofs.Going.{onward}
+use Rattle.code_defs.specs.Points.{upto}
+use Rattle.record_defs.specs.Records.{Setup}
+use Rattle.record_defs.specs.Table.{next_id, next_audit}
+use Rattle.machine_defs.specs.Setups.{profiled, stripes_of}
+use Rattle.machine_defs.specs.Jobs.{Kind, PutJob, GetJob, DropJob, AuditJob, RepairJob, Given, Job}
+use Rattle.machine_defs.specs.Actions.{Action, WriteBody, SyncGate, Store, End, append_actions, store_actions, remove_actions, actions_by, actions_of, actions_left, appends_left}
+use Rattle.machine_defs.specs.States.{State, setup_in}
+use Rattle.machine_defs.specs.Appends.{subject_drawn, is_first_append}
+use Rattle.machine_defs.specs.Audits.{HasSums}
+use Rattle.machine_defs.specs.Steps.{next_action}
+use Rattle.state_laws.specs.Orders.{IsInOrder}
+use Rattle.state_laws.proofs.Orders.{put-list, next-left, in_order-step, appends-order, appends-cons, appends_in}
+use Rattle.state_laws.proofs.Going.{onward}
 use Rattle.vault_table.specs.Values.{Kept, IsFoldOf, id_after}
 use Rattle.vault_core.proofs.Alike.{IsAlike, alike}
 use Rattle.vault_core.specs.declared.wish.Wish.{Wish}

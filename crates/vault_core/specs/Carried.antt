@@ -14,20 +14,20 @@
 --   IsEntryOf w number e   == the record that the append of a job writes in a state of the machine
 use Rattle.std.specs.Prelude.{◌≡◌, ℕ, ◌+◌, ◌<◌, ◌&&◌, Bool, true, false, not, IsTrue, [], ◌∷◌, ◌++◌, length, map, replicate, slice_get, Option, None, Some}
 use Rattle.std.specs.List.{AllZip}
-use Rattle.hail_records.specs.Records.{Setup, Record}
-use Rattle.hail_records.specs.Journal.{text_size}
-use Rattle.hail_records.specs.Table.{version_of}
-use Rattle.hail_machine.specs.Jobs.{Kind, aim_of, Job, job_of}
-use Rattle.hail_machine.specs.Jobs.{Pinned as PinnedBytes}
-use Rattle.hail_machine.specs.Actions.{Action, actions_left}
-use Rattle.hail_machine.specs.Refusals as refusal
-use Rattle.hail_machine.specs.Refusals.{Refusal}
-use Rattle.hail_machine.specs.States.{State, Append, setup_in}
-use Rattle.hail_machine.specs.Appends.{Writes, is_first_append}
-use Rattle.hail_machine.specs.Audits.{HasSums}
-use Rattle.hail_machine.specs.Begins.{new_job}
-use Rattle.hail_machine.specs.Steps.{next_action, holder_of}
-use Rattle.sound_states.specs.Sound.{IsSound}
+use Rattle.record_defs.specs.Records.{Setup, Record}
+use Rattle.record_defs.specs.Journal.{text_size}
+use Rattle.record_defs.specs.Table.{version_of}
+use Rattle.machine_defs.specs.Jobs.{Kind, aim_of, Job, job_of}
+use Rattle.machine_defs.specs.Jobs.{Pinned as PinnedBytes}
+use Rattle.machine_defs.specs.Actions.{Action, actions_left}
+use Rattle.machine_defs.specs.Refusals as refusal
+use Rattle.machine_defs.specs.Refusals.{Refusal}
+use Rattle.machine_defs.specs.States.{State, Append, setup_in}
+use Rattle.machine_defs.specs.Appends.{Writes, is_first_append}
+use Rattle.machine_defs.specs.Audits.{HasSums}
+use Rattle.machine_defs.specs.Begins.{new_job}
+use Rattle.machine_defs.specs.Steps.{next_action, holder_of}
+use Rattle.state_laws.specs.Sound.{IsSound}
 use Rattle.vault_table.specs.Values.{IsFoldOf}
 use Rattle.vault_core.specs.declared.action.Next.{Next}
 use Rattle.vault_core.specs.declared.action.Next.TheVariants as next

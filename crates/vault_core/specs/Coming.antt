@@ -14,10 +14,10 @@
 --   TakesReply c number reply  == the reply is one that the next action has
 use Rattle.std.specs.Prelude.{◌≡◌, ℕ, ◌&&◌, Bool, true, false, not, List, Option, None, Some, is_some, unwrap_or, slice_get, if◌then◌else◌}
 use Rattle.std.specs.Option.{option_map}
-use Rattle.hail_records.specs.Records.{Record, PutStart, PutDone, Drop, AuditStart, AuditDone, RepairDone}
-use Rattle.hail_records.specs.Table.{find_file}
-use Rattle.hail_machine.specs.Actions.{Action, WriteBody, SyncBody, WriteGate, SyncGate, Store, Fetch, Ask, Work, Remove, End}
-use Rattle.hail_machine.specs.Left.{most_after}
+use Rattle.record_defs.specs.Records.{Record, PutStart, PutDone, Drop, AuditStart, AuditDone, RepairDone}
+use Rattle.record_defs.specs.Table.{find_file}
+use Rattle.machine_defs.specs.Actions.{Action, WriteBody, SyncBody, WriteGate, SyncGate, Store, Fetch, Ask, Work, Remove, End}
+use Rattle.machine_defs.specs.Left.{most_after}
 use Rattle.record_codec.specs.Entries.{IsPadded}
 use Rattle.vault_table.specs.Values.{Kept, id_after}
 use Rattle.vault_core.specs.declared.action.Action.{Action as ActionValue}

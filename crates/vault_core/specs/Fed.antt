@@ -16,10 +16,10 @@
 --                           let it follow
 use Rattle.std.specs.Prelude.{◌≡◌, ℕ, ◌+◌, ◌==◌, ◌&&◌, Bool, true, false, not, List, ◌∷◌, map, drop, slice_get, slice_set, Option, None, Some, remove, if◌then◌else◌}
 use Rattle.std.specs.List.{list_any}
-use Rattle.hail_columns.specs.Verdicts.{Sums}
-use Rattle.hail_records.specs.Records.{Record, record_size}
-use Rattle.hail_records.specs.Table.{File, find_file}
-use Rattle.hail_machine.specs.Actions.{Action, WriteBody, SyncGate, Store, End}
+use Rattle.column_defs.specs.Verdicts.{Sums}
+use Rattle.record_defs.specs.Records.{Record, record_size}
+use Rattle.record_defs.specs.Table.{File, find_file}
+use Rattle.machine_defs.specs.Actions.{Action, WriteBody, SyncGate, Store, End}
 use Rattle.vault_table.specs.Values.{Kept, IsFoldOf, id_after}
 use Rattle.vault_core.specs.declared.pinned.Pinned.{Pinned}
 use Rattle.vault_core.specs.declared.wish.Wish.{Wish}

@@ -5,7 +5,7 @@
 --   drawn_tasks k w ts == the tasks of a job that has taken this number
 --   removals_of n object  == the removals of an object that a job takes away, if there is one, and the end
 use Rattle.std.specs.Prelude.{ℕ, Bool, true, false, not, List, [], ◌∷◌, ◌++◌, map, Option, None, Some}
-use Rattle.hail_machine.specs.Actions.{Action, Remove, End}
+use Rattle.machine_defs.specs.Actions.{Action, Remove, End}
 use Rattle.vault_core.specs.Rest.{numbers}
 use Rattle.vault_core.specs.declared.wish.Wish.{Wish}
 use Rattle.vault_core.specs.declared.wish.Wish.TheVariants as wish

@@ -16,11 +16,11 @@
 --   starts_for w            == 1 for a put, which has a PutStart
 --   admitted c w job        == the core in which the job runs
 use Rattle.std.specs.Prelude.{◌≡◌, ℕ, ◌+◌, ◌<◌, ◌==◌, Bool, List, [], ◌∷◌, ◌++◌, length, replicate, nat_lt, if◌then◌else◌}
-use Rattle.hail_records.specs.Records.{Setup}
-use Rattle.hail_records.specs.Table.{File, find_file}
-use Rattle.hail_machine.specs.Setups.{stripes_of}
-use Rattle.hail_machine.specs.Actions.{PinsOf}
-use Rattle.hail_machine.specs.Begins.{pins_by, due_number, due_flags}
+use Rattle.record_defs.specs.Records.{Setup}
+use Rattle.record_defs.specs.Table.{File, find_file}
+use Rattle.machine_defs.specs.Setups.{stripes_of}
+use Rattle.machine_defs.specs.Actions.{PinsOf}
+use Rattle.machine_defs.specs.Begins.{pins_by, due_number, due_flags}
 use Rattle.vault_table.specs.Values.{Kept}
 use Rattle.vault_core.specs.declared.pinned.Pinned.{Pinned}
 use Rattle.vault_core.specs.declared.wish.Wish.{Wish}

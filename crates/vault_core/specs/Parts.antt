@@ -10,9 +10,9 @@
 --   IsCore a         == a core as it is kept
 use Rattle.std.specs.Prelude.{◌≡◌, ℕ, ◌<◌, ◌≤◌, Bool, true, false, IsTrue, List, [], length, map}
 use Rattle.std.specs.List.{All}
-use Rattle.hail_records.specs.Records.{Setup, is_setup}
-use Rattle.hail_machine.specs.Actions.{Action}
-use Rattle.hail_machine.specs.Left.{removes_older}
+use Rattle.record_defs.specs.Records.{Setup, is_setup}
+use Rattle.machine_defs.specs.Actions.{Action}
+use Rattle.machine_defs.specs.Left.{removes_older}
 use Rattle.record_codec.specs.Entries.{counted, with_master, IsPadded}
 use Rattle.vault_core.specs.declared.wish.Wish.{Wish}
 use Rattle.vault_core.specs.declared.wish.Wish.TheVariants as wish

@@ -8,9 +8,9 @@
 --   word_refusal_in x w     == the words of a wish, or what is in effect, let no job begin
 --   refusal_in c w          == the first refusal of a wish
 use Rattle.std.specs.Prelude.{ℕ, ◌+◌, Bool, false, List, map, sum_by, Option, None, Some, is_some, not, if◌then◌else◌}
-use Rattle.hail_records.specs.Table.{File, is_same_name}
-use Rattle.hail_machine.specs.Jobs.{Aim, ToPut}
-use Rattle.hail_machine.specs.Sights.{Sight, names_in, with_puts, is_busy, is_crowded_for, is_stored, is_full}
+use Rattle.record_defs.specs.Table.{File, is_same_name}
+use Rattle.machine_defs.specs.Jobs.{Aim, ToPut}
+use Rattle.machine_defs.specs.Sights.{Sight, names_in, with_puts, is_busy, is_crowded_for, is_stored, is_full}
 use Rattle.vault_table.specs.Values.{id_after}
 use Rattle.vault_core.specs.declared.wish.Wish.{Wish}
 use Rattle.vault_core.specs.declared.wish.Wish.TheVariants as wish

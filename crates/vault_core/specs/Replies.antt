@@ -7,11 +7,11 @@
 --   IsReplyTo c number reply outcome new  == the same, and a record that the step put in flight is the one
 --                                          that the core gave
 use Rattle.std.specs.Prelude.{◌≡◌, ℕ, Some}
-use Rattle.hail_machine.specs.Jobs.{Job, job_of}
-use Rattle.hail_machine.specs.Answers.{Answer, Put, Got, Dropped, Audited, Repaired, Lost, ProviderFault, DiskFault, Memory}
-use Rattle.hail_machine.specs.Events.{Outcome, More, Ended}
-use Rattle.hail_machine.specs.States.{State, Append, setup_in}
-use Rattle.hail_machine.specs.Audits.{HasSums}
+use Rattle.machine_defs.specs.Jobs.{Job, job_of}
+use Rattle.machine_defs.specs.Answers.{Answer, Put, Got, Dropped, Audited, Repaired, Lost, ProviderFault, DiskFault, Memory}
+use Rattle.machine_defs.specs.Events.{Outcome, More, Ended}
+use Rattle.machine_defs.specs.States.{State, Append, setup_in}
+use Rattle.machine_defs.specs.Audits.{HasSums}
 use Rattle.record_codec.specs.Entries.{counted}
 use Rattle.vault_core.specs.declared.reply.Reply.{Reply}
 use Rattle.vault_core.specs.declared.reply.Reply.TheVariants as reply

@@ -8,9 +8,9 @@
 --   Reserves c         == the journal has room for the records of all jobs, and the table for all their
 --                         PutStarts
 use Rattle.std.specs.Prelude.{ℕ, ◌+◌, ◌≤◌, Bool, List, sum_by, count_by, if◌then◌else◌}
-use Rattle.hail_records.specs.Records.{largest_journal}
-use Rattle.hail_machine.specs.Actions.{ends_append}
-use Rattle.hail_machine.specs.Space.{append_sizes, room_left}
+use Rattle.record_defs.specs.Records.{largest_journal}
+use Rattle.machine_defs.specs.Actions.{ends_append}
+use Rattle.machine_defs.specs.Space.{append_sizes, room_left}
 use Rattle.vault_core.specs.declared.wish.Wish.{Wish}
 use Rattle.vault_core.specs.declared.wish.Wish.TheVariants as wish
 use Rattle.vault_core.specs.Wished.{aim_of_wish, is_closer}

@@ -12,9 +12,9 @@
 --   of_providers n     == a setup of so many providers, all else 0: the room of records and the steps left
 --                         hang on no more of it
 use Rattle.std.specs.Prelude.{ℕ, ◌+◌, ◌≤◌, ◌==◌, Bool, false, List, [], ◌∷◌, Option, None, Some, slice_index_or, if◌then◌else◌}
-use Rattle.hail_columns.specs.Verdicts.{Sums}
-use Rattle.hail_records.specs.Records.{Setup}
-use Rattle.hail_machine.specs.Actions.{Action}
+use Rattle.column_defs.specs.Verdicts.{Sums}
+use Rattle.record_defs.specs.Records.{Setup}
+use Rattle.machine_defs.specs.Actions.{Action}
 use Rattle.vault_table.specs.Values.{Kept}
 use Rattle.vault_core.specs.declared.pinned.Pinned.{Pinned}
 use Rattle.vault_core.specs.declared.wish.Wish.{Wish}

@@ -6,8 +6,8 @@
 --   HasName w      == the name of a wish is a name
 --   IsShort w      == a put has at most 2^22 bytes
 use Rattle.std.specs.Prelude.{◌≤◌, ◌^◌, Bool, true, false, IsTrue}
-use Rattle.hail_records.specs.Records.{is_name}
-use Rattle.hail_machine.specs.Jobs.{Aim, ToPut, ToGet, ToDrop, ToAudit, ToRepair}
+use Rattle.record_defs.specs.Records.{is_name}
+use Rattle.machine_defs.specs.Jobs.{Aim, ToPut, ToGet, ToDrop, ToAudit, ToRepair}
 use Rattle.vault_core.specs.declared.wish.Wish.{Wish}
 use Rattle.vault_core.specs.declared.wish.Wish.TheVariants as wish
 

@@ -1,11 +1,11 @@
 ghost use Rattle.std.specs.Prelude.{◌≡◌, ◌≢◌, ◌<◌, ◌≤◌, ◌+◌, ◌-◌, ◌^◌, ℕ, length, sum_by, None, Some, OnOk, OnErr, IfErr, IfOk};
-ghost use Rattle.hail_machine.specs.Jobs.{Kind};
-ghost use Rattle.hail_machine.specs.Events.{IsSpelledKind};
-ghost use Rattle.hail_machine.specs.States.{State};
-ghost use Rattle.hail_machine.specs.Begins.{begin_refusal};
+ghost use Rattle.machine_defs.specs.Jobs.{Kind};
+ghost use Rattle.machine_defs.specs.Events.{IsSpelledKind};
+ghost use Rattle.machine_defs.specs.States.{State};
+ghost use Rattle.machine_defs.specs.Begins.{begin_refusal};
 ghost use Rattle.vault_core.specs.declared.wish.BeginFault.TheVariants as fault;
 ghost use Rattle.vault_core.specs.Carried.{CoreIs, IsKindOf, refusal_of, begun};
-ghost use Rattle.hail_records.specs.Records.{largest_journal};
+ghost use Rattle.record_defs.specs.Records.{largest_journal};
 ghost use Rattle.vault_core.specs.Parts.{core_job, IsJobKept};
 ghost use Rattle.vault_core.specs.Reserves.{reserved_of};
 ghost use Rattle.vault_core.specs.Wished.{IsShort};

@@ -1,6 +1,6 @@
 //! The last records of jobs.
 ghost use Rattle.std.specs.Prelude.{◌≡◌, ◌≤◌, ◌<◌, ◌^◌};
-ghost use Rattle.hail_records.specs.Records.{PutDone, AuditDone, RepairDone};
+ghost use Rattle.record_defs.specs.Records.{PutDone, AuditDone, RepairDone};
 ghost use Rattle.std.specs.List.{All};
 ghost use Rattle.record_codec.specs.Entries.{entry_of, counted, IsInGrammar, IsPadded};
 

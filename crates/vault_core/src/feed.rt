@@ -2,12 +2,12 @@ ghost use Rattle.std.specs.Prelude.{◌≡◌, ◌<◌, ◌==◌, ℕ, List, Non
 ghost use Rattle.std.specs.List.{list_any};
 ghost use Rattle.vault_core.specs.declared.pinned.Pinned.{Pinned as PinnedFile};
 ghost use Rattle.vault_core.specs.declared.job.Job.{Job as JobValue};
-ghost use Rattle.hail_records.specs.Records.{Record as EntryData};
-ghost use Rattle.hail_records.specs.Acceptance.{refused};
-ghost use Rattle.hail_machine.specs.Actions.{WriteBody, SyncGate};
-ghost use Rattle.hail_machine.specs.Events.{Outcome, Step};
-ghost use Rattle.hail_machine.specs.States.{State};
-ghost use Rattle.hail_machine.specs.Machine.{Happens};
+ghost use Rattle.record_defs.specs.Records.{Record as EntryData};
+ghost use Rattle.record_defs.specs.Acceptance.{refused};
+ghost use Rattle.machine_defs.specs.Actions.{WriteBody, SyncGate};
+ghost use Rattle.machine_defs.specs.Events.{Outcome, Step};
+ghost use Rattle.machine_defs.specs.States.{State};
+ghost use Rattle.machine_defs.specs.Machine.{Happens};
 ghost use Rattle.record_codec.specs.Entries.{counted, IsPadded};
 ghost use Rattle.vault_table.specs.Values.{IsFoldOf};
 ghost use Rattle.vault_core.specs.View.{CoreJob};

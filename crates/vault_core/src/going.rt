@@ -1,7 +1,7 @@
 //! How a job goes on.
 ghost use Rattle.std.specs.Prelude.{◌≡◌, ◌<◌, ◌≤◌, ◌+◌, ℕ, false, true, [], ◌++◌, map, drop, Some, IfSome, IfNone, slice_get};
 ghost use Rattle.vault_core.specs.View.{flag_at};
-ghost use Rattle.hail_machine.specs.Actions.{SyncGate};
+ghost use Rattle.machine_defs.specs.Actions.{SyncGate};
 ghost use Rattle.vault_core.specs.Coming.{is_last_ask};
 ghost use Rattle.vault_core.specs.Fed.{gated_by};
 ghost use Rattle.vault_core.specs.Rest.{rest_of, closing_of, tasks_on, beyond, calls_from, work_of, rewrites_from};

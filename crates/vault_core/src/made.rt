@@ -3,8 +3,8 @@ ghost use Rattle.std.specs.Prelude.{◌≡◌, ◌<◌, ◌≤◌, ◌+◌, ◌*
 ghost use Rattle.std.specs.Option.{option_map};
 ghost use Rattle.std.specs.List.{insert};
 ghost use Rattle.record_codec.specs.Entries.{with_master, IsPadded};
-ghost use Rattle.hail_machine.specs.Setups.{stripes_of};
-ghost use Rattle.hail_machine.specs.Begins.{pin_by, pin_found, pin_each, due_number, due_flags};
+ghost use Rattle.machine_defs.specs.Setups.{stripes_of};
+ghost use Rattle.machine_defs.specs.Begins.{pin_by, pin_found, pin_each, due_number, due_flags};
 ghost use Rattle.vault_table.specs.Values.{file_of_entry, due_of_pair};
 ghost use Rattle.vault_core.specs.declared.pinned.Pinned.{Pinned as PinnedFile};
 ghost use Rattle.vault_core.specs.declared.job.Task.{Task as TaskData};

@@ -1,6 +1,6 @@
 ghost use Rattle.std.specs.Prelude.{◌≡◌, ◌≤◌, ◌^◌, IsTrue, false, []};
-ghost use Rattle.hail_records.specs.Records.{is_setup};
-ghost use Rattle.hail_machine.specs.Setups.{setup_or_none};
+ghost use Rattle.record_defs.specs.Records.{is_setup};
+ghost use Rattle.machine_defs.specs.Setups.{setup_or_none};
 
 use crate::job::Job;
 use key_schedule::Master;

@@ -2,11 +2,11 @@
 ghost use Rattle.std.specs.Prelude.{◌≡◌, ◌≤◌, ◌+◌, ℕ, Some, None, if◌then◌else◌, length, sum_by, ◌∷◌};
 ghost use Rattle.std.specs.Option.{option_map};
 ghost use Rattle.std.specs.List.{list_any, All};
-ghost use Rattle.hail_machine.specs.Jobs.{Kind};
-ghost use Rattle.hail_machine.specs.States.{State};
-ghost use Rattle.hail_machine.specs.Refusals.{first_refusal};
-ghost use Rattle.hail_machine.specs.Sights.{is_check, is_put_or_check, is_name_among, is_busy, is_crowded_for, is_full, causes};
-ghost use Rattle.hail_machine.specs.Begins.{begin_refusal};
+ghost use Rattle.machine_defs.specs.Jobs.{Kind};
+ghost use Rattle.machine_defs.specs.States.{State};
+ghost use Rattle.machine_defs.specs.Refusals.{first_refusal};
+ghost use Rattle.machine_defs.specs.Sights.{is_check, is_put_or_check, is_name_among, is_busy, is_crowded_for, is_full, causes};
+ghost use Rattle.machine_defs.specs.Begins.{begin_refusal};
 ghost use Rattle.vault_core.specs.declared.job.Job.{Job as JobData};
 ghost use Rattle.vault_core.specs.Carried.{CoreIs, IsKindOf, refusal_of};
 ghost use Rattle.vault_core.specs.Wished.{aim_of_wish, HasName, IsShort};

@@ -4,11 +4,11 @@ use Rattle.std.specs.Prelude.{IfSome}
 use Rattle.std.proofs.lemmas.List.{length-map, drop_all}
 use Rattle.stream_model.specs.declared.fault.WriteFault.{WriteFault}
 use Rattle.stream_model.specs.declared.fault.WriteFault.TheVariants as write_fault
-use Rattle.hail_devices.specs.Cells.{Cells, reads, firm, loose}
-use Rattle.hail_devices.specs.Disks.{written, synced, Torn}
-use Rattle.hail_devices.specs.Images.{IsImage, EachImage}
-use Rattle.hail_devices.specs.Told.{Goes}
-use Rattle.hail_records.specs.Journal.{text}
+use Rattle.device_defs.specs.Cells.{Cells, reads, firm, loose}
+use Rattle.device_defs.specs.Disks.{written, synced, Torn}
+use Rattle.device_defs.specs.Images.{IsImage, EachImage}
+use Rattle.device_defs.specs.Told.{Goes}
+use Rattle.record_defs.specs.Journal.{text}
 use Rattle.journal_core.proofs.CellLemmas.{written-behind, settled-loose}
 use Rattle.vault_open.specs.Preparing.{IsBlank, AreShort, emptied}
 

@@ -4,14 +4,14 @@ use Rattle.std.specs.Prelude.{IfSome, IsTrue, OnOk, IfErr, Result, Ok, Err}
 use Rattle.std.specs.Option.{option_map}
 use Rattle.std.proofs.lemmas.List.{drop-drop, drop-map, map-append}
 use Rattle.std.proofs.Math.Seq.{drop-append-add}
-use Rattle.hail_devices.specs.Cells.{Cells, reads, firm, loose}
-use Rattle.hail_devices.specs.Disks.{written, synced}
-use Rattle.hail_devices.specs.Told.{Goes}
-use Rattle.hail_devices.proofs.Lasting.{reads-firm}
-use Rattle.hail_devices.proofs.WriteLaws.{reads-loose}
-use Rattle.hail_records.specs.Records.{Setup, Record, SetUp, PutStart, PutDone, Drop, AuditStart, AuditDone, RepairDone, is_in_grammar, PutDoneIn, Version, Resume, InEffect, RepairDue}
-use Rattle.hail_records.specs.Spellings.{spelling}
-use Rattle.hail_records.specs.Journal.{magic, before_gate, text, StandsFor}
+use Rattle.device_defs.specs.Cells.{Cells, reads, firm, loose}
+use Rattle.device_defs.specs.Disks.{written, synced}
+use Rattle.device_defs.specs.Told.{Goes}
+use Rattle.device_defs.proofs.Lasting.{reads-firm}
+use Rattle.device_defs.proofs.WriteLaws.{reads-loose}
+use Rattle.record_defs.specs.Records.{Setup, Record, SetUp, PutStart, PutDone, Drop, AuditStart, AuditDone, RepairDone, is_in_grammar, PutDoneIn, Version, Resume, InEffect, RepairDue}
+use Rattle.record_defs.specs.Spellings.{spelling}
+use Rattle.record_defs.specs.Journal.{magic, before_gate, text, StandsFor}
 use Rattle.record_codec.specs.declared.records.Record.{Record as RecordValue}
 use Rattle.record_codec.specs.declared.records.Record.TheVariants as kind
 use Rattle.record_codec.specs.Entries.{entry_of}
@@ -21,7 +21,7 @@ use Rattle.journal_core.specs.Moves.{IsClosed, IsAfterMoves}
 use Rattle.journal_core.proofs.CellLemmas.{written-behind}
 use Rattle.journal_core.proofs.Meanings.{read_is_closed}
 use Rattle.journal_core.proofs.MoveLemmas.{IfSome-same}
-use Rattle.hail_openings.specs.Journals.{BeginsWithSetup, BeginsOtherwise, IsSetUpOn}
+use Rattle.opening_defs.specs.Journals.{BeginsWithSetup, BeginsOtherwise, IsSetUpOn}
 use Rattle.vault_open.specs.declared.fault.InitFault.{InitFault}
 use Rattle.vault_open.specs.declared.fault.InitFault.TheVariants as init_fault
 use Rattle.vault_open.specs.Preparing.{IsBlank, IsReadied, with_first_record, first_answer, IsFirstFault, IsFirstAnswer, IsTextFault}

@@ -1,18 +1,18 @@
 -- While the journal has its first version: what images stand for.
 use Rattle.std.proofs.Common.{◌≡◌, ◌⊎◌, ℕ, List, ◌∷◌, true, false, Option, Some, inl, inr, ap, sym, subst, ◌∙◌, arith}
 use Rattle.std.proofs.lemmas.Bool.{false≢true}
-use Rattle.hail_devices.specs.Cells.{Cells}
-use Rattle.hail_devices.specs.Images.{EachImage}
-use Rattle.hail_devices.proofs.Lasting.{each_image-mono}
-use Rattle.hail_records.specs.Records.{Record}
-use Rattle.hail_records.specs.Journal.{StandsFor, StandsOrIsEmpty}
-use Rattle.hail_records.specs.Table.{setup_of, version_of}
-use Rattle.hail_records.specs.Packed.{packed}
-use Rattle.hail_records.proofs.PackLaws.{packed_are}
-use Rattle.hail_machine.specs.Stands.{StandsPlain, StandsWithDoubt, StandsSwitched, StandsForState}
-use Rattle.hail_machine.specs.States.{State, Doubt, with_doubt}
-use Rattle.sound_states.specs.Sound.{IsWholeJournal, IsSound}
-use Rattle.sound_states.proofs.Records.{is_some-at, grammar-rest, version-first, second-set_up}
+use Rattle.device_defs.specs.Cells.{Cells}
+use Rattle.device_defs.specs.Images.{EachImage}
+use Rattle.device_defs.proofs.Lasting.{each_image-mono}
+use Rattle.record_defs.specs.Records.{Record}
+use Rattle.record_defs.specs.Journal.{StandsFor, StandsOrIsEmpty}
+use Rattle.record_defs.specs.Table.{setup_of, version_of}
+use Rattle.record_defs.specs.Packed.{packed}
+use Rattle.record_defs.proofs.PackLaws.{packed_are}
+use Rattle.machine_defs.specs.Stands.{StandsPlain, StandsWithDoubt, StandsSwitched, StandsForState}
+use Rattle.machine_defs.specs.States.{State, Doubt, with_doubt}
+use Rattle.state_laws.specs.Sound.{IsWholeJournal, IsSound}
+use Rattle.state_laws.proofs.Records.{is_some-at, grammar-rest, version-first, second-set_up}
 
 -- ---- images
 

@@ -1,15 +1,15 @@
 -- One record taken out of a journal's text.
 use Rattle.std.proofs.Common.{◌≡◌, ◌≢◌, inl, inr, ℕ, ◌+◌, ◌<◌, ◌≤◌, ◌^◌, List, [], ◌∷◌, ◌++◌, length, take, drop, sym, ap, ◌∙◌, arith, take-append-drop, length-take, length-append, None}
-use Rattle.hail_records.specs.Records.{Record}
-use Rattle.hail_records.specs.Journal.{before_gate, text_size, StandsFor}
-use Rattle.hail_records.specs.Acceptance.{refused, AreAccepted}
-use Rattle.hail_records.proofs.Sizes.{length-text}
+use Rattle.record_defs.specs.Records.{Record}
+use Rattle.record_defs.specs.Journal.{before_gate, text_size, StandsFor}
+use Rattle.record_defs.specs.Acceptance.{refused, AreAccepted}
+use Rattle.record_defs.proofs.Sizes.{length-text}
 use Rattle.journal_core.specs.Gates.{IsReadTo, StopsAt}
 use Rattle.vault_table.specs.Values.{Kept, IsFoldOf}
 use Rattle.vault_table.specs.Causes.{IsCause}
 use Rattle.vault_table.specs.declared.entry.Refused.{Refused}
 use Rattle.vault_table.specs.declared.entry.Refused.TheVariants as fault
-use Rattle.hail_openings.specs.Journals.{IsBadStart, StopsBehind}
+use Rattle.opening_defs.specs.Journals.{IsBadStart, StopsBehind}
 use Rattle.vault_open.specs.Faults.{refusal_answer}
 use Rattle.vault_open.specs.Folding.{IsReadUpTo, IsFolded, IsFoldFault}
 

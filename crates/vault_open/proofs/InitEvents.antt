@@ -5,39 +5,39 @@ use Rattle.std.specs.Option.{option_map}
 use Rattle.std.proofs.lemmas.Bool.{false≢true, cases_lt}
 use Rattle.stream_model.specs.declared.fault.WriteFault.{WriteFault}
 use Rattle.stream_model.specs.declared.fault.WriteFault.TheVariants as write_fault
-use Rattle.hail_devices.specs.Cells.{Cells, reads}
-use Rattle.hail_devices.specs.Disks.{synced}
-use Rattle.hail_devices.specs.Faults.{Rose, HasCause, last_count}
-use Rattle.hail_devices.specs.Images.{IsImage, EachImage}
-use Rattle.hail_devices.specs.Told.{Goes}
-use Rattle.hail_devices.specs.Providers.{Provider}
-use Rattle.hail_records.specs.Records.{Setup, Record, SetUp, PutStart, PutDone, Drop, AuditStart, AuditDone, RepairDone, PutDoneIn, Version, Resume, InEffect, RepairDue, is_setup, is_in_grammar, largest_journal}
-use Rattle.hail_records.specs.Journal.{before_gate, text, text_size, StandsFor}
-use Rattle.hail_records.specs.Table.{setup_of, version_of}
-use Rattle.hail_records.specs.Acceptance.{NoSetup, AreAccepted}
-use Rattle.hail_machine.specs.Events as events
-use Rattle.hail_machine.specs.Events.{Outcome, Init}
-use Rattle.hail_machine.specs.Refusals as refusal
-use Rattle.hail_machine.specs.States.{State, Doubt, brought, journal_end}
-use Rattle.hail_machine.specs.Openings.{LeavesDoubt, Inits, InitsBy, InitsClosed}
-use Rattle.hail_machine.specs.Machine.{Happens}
+use Rattle.device_defs.specs.Cells.{Cells, reads}
+use Rattle.device_defs.specs.Disks.{synced}
+use Rattle.device_defs.specs.Faults.{Rose, HasCause, last_count}
+use Rattle.device_defs.specs.Images.{IsImage, EachImage}
+use Rattle.device_defs.specs.Told.{Goes}
+use Rattle.device_defs.specs.Providers.{Provider}
+use Rattle.record_defs.specs.Records.{Setup, Record, SetUp, PutStart, PutDone, Drop, AuditStart, AuditDone, RepairDone, PutDoneIn, Version, Resume, InEffect, RepairDue, is_setup, is_in_grammar, largest_journal}
+use Rattle.record_defs.specs.Journal.{before_gate, text, text_size, StandsFor}
+use Rattle.record_defs.specs.Table.{setup_of, version_of}
+use Rattle.record_defs.specs.Acceptance.{NoSetup, AreAccepted}
+use Rattle.machine_defs.specs.Events as events
+use Rattle.machine_defs.specs.Events.{Outcome, Init}
+use Rattle.machine_defs.specs.Refusals as refusal
+use Rattle.machine_defs.specs.States.{State, Doubt, brought, journal_end}
+use Rattle.machine_defs.specs.Openings.{LeavesDoubt, Inits, InitsBy, InitsClosed}
+use Rattle.machine_defs.specs.Machine.{Happens}
 use Rattle.journal_core.specs.Moves.{MayStandFor}
 use Rattle.journal_core.proofs.Meanings.{one_meaning, bad_is_none}
-use Rattle.sound_states.specs.Sound.{IsSound, IsWholeJournal}
-use Rattle.sound_states.proofs.Written.{whole-first, end-first}
+use Rattle.state_laws.specs.Sound.{IsSound, IsWholeJournal}
+use Rattle.state_laws.proofs.Written.{whole-first, end-first}
 use Rattle.vault_open.specs.declared.fault.InitFault.{InitFault}
 use Rattle.vault_open.specs.declared.fault.InitFault.TheVariants as init_fault
 use Rattle.vault_open.specs.Devices.{Devices, devices, AreDevices}
-use Rattle.hail_openings.specs.Journals.{journal_read, IsSetUpOn, BeginsWithSetup, BeginsOtherwise, IsBadInit}
+use Rattle.opening_defs.specs.Journals.{journal_read, IsSetUpOn, BeginsWithSetup, BeginsOtherwise, IsBadInit}
 use Rattle.vault_open.specs.Causes.{IsInitFault, IsNoWrite}
 use Rattle.vault_open.specs.Inits.{MayInit, MakesInit}
 use Rattle.vault_open.specs.Faults.{init_answer}
 use Rattle.vault_open.specs.Preparing.{IsBlank, IsReadied, IsHalfReady}
 use Rattle.vault_open.proofs.FirstVersion.{ShowsFirst, FirstStands, shows-first, images-first, version-shown}
 use Rattle.vault_open.proofs.Texts.{short-none}
-use Rattle.hail_devices.proofs.PickLaws.{IsImage-reads}
-use Rattle.hail_devices.proofs.Lasting.{image-firm, each_image-mono}
-use Rattle.hail_records.proofs.Standing.{stands-front, stands-take}
+use Rattle.device_defs.proofs.PickLaws.{IsImage-reads}
+use Rattle.device_defs.proofs.Lasting.{image-firm, each_image-mono}
+use Rattle.record_defs.proofs.Standing.{stands-front, stands-take}
 
 -- ---- what bytes stand for
 

@@ -2,7 +2,7 @@
 use Rattle.std.proofs.Common.{◌≡◌, ℕ, List, length, arith}
 use Rattle.std.specs.Prelude.{IsTrue}
 use Rattle.std.proofs.lemmas.Bool.Decides.{nat_tests}
-use Rattle.hail_records.specs.Records.{is_master}
+use Rattle.record_defs.specs.Records.{is_master}
 use Rattle.record_codec.proofs.Fields.{IsBytes}
 use Rattle.record_codec.proofs.Takes.{IsBytes-all}
 

@@ -3,18 +3,18 @@ use Rattle.std.proofs.Common.{◌≡◌, ◌⊎◌, inl, inr, ℕ, ◌<◌, ◌�
 use Rattle.std.specs.Prelude.{IfSome}
 use Rattle.std.specs.Option.{option_map}
 use Rattle.std.proofs.lemmas.List.{drop_all}
-use Rattle.hail_devices.specs.Cells.{Cells, reads}
-use Rattle.hail_devices.specs.Disks.{synced}
-use Rattle.hail_devices.specs.Images.{IsImage, EachImage}
-use Rattle.hail_devices.specs.Told.{Goes}
-use Rattle.hail_records.specs.Records.{Setup, SetUp, largest_journal}
-use Rattle.hail_records.specs.Journal.{StandsFor}
-use Rattle.hail_records.proofs.Standing.{stands-front}
+use Rattle.device_defs.specs.Cells.{Cells, reads}
+use Rattle.device_defs.specs.Disks.{synced}
+use Rattle.device_defs.specs.Images.{IsImage, EachImage}
+use Rattle.device_defs.specs.Told.{Goes}
+use Rattle.record_defs.specs.Records.{Setup, SetUp, largest_journal}
+use Rattle.record_defs.specs.Journal.{StandsFor}
+use Rattle.record_defs.proofs.Standing.{stands-front}
 use Rattle.journal_core.specs.Moves.{MayStandFor}
 use Rattle.vault_open.specs.declared.fault.InitFault.{InitFault}
 use Rattle.vault_open.specs.declared.fault.InitFault.TheVariants as init_fault
-use Rattle.hail_openings.specs.Journals.{journal_read, IsResynced, MayBeLeft}
-use Rattle.hail_openings.proofs.Resyncs.{image-resynced}
+use Rattle.opening_defs.specs.Journals.{journal_read, IsResynced, MayBeLeft}
+use Rattle.opening_defs.proofs.Resyncs.{image-resynced}
 use Rattle.vault_open.specs.Causes.{IsInitFault}
 use Rattle.vault_open.specs.Preparing.{IsBlank, IsReadied, IsHalfReady, emptied, IsTextFault}
 use Rattle.vault_open.proofs.Readings.{reads-synced}

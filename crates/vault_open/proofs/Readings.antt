@@ -3,11 +3,11 @@ use Rattle.std.proofs.Common.{◌≡◌, ℕ, ◌<◌, false, min, List, length,
 use Rattle.std.specs.Prelude.{IfSome}
 use Rattle.std.specs.Option.{option_map}
 use Rattle.std.proofs.lemmas.List.{take_min, length-map}
-use Rattle.hail_devices.specs.Cells.{Cells, reads}
-use Rattle.hail_devices.specs.Disks.{synced}
-use Rattle.hail_devices.proofs.Lasting.{reads-firm}
-use Rattle.hail_records.specs.Records.{largest_journal}
-use Rattle.hail_openings.specs.Journals.{journal_read}
+use Rattle.device_defs.specs.Cells.{Cells, reads}
+use Rattle.device_defs.specs.Disks.{synced}
+use Rattle.device_defs.proofs.Lasting.{reads-firm}
+use Rattle.record_defs.specs.Records.{largest_journal}
+use Rattle.opening_defs.specs.Journals.{journal_read}
 
 -- a sync leaves what is read
 pub reads-synced : (cells : Cells) → reads (synced cells) ≡ reads cells

@@ -2,22 +2,22 @@
 use Rattle.std.proofs.Common.{◌≡◌, ◌≢◌, inl, inr, ℕ, ◌<◌, ◌≤◌, ◌&&◌, List, [], length, Option, Some, None, refl, sym, ap, ◌∙◌, subst, arith, length-take}
 use Rattle.std.specs.Prelude.{IfSome, IsTrue}
 use Rattle.std.specs.Option.{option_map}
-use Rattle.plain_facts.proofs.Options.{some-not-none}
-use Rattle.hail_devices.specs.Cells.{Cells, reads}
-use Rattle.hail_devices.specs.Disks.{synced}
-use Rattle.hail_records.specs.Records.{Record, Setup, is_setup, is_master, largest_journal}
-use Rattle.hail_records.specs.Journal.{before_gate, StandsFor}
-use Rattle.hail_records.specs.Table.{setup_of}
-use Rattle.hail_records.proofs.Standing.{stands-front}
+use Rattle.plain_laws.proofs.Options.{some-not-none}
+use Rattle.device_defs.specs.Cells.{Cells, reads}
+use Rattle.device_defs.specs.Disks.{synced}
+use Rattle.record_defs.specs.Records.{Record, Setup, is_setup, is_master, largest_journal}
+use Rattle.record_defs.specs.Journal.{before_gate, StandsFor}
+use Rattle.record_defs.specs.Table.{setup_of}
+use Rattle.record_defs.proofs.Standing.{stands-front}
 use Rattle.record_codec.specs.Entries.{with_master}
 use Rattle.journal_core.specs.Moves.{IsClosed}
 use Rattle.journal_core.proofs.Meanings.{read_is_closed}
-use Rattle.sound_states.proofs.Records.{none-set_up, all-spelled, setup-spelled}
+use Rattle.state_laws.proofs.Records.{none-set_up, all-spelled, setup-spelled}
 use Rattle.vault_table.specs.Values.{Kept}
 use Rattle.vault_open.specs.declared.fault.StartFault.{StartFault}
 use Rattle.vault_open.specs.declared.fault.StartFault.TheVariants as start_fault
 use Rattle.vault_open.specs.declared.store.Store.{Store}
-use Rattle.hail_openings.specs.Journals.{journal_read, IsRead}
+use Rattle.opening_defs.specs.Journals.{journal_read, IsRead}
 use Rattle.vault_open.specs.Causes.{IsStartFault}
 use Rattle.vault_open.specs.Folding.{IsFolded, IsFoldFault}
 use Rattle.vault_open.specs.Stores.{IsStoreOf}

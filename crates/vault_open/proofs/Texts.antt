@@ -1,9 +1,9 @@
 -- What a text is long, and what stands at the front of bytes.
 use Rattle.std.proofs.Common.{◌≡◌, ℕ, ◌-◌, ◌≤◌, List, [], ◌∷◌, length, refl, ap, arith, length-append}
-use Rattle.hail_records.specs.Records.{Record}
-use Rattle.hail_records.specs.Journal.{before_gate, StandsFor}
-use Rattle.hail_records.proofs.Sizes.{length-before_gate}
-use Rattle.hail_records.proofs.Standing.{text_size-least}
+use Rattle.record_defs.specs.Records.{Record}
+use Rattle.record_defs.specs.Journal.{before_gate, StandsFor}
+use Rattle.record_defs.proofs.Sizes.{length-before_gate}
+use Rattle.record_defs.proofs.Standing.{text_size-least}
 
 -- at most nine bytes stand for no record
 pub short-none : (bytes : List ℕ) (rs : List Record) → StandsFor bytes rs → length bytes ≤ 9 → rs ≡ []

@@ -5,9 +5,9 @@
 --   IsInitFault bytes setup fault == the causes for which a store is not set up
 --   IsNoWrite fault           == an answer of init for which nothing is written
 use Rattle.std.specs.Prelude.{◌≡◌, ℕ, ◌<◌, false, List, length}
-use Rattle.hail_records.specs.Records.{Setup, is_setup}
-use Rattle.hail_records.specs.Reading.{HasNoSetup}
-use Rattle.hail_openings.specs.Journals.{IsBadStart, IsBadInit, IsSetUpAlready}
+use Rattle.record_defs.specs.Records.{Setup, is_setup}
+use Rattle.record_defs.specs.Reading.{HasNoSetup}
+use Rattle.opening_defs.specs.Journals.{IsBadStart, IsBadInit, IsSetUpAlready}
 use Rattle.vault_open.specs.declared.fault.InitFault.{InitFault}
 use Rattle.vault_open.specs.declared.fault.InitFault.TheVariants as init_fault
 use Rattle.vault_open.specs.declared.fault.StartFault.{StartFault}

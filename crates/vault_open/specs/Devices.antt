@@ -4,11 +4,11 @@
 --                         the providers handed in
 --   AreDevices d w     == the devices are those of a state: images, count of faults, providers
 use Rattle.std.specs.Prelude.{◌≡◌, ℕ, List, Option}
-use Rattle.hail_devices.specs.Cells.{Cells}
-use Rattle.hail_devices.specs.Providers.{Provider}
-use Rattle.hail_machine.specs.States.{State}
-use Rattle.hail_machine.specs.Stands.{StandsForState}
-use Rattle.hail_openings.specs.Opened.{AreHanded}
+use Rattle.device_defs.specs.Cells.{Cells}
+use Rattle.device_defs.specs.Providers.{Provider}
+use Rattle.machine_defs.specs.States.{State}
+use Rattle.machine_defs.specs.Stands.{StandsForState}
+use Rattle.opening_defs.specs.Opened.{AreHanded}
 
 -- a disk and the providers handed in
 pub record Devices : Type 0 where

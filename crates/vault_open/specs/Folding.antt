@@ -6,14 +6,14 @@
 --                                 many bytes
 --   IsFoldFault bytes fault    == why the bytes were not taken
 use Rattle.std.specs.Prelude.{◌≡◌, ℕ, ◌≤◌, List}
-use Rattle.hail_records.specs.Records.{Record, largest_journal}
-use Rattle.hail_records.specs.Journal.{text_size, StandsFor}
-use Rattle.hail_records.specs.Acceptance.{AreAccepted}
+use Rattle.record_defs.specs.Records.{Record, largest_journal}
+use Rattle.record_defs.specs.Journal.{text_size, StandsFor}
+use Rattle.record_defs.specs.Acceptance.{AreAccepted}
 use Rattle.journal_core.specs.Gates.{IsReadTo}
 use Rattle.vault_table.specs.Values.{Kept, IsFoldOf}
 use Rattle.vault_open.specs.declared.fault.StartFault.{StartFault}
 use Rattle.vault_open.specs.declared.fault.StartFault.TheVariants as start_fault
-use Rattle.hail_openings.specs.Journals.{IsBadStart}
+use Rattle.opening_defs.specs.Journals.{IsBadStart}
 
 -- the bytes up to a gate are the text of records that fold to the table
 pub record IsReadUpTo (bytes : List ℕ) (rs : List Record) (t : Kept) (gate : ℕ) : Type 0 where

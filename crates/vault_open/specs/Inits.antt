@@ -4,15 +4,15 @@
 --   MayInit w told            == no vault is open over a disk that tells what it holds
 --   MakesInit w moment s result d == an init is one of the machine
 use Rattle.std.specs.Prelude.{◌≡◌, ℕ, false, Option, Result, Ok, Err, IsSome}
-use Rattle.hail_devices.specs.Cells.{Cells}
-use Rattle.hail_records.specs.Records.{Setup}
-use Rattle.hail_machine.specs.Refusals.{Refusal}
-use Rattle.hail_machine.specs.Refusals as refusal
-use Rattle.hail_machine.specs.Events as events
-use Rattle.hail_machine.specs.Events.{Outcome, Init}
-use Rattle.hail_machine.specs.States.{State}
-use Rattle.hail_machine.specs.Machine.{Happens}
-use Rattle.sound_states.specs.Sound.{IsSound}
+use Rattle.device_defs.specs.Cells.{Cells}
+use Rattle.record_defs.specs.Records.{Setup}
+use Rattle.machine_defs.specs.Refusals.{Refusal}
+use Rattle.machine_defs.specs.Refusals as refusal
+use Rattle.machine_defs.specs.Events as events
+use Rattle.machine_defs.specs.Events.{Outcome, Init}
+use Rattle.machine_defs.specs.States.{State}
+use Rattle.machine_defs.specs.Machine.{Happens}
+use Rattle.state_laws.specs.Sound.{IsSound}
 use Rattle.vault_open.specs.declared.fault.InitFault.{InitFault}
 use Rattle.vault_open.specs.declared.fault.InitFault.TheVariants as init_fault
 use Rattle.vault_open.specs.Devices.{Devices, AreDevices}

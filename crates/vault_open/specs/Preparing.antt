@@ -9,17 +9,17 @@
 --   IsFirstAnswer rs answer == the answer to records, by the first one
 --   IsTextFault bytes fault == why bytes are no journal with no record
 use Rattle.std.specs.Prelude.{◌≡◌, ◌⊎◌, ℕ, ◌≤◌, List, [], ◌∷◌, ◌++◌, length, drop, Option, Result, Ok, Err}
-use Rattle.hail_devices.specs.Cells.{Cells, reads, firm}
-use Rattle.hail_devices.specs.Disks.{written, synced}
-use Rattle.hail_devices.specs.Images.{IsImage, EachImage}
-use Rattle.hail_records.specs.Records.{Setup, Record, SetUp}
-use Rattle.hail_records.specs.Spellings.{spelling}
-use Rattle.hail_records.specs.Journal.{text, StandsFor}
+use Rattle.device_defs.specs.Cells.{Cells, reads, firm}
+use Rattle.device_defs.specs.Disks.{written, synced}
+use Rattle.device_defs.specs.Images.{IsImage, EachImage}
+use Rattle.record_defs.specs.Records.{Setup, Record, SetUp}
+use Rattle.record_defs.specs.Spellings.{spelling}
+use Rattle.record_defs.specs.Journal.{text, StandsFor}
 use Rattle.record_codec.specs.declared.records.Record.{Record as RecordValue}
 use Rattle.record_codec.specs.declared.records.Record.TheVariants as kind
 use Rattle.vault_open.specs.declared.fault.InitFault.{InitFault}
 use Rattle.vault_open.specs.declared.fault.InitFault.TheVariants as init_fault
-use Rattle.hail_openings.specs.Journals.{IsFree, BeginsWithSetup, BeginsOtherwise, IsBadInit}
+use Rattle.opening_defs.specs.Journals.{IsFree, BeginsWithSetup, BeginsOtherwise, IsBadInit}
 
 -- a disk reads a journal with no record, and no byte is loose
 pub record IsBlank (cells : Cells) : Type 0 where

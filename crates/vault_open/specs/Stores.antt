@@ -3,9 +3,9 @@
 --   IsStoreOf store rs told == the fold of these records, with the length of their text and the setup that
 --                              they begin with; a disk that tells has that text, with a closed gate
 use Rattle.std.specs.Prelude.{◌≡◌, IsTrue, IfSome, List, Option, Some}
-use Rattle.hail_devices.specs.Cells.{Cells}
-use Rattle.hail_records.specs.Records.{Record, is_setup}
-use Rattle.hail_records.specs.Journal.{before_gate, text_size}
+use Rattle.device_defs.specs.Cells.{Cells}
+use Rattle.record_defs.specs.Records.{Record, is_setup}
+use Rattle.record_defs.specs.Journal.{before_gate, text_size}
 use Rattle.record_codec.specs.Entries.{with_master}
 use Rattle.journal_core.specs.Moves.{IsClosed}
 use Rattle.vault_table.specs.Values.{IsFoldOf}

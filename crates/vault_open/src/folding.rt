@@ -1,5 +1,5 @@
 ghost use Rattle.std.specs.Prelude.{◌≡◌, ◌≤◌, ◌^◌, List, length, IfOk, IfErr};
-ghost use Rattle.hail_records.specs.Records.{Record};
+ghost use Rattle.record_defs.specs.Records.{Record};
 ghost use Rattle.vault_open.specs.Faults.{refusal_answer};
 ghost use Rattle.vault_open.specs.Folding.{IsFolded, IsFoldFault};
 

@@ -1,17 +1,17 @@
 ghost use Rattle.std.specs.Prelude.{◌≡◌, ◌≤◌, ◌^◌, [], ◌∷◌, List, ℕ, length, IfOk, IfErr, IfSome, OnOk, OnErr, IsErrOf, IsTrue, is_some};
 ghost use Rattle.std.specs.Option.{option_map};
 ghost use Rattle.stream_model.specs.declared.fault.WriteFault.TheVariants as write_fault;
-ghost use Rattle.hail_devices.specs.Cells.{reads};
-ghost use Rattle.hail_devices.specs.Disks.{synced};
-ghost use Rattle.hail_devices.specs.Faults.{HasCause};
-ghost use Rattle.hail_devices.specs.Images.{EachImage};
-ghost use Rattle.hail_devices.specs.Told.{Goes};
-ghost use Rattle.hail_records.specs.Records.{Record as Entry, Setup as SetupData, SetUp, is_setup, is_master, is_in_grammar};
-ghost use Rattle.hail_records.specs.Journal.{StandsFor};
+ghost use Rattle.device_defs.specs.Cells.{reads};
+ghost use Rattle.device_defs.specs.Disks.{synced};
+ghost use Rattle.device_defs.specs.Faults.{HasCause};
+ghost use Rattle.device_defs.specs.Images.{EachImage};
+ghost use Rattle.device_defs.specs.Told.{Goes};
+ghost use Rattle.record_defs.specs.Records.{Record as Entry, Setup as SetupData, SetUp, is_setup, is_master, is_in_grammar};
+ghost use Rattle.record_defs.specs.Journal.{StandsFor};
 ghost use Rattle.record_codec.specs.Entries.{entry_of, with_master, IsInGrammar};
 ghost use Rattle.journal_core.specs.Moves.{MayStandFor};
 ghost use Rattle.vault_open.specs.declared.fault.InitFault.TheVariants as init_fault;
-ghost use Rattle.hail_openings.specs.Journals.{journal_read};
+ghost use Rattle.opening_defs.specs.Journals.{journal_read};
 ghost use Rattle.vault_open.specs.Causes.{IsInitFault, IsNoWrite};
 ghost use Rattle.vault_open.specs.Preparing.{IsBlank, emptied, IsReadied, IsHalfReady, with_first_record, first_answer, IsFirstAnswer, IsTextFault};
 

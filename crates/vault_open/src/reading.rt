@@ -1,11 +1,11 @@
 ghost use Rattle.std.specs.Prelude.{◌≡◌, ◌<◌, ◌≤◌, ◌^◌, length, IfOk, IfSome, IfNone, OnOk, IsErrOf, is_some};
 ghost use Rattle.std.specs.Option.{option_map};
 ghost use Rattle.stream_model.specs.declared.fault.WriteFault.TheVariants as write_fault;
-ghost use Rattle.hail_devices.specs.Cells.{reads};
-ghost use Rattle.hail_devices.specs.Disks.{synced};
-ghost use Rattle.hail_devices.specs.Faults.{HasCause};
-ghost use Rattle.hail_devices.specs.Told.{Goes};
-ghost use Rattle.hail_openings.specs.Journals.{journal_read, IsResynced};
+ghost use Rattle.device_defs.specs.Cells.{reads};
+ghost use Rattle.device_defs.specs.Disks.{synced};
+ghost use Rattle.device_defs.specs.Faults.{HasCause};
+ghost use Rattle.device_defs.specs.Told.{Goes};
+ghost use Rattle.opening_defs.specs.Journals.{journal_read, IsResynced};
 
 use disk_model::Disk;
 use std::alloc::Global;

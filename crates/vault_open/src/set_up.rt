@@ -1,14 +1,14 @@
 ghost use Rattle.std.specs.Prelude.{◌≡◌, ◌↔◌, ℕ, false, List, IfSome, IfErr, OnOk, OnErr, IsErrOf, is_some};
-ghost use Rattle.hail_devices.specs.Faults.{HasCause};
-ghost use Rattle.hail_devices.specs.Images.{EachImage};
-ghost use Rattle.hail_devices.specs.Told.{Goes};
-ghost use Rattle.hail_devices.specs.Providers.{Provider};
-ghost use Rattle.hail_records.specs.Records.{is_setup};
+ghost use Rattle.device_defs.specs.Faults.{HasCause};
+ghost use Rattle.device_defs.specs.Images.{EachImage};
+ghost use Rattle.device_defs.specs.Told.{Goes};
+ghost use Rattle.device_defs.specs.Providers.{Provider};
+ghost use Rattle.record_defs.specs.Records.{is_setup};
 ghost use Rattle.record_codec.specs.Entries.{with_master};
-ghost use Rattle.hail_machine.specs.States.{State};
+ghost use Rattle.machine_defs.specs.States.{State};
 ghost use Rattle.vault_open.specs.declared.fault.InitFault.TheVariants as init_fault;
 ghost use Rattle.vault_open.specs.Devices.{devices, AreDevices};
-ghost use Rattle.hail_openings.specs.Journals.{journal_read, IsResynced, MayBeLeft, IsSetUpOn};
+ghost use Rattle.opening_defs.specs.Journals.{journal_read, IsResynced, MayBeLeft, IsSetUpOn};
 ghost use Rattle.vault_open.specs.Causes.{IsInitFault, IsNoWrite};
 ghost use Rattle.vault_open.specs.Inits.{MakesInit, MayInit};
 

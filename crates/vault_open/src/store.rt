@@ -1,10 +1,10 @@
 ghost use Rattle.std.specs.Prelude.{◌≡◌, List, IfSome, IfOk, IfErr, OnOk, IsErrOf, is_some};
 ghost use Rattle.std.specs.Option.{option_map};
-ghost use Rattle.hail_devices.specs.Disks.{synced};
-ghost use Rattle.hail_devices.specs.Faults.{HasCause};
-ghost use Rattle.hail_devices.specs.Told.{Goes};
-ghost use Rattle.hail_records.specs.Records.{Record};
-ghost use Rattle.hail_openings.specs.Journals.{journal_read, IsRead, IsResynced};
+ghost use Rattle.device_defs.specs.Disks.{synced};
+ghost use Rattle.device_defs.specs.Faults.{HasCause};
+ghost use Rattle.device_defs.specs.Told.{Goes};
+ghost use Rattle.record_defs.specs.Records.{Record};
+ghost use Rattle.opening_defs.specs.Journals.{journal_read, IsRead, IsResynced};
 ghost use Rattle.vault_open.specs.declared.fault.StartFault.TheVariants as start_fault;
 ghost use Rattle.vault_open.specs.Causes.{IsStartFault, LiesInJournal};
 ghost use Rattle.vault_open.specs.Stores.{IsStoreOf};

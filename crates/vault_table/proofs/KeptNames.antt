@@ -8,7 +8,7 @@ use Rattle.vault_table.specs.Values.{started_from}
 use Rattle.std.specs.Prelude.{◌*◌, ◌/◌, ◌==◌, slice_index_or}
 use Rattle.std.proofs.Common.{length-append, length-set, inl, inr}
 use Rattle.std.proofs.lemmas.Bool.{cases_Bool, cases_lt, eqb-true, leb-true, le-leb, lt-leb}
-use Rattle.hail_records.specs.Records.{is_name}
+use Rattle.record_defs.specs.Records.{is_name}
 use Rattle.std.proofs.lemmas.List.{get_or_append_left, get_or_at}
 use Rattle.vault_table.specs.Starts.{begins_at, name_of, kept_names, is_kept_name, with_mark, marks_for, AreNameMarks}
 

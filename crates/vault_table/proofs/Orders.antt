@@ -5,10 +5,10 @@ use Rattle.std.specs.List.{insert, remove}
 use Rattle.std.proofs.lemmas.Bool.Decides.{nat_tests}
 use Rattle.std.proofs.lemmas.List.{take-append-drop, get_or_at, drop_at, set_at, length-take-le}
 use Rattle.std.specs.declared.cmp.Ordering.TheVariants.{Less, Equal, Greater}
-use Rattle.hail_records.specs.Table.{File, is_name_before, are_ordered, find_file, with_file, without_file}
-use Rattle.hail_records.proofs.FilesLaws.{same-refl, same-sym}
-use Rattle.hail_records.proofs.OrderLaws.{before-trans, below-trans}
-use Rattle.hail_records.proofs.PackLaws.{before-not_same}
+use Rattle.record_defs.specs.Table.{File, is_name_before, are_ordered, find_file, with_file, without_file}
+use Rattle.record_defs.proofs.FilesLaws.{same-refl, same-sym}
+use Rattle.record_defs.proofs.OrderLaws.{before-trans, below-trans}
+use Rattle.record_defs.proofs.PackLaws.{before-not_same}
 use Rattle.vault_table.specs.Orders.{order_of, comes_after, comes_before, IsHere, IsBetween}
 
 pub order-less : (a b : List ℕ) → order_of a b ≡ Less → is_name_before a b ≡ true

@@ -4,7 +4,7 @@ use Rattle.std.proofs.Common.{refl, sym, ap, subst, ◌∙◌, arith, get_or}
 use Rattle.std.specs.List.{insert, remove}
 use Rattle.std.proofs.lemmas.List.{get_or-map, length-map, map-append, take-map, drop-map}
 use Rattle.std.proofs.lemmas.Bool.{lt-leb, le-leb}
-use Rattle.hail_records.specs.Table.{File, is_name_before, are_ordered}
+use Rattle.record_defs.specs.Table.{File, is_name_before, are_ordered}
 use Rattle.vault_table.specs.declared.entry.Entry.{Entry}
 use Rattle.vault_table.specs.Orders.{comes_after, comes_before, IsHere, IsBetween}
 use Rattle.vault_table.specs.Values.{file_of_entry, is_full_without}

@@ -4,13 +4,13 @@ use Rattle.std.specs.Prelude.{[], map, ◌||◌, ◌==◌}
 use Rattle.std.specs.List.{list_any}
 use Rattle.vault_table.specs.declared.entry.Entry.{Entry}
 use Rattle.vault_table.specs.Values.{file_of_entry}
-use Rattle.hail_records.specs.Acceptance.{is_file_id}
+use Rattle.record_defs.specs.Acceptance.{is_file_id}
 use Rattle.std.proofs.Common.{refl, sym, ap, subst, ◌∙◌, arith}
-use Rattle.hail_records.specs.Records.{Record}
-use Rattle.hail_records.specs.Acceptance.{refused, Refused as Reason}
-use Rattle.hail_records.specs.Table.{File, find_file, are_ordered, with_file, without_file}
-use Rattle.hail_records.proofs.OrderLaws.{ordered-without, ordered-with}
-use Rattle.hail_records.proofs.FilesLaws.{find-without, same-refl}
+use Rattle.record_defs.specs.Records.{Record}
+use Rattle.record_defs.specs.Acceptance.{refused, Refused as Reason}
+use Rattle.record_defs.specs.Table.{File, find_file, are_ordered, with_file, without_file}
+use Rattle.record_defs.proofs.OrderLaws.{ordered-without, ordered-with}
+use Rattle.record_defs.proofs.FilesLaws.{find-without, same-refl}
 use Rattle.vault_table.specs.declared.entry.Refused.{Refused}
 use Rattle.vault_table.specs.Values.{Kept, IsFoldOf}
 use Rattle.vault_table.specs.Causes.{Applies, IsCause}

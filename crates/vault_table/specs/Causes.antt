@@ -1,7 +1,7 @@
 -- How a table takes a record.
 use Rattle.std.specs.Prelude.{◌≡◌, ℕ, Bool, true, false, IsTrue, Option, Some, None, Result, Ok, Err}
-use Rattle.hail_records.specs.Records.{Record, PutStart}
-use Rattle.hail_records.specs.Acceptance.{Refused as Reason, NoSetup, SecondSetup, BadId, NotStarted, TooMany, NoName, BadAudit, NoRepair, OldKind, OldVersion, NewVersion, BadResume, NameTwice}
+use Rattle.record_defs.specs.Records.{Record, PutStart}
+use Rattle.record_defs.specs.Acceptance.{Refused as Reason, NoSetup, SecondSetup, BadId, NotStarted, TooMany, NoName, BadAudit, NoRepair, OldKind, OldVersion, NewVersion, BadResume, NameTwice}
 use Rattle.vault_table.specs.declared.entry.Refused.{Refused}
 use Rattle.vault_table.specs.declared.entry.Refused.TheVariants as fault
 use Rattle.vault_table.specs.Values.{Kept, started_at, put_done_refusal, refusal, with_done, with_record}

@@ -1,7 +1,7 @@
 -- A table for the worked rows.
 use Rattle.std.specs.Prelude.{[], ◌∷◌, codes, None, Some}
-use Rattle.hail_records.specs.Table.{file_as}
-use Rattle.hail_records.specs.Examples.{four}
+use Rattle.record_defs.specs.Table.{file_as}
+use Rattle.record_defs.specs.Examples.{four}
 use Rattle.vault_table.specs.Values.{Kept}
 
 -- the table of a store with one file, of two puts under one name, and a due repair, whose journal has its

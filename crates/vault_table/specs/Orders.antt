@@ -9,7 +9,7 @@ use Rattle.std.specs.Prelude.{◌≡◌, ◌≤◌, ◌<◌, ℕ, true, Bool, na
 use Rattle.std.specs.List.{list_all}
 use Rattle.std.specs.declared.cmp.Ordering.{Ordering}
 use Rattle.std.specs.declared.cmp.Ordering.TheVariants.{Less, Equal, Greater}
-use Rattle.hail_records.specs.Table.{File, is_name_before}
+use Rattle.record_defs.specs.Table.{File, is_name_before}
 
 -- how two names stand
 abbrev pub order_of : List ℕ → List ℕ → Ordering

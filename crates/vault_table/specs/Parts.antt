@@ -1,7 +1,7 @@
 -- How a table is kept.
 use Rattle.std.specs.Prelude.{suc, ◌+◌, ◌^◌, ◌<◌, ◌≤◌, IsTrue, IfSome, length, map, vec_capacity}
 use Rattle.std.specs.Option.{option_map}
-use Rattle.hail_records.specs.Table.{are_ordered}
+use Rattle.record_defs.specs.Table.{are_ordered}
 use Rattle.record_codec.specs.Entries.{IsPadded}
 use Rattle.vault_table.specs.declared.table.Table.TheInside.{Inside}
 use Rattle.vault_table.specs.Values.{Kept, file_of_entry, setup_of_pair, due_of_pair}

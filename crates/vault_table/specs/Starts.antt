@@ -7,7 +7,7 @@
 --   started_puts, IsStarts      == how it is kept: of each 64th name a mark tells where it begins
 use Rattle.std.specs.Prelude.{◌≡◌, ℕ, zero, suc, ◌+◌, ◌*◌, ◌/◌, ◌%◌, ◌==◌, ◌<◌, ◌≤◌, Bool, true, IsTrue, List, [], ◌∷◌, ◌++◌, length, take, drop, slice_index, Option, None, Some, nat_le, vec_capacity, if◌then◌else◌}
 use Rattle.std.specs.List.{list_all}
-use Rattle.hail_records.specs.Records.{is_name}
+use Rattle.record_defs.specs.Records.{is_name}
 use Rattle.vault_table.specs.declared.starts.Starts.TheInside.{Inside}
 
 -- what is kept of started puts

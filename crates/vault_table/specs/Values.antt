@@ -1,8 +1,8 @@
 -- What a table keeps, as plain data.
 use Rattle.std.specs.Prelude.{◌≡◌, ℕ, zero, suc, ◌+◌, ◌-◌, ◌^◌, ◌==◌, ◌&&◌, ◌||◌, Bool, not, List, [], ◌∷◌, ◌++◌, length, Option, None, Some, is_some, nat_le, slice_set, if◌then◌else◌}
-use Rattle.hail_records.specs.Records.{Setup, Record, SetUp, PutStart, PutDone, Drop, AuditStart, AuditDone, RepairDone, PutDoneIn, Version, Resume, InEffect, RepairDue, most_files}
-use Rattle.hail_records.specs.Table.{File, Due, setup_of, version_of, profile_in, next_id, next_audit, started_as, files_of, find_file, with_put, without_file, running_audit, due_of, exceeds}
-use Rattle.hail_records.specs.Acceptance.{Refused, NoSetup, SecondSetup, BadId, NotStarted, TooMany, NoName, BadAudit, NoRepair, OldKind, OldVersion, NewVersion, BadResume, NameTwice, is_running, is_due, is_count_each, is_file_id}
+use Rattle.record_defs.specs.Records.{Setup, Record, SetUp, PutStart, PutDone, Drop, AuditStart, AuditDone, RepairDone, PutDoneIn, Version, Resume, InEffect, RepairDue, most_files}
+use Rattle.record_defs.specs.Table.{File, Due, setup_of, version_of, profile_in, next_id, next_audit, started_as, files_of, find_file, with_put, without_file, running_audit, due_of, exceeds}
+use Rattle.record_defs.specs.Acceptance.{Refused, NoSetup, SecondSetup, BadId, NotStarted, TooMany, NoName, BadAudit, NoRepair, OldKind, OldVersion, NewVersion, BadResume, NameTwice, is_running, is_due, is_count_each, is_file_id}
 use Rattle.record_codec.specs.declared.setup.Setup.{Setup as SetupValue}
 use Rattle.record_codec.specs.declared.counts.Counts.{Counts}
 use Rattle.key_schedule.specs.declared.master.Master.{Master}

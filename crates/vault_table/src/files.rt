@@ -1,7 +1,7 @@
 ghost use Rattle.std.specs.Option.{option_map};
 ghost use Rattle.std.specs.Prelude.{◌≡◌, ◌==◌, ◌≤◌, map, not, is_some, IsTrue, MatchResult, vec_capacity, if◌then◌else◌};
-ghost use Rattle.hail_records.specs.Table.{are_ordered, find_file, with_file, without_file};
-ghost use Rattle.hail_records.specs.Acceptance.{is_file_id};
+ghost use Rattle.record_defs.specs.Table.{are_ordered, find_file, with_file, without_file};
+ghost use Rattle.record_defs.specs.Acceptance.{is_file_id};
 ghost use Rattle.std.specs.List.{list_any};
 ghost use Rattle.vault_table.specs.declared.entry.Entry.{Entry as EntryValue};
 ghost use Rattle.vault_table.specs.Orders.{order_of, IsHere, IsBetween};

@@ -1,10 +1,10 @@
 //! What holds of every table.
 ghost use Rattle.std.specs.Prelude.{◌≡◌, List, Some};
-ghost use Rattle.hail_records.specs.Records.{Record, Setup};
-ghost use Rattle.hail_records.specs.Table.{setup_of, version_of};
-ghost use Rattle.hail_records.specs.Acceptance.{AreAccepted};
-ghost use Rattle.hail_records.specs.Packed.{packed};
-ghost use Rattle.hail_records.specs.Examples.{four, raised};
+ghost use Rattle.record_defs.specs.Records.{Record, Setup};
+ghost use Rattle.record_defs.specs.Table.{setup_of, version_of};
+ghost use Rattle.record_defs.specs.Acceptance.{AreAccepted};
+ghost use Rattle.record_defs.specs.Packed.{packed};
+ghost use Rattle.record_defs.specs.Examples.{four, raised};
 ghost use Rattle.vault_table.specs.Values.{Kept, IsFoldOf, forgotten};
 ghost use Rattle.vault_table.specs.Examples.{raised_table};
 

@@ -1,5 +1,5 @@
 ghost use Rattle.std.specs.Prelude.{◌≡◌, ◌+◌, ◌-◌, ◌^◌, ◌<◌, ◌≤◌, if◌then◌else◌, take, drop, ◌++◌, suc, [], ◌∷◌, Some, None, length, slice_set, vec_capacity, OnOk, OnErr};
-ghost use Rattle.hail_records.specs.Records.{is_name};
+ghost use Rattle.record_defs.specs.Records.{is_name};
 ghost use Rattle.vault_table.specs.Starts.{begins_at, with_mark, AreNameMarks};
 ghost use Rattle.vault_table.specs.Values.{started_from};
 

@@ -1,6 +1,6 @@
 ghost use Rattle.std.specs.Prelude.{◌≡◌, ◌+◌, suc, [], length, slice_get, IfOk, IfSome, OnOk, OnErr};
 ghost use Rattle.std.specs.Option.{option_map};
-ghost use Rattle.hail_records.specs.Table.{find_file};
+ghost use Rattle.record_defs.specs.Table.{find_file};
 ghost use Rattle.record_codec.specs.Entries.{IsPadded};
 ghost use Rattle.vault_table.specs.Values.{file_of_entry, due_of_pair, setup_of_pair, id_after, forgotten, IsFoldOf};
 

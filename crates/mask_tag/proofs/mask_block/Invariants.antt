@@ -1,6 +1,6 @@
 use Rattle.std.proofs.Common.{◌≡◌, ◌+◌, ◌*◌, take}
 use Rattle.rand_chacha.specs.ChaCha.{of_seed}
-use Rattle.hail_columns.specs.Keys.{masks_from}
+use Rattle.column_defs.specs.Keys.{masks_from}
 use Rattle.mask_tag.proofs.mask_block.Given as goal
 
 -- the generator stands at the next row, and the rows before it are filled

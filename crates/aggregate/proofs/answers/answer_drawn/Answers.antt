@@ -1,6 +1,6 @@
 use Rattle.std.proofs.Common.{◌≡◌, ◌-◌, ℕ, None, Some, true, ap, sym, subst, ◌∙◌, arith, suc, get_or, is_some, unwrap_or}
 use Rattle.hail_field.specs.Nim.{nim_add, nim_mul}
-use Rattle.hail_columns.specs.Challenges.{alpha, held_symbol, picked_row}
+use Rattle.column_defs.specs.Challenges.{alpha, held_symbol, picked_row}
 use Rattle.challenge.specs.Asked.{asked}
 use Rattle.aggregate.proofs.HonestAnswers.{honest_answer-absent}
 use Rattle.aggregate.proofs.Horner.{Splits, splits_end, splits_more, from_more, honest_answer-sum}

@@ -1,5 +1,5 @@
 use Rattle.std.proofs.Common.{◌≡◌, ◌<◌, ◌≤◌, ℕ, true, is_some, unwrap_or}
-use Rattle.hail_columns.specs.Challenges.{held_symbol, picked_row}
+use Rattle.column_defs.specs.Challenges.{held_symbol, picked_row}
 use Rattle.challenge.specs.Asked.{asked}
 use Rattle.aggregate.proofs.Horner.{Splits}
 use Rattle.aggregate.proofs.answers.answer_drawn.Given as goal

@@ -1,6 +1,6 @@
 use Rattle.std.proofs.Common.{◌≡◌, ◌-◌, ℕ, ap, sym, subst, ◌∙◌, arith, suc}
 use Rattle.hail_field.specs.Nim.{nim_add, nim_mul}
-use Rattle.hail_columns.specs.Keys.{mask_of}
+use Rattle.column_defs.specs.Keys.{mask_of}
 use Rattle.challenge.specs.Asked.{asked}
 use Rattle.aggregate.proofs.Horner.{Splits, splits_end, splits_more, splits_start}
 use Rattle.aggregate.proofs.masks.mask_sum_drawn.Goals as goal

@@ -1,4 +1,4 @@
-use Rattle.hail_columns.specs.Keys.{mask_of}
+use Rattle.column_defs.specs.Keys.{mask_of}
 use Rattle.challenge.specs.Asked.{asked}
 use Rattle.aggregate.proofs.Horner.{Splits}
 use Rattle.aggregate.proofs.masks.mask_sum_drawn.Given as goal

@@ -1,6 +1,6 @@
 use Rattle.std.proofs.Common.{◌∙◌, ap, arith, ℕ, None, get_or}
 use Rattle.std.proofs.lemmas.List.{get_or_default}
-use Rattle.hail_columns.specs.Challenges.{bare_answer}
+use Rattle.column_defs.specs.Challenges.{bare_answer}
 use Rattle.file_layout.specs.Files.{shaped_object}
 use Rattle.challenge.specs.Asked.{asked}
 use Rattle.audit_verdict.proofs.Places.{put_more, bare_answers-each}

@@ -1,5 +1,5 @@
 use Rattle.std.proofs.Common.{◌≡◌, ◌<◌, ℕ, get_or}
-use Rattle.hail_columns.specs.Objects.{point}
+use Rattle.column_defs.specs.Objects.{point}
 use Rattle.file_layout.specs.Files.{shaped_object}
 use Rattle.audit_verdict.proofs.answers.points_into.Given as goal
 

@@ -1,5 +1,5 @@
 use Rattle.std.proofs.Common.{arith}
-use Rattle.hail_codes.proofs.Profiles.{size_is, some_kept, size-bound}
+use Rattle.code_defs.proofs.Profiles.{size_is, some_kept, size-bound}
 use Rattle.audit_verdict.proofs.answers.round_challenge.Goals as goal
 
 pub invariant_of-result : goal.invariant_of-result

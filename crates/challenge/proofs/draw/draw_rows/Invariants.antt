@@ -1,5 +1,5 @@
 use Rattle.std.proofs.Common.{◌≡◌, ◌<◌, ◌*◌, ℕ, get_or, length}
-use Rattle.hail_columns.specs.Generator.{moved_on}
+use Rattle.column_defs.specs.Generator.{moved_on}
 use Rattle.challenge.specs.Rows.{next_rows}
 use Rattle.challenge.proofs.draw.draw_rows.Given as goal
 

@@ -1,4 +1,4 @@
-use Rattle.hail_codes.proofs.Generators.{kept_multiplier}
+use Rattle.code_defs.proofs.Generators.{kept_multiplier}
 use Rattle.code_points.proofs.Steps.{keep_below}
 use Rattle.code_points.proofs.generator.kept_multiplier.Goals as goal
 

@@ -1,5 +1,5 @@
 use Rattle.std.proofs.Common.{◌≡◌, ◌<◌, ℕ, get_or}
-use Rattle.hail_codes.proofs.Generators.{coefficient}
+use Rattle.code_defs.proofs.Generators.{coefficient}
 use Rattle.code_points.proofs.generator.parity_row.Given as goal
 
 abbrev pub invariant-loop-k : goal.invariant-loop-k

@@ -1,5 +1,5 @@
 use Rattle.std.proofs.Common.{ℕ, ◌∙◌, arith}
-use Rattle.hail_columns.specs.Keys.{point_of}
+use Rattle.column_defs.specs.Keys.{point_of}
 use Rattle.column_codec.proofs.Places.{each_more}
 use Rattle.column_codec.proofs.keys.points.Goals as goal
 

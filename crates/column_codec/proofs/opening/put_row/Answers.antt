@@ -1,5 +1,5 @@
 use Rattle.std.proofs.Common.{◌∙◌, ℕ, arith}
-use Rattle.hail_codes.specs.Polynomials.{value}
+use Rattle.code_defs.specs.Polynomials.{value}
 use Rattle.column_codec.proofs.Places.{index_within}
 use Rattle.column_codec.proofs.OpenLemmas.{put_here, put_others}
 use Rattle.column_codec.proofs.opening.put_row.Goals as goal

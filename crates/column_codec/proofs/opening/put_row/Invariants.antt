@@ -1,5 +1,5 @@
 use Rattle.std.proofs.Common.{◌≡◌, ◌≢◌, ◌<◌, ◌+◌, ◌*◌, ◌%◌, ℕ, get_or}
-use Rattle.hail_codes.specs.Polynomials.{value}
+use Rattle.code_defs.specs.Polynomials.{value}
 use Rattle.column_codec.proofs.opening.put_row.Given as goal
 
 -- the blocks before this one have their value, and the other places are as they were

@@ -1,6 +1,6 @@
 use Rattle.std.proofs.Common.{◌≡◌, ℕ, take, map}
-use Rattle.hail_codes.specs.Points.{upto}
-use Rattle.hail_columns.specs.Opened.{symbol_in}
+use Rattle.code_defs.specs.Points.{upto}
+use Rattle.column_defs.specs.Opened.{symbol_in}
 use Rattle.column_codec.specs.OpenedBlocks.{opened_at}
 use Rattle.column_codec.proofs.opening.seen_row.Given as goal
 

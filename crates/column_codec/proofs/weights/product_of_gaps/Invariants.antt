@@ -1,6 +1,6 @@
 use Rattle.std.proofs.Common.{◌≡◌, ◌-◌}
 use Rattle.std.specs.List.{range_with_len}
-use Rattle.hail_codes.specs.Points.{others_product}
+use Rattle.code_defs.specs.Points.{others_product}
 use Rattle.column_codec.proofs.weights.product_of_gaps.Given as goal
 
 -- the points from this one on are factors

@@ -1,7 +1,7 @@
 use Rattle.std.specs.Prelude.{[], ◌∷◌}
 use Rattle.std.proofs.Common.{refl}
-use Rattle.hail_columns.specs.Objects.{symbols_in}
-use Rattle.hail_columns.specs.Columns.{row_polynomial}
+use Rattle.column_defs.specs.Objects.{symbols_in}
+use Rattle.column_defs.specs.Columns.{row_polynomial}
 use Rattle.column_laws.specs.Example.{example, three_seen, three_opened}
 use Rattle.column_laws.proofs.OtherRows.{forgery-of_other}
 use Rattle.column_laws.proofs.Worked.{three-open, example-shape, three-accepted, rows-differ, row-in}

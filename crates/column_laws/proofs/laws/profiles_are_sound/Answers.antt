@@ -1,6 +1,6 @@
-use Rattle.hail_codes.specs.Profiles.{profile_of}
-use Rattle.hail_codes.proofs.Points.{Apart-range}
-use Rattle.hail_codes.proofs.Profiles.{size_is}
+use Rattle.code_defs.specs.Profiles.{profile_of}
+use Rattle.code_defs.proofs.Points.{Apart-range}
+use Rattle.code_defs.proofs.Profiles.{size_is}
 use Rattle.column_laws.proofs.laws.profiles_are_sound.Goals as goal
 
 pub returns-clause-size : goal.returns-clause-size

@@ -1,5 +1,5 @@
 use Rattle.std.proofs.Common.{◌<◌, ◌≤◌, ap, arith}
-use Rattle.hail_commands.specs.Opens.{setup_in_effect}
+use Rattle.command_defs.specs.Opens.{setup_in_effect}
 use Rattle.record_codec.specs.declared.setup.Setup.{Setup}
 use Rattle.command_jobs.specs.Opened.{IsUnopened, unopened_of}
 use Rattle.command_jobs.proofs.Readings.{fault-seen, reads-resynced, told-by}

@@ -1,6 +1,6 @@
 use Rattle.std.proofs.Common.{◌+◌, length, ◌∙◌, arith}
 use Rattle.std.proofs.lemmas.List.{length-map}
-use Rattle.hail_machine.specs.Runs.{now}
+use Rattle.machine_defs.specs.Runs.{now}
 use Rattle.provider_model.specs.Seen.{provider_seen}
 use Rattle.command_jobs.proofs.Fresh.{stands-enough}
 use Rattle.command_jobs.proofs.Goings.{steps-turn, one-more, at-end, never-stops}

@@ -1,7 +1,7 @@
 use Rattle.std.proofs.Common.{◌≡◌, ℕ}
 use Rattle.std.specs.Prelude.{is_some}
-use Rattle.hail_machine.specs.Jobs.{Kind}
-use Rattle.hail_machine.specs.States.{State}
+use Rattle.machine_defs.specs.Jobs.{Kind}
+use Rattle.machine_defs.specs.States.{State}
 use Rattle.vault.specs.Devices.{devices_seen}
 use Rattle.vault.specs.Seen.{left_of}
 use Rattle.vault.specs.Stands.{Stands}

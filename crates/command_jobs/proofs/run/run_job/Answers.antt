@@ -1,8 +1,8 @@
 use Rattle.std.proofs.Common.{◌≡◌, ◌≤◌, List, length, map, sym, ◌∙◌, arith}
 use Rattle.std.proofs.lemmas.List.{length-map}
-use Rattle.hail_commands.specs.Opens.{setup_in_effect}
+use Rattle.command_defs.specs.Opens.{setup_in_effect}
 use Rattle.provider_model.specs.Seen.{provider_seen}
-use Rattle.hail_records.specs.Records.{Record}
+use Rattle.record_defs.specs.Records.{Record}
 use Rattle.command_jobs.specs.Opened.{IsFreshOver}
 use Rattle.command_jobs.specs.Kinds.{kind_of}
 use Rattle.command_jobs.specs.Ends.{IsRefusedOver}

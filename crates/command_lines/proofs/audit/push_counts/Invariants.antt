@@ -1,5 +1,5 @@
 use Rattle.std.proofs.Common.{◌≡◌, ◌++◌, take}
-use Rattle.hail_commands.specs.Lines.{count_lines}
+use Rattle.command_defs.specs.Lines.{count_lines}
 use Rattle.command_lines.proofs.audit.push_counts.Given as goal
 
 abbrev pub invariant-loop-place : goal.invariant-loop-place

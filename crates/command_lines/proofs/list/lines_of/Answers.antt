@@ -1,6 +1,6 @@
 use Rattle.std.proofs.Common.{◌++◌, List, ℕ, sym, ap, ◌∙◌, arith}
-use Rattle.plain_facts.proofs.Lists.{get_within}
-use Rattle.hail_machine.specs.Lines.{line, then_number}
+use Rattle.plain_laws.proofs.Lists.{get_within}
+use Rattle.machine_defs.specs.Lines.{line, then_number}
 use Rattle.vault_table.specs.Values.{file_of_entry}
 use Rattle.command_lines.proofs.ListSteps.{listed_more}
 use Rattle.command_lines.proofs.list.lines_of.Goals as goal

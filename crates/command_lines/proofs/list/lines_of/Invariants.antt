@@ -1,5 +1,5 @@
 use Rattle.std.proofs.Common.{◌≡◌, take}
-use Rattle.hail_commands.specs.Lines.{list_lines}
+use Rattle.command_defs.specs.Lines.{list_lines}
 use Rattle.command_lines.proofs.list.lines_of.Given as goal
 
 abbrev pub invariant-loop-place : goal.invariant-loop-place

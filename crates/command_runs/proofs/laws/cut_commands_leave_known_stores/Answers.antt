@@ -1,5 +1,5 @@
 use Rattle.std.proofs.Common.{refl, inl, inr, false, arith}
-use Rattle.hail_commands.specs.Forms.{PutUnder, DropOf}
+use Rattle.command_defs.specs.Forms.{PutUnder, DropOf}
 use Rattle.command_runs.specs.Devices.{named, four_records, byte_records, byte_audited_records, to_put, put_failed, put_cut, put_torn, put_gone, byte_kept, drop_cut, damaged, audit_cut, answers_heard, due, repair_cut, ends_hearing}
 use Rattle.damage_run.specs.Points.{counts}
 use Rattle.damage_run.specs.Schedule.{byte}

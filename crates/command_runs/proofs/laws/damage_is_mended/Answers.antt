@@ -1,5 +1,5 @@
 use Rattle.std.proofs.Common.{refl, inl, arith}
-use Rattle.hail_columns.specs.Verdicts.{is_flagged}
+use Rattle.column_defs.specs.Verdicts.{is_flagged}
 use Rattle.std.specs.Prelude.{not}
 use Rattle.command_runs.specs.Devices.{named, four_records, byte_records, byte_audited_records, to_put, byte_stored, damaged, byte_audited, due, repaired, mended, got, byte_kept, dropped, seen_after_drop, answers_heard, own_blocks_heard, ends_hearing}
 use Rattle.damage_run.specs.Points.{counts}

@@ -1,8 +1,8 @@
 use Rattle.std.proofs.Common.{refl, inl, inr, false, arith}
-use Rattle.hail_machine.specs.Jobs.{PutJob, AuditJob}
-use Rattle.hail_commands.specs.Forms.{PutUnder, AuditAll}
-use Rattle.hail_commands.specs.Puts.{put_records}
-use Rattle.hail_commands.specs.Audits.{audit_records}
+use Rattle.machine_defs.specs.Jobs.{PutJob, AuditJob}
+use Rattle.command_defs.specs.Forms.{PutUnder, AuditAll}
+use Rattle.command_defs.specs.Puts.{put_records}
+use Rattle.command_defs.specs.Audits.{audit_records}
 use Rattle.command_runs.specs.Devices.{named, four_records, byte_records, both_records, byte_audited_records, to_put, byte_stored, to_put_other, stored_other, damaged, byte_audited, answers_heard, due, repaired, ends_hearing}
 use Rattle.damage_run.specs.Points.{counts}
 use Rattle.damage_run.specs.Schedule.{byte}

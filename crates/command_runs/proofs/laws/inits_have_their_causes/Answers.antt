@@ -1,6 +1,6 @@
 use Rattle.std.proofs.Common.{[], refl}
 use Rattle.std.specs.Prelude.{replicate}
-use Rattle.hail_devices.specs.Cells.{firm}
+use Rattle.device_defs.specs.Cells.{firm}
 use Rattle.command_runs.specs.Devices.{with_source, good_numbers, bad_numbers, byte_kept, scrambled}
 use Rattle.command_laws.specs.Instances.{key_text, ends}
 use Rattle.command_runs.proofs.Refusals.{init-bad-setup, init-bad-key, init-bad-journal}

@@ -1,6 +1,6 @@
 use Rattle.std.proofs.Common.{[]}
-use Rattle.hail_machine.specs.Jobs.{PutJob, GetJob, DropJob, AuditJob, RepairJob, UpgradeJob}
-use Rattle.hail_machine.specs.Answers.{Put, Got, Dropped, Audited, Repaired, Upgraded, Lost, ProviderFault, DiskFault, Memory}
+use Rattle.machine_defs.specs.Jobs.{PutJob, GetJob, DropJob, AuditJob, RepairJob, UpgradeJob}
+use Rattle.machine_defs.specs.Answers.{Put, Got, Dropped, Audited, Repaired, Upgraded, Lost, ProviderFault, DiskFault, Memory}
 use Rattle.command_runs.specs.Devices.{named, four_records, byte_records, byte_audited_records, byte_repaired_records, to_put, byte_stored, put_failed, put_cut, put_unmade, byte_kept, dropped, mended, got, own_blocks_heard, all_lost, found_lost, no_blocks, damaged, byte_audited, answers_heard, due, repaired, due_lost, repair_lost, repair_failed, all_hidden}
 use Rattle.damage_run.specs.Points.{counts}
 use Rattle.damage_run.specs.Schedule.{byte}

@@ -1,10 +1,10 @@
 use Rattle.std.proofs.Common.{[], ◌∷◌, Some, None, refl, arith}
 use Rattle.std.specs.Prelude.{replicate}
-use Rattle.hail_devices.specs.Cells.{firm}
-use Rattle.hail_commands.specs.Line.{no_row_line}
-use Rattle.hail_machine.specs.Jobs.{AuditJob, RepairJob}
-use Rattle.hail_machine.specs.Refusals as refusal
-use Rattle.hail_commands.specs.Forms.{PutUnder, ListAll}
+use Rattle.device_defs.specs.Cells.{firm}
+use Rattle.command_defs.specs.Line.{no_row_line}
+use Rattle.machine_defs.specs.Jobs.{AuditJob, RepairJob}
+use Rattle.machine_defs.specs.Refusals as refusal
+use Rattle.command_defs.specs.Forms.{PutUnder, ListAll}
 use Rattle.command_laws.proofs.Samples.{never-rises}
 use Rattle.command_runs.specs.Devices.{named, byte_records, byte_audited_records, to_put, put_failed, byte_kept, due, disk_failed, scrambled, all_hidden, hidden_fetched, no_blocks, ends_hearing}
 use Rattle.command_laws.specs.Instances.{with_sink, other_name, ends}

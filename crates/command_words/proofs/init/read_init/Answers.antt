@@ -1,5 +1,5 @@
 use Rattle.std.proofs.Common.{ℕ, List, sym, subst}
-use Rattle.hail_commands.specs.Words.{IsNumberWord}
+use Rattle.command_defs.specs.Words.{IsNumberWord}
 use Rattle.command_words.proofs.InitWords.{last_numbers}
 use Rattle.command_words.proofs.init.read_init.Goals as goal
 

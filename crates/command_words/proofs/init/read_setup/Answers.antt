@@ -1,5 +1,5 @@
 use Rattle.std.proofs.Common.{[], sym, ◌∙◌, ap}
-use Rattle.hail_records.specs.Records.{Setup, is_setup}
+use Rattle.record_defs.specs.Records.{Setup, is_setup}
 use Rattle.command_words.proofs.init.read_setup.Goals as goal
 
 pub returns-then-check-clause-found : goal.returns-then-check-clause-found

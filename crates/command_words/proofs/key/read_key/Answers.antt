@@ -1,6 +1,6 @@
 use Rattle.std.proofs.Common.{List, ℕ, subst, sym}
 use Rattle.key_schedule.specs.declared.master.Master.{Master}
-use Rattle.hail_commands.specs.Keys.{IsLineEnd}
+use Rattle.command_defs.specs.Keys.{IsLineEnd}
 use Rattle.command_words.proofs.Keys.{line_end-IsKeyForm, key_read}
 use Rattle.command_words.proofs.key.read_key.Goals as goal
 

@@ -1,8 +1,8 @@
 use Rattle.std.proofs.Common.{ℕ, List, subst, sym, ◌∙◌, arith, drop, length-drop}
 use Rattle.std.proofs.lemmas.List.{take_all}
 use Rattle.std.proofs.lemmas.Option.{MatchOption-at_some}
-use Rattle.hail_commands.specs.Words.{IsNumberWord, AreSymbolWords}
-use Rattle.hail_commands.specs.Words.{AreSymbolWords}
+use Rattle.command_defs.specs.Words.{IsNumberWord, AreSymbolWords}
+use Rattle.command_defs.specs.Words.{AreSymbolWords}
 use Rattle.command_words.proofs.RowWords.{Word, IsRowForm-from_parts, same_from_ne}
 use Rattle.command_words.proofs.row.read_row.Goals as goal
 

@@ -1,6 +1,6 @@
 use Rattle.std.proofs.Common.{ℕ, List, ◌∷◌, ◌++◌, [], sym, subst, take, ◌∙◌, ap}
 use Rattle.std.proofs.lemmas.List.{take_more}
-use Rattle.hail_commands.specs.Words.{IsSymbolWord}
+use Rattle.command_defs.specs.Words.{IsSymbolWord}
 use Rattle.command_words.proofs.RowWords.{Word, AreSymbolWords-push, AreSymbolWords-at}
 use Rattle.command_words.proofs.row.read_symbols.Goals as goal
 

@@ -1,5 +1,5 @@
 use Rattle.std.proofs.Common.{take}
-use Rattle.hail_commands.specs.Words.{AreSymbolWords}
+use Rattle.command_defs.specs.Words.{AreSymbolWords}
 use Rattle.command_words.proofs.row.read_symbols.Given as goal
 
 -- the words so far spell the symbols so far

@@ -1,4 +1,4 @@
-use Rattle.hail_machine.specs.Examples.{set_up}
+use Rattle.machine_defs.specs.Examples.{set_up}
 use Rattle.headline.proofs.Parts.{headline}
 use Rattle.damage_run.proofs.Run.{moments}
 use Rattle.damage_run.proofs.CalmRun.{outright}

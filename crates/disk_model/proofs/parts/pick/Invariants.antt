@@ -1,6 +1,6 @@
 use Rattle.std.proofs.Common.{◌≡◌, ◌≤◌, ◌++◌, length, take, drop}
 use Rattle.std.specs.List.{zip}
-use Rattle.hail_devices.specs.Picks.{picked}
+use Rattle.device_defs.specs.Picks.{picked}
 use Rattle.disk_model.proofs.parts.pick.Given as goal
 
 abbrev pub invariant-loop-i : goal.invariant-loop-i

@@ -1,6 +1,6 @@
 use Rattle.std.proofs.Common.{◌≡◌, ◌+◌, ◌-◌, ◌∙◌, Bool, true, List, min, length, replicate, ap, arith}
 use Rattle.std.proofs.lemmas.List.{take_at}
-use Rattle.hail_devices.specs.Disks.{spliced}
+use Rattle.device_defs.specs.Disks.{spliced}
 use Rattle.disk_model.proofs.Tears.{tear_is}
 use Rattle.disk_model.proofs.parts.tear.Goals as goal
 

@@ -1,7 +1,7 @@
 use Rattle.std.proofs.Common.{◌≡◌, ◌-◌, ◌∙◌, ap, sym, List, ℕ, length, take, arith}
 use Rattle.std.proofs.lemmas.List.{length-take}
 use Rattle.field_laws.proofs.Apart.{Apart-take}
-use Rattle.hail_codes.specs.DispersalCode.{Accepts, IsOnlyAccepted}
+use Rattle.code_defs.specs.DispersalCode.{Accepts, IsOnlyAccepted}
 use Rattle.hail_poly.specs.Registers.{Registers}
 use Rattle.dispersal_code.specs.Present.{Chosen, present_points, present_symbols}
 use Rattle.dispersal_code.proofs.Erasures.{length-present, present-le, Apart-present, few_present, first_accepts, none_opens, some_opens}

@@ -1,5 +1,5 @@
 use Rattle.std.proofs.Common.{refl}
-use Rattle.hail_machine.specs.Examples.{set_up}
+use Rattle.machine_defs.specs.Examples.{set_up}
 use Rattle.upgrade_run.proofs.Run.{moments, outright}
 use Rattle.fault_run.proofs.Mended.{scrub_calm, mark_is}
 use Rattle.fault_run.proofs.laws.a_finished_scrub_is_a_mark.Goals as goal

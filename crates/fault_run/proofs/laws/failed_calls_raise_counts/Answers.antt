@@ -1,4 +1,4 @@
-use Rattle.hail_machine.specs.Failures.{OfDisk, OfStores, OfOthers}
+use Rattle.machine_defs.specs.Failures.{OfDisk, OfStores, OfOthers}
 use Rattle.fault_run.proofs.Parts.{counted}
 use Rattle.fault_run.proofs.laws.failed_calls_raise_counts.Goals as goal
 

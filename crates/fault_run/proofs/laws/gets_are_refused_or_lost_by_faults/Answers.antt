@@ -1,7 +1,7 @@
 use Rattle.std.proofs.Common.{None, refl, inl, inr}
-use Rattle.hail_machine.specs.Refusals as refusal
-use Rattle.hail_machine.specs.Runs.{first_moments}
-use Rattle.hail_machine.specs.Examples.{set_up}
+use Rattle.machine_defs.specs.Refusals as refusal
+use Rattle.machine_defs.specs.Runs.{first_moments}
+use Rattle.machine_defs.specs.Examples.{set_up}
 use Rattle.damage_run.specs.Schedule.{name, byte}
 use Rattle.fault_run.proofs.Parts.{run_to}
 use Rattle.fault_run.proofs.LostGets.{lost_by, marked_to}

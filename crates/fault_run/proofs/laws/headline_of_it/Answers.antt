@@ -1,5 +1,5 @@
-use Rattle.hail_machine.specs.Scrubs.{scrubbed}
-use Rattle.hail_machine.specs.Examples.{set_up}
+use Rattle.machine_defs.specs.Scrubs.{scrubbed}
+use Rattle.machine_defs.specs.Examples.{set_up}
 use Rattle.fault_run.proofs.laws.headline_of_it.Goals as goal
 
 pub returns-clause-headline : goal.returns-clause-headline

@@ -1,5 +1,5 @@
-use Rattle.hail_machine.specs.Runs.{first_moments}
-use Rattle.hail_machine.specs.Examples.{set_up}
+use Rattle.machine_defs.specs.Runs.{first_moments}
+use Rattle.machine_defs.specs.Examples.{set_up}
 use Rattle.run_laws.proofs.FirstHalf.{first_run}
 use Rattle.damage_run.specs.Points.{counts}
 use Rattle.fault_run.proofs.laws.numbers_are_drawn_once.Goals as goal

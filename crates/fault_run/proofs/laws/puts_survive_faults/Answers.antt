@@ -1,8 +1,8 @@
 use Rattle.std.proofs.Common.{sym, subst}
-use Rattle.hail_records.specs.Table.{file_as}
-use Rattle.hail_machine.specs.Runs.{IsRun, now, first_moments}
-use Rattle.hail_machine.specs.Survival.{IsKept}
-use Rattle.hail_machine.specs.Examples.{set_up}
+use Rattle.record_defs.specs.Table.{file_as}
+use Rattle.machine_defs.specs.Runs.{IsRun, now, first_moments}
+use Rattle.machine_defs.specs.Survival.{IsKept}
+use Rattle.machine_defs.specs.Examples.{set_up}
 use Rattle.run_laws.proofs.FirstHalf.{first_run}
 use Rattle.damage_run.specs.Schedule.{name}
 use Rattle.fault_run.proofs.Parts.{run_to}

@@ -1,8 +1,8 @@
 use Rattle.std.proofs.Common.{◌≡◌, sym, subst}
-use Rattle.hail_machine.specs.Heard.{heard_in, heard_by, given_to}
+use Rattle.machine_defs.specs.Heard.{heard_in, heard_by, given_to}
 use Rattle.std.proofs.Common.{Some}
-use Rattle.hail_machine.specs.Runs.{IsRun}
-use Rattle.hail_machine.specs.Examples.{set_up}
+use Rattle.machine_defs.specs.Runs.{IsRun}
+use Rattle.machine_defs.specs.Examples.{set_up}
 use Rattle.run_laws.proofs.FirstHalf.{first_run}
 use Rattle.fault_run.proofs.laws.reports_have_it.Goals as goal
 

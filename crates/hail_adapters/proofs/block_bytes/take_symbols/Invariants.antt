@@ -1,5 +1,5 @@
 use Rattle.std.proofs.Common.{◌≡◌, ◌*◌, take}
-use Rattle.hail_columns.specs.Objects.{bytes_of_symbols}
+use Rattle.column_defs.specs.Objects.{bytes_of_symbols}
 use Rattle.hail_adapters.proofs.block_bytes.take_symbols.Given as goal
 
 abbrev pub invariant-loop-k : goal.invariant-loop-k

@@ -1,6 +1,6 @@
 use Rattle.std.proofs.Common.{◌≡◌, ◌∙◌, sym, refl, arith, get_or}
 use Rattle.std.proofs.lemmas.List.{get_or_read, get_or-set_other}
-use Rattle.hail_codes.proofs.Codewords.{differences-same}
+use Rattle.code_defs.proofs.Codewords.{differences-same}
 use Rattle.hail_bench.proofs.Spoiling.{error_changes, spoil_more}
 use Rattle.hail_bench.proofs.decode.spoil.Goals as goal
 

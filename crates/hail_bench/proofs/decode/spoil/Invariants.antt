@@ -1,5 +1,5 @@
 use Rattle.std.proofs.Common.{◌≡◌, ◌≤◌, ℕ, get_or}
-use Rattle.hail_codes.specs.ServerCode.{differences}
+use Rattle.code_defs.specs.ServerCode.{differences}
 use Rattle.hail_bench.proofs.decode.spoil.Given as goal
 
 abbrev pub invariant-loop-place : goal.invariant-loop-place

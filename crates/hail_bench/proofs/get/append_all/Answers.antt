@@ -1,9 +1,9 @@
 use Rattle.std.proofs.Common.{◌≡◌, ◌≤◌, ◌+◌, ◌*◌, ◌/◌, ◌%◌, ◌∙◌, ℕ, List, sym, subst, arith}
-use Rattle.hail_columns.specs.Objects.{stripes}
-use Rattle.hail_columns.specs.Columns.{columns}
+use Rattle.column_defs.specs.Objects.{stripes}
+use Rattle.column_defs.specs.Columns.{columns}
 use Rattle.file_layout.specs.Files.{shaped_object}
 use Rattle.hail_bench.specs.Stripes.{HoldsNear}
-use Rattle.hail_codes.specs.ServerCode.{differences}
+use Rattle.code_defs.specs.ServerCode.{differences}
 use Rattle.hail_bench.proofs.StripeLemmas.{holds-none, holds-more}
 use Rattle.hail_bench.proofs.get.append_all.Goals as goal
 

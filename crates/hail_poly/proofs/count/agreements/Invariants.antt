@@ -1,5 +1,5 @@
 use Rattle.std.proofs.Common.{◌≡◌, ◌≤◌, ◌+◌, drop, map, Some}
-use Rattle.hail_codes.specs.Polynomials.{agree}
+use Rattle.code_defs.specs.Polynomials.{agree}
 use Rattle.hail_poly.specs.Decoding.{matches}
 use Rattle.hail_poly.proofs.count.agreements.Given as goal
 

@@ -1,5 +1,5 @@
 use Rattle.std.proofs.Common.{◌≡◌, ◌≤◌, take}
-use Rattle.hail_codes.specs.Polynomials.{trim}
+use Rattle.code_defs.specs.Polynomials.{trim}
 use Rattle.hail_poly.specs.Rows.{Reduces}
 use Rattle.hail_poly.proofs.euclid.reduce.Given as goal
 

@@ -1,5 +1,5 @@
 use Rattle.std.proofs.Common.{◌≡◌, ◌+◌, ◌-◌, drop, take}
-use Rattle.hail_codes.specs.Polynomials.{vanish, interpolate}
+use Rattle.code_defs.specs.Polynomials.{vanish, interpolate}
 use Rattle.hail_poly.proofs.load.interpolate_into.Given as goal
 
 abbrev pub invariant-loop-done : goal.invariant-loop-done

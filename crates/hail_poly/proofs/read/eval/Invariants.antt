@@ -1,5 +1,5 @@
 use Rattle.std.proofs.Common.{◌≡◌, drop}
-use Rattle.hail_codes.specs.Polynomials.{value}
+use Rattle.code_defs.specs.Polynomials.{value}
 use Rattle.hail_poly.proofs.read.eval.Given as goal
 
 abbrev pub invariant-loop-k : goal.invariant-loop-k

@@ -1,5 +1,5 @@
 use Rattle.std.proofs.Common.{◌≡◌, ◌≤◌, take, length}
-use Rattle.hail_codes.specs.Polynomials.{trim}
+use Rattle.code_defs.specs.Polynomials.{trim}
 use Rattle.hail_poly.proofs.read.used.Given as goal
 
 abbrev pub invariant-loop-count : goal.invariant-loop-count

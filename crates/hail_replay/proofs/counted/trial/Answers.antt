@@ -1,5 +1,5 @@
 use Rattle.std.proofs.Common.{List, inr, refl, sym, subst}
-use Rattle.hail_machine.specs.Heard.{Entry}
+use Rattle.machine_defs.specs.Heard.{Entry}
 use Rattle.trial_maker.specs.Trials.{trial_commands}
 use Rattle.hail_replay.specs.Starts.{devices_of}
 use Rattle.hail_replay.specs.Trials.{RunsTo}

@@ -1,6 +1,6 @@
 use Rattle.std.proofs.Common.{List, ◌++◌, ap, subst, ◌∙◌}
-use Rattle.hail_machine.specs.Events.{Outcome}
-use Rattle.hail_machine.specs.Heard.{Entry}
+use Rattle.machine_defs.specs.Events.{Outcome}
+use Rattle.machine_defs.specs.Heard.{Entry}
 use Rattle.schedule_text.specs.Events.{event_command}
 use Rattle.trial_counts.specs.Seen.{SeesOne}
 use Rattle.hail_replay.specs.Heard.{entries_heard}

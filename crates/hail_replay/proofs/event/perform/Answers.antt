@@ -1,10 +1,10 @@
 use Rattle.std.proofs.Common.{Some, map, refl, ap₂, arith}
 use Rattle.std.specs.Prelude.{IsSome}
 use Rattle.std.proofs.lemmas.List.{length-map}
-use Rattle.hail_devices.specs.Providers.{HasPlace, with_symbol, without_block}
-use Rattle.hail_devices.proofs.Lasting.{is_some-goes}
-use Rattle.hail_machine.specs.Events.{Init, Alter, Lose, Stop, Reopen}
-use Rattle.hail_machine.specs.Jobs.{PutJob, GetJob, DropJob, AuditJob, RepairJob}
+use Rattle.device_defs.specs.Providers.{HasPlace, with_symbol, without_block}
+use Rattle.device_defs.proofs.Lasting.{is_some-goes}
+use Rattle.machine_defs.specs.Events.{Init, Alter, Lose, Stop, Reopen}
+use Rattle.machine_defs.specs.Jobs.{PutJob, GetJob, DropJob, AuditJob, RepairJob}
 use Rattle.record_codec.specs.Entries.{with_master}
 use Rattle.vault_open.specs.Devices.{devices}
 use Rattle.provider_model.specs.Seen.{provider_seen}

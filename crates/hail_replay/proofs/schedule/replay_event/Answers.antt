@@ -1,6 +1,6 @@
 use Rattle.std.proofs.Common.{ap, ◌++◌, List, ◌∙◌}
-use Rattle.hail_machine.specs.Heard.{Entry}
-use Rattle.hail_machine.specs.Lines.{lines_of}
+use Rattle.machine_defs.specs.Heard.{Entry}
+use Rattle.machine_defs.specs.Lines.{lines_of}
 use Rattle.schedule_text.specs.Events.{event_command}
 use Rattle.hail_replay.specs.Heard.{entries_heard}
 use Rattle.hail_replay.proofs.Course.{done-on}

@@ -1,7 +1,7 @@
 use Rattle.std.proofs.Common.{◌≡◌, ◌≢◌, take, arith, ◌∙◌, sym, refl}
 use Rattle.std.proofs.lemmas.List.{get_or_read}
 use Rattle.hail_field.specs.Nim.{nim}
-use Rattle.hail_codes.specs.Polynomials.{value}
+use Rattle.code_defs.specs.Polynomials.{value}
 use Rattle.hail_syndrome.specs.Sound.{sound_points, sound_values}
 use Rattle.hail_syndrome.proofs.GatherSteps.{point_kept, value_kept, point_passed, value_passed, points_end, values_end}
 use Rattle.hail_syndrome.proofs.gather.gather.Goals as goal

@@ -1,6 +1,6 @@
 use Rattle.std.proofs.Common.{◌≡◌, sym, ◌∙◌, arith}
 use Rattle.std.proofs.lemmas.Grind.{common_steps}
-use Rattle.hail_codes.proofs.Lagrange.{others_product-not_zero}
+use Rattle.code_defs.proofs.Lagrange.{others_product-not_zero}
 use Rattle.hail_syndrome.proofs.multipliers.inverse_of_others.Goals as goal
 
 pub unwrap-requires : goal.unwrap-requires

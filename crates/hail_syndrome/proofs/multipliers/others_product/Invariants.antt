@@ -1,5 +1,5 @@
 use Rattle.std.proofs.Common.{◌≡◌, drop}
-use Rattle.hail_codes.specs.Points.{others_product as others_product_of}
+use Rattle.code_defs.specs.Points.{others_product as others_product_of}
 use Rattle.hail_syndrome.proofs.multipliers.others_product.Given as goal
 
 abbrev pub invariant-loop-k : goal.invariant-loop-k

@@ -1,8 +1,8 @@
 use Rattle.std.proofs.Common.{List, ℕ, ap, sym, ◌∙◌}
 use Rattle.std.proofs.lemmas.List.FromFn.{length-range_with_len}
-use Rattle.hail_codes.specs.Points.{upto}
-use Rattle.hail_codes.proofs.Values.{values_at-same}
-use Rattle.hail_commands.specs.Line.{values_line}
+use Rattle.code_defs.specs.Points.{upto}
+use Rattle.code_defs.proofs.Values.{values_at-same}
+use Rattle.command_defs.specs.Line.{values_line}
 use Rattle.hail_top.proofs.PointSteps.{Apart-upto}
 use Rattle.hail_top.proofs.laws.row_has_one_line.Goals as goal
 

@@ -1,6 +1,6 @@
 use Rattle.std.proofs.Common.{Err, refl, ap, sym}
-use Rattle.hail_commands.specs.Seen.{Seen, seen}
-use Rattle.hail_commands.specs.Commands.{unstarted}
+use Rattle.command_defs.specs.Seen.{Seen, seen}
+use Rattle.command_defs.specs.Commands.{unstarted}
 use Rattle.command_jobs.specs.declared.open.Unopened.{Unopened}
 use Rattle.hail_top.proofs.Unopened.{unopened-told}
 use Rattle.hail_top.proofs.Opened.{opened-read}

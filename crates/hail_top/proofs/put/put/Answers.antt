@@ -1,7 +1,7 @@
 use Rattle.std.proofs.Common.{Err, length, map, refl, ap, sym}
 use Rattle.std.proofs.lemmas.List.{length-map}
-use Rattle.hail_commands.specs.Seen.{Seen, seen}
-use Rattle.hail_commands.specs.Commands.{unstarted}
+use Rattle.command_defs.specs.Seen.{Seen, seen}
+use Rattle.command_defs.specs.Commands.{unstarted}
 use Rattle.provider_model.specs.Seen.{provider_seen}
 use Rattle.command_jobs.specs.declared.open.Unopened.{Unopened}
 use Rattle.hail_top.proofs.Unopened.{unopened-told}

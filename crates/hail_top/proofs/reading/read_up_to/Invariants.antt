@@ -1,5 +1,5 @@
 use Rattle.std.proofs.Common.{◌≡◌, ◌-◌, ◌≤◌, min, vec_len}
-use Rattle.hail_devices.specs.Told.{then_told}
+use Rattle.device_defs.specs.Told.{then_told}
 use Rattle.hail_top.proofs.reading.read_up_to.Given as goal
 
 abbrev pub invariant-loop-piece : goal.invariant-loop-piece

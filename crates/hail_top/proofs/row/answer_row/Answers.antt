@@ -1,7 +1,7 @@
 use Rattle.std.proofs.Common.{List, ℕ, Option, subst, sym, ◌∙◌}
 use Rattle.std.proofs.lemmas.List.FromFn.{length-range_with_len}
-use Rattle.hail_codes.specs.Points.{upto}
-use Rattle.hail_commands.specs.Row.{OpensRow}
+use Rattle.code_defs.specs.Points.{upto}
+use Rattle.command_defs.specs.Row.{OpensRow}
 use Rattle.hail_top.proofs.PointSteps.{Apart-upto}
 use Rattle.hail_top.proofs.RowAnswers.{answers_held, AnswersRow-same}
 use Rattle.hail_top.proofs.row.answer_row.Goals as goal

@@ -1,5 +1,5 @@
 use Rattle.std.proofs.Common.{List, ◌++◌, ◌∷◌, ℕ, [], ap, ◌∙◌, sym}
-use Rattle.hail_codes.proofs.Points.{upto_more}
+use Rattle.code_defs.proofs.Points.{upto_more}
 use Rattle.hail_top.proofs.row.points.Goals as goal
 
 pub loop-place-preserved : goal.loop-place-preserved

@@ -1,5 +1,5 @@
 use Rattle.std.proofs.Common.{◌≡◌}
-use Rattle.hail_codes.specs.Points.{upto}
+use Rattle.code_defs.specs.Points.{upto}
 use Rattle.hail_top.proofs.row.points.Given as goal
 
 abbrev pub invariant-loop-place : goal.invariant-loop-place

@@ -1,5 +1,5 @@
 use Rattle.std.proofs.Common.{◌≡◌, [], refl, ap, arith}
-use Rattle.hail_records.specs.Records.{Setup}
+use Rattle.record_defs.specs.Records.{Setup}
 use Rattle.hail_top.proofs.SetUpReads.{too_few-told}
 use Rattle.hail_top.proofs.set_up.set_up.Goals as goal
 

@@ -1,4 +1,4 @@
-use Rattle.hail_commands.specs.Ran.{ran_from}
+use Rattle.command_defs.specs.Ran.{ran_from}
 use Rattle.job_laws.proofs.Audits.{audits-leave}
 use Rattle.job_laws.proofs.Complete.{audit-end}
 use Rattle.job_laws.proofs.files.audits_end_well.Goals as goal

@@ -1,5 +1,5 @@
-use Rattle.hail_machine.specs.Jobs.{DropJob}
-use Rattle.hail_commands.specs.Ran.{ran_from}
+use Rattle.machine_defs.specs.Jobs.{DropJob}
+use Rattle.command_defs.specs.Ran.{ran_from}
 use Rattle.job_laws.proofs.Runs.{job-ends}
 use Rattle.job_laws.proofs.Drops.{drop-leaves}
 use Rattle.job_laws.proofs.Refused.{drop-has}

@@ -1,4 +1,4 @@
-use Rattle.hail_machine.specs.Jobs.{DropJob}
+use Rattle.machine_defs.specs.Jobs.{DropJob}
 use Rattle.job_laws.proofs.Runs.{job-ends}
 use Rattle.job_laws.proofs.Drops.{drop-leaves}
 use Rattle.job_laws.proofs.Refused.{drop-has}

@@ -1,7 +1,7 @@
-use Rattle.hail_machine.specs.Jobs.{GetJob}
-use Rattle.hail_machine.specs.Answers.{Got}
-use Rattle.hail_machine.specs.States.{setup_in}
-use Rattle.hail_commands.specs.Ran.{ran_from}
+use Rattle.machine_defs.specs.Jobs.{GetJob}
+use Rattle.machine_defs.specs.Answers.{Got}
+use Rattle.machine_defs.specs.States.{setup_in}
+use Rattle.command_defs.specs.Ran.{ran_from}
 use Rattle.job_laws.proofs.Runs.{job-ends}
 use Rattle.job_laws.proofs.Gets.{all-leaves}
 use Rattle.job_laws.proofs.Complete.{shape-of, get-complete, get-right, get-forged}

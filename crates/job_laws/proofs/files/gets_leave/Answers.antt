@@ -1,4 +1,4 @@
-use Rattle.hail_machine.specs.Jobs.{GetJob}
+use Rattle.machine_defs.specs.Jobs.{GetJob}
 use Rattle.job_laws.proofs.Runs.{job-ends}
 use Rattle.job_laws.proofs.Gets.{all-leaves}
 use Rattle.job_laws.proofs.files.gets_leave.Goals as goal

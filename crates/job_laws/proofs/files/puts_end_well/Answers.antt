@@ -1,6 +1,6 @@
-use Rattle.hail_machine.specs.Jobs.{PutJob}
-use Rattle.hail_machine.specs.States.{setup_in}
-use Rattle.hail_commands.specs.Ran.{ran_from}
+use Rattle.machine_defs.specs.Jobs.{PutJob}
+use Rattle.machine_defs.specs.States.{setup_in}
+use Rattle.command_defs.specs.Ran.{ran_from}
 use Rattle.job_laws.proofs.Runs.{job-ends}
 use Rattle.job_laws.proofs.Puts.{put-leaves}
 use Rattle.job_laws.proofs.Complete.{put-end}

@@ -1,4 +1,4 @@
-use Rattle.hail_machine.specs.Jobs.{PutJob}
+use Rattle.machine_defs.specs.Jobs.{PutJob}
 use Rattle.job_laws.proofs.Runs.{job-ends}
 use Rattle.job_laws.proofs.Puts.{put-leaves}
 use Rattle.job_laws.proofs.files.puts_leave.Goals as goal

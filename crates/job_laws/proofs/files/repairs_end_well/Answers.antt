@@ -1,5 +1,5 @@
-use Rattle.hail_machine.specs.States.{setup_in}
-use Rattle.hail_commands.specs.Ran.{ran_from}
+use Rattle.machine_defs.specs.States.{setup_in}
+use Rattle.command_defs.specs.Ran.{ran_from}
 use Rattle.job_laws.proofs.Repairs.{repairs-leave}
 use Rattle.job_laws.proofs.Complete.{shape-of}
 use Rattle.job_laws.proofs.Mended.{repair-end}

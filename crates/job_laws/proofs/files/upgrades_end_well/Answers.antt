@@ -1,5 +1,5 @@
-use Rattle.hail_machine.specs.Jobs.{UpgradeJob}
-use Rattle.hail_commands.specs.Ran.{ran_from}
+use Rattle.machine_defs.specs.Jobs.{UpgradeJob}
+use Rattle.command_defs.specs.Ran.{ran_from}
 use Rattle.job_laws.proofs.Runs.{job-ends}
 use Rattle.job_laws.proofs.Upgrades.{upgrade-leaves}
 use Rattle.job_laws.proofs.Complete.{upgrade-end}

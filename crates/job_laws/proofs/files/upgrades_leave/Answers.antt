@@ -1,4 +1,4 @@
-use Rattle.hail_machine.specs.Jobs.{UpgradeJob}
+use Rattle.machine_defs.specs.Jobs.{UpgradeJob}
 use Rattle.job_laws.proofs.Runs.{job-ends}
 use Rattle.job_laws.proofs.Upgrades.{upgrade-leaves}
 use Rattle.job_laws.proofs.files.upgrades_leave.Goals as goal

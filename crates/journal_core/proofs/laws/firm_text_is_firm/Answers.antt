@@ -1,10 +1,10 @@
 use Rattle.std.proofs.Common.{suc, sym, subst, arith}
-use Rattle.hail_records.specs.Journal.{text}
-use Rattle.hail_records.specs.Areas.{A, StandsActive}
-use Rattle.hail_records.specs.Examples.{four_set_up}
-use Rattle.hail_records.proofs.AreaLaws.{old_is_active}
-use Rattle.hail_records.proofs.TwoAreas.{first-stands}
-use Rattle.hail_devices.proofs.Lasting.{reads-firm}
+use Rattle.record_defs.specs.Journal.{text}
+use Rattle.record_defs.specs.Areas.{A, StandsActive}
+use Rattle.record_defs.specs.Examples.{four_set_up}
+use Rattle.record_defs.proofs.AreaLaws.{old_is_active}
+use Rattle.record_defs.proofs.TwoAreas.{first-stands}
+use Rattle.device_defs.proofs.Lasting.{reads-firm}
 use Rattle.journal_core.proofs.FirmCells.{all-firm}
 use Rattle.journal_core.proofs.laws.firm_text_is_firm.Goals as goal
 

@@ -1,4 +1,4 @@
-use Rattle.hail_machine.specs.Begins.{new_job}
+use Rattle.machine_defs.specs.Begins.{new_job}
 use Rattle.lone_laws.proofs.Walk.{walk-begin}
 use Rattle.lone_laws.proofs.laws.begins_walk.Goals as goal
 

@@ -1,7 +1,7 @@
 use Rattle.std.proofs.Common.{◌∷◌, []}
-use Rattle.hail_columns.specs.Challenges.{honest_answer}
+use Rattle.column_defs.specs.Challenges.{honest_answer}
 use Rattle.challenge.specs.Asked.{asked}
-use Rattle.hail_wire.specs.Replies.{Found}
+use Rattle.wire_defs.specs.Replies.{Found}
 use Rattle.provider_wire.proofs.Given.{answered}
 use Rattle.provider_wire.proofs.answer.answer_ask.Goals as goal
 

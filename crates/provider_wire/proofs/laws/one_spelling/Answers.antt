@@ -1,5 +1,5 @@
 use Rattle.std.proofs.Common.{◌++◌, ◌∙◌, ℕ, List, ap, sym}
-use Rattle.hail_wire.specs.Requests.{request_bytes}
+use Rattle.wire_defs.specs.Requests.{request_bytes}
 use Rattle.provider_wire.proofs.Takes.{one_front}
 use Rattle.provider_wire.proofs.laws.one_spelling.Goals as goal
 

@@ -1,5 +1,5 @@
 use Rattle.std.proofs.Common.{◌≡◌, ℕ, ap, ◌∙◌, arith, Some, length}
-use Rattle.hail_wire.specs.Links.{Behind}
+use Rattle.wire_defs.specs.Links.{Behind}
 use Rattle.provider_wire.proofs.Received.{first_byte}
 use Rattle.provider_wire.proofs.receive.receive_kind.Goals as goal
 

@@ -1,6 +1,6 @@
 use Rattle.std.proofs.Common.{◌≡◌, ◌+◌, ◌-◌, ◌<◌, ◌≤◌, ◌++◌, ℕ, List, [], length, take, drop, true, false, sym, ap, ◌∙◌, subst, arith, length-append, length-drop}
 use Rattle.std.proofs.lemmas.List.{take_rest}
-use Rattle.hail_wire.specs.Requests.{SpellsNoRequest, is_bad_request}
+use Rattle.wire_defs.specs.Requests.{SpellsNoRequest, is_bad_request}
 use Rattle.provider_wire.proofs.Progress.{starts, nothing_spells, ended_inside_at, grown_to, write_failed, turned, turned_bad, turned_long, all_within}
 use Rattle.provider_wire.proofs.server.serve_all.Goals as goal
 

@@ -1,7 +1,7 @@
 use Rattle.std.proofs.Common.{◌≡◌, ◌+◌, ◌≤◌, ◌-◌, List, ℕ, length, take, drop, refl, ap, ◌∙◌, subst, arith, length-drop}
 use Rattle.std.proofs.lemmas.List.{take_rest}
-use Rattle.hail_devices.specs.Told.{told_then, TakesFront}
-use Rattle.hail_wire.specs.Requests.{SpellsRequest}
+use Rattle.device_defs.specs.Told.{told_then, TakesFront}
+use Rattle.wire_defs.specs.Requests.{SpellsRequest}
 use Rattle.provider_wire.specs.Asking.{request_of}
 use Rattle.provider_wire.proofs.Served.{serves_none, serves_more, serves_part, if_err}
 use Rattle.provider_wire.proofs.server.serve_front.Goals as goal

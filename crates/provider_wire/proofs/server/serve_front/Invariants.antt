@@ -1,5 +1,5 @@
 use Rattle.std.proofs.Common.{◌≤◌, ◌-◌, length, take}
-use Rattle.hail_wire.specs.Serving.{ServesAll}
+use Rattle.wire_defs.specs.Serving.{ServesAll}
 use Rattle.provider_model.specs.Seen.{provider_seen}
 use Rattle.provider_wire.proofs.server.serve_front.Given as goal
 

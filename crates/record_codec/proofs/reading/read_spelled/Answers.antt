@@ -1,6 +1,6 @@
 use Rattle.std.proofs.Common.{◌≡◌, ◌-◌, ℕ, List, length, take, ap, sym, ◌∙◌, arith, length-append}
 use Rattle.std.proofs.lemmas.List.{take_at}
-use Rattle.hail_records.specs.Spellings.{spelling}
+use Rattle.record_defs.specs.Spellings.{spelling}
 use Rattle.record_codec.specs.Entries.{entry_of}
 use Rattle.record_codec.specs.Reading.{spelled_at}
 use Rattle.record_codec.proofs.Takes.{spelled_takes, spelled_again}

@@ -1,7 +1,7 @@
 use Rattle.std.proofs.Common.{List, refl}
 use Rattle.std.specs.Prelude.{take}
-use Rattle.hail_machine.specs.Examples.{set_up}
-use Rattle.hail_machine.specs.Runs.{Moment, now, first_moments}
+use Rattle.machine_defs.specs.Examples.{set_up}
+use Rattle.machine_defs.specs.Runs.{Moment, now, first_moments}
 use Rattle.damage_run.specs.Schedule.{name}
 use Rattle.damage_run.proofs.Points.{last_of}
 use Rattle.fault_run.proofs.Points.{never_by_test}

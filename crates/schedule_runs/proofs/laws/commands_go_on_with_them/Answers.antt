@@ -1,7 +1,7 @@
 use Rattle.std.proofs.Common.{List, [], refl, sym, subst}
 use Rattle.std.specs.Prelude.{take, IsSome}
-use Rattle.hail_machine.specs.Examples.{set_up}
-use Rattle.hail_machine.specs.Runs.{Moment, now, first_moments}
+use Rattle.machine_defs.specs.Examples.{set_up}
+use Rattle.machine_defs.specs.Runs.{Moment, now, first_moments}
 use Rattle.hail_client.specs.Examples.{fresh}
 use Rattle.hail_client.specs.Start.{start_of}
 use Rattle.hail_replay.specs.Starts.{AreLeft}

@@ -1,6 +1,6 @@
 use Rattle.std.proofs.Common.{refl, arith}
-use Rattle.hail_machine.specs.Examples.{set_up}
-use Rattle.hail_machine.specs.Runs.{now}
+use Rattle.machine_defs.specs.Examples.{set_up}
+use Rattle.machine_defs.specs.Runs.{now}
 use Rattle.damage_run.proofs.Run.{moments as damage}
 use Rattle.damage_run.proofs.CalmRun.{outright}
 use Rattle.fault_run.proofs.Run.{moments as faults}

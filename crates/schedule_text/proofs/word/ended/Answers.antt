@@ -1,6 +1,6 @@
 use Rattle.std.proofs.Common.{◌≡◌, ◌<◌, ℕ, List, ◌∷◌, None, length, sym, ◌∙◌, ap, arith}
 use Rattle.std.proofs.lemmas.Bool.Decides.{nat_tests}
-use Rattle.hail_machine.specs.Transcripts.{Instruction}
+use Rattle.machine_defs.specs.Transcripts.{Instruction}
 use Rattle.schedule_text.specs.Grammar.{words}
 use Rattle.schedule_text.specs.Events.{event_command}
 use Rattle.schedule_text.specs.Reading.{only_command}

@@ -1,7 +1,7 @@
 use Rattle.std.proofs.Common.{◌≡◌, ◌<◌, ◌+◌, ℕ, length, get_or}
 use Rattle.hail_field.specs.Nim.{nim_add, nim_mul}
-use Rattle.hail_codes.specs.Polynomials.{value, vanish}
-use Rattle.hail_codes.specs.Points.{upto}
+use Rattle.code_defs.specs.Polynomials.{value, vanish}
+use Rattle.code_defs.specs.Points.{upto}
 use Rattle.server_code.proofs.behind.fill_shares.Given as goal
 
 abbrev pub invariant-loop-k : goal.invariant-loop-k

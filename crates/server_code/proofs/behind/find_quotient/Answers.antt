@@ -2,8 +2,8 @@ use Rattle.std.proofs.Common.{◌≡◌, ◌∙◌, ◌*◌, ◌+◌, sym, lengt
 use Rattle.std.specs.List.{range_with_len}
 use Rattle.std.proofs.lemmas.Bool.{OnTrue_at, OnTrue_from, OnFalse_at, OnFalse_from}
 use Rattle.std.proofs.lemmas.List.FromFn.{length-range_with_len}
-use Rattle.hail_codes.proofs.Points.{Apart-range}
-use Rattle.hail_codes.proofs.Profiles.{size_is, some_kept}
+use Rattle.code_defs.proofs.Points.{Apart-range}
+use Rattle.code_defs.proofs.Profiles.{size_is, some_kept}
 use Rattle.hail_poly.specs.Quotient.{IsQuotient, HasNoQuotient}
 use Rattle.hail_poly.proofs.Decoding.{loaded, factor_some}
 use Rattle.code_points.specs.Profile.{plain_profile}

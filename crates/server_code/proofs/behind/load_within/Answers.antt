@@ -1,7 +1,7 @@
 use Rattle.std.proofs.Common.{◌≡◌, ◌∷◌, [], ◌-◌, ◌∙◌, List, ℕ, ap, subst, length, arith}
 use Rattle.std.specs.List.{range_with_len}
 use Rattle.std.proofs.lemmas.List.FromFn.{length-range_with_len}
-use Rattle.hail_codes.specs.Polynomials.{vanish, interpolate, trim}
+use Rattle.code_defs.specs.Polynomials.{vanish, interpolate, trim}
 use Rattle.server_code.proofs.BehindSteps.{behind_apart}
 use Rattle.server_code.proofs.behind.load_within.Goals as goal
 

@@ -3,8 +3,8 @@ use Rattle.std.proofs.lemmas.List.{length-take}
 use Rattle.hail_field.specs.Nim.{nim}
 use Rattle.hail_field.proofs.AllNumbers.{nim_laws}
 use Rattle.poly_laws.proofs.Trim.{length-trim}
-use Rattle.hail_codes.specs.Polynomials.{value, vanish}
-use Rattle.hail_codes.specs.Points.{upto}
+use Rattle.code_defs.specs.Polynomials.{value, vanish}
+use Rattle.code_defs.specs.Points.{upto}
 use Rattle.hail_poly.specs.Registers.{Registers}
 use Rattle.server_code.proofs.BehindSteps.{rest_product}
 use Rattle.server_code.proofs.behind.multiply_rest_within.Goals as goal

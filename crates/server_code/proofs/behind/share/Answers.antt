@@ -1,8 +1,8 @@
 use Rattle.std.proofs.Common.{◌≡◌, ◌∙◌, ap, sym, arith}
 use Rattle.std.proofs.lemmas.Grind.{common_steps}
 use Rattle.hail_field.specs.Nim.{nim_mul}
-use Rattle.hail_codes.specs.Polynomials.{value, vanish}
-use Rattle.hail_codes.specs.Points.{upto}
+use Rattle.code_defs.specs.Polynomials.{value, vanish}
+use Rattle.code_defs.specs.Points.{upto}
 use Rattle.server_code.proofs.BehindSteps.{gaps_some, share_is}
 use Rattle.server_code.proofs.behind.share.Goals as goal
 

@@ -1,5 +1,5 @@
 use Rattle.std.proofs.Common.{◌≡◌, ◌≤◌, ◌∙◌, arith}
-use Rattle.hail_codes.specs.ServerCode.{differences}
+use Rattle.code_defs.specs.ServerCode.{differences}
 use Rattle.code_points.specs.Profile.{plain_profile}
 use Rattle.server_code.proofs.Nearness.{codeword_opens, on_some}
 use Rattle.server_code.proofs.correct.try_kept.Goals as goal

@@ -1,5 +1,5 @@
 use Rattle.std.proofs.Common.{◌≡◌, ◌<◌, ℕ, get_or, length}
-use Rattle.hail_codes.specs.Sums.{dot as dot_of}
+use Rattle.code_defs.specs.Sums.{dot as dot_of}
 use Rattle.server_code.specs.Generator.{row_at}
 use Rattle.server_code.proofs.rows.are_sums.Given as goal
 

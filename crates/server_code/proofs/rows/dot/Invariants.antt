@@ -1,5 +1,5 @@
 use Rattle.std.proofs.Common.{◌≡◌, drop}
-use Rattle.hail_codes.specs.Sums.{dot as dot_of}
+use Rattle.code_defs.specs.Sums.{dot as dot_of}
 use Rattle.server_code.proofs.rows.dot.Given as goal
 
 abbrev pub invariant-loop-k : goal.invariant-loop-k

@@ -1,5 +1,5 @@
 use Rattle.std.proofs.Common.{◌≡◌, ◌≤◌, ◌-◌, length, take}
-use Rattle.hail_devices.specs.Told.{told_then}
+use Rattle.device_defs.specs.Told.{told_then}
 use Rattle.stream_model.proofs.whole.write_all.Given as goal
 
 abbrev pub invariant-loop-done : goal.invariant-loop-done

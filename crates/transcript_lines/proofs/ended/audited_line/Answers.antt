@@ -1,7 +1,7 @@
 use Rattle.std.proofs.Common.{◌≡◌, ◌∷◌, [], ◌++◌, List, ℕ, ap, ◌∙◌}
 use Rattle.std.specs.List.{flat_map}
 use Rattle.std.specs.String.{string_bytes}
-use Rattle.hail_machine.specs.Lines.{then_number}
+use Rattle.machine_defs.specs.Lines.{then_number}
 use Rattle.record_codec.specs.Entries.{counted}
 use Rattle.transcript_lines.proofs.Numbers.{audited_is}
 use Rattle.transcript_lines.proofs.ended.audited_line.Goals as goal

@@ -1,6 +1,6 @@
 use Rattle.std.proofs.Common.{◌≡◌, ◌++◌, take}
 use Rattle.std.specs.List.{flat_map}
-use Rattle.hail_machine.specs.Lines.{then_number}
+use Rattle.machine_defs.specs.Lines.{then_number}
 use Rattle.transcript_lines.proofs.ended.push_numbers.Given as goal
 
 abbrev pub invariant-loop-place : goal.invariant-loop-place

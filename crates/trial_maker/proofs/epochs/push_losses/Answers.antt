@@ -1,7 +1,7 @@
 use Rattle.std.proofs.Common.{◌++◌, ◌∷◌, [], List, sym, ap, ◌∙◌, append_assoc}
 use Rattle.std.proofs.lemmas.List.{append-nil}
-use Rattle.hail_machine.specs.Events.{Lose}
-use Rattle.hail_machine.specs.Transcripts.{Instruction, Once}
+use Rattle.machine_defs.specs.Events.{Lose}
+use Rattle.machine_defs.specs.Transcripts.{Instruction, Once}
 use Rattle.schedule_text.specs.Events.{commands_of}
 use Rattle.trial_maker.specs.Trials.{losses}
 use Rattle.trial_maker.proofs.Listed.{losses_more, no-losses}

@@ -1,6 +1,6 @@
 use Rattle.std.proofs.Common.{◌≡◌, ◌++◌, replicate}
-use Rattle.hail_machine.specs.Events.{Step}
-use Rattle.hail_machine.specs.Transcripts.{Once}
+use Rattle.machine_defs.specs.Events.{Step}
+use Rattle.machine_defs.specs.Transcripts.{Once}
 use Rattle.schedule_text.specs.Events.{commands_of}
 use Rattle.trial_maker.proofs.epochs.push_steps.Given as goal
 

@@ -1,5 +1,5 @@
 use Rattle.std.proofs.Common.{◌≡◌, ◌+◌, ◌*◌, ◌≤◌, ◌++◌, take, vec_len, vec_capacity}
-use Rattle.hail_columns.specs.Objects.{bytes_of_symbols}
+use Rattle.column_defs.specs.Objects.{bytes_of_symbols}
 use Rattle.vault.proofs.work.push_symbols.Given as goal
 
 abbrev pub invariant-loop-symbol : goal.invariant-loop-symbol

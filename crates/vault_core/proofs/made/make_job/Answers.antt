@@ -1,7 +1,7 @@
 use Rattle.std.proofs.Common.{◌∙◌, List, [], ◌+◌, ◌*◌, ap, refl}
 use Rattle.std.specs.Prelude.{Option, sum_by}
-use Rattle.hail_records.specs.Table.{Due}
-use Rattle.hail_machine.specs.Begins.{due_number, due_flags}
+use Rattle.record_defs.specs.Table.{Due}
+use Rattle.machine_defs.specs.Begins.{due_number, due_flags}
 use Rattle.record_codec.specs.Entries.{with_master}
 use Rattle.vault_core.specs.declared.pinned.Pinned.{Pinned}
 use Rattle.vault_core.specs.declared.job.Task.{Task}

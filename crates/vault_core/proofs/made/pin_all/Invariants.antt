@@ -1,7 +1,7 @@
 use Rattle.std.proofs.Common.{◌≡◌, ◌≤◌, drop, length}
 use Rattle.vault_core.specs.Making.{core_pins, pin_of_file}
 use Rattle.vault_core.proofs.made.pin_all.Given as goal
-use Rattle.hail_machine.specs.Begins.{pin_each}
+use Rattle.machine_defs.specs.Begins.{pin_each}
 
 abbrev pub invariant-loop-place : goal.invariant-loop-place
 invariant-loop-place l = record {

@@ -1,6 +1,6 @@
 use Rattle.std.proofs.Common.{◌∙◌, ap, sym, Bool, ◌||◌}
 use Rattle.std.specs.Prelude.{is_some}
-use Rattle.hail_records.specs.Table.{find_file}
+use Rattle.record_defs.specs.Table.{find_file}
 use Rattle.vault_core.specs.declared.job.Job.{Job}
 use Rattle.vault_core.specs.Wished.{aim_of_wish}
 use Rattle.vault_core.specs.Refusing.{aims_kept, puts_name}

@@ -1,7 +1,7 @@
 use Rattle.std.proofs.Common.{ap, sym, ◌∙◌}
 use Rattle.std.specs.Prelude.{Option}
-use Rattle.hail_records.specs.Records.{Setup, is_setup}
-use Rattle.hail_machine.specs.Setups.{setup_or_none}
+use Rattle.record_defs.specs.Records.{Setup, is_setup}
+use Rattle.machine_defs.specs.Setups.{setup_or_none}
 use Rattle.vault_core.proofs.tests.core_of.Goals as goal
 
 pub new-requires-2-clause-set_up : goal.new-requires-2-clause-set_up

@@ -1,5 +1,5 @@
 use Rattle.std.proofs.Common.{◌-◌, List, length}
-use Rattle.hail_records.specs.Records.{Record}
+use Rattle.record_defs.specs.Records.{Record}
 use Rattle.vault_open.specs.Folding.{IsReadUpTo}
 use Rattle.vault_open.proofs.folding.fold_journal.Given as goal
 

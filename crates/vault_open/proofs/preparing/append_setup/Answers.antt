@@ -1,5 +1,5 @@
 use Rattle.std.proofs.Common.{[]}
-use Rattle.hail_records.specs.Records.{SetUp}
+use Rattle.record_defs.specs.Records.{SetUp}
 use Rattle.record_codec.specs.Entries.{with_master}
 use Rattle.journal_core.proofs.MoveLemmas.{on_err}
 use Rattle.vault_open.proofs.FirstRecord.{begun}

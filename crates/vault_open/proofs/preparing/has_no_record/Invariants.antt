@@ -1,5 +1,5 @@
 use Rattle.std.proofs.Common.{◌-◌, List, length}
-use Rattle.hail_records.specs.Records.{Record}
+use Rattle.record_defs.specs.Records.{Record}
 use Rattle.journal_core.specs.Gates.{IsReadTo}
 use Rattle.vault_open.specs.Preparing.{IsFirstAnswer}
 use Rattle.vault_open.proofs.preparing.has_no_record.Given as goal

@@ -1,7 +1,7 @@
 use Rattle.std.proofs.Common.{List, ℕ, sym, subst}
 use Rattle.std.specs.Prelude.{IfSome}
 use Rattle.journal_core.proofs.MoveLemmas.{on_err}
-use Rattle.hail_openings.specs.Journals.{journal_read}
+use Rattle.opening_defs.specs.Journals.{journal_read}
 use Rattle.vault_open.specs.Causes.{IsInitFault}
 use Rattle.vault_open.specs.declared.fault.InitFault.{InitFault}
 use Rattle.vault_open.proofs.Answers.{err-from, unjudged, disk-unjudged, text-unjudged}

@@ -3,13 +3,13 @@ use Rattle.std.proofs.lemmas.Bool.{false≢true}
 use Rattle.std.specs.Prelude.{IfSome}
 use Rattle.stream_model.specs.declared.fault.WriteFault.{WriteFault}
 use Rattle.stream_model.specs.declared.fault.WriteFault.TheVariants as write_fault
-use Rattle.hail_records.specs.Records.{is_setup}
+use Rattle.record_defs.specs.Records.{is_setup}
 use Rattle.record_codec.specs.Entries.{with_master}
 use Rattle.vault_open.specs.declared.fault.InitFault.{InitFault}
 use Rattle.vault_open.specs.declared.fault.InitFault.TheVariants as init_fault
 use Rattle.vault_open.specs.Devices.{devices}
 use Rattle.vault_open.specs.Inits.{MakesInit}
-use Rattle.hail_openings.specs.Journals.{journal_read}
+use Rattle.opening_defs.specs.Journals.{journal_read}
 use Rattle.vault_open.specs.Causes.{IsInitFault}
 use Rattle.vault_open.specs.Faults.{init_answer}
 use Rattle.journal_core.proofs.MoveLemmas.{on_err}

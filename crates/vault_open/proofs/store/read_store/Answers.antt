@@ -1,6 +1,6 @@
 use Rattle.std.proofs.Common.{List, ℕ, sym, subst, refl}
 use Rattle.std.specs.Prelude.{IfSome}
-use Rattle.hail_openings.specs.Journals.{journal_read}
+use Rattle.opening_defs.specs.Journals.{journal_read}
 use Rattle.vault_open.specs.Causes.{IsStartFault}
 use Rattle.vault_open.specs.declared.fault.StartFault.{StartFault}
 use Rattle.vault_open.proofs.Answers.{err-from}

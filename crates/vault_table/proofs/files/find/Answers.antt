@@ -1,5 +1,5 @@
 use Rattle.std.proofs.Common.{◌∙◌, sym, ap, map, List, Some}
-use Rattle.hail_records.specs.Table.{File}
+use Rattle.record_defs.specs.Table.{File}
 use Rattle.vault_table.specs.Values.{file_of_entry}
 use Rattle.vault_table.proofs.Orders.{file-here, find-here, find-between}
 use Rattle.vault_table.proofs.Places.{found, inside-here}

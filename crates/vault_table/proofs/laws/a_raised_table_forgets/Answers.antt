@@ -1,7 +1,7 @@
 use Rattle.std.proofs.Common.{◌≡◌, ℕ, zero, suc, refl, arith}
 use Rattle.std.proofs.lemmas.Bool.Decides.{nat_tests}
-use Rattle.hail_records.specs.Table.{started_as}
-use Rattle.hail_records.specs.Examples.{four, raised}
+use Rattle.record_defs.specs.Table.{started_as}
+use Rattle.record_defs.specs.Examples.{four, raised}
 use Rattle.vault_table.specs.Values.{IsFoldOf, started_at}
 use Rattle.vault_table.specs.Examples.{raised_table}
 use Rattle.vault_table.proofs.Fold.{is_packed}

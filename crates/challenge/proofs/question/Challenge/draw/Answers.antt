@@ -1,6 +1,6 @@
 use Rattle.std.proofs.Common.{◌≡◌, ◌<◌, ◌==◌, ℕ, ap, sym, ◌∙◌, subst, get_or, if◌then◌else◌}
-use Rattle.hail_columns.specs.Challenges.{picked_row}
-use Rattle.hail_columns.specs.Generator.{moved_on, next_symbol}
+use Rattle.column_defs.specs.Challenges.{picked_row}
+use Rattle.column_defs.specs.Generator.{moved_on, next_symbol}
 use Rattle.challenge.specs.Rows.{next_rows}
 use Rattle.challenge.proofs.Rows.{row_drawn, row_below, weight_drawn}
 use Rattle.challenge.proofs.question.Challenge.draw.Goals as goal

@@ -1,6 +1,6 @@
 use Rattle.std.proofs.Common.{ap, ◌∙◌, arith, [], length, ◌*◌}
 use Rattle.std.proofs.lemmas.List.{get_or_default}
-use Rattle.hail_columns.specs.Keys.{masks_from}
+use Rattle.column_defs.specs.Keys.{masks_from}
 use Rattle.file_layout.specs.Files.{shaped_object}
 use Rattle.column_codec.proofs.RowLemmas.{masked-each, masks_front}
 use Rattle.column_codec.proofs.keys.ObjectKeys.add_long.Goals as goal

@@ -1,5 +1,5 @@
 use Rattle.std.proofs.Common.{◌≡◌, ◌<◌, ◌∙◌, ℕ}
-use Rattle.hail_columns.specs.Opened.{GivesSymbols}
+use Rattle.column_defs.specs.Opened.{GivesSymbols}
 use Rattle.file_layout.specs.Files.{shaped_object}
 use Rattle.column_codec.specs.PresentBlocks.{present_blocks}
 use Rattle.column_codec.proofs.PresentLemmas.{length-present_blocks, on_true}

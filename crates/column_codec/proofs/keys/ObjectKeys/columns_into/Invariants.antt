@@ -1,6 +1,6 @@
 use Rattle.std.proofs.Common.{◌≡◌, ◌≤◌, ◌<◌, ℕ, [], take, map, length, get_or}
-use Rattle.hail_codes.specs.Points.{upto}
-use Rattle.hail_columns.specs.Columns.{column_of_symbols}
+use Rattle.code_defs.specs.Points.{upto}
+use Rattle.column_defs.specs.Columns.{column_of_symbols}
 use Rattle.file_layout.specs.Files.{shaped_object}
 use Rattle.column_codec.proofs.keys.ObjectKeys.columns_into.Given as goal
 

@@ -1,6 +1,6 @@
 use Rattle.std.proofs.Common.{◌≡◌, ◌+◌, ◌∙◌, ap, sym, arith, get_or, true, Some, None}
 use Rattle.std.specs.Bool.{if◌then◌else◌}
-use Rattle.hail_columns.specs.Opened.{SeenBlock}
+use Rattle.column_defs.specs.Opened.{SeenBlock}
 use Rattle.code_points.proofs.Steps.{keep_below}
 use Rattle.file_layout.specs.Files.{shaped_object}
 use Rattle.column_codec.specs.Agreement.{agreeing_at}

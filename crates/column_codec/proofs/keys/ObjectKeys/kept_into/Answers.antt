@@ -7,7 +7,7 @@ use Rattle.column_codec.proofs.PresentLemmas.{part-is}
 use Rattle.column_codec.proofs.WeightLemmas.{sum_first, differences_at}
 use Rattle.column_codec.proofs.KeptLemmas.{kept_more, kept_whole}
 use Rattle.hail_field.specs.Nim.{nim_add}
-use Rattle.hail_codes.specs.Sums.{dot}
+use Rattle.code_defs.specs.Sums.{dot}
 use Rattle.code_points.proofs.Steps.{keep_below}
 use Rattle.column_codec.proofs.keys.ObjectKeys.kept_into.Goals as goal
 

@@ -1,6 +1,6 @@
 use Rattle.std.proofs.Common.{◌≡◌, ◌<◌, ℕ, [], get_or, length}
 use Rattle.hail_field.specs.Nim.{nim_add}
-use Rattle.hail_codes.specs.Sums.{dot}
+use Rattle.code_defs.specs.Sums.{dot}
 use Rattle.column_codec.proofs.WeightLemmas.{differences_at}
 use Rattle.column_codec.proofs.keys.ObjectKeys.kept_into.Given as goal
 

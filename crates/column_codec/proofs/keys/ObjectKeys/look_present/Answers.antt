@@ -1,5 +1,5 @@
 use Rattle.std.proofs.Common.{arith, Some, None, get_or}
-use Rattle.hail_columns.specs.Opened.{OpensTo}
+use Rattle.column_defs.specs.Opened.{OpensTo}
 use Rattle.file_layout.specs.Files.{shaped_object}
 use Rattle.column_codec.specs.PresentBlocks.{present_blocks}
 use Rattle.column_codec.proofs.PresentLemmas.{opens-present, part-is, on_true}

@@ -1,8 +1,8 @@
 use Rattle.std.proofs.Common.{◌∙◌, ap, subst, List, ℕ}
 use Rattle.std.proofs.lemmas.Bool.{OnTrue_from}
 use Rattle.code_points.specs.Profile.{plain_profile}
-use Rattle.hail_codes.specs.ServerCode.{IsCodeword, Opens}
-use Rattle.hail_columns.specs.Opened.{bare}
+use Rattle.code_defs.specs.ServerCode.{IsCodeword, Opens}
+use Rattle.column_defs.specs.Opened.{bare}
 use Rattle.file_layout.specs.Files.{shaped_object}
 use Rattle.server_code.proofs.Checks.{codeword_opens}
 use Rattle.column_codec.proofs.keys.ObjectKeys.look_whole.Goals as goal

@@ -1,5 +1,5 @@
 use Rattle.std.proofs.Common.{◌≡◌, ◌<◌, ℕ, [], None, length, get_or}
-use Rattle.hail_columns.specs.Opened.{OpensTo}
+use Rattle.column_defs.specs.Opened.{OpensTo}
 use Rattle.file_layout.specs.Files.{shaped_object}
 use Rattle.column_codec.specs.OpenedBlocks.{opened_at}
 use Rattle.column_codec.proofs.keys.ObjectKeys.open_blocks.Given as goal

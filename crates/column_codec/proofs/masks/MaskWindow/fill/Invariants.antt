@@ -1,5 +1,5 @@
 use Rattle.std.proofs.Common.{◌≡◌, take}
-use Rattle.hail_columns.specs.Keys.{masks_from}
+use Rattle.column_defs.specs.Keys.{masks_from}
 use Rattle.column_codec.proofs.masks.MaskWindow.fill.Given as goal
 
 -- the masks of the rows before this one are filled in, under the same key

@@ -1,6 +1,6 @@
 use Rattle.std.proofs.Common.{◌≡◌, ◌*◌, ◌-◌, ◌∙◌, ap, sym, arith, map, length}
 use Rattle.std.proofs.lemmas.List.{length-set, take_all}
-use Rattle.hail_codes.specs.Points.{upto}
+use Rattle.code_defs.specs.Points.{upto}
 use Rattle.column_codec.specs.ObjectKeys.{weight_at}
 use Rattle.column_codec.proofs.Places.{filled_more}
 use Rattle.column_codec.proofs.tables.WeightTables.turn_to.Goals as goal

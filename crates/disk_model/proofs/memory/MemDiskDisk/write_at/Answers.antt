@@ -1,8 +1,8 @@
 use Rattle.std.proofs.Common.{subst, ap}
-use Rattle.hail_devices.specs.Cells.{Cells}
-use Rattle.hail_devices.specs.Disks.{Torn}
+use Rattle.device_defs.specs.Cells.{Cells}
+use Rattle.device_defs.specs.Disks.{Torn}
 use Rattle.std.specs.Prelude.{length}
-use Rattle.hail_devices.proofs.TearLaws.{Torn-either}
+use Rattle.device_defs.proofs.TearLaws.{Torn-either}
 use Rattle.disk_model.specs.InMemory.{DiskInMemory}
 use Rattle.disk_model.proofs.memory.MemDiskDisk.write_at.Goals as goal
 

@@ -1,6 +1,6 @@
 use Rattle.std.proofs.Common.{sym, ap, ◌∙◌, arith}
 use Rattle.std.proofs.lemmas.Slice.Zip.{firsts-zip}
-use Rattle.hail_devices.specs.Cells.{reads}
+use Rattle.device_defs.specs.Cells.{reads}
 use Rattle.disk_model.specs.InMemory.{SureInMemory}
 use Rattle.disk_model.proofs.sure.SureDisk.bytes.Goals as goal
 

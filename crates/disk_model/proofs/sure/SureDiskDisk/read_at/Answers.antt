@@ -1,8 +1,8 @@
 use Rattle.std.proofs.Common.{[], ◌≡◌, length, drop, ap, ◌∙◌, sym, arith, rules}
 use Rattle.std.proofs.lemmas.List.{drop_all}
 use Rattle.std.proofs.lemmas.Slice.Zip.{firsts-zip}
-use Rattle.hail_devices.specs.Cells.{reads}
-use Rattle.hail_devices.proofs.Splices.{read_part, take-nil}
+use Rattle.device_defs.specs.Cells.{reads}
+use Rattle.device_defs.proofs.Splices.{read_part, take-nil}
 use Rattle.disk_model.specs.InMemory.{SureInMemory}
 use Rattle.disk_model.proofs.sure.SureDiskDisk.read_at.Goals as goal
 

@@ -1,8 +1,8 @@
 use Rattle.std.proofs.Common.{◌∙◌, ap, arith}
 use Rattle.std.proofs.lemmas.List.{take_at}
-use Rattle.hail_devices.specs.Cells.{firm}
-use Rattle.hail_devices.specs.Picks.{picked}
-use Rattle.hail_devices.proofs.PickLaws.{IsImage-picked}
+use Rattle.device_defs.specs.Cells.{firm}
+use Rattle.device_defs.specs.Picks.{picked}
+use Rattle.device_defs.proofs.PickLaws.{IsImage-picked}
 use Rattle.disk_model.proofs.PickLemmas.{zip_stopped}
 use Rattle.disk_model.specs.InMemory.{SureInMemory}
 use Rattle.disk_model.proofs.sure.SureDiskDisk.stop.Goals as goal

@@ -1,5 +1,5 @@
 use Rattle.std.proofs.Common.{◌∙◌, ap, arith, rules}
-use Rattle.hail_devices.specs.Disks.{synced}
+use Rattle.device_defs.specs.Disks.{synced}
 use Rattle.disk_model.proofs.Zips.{zip_settled}
 use Rattle.disk_model.specs.InMemory.{SureInMemory}
 use Rattle.disk_model.proofs.sure.SureDiskDisk.sync.Goals as goal

@@ -1,5 +1,5 @@
 use Rattle.std.proofs.Common.{◌∙◌}
-use Rattle.hail_columns.specs.Objects.{symbol_of}
+use Rattle.column_defs.specs.Objects.{symbol_of}
 use Rattle.file_layout.proofs.Padding.{rest-value}
 use Rattle.file_layout.proofs.file.FileShape.symbol_at.Goals as goal
 

@@ -1,5 +1,5 @@
 use Rattle.std.proofs.Common.{ℕ, ◌≡◌, arith, sym, ap, ◌∙◌, ◌+◌, ◌*◌, Some}
-use Rattle.hail_columns.specs.Challenges.{symbol_at}
+use Rattle.column_defs.specs.Challenges.{symbol_at}
 use Rattle.hail_adapters.specs.SeenRows.{seen_symbol, seen_blocks}
 use Rattle.hail_adapters.proofs.SeenLemmas.{symbol_at-map, symbol_at-other}
 use Rattle.hail_adapters.proofs.seen_rows.SeenRowsBlocks.at.Goals as goal

@@ -1,6 +1,6 @@
 use Rattle.std.proofs.Common.{◌∙◌, ap, arith}
-use Rattle.hail_codes.specs.ServerCode.{differences}
-use Rattle.hail_codes.proofs.Profiles.{size_is}
+use Rattle.code_defs.specs.ServerCode.{differences}
+use Rattle.code_defs.proofs.Profiles.{size_is}
 use Rattle.code_points.specs.Profile.{plain_profile}
 use Rattle.server_code.specs.Any.{code_profile}
 use Rattle.server_code.proofs.Linear.{opened_is_one}

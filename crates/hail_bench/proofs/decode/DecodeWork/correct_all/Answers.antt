@@ -1,5 +1,5 @@
 use Rattle.std.proofs.Common.{sym, subst, List, ℕ}
-use Rattle.hail_codes.specs.ServerCode.{IsCodeword}
+use Rattle.code_defs.specs.ServerCode.{IsCodeword}
 use Rattle.code_points.specs.Profile.{plain_profile}
 use Rattle.server_code.specs.Any.{code_profile}
 use Rattle.server_code.proofs.Linear.{codeword_is}

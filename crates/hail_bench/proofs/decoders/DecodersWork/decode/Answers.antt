@@ -1,8 +1,8 @@
 use Rattle.std.proofs.Common.{ℕ, List, sym, subst, ap, length, arith, ◌∙◌}
 use Rattle.std.proofs.lemmas.List.FromFn.{length-range_with_len}
 use Rattle.field_laws.specs.Field.{Apart}
-use Rattle.hail_codes.proofs.Points.{Apart-range}
-use Rattle.hail_codes.proofs.Profiles.{size_is, some_kept}
+use Rattle.code_defs.proofs.Points.{Apart-range}
+use Rattle.code_defs.proofs.Profiles.{size_is, some_kept}
 use Rattle.code_points.specs.declared.profile.Profile.{Profile}
 use Rattle.server_code.specs.Any.{code_profile}
 use Rattle.hail_bench.proofs.decoders.DecodersWork.decode.Goals as goal

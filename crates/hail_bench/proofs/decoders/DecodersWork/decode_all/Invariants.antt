@@ -1,5 +1,5 @@
 use Rattle.std.proofs.Common.{◌≡◌, ◌≤◌, length, drop}
-use Rattle.hail_codes.specs.ServerCode.{codeword}
+use Rattle.code_defs.specs.ServerCode.{codeword}
 use Rattle.code_points.specs.Profile.{plain_profile}
 use Rattle.server_code.specs.Any.{code_profile}
 use Rattle.hail_bench.specs.Blocks.{kept_symbols}

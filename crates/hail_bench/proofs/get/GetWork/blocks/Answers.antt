@@ -1,5 +1,5 @@
 use Rattle.std.proofs.Common.{◌≡◌, ◌≤◌, ◌+◌, ◌*◌, ◌∙◌, ap, take, drop, length, subst, sym, ℕ}
-use Rattle.hail_columns.specs.Objects.{stripes}
+use Rattle.column_defs.specs.Objects.{stripes}
 use Rattle.file_layout.specs.Files.{shaped_object}
 use Rattle.hail_bench.specs.declared.stripes.TheConstants.{MASTER}
 use Rattle.hail_bench.proofs.StripeLemmas.{stripe_within, length-part}

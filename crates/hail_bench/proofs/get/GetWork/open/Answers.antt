@@ -1,5 +1,5 @@
 use Rattle.std.proofs.Common.{ap, take, replicate, true}
-use Rattle.hail_columns.specs.Objects.{stripes}
+use Rattle.column_defs.specs.Objects.{stripes}
 use Rattle.file_layout.specs.Files.{shaped_object}
 use Rattle.hail_bench.specs.Stripes.{file_bytes}
 use Rattle.hail_bench.specs.declared.stripes.TheConstants.{MASTER}

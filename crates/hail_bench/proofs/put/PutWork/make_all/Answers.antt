@@ -1,6 +1,6 @@
 use Rattle.std.proofs.Common.{◌≡◌, ◌∙◌, ap, map, List, ℕ}
-use Rattle.hail_codes.specs.Points.{upto}
-use Rattle.hail_columns.specs.Columns.{columns}
+use Rattle.code_defs.specs.Points.{upto}
+use Rattle.column_defs.specs.Columns.{columns}
 use Rattle.file_layout.specs.Files.{shaped_object}
 use Rattle.hail_bench.specs.Stripes.{file_bytes}
 use Rattle.hail_bench.proofs.StripeLemmas.{making_more}

@@ -1,5 +1,5 @@
 use Rattle.std.proofs.Common.{arith}
-use Rattle.hail_codes.proofs.Codewords.{differences-same}
+use Rattle.code_defs.proofs.Codewords.{differences-same}
 use Rattle.hail_bench.proofs.spoilt.Spoilt.spoil.Goals as goal
 
 pub returns-else-provider-from-2 : goal.returns-else-provider-from-2

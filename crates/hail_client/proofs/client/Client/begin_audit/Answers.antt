@@ -1,4 +1,4 @@
-use Rattle.hail_machine.specs.Jobs.{AuditJob}
+use Rattle.machine_defs.specs.Jobs.{AuditJob}
 use Rattle.hail_client.proofs.Made.{begin-of}
 use Rattle.hail_client.proofs.client.Client.begin_audit.Goals as goal
 

@@ -1,4 +1,4 @@
-use Rattle.hail_machine.specs.Jobs.{DropJob}
+use Rattle.machine_defs.specs.Jobs.{DropJob}
 use Rattle.hail_client.proofs.Made.{begin-of}
 use Rattle.hail_client.proofs.client.Client.begin_drop.Goals as goal
 

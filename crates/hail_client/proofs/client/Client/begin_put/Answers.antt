@@ -1,6 +1,6 @@
 use Rattle.std.proofs.Common.{subst}
-use Rattle.hail_machine.specs.Events.{AreBytes}
-use Rattle.hail_machine.specs.Jobs.{PutJob}
+use Rattle.machine_defs.specs.Events.{AreBytes}
+use Rattle.machine_defs.specs.Jobs.{PutJob}
 use Rattle.hail_client.proofs.Made.{begin-of}
 use Rattle.hail_client.proofs.client.Client.begin_put.Goals as goal
 

@@ -1,4 +1,4 @@
-use Rattle.hail_machine.specs.Jobs.{RepairJob}
+use Rattle.machine_defs.specs.Jobs.{RepairJob}
 use Rattle.hail_client.proofs.Made.{begin-of}
 use Rattle.hail_client.proofs.client.Client.begin_repair.Goals as goal
 

@@ -1,9 +1,9 @@
 use Rattle.std.proofs.Common.{sym, ◌∙◌}
-use Rattle.plain_facts.proofs.Options.{is_some-none}
+use Rattle.plain_laws.proofs.Options.{is_some-none}
 use Rattle.hail_client.proofs.Begun.{init-open, init-closed}
 use Rattle.hail_client.proofs.Anew.{by-told, closed-standing, left-same}
 use Rattle.record_codec.specs.Entries.{with_master}
-use Rattle.hail_openings.proofs.Resyncs.{resynced-same}
+use Rattle.opening_defs.proofs.Resyncs.{resynced-same}
 use Rattle.hail_client.proofs.client.Client.init.Goals as goal
 
 pub returns-then-is_some-clause-machine : goal.returns-then-is_some-clause-machine

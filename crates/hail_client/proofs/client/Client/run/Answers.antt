@@ -1,5 +1,5 @@
 use Rattle.std.proofs.Common.{length, ◌++◌, sym, ◌∙◌}
-use Rattle.hail_machine.specs.Runs.{now}
+use Rattle.machine_defs.specs.Runs.{now}
 use Rattle.hail_client.proofs.Runs.{one-more, at-end, over-at}
 use Rattle.hail_client.proofs.client.Client.run.Goals as goal
 

@@ -1,7 +1,7 @@
 use Rattle.std.proofs.Common.{◌≡◌, List, true, length}
 use Rattle.std.specs.Prelude.{is_some}
-use Rattle.hail_machine.specs.Runs.{Moment}
-use Rattle.hail_machine.specs.States.{State}
+use Rattle.machine_defs.specs.Runs.{Moment}
+use Rattle.machine_defs.specs.States.{State}
 use Rattle.vault.specs.Devices.{devices_seen}
 use Rattle.hail_client.specs.Client.{is_open, client_left}
 use Rattle.hail_client.specs.Stands.{IsStanding, IsReached}

@@ -1,5 +1,5 @@
 use Rattle.std.proofs.Common.{◌≡◌, [], ◌∙◌, ap, arith}
-use Rattle.hail_codes.specs.Polynomials.{trim}
+use Rattle.code_defs.specs.Polynomials.{trim}
 use Rattle.hail_poly.specs.RowState.{RowState}
 use Rattle.hail_poly.proofs.WorkSteps.{quotient_is, no_quotient, begun}
 use Rattle.hail_poly.proofs.work.Work.divide.Goals as goal

@@ -1,5 +1,5 @@
 use Rattle.std.proofs.Common.{◌≡◌, ℕ, List, [], ◌∷◌, ◌++◌, length, take, ap, sym, ◌∙◌, arith, length-take}
-use Rattle.hail_records.proofs.Sizes.{length-spelling}
+use Rattle.record_defs.proofs.Sizes.{length-spelling}
 use Rattle.record_codec.proofs.Values.{has_spelling}
 use Rattle.journal_core.proofs.JournalLemmas.{body_made}
 use Rattle.journal_core.proofs.append.Append.new.Goals as goal

@@ -2,9 +2,9 @@ use Rattle.std.proofs.Common.{refl, ℕ, ◌+◌, [], ◌∷◌, length, subst, 
 use Rattle.std.specs.Prelude.{IfSome, Err}
 use Rattle.stream_model.specs.declared.fault.WriteFault.{WriteFault}
 use Rattle.std.specs.Option.{option_map}
-use Rattle.hail_devices.specs.Disks.{written, Torn}
-use Rattle.hail_devices.specs.Told.{Goes}
-use Rattle.hail_records.specs.Journal.{before_gate}
+use Rattle.device_defs.specs.Disks.{written, Torn}
+use Rattle.device_defs.specs.Told.{Goes}
+use Rattle.record_defs.specs.Journal.{before_gate}
 use Rattle.journal_core.specs.Appends.{body_of, moves_of}
 use Rattle.journal_core.specs.Moves.{IsClosed, IsAfterMoves, IsGivenUp}
 use Rattle.journal_core.proofs.MoveLemmas.{on_err, from_on_err, IfSome-mapped, body_written, gate_written, body_failed, gate_failed, synced}

@@ -1,5 +1,5 @@
 use Rattle.std.proofs.Common.{◌≡◌, ◌<◌, ◌^◌, refl, sym, ap, ◌∙◌, subst, arith, List, []}
-use Rattle.hail_wire.specs.Requests.{Ask, SpellsRequest}
+use Rattle.wire_defs.specs.Requests.{Ask, SpellsRequest}
 use Rattle.provider_wire.specs.Linked.{out_of_step}
 use Rattle.provider_wire.proofs.Outcomes.{ask_done, ask_missing, ask_failed, ask_steps}
 use Rattle.provider_wire.proofs.Counting.{went, lost}

@@ -1,6 +1,6 @@
 use Rattle.std.proofs.Common.{◌≡◌, ◌+◌, ◌*◌, length, take, ap, ◌∙◌, arith, length-append}
-use Rattle.hail_columns.specs.Objects.{bytes_of_symbols}
-use Rattle.hail_columns.proofs.SymbolBytes.{length-symbol}
+use Rattle.column_defs.specs.Objects.{bytes_of_symbols}
+use Rattle.column_defs.proofs.SymbolBytes.{length-symbol}
 use Rattle.provider_wire.proofs.Symbols.{length-front, pushed_more}
 use Rattle.provider_wire.proofs.piece.Piece.push_symbols.Goals as goal
 

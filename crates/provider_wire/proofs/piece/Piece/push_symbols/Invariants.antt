@@ -1,5 +1,5 @@
 use Rattle.std.proofs.Common.{◌≡◌, ◌++◌, take}
-use Rattle.hail_columns.specs.Objects.{bytes_of_symbols}
+use Rattle.column_defs.specs.Objects.{bytes_of_symbols}
 use Rattle.provider_wire.proofs.piece.Piece.push_symbols.Given as goal
 
 abbrev pub invariant-loop-symbol : goal.invariant-loop-symbol

@@ -1,6 +1,6 @@
 use Rattle.std.proofs.Common.{◌≡◌, ◌-◌, ◌++◌, ℕ, List, length, take, ap, sym, ◌∙◌, arith, length-append}
 use Rattle.std.proofs.lemmas.List.{take_at}
-use Rattle.hail_wire.specs.Requests.{request_bytes, Request, SpellsRequest}
+use Rattle.wire_defs.specs.Requests.{request_bytes, Request, SpellsRequest}
 use Rattle.provider_wire.proofs.Begins.{short}
 use Rattle.provider_wire.specs.Asking.{request_of}
 use Rattle.provider_wire.specs.Reading.{request_at}

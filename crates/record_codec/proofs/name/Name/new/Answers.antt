@@ -1,5 +1,5 @@
 use Rattle.std.proofs.Common.{◌≡◌, true, refl, rules}
-use Rattle.hail_records.specs.Records.{is_name}
+use Rattle.record_defs.specs.Records.{is_name}
 use Rattle.record_codec.proofs.NameLemmas.{IsKept-made, is_name-short}
 use Rattle.record_codec.proofs.name.Name.new.Goals as goal
 

@@ -1,7 +1,7 @@
 use Rattle.std.proofs.Common.{◌≡◌, ◌++◌, List, ℕ, false, drop, ap, sym, ◌∙◌, take-append-drop}
-use Rattle.hail_records.specs.Records.{Record, is_held}
-use Rattle.hail_records.specs.Spellings.{spelling}
-use Rattle.hail_records.proofs.Grammar.{grammar-held, grammar-spelled}
+use Rattle.record_defs.specs.Records.{Record, is_held}
+use Rattle.record_defs.specs.Spellings.{spelling}
+use Rattle.record_defs.proofs.Grammar.{grammar-held, grammar-spelled}
 use Rattle.record_codec.specs.Entries.{entry_of}
 use Rattle.record_codec.proofs.Takes.{one_spelled}
 use Rattle.record_codec.proofs.records.Record.read.Goals as goal

@@ -1,5 +1,5 @@
 use Rattle.std.proofs.Common.{◌∙◌, ap, sym, Vec, Global}
-use Rattle.hail_columns.specs.Objects.{Object, symbols_in}
+use Rattle.column_defs.specs.Objects.{Object, symbols_in}
 use Rattle.hail_field.specs.declared.symbol.Symbol.{Symbol}
 use Rattle.vault.proofs.tasks.PutTask.store.Goals as goal
 

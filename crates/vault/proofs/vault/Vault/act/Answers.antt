@@ -1,6 +1,6 @@
 use Rattle.std.proofs.Common.{ap, subst, [], ◌∷◌, ◌++◌}
 use Rattle.std.specs.Prelude.{IfSome}
-use Rattle.hail_records.specs.Spellings.{spelling}
+use Rattle.record_defs.specs.Spellings.{spelling}
 use Rattle.vault_core.specs.declared.action.Action.{Action}
 use Rattle.vault_core.specs.Coming.{Coming, Acts, seen_action, called_provider}
 use Rattle.vault.specs.Calls.{moves_before_next, MovesCells}

@@ -1,8 +1,8 @@
 use Rattle.std.proofs.Common.{Result, Err, ℕ, Some, ◌≡◌, ◌≢◌, refl, ◌∙◌, ap, List, ◌++◌, ◌∷◌, [], sym, subst, inl, inr, ◌⊎◌, rules}
-use Rattle.hail_machine.specs.Begins.{begin_refusal}
-use Rattle.hail_machine.specs.Jobs.{Kind}
-use Rattle.hail_machine.specs.Refusals as refusal
-use Rattle.hail_machine.specs.States.{State, setup_in}
+use Rattle.machine_defs.specs.Begins.{begin_refusal}
+use Rattle.machine_defs.specs.Jobs.{Kind}
+use Rattle.machine_defs.specs.Refusals as refusal
+use Rattle.machine_defs.specs.States.{State, setup_in}
 use Rattle.vault_core.specs.Carried.{CoreIs, refusal_of}
 use Rattle.vault_core.specs.declared.own.Core.{Core}
 use Rattle.vault_core.specs.declared.wish.BeginFault.{BeginFault}

@@ -3,7 +3,7 @@ use Rattle.std.specs.Option.{option_map}
 use Rattle.std.proofs.lemmas.Bool.{false≢true}
 use Rattle.std.proofs.lemmas.List.{map-set}
 use Rattle.std.proofs.lemmas.Option.{slice_get-get_or, slice_get-map}
-use Rattle.hail_records.specs.Records.{Setup}
+use Rattle.record_defs.specs.Records.{Setup}
 use Rattle.provider_model.specs.Seen.{provider_seen}
 use Rattle.vault.specs.Running.{place_in}
 use Rattle.vault.specs.declared.tasks.Running.{Running}

@@ -1,5 +1,5 @@
 use Rattle.std.proofs.Common.{◌≡◌, ℕ, ◌*◌, length, subst, ◌∙◌, ap, min, refl}
-use Rattle.hail_machine.specs.Jobs.{AuditJob}
+use Rattle.machine_defs.specs.Jobs.{AuditJob}
 use Rattle.vault_table.specs.Values.{Kept}
 use Rattle.vault.specs.Benches.{IsNewAudit}
 use Rattle.vault.specs.Seen.{table_of}

@@ -1,8 +1,8 @@
 use Rattle.std.proofs.Common.{Result, ℕ, sym, subst, ◌∙◌, ◌∷◌, ◌≡◌, Some, None, ◌^◌}
-use Rattle.hail_machine.specs.Jobs.{GetJob, ToGet}
+use Rattle.machine_defs.specs.Jobs.{GetJob, ToGet}
 use Rattle.vault_core.specs.declared.wish.BeginFault.{BeginFault}
 use Rattle.vault_core.specs.declared.wish.BeginFault.TheVariants as fault
-use Rattle.hail_records.specs.Table.{find_file}
+use Rattle.record_defs.specs.Table.{find_file}
 use Rattle.vault_table.specs.Values.{file_of_entry}
 use Rattle.vault.specs.Benches.{IsBenchFor, IsNewGet}
 use Rattle.vault.specs.Seen.{table_of}

@@ -1,5 +1,5 @@
 use Rattle.std.proofs.Common.{Result, ℕ, ◌∷◌, ◌∙◌, sym, subst}
-use Rattle.hail_machine.specs.Jobs.{PutJob}
+use Rattle.machine_defs.specs.Jobs.{PutJob}
 use Rattle.vault_core.specs.declared.wish.BeginFault.{BeginFault}
 use Rattle.vault.specs.Stands.{MakesBegin}
 use Rattle.vault.proofs.Begun.{aims-counted, turned_down}

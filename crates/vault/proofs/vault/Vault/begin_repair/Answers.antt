@@ -1,6 +1,6 @@
 use Rattle.std.proofs.Common.{sym, subst, ℕ, ◌*◌, ◌≤◌, refl}
 use Rattle.std.specs.Prelude.{vec_capacity}
-use Rattle.hail_machine.specs.Jobs.{RepairJob}
+use Rattle.machine_defs.specs.Jobs.{RepairJob}
 use Rattle.vault.proofs.RepairBegins.{repair-task}
 use Rattle.vault.proofs.vault.Vault.begin_repair.Goals as goal
 

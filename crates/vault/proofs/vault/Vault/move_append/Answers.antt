@@ -1,5 +1,5 @@
 use Rattle.std.proofs.Common.{◌++◌, ◌∷◌, [], refl, ap}
-use Rattle.hail_records.specs.Spellings.{spelling}
+use Rattle.record_defs.specs.Spellings.{spelling}
 use Rattle.vault_core.specs.declared.reply.Reply.TheVariants as reply
 use Rattle.vault.specs.declared.turn.Answer.TheVariants as answer
 use Rattle.vault.specs.declared.vault.Vault.{Vault}

@@ -1,5 +1,5 @@
 use Rattle.std.proofs.Common.{◌≡◌, ◌*◌, ℕ, Some, [], ap, ◌∙◌, arith}
-use Rattle.hail_columns.specs.Objects.{stripes}
+use Rattle.column_defs.specs.Objects.{stripes}
 use Rattle.vault.specs.Asking.{vault_object}
 use Rattle.vault.proofs.vault.Vault.question.Goals as goal
 

@@ -1,5 +1,5 @@
 use Rattle.std.proofs.Common.{arith}
-use Rattle.hail_records.proofs.Standing.{text_size-least}
+use Rattle.record_defs.proofs.Standing.{text_size-least}
 use Rattle.vault_open.proofs.Answers.{ok-still}
 use Rattle.vault.proofs.Opened.{carries, stands}
 use Rattle.vault.proofs.vault.Vault.start.Goals as goal

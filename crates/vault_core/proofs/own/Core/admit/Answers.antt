@@ -1,6 +1,6 @@
 use Rattle.std.proofs.Common.{◌≡◌, ◌∙◌, List, ◌++◌, ◌∷◌, [], ◌+◌, ◌<◌, ◌≤◌, ap, sym, subst, length}
 use Rattle.std.specs.Prelude.{sum_by}
-use Rattle.hail_records.specs.Records.{largest_journal}
+use Rattle.record_defs.specs.Records.{largest_journal}
 use Rattle.vault_core.specs.declared.job.Job.{Job}
 use Rattle.vault_core.specs.View.{CoreView}
 use Rattle.vault_core.specs.Parts.{core_job, IsJobKept}

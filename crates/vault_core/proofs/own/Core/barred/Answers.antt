@@ -1,7 +1,7 @@
 use Rattle.std.proofs.Common.{◌≤◌, ◌<◌, ◌∙◌, ap, sym, Some, None, Bool, length, arith}
 use Rattle.std.specs.Prelude.{if◌then◌else◌}
 use Rattle.std.proofs.lemmas.Bool.{le-leb, lt-leb}
-use Rattle.hail_machine.specs.Refusals.{Busy}
+use Rattle.machine_defs.specs.Refusals.{Busy}
 use Rattle.vault_core.specs.View.{CoreView}
 use Rattle.vault_core.proofs.Standing.{refused_early, early_same}
 use Rattle.vault_core.proofs.Refusals.{early_shut}

@@ -1,8 +1,8 @@
 use Rattle.std.proofs.Common.{◌≡◌, ◌∙◌, ap, sym, subst, ◌+◌, ◌≤◌, None, arith}
 use Rattle.std.specs.Prelude.{IsTrue, sum_by}
 use Rattle.std.specs.Option.{option_map}
-use Rattle.hail_records.specs.Records.{is_setup, largest_journal}
-use Rattle.hail_machine.specs.Begins.{begin_refusal}
+use Rattle.record_defs.specs.Records.{is_setup, largest_journal}
+use Rattle.machine_defs.specs.Begins.{begin_refusal}
 use Rattle.vault_core.specs.declared.wish.Wish.{Wish}
 use Rattle.vault_core.specs.View.{CoreView}
 use Rattle.vault_core.specs.Parts.{core_job}

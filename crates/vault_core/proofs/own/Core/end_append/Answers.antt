@@ -1,6 +1,6 @@
 use Rattle.std.proofs.Common.{rules, ◌≡◌, ◌∙◌, sym, ap, refl, subst, None, ◌∷◌}
 use Rattle.std.specs.Prelude.{remove}
-use Rattle.hail_records.specs.Acceptance.{refused}
+use Rattle.record_defs.specs.Acceptance.{refused}
 use Rattle.vault_table.specs.Values.{IsFoldOf}
 use Rattle.std.specs.Vec.{with_item}
 use Rattle.record_codec.specs.Entries.{entry_of}

@@ -1,5 +1,5 @@
 use Rattle.std.proofs.Common.{ap, sym, subst}
-use Rattle.hail_machine.specs.Actions.{WriteBody, SyncGate, End}
+use Rattle.machine_defs.specs.Actions.{WriteBody, SyncGate, End}
 use Rattle.vault_core.specs.declared.action.Action.TheVariants as act
 use Rattle.vault_core.specs.declared.reply.Reply.{Reply}
 use Rattle.record_codec.specs.Entries.{counted}

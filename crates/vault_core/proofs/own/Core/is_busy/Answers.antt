@@ -1,7 +1,7 @@
 use Rattle.std.proofs.Common.{◌∙◌, ap, sym, false, Bool, ◌||◌, List, length, arith}
 use Rattle.std.specs.List.{list_any}
 use Rattle.std.proofs.lemmas.Bool.{le-leb}
-use Rattle.hail_machine.specs.Sights.{is_put_or_check, is_check}
+use Rattle.machine_defs.specs.Sights.{is_put_or_check, is_check}
 use Rattle.vault_core.specs.declared.job.Job.{Job}
 use Rattle.vault_core.specs.Wished.{aim_of_wish}
 use Rattle.vault_core.specs.Refusing.{aims_kept}

@@ -1,6 +1,6 @@
 use Rattle.std.proofs.Common.{◌∙◌, ap, sym, ◌+◌, List, arith}
 use Rattle.std.specs.Prelude.{sum_by, nat_lt}
-use Rattle.hail_machine.specs.Sights.{are_numbers_used_up}
+use Rattle.machine_defs.specs.Sights.{are_numbers_used_up}
 use Rattle.vault_core.specs.declared.job.Job.{Job}
 use Rattle.vault_core.specs.declared.wish.Wish.{Wish}
 use Rattle.vault_core.specs.Wished.{aim_of_wish}

@@ -1,8 +1,8 @@
 use Rattle.std.proofs.Common.{◌∙◌, ap, None}
 use Rattle.std.specs.Option.{option_map}
-use Rattle.hail_machine.specs.Jobs.{Aim}
-use Rattle.hail_machine.specs.Refusals.{first_refusal}
-use Rattle.hail_machine.specs.Sights.{Sight, sight_of, causes}
+use Rattle.machine_defs.specs.Jobs.{Aim}
+use Rattle.machine_defs.specs.Refusals.{first_refusal}
+use Rattle.machine_defs.specs.Sights.{Sight, sight_of, causes}
 use Rattle.vault_core.specs.Wished.{aim_of_wish}
 use Rattle.vault_core.specs.Carried.{refusal_of}
 use Rattle.vault_core.proofs.Refusals.{refusal-sight, sight-same}

@@ -1,5 +1,0 @@
-use Rattle.calm_laws.proofs.Failed.{failures_rose}
-use Rattle.calm_laws.proofs.laws.failed_calls_are_counted.Goals as goal
-
-pub returns : goal.returns
-returns c = failures_rose

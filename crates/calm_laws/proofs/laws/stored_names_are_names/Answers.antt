@@ -1,5 +1,0 @@
-use Rattle.calm_laws.proofs.Names.{stored_named}
-use Rattle.calm_laws.proofs.laws.stored_names_are_names.Goals as goal
-
-pub returns : goal.returns
-returns c = stored_named

@@ -1,5 +1,0 @@
-use Rattle.calm_laws.proofs.Names.{begins_stored}
-use Rattle.calm_laws.proofs.laws.stored_names_begin.Goals as goal
-
-pub returns : goal.returns
-returns c = begins_stored

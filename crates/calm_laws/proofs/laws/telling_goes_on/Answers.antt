@@ -1,5 +1,0 @@
-use Rattle.calm_laws.proofs.Onward.{all_tell}
-use Rattle.calm_laws.proofs.laws.telling_goes_on.Goals as goal
-
-pub returns : goal.returns
-returns c = all_tell

@@ -1,0 +1,42 @@
+-- Codewords, and the blocks that open to themselves.
+use Rattle.std.proofs.Common.{◌≡◌, ◌≤◌, ℕ, sym, ◌∙◌, refl, arith, List, [], ◌∷◌, length, map, Some}
+use Rattle.std.proofs.lemmas.List.FromFn.{length-range_with_len, length-map-range_with_len}
+use Rattle.hail_field.specs.Nim.{nim}
+use Rattle.hail_field.proofs.AllNumbers.{nim_laws}
+use Rattle.poly_laws.specs.Poly.{agree as agree_over, is_seen as is_seen_over}
+use Rattle.poly_laws.proofs.Interpolate.{length-interpolate}
+use Rattle.code_defs.specs.Polynomials.{value, agree, interpolate}
+use Rattle.code_defs.specs.Points.{upto, values_at}
+use Rattle.code_defs.specs.Profiles.{Profile}
+use Rattle.code_defs.specs.ServerCode.{codeword, differences, IsNear, Opens}
+
+-- a polynomial agrees with its own values everywhere
+pub agree-values : (p points : List ℕ) → agree p points (map Some (values_at points p)) ≡ length points
+unfolding agree_over is_seen_over
+agree-values p [] = refl
+agree-values p (x ∷ points) = let h = agree-values p points in rw (nim_laws.eq_refl (value p x)) (omega arith)
+
+-- a block differs from itself nowhere
+pub differences-same : (xs : List ℕ) → differences xs xs ≡ 0
+differences-same [] = refl
+differences-same (x ∷ xs) = rw (nim_laws.eq_refl x) (differences-same xs)
+
+-- the values of a polynomial of few coefficients are near it
+pub near_itself : (profile : Profile) (p : List ℕ) → length p ≤ profile.keep → IsNear profile (values_at (upto profile.size) p) p
+near_itself profile p short = record {
+  whole = length-map-range_with_len (value p) 0 profile.size;
+  decodes = record { short = short; near = omega (arith, agree-values p (upto profile.size)) };
+}
+
+-- the interpolating polynomial of the kept symbols has few coefficients
+pub codeword-short : (profile : Profile) (kept : List ℕ) → length kept ≡ profile.keep → length (interpolate (upto profile.keep) kept) ≤ profile.keep
+codeword-short profile kept long =
+    omega (arith, length-interpolate nim nim_laws (upto profile.keep) kept (length-range_with_len 0 profile.keep ∙ sym long), length-range_with_len 0 profile.keep)
+
+-- a codeword opens to itself
+pub opens_itself : (profile : Profile) (kept block : List ℕ) → length kept ≡ profile.keep → block ≡ codeword profile kept → Opens profile block block
+opens_itself profile kept block long is = record {
+  polynomial = interpolate (upto profile.keep) kept;
+  near = rw is (near_itself profile (interpolate (upto profile.keep) kept) (codeword-short profile kept long));
+  opened_is = is;
+}

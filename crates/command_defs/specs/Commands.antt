@@ -1,0 +1,82 @@
+-- How each command ends.
+--
+--   AnswersRow of Row              == `row`; it looks at no device but the sink
+--   AnswersInit of Inits           == `init`
+--   AnswersPut name old new end    == `put`: it opens the store, reads its source, and runs its job
+--   AnswersAlone kind old new end  == `get`, `drop`, `audit`, `repair`: they open the store and run their job
+--   AnswersList old new end        == `list`: it opens the store and writes the files in effect
+--   Answers command old new end    == how a command ends, by its words
+--   IsUsage old new end            == words that are no form of a command: status 2, or that of no memory
+use Rattle.std.specs.Prelude.{◌≡◌, ℕ, ◌+◌, List, []}
+use Rattle.device_defs.specs.Faults.{Rose}
+use Rattle.record_defs.specs.Records.{Record, largest_file}
+use Rattle.record_defs.specs.Table.{files_of}
+use Rattle.machine_defs.specs.Jobs.{Kind, PutJob, GetJob, DropJob, AuditJob, RepairJob}
+use Rattle.command_defs.specs.Forms.{Command, RowOf, InitWith, PutUnder, GetOf, DropOf, ListAll, AuditAll, RepairDue}
+use Rattle.command_defs.specs.Seen.{Seen, Ending, IsSynced, SameSource, ReadsAtMost, ReadsUpTo, IsRefused, sinking}
+use Rattle.command_defs.specs.Sinking.{Refuses, WritesLine}
+use Rattle.command_defs.specs.Opens.{IsOpened, Unstarted}
+use Rattle.command_defs.specs.Lines.{list_lines}
+use Rattle.command_defs.specs.Row.{AnswersRow}
+use Rattle.command_defs.specs.Jobs.{AnswersJob}
+use Rattle.command_defs.specs.Inits.{AnswersInit}
+
+-- no device but the sink was touched, and nothing was heard
+pub record TouchesSink (old new : Seen) (end : Ending) : Type 0 where
+  pub disk : new.disk ≡ old.disk
+  pub disk_faults : new.disk_faults ≡ old.disk_faults
+  pub providers : new.providers ≡ old.providers
+  pub source : SameSource old new
+  pub place : end.at ≡ 0
+  pub heard : end.heard ≡ []
+
+-- a `put`
+pub data AnswersPut (name : List ℕ) (old new : Seen) (end : Ending) : Type 0 where
+  unstarted : Unstarted old new end → SameSource old new → AnswersPut name old new end
+  source_fault : (records : List Record) → IsOpened old records → Rose old.source_faults new.source_faults
+      → IsSynced old new →
+      ReadsAtMost (largest_file + 1) old.source new.source → IsRefused 14 0 old new end
+      → AnswersPut name old new end
+  no_memory : ReadsAtMost (largest_file + 1) old.source new.source → IsRefused 70 0 old new end
+      → AnswersPut name old new end
+  begun : (records : List Record) (bytes : List ℕ) → IsOpened old records
+      → ReadsUpTo (largest_file + 1) old.source new.source bytes →
+      AnswersJob (PutJob name bytes) records old new end → AnswersPut name old new end
+
+-- a command that runs a job and reads no source
+pub data AnswersAlone (kind : Kind) (old new : Seen) (end : Ending) : Type 0 where
+  unstarted : Unstarted old new end → AnswersAlone kind old new end
+  begun : (records : List Record) → IsOpened old records → AnswersJob kind records old new end
+      → AnswersAlone kind old new end
+
+-- the files in effect are written, or a part of them
+pub record ListsFiles (records : List Record) (old new : Seen) (end : Ending) : Type 0 where
+  pub written : WritesLine (list_lines (files_of records)) end.status (sinking old new)
+  pub place : end.at ≡ 0
+  pub heard : end.heard ≡ []
+  pub disk : IsSynced old new
+  pub providers : new.providers ≡ old.providers
+
+-- a `list`
+pub data AnswersList (old new : Seen) (end : Ending) : Type 0 where
+  unstarted : Unstarted old new end → AnswersList old new end
+  no_memory : IsRefused 70 0 old new end → AnswersList old new end
+  listed : (records : List Record) → IsOpened old records → ListsFiles records old new end
+      → AnswersList old new end
+
+-- a command is answered, by its words
+abbrev pub Answers : Command → Seen → Seen → Ending → Type 0
+Answers (RowOf n l b seen) old new end =
+    AnswersRow n l b seen end.status (sinking old new) × TouchesSink old new end
+Answers (InitWith numbers) old new end = AnswersInit numbers old new end
+Answers (PutUnder name) old new end = AnswersPut name old new end
+Answers (GetOf name) old new end = AnswersAlone (GetJob name) old new end × SameSource old new
+Answers (DropOf name) old new end = AnswersAlone (DropJob name) old new end × SameSource old new
+Answers ListAll old new end = AnswersList old new end × SameSource old new
+Answers AuditAll old new end = AnswersAlone AuditJob old new end × SameSource old new
+Answers RepairDue old new end = AnswersAlone RepairJob old new end × SameSource old new
+
+-- the words are no command
+pub record IsUsage (old new : Seen) (end : Ending) : Type 0 where
+  pub refused : Refuses 2 end.status (sinking old new)
+  pub touches : TouchesSink old new end

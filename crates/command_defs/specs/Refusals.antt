@@ -1,0 +1,78 @@
+-- Why a command is refused whose job would be the only one. Records have the newest first.
+--
+--   takes_too_much records kind     == the records of such a job find no room in the journal
+--   has_no_number records kind      == the numbers that such a job draws come to their end
+--   causes_of records kind          == the causes for which the begin is refused, in order
+--   refusal_over records kind         == the first one that applies; None where the job begins
+--   status_of refusal               == the status that tells of it
+use Rattle.std.specs.Prelude.{ℕ, ◌+◌, ◌-◌, ◌^◌, ◌==◌, ◌&&◌, ◌||◌, Bool, false, not, List, [], ◌∷◌, length, sum, Option, is_some, nat_le, nat_lt}
+use Rattle.record_defs.specs.Records.{Record, is_name, largest_file, largest_journal, most_files}
+use Rattle.record_defs.specs.Journal.{text_size}
+use Rattle.record_defs.specs.Table.{version_of, next_id, next_audit, file_of, files_of, due_of}
+use Rattle.machine_defs.specs.Sights.{names_in, is_name_among}
+use Rattle.machine_defs.specs.Jobs.{Kind, PutJob, GetJob, DropJob, AuditJob, RepairJob, UpgradeJob, aim_of}
+use Rattle.machine_defs.specs.Space.{append_sizes}
+use Rattle.machine_defs.specs.Refusals as refusal
+use Rattle.machine_defs.specs.Refusals.{Refusal, Cause, first_refusal}
+use Rattle.command_defs.specs.Opens.{setup_in_effect}
+
+-- the records of a job find no room in the journal
+abbrev pub takes_too_much : List Record → Kind → Bool
+takes_too_much records kind =
+    nat_lt largest_journal
+    (text_size records + sum (append_sizes (version_of records) (setup_in_effect records) (aim_of kind)))
+
+-- the numbers that a job draws come to their end
+abbrev pub has_no_number : List Record → Kind → Bool
+has_no_number records (PutJob name bytes) = nat_lt (2 ^ 64 - 32) (next_id records)
+has_no_number records AuditJob = nat_lt (2 ^ 64 - 32) (next_audit records)
+has_no_number records kind = false
+
+-- a job cannot have its records
+abbrev pub is_full_for : List Record → Kind → Bool
+is_full_for records kind = takes_too_much records kind || has_no_number records kind
+
+-- no further name fits in beside those in effect
+abbrev pub is_crowded_by : List Record → List ℕ → Bool
+is_crowded_by records name =
+    nat_le most_files (length (names_in (files_of records)))
+    && not (is_name_among (names_in (files_of records)) name)
+
+-- the causes of a refusal, in order; a get has no record
+abbrev pub causes_of : List Record → Kind → List Cause
+causes_of records (PutJob name bytes) =
+    record { applies = not (is_name name); refusal = refusal.BadName }
+    ∷ record { applies = nat_lt largest_file (length bytes); refusal = refusal.TooLong }
+    ∷ record { applies = is_crowded_by records name; refusal = refusal.TooManyFiles }
+    ∷ record { applies = is_full_for records (PutJob name bytes); refusal = refusal.JournalFull } ∷ []
+causes_of records (GetJob name) =
+    record { applies = not (is_name name); refusal = refusal.BadName }
+    ∷ record { applies = not (is_some (file_of records name)); refusal = refusal.NoSuchName } ∷ []
+causes_of records (DropJob name) =
+    record { applies = not (is_name name); refusal = refusal.BadName }
+    ∷ record { applies = not (is_some (file_of records name)); refusal = refusal.NoSuchName }
+    ∷ record { applies = is_full_for records (DropJob name); refusal = refusal.JournalFull } ∷ []
+causes_of records AuditJob =
+    record { applies = is_some (due_of records); refusal = refusal.RepairDue }
+    ∷ record { applies = is_full_for records AuditJob; refusal = refusal.JournalFull } ∷ []
+causes_of records RepairJob =
+    record { applies = not (is_some (due_of records)); refusal = refusal.NothingDue }
+    ∷ record { applies = is_full_for records RepairJob; refusal = refusal.JournalFull } ∷ []
+causes_of records UpgradeJob =
+    record { applies = version_of records == 2; refusal = refusal.NewVersion }
+    ∷ record { applies = is_full_for records UpgradeJob; refusal = refusal.JournalFull } ∷ []
+
+-- why a begin is refused
+abbrev pub refusal_over : List Record → Kind → Option Refusal
+refusal_over records kind = first_refusal (causes_of records kind)
+
+-- the status that tells of a refusal; the others do not come where one job runs alone
+abbrev pub status_of : Refusal → ℕ
+status_of refusal.NoSuchName = 3
+status_of refusal.RepairDue = 6
+status_of refusal.NothingDue = 7
+status_of refusal.JournalFull = 11
+status_of refusal.TooLong = 16
+status_of refusal.BadName = 17
+status_of refusal.TooManyFiles = 21
+status_of why = 70

@@ -1,0 +1,52 @@
+//! Worked rows: values of the definitions, computed by the checker.
+ghost use Rattle.std.specs.Prelude.{◌≡◌, ℕ, ◌+◌, ◌^◌, List, [], ◌∷◌, ◌++◌, length, codes, replicate, Some, None};
+ghost use Rattle.record_defs.specs.Records.{Setup, SetUp, PutStart, PutDone, AuditStart, AuditDone, Version};
+ghost use Rattle.record_defs.specs.Table.{files_of, file_as};
+ghost use Rattle.machine_defs.specs.Jobs.{PutJob, GetJob, DropJob, AuditJob, RepairJob, UpgradeJob};
+ghost use Rattle.machine_defs.specs.Answers.{Put, Got, Dropped, Audited, Repaired, DiskFault};
+ghost use Rattle.machine_defs.specs.Refusals.{BadName, TooLong, NoSuchName, RepairDue, NothingDue, NewVersion};
+ghost use Rattle.machine_defs.specs.Examples.{six, one_file, flagged_file, hundred};
+ghost use Rattle.command_defs.specs.Lines.{ready_line, list_lines, text_of};
+ghost use Rattle.command_defs.specs.Opens.{object_in_effect, stripes_in_effect};
+ghost use Rattle.command_defs.specs.Ran.{profile_among};
+ghost use Rattle.command_defs.specs.Refusals.{refusal_over};
+
+/// What the commands write.
+pub fn lines()
+    ensures ready { ready_line ≡ codes "ready" ++ 10 ∷ [] }
+    ensures stored { text_of 0 (PutJob (codes "notes.txt") hundred) Put
+        ≡ codes "stored notes.txt 100" ++ 10 ∷ [] }
+    ensures got { text_of 0 (GetJob (codes "notes.txt")) (Got hundred) ≡ hundred }
+    ensures dropped { text_of 0 (DropJob (codes "a")) Dropped ≡ codes "dropped a" ++ 10 ∷ [] }
+    ensures audited { text_of 0 AuditJob (Audited 1 0 (4 ∷ 0 ∷ []))
+        ≡ codes "audit 1 undecided 0" ++ 10 ∷ codes "provider 0 count 4 flagged"
+        ++ 10 ∷ codes "provider 1 count 0 ok" ++ 10 ∷ [] }
+    ensures repaired { text_of 0 RepairJob (Repaired 1) ≡ codes "repaired 1" ++ 10 ∷ [] }
+    ensures listed { list_lines (files_of one_file) ≡ codes "notes.txt 100" ++ 10 ∷ [] }
+    ensures fault { text_of 0 (GetJob (codes "notes.txt")) DiskFault ≡ [] }
+{}
+
+/// Why jobs are refused, in order.
+pub fn refusals()
+    ensures bad_name { refusal_over one_file (PutJob (codes "a/b") hundred) ≡ Some BadName }
+    ensures stored { refusal_over one_file (PutJob (codes "a") hundred) ≡ None }
+    ensures no_name { refusal_over one_file (GetJob (codes "a")) ≡ Some NoSuchName }
+    ensures bad_before_none { refusal_over one_file (DropJob []) ≡ Some BadName }
+    ensures got { refusal_over one_file (GetJob (codes "notes.txt")) ≡ None }
+    ensures due { refusal_over flagged_file AuditJob ≡ Some RepairDue }
+    ensures repaired { refusal_over flagged_file RepairJob ≡ None }
+    ensures nothing_due { refusal_over one_file RepairJob ≡ Some NothingDue }
+    ensures upgraded { refusal_over one_file UpgradeJob ≡ None }
+    ensures new_version { refusal_over (Version ∷ one_file) UpgradeJob ≡ Some NewVersion }
+{}
+
+/// A file's object and its stripes are those of its own profile; a number that no file has is given the other profile.
+pub fn objects()
+    ensures own { (object_in_effect one_file (file_as (codes "a") 7 100 3)).profile.keep ≡ 48 }
+    ensures first { (object_in_effect one_file (file_as (codes "a") 7 100 0)).profile.keep ≡ 2 }
+    ensures fewer { stripes_in_effect one_file (file_as (codes "a") 7 1000 3) ≡ 1 }
+    ensures found { profile_among 4
+        (file_as (codes "a") 1 5 2 ∷ file_as (codes "b") 2 5 0 ∷ []) 2 ≡ 0 }
+    ensures other { profile_among 4
+        (file_as (codes "a") 1 5 2 ∷ file_as (codes "b") 2 5 0 ∷ []) 3 ≡ 4 }
+{}

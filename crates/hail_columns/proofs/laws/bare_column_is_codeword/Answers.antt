@@ -1,5 +1,0 @@
-use Rattle.hail_columns.proofs.SecondaryLaws.{IsCodeword-bare_column}
-use Rattle.hail_columns.proofs.laws.bare_column_is_codeword.Goals as goal
-
-pub returns : goal.returns
-returns c = IsCodeword-bare_column

@@ -1,5 +1,0 @@
-use Rattle.hail_devices.proofs.ImageLaws.{by_offset, from_offset}
-use Rattle.hail_devices.proofs.laws.images.Goals as goal
-
-pub returns : goal.returns
-returns c = λ cells image. (by_offset cells image, from_offset cells image)

@@ -1,6 +1,0 @@
-use Rattle.hail_machine.proofs.Held.{contains_in, all}
-use Rattle.hail_machine.proofs.laws.audited_files_stay.Goals as goal
-
-pub returns : goal.returns
-returns c limit start ms number job file j stripe clean run runs kind pinned none =
-    (all limit start clean ms run).held.audited number job file j stripe runs kind (contains_in job.pinned file pinned) none

@@ -1,5 +1,0 @@
-use Rattle.hail_machine.proofs.Gets.{got_is_opened}
-use Rattle.hail_machine.proofs.laws.got_bytes_are_opened.Goals as goal
-
-pub returns : goal.returns
-returns c = got_is_opened

@@ -1,6 +1,0 @@
-use Rattle.std.proofs.Common.{refl}
-use Rattle.hail_machine.proofs.PutRun.{moments, is_run, transcript}
-use Rattle.hail_machine.proofs.runs.put_is_stored.Goals as goal
-
-pub returns : goal.returns
-returns c = (moments, is_run, transcript, refl, refl)

@@ -1,5 +1,0 @@
-use Rattle.hail_records.proofs.FilesLaws.{find-files_of}
-use Rattle.hail_records.proofs.laws.files_are_in_effect.Goals as goal
-
-pub returns : goal.returns
-returns c = find-files_of

@@ -1,0 +1,40 @@
+-- The record that ends a put, whatever the version.
+use Rattle.std.proofs.Common.{◌≡◌, ℕ, cond, ◌==◌, List, ◌∷◌, Option, Some, None, refl, sym, subst, inl, inr}
+use Rattle.std.proofs.lemmas.Bool.{cases_Bool}
+use Rattle.record_defs.specs.Records.{Record, PutDone, PutDoneIn}
+use Rattle.record_defs.specs.Table.{file_as, profile_in, setup_of, started_as, is_start_of, file_of}
+use Rattle.machine_defs.specs.Appends.{done_record}
+use Rattle.machine_defs.proofs.JobLists.{cond_true, cond_false}
+
+-- the number of the put that a record ends
+abbrev pub put_ended : Record → Option ℕ
+put_ended (PutDone id size) = Some id
+put_ended (PutDoneIn id size profile) = Some id
+put_ended r = None
+
+-- the profile that a put's end gives its file
+abbrev pub profile_done : ℕ → List Record → ℕ → ℕ
+profile_done version rs profile = cond (version == 2) profile (profile_in (setup_of rs))
+
+module _ (version id size profile : ℕ) where
+  pub by_version : (P : Record → Type 0) → P (PutDoneIn id size profile) → P (PutDone id size) → P (done_record version id size profile)
+  by_version P new old = elim (cases_Bool (version == 2)) [
+    | inl t ↦ subst P (sym (cond_true (version == 2) (PutDoneIn id size profile) (PutDone id size) t)) new
+    | inr f ↦ subst P (sym (cond_false (version == 2) (PutDoneIn id size profile) (PutDone id size) f)) old
+  ]
+
+  pub done-setup : (rs : List Record) → setup_of (done_record version id size profile ∷ rs) ≡ setup_of rs
+  done-setup rs = by_version (λ r. setup_of (r ∷ rs) ≡ setup_of rs) refl refl
+
+  pub done-started : (rs : List Record) (k : ℕ) → started_as (done_record version id size profile ∷ rs) k ≡ cond (id == k) None (started_as rs k)
+  done-started rs k = by_version (λ r. started_as (r ∷ rs) k ≡ cond (id == k) None (started_as rs k)) refl refl
+
+  pub done-ended : put_ended (done_record version id size profile) ≡ Some id
+  done-ended = by_version (λ r. put_ended r ≡ Some id) refl refl
+
+  pub done-file : (rs : List Record) (q : List ℕ) → file_of (done_record version id size profile ∷ rs) q
+      ≡ cond (is_start_of q (started_as rs id)) (Some (file_as q id size (profile_done version rs profile))) (file_of rs q)
+  done-file rs q = elim (cases_Bool (version == 2)) [
+    | inl t ↦ (rw t refl)
+    | inr f ↦ (rw f refl)
+  ]

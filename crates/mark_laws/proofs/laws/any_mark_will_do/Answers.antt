@@ -1,5 +1,0 @@
-use Rattle.mark_laws.proofs.SecondHalf.{half_by_mark}
-use Rattle.mark_laws.proofs.laws.any_mark_will_do.Goals as goal
-
-pub returns : goal.returns
-returns c limit mark start ms h = half_by_mark limit mark start h.clean h.tell ms h.run h.calm h.marks

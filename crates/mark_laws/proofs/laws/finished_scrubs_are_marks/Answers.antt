@@ -1,8 +1,0 @@
-use Rattle.mark_laws.proofs.Finished.{scrub_marked, half_by_scrubs}
-use Rattle.mark_laws.proofs.laws.finished_scrubs_are_marks.Goals as goal
-
-pub returns-clause-marks : goal.returns-clause-marks
-returns-clause-marks c = scrub_marked
-
-pub returns-clause-half : goal.returns-clause-half
-returns-clause-half c = half_by_scrubs

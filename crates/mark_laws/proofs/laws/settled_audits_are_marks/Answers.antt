@@ -1,5 +1,0 @@
-use Rattle.mark_laws.proofs.InRuns.{calm_marked}
-use Rattle.mark_laws.proofs.laws.settled_audits_are_marks.Goals as goal
-
-pub returns : goal.returns
-returns c = calm_marked

@@ -1,5 +1,0 @@
-use Rattle.mark_laws.proofs.InRuns.{start_marked}
-use Rattle.mark_laws.proofs.laws.the_start_is_a_mark.Goals as goal
-
-pub returns : goal.returns
-returns c = start_marked

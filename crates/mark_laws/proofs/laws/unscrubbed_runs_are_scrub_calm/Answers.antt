@@ -1,5 +1,0 @@
-use Rattle.mark_laws.proofs.Finished.{unscrubbed}
-use Rattle.mark_laws.proofs.laws.unscrubbed_runs_are_scrub_calm.Goals as goal
-
-pub returns : goal.returns
-returns c = unscrubbed

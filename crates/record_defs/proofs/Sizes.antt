@@ -1,0 +1,42 @@
+-- How long spellings are.
+use Rattle.std.specs.Prelude.{◌≡◌, ℕ, ◌+◌, ◌*◌, IsTrue, List, [], ◌∷◌, length}
+use Rattle.std.specs.Int.{w32, to_le_bytes}
+use Rattle.std.specs.List.{list_all, flat_map}
+use Rattle.std.proofs.Common.{refl, arith, length-append}
+use Rattle.std.proofs.lemmas.Bool.Decides.{nat_tests}
+use Rattle.record_defs.specs.Records.{Record, SetUp, PutStart, PutDone, Drop, AuditStart, AuditDone, RepairDone, PutDoneIn, Version, Resume, InEffect, RepairDue, is_spelled, is_in_grammar, record_size}
+use Rattle.record_defs.specs.Spellings.{spelling}
+use Rattle.record_defs.proofs.Grammar.{grammar-spelled}
+use Rattle.record_defs.specs.Journal.{before_gate, text, text_size}
+
+length-counts : (counts : List ℕ) → length (flat_map (to_le_bytes w32) counts) ≡ 4 * length counts
+length-counts [] = refl
+length-counts (k ∷ counts) = omega (arith, length-append (to_le_bytes w32 k) (flat_map (to_le_bytes w32) counts), length-counts counts)
+
+pub spelled-length : (r : Record) → IsTrue (is_spelled r) → length (spelling r) ≡ record_size r
+unfolding spelling
+spelled-length (SetUp s) p = let key : length s.master ≡ 32 = grind (arith, nat_tests, p) in omega (arith, key)
+spelled-length (PutStart id name) p = omega arith
+spelled-length (PutDone id size) p = omega arith
+spelled-length (Drop name) p = omega arith
+spelled-length (AuditStart number) p = omega arith
+spelled-length (AuditDone number undecided counts) p = omega (arith, length-counts counts)
+spelled-length (RepairDone number) p = omega arith
+spelled-length (PutDoneIn id size profile) p = omega arith
+spelled-length Version p = omega arith
+spelled-length (Resume id audit) p = omega arith
+spelled-length (InEffect id size profile name) p = omega arith
+spelled-length (RepairDue number counts) p = omega (arith, length-counts counts)
+
+pub length-spelling : (r : Record) → IsTrue (is_in_grammar r) → length (spelling r) ≡ record_size r
+length-spelling r p = spelled-length r (grammar-spelled r p)
+
+pub length-before_gate : (rs : List Record) → IsTrue (list_all is_in_grammar rs) → length (before_gate rs) + 1 ≡ text_size rs
+length-before_gate [] p = refl
+length-before_gate (r ∷ rs) p =
+    let first : IsTrue (is_in_grammar r) = grind (arith, p) in
+    let others : IsTrue (list_all is_in_grammar rs) = grind (arith, p) in
+    omega (arith, length-append (before_gate rs) (1 ∷ spelling r), length-spelling r first, length-before_gate rs others)
+
+pub length-text : (rs : List Record) → IsTrue (list_all is_in_grammar rs) → length (text rs) ≡ text_size rs
+length-text rs p = omega (arith, length-append (before_gate rs) (0 ∷ []), length-before_gate rs p)

@@ -1,0 +1,55 @@
+-- A disk with a text in each of its two areas.
+use Rattle.std.specs.Prelude.{◌≡◌, ◌≢◌, ℕ, ◌-◌, ◌^◌, List, [], ◌∷◌, ◌++◌, length, drop}
+use Rattle.std.proofs.Common.{refl, sym, ap, ◌∙◌, arith, append_assoc, length-append}
+use Rattle.record_defs.specs.Journal.{magic, text, StandsFor}
+use Rattle.record_defs.proofs.Sizes.{length-text}
+use Rattle.record_defs.proofs.AreaLaws.{before_gate-entries}
+use Rattle.record_defs.specs.Areas.{A, B, entries, HoldsIn}
+use Rattle.record_defs.specs.Examples.{four_set_up, two_areas}
+
+-- a closed gate
+open-not : ◌≢◌ {A = ℕ} 0 1
+open-not e = absurd cc
+
+-- a front of known length goes
+drop-over : (front rest : List ℕ) (n : ℕ) → n ≡ length front → drop n (front ++ rest) ≡ rest
+drop-over front rest n e = ap (λ (k : ℕ). drop k (front ++ rest)) e ∙ over front
+  where
+    over : (front : List ℕ) → drop (length front) (front ++ rest) ≡ rest
+    over [] = refl
+    over (x ∷ front) = over front
+
+-- the text of one record, front first
+text-is : text four_set_up ≡ magic ++ (entries four_set_up ++ 0 ∷ [])
+text-is = ap (λ (l : List ℕ). l ++ 0 ∷ []) (before_gate-entries four_set_up) ∙ append_assoc magic (entries four_set_up) (0 ∷ [])
+
+-- it has 51 bytes
+text-size : length (text four_set_up) ≡ 51
+text-size = length-text four_set_up refl
+
+pub first-stands : StandsFor (text four_set_up) four_set_up
+first-stands = record { in_grammar = refl; gate = 0; rest = []; closed = open-not; bytes_are = refl }
+
+pub first-holds : HoldsIn (text four_set_up) A four_set_up
+first-holds = record { in_grammar = refl; gate = 0; rest = []; closed = open-not; bytes_are = refl }
+
+pub filled-first : (filling : List ℕ) → HoldsIn (two_areas filling) A four_set_up
+filled-first filling = record {
+  in_grammar = refl;
+  gate = 0;
+  rest = filling ++ 0 ∷ [];
+  closed = open-not;
+  bytes_are = ap (λ (l : List ℕ). drop 8 (l ++ (filling ++ 0 ∷ []))) text-is ∙ append_assoc (entries four_set_up) (0 ∷ []) (filling ++ 0 ∷ []);
+}
+
+pub filled-other : (filling : List ℕ) → length filling ≡ 2 ^ 23 - 51 → HoldsIn (two_areas filling) B []
+filled-other filling l = record {
+  in_grammar = refl;
+  gate = 0;
+  rest = [];
+  closed = open-not;
+  bytes_are = ap (drop (2 ^ 23)) (sym (append_assoc (text four_set_up) filling (0 ∷ []))) ∙ drop-over (text four_set_up ++ filling) (0 ∷ []) (2 ^ 23) behind;
+}
+  where
+    behind : 2 ^ 23 ≡ length (text four_set_up ++ filling)
+    behind = omega (arith, length-append (text four_set_up) filling, text-size, l)

@@ -1,0 +1,56 @@
+-- Blocks that are absent take nothing from accepted rows: only wrong ones that are there could forge one.
+use Rattle.std.proofs.Common.{◌≡◌, ℕ, ◌+◌, ◌*◌, ◌<◌, ◌≤◌, ◌&&◌, true, List, length, Some, None, refl, ap, sym, ◌∙◌, inl, inr, arith}
+use Rattle.std.specs.Prelude.{is_some, slice_index}
+use Rattle.std.proofs.lemmas.Bool.{and_parts, and_from, false≢true}
+use Rattle.std.proofs.lemmas.Option.{get_or_from_slice_get}
+use Rattle.plain_laws.proofs.Lists.{map-range_at, same_or_other}
+use Rattle.hail_field.specs.Shape.{IsShape}
+use Rattle.poly_laws.specs.Poly.{is_seen as is_seen_over}
+use Rattle.code_defs.specs.Polynomials.{value, is_seen}
+use Rattle.code_defs.specs.Points.{upto, values_at}
+use Rattle.code_defs.specs.Profiles.{profile_of}
+use Rattle.code_defs.specs.ServerCode.{codeword}
+use Rattle.column_defs.specs.Objects.{Object, stripes, symbols_in, kept_by, point}
+use Rattle.column_defs.specs.Columns.{primary_row, is_wrong_block}
+use Rattle.column_defs.specs.Opened.{SeenBlock, OpensTo, AllOpen, symbol_in, block_at, AcceptsRow, AcceptsSymbols, GivesSymbols}
+use Rattle.column_defs.specs.Forgeries.{count_of, is_agreeing, IsRow, IsStripeForgery}
+use Rattle.column_laws.proofs.UniqueLaws.{profile-room}
+use Rattle.column_laws.proofs.RightRows.{kept-symbol}
+use Rattle.column_laws.proofs.Counts.{count_of-within, opens-at}
+use Rattle.column_laws.proofs.OtherRows.{forgery-of_other}
+use Rattle.run_laws.proofs.Files.{IsRightRow, right-symbols}
+use Rattle.second_half_laws.specs.FewWrong.{is_wrong_seen}
+
+-- a provider that agrees with a polynomial gave a block
+agrees_seen : (o : Object) (j stripe place v : ℕ) (seen opened : SeenBlock) → OpensTo o j stripe seen opened → is_seen v (symbol_in place opened) ≡ true → is_some seen ≡ true
+unfolding is_seen_over
+agrees_seen o j stripe place v None opened e h = absurd (false≢true (ap (λ (x : SeenBlock). is_seen v (symbol_in place x)) (sym e) ∙ h))
+agrees_seen o j stripe place v (Some block) opened e h = refl
+
+pub own_row : (o : Object) (bytes : List ℕ) (number stripe place : ℕ) (seen opened : List SeenBlock) (p : List ℕ) → o.profile ≡ profile_of number → IsShape o.shape.n o.shape.l o.shape.b →
+    IsRow o bytes stripe place → count_of (λ j. is_wrong_seen o bytes j stripe (block_at seen j)) (upto o.shape.n) ≤ o.shape.b → AllOpen o stripe 0 seen opened → AcceptsRow o opened place p →
+    values_at (upto o.shape.l) p ≡ primary_row o (symbols_in o bytes stripe) place
+own_row o bytes number stripe place seen opened p is shape row few opens accepted = elim (same_or_other (values_at (upto o.shape.l) p) (primary_row o (symbols_in o bytes stripe) place)) [
+  | inl same ↦ same
+  | inr other ↦ absurd (too_few (forgery-of_other o bytes number (λ s. seen) stripe place opened p is shape row opens accepted other))
+]
+  where
+    too_few : IsStripeForgery o bytes (λ s. seen) stripe place → ⊥
+    too_few f =
+        (let w = count_of-within (λ j. is_agreeing o f.opened place f.row j && is_wrong_block o bytes j stripe (block_at seen j)) (λ j. is_wrong_seen o bytes j stripe (block_at seen j)) 0 o.shape.n
+        (λ j l h. (let q = and_parts (is_agreeing o f.opened place f.row j) (is_wrong_block o bytes j stripe (block_at seen j)) h in
+        and_from (is_some (block_at seen j)) (is_wrong_block o bytes j stripe (block_at seen j))
+        (agrees_seen o (0 + j) stripe place (value f.row (point o j)) (block_at seen j) (block_at f.opened j) (opens-at o stripe 0 j seen f.opened f.opens) q.0) q.1)) in
+        let many = f.forged.wrong_ones in
+        omega (arith, w, many, few))
+
+pub own_symbols : (o : Object) (bytes : List ℕ) (number stripe : ℕ) (seen : List SeenBlock) (symbols : List ℕ) → o.profile ≡ profile_of number → IsShape o.shape.n o.shape.l o.shape.b →
+    stripe < stripes o (length bytes) → count_of (λ j. is_wrong_seen o bytes j stripe (block_at seen j)) (upto o.shape.n) ≤ o.shape.b → GivesSymbols o stripe seen symbols → symbols ≡ symbols_in o bytes stripe
+own_symbols o bytes number stripe seen symbols is shape below few gives = right-symbols o bytes stripe symbols gives.size (λ place kept. by_row place kept (gives.accepted place kept))
+  where
+    by_row : (place : ℕ) → place < o.profile.keep → AcceptsSymbols o gives.opened place symbols → IsRightRow o bytes stripe symbols place
+    by_row place kept one = λ j l.
+        get_or_from_slice_get symbols (j * o.profile.keep + place) (value one.row j) 0 (one.values j l)
+        ∙ map-range_at (value one.row) (λ k. slice_index (codeword o.profile (kept_by o (symbols_in o bytes stripe) k)) place) 0 o.shape.l
+        (own_row o bytes number stripe place seen gives.opened one.row is shape (record { stripe_in = below; place_in = kept }) few gives.opens one.accepted) j (omega arith) (omega (arith, l))
+        ∙ kept-symbol o bytes stripe place j kept (omega (arith, kept, profile-room o number is)) l

@@ -1,0 +1,139 @@
+-- Every file in effect is among those that an audit or a repair works on.
+use Rattle.std.proofs.Common.{◌≡◌, ℕ, Bool, true, false, cond, List, [], ◌∷◌, Option, Some, None, refl, ap, sym, subst, ◌∙◌, inl, inr}
+use Rattle.std.specs.Prelude.{nat_lt}
+use Rattle.std.proofs.lemmas.Bool.{cases_Bool, false≢true}
+use Rattle.plain_laws.specs.Lists.{In}
+use Rattle.plain_laws.proofs.Options.{some-not-none}
+use Rattle.record_defs.specs.Records.{Record, SetUp, PutStart, PutDone, Drop, AuditStart, AuditDone, RepairDone, PutDoneIn, Version, Resume, InEffect, RepairDue}
+use Rattle.record_defs.specs.Table.{File, started_as, is_same_name, is_name_before, is_start_of, file_of, files_of, with_put, with_file, without_file, file_as, setup_of, profile_in}
+use Rattle.record_defs.proofs.FilesLaws.{same-eq, same-refl}
+use Rattle.machine_defs.specs.Jobs.{Pinned}
+use Rattle.machine_defs.specs.States.{State, file_in}
+use Rattle.machine_defs.specs.Actions.{machine_pins}
+use Rattle.machine_defs.specs.Begins.{pinned_file, pin_by, pin_all}
+use Rattle.machine_defs.proofs.JobLists.{cond_true, cond_false}
+
+-- a file that a record brings in has the name, or the one before has
+named_put : (b : Bool) (name : List ℕ) (k size profile : ℕ) (rest : Option File) (f : File) →
+    cond b (Some (file_as name k size profile)) rest ≡ Some f → (rest ≡ Some f → f.name ≡ name) →
+    f.name ≡ name
+named_put true name k size profile rest f h old =
+    (let same : file_as name k size profile ≡ f = cc in sym (ap (λ (x : File). x.name) same))
+named_put false name k size profile rest f h old = old h
+
+-- a file in effect has the name
+file_named : (rs : List Record) (name : List ℕ) (f : File) → file_of rs name ≡ Some f → f.name ≡ name
+file_named [] name f h = absurd (some-not-none None f h refl)
+file_named (SetUp s ∷ rs) name f h = file_named rs name f h
+file_named (PutStart k n ∷ rs) name f h = file_named rs name f h
+file_named (PutDone k size ∷ rs) name f h =
+    named_put (is_start_of name (started_as rs k)) name k size (profile_in (setup_of rs)) (file_of rs name) f
+    h (file_named rs name f)
+file_named (Drop n ∷ rs) name f h = elim (cases_Bool (is_same_name n name)) [
+  | inl t ↦ absurd (some-not-none (file_of (Drop n ∷ rs) name) f h (cond_true (is_same_name n name) None (file_of rs name) t))
+  | inr o ↦ file_named rs name f (sym (cond_false (is_same_name n name) None (file_of rs name) o) ∙ h)
+]
+file_named (AuditStart number ∷ rs) name f h = file_named rs name f h
+file_named (AuditDone number undecided counts ∷ rs) name f h = file_named rs name f h
+file_named (RepairDone number ∷ rs) name f h = file_named rs name f h
+file_named (PutDoneIn k size profile ∷ rs) name f h =
+    named_put (is_start_of name (started_as rs k)) name k size profile (file_of rs name) f h
+    (file_named rs name f)
+file_named (Version ∷ rs) name f h = file_named rs name f h
+file_named (Resume next audit ∷ rs) name f h = file_named rs name f h
+file_named (InEffect k size profile kept ∷ rs) name f h =
+    named_put (is_same_name kept name) name k size profile (file_of rs name) f h (file_named rs name f)
+file_named (RepairDue number counts ∷ rs) name f h = file_named rs name f h
+
+with_new : (fs : List File) (x : File) → In x (with_file fs x)
+with_new [] x = inl refl
+with_new (f ∷ fs) x = elim (cases_Bool (is_name_before f.name x.name)) [
+  | inl t ↦ subst (λ l. In x l) (sym (cond_true (is_name_before f.name x.name) (f ∷ with_file fs x) (x ∷ f ∷ fs) t)) (inr (with_new fs x))
+  | inr o ↦ subst (λ l. In x l) (sym (cond_false (is_name_before f.name x.name) (f ∷ with_file fs x) (x ∷ f ∷ fs) o)) (inl refl)
+]
+
+with_old : (fs : List File) (x g : File) → In g fs → In g (with_file fs x)
+with_old [] x g h = absurd h
+with_old (f ∷ fs) x g h = elim (cases_Bool (is_name_before f.name x.name)) [
+  | inl t ↦ subst (λ l. In g l) (sym (cond_true (is_name_before f.name x.name) (f ∷ with_file fs x) (x ∷ f ∷ fs) t)) (elim h [ inl e ↦ inl e | inr i ↦ inr (with_old fs x g i) ])
+  | inr o ↦ subst (λ l. In g l) (sym (cond_false (is_name_before f.name x.name) (f ∷ with_file fs x) (x ∷ f ∷ fs) o)) (inr h)
+]
+
+without_old : (fs : List File) (n : List ℕ) (g : File) → In g fs → is_same_name g.name n ≡ false → In g (without_file fs n)
+without_old [] n g h other = absurd h
+without_old (f ∷ fs) n g h other = elim (cases_Bool (is_same_name f.name n)) [
+  | inl t ↦ subst (λ l. In g l) (sym (cond_true (is_same_name f.name n) (without_file fs n) (f ∷ without_file fs n) t))
+      (elim h [ inl e ↦ absurd (false≢true (sym other ∙ (ap (λ (x : File). is_same_name x.name n) e ∙ t))) | inr i ↦ without_old fs n g i other ])
+  | inr o ↦ subst (λ l. In g l) (sym (cond_false (is_same_name f.name n) (without_file fs n) (f ∷ without_file fs n) o))
+      (elim h [ inl e ↦ inl e | inr i ↦ inr (without_old fs n g i other) ])
+]
+
+apart : (n name : List ℕ) → is_same_name n name ≡ false → is_same_name name n ≡ false
+apart n name o = elim (cases_Bool (is_same_name name n)) [
+  | inl t ↦ absurd (false≢true (sym o ∙ (ap (λ x. is_same_name n x) (same-eq name n t) ∙ same-refl n)))
+  | inr f ↦ f
+]
+
+-- a file that a record brings in is among the files, or the one before is
+in_put : (fs : List File) (o : Option (List ℕ)) (name : List ℕ) (k size profile : ℕ) (rest : Option File)
+    (f : File) → cond (is_start_of name o) (Some (file_as name k size profile)) rest ≡ Some f →
+    (rest ≡ Some f → f.name ≡ name) → (rest ≡ Some f → In f fs) → In f (with_put fs o k size profile)
+in_put fs None name k size profile rest f h named old = old h
+in_put fs (Some n) name k size profile rest f h named old = by_name (is_same_name n name) refl h
+  where
+    by_name : (b : Bool) → is_same_name n name ≡ b →
+        cond b (Some (file_as name k size profile)) rest ≡ Some f →
+        In f (with_file (without_file fs n) (file_as n k size profile))
+    by_name true t e = (let same : file_as name k size profile ≡ f = cc in
+        subst (λ (x : File). In x (with_file (without_file fs n) (file_as n k size profile)))
+        (ap (λ (l : List ℕ). file_as l k size profile) (same-eq n name t) ∙ same)
+        (with_new (without_file fs n) (file_as n k size profile)))
+    by_name false o e = with_old (without_file fs n) (file_as n k size profile) f
+        (without_old fs n f (old e) (ap (λ x. is_same_name x n) (named e) ∙ apart n name o))
+
+pub in_files : (rs : List Record) (name : List ℕ) (f : File) → file_of rs name ≡ Some f → In f (files_of rs)
+in_files [] name f h = absurd (some-not-none None f h refl)
+in_files (SetUp s ∷ rs) name f h = in_files rs name f h
+in_files (PutStart k n ∷ rs) name f h = in_files rs name f h
+in_files (PutDone k size ∷ rs) name f h =
+    in_put (files_of rs) (started_as rs k) name k size (profile_in (setup_of rs)) (file_of rs name) f h
+    (file_named rs name f) (in_files rs name f)
+in_files (Drop n ∷ rs) name f h = elim (cases_Bool (is_same_name n name)) [
+  | inl t ↦ absurd (some-not-none (file_of (Drop n ∷ rs) name) f h (cond_true (is_same_name n name) None (file_of rs name) t))
+  | inr o ↦ (let old = sym (cond_false (is_same_name n name) None (file_of rs name) o) ∙ h in
+      without_old (files_of rs) n f (in_files rs name f old) (ap (λ x. is_same_name x n) (file_named rs name f old) ∙ apart n name o))
+]
+in_files (AuditStart number ∷ rs) name f h = in_files rs name f h
+in_files (AuditDone number undecided counts ∷ rs) name f h = in_files rs name f h
+in_files (RepairDone number ∷ rs) name f h = in_files rs name f h
+in_files (PutDoneIn k size profile ∷ rs) name f h =
+    in_put (files_of rs) (started_as rs k) name k size profile (file_of rs name) f h
+    (file_named rs name f) (in_files rs name f)
+in_files (Version ∷ rs) name f h = in_files rs name f h
+in_files (Resume next audit ∷ rs) name f h = in_files rs name f h
+in_files (InEffect k size profile kept ∷ rs) name f h =
+    in_put (files_of rs) (Some kept) name k size profile (file_of rs name) f h
+    (file_named rs name f) (in_files rs name f)
+in_files (RepairDue number counts ∷ rs) name f h = in_files rs name f h
+
+pin_new : (p : Pinned) (ps : List Pinned) → In p (pin_by machine_pins p ps)
+pin_new p [] = inl refl
+pin_new p (q ∷ qs) = elim (cases_Bool (nat_lt p.id q.id)) [
+  | inl t ↦ subst (λ l. In p l) (sym (cond_true (nat_lt p.id q.id) (p ∷ q ∷ qs) (q ∷ pin_by machine_pins p qs) t)) (inl refl)
+  | inr o ↦ subst (λ l. In p l) (sym (cond_false (nat_lt p.id q.id) (p ∷ q ∷ qs) (q ∷ pin_by machine_pins p qs) o)) (inr (pin_new p qs))
+]
+
+pin_old : (p : Pinned) (ps : List Pinned) (g : Pinned) → In g ps → In g (pin_by machine_pins p ps)
+pin_old p [] g h = absurd h
+pin_old p (q ∷ qs) g h = elim (cases_Bool (nat_lt p.id q.id)) [
+  | inl t ↦ subst (λ l. In g l) (sym (cond_true (nat_lt p.id q.id) (p ∷ q ∷ qs) (q ∷ pin_by machine_pins p qs) t)) (inr h)
+  | inr o ↦ subst (λ l. In g l) (sym (cond_false (nat_lt p.id q.id) (p ∷ q ∷ qs) (q ∷ pin_by machine_pins p qs) o)) (elim h [ inl e ↦ inl e | inr i ↦ inr (pin_old p qs g i) ])
+]
+
+in_all : (w : State) (fs : List File) (f : File) → In f fs → In (pinned_file w f) (pin_all w fs)
+in_all w [] f h = absurd h
+in_all w (g ∷ gs) f (inl e) = subst (λ (x : File). In (pinned_file w f) (pin_by machine_pins (pinned_file w x) (pin_all w gs))) e (pin_new (pinned_file w f) (pin_all w gs))
+in_all w (g ∷ gs) f (inr h) = pin_old (pinned_file w g) (pin_all w gs) (pinned_file w f) (in_all w gs f h)
+
+pub all_pinned : (w : State) (name : List ℕ) (f : File) → file_in w name ≡ Some f → In (pinned_file w f) (pin_all w (files_of w.records))
+all_pinned w name f h = in_all w (files_of w.records) f (in_files w.records name f h)

@@ -1,0 +1,14 @@
+pub mod FewWrong
+pub mod Stays
+pub mod Fetching
+pub mod Origins
+pub mod Made
+pub mod Gave
+pub mod Whole
+pub mod Behind
+pub mod Own
+pub mod Skips
+pub mod Damage
+pub mod Marks
+pub mod MarkedRuns
+pub mod Sharp

@@ -1,8 +1,0 @@
-use Rattle.sound_states.proofs.Events.{run-sound}
-use Rattle.sound_states.proofs.laws.journals_are_alike.Goals as goal
-
-pub returns-clause-accepted : goal.returns-clause-accepted
-returns-clause-accepted c limit start ms fits clean run = (run-sound limit start ms fits clean run).journal.accepted
-
-pub returns-clause-alike : goal.returns-clause-alike
-returns-clause-alike c limit start ms fits clean run = (run-sound limit start ms fits clean run).journal.alike

@@ -1,5 +1,0 @@
-use Rattle.sound_states.proofs.Events.{events-sound}
-use Rattle.sound_states.proofs.laws.sound_states_stay_sound.Goals as goal
-
-pub returns : goal.returns
-returns c limit moment old new event outcome fits spelled S h = events-sound limit moment old S fits event outcome new spelled h

@@ -1,0 +1,65 @@
+-- What sound states give: their setup, their files, and the next actions of their jobs.
+use Rattle.std.proofs.Common.{◌≡◌, ℕ, ◌-◌, ◌<◌, ◌≤◌, ◌^◌, true, false, Some, refl, ap, sym, ◌∙◌, inl, inr, arith}
+use Rattle.std.specs.Prelude.{IsTrue, nat_lt, slice_get}
+use Rattle.std.proofs.lemmas.Bool.{cases_Bool, and_parts, ltb-true}
+use Rattle.hail_field.specs.Shape.{IsShape}
+use Rattle.record_defs.specs.Records.{Setup, SetUp, is_setup, is_master, is_in_grammar}
+use Rattle.record_defs.specs.Table.{version_of, next_id, next_audit}
+use Rattle.machine_defs.specs.Jobs.{Kind, PutJob, GetJob, DropJob, AuditJob, RepairJob, UpgradeJob, aim_of, Job, job_of}
+use Rattle.machine_defs.specs.Actions.{Action, End, actions_of, actions_left}
+use Rattle.machine_defs.specs.Appends.{IsAt}
+use Rattle.machine_defs.specs.States.{State, Append, setup_in}
+use Rattle.machine_defs.specs.Sights.{sight_of, are_numbers_used_up}
+use Rattle.machine_defs.specs.Steps.{is_idle_drop, next_action}
+use Rattle.machine_defs.proofs.JobLists.{cond_true, cond_false, number_of}
+use Rattle.state_laws.specs.Orders.{moves_made, moves_before}
+use Rattle.state_laws.specs.Sound.{IsSound}
+use Rattle.state_laws.proofs.Orders.{in_order-first, get-drop}
+use Rattle.state_laws.proofs.JobLists.{mine, made-some}
+use Rattle.state_laws.proofs.Written.{ids-small, audits-small}
+use Rattle.state_laws.proofs.Events.{moves-next}
+
+pub valid-shape : (s : Setup) → IsTrue (is_in_grammar (SetUp s)) → IsShape s.n s.l s.b
+valid-shape s h = let good : is_setup s ≡ true = (and_parts (is_setup s) (is_master s.master) h).0 in grind (arith, good)
+
+module _ (limit : ℕ) (w : State) (S : IsSound limit w) where
+  pub numbers-left : (kind : Kind) → version_of w.records ≡ 1 → are_numbers_used_up (sight_of w) (aim_of kind) ≡ false
+  numbers-left (PutJob name bytes) first = not-above (next_id w.records) (let a = ids-small limit w S first in omega (arith, a))
+    where
+      not-above : (n : ℕ) → n ≤ 2 ^ 64 - 32 → nat_lt (2 ^ 64 - 32) n ≡ false
+      not-above n l = elim (cases_Bool (nat_lt (2 ^ 64 - 32) n)) [
+        | inl t ↦ absurd (let a = ltb-true (2 ^ 64 - 32) n t in omega (arith, a, l))
+        | inr f ↦ f
+      ]
+  numbers-left AuditJob first = not-above (next_audit w.records) (let a = audits-small limit w S first in omega (arith, a))
+    where
+      not-above : (n : ℕ) → n ≤ 2 ^ 64 - 32 → nat_lt (2 ^ 64 - 32) n ≡ false
+      not-above n l = elim (cases_Bool (nat_lt (2 ^ 64 - 32) n)) [
+        | inl t ↦ absurd (let a = ltb-true (2 ^ 64 - 32) n t in omega (arith, a, l))
+        | inr f ↦ f
+      ]
+  numbers-left (GetJob name) first = refl
+  numbers-left (DropJob name) first = refl
+  numbers-left RepairJob first = refl
+  numbers-left UpgradeJob first = refl
+
+  -- a job that runs has a next action
+  pub next-some : (number : ℕ) (job : Job) → job_of w.jobs number ≡ Some job → (action : Action) × (next_action w job ≡ Some action)
+  next-some number job runs = elim (cases_Bool (is_idle_drop w job job.kind)) [
+    | inl t ↦ (End, cond_true (is_idle_drop w job job.kind) (Some End) (slice_get (actions_of (setup_in w) job) job.place) t)
+    | inr f ↦ (let x = in_order-first (moves_made w.append number) (actions_left (setup_in w) job) (S.jobs number job runs).order in
+        (x.0, cond_false (is_idle_drop w job job.kind) (Some End) (slice_get (actions_of (setup_in w) job) job.place) f ∙ (sym (get-drop (actions_of (setup_in w) job) job.place) ∙ x.1)))
+  ]
+
+  pub mover : (number : ℕ) (job : Job) (action : Action) → job_of w.jobs number ≡ Some job → next_action w job ≡ Some action → 0 < moves_before action → (a : Append) × (w.append ≡ Some a) × IsAt a job (moves_before action)
+  mover number job action runs next l =
+      (let e = moves-next w job action (moves_made w.append number) next (S.jobs number job runs).order in
+      let m = made-some w.append number (omega (arith, l, e)) in
+      (m.0, m.1, (m.2 ∙ sym (number_of w.jobs number job runs), m.3 ∙ e)))
+
+  pub holder : (a : Append) → w.append ≡ Some a → (job : Job) × (job_of w.jobs a.job ≡ Some job) × ((action : Action) × (next_action w job ≡ Some action) × (a.moves ≡ moves_before action))
+  holder a flight =
+      (let A = S.append a flight in
+      let n = next-some a.job A.job A.runs in
+      let e = moves-next w A.job n.0 (moves_made w.append a.job) n.1 (S.jobs a.job A.job A.runs).order in
+      (A.job, A.runs, (n.0, n.1, sym (mine a a.job refl) ∙ (ap (λ f. moves_made f a.job) (sym flight) ∙ e))))

@@ -1,0 +1,348 @@
+-- The actions of each job are in order, and each of its actions goes one on in it.
+use Rattle.std.proofs.Common.{◌≡◌, ℕ, zero, suc, ◌+◌, ◌-◌, ◌<◌, ◌≤◌, true, false, cond, List, [], ◌∷◌, ◌++◌, length, drop, Some, None, refl, ap, sym, subst, ◌∙◌, inl, inr, arith, count_by}
+use Rattle.std.specs.Prelude.{slice_get}
+use Rattle.std.specs.List.{flat_map}
+use Rattle.std.proofs.lemmas.List.Sums.{sum_by-cons, sum_by-append, sum_by-take-drop}
+use Rattle.plain_laws.specs.Lists.{Each}
+use Rattle.plain_laws.proofs.Each.{each_get, each_append, each_map, each_flat}
+use Rattle.plain_laws.proofs.Lists.{drop-get}
+use Rattle.code_defs.specs.Points.{upto}
+use Rattle.record_defs.specs.Records.{Setup}
+use Rattle.machine_defs.specs.Jobs.{Kind, PutJob, GetJob, DropJob, AuditJob, RepairJob, UpgradeJob, Pinned, Job}
+use Rattle.machine_defs.specs.Actions.{Action, WriteBody, SyncBody, WriteGate, SyncGate, Store, Fetch, Ask, Work, Remove, End, append_actions, on_each_provider, on_each_stripe, store_actions, open_actions, read_actions, rewrite_actions, repair_actions, rounds_of, ask_actions, remove_actions, actions_by, actions_of, actions_left, ends_append, appends_left}
+use Rattle.machine_defs.specs.Setups.{profiled, stripes_of}
+use Rattle.machine_defs.specs.States.{State, setup_in}
+use Rattle.machine_defs.specs.Steps.{next_action}
+use Rattle.machine_defs.proofs.ActionLists.{split_get}
+use Rattle.machine_defs.proofs.NextActions.{next_stands}
+use Rattle.state_laws.specs.Orders.{moves_before, moves_after, IsInOrder}
+
+-- ---- lists of actions
+
+-- an action that is neither a move of an append nor an End
+abbrev pub IsOther : Action → Type 0
+IsOther WriteBody = ⊥
+IsOther SyncBody = ⊥
+IsOther WriteGate = ⊥
+IsOther SyncGate = ⊥
+IsOther End = ⊥
+IsOther action = Unit {0}
+
+pub in_order-others : (xs ys : List Action) → Each IsOther xs → IsInOrder 0 ys → IsInOrder 0 (xs ++ ys)
+in_order-others [] ys h o = o
+in_order-others (Store j object stripe ∷ xs) ys h o = (refl, in_order-others xs ys h.1 o)
+in_order-others (Fetch j object stripe ∷ xs) ys h o = (refl, in_order-others xs ys h.1 o)
+in_order-others (Ask j object round ∷ xs) ys h o = (refl, in_order-others xs ys h.1 o)
+in_order-others (Work object stripe ∷ xs) ys h o = (refl, in_order-others xs ys h.1 o)
+in_order-others (Remove j object ∷ xs) ys h o = (refl, in_order-others xs ys h.1 o)
+in_order-others (WriteBody ∷ xs) ys h o = absurd h.0
+in_order-others (SyncBody ∷ xs) ys h o = absurd h.0
+in_order-others (WriteGate ∷ xs) ys h o = absurd h.0
+in_order-others (SyncGate ∷ xs) ys h o = absurd h.0
+in_order-others (End ∷ xs) ys h o = absurd h.0
+
+in_order-append : (ys : List Action) → IsInOrder 0 ys → IsInOrder 0 (append_actions ++ ys)
+in_order-append ys o = (refl, (refl, (refl, (refl, o))))
+
+in_order-end : IsInOrder 0 (End ∷ [])
+in_order-end = (refl, refl)
+
+-- an action that is not the End goes on in the order
+pub in_order-step : (moves : ℕ) (action : Action) (actions : List Action) → (action ≡ End → ⊥) → IsInOrder moves (action ∷ actions) →
+    (moves ≡ moves_before action) × IsInOrder (moves_after action) actions
+in_order-step moves WriteBody actions n o = o
+in_order-step moves SyncBody actions n o = o
+in_order-step moves WriteGate actions n o = o
+in_order-step moves SyncGate actions n o = o
+in_order-step moves (Store j object stripe) actions n o = o
+in_order-step moves (Fetch j object stripe) actions n o = o
+in_order-step moves (Ask j object round) actions n o = o
+in_order-step moves (Work object stripe) actions n o = o
+in_order-step moves (Remove j object) actions n o = o
+in_order-step moves End actions n o = absurd (n refl)
+
+pub moves-first : (moves : ℕ) (action : Action) (actions : List Action) → IsInOrder moves (action ∷ actions) → moves ≡ moves_before action
+moves-first moves WriteBody actions o = o.0
+moves-first moves SyncBody actions o = o.0
+moves-first moves WriteGate actions o = o.0
+moves-first moves SyncGate actions o = o.0
+moves-first moves (Store j object stripe) actions o = o.0
+moves-first moves (Fetch j object stripe) actions o = o.0
+moves-first moves (Ask j object round) actions o = o.0
+moves-first moves (Work object stripe) actions o = o.0
+moves-first moves (Remove j object) actions o = o.0
+moves-first moves End actions o = o.0
+
+-- some action is first
+pub in_order-first : (moves : ℕ) (actions : List Action) → IsInOrder moves actions → (action : Action) × (slice_get actions 0 ≡ Some action)
+in_order-first moves [] o = absurd o
+in_order-first moves (action ∷ actions) o = (action, refl)
+
+pub get-drop : {X : Type 0} (xs : List X) (p : ℕ) → slice_get (drop p xs) 0 ≡ slice_get xs p
+get-drop [] zero = refl
+get-drop [] (suc p) = refl
+get-drop (x ∷ xs) zero = refl
+get-drop (x ∷ xs) (suc p) = get-drop xs p
+
+-- ---- the lists of jobs
+
+pub others-removals : (s : Setup) (job : Job) → Each IsOther (remove_actions s job)
+others-removals s job = each_flat IsOther (λ object. on_each_provider s (λ j. Remove j object)) job.older (λ object. each_map IsOther (λ j. Remove j object) (upto s.n) (λ j. tt))
+
+pub others-stores : (s : Setup) (job : Job) (bytes : List ℕ) → Each IsOther (store_actions s job bytes)
+others-stores s job bytes = each_flat IsOther (λ stripe. on_each_provider s (λ j. Store j job.subject stripe)) (upto (stripes_of (profiled s job.profile) (length bytes)))
+    (λ stripe. each_map IsOther (λ j. Store j job.subject stripe) (upto s.n) (λ j. tt))
+
+pub others-open : (s : Setup) (object stripe : ℕ) → Each IsOther (open_actions s object stripe)
+others-open s object stripe = each_append IsOther (on_each_provider s (λ j. Fetch j object stripe)) (Work object stripe ∷ []) (each_map IsOther (λ j. Fetch j object stripe) (upto s.n) (λ j. tt)) (tt, tt)
+
+pub others-reads : (s : Setup) (pinned : List Pinned) → Each IsOther (read_actions s pinned)
+others-reads s pinned = each_flat IsOther (λ (f : Pinned). on_each_stripe (profiled s f.profile) (length f.bytes) (open_actions s f.id)) pinned
+    (λ f. each_flat IsOther (open_actions s f.id) (upto (stripes_of (profiled s f.profile) (length f.bytes))) (λ stripe. others-open s f.id stripe))
+
+others-cond : (b : _) (action : Action) → IsOther action → Each IsOther (cond b (action ∷ []) [])
+others-cond true action h = (h, tt)
+others-cond false action h = tt
+
+pub others-repairs : (s : Setup) (job : Job) → Each IsOther (repair_actions s job)
+others-repairs s job = each_flat IsOther (λ (f : Pinned). on_each_stripe (profiled s f.profile) (length f.bytes) (λ stripe. open_actions s f.id stripe ++ rewrite_actions s job f.id stripe)) job.pinned
+    (λ f. each_flat IsOther (λ stripe. open_actions s f.id stripe ++ rewrite_actions s job f.id stripe) (upto (stripes_of (profiled s f.profile) (length f.bytes)))
+    (λ stripe. each_append IsOther (open_actions s f.id stripe) (rewrite_actions s job f.id stripe) (others-open s f.id stripe)
+    (each_flat IsOther (λ j. cond (job.flagged j) (Store j f.id stripe ∷ []) []) (upto s.n) (λ j. others-cond (job.flagged j) (Store j f.id stripe) tt))))
+
+-- what each ask is, those of a job are
+pub each-ask : (P : Action → Type 0) → ((j object round : ℕ) → P (Ask j object round)) → (s : Setup) (job : Job) → Each P (ask_actions s job)
+each-ask P h s job = each_flat P (λ (f : Pinned). flat_map (λ round. on_each_provider s (λ j. Ask j f.id round)) (rounds_of (profiled s f.profile) (length f.bytes))) job.pinned
+    (λ f. each_flat P (λ round. on_each_provider s (λ j. Ask j f.id round)) (rounds_of (profiled s f.profile) (length f.bytes)) (λ round. each_map P (λ j. Ask j f.id round) (upto s.n) (λ j. h j f.id round)))
+
+pub others-asks : (s : Setup) (job : Job) → Each IsOther (ask_actions s job)
+others-asks s job = each-ask IsOther (λ j object round. tt) s job
+
+-- what comes behind the first append of a put, a drop and an audit
+abbrev pub put_rest : Setup → Job → List ℕ → List Action
+put_rest s job bytes = store_actions s job bytes ++ (append_actions ++ (remove_actions s job ++ End ∷ []))
+
+abbrev pub drop_rest : Setup → Job → List Action
+drop_rest s job = remove_actions s job ++ End ∷ []
+
+abbrev pub audit_rest : Setup → Job → List Action
+audit_rest s job = ask_actions s job ++ (append_actions ++ End ∷ [])
+
+pub in_order-removals : (s : Setup) (job : Job) → IsInOrder 0 (drop_rest s job)
+in_order-removals s job = in_order-others (remove_actions s job) (End ∷ []) (others-removals s job) in_order-end
+
+in_order-by : (s : Setup) (job : Job) (kind : Kind) → IsInOrder 0 (actions_by s job kind)
+in_order-by s job (PutJob name bytes) = in_order-append (put_rest s job bytes)
+    (in_order-others (store_actions s job bytes) (append_actions ++ drop_rest s job) (others-stores s job bytes) (in_order-append (drop_rest s job) (in_order-removals s job)))
+in_order-by s job (GetJob name) = in_order-others (read_actions s job.pinned) (End ∷ []) (others-reads s job.pinned) in_order-end
+in_order-by s job (DropJob name) = in_order-append (drop_rest s job) (in_order-removals s job)
+in_order-by s job AuditJob = in_order-append (audit_rest s job) (in_order-others (ask_actions s job) (append_actions ++ End ∷ []) (others-asks s job) (in_order-append (End ∷ []) in_order-end))
+in_order-by s job RepairJob = in_order-others (repair_actions s job) (append_actions ++ End ∷ []) (others-repairs s job) (in_order-append (End ∷ []) in_order-end)
+in_order-by s job UpgradeJob = in_order-append (End ∷ []) in_order-end
+
+-- the actions of a job are in order
+pub in_order : (s : Setup) (job : Job) → IsInOrder 0 (actions_of s job)
+unfolding actions_of
+in_order s job = in_order-by s job job.kind
+
+-- ---- how many appends are left
+
+-- one for the fourth move of an append, and none for another action
+abbrev pub gates : Action → ℕ
+gates action = cond (ends_append action) 1 0
+
+abbrev pub appends_in : List Action → ℕ
+appends_in actions = count_by ends_append actions
+
+pub appends-others : (xs : List Action) → Each IsOther xs → appends_in xs ≡ 0
+appends-others [] h = refl
+appends-others (x ∷ xs) h = sum_by-cons gates x xs ∙ (let e = first x h.0 in let r = appends-others xs h.1 in omega (arith, e, r))
+  where
+    first : (x : Action) → IsOther x → gates x ≡ 0
+    first (Store j object stripe) i = refl
+    first (Fetch j object stripe) i = refl
+    first (Ask j object round) i = refl
+    first (Work object stripe) i = refl
+    first (Remove j object) i = refl
+    first WriteBody i = absurd i
+    first SyncBody i = absurd i
+    first WriteGate i = absurd i
+    first SyncGate i = absurd i
+    first End i = absurd i
+
+pub appends-cons : (action : Action) (actions : List Action) → appends_in (action ∷ actions) ≡ gates action + appends_in actions
+appends-cons action actions = sum_by-cons gates action actions
+
+-- within an append its fourth move is left
+pub appends-order : (moves : ℕ) (actions : List Action) → 0 < moves → IsInOrder moves actions → 0 < appends_in actions
+appends-order moves [] l o = absurd o
+appends-order moves (WriteBody ∷ actions) l o = absurd (let e = o.0 in omega (arith, l, e))
+appends-order moves (SyncBody ∷ actions) l o = (let r = appends-order 2 actions (omega arith) o.1 in let c = appends-cons SyncBody actions in omega (arith, r, c))
+appends-order moves (WriteGate ∷ actions) l o = (let r = appends-order 3 actions (omega arith) o.1 in let c = appends-cons WriteGate actions in omega (arith, r, c))
+appends-order moves (SyncGate ∷ actions) l o = (let c = appends-cons SyncGate actions in omega (arith, c))
+appends-order moves (Store j object stripe ∷ actions) l o = absurd (let e = o.0 in omega (arith, l, e))
+appends-order moves (Fetch j object stripe ∷ actions) l o = absurd (let e = o.0 in omega (arith, l, e))
+appends-order moves (Ask j object round ∷ actions) l o = absurd (let e = o.0 in omega (arith, l, e))
+appends-order moves (Work object stripe ∷ actions) l o = absurd (let e = o.0 in omega (arith, l, e))
+appends-order moves (Remove j object ∷ actions) l o = absurd (let e = o.0 in omega (arith, l, e))
+appends-order moves (End ∷ actions) l o = absurd (let e = o.0 in omega (arith, l, e))
+
+pub appends-append : (xs ys : List Action) → appends_in (xs ++ ys) ≡ appends_in xs + appends_in ys
+appends-append xs ys = sum_by-append gates xs ys
+
+pub appends-drop : (xs : List Action) (p : ℕ) → appends_in (drop p xs) ≤ appends_in xs
+appends-drop xs p = (let e = sum_by-take-drop gates xs p in omega (arith, e))
+
+pub appends-move : (ys : List Action) → appends_in (append_actions ++ ys) ≡ 1 + appends_in ys
+appends-move ys = appends-append append_actions ys
+
+pub appends-removals : (s : Setup) (job : Job) → appends_in (drop_rest s job) ≡ 0
+appends-removals s job = appends-append (remove_actions s job) (End ∷ []) ∙ (let e = appends-others (remove_actions s job) (others-removals s job) in omega (arith, e))
+
+pub appends-put_rest : (s : Setup) (job : Job) (bytes : List ℕ) → appends_in (put_rest s job bytes) ≡ 1
+appends-put_rest s job bytes =
+    appends-append (store_actions s job bytes) (append_actions ++ drop_rest s job)
+    ∙ (let e = appends-others (store_actions s job bytes) (others-stores s job bytes) in let f = appends-move (drop_rest s job) in let g = appends-removals s job in omega (arith, e, f, g))
+
+pub appends-audit_rest : (s : Setup) (job : Job) → appends_in (audit_rest s job) ≡ 1
+appends-audit_rest s job =
+    appends-append (ask_actions s job) (append_actions ++ End ∷ [])
+    ∙ (let e = appends-others (ask_actions s job) (others-asks s job) in let f = appends-move (End ∷ []) in omega (arith, e, f))
+
+-- within the first append of a list, and behind it
+appends-within : (ys : List Action) (p : ℕ) → p < 4 → appends_in (drop p (append_actions ++ ys)) ≡ 1 + appends_in ys
+appends-within ys zero l = appends-move ys
+appends-within ys (suc zero) l = appends-append (SyncBody ∷ WriteGate ∷ SyncGate ∷ []) ys
+appends-within ys (suc (suc zero)) l = appends-append (WriteGate ∷ SyncGate ∷ []) ys
+appends-within ys (suc (suc (suc zero))) l = appends-append (SyncGate ∷ []) ys
+appends-within ys (suc (suc (suc (suc p)))) l = absurd (omega (arith, l))
+
+appends-behind : (ys : List Action) (p : ℕ) → 4 ≤ p → appends_in (drop p (append_actions ++ ys)) ≤ appends_in ys
+appends-behind ys zero l = absurd (omega (arith, l))
+appends-behind ys (suc zero) l = absurd (omega (arith, l))
+appends-behind ys (suc (suc zero)) l = absurd (omega (arith, l))
+appends-behind ys (suc (suc (suc zero))) l = absurd (omega (arith, l))
+appends-behind ys (suc (suc (suc (suc p)))) l = appends-drop ys p
+
+-- how many appends a job has left, by its kind and place
+abbrev pub appends_by : Setup → Job → Kind → ℕ
+appends_by s job kind = appends_in (drop job.place (actions_by s job kind))
+
+pub appends_left-by : (s : Setup) (job : Job) → appends_left s job ≡ appends_by s job job.kind
+unfolding actions_of
+appends_left-by s job = refl
+
+module _ (s : Setup) (job : Job) where
+  pub put-first : (name bytes : List ℕ) → job.kind ≡ PutJob name bytes → job.place < 4 → appends_left s job ≡ 2
+  put-first name bytes kind l = appends_left-by s job ∙ (ap (appends_by s job) kind ∙ (appends-within (put_rest s job bytes) job.place l ∙ ap (λ n. 1 + n) (appends-put_rest s job bytes)))
+
+  pub put-later : (name bytes : List ℕ) → job.kind ≡ PutJob name bytes → 4 ≤ job.place → appends_left s job ≤ 1
+  put-later name bytes kind l = (let e = appends_left-by s job ∙ ap (appends_by s job) kind in let b = appends-behind (put_rest s job bytes) job.place l in let r = appends-put_rest s job bytes in omega (arith, e, b, r))
+
+  pub audit-first : job.kind ≡ AuditJob → job.place < 4 → appends_left s job ≡ 2
+  audit-first kind l = appends_left-by s job ∙ (ap (appends_by s job) kind ∙ (appends-within (audit_rest s job) job.place l ∙ ap (λ n. 1 + n) (appends-audit_rest s job)))
+
+  pub audit-later : job.kind ≡ AuditJob → 4 ≤ job.place → appends_left s job ≤ 1
+  audit-later kind l = (let e = appends_left-by s job ∙ ap (appends_by s job) kind in let b = appends-behind (audit_rest s job) job.place l in let r = appends-audit_rest s job in omega (arith, e, b, r))
+
+  pub drop-first : (name : List ℕ) → job.kind ≡ DropJob name → appends_left s job ≤ 1
+  drop-first name kind = (let e = appends_left-by s job ∙ ap (appends_by s job) kind in let b = appends-drop (append_actions ++ drop_rest s job) job.place in
+      let m = appends-move (drop_rest s job) in let r = appends-removals s job in omega (arith, e, b, m, r))
+
+  pub repair-first : job.kind ≡ RepairJob → appends_left s job ≤ 1
+  repair-first kind = (let e = appends_left-by s job ∙ ap (appends_by s job) kind in let b = appends-drop (repair_actions s job ++ (append_actions ++ End ∷ [])) job.place in
+      let m = appends-append (repair_actions s job) (append_actions ++ End ∷ []) in let o = appends-others (repair_actions s job) (others-repairs s job) in let f = appends-move (End ∷ []) in omega (arith, e, b, m, o, f))
+
+  pub upgrade-first : job.kind ≡ UpgradeJob → appends_left s job ≤ 1
+  upgrade-first kind = (let e = appends_left-by s job ∙ ap (appends_by s job) kind in let b = appends-drop (append_actions ++ End ∷ []) job.place in
+      let f = appends-move (End ∷ []) in omega (arith, e, b, f))
+
+  pub get-none : (name : List ℕ) → job.kind ≡ GetJob name → appends_left s job ≡ 0
+  get-none name kind = (let e = appends_left-by s job ∙ ap (appends_by s job) kind in let b = appends-drop (read_actions s job.pinned ++ End ∷ []) job.place in
+      let m = appends-append (read_actions s job.pinned) (End ∷ []) in let o = appends-others (read_actions s job.pinned) (others-reads s job.pinned) in omega (arith, e, b, m, o))
+
+-- not the first move of an append
+abbrev IsLater : Action → Type 0
+IsLater WriteBody = ⊥
+IsLater action = Unit {0}
+
+-- the first move of a drop's append stands at the start of its list
+pub drop-body : (s : Setup) (job : Job) (p : ℕ) → slice_get (append_actions ++ drop_rest s job) p ≡ Some WriteBody → p ≡ 0
+drop-body s job p h = elim (split_get append_actions (drop_rest s job) p WriteBody h) [
+  | inl a ↦ within p a.1
+  | inr b ↦ absurd (each_get IsLater (drop_rest s job) (p - 4) WriteBody (each_append IsLater (remove_actions s job) (End ∷ []) (later (remove_actions s job) (others-removals s job)) (tt, tt)) b.1)
+]
+  where
+    within : (p : ℕ) → slice_get append_actions p ≡ Some WriteBody → p ≡ 0
+    within zero h = refl
+    within (suc zero) h = absurd (let e : Some SyncBody ≡ Some WriteBody = h in cc)
+    within (suc (suc zero)) h = absurd (let e : Some WriteGate ≡ Some WriteBody = h in cc)
+    within (suc (suc (suc zero))) h = absurd (let e : Some SyncGate ≡ Some WriteBody = h in cc)
+    within (suc (suc (suc (suc p)))) h = absurd (let e : None ≡ Some WriteBody = h in cc)
+
+    later : (xs : List Action) → Each IsOther xs → Each IsLater xs
+    later [] h = tt
+    later (x ∷ xs) h = (one x h.0, later xs h.1)
+      where
+        one : (x : Action) → IsOther x → IsLater x
+        one WriteBody i = i
+        one SyncBody i = tt
+        one WriteGate i = tt
+        one SyncGate i = tt
+        one (Store j object stripe) i = tt
+        one (Fetch j object stripe) i = tt
+        one (Ask j object round) i = tt
+        one (Work object stripe) i = tt
+        one (Remove j object) i = tt
+        one End i = tt
+
+-- ---- the next action
+
+-- so what is left begins with it
+pub next-left : (w : State) (job : Job) (action : Action) → next_action w job ≡ Some action → (action ≡ End → ⊥) → actions_left (setup_in w) job ≡ action ∷ drop (job.place + 1) (actions_of (setup_in w) job)
+next-left w job action h n = drop-get (actions_of (setup_in w) job) job.place action (next_stands w job action h n)
+
+-- ---- the first move of a first append
+
+-- within the first four actions of a list that begins with an append the first move is the first
+pub body-within : (rest : List Action) (p : ℕ) → p < 4 → slice_get (append_actions ++ rest) p ≡ Some WriteBody → p ≡ 0
+body-within rest zero l h = refl
+body-within rest (suc zero) l h = absurd (let e : Some SyncBody ≡ Some WriteBody = h in cc)
+body-within rest (suc (suc zero)) l h = absurd (let e : Some WriteGate ≡ Some WriteBody = h in cc)
+body-within rest (suc (suc (suc zero))) l h = absurd (let e : Some SyncGate ≡ Some WriteBody = h in cc)
+body-within rest (suc (suc (suc (suc p)))) l h = absurd (omega (arith, l))
+
+-- the list of a put, and of an audit
+pub put-list : (s : Setup) (job : Job) (name bytes : List ℕ) → job.kind ≡ PutJob name bytes → actions_of s job ≡ append_actions ++ put_rest s job bytes
+unfolding actions_of
+put-list s job name bytes kind = ap (actions_by s job) kind
+
+pub audit-list : (s : Setup) (job : Job) → job.kind ≡ AuditJob → actions_of s job ≡ append_actions ++ audit_rest s job
+unfolding actions_of
+audit-list s job kind = ap (actions_by s job) kind
+
+-- a job whose list begins with an append and whose place is the second is in its order
+second-order : (s : Setup) (job : Job) (rest : List Action) → actions_of s job ≡ append_actions ++ rest → job.place ≡ 1 → IsInOrder 1 (actions_left s job)
+second-order s job rest e one =
+    (let o : IsInOrder 0 (append_actions ++ rest) = subst (IsInOrder 0) e (in_order s job) in
+    let t = in_order-step 0 WriteBody (SyncBody ∷ (WriteGate ∷ (SyncGate ∷ rest))) (λ f. cc) o in
+    subst (λ p. IsInOrder 1 (drop p (actions_of s job))) (sym one) (subst (λ xs. IsInOrder 1 (drop 1 xs)) (sym e) t.1))
+
+-- the first append's first move leaves this, whatever number it draws
+pub put-second : (w : State) (job next : Job) (name bytes : List ℕ) → job.kind ≡ PutJob name bytes → next_action w job ≡ Some WriteBody → job.place < 4 → next.kind ≡ job.kind → next.place ≡ job.place + 1 →
+    IsInOrder 1 (actions_left (setup_in w) next) × (appends_left (setup_in w) next ≡ appends_left (setup_in w) job)
+put-second w job next name bytes kind is l same place =
+    (let zero_place = body-within (put_rest (setup_in w) job bytes) job.place l (ap (λ xs. slice_get xs job.place) (sym (put-list (setup_in w) job name bytes kind)) ∙ next_stands w job WriteBody is (λ e. cc)) in
+    let one : next.place ≡ 1 = omega (arith, zero_place, place) in (
+      second-order (setup_in w) next (put_rest (setup_in w) next bytes) (put-list (setup_in w) next name bytes (same ∙ kind)) one,
+      put-first (setup_in w) next name bytes (same ∙ kind) (omega (arith, one)) ∙ sym (put-first (setup_in w) job name bytes kind l),
+    ))
+
+pub audit-second : (w : State) (job next : Job) → job.kind ≡ AuditJob → next_action w job ≡ Some WriteBody → job.place < 4 → next.kind ≡ job.kind → next.place ≡ job.place + 1 →
+    IsInOrder 1 (actions_left (setup_in w) next) × (appends_left (setup_in w) next ≡ appends_left (setup_in w) job)
+audit-second w job next kind is l same place =
+    (let zero_place = body-within (audit_rest (setup_in w) job) job.place l (ap (λ xs. slice_get xs job.place) (sym (audit-list (setup_in w) job kind)) ∙ next_stands w job WriteBody is (λ e. cc)) in
+    let one : next.place ≡ 1 = omega (arith, zero_place, place) in (
+      second-order (setup_in w) next (audit_rest (setup_in w) next) (audit-list (setup_in w) next (same ∙ kind)) one,
+      audit-first (setup_in w) next (same ∙ kind) (omega (arith, one)) ∙ sym (audit-first (setup_in w) job kind l),
+    ))

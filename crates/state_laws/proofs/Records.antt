@@ -1,0 +1,454 @@
+-- What holds of records that the fold accepts and that are in the grammar, and how one record more keeps it.
+use Rattle.std.proofs.Common.{◌≡◌, ℕ, ◌+◌, ◌<◌, ◌≤◌, ◌==◌, ◌^◌, true, false, ◌⊎◌, List, [], ◌∷◌, length, Option, Some, None, refl, ap, sym, subst, ◌∙◌, inl, inr, arith}
+use Rattle.std.specs.Prelude.{is_some, IsTrue}
+use Rattle.std.specs.List.{list_all}
+use Rattle.std.proofs.lemmas.Bool.{cases_Bool, false≢true, and_parts, and_from}
+use Rattle.std.proofs.lemmas.Bool.Decides.{nat_tests}
+use Rattle.plain_laws.proofs.Options.{some-not-none}
+use Rattle.record_defs.specs.Records.{Setup, Record, SetUp, PutStart, PutDone, Drop, AuditStart, AuditDone, RepairDone, is_name, is_held, is_spelled, is_in_grammar, largest_file, all_profiles, PutDoneIn, Version, Resume, InEffect, RepairDue}
+use Rattle.record_defs.specs.Journal.{text_size}
+use Rattle.record_defs.specs.Table.{File, Due, file_as, profile_in, setup_of, version_of, next_id, next_audit, started_as, is_same_name, is_start_of, file_of, due_of, exceeds}
+use Rattle.record_defs.specs.Acceptance as no
+use Rattle.record_defs.proofs.FilesLaws.{same-eq}
+use Rattle.record_defs.proofs.Grammar.{grammar-spelled, grammar-from}
+use Rattle.record_defs.specs.Acceptance.{refused, AreAccepted, Refused}
+use Rattle.record_defs.proofs.SoundLaws.{are_sound, next_id-more}
+use Rattle.machine_defs.specs.Events.{AreBytes}
+use Rattle.machine_defs.proofs.JobLists.{cond_true, cond_false, same_value}
+use Rattle.machine_defs.proofs.RecordFacts.{AreSound}
+use Rattle.state_laws.specs.Follows.{IsHeld, BringsHeld, AreHeld}
+
+pub is_some-at : {X : Type 0} (o : Option X) → is_some o ≡ true → (x : X) × (o ≡ Some x)
+is_some-at None h = absurd (false≢true h)
+is_some-at (Some x) h = (x, refl)
+
+-- ---- spellings and grammar
+
+abbrev pub AreSpelled : List Record → Type 0
+AreSpelled rs = IsTrue (list_all is_spelled rs)
+
+pub spelled-first : (r : Record) (rs : List Record) → AreSpelled (r ∷ rs) → IsTrue (is_spelled r)
+spelled-first r rs h = (and_parts (is_spelled r) (list_all is_spelled rs) h).0
+
+pub spelled-rest : (r : Record) (rs : List Record) → AreSpelled (r ∷ rs) → AreSpelled rs
+spelled-rest r rs h = (and_parts (is_spelled r) (list_all is_spelled rs) h).1
+
+pub spelled-more : (r : Record) (rs : List Record) → IsTrue (is_spelled r) → AreSpelled rs → AreSpelled (r ∷ rs)
+spelled-more r rs g h = and_from (is_spelled r) (list_all is_spelled rs) g h
+
+abbrev pub AreInGrammar : List Record → Type 0
+AreInGrammar rs = IsTrue (list_all is_in_grammar rs)
+
+pub grammar-first : (r : Record) (rs : List Record) → AreInGrammar (r ∷ rs) → IsTrue (is_in_grammar r)
+grammar-first r rs h = (and_parts (is_in_grammar r) (list_all is_in_grammar rs) h).0
+
+pub grammar-rest : (r : Record) (rs : List Record) → AreInGrammar (r ∷ rs) → AreInGrammar rs
+grammar-rest r rs h = (and_parts (is_in_grammar r) (list_all is_in_grammar rs) h).1
+
+-- records in the grammar have a spelling
+pub all-spelled : (rs : List Record) → AreInGrammar rs → AreSpelled rs
+all-spelled [] g = refl
+all-spelled (r ∷ rs) g = spelled-more r rs (grammar-spelled r (grammar-first r rs g)) (all-spelled rs (grammar-rest r rs g))
+
+-- records in the grammar are of the first version
+version-more : (r : Record) (rs : List Record) → IsTrue (is_in_grammar r) → version_of (r ∷ rs) ≡ version_of rs
+version-more (SetUp s) rs g = refl
+version-more (PutStart id name) rs g = refl
+version-more (PutDone id size) rs g = refl
+version-more (Drop name) rs g = refl
+version-more (AuditStart number) rs g = refl
+version-more (AuditDone number undecided counts) rs g = refl
+version-more (RepairDone number) rs g = refl
+version-more (PutDoneIn id size profile) rs g = refl
+version-more Version rs g = absurd (false≢true g)
+version-more (Resume next audit) rs g = refl
+version-more (InEffect id size profile kept) rs g = refl
+version-more (RepairDue number counts) rs g = refl
+
+pub version-first : (rs : List Record) → AreInGrammar rs → version_of rs ≡ 1
+version-first [] g = refl
+version-first (r ∷ rs) g = version-more r rs (grammar-first r rs g) ∙ version-first rs (grammar-rest r rs g)
+
+-- the first version now was so before
+pub version-before : (r : Record) (rs : List Record) → version_of (r ∷ rs) ≡ 1 → version_of rs ≡ 1
+version-before (SetUp s) rs h = h
+version-before (PutStart id name) rs h = h
+version-before (PutDone id size) rs h = h
+version-before (Drop name) rs h = h
+version-before (AuditStart number) rs h = h
+version-before (AuditDone number undecided counts) rs h = h
+version-before (RepairDone number) rs h = h
+version-before (PutDoneIn id size profile) rs h = h
+version-before Version rs h = absurd (omega (arith, h))
+version-before (Resume next audit) rs h = h
+version-before (InEffect id size profile kept) rs h = h
+version-before (RepairDue number counts) rs h = h
+
+-- a version is the first or the second
+pub version-either : (rs : List Record) → (version_of rs ≡ 1) ⊎ (version_of rs ≡ 2)
+version-either [] = inl refl
+version-either (SetUp s ∷ rs) = version-either rs
+version-either (PutStart id name ∷ rs) = version-either rs
+version-either (PutDone id size ∷ rs) = version-either rs
+version-either (Drop name ∷ rs) = version-either rs
+version-either (AuditStart number ∷ rs) = version-either rs
+version-either (AuditDone number undecided counts ∷ rs) = version-either rs
+version-either (RepairDone number ∷ rs) = version-either rs
+version-either (PutDoneIn id size profile ∷ rs) = version-either rs
+version-either (Version ∷ rs) = inr refl
+version-either (Resume next audit ∷ rs) = version-either rs
+version-either (InEffect id size profile kept ∷ rs) = version-either rs
+version-either (RepairDue number counts ∷ rs) = version-either rs
+
+-- ---- numbers
+
+next_id-one : (r : Record) (rs : List Record) → IsTrue (is_in_grammar r) → next_id (r ∷ rs) ≤ next_id rs + 1
+next_id-one (SetUp s) rs g = omega arith
+next_id-one (PutStart id name) rs g = omega arith
+next_id-one (PutDone id size) rs g = omega arith
+next_id-one (Drop name) rs g = omega arith
+next_id-one (AuditStart number) rs g = omega arith
+next_id-one (AuditDone number undecided counts) rs g = omega arith
+next_id-one (RepairDone number) rs g = omega arith
+next_id-one (PutDoneIn id size profile) rs g = omega arith
+next_id-one Version rs g = omega arith
+next_id-one (Resume next audit) rs g = absurd (false≢true g)
+next_id-one (InEffect id size profile kept) rs g = omega arith
+next_id-one (RepairDue number counts) rs g = omega arith
+
+pub next_id-le : (rs : List Record) → AreInGrammar rs → next_id rs ≤ text_size rs
+next_id-le [] g = omega arith
+next_id-le (r ∷ rs) g =
+    let l = next_id-le rs (grammar-rest r rs g) in
+    let one = next_id-one r rs (grammar-first r rs g) in
+    omega (arith, l, one)
+
+next_audit-one : (r : Record) (rs : List Record) → IsTrue (is_in_grammar r) → next_audit (r ∷ rs) ≤ next_audit rs + 1
+next_audit-one (SetUp s) rs g = omega arith
+next_audit-one (PutStart id name) rs g = omega arith
+next_audit-one (PutDone id size) rs g = omega arith
+next_audit-one (Drop name) rs g = omega arith
+next_audit-one (AuditStart number) rs g = omega arith
+next_audit-one (AuditDone number undecided counts) rs g = omega arith
+next_audit-one (RepairDone number) rs g = omega arith
+next_audit-one (PutDoneIn id size profile) rs g = omega arith
+next_audit-one Version rs g = omega arith
+next_audit-one (Resume next audit) rs g = absurd (false≢true g)
+next_audit-one (InEffect id size profile kept) rs g = omega arith
+next_audit-one (RepairDue number counts) rs g = omega arith
+
+pub next_audit-le : (rs : List Record) → AreInGrammar rs → next_audit rs ≤ text_size rs
+next_audit-le [] g = omega arith
+next_audit-le (r ∷ rs) g =
+    let l = next_audit-le rs (grammar-rest r rs g) in
+    let one = next_audit-one r rs (grammar-first r rs g) in
+    omega (arith, l, one)
+
+pub next_id-grows : (r : Record) (rs : List Record) → AreAccepted (r ∷ rs) → next_id rs ≤ next_id (r ∷ rs)
+next_id-grows r rs a = next_id-more rs r (are_sound rs a.1) a.0
+
+-- ---- acceptance
+
+refused-up : (rs : List Record) (r : Record) → is_some (setup_of rs) ≡ true → refused rs r ≡ no.refused_after rs r
+refused-up rs r up = cond_true (is_some (setup_of rs)) (no.refused_after rs r) (no.refused_first r) up
+
+refused-empty : (rs : List Record) (r : Record) → is_some (setup_of rs) ≡ false → refused rs r ≡ no.refused_first r
+refused-empty rs r up = cond_false (is_some (setup_of rs)) (no.refused_after rs r) (no.refused_first r) up
+
+-- only a setup comes first
+first-is : (r : Record) → no.refused_first r ≡ None → (s : Setup) × (r ≡ SetUp s)
+first-is (SetUp s) h = (s, refl)
+first-is (PutStart id name) h = absurd (some-not-none _ no.NoSetup refl h)
+first-is (PutDone id size) h = absurd (some-not-none _ no.NoSetup refl h)
+first-is (Drop name) h = absurd (some-not-none _ no.NoSetup refl h)
+first-is (AuditStart number) h = absurd (some-not-none _ no.NoSetup refl h)
+first-is (AuditDone number undecided counts) h = absurd (some-not-none _ no.NoSetup refl h)
+first-is (RepairDone number) h = absurd (some-not-none _ no.NoSetup refl h)
+first-is (PutDoneIn id size profile) h = absurd (some-not-none _ no.NoSetup refl h)
+first-is Version h = absurd (some-not-none _ no.NoSetup refl h)
+first-is (Resume next audit) h = absurd (some-not-none _ no.NoSetup refl h)
+first-is (InEffect id size profile kept) h = absurd (some-not-none _ no.NoSetup refl h)
+first-is (RepairDue number counts) h = absurd (some-not-none _ no.NoSetup refl h)
+
+pub up-more : (r : Record) (rs : List Record) → is_some (setup_of rs) ≡ true → is_some (setup_of (r ∷ rs)) ≡ true
+up-more (SetUp s) rs h = refl
+up-more (PutStart id name) rs h = h
+up-more (PutDone id size) rs h = h
+up-more (Drop name) rs h = h
+up-more (AuditStart number) rs h = h
+up-more (AuditDone number undecided counts) rs h = h
+up-more (RepairDone number) rs h = h
+up-more (PutDoneIn id size profile) rs h = h
+up-more Version rs h = h
+up-more (Resume next audit) rs h = h
+up-more (InEffect id size profile kept) rs h = h
+up-more (RepairDue number counts) rs h = h
+
+-- accepted records with no setup are none
+pub none-set_up : (rs : List Record) → AreAccepted rs → is_some (setup_of rs) ≡ false → rs ≡ []
+none-set_up [] a h = refl
+none-set_up (r ∷ rs) a h = elim (cases_Bool (is_some (setup_of rs))) [
+  | inl t ↦ absurd (false≢true (sym h ∙ up-more r rs t))
+  | inr f ↦ absurd (let s = first-is r (sym (refused-empty rs r f) ∙ a.0) in false≢true (sym h ∙ ap (λ x. is_some (setup_of (x ∷ rs))) s.1))
+]
+
+-- a setup in effect stays
+pub setup-more : (r : Record) (rs : List Record) → is_some (setup_of rs) ≡ true → refused rs r ≡ None → setup_of (r ∷ rs) ≡ setup_of rs
+setup-more (SetUp s) rs up h = absurd (some-not-none _ no.SecondSetup refl (sym (refused-up rs (SetUp s) up) ∙ h))
+setup-more (PutStart id name) rs up h = refl
+setup-more (PutDone id size) rs up h = refl
+setup-more (Drop name) rs up h = refl
+setup-more (AuditStart number) rs up h = refl
+setup-more (AuditDone number undecided counts) rs up h = refl
+setup-more (RepairDone number) rs up h = refl
+setup-more (PutDoneIn id size profile) rs up h = refl
+setup-more Version rs up h = refl
+setup-more (Resume next audit) rs up h = refl
+setup-more (InEffect id size profile kept) rs up h = refl
+setup-more (RepairDue number counts) rs up h = refl
+
+pub sound-accepted : (rs : List Record) → AreAccepted rs → AreSound rs
+sound-accepted rs a =
+    let S = are_sound rs a in
+    record {
+      file = λ q f h. ((S.file q f h).below, (S.file q f h).done);
+      one_name = S.one_name;
+      started = λ id name h. (S.started id name h).1;
+    }
+
+-- ---- records of the first version
+
+first-held : (r : Record) (rs : List Record) → version_of (r ∷ rs) ≡ 1 → refused rs r ≡ None → IsTrue (is_held r)
+first-held (SetUp s) rs v h = refl
+first-held (PutStart id name) rs v h = refl
+first-held (PutDone id size) rs v h = refl
+first-held (Drop name) rs v h = refl
+first-held (AuditStart number) rs v h = refl
+first-held (AuditDone number undecided counts) rs v h = refl
+first-held (RepairDone number) rs v h = refl
+first-held (PutDoneIn id size profile) rs v h = absurd (grind (arith, nat_tests, v, h))
+first-held Version rs v h = absurd (omega (arith, v))
+first-held (Resume next audit) rs v h = absurd (grind (arith, nat_tests, v, h))
+first-held (InEffect id size profile kept) rs v h = absurd (grind (arith, nat_tests, v, h))
+first-held (RepairDue number counts) rs v h = absurd (grind (arith, nat_tests, v, h))
+
+-- accepted records of the first version are in the grammar of today
+pub first-grammar : (rs : List Record) → AreAccepted rs → AreSpelled rs → version_of rs ≡ 1 → AreInGrammar rs
+first-grammar [] a g v = refl
+first-grammar (r ∷ rs) a g v = and_from (is_in_grammar r) (list_all is_in_grammar rs)
+    (grammar-from r (first-held r rs v a.0) (spelled-first r rs g))
+    (first-grammar rs a.1 (spelled-rest r rs g) (version-before r rs v))
+
+-- records of the second version have a setup
+pub second-set_up : (rs : List Record) → AreAccepted rs → version_of rs ≡ 2 → is_some (setup_of rs) ≡ true
+second-set_up rs a v = elim (cases_Bool (is_some (setup_of rs))) [
+  | inl t ↦ t
+  | inr f ↦ absurd (let e = ap version_of (none-set_up rs a f) in omega (arith, e, v))
+]
+
+-- ---- setups, names, sizes and numbers of records that have a spelling
+
+pub setup-spelled : (rs : List Record) (s : Setup) → AreSpelled rs → setup_of rs ≡ Some s → IsTrue (is_in_grammar (SetUp s))
+setup-spelled [] s g h = absurd (some-not-none _ s h refl)
+setup-spelled (SetUp t ∷ rs) s g h = (let e : t ≡ s = cc in subst (λ x. IsTrue (is_in_grammar (SetUp x))) e (spelled-first (SetUp t) rs g))
+setup-spelled (PutStart id name ∷ rs) s g h = setup-spelled rs s (spelled-rest (PutStart id name) rs g) h
+setup-spelled (PutDone id size ∷ rs) s g h = setup-spelled rs s (spelled-rest (PutDone id size) rs g) h
+setup-spelled (Drop name ∷ rs) s g h = setup-spelled rs s (spelled-rest (Drop name) rs g) h
+setup-spelled (AuditStart number ∷ rs) s g h = setup-spelled rs s (spelled-rest (AuditStart number) rs g) h
+setup-spelled (AuditDone number undecided counts ∷ rs) s g h = setup-spelled rs s (spelled-rest (AuditDone number undecided counts) rs g) h
+setup-spelled (RepairDone number ∷ rs) s g h = setup-spelled rs s (spelled-rest (RepairDone number) rs g) h
+setup-spelled (PutDoneIn id size profile ∷ rs) s g h =
+    setup-spelled rs s (spelled-rest (PutDoneIn id size profile) rs g) h
+setup-spelled (Version ∷ rs) s g h = setup-spelled rs s (spelled-rest Version rs g) h
+setup-spelled (Resume next audit ∷ rs) s g h = setup-spelled rs s (spelled-rest (Resume next audit) rs g) h
+setup-spelled (InEffect id size profile kept ∷ rs) s g h =
+    setup-spelled rs s (spelled-rest (InEffect id size profile kept) rs g) h
+setup-spelled (RepairDue number counts ∷ rs) s g h =
+    setup-spelled rs s (spelled-rest (RepairDue number counts) rs g) h
+
+-- a name that a put was started under is a name
+pub started-spelled : (rs : List Record) (id : ℕ) (name : List ℕ) → AreSpelled rs → started_as rs id ≡ Some name → is_name name ≡ true
+started-spelled [] id name g h = absurd (some-not-none _ name h refl)
+started-spelled (SetUp s ∷ rs) id name g h = started-spelled rs id name (spelled-rest (SetUp s) rs g) h
+started-spelled (PutStart k n ∷ rs) id name g h = elim (cases_Bool (k == id)) [
+  | inl t ↦ (let e : n ≡ name = same_value _ n name (cond_true (k == id) (Some n) (started_as rs id) t) h in subst (λ x. is_name x ≡ true) e (grind (arith, spelled-first (PutStart k n) rs g)))
+  | inr f ↦ started-spelled rs id name (spelled-rest (PutStart k n) rs g) (sym (cond_false (k == id) (Some n) (started_as rs id) f) ∙ h)
+]
+started-spelled (PutDone k size ∷ rs) id name g h = elim (cases_Bool (k == id)) [
+  | inl t ↦ absurd (some-not-none _ name h (cond_true (k == id) None (started_as rs id) t))
+  | inr f ↦ started-spelled rs id name (spelled-rest (PutDone k size) rs g) (sym (cond_false (k == id) None (started_as rs id) f) ∙ h)
+]
+started-spelled (Drop n ∷ rs) id name g h = started-spelled rs id name (spelled-rest (Drop n) rs g) h
+started-spelled (AuditStart number ∷ rs) id name g h = started-spelled rs id name (spelled-rest (AuditStart number) rs g) h
+started-spelled (AuditDone number undecided counts ∷ rs) id name g h = started-spelled rs id name (spelled-rest (AuditDone number undecided counts) rs g) h
+started-spelled (RepairDone number ∷ rs) id name g h = started-spelled rs id name (spelled-rest (RepairDone number) rs g) h
+started-spelled (PutDoneIn k size profile ∷ rs) id name g h = elim (cases_Bool (k == id)) [
+  | inl t ↦ absurd (some-not-none _ name h (cond_true (k == id) None (started_as rs id) t))
+  | inr f ↦ started-spelled rs id name (spelled-rest (PutDoneIn k size profile) rs g)
+      (sym (cond_false (k == id) None (started_as rs id) f) ∙ h)
+]
+started-spelled (Version ∷ rs) id name g h = started-spelled rs id name (spelled-rest Version rs g) h
+started-spelled (Resume next audit ∷ rs) id name g h =
+    started-spelled rs id name (spelled-rest (Resume next audit) rs g) h
+started-spelled (InEffect k size profile kept ∷ rs) id name g h =
+    started-spelled rs id name (spelled-rest (InEffect k size profile kept) rs g) h
+started-spelled (RepairDue number counts ∷ rs) id name g h =
+    started-spelled rs id name (spelled-rest (RepairDue number counts) rs g) h
+
+-- the start that a put's end is of
+pub start-named : (q : List ℕ) (o : Option (List ℕ)) → is_start_of q o ≡ true → o ≡ Some q
+start-named q None h = absurd (false≢true h)
+start-named q (Some name) h = ap Some (same-eq name q h)
+
+-- the records that bring a file in effect: the end of a put of its name, or a packed journal's own
+pub data Came (rs : List Record) (r : Record) (name : List ℕ) (file : File) : Type 0 where
+  done : r ≡ PutDone file.id file.size → started_as rs file.id ≡ Some name → file.profile ≡ profile_in (setup_of rs) → Came rs r name file
+  done_in : r ≡ PutDoneIn file.id file.size file.profile → started_as rs file.id ≡ Some name → Came rs r name file
+  brought : r ≡ InEffect file.id file.size file.profile name → Came rs r name file
+
+-- a file in effect was so before, or came with the record
+pub file-came : (r : Record) (rs : List Record) (name : List ℕ) (file : File) → file_of (r ∷ rs) name ≡ Some file →
+    (file_of rs name ≡ Some file) ⊎ Came rs r name file
+file-came (SetUp s) rs name file h = inl h
+file-came (PutStart k n) rs name file h = inl h
+file-came (PutDone k size) rs name file h =
+    let new : File = file_as name k size (profile_in (setup_of rs)) in
+    elim (cases_Bool (is_start_of name (started_as rs k))) [
+      | inl t ↦ (let same : new ≡ file = same_value _ new file
+          (cond_true (is_start_of name (started_as rs k)) (Some new) (file_of rs name) t) h in
+          inr (Came.done (ap (λ (f : File). PutDone f.id f.size) same) (ap (λ (f : File). started_as rs f.id) (sym same) ∙ start-named name (started_as rs k) t)
+          (ap (λ (f : File). f.profile) (sym same))))
+      | inr f ↦ inl (sym (cond_false (is_start_of name (started_as rs k)) (Some new) (file_of rs name) f) ∙ h)
+    ]
+file-came (Drop n) rs name file h = elim (cases_Bool (is_same_name n name)) [
+  | inl t ↦ absurd (some-not-none _ file h (cond_true (is_same_name n name) None (file_of rs name) t))
+  | inr f ↦ inl (sym (cond_false (is_same_name n name) None (file_of rs name) f) ∙ h)
+]
+file-came (AuditStart number) rs name file h = inl h
+file-came (AuditDone number undecided counts) rs name file h = inl h
+file-came (RepairDone number) rs name file h = inl h
+file-came (PutDoneIn k size profile) rs name file h =
+    let new : File = file_as name k size profile in
+    elim (cases_Bool (is_start_of name (started_as rs k))) [
+      | inl t ↦ (let same : new ≡ file = same_value _ new file
+          (cond_true (is_start_of name (started_as rs k)) (Some new) (file_of rs name) t) h in
+          inr (Came.done_in (ap (λ (f : File). PutDoneIn f.id f.size f.profile) same)
+          (ap (λ (f : File). started_as rs f.id) (sym same) ∙ start-named name (started_as rs k) t)))
+      | inr f ↦ inl (sym (cond_false (is_start_of name (started_as rs k)) (Some new) (file_of rs name) f) ∙ h)
+    ]
+file-came Version rs name file h = inl h
+file-came (Resume next audit) rs name file h = inl h
+file-came (InEffect k size profile n) rs name file h =
+    let new : File = file_as name k size profile in
+    elim (cases_Bool (is_same_name n name)) [
+      | inl t ↦ (let same : new ≡ file = same_value _ new file
+          (cond_true (is_same_name n name) (Some new) (file_of rs name) t) h in
+          inr (Came.brought (ap (λ m. InEffect k size profile m) (same-eq n name t) ∙ ap (λ (f : File). InEffect f.id f.size f.profile name) same)))
+      | inr f ↦ inl (sym (cond_false (is_same_name n name) (Some new) (file_of rs name) f) ∙ h)
+    ]
+file-came (RepairDue number counts) rs name file h = inl h
+
+-- the profile of a setup that has a spelling
+profile-fits : (rs : List Record) → AreSpelled rs → profile_in (setup_of rs) < all_profiles
+profile-fits rs g = by (setup_of rs) refl
+  where
+    fits : (s : Setup) → IsTrue (is_in_grammar (SetUp s)) → s.profile < all_profiles
+    fits s h = grind (arith, nat_tests, h)
+
+    by : (o : Option Setup) → setup_of rs ≡ o → profile_in o < all_profiles
+    by None e = omega arith
+    by (Some s) e = fits s (setup-spelled rs s g e)
+
+-- what a file in effect has: a name, a length and a profile within their limits
+abbrev pub IsFit : List ℕ → File → Type 0
+IsFit name file = (is_name name ≡ true) × (file.size ≤ largest_file) × (file.profile < all_profiles)
+
+pub file-spelled : (rs : List Record) (name : List ℕ) (file : File) → AreSpelled rs → file_of rs name ≡ Some file → IsFit name file
+file-spelled [] name file g h = absurd (some-not-none _ file h refl)
+file-spelled (r ∷ rs) name file g h = elim (file-came r rs name file h) [
+  | inl was ↦ file-spelled rs name file (spelled-rest r rs g) was
+  | inr new ↦ elim new [
+    | Came.done is started profile ↦ (
+      started-spelled rs file.id name (spelled-rest r rs g) started,
+      done-size (subst (λ x. IsTrue (is_spelled x)) is (spelled-first r rs g)),
+      (let l = profile-fits rs (spelled-rest r rs g) in omega (arith, l, profile)),
+    )
+    | Came.done_in is started ↦ (let f = in-fits (subst (λ x. IsTrue (is_spelled x)) is (spelled-first r rs g)) in
+        (started-spelled rs file.id name (spelled-rest r rs g) started, f.0, f.1))
+    | Came.brought is ↦ kept-fits (subst (λ x. IsTrue (is_spelled x)) is (spelled-first r rs g))
+  ]
+]
+  where
+    done-size : IsTrue (is_spelled (PutDone file.id file.size)) → file.size ≤ largest_file
+    done-size h = grind (arith, nat_tests, h)
+
+    in-fits : IsTrue (is_spelled (PutDoneIn file.id file.size file.profile)) → (file.size ≤ largest_file) × (file.profile < all_profiles)
+    in-fits h = (grind (arith, nat_tests, h), grind (arith, nat_tests, h))
+
+    kept-fits : IsTrue (is_spelled (InEffect file.id file.size file.profile name)) → (is_name name ≡ true) × (file.size ≤ largest_file) × (file.profile < all_profiles)
+    kept-fits h = (grind (arith, nat_tests, h), grind (arith, nat_tests, h), grind (arith, nat_tests, h))
+
+-- in the first version each file has the setup's profile
+pub file-plain : (rs : List Record) (name : List ℕ) (file : File) → AreAccepted rs → version_of rs ≡ 1 → file_of rs name ≡ Some file → file.profile ≡ profile_in (setup_of rs)
+file-plain [] name file a v h = absurd (some-not-none _ file h refl)
+file-plain (r ∷ rs) name file a v h = elim (file-came r rs name file h) [
+  | inl was ↦ file-plain rs name file a.1 (version-before r rs v) was ∙ ap profile_in (sym (setup-more r rs (up was) a.0))
+  | inr new ↦ elim new [
+    | Came.done is started profile ↦ profile ∙ ap profile_in (sym (subst (λ x. setup_of (x ∷ rs) ≡ setup_of rs) (sym is) refl))
+    | Came.done_in is started ↦ absurd (let k : IsTrue (is_held (PutDoneIn file.id file.size file.profile)) = subst (λ x. IsTrue (is_held x)) is (first-held r rs v a.0) in false≢true k)
+    | Came.brought is ↦ absurd (let k : IsTrue (is_held (InEffect file.id file.size file.profile name)) = subst (λ x. IsTrue (is_held x)) is (first-held r rs v a.0) in false≢true k)
+  ]
+]
+  where
+    up : file_of rs name ≡ Some file → is_some (setup_of rs) ≡ true
+    up was = elim (cases_Bool (is_some (setup_of rs))) [
+      | inl t ↦ t
+      | inr f ↦ absurd (some-not-none _ file was (ap (λ l. file_of l name) (none-set_up rs a.1 f)))
+    ]
+
+-- a due audit has a number and counts within their limits
+pub due-spelled : (rs : List Record) (due : Due) → AreSpelled rs → due_of rs ≡ Some due → IsTrue (is_spelled (RepairDue due.number due.counts))
+due-spelled [] due g h = absurd (some-not-none _ due h refl)
+due-spelled (SetUp s ∷ rs) due g h = due-spelled rs due (spelled-rest (SetUp s) rs g) h
+due-spelled (PutStart id name ∷ rs) due g h = due-spelled rs due (spelled-rest (PutStart id name) rs g) h
+due-spelled (PutDone id size ∷ rs) due g h = due-spelled rs due (spelled-rest (PutDone id size) rs g) h
+due-spelled (Drop name ∷ rs) due g h = due-spelled rs due (spelled-rest (Drop name) rs g) h
+due-spelled (AuditStart number ∷ rs) due g h = due-spelled rs due (spelled-rest (AuditStart number) rs g) h
+due-spelled (AuditDone number undecided counts ∷ rs) due g h = elim (cases_Bool (exceeds (setup_of rs) counts)) [
+  | inl t ↦ (let same : record { number = number; counts = counts } ≡ due = same_value _ (record { number = number; counts = counts }) due (cond_true (exceeds (setup_of rs) counts) (Some (record { number = number; counts = counts })) (due_of rs) t) h in
+      subst (λ (d : Due). IsTrue (is_spelled (RepairDue d.number d.counts))) same (fits (spelled-first (AuditDone number undecided counts) rs g)))
+  | inr f ↦ due-spelled rs due (spelled-rest (AuditDone number undecided counts) rs g) (sym (cond_false (exceeds (setup_of rs) counts) (Some (record { number = number; counts = counts })) (due_of rs) f) ∙ h)
+]
+  where
+    fits : IsTrue (is_spelled (AuditDone number undecided counts)) → IsTrue (is_spelled (RepairDue number counts))
+    fits h = grind (arith, nat_tests, h)
+due-spelled (RepairDone number ∷ rs) due g h = absurd (some-not-none _ due h refl)
+due-spelled (PutDoneIn id size profile ∷ rs) due g h = due-spelled rs due (spelled-rest (PutDoneIn id size profile) rs g) h
+due-spelled (Version ∷ rs) due g h = due-spelled rs due (spelled-rest Version rs g) h
+due-spelled (Resume next audit ∷ rs) due g h = due-spelled rs due (spelled-rest (Resume next audit) rs g) h
+due-spelled (InEffect id size profile kept ∷ rs) due g h = due-spelled rs due (spelled-rest (InEffect id size profile kept) rs g) h
+due-spelled (RepairDue number counts ∷ rs) due g h =
+    (let same : record { number = number; counts = counts } ≡ due = same_value (Some (record { number = number; counts = counts })) (record { number = number; counts = counts }) due refl h in
+    subst (λ (d : Due). IsTrue (is_spelled (RepairDue d.number d.counts))) same (spelled-first (RepairDue number counts) rs g))
+
+pub due-number : (due : Due) → IsTrue (is_spelled (RepairDue due.number due.counts)) → due.number < 2 ^ 64
+due-number due h = grind (arith, nat_tests, h)
+
+-- ---- files and their bytes
+
+pub held-more : (bytes : ℕ → List ℕ) (r : Record) (rs : List Record) → BringsHeld bytes r → AreHeld bytes rs → AreHeld bytes (r ∷ rs)
+held-more bytes r rs brings held name file h = elim (file-came r rs name file h) [
+  | inl was ↦ held name file was
+  | inr new ↦ elim new [
+    | Came.done is started profile ↦ subst (BringsHeld bytes) is brings
+    | Came.done_in is started ↦ subst (BringsHeld bytes) is brings
+    | Came.brought is ↦ subst (BringsHeld bytes) is brings
+  ]
+]
+
+-- bytes that stay below the next number
+pub held-same : (bytes now : ℕ → List ℕ) (id size : ℕ) → now id ≡ bytes id → IsHeld bytes id size → IsHeld now id size
+held-same bytes now id size e h = (subst AreBytes (sym e) h.0, ap length e ∙ h.1)
+
+pub held-on : (bytes now : ℕ → List ℕ) (rs : List Record) → AreAccepted rs → ((id : ℕ) → id < next_id rs → now id ≡ bytes id) → AreHeld bytes rs → AreHeld now rs
+held-on bytes now rs a stay held name file h = held-same bytes now file.id file.size (stay file.id ((sound-accepted rs a).file name file h).0) (held name file h)

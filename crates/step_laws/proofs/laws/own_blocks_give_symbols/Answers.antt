@@ -1,5 +1,0 @@
-use Rattle.step_laws.proofs.GivesRight.{own_give}
-use Rattle.step_laws.proofs.laws.own_blocks_give_symbols.Goals as goal
-
-pub returns : goal.returns
-returns c = own_give

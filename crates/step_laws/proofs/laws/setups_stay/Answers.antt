@@ -1,5 +1,0 @@
-use Rattle.step_laws.proofs.Doubts.{setups_stay}
-use Rattle.step_laws.proofs.laws.setups_stay.Goals as goal
-
-pub returns : goal.returns
-returns c = setups_stay
