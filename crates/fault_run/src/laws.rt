@@ -25,17 +25,16 @@ ghost use Rattle.damage_run.specs.Points.{at, counts};
 ghost use Rattle.fault_run.specs.Faults.{IsFaulty};
 ghost use Rattle.fault_run.specs.Met.{HasFaults};
 
-use second_half_laws::laws::{failed_calls_are_counted, stored_names_begin};
+use headline::laws::every_run_keeps_the_headline;
 use machine_defs::laws::{
     acknowledged_files_survive, challenges_are_made_once, reports_have_what_jobs_heard,
     stores_name_their_own_object, used_numbers_are_below,
 };
-use headline::laws::every_run_keeps_the_headline;
 use second_half_laws::laws::{
-    any_mark_will_do, damage_of_pinned_files_is_new, finished_scrubs_are_marks,
-    gets_give_or_are_lost, the_start_is_a_mark, unscrubbed_runs_are_scrub_calm,
+    any_mark_will_do, damage_of_pinned_files_is_new, done_audits_are_whole, done_puts_are_whole,
+    failed_calls_are_counted, finished_scrubs_are_marks, gets_give_or_are_lost, stored_names_begin,
+    the_start_is_a_mark, unscrubbed_runs_are_scrub_calm,
 };
-use second_half_laws::laws::{done_audits_are_whole, done_puts_are_whole};
 
 /// Each failed call raised its count.
 pub fn failed_calls_raise_counts()

@@ -17,13 +17,13 @@ ghost use Rattle.hail_replay.specs.UnderWay.{HasDone};
 
 use crate::event::perform;
 use crate::heard::HeardLists;
-use second_half_laws::laws::failed_calls_are_counted;
 use command_lines::{NO_MEMORY, WRITTEN, write_text};
 use disk_model::Disk;
 use hail_client::Client;
 use headline::laws::every_run_keeps_the_headline;
 use provider_model::Tamper;
 use schedule_text::Event;
+use second_half_laws::laws::failed_calls_are_counted;
 use state_laws::laws::runs_are_sound;
 use std::alloc::Global;
 use stream_model::{Memory, Sink};

@@ -17,7 +17,7 @@
 --   has written ..       == `bytes` of Got, in IsRightGet (Halves)
 --   last put in effect   == begin_state.bytes file.id of the file in effect under the name at the get's begin
 --   under its name (Halves). They are the bytes of the put that drew the file's number: `bytes_are` of
---                           IsSafe below, and `stay` of laws::done_puts_are_whole of step_laws
+--                           IsSafe below, and `stay` of laws::done_puts_are_whole of second_half_laws
 --   unless a fetched row == HoldsForgery (Heard) of what the get's fetches gave: IsForgery (column_defs,
 --   is a forgery            Forgeries)
 --   a calm run           == IsCalm relies (since start) (Calm): while a get or a repair runs, at most b

@@ -1,4 +1,0 @@
-pub mod FewWrong
-pub mod Stays
-pub mod Fetching
-pub mod Origins

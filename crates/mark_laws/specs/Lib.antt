@@ -1,4 +1,0 @@
-pub mod Damage
-pub mod Marks
-pub mod MarkedRuns
-pub mod Sharp
