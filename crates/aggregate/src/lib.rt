@@ -9,6 +9,3 @@ mod masks;
 pub use answers::{answer, answer_drawn};
 pub use blocks::Blocks;
 pub use masks::{mask_sum, mask_sum_drawn};
-
-#[cfg(test)]
-mod tests;

@@ -9,6 +9,3 @@ pub mod laws;
 pub use answers::round_challenge;
 pub use judge::judge_round;
 pub use record_codec::Counts;
-
-#[cfg(test)]
-mod tests;

@@ -7,6 +7,3 @@ mod question;
 
 pub use drawn::Drawn;
 pub use question::Challenge;
-
-#[cfg(test)]
-mod tests;

@@ -5,8 +5,6 @@ mod bytes;
 mod generator;
 mod profile;
 mod table;
-#[cfg(test)]
-mod tests;
 
 pub use bytes::{byte_product, byte_sum};
 pub use generator::{generator_row, kept_multipliers, parity_row};

@@ -26,6 +26,3 @@ pub use masks::MasksAtHand;
 pub use opening::{RowLost, open_stripe};
 pub use table::ConstantTable;
 pub use trust::Trust;
-
-#[cfg(test)]
-mod tests;

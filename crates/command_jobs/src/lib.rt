@@ -8,6 +8,3 @@ mod run;
 pub use job::Job;
 pub use open::{Unopened, open_vault};
 pub use run::run_job;
-
-#[cfg(test)]
-mod tests;

@@ -15,6 +15,3 @@ pub use notes::{dropped_line, ready_line, repaired_line, stored_line};
 pub use status::{LOST_ROW, NO_MEMORY, SINK_FAULT, WRITTEN};
 pub use values::values_line;
 pub use write::{tell_no_row, write_text};
-
-#[cfg(test)]
-mod tests;

@@ -8,6 +8,8 @@ mod damage;
 #[cfg(test)]
 mod files;
 #[cfg(test)]
+mod jobs;
+#[cfg(test)]
 mod journals;
 #[cfg(test)]
 mod set_up;

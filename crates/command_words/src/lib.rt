@@ -13,6 +13,3 @@ pub use init::{Numbers, read_setup};
 pub use key::read_key;
 pub use row::Row;
 pub use word::read_number;
-
-#[cfg(test)]
-mod tests;

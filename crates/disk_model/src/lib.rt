@@ -12,6 +12,3 @@ pub use disk::Disk;
 pub use memory::MemDisk;
 pub use sure::SureDisk;
 pub use whole::read_front;
-
-#[cfg(test)]
-mod tests;

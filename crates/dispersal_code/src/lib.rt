@@ -5,8 +5,6 @@ mod encode;
 pub mod laws;
 mod open;
 mod present;
-#[cfg(test)]
-mod tests;
 
 pub use encode::encode_row;
 pub use open::open_row;

@@ -4,6 +4,3 @@
 mod file;
 
 pub use file::FileShape;
-
-#[cfg(test)]
-mod tests;

@@ -14,7 +14,7 @@ mod provider_folders;
 mod seen_rows;
 mod std_sink;
 mod std_source;
-mod transfer;
+pub mod transfer;
 mod tried;
 
 pub use file_disk::FileDisk;
@@ -23,6 +23,3 @@ pub use home::{folder_providers, journal_disk};
 pub use provider_folders::Unsynced;
 pub use std_sink::StdSink;
 pub use std_source::StdSource;
-
-#[cfg(test)]
-mod tests;

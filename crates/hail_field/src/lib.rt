@@ -5,12 +5,9 @@ mod lanes;
 pub mod laws;
 mod levels;
 mod memory;
-mod plain;
 mod shape;
 mod symbol;
 pub mod tables;
-#[cfg(test)]
-mod tests;
 
 pub use memory::Memory;
 pub use shape::Shape;

@@ -6,8 +6,6 @@ mod gather;
 pub mod laws;
 mod multipliers;
 mod syndrome;
-#[cfg(test)]
-mod tests;
 
 pub use decode::decode_syndromes;
 pub use syndrome::syndromes;

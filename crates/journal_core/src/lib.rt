@@ -11,6 +11,3 @@ pub use append::Append;
 pub use fault::{BadJournal, JournalFault};
 pub use gates::{first_gate, next_record};
 pub use reading::read_journal;
-
-#[cfg(test)]
-mod tests;

@@ -6,6 +6,3 @@ mod master;
 
 pub use derive::{file_key, point, seed};
 pub use master::Master;
-
-#[cfg(test)]
-mod tests;

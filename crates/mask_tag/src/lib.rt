@@ -10,9 +10,6 @@ use rand_chacha::ChaCha20Rng;
 use rand_core::SeedableRng;
 use rand_core::utils::NextWord;
 
-#[cfg(test)]
-mod tests;
-
 // The symbol of the next four words, the first word lowest.
 fn next_symbol(rng: &mut ChaCha20Rng) -> Symbol
     requires { rng.old.word_pos + 4 < 2 ^ 68 }

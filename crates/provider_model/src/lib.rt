@@ -17,6 +17,3 @@ pub use memory::MemProvider;
 pub use provider::{Provider, Tamper};
 pub use sure::SureProvider;
 pub use untold::Untold;
-
-#[cfg(test)]
-mod tests;

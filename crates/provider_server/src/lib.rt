@@ -8,6 +8,3 @@ mod words;
 pub use command::serve_at;
 pub use status::{BAD_FRAME, Served};
 pub use words::read_serve;
-
-#[cfg(test)]
-mod tests;

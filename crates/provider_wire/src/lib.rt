@@ -29,6 +29,3 @@ pub use link_provider::LinkProvider;
 pub use loop_link::LoopLink;
 pub use request::Request;
 pub use server::serve;
-
-#[cfg(test)]
-mod tests;

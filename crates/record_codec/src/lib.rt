@@ -11,8 +11,6 @@ mod writing;
 
 pub use counts::Counts;
 pub use name::Name;
+pub use reading::read_spelled;
 pub use records::Record;
 pub use setup::Setup;
-
-#[cfg(test)]
-mod tests;

@@ -317,7 +317,7 @@ fn spelled_of(bytes: &[u8]) -> Option<(Record, &[u8])>
 
 /// The record of any kind at the front of the bytes, also one of a kind that no journal holds, and how many bytes it takes;
 /// None exactly where no record is spelled there.
-pub(crate) fn read_spelled(bytes: &[u8]) -> Option<(Record, usize)>
+pub fn read_spelled(bytes: &[u8]) -> Option<(Record, usize)>
     ensures size { IfSome result (λ x. x.1 ≤ length bytes.now) }
     ensures found { IfSome result (λ x. take x.1 bytes.now ≡ spelling (entry_of x.0)) }
     ensures spelled { IfSome result (λ x. HasSpelling x.0) }

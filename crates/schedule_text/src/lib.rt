@@ -14,6 +14,3 @@ mod word;
 pub use event::Event;
 pub use fault::ScheduleFault;
 pub use read::read_schedule;
-
-#[cfg(test)]
-mod tests;

@@ -12,8 +12,6 @@ mod open;
 mod products;
 mod rows;
 mod tables;
-#[cfg(test)]
-mod tests;
 
 pub use any::AnyCode;
 pub use code::ServerCode;

@@ -78,7 +78,7 @@ fn audited_line(
 }
 
 /// The line of a job that ended so.
-pub(crate) fn answer_line(alloc: Global, answer: &Answer) -> Result<Bytes, Memory>
+pub fn answer_line(alloc: Global, answer: &Answer) -> Result<Bytes, Memory>
     ensures { IfOk result (λ text. text ≡ line (answer_text (machine_answer answer.now))) }
 {
     match answer {

@@ -13,11 +13,8 @@ mod text;
 
 pub use begun::begin_line;
 pub use came::{Came, came_lines};
-pub use ended::{counts_in_use, push_numbers};
+pub use ended::{answer_line, counts_in_use, push_numbers};
 pub use listed::names_lines;
 pub use opened::{init_line, reopen_line};
 pub use replaced::{replace_line, stop_line};
 pub use stepped::step_line;
-
-#[cfg(test)]
-mod tests;

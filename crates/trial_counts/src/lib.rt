@@ -6,7 +6,5 @@ mod lines;
 mod seen;
 mod tally;
 
+pub use seen::{Seen, seen_end};
 pub use tally::Tally;
-
-#[cfg(test)]
-mod tests;

@@ -13,13 +13,13 @@ use vault::{Answer, Turn};
 
 /// What one event is to the counts.
 #[derive(Drop)]
-pub(crate) struct Seen {
-    pub(crate) got: bool,
-    pub(crate) right: bool,
-    pub(crate) audited: bool,
-    pub(crate) flagged: Vec<u32>,
-    pub(crate) repaired: bool,
-    pub(crate) stopped: bool,
+pub struct Seen {
+    pub got: bool,
+    pub right: bool,
+    pub audited: bool,
+    pub flagged: Vec<u32>,
+    pub repaired: bool,
+    pub stopped: bool,
 }
 
 impl Seen {
@@ -55,7 +55,7 @@ fn flagged_of(alloc: Global, counts: &[u32]) -> Result<Vec<u32>, AllocError>
 }
 
 /// What the end of a job is to the counts.
-pub(crate) fn seen_end(alloc: Global, expected: &[u8], answer: &Answer) -> Result<Seen, AllocError>
+pub fn seen_end(alloc: Global, expected: &[u8], answer: &Answer) -> Result<Seen, AllocError>
     ensures { IfOk result (IsSeen expected.now (Ended (machine_answer answer.now))) }
 {
     let nothing = Seen::nothing(alloc);

@@ -7,6 +7,3 @@ pub mod laws;
 mod trial;
 
 pub use trial::{TOLERANCE, Trial, make_trial};
-
-#[cfg(test)]
-mod tests;

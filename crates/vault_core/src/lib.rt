@@ -22,6 +22,3 @@ pub use own::Core;
 pub use pinned::Pinned;
 pub use reply::Reply;
 pub use wish::{BeginFault, Wish};
-
-#[cfg(test)]
-mod tests;

@@ -4,6 +4,8 @@
 #[cfg(test)]
 mod asking;
 #[cfg(test)]
+mod cores;
+#[cfg(test)]
 mod counted;
 #[cfg(test)]
 mod deeds;

@@ -11,6 +11,3 @@ mod table;
 
 pub use entry::{Entry, Refused};
 pub use table::Table;
-
-#[cfg(test)]
-mod tests;

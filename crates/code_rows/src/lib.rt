@@ -1,0 +1,19 @@
+//! Worked rows of the field, of polynomials and of the codes.
+#![tactic(auto)]
+
+#[cfg(test)]
+mod decoders;
+#[cfg(test)]
+mod dispersal;
+#[cfg(test)]
+mod field;
+#[cfg(test)]
+mod gao;
+#[cfg(test)]
+mod points;
+#[cfg(test)]
+mod poly;
+#[cfg(test)]
+mod server;
+#[cfg(test)]
+mod syndrome;

@@ -1,0 +1,17 @@
+//! Worked rows of keys, masks, layout and columns, of challenges, answers and verdicts.
+#![tactic(auto)]
+
+#[cfg(test)]
+mod answers;
+#[cfg(test)]
+mod challenges;
+#[cfg(test)]
+mod columns;
+#[cfg(test)]
+mod keys;
+#[cfg(test)]
+mod layout;
+#[cfg(test)]
+mod masks;
+#[cfg(test)]
+mod verdicts;

@@ -1,0 +1,13 @@
+//! Worked rows of devices: streams, the disk and providers, in memory, behind a wire and as real files and folders.
+#![tactic(auto)]
+
+#[cfg(test)]
+mod adapters;
+#[cfg(test)]
+mod disk;
+#[cfg(test)]
+mod providers;
+#[cfg(test)]
+mod streams;
+#[cfg(test)]
+mod wire;

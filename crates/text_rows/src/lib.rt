@@ -1,0 +1,17 @@
+//! Worked rows of words, lines, schedules, transcripts and trials.
+#![tactic(auto)]
+
+#[cfg(test)]
+mod counts;
+#[cfg(test)]
+mod lines;
+#[cfg(test)]
+mod schedules;
+#[cfg(test)]
+mod served;
+#[cfg(test)]
+mod transcripts;
+#[cfg(test)]
+mod trials;
+#[cfg(test)]
+mod words;
