@@ -1,7 +1,7 @@
 -- The sum of a challenge by Horner's rule, from the last pick to the first.
 use Rattle.std.specs.Prelude.{◌≡◌, ◌≢◌, ℕ, zero, suc, ◌+◌, ◌<◌, ◌≤◌, ◌&&◌, Bool, true, false, nat_eq, List, [], ◌∷◌, Option, Some, None, is_some, unwrap_or, if◌then◌else◌}
 use Rattle.std.proofs.Common.{arith, ap, sym, refl, ◌∙◌, subst, eqb-true}
-use Rattle.field_laws.proofs.Solve.{v, o, i, ◌⊞◌, ◌⊡◌, solve}
+use Rattle.algebra_laws.proofs.Solve.{v, o, i, ◌⊞◌, ◌⊡◌, solve}
 use Rattle.hail_field.specs.Nim.{nim_add, nim_mul, nim_pow}
 use Rattle.hail_field.proofs.AllNumbers.{nim_ring}
 use Rattle.column_defs.specs.Challenges.{Challenge, alpha, picked_row, sum_over, combined, held_symbol, all_held, honest_answer}

@@ -4,11 +4,11 @@ use Rattle.std.proofs.Common.{arith, ap, sym, refl, ◌∙◌}
 use Rattle.std.specs.Option.{option_map}
 use Rattle.hail_field.specs.Nim.{nim, nim_add, nim_mul, nim_pow}
 use Rattle.hail_field.proofs.AllNumbers.{nim_laws, nim_ring}
-use Rattle.field_laws.proofs.Ring.{add_swap}
-use Rattle.poly_laws.proofs.Values.{value-plus, value-scale}
-use Rattle.poly_laws.proofs.Roots.{length-plus}
-use Rattle.poly_laws.proofs.Interpolate.{length-scale}
-use Rattle.poly_laws.specs.Poly.{value as value_over}
+use Rattle.algebra_laws.proofs.Ring.{add_swap}
+use Rattle.algebra_laws.proofs.Values.{value-plus, value-scale}
+use Rattle.algebra_laws.proofs.Roots.{length-plus}
+use Rattle.algebra_laws.proofs.Interpolate.{length-scale}
+use Rattle.algebra_laws.specs.Poly.{value as value_over}
 use Rattle.code_defs.specs.Polynomials.{value, plus, scale}
 use Rattle.column_defs.specs.Keys.{mask, secret_point}
 use Rattle.column_defs.specs.Objects.{Object, row_number, symbols_in, is_primary, point}

@@ -1,9 +1,9 @@
 -- Sums over picks of which one differs.
 use Rattle.std.specs.Prelude.{◌≡◌, ◌≢◌, ℕ, zero, suc, ◌<◌, ◌==◌, ◌&&◌, Bool, true, false, nat_eq, List, [], ◌∷◌, is_some, unwrap_or, Option, None, Some, if◌then◌else◌}
 use Rattle.std.proofs.Common.{arith, ap, sym, refl, ◌∙◌, eqb-true}
-use Rattle.field_laws.proofs.Inverse.{factor_zero}
-use Rattle.field_laws.proofs.Ring.{sum_zero}
-use Rattle.field_laws.proofs.Solve.{v, ◌⊞◌, ◌⊡◌, solve}
+use Rattle.algebra_laws.proofs.Inverse.{factor_zero}
+use Rattle.algebra_laws.proofs.Ring.{sum_zero}
+use Rattle.algebra_laws.proofs.Solve.{v, ◌⊞◌, ◌⊡◌, solve}
 use Rattle.hail_field.specs.Nim.{nim, nim_add, nim_mul, nim_pow}
 use Rattle.hail_field.proofs.AllNumbers.{nim_laws, nim_ring}
 use Rattle.column_defs.specs.Keys.{stream_symbol}

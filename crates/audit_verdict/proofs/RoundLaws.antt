@@ -6,7 +6,7 @@ use Rattle.std.proofs.lemmas.List.FromFn.{length-map-range_with_len, get_or-map-
 use Rattle.hail_field.specs.Nim.{nim_add}
 use Rattle.hail_field.specs.Shape.{IsShape}
 use Rattle.hail_field.proofs.AllNumbers.{nim_laws, nim_ring}
-use Rattle.poly_laws.specs.Poly.{is_seen as is_seen_over}
+use Rattle.algebra_laws.specs.Poly.{is_seen as is_seen_over}
 use Rattle.code_defs.specs.Polynomials.{value, agree, is_seen}
 use Rattle.code_defs.specs.Points.{upto}
 use Rattle.code_defs.specs.DispersalCode.{Accepts}

@@ -3,7 +3,7 @@ use Rattle.std.specs.Prelude.{◌≡◌, ◌≢◌, ℕ, zero, suc, ◌/◌, ◌
 use Rattle.std.proofs.Common.{arith, ap, sym, refl, ◌∙◌, inl}
 use Rattle.hail_field.specs.Nim.{nim_add}
 use Rattle.hail_field.proofs.AllNumbers.{nim_ring}
-use Rattle.poly_laws.specs.Poly.{is_seen as is_seen_over}
+use Rattle.algebra_laws.specs.Poly.{is_seen as is_seen_over}
 use Rattle.code_defs.specs.Polynomials.{value, is_seen}
 use Rattle.code_defs.proofs.Values.{is_seen-none}
 use Rattle.column_defs.specs.Objects.{Object, symbols_in, point, points}

@@ -6,7 +6,7 @@ use hail_field::Symbol;
 use hail_poly::Work;
 
 /// A count, with one more where the answer is absent or is not the value.
-#[tactic(auto, unfolding(poly_laws::specs::Poly::is_seen))]
+#[tactic(auto, unfolding(algebra_laws::specs::Poly::is_seen))]
 fn counted_once(answer: Option<Symbol>, value: Symbol, count: u32) -> u32
     requires { count < 2 ^ 31 }
     ensures { result ≡ (if is_seen value answer then count else count + 1) }

@@ -3,11 +3,11 @@ use Rattle.std.proofs.Common.{◌≡◌, ◌≢◌, ◌≤◌, ◌<◌, ◌+◌,
 use Rattle.std.specs.List.{range_with_len}
 use Rattle.std.proofs.lemmas.List.{length-set, length-replicate}
 use Rattle.std.proofs.lemmas.List.FromFn.{length-range_with_len, length-map-range_with_len, get_or-map-range_with_len, get_or-range_with_len}
-use Rattle.plain_laws.specs.Lists.{Each}
-use Rattle.field_laws.proofs.Ring.{zero_add, zero_mul, one_mul}
+use Rattle.algebra_laws.specs.Lists.{Each}
+use Rattle.algebra_laws.proofs.Ring.{zero_add, zero_mul, one_mul}
 use Rattle.hail_field.specs.Nim.{nim, nim_add, nim_mul, nim_inv}
 use Rattle.hail_field.proofs.AllNumbers.{nim_laws, nim_ring, nim_mul_inv}
-use Rattle.poly_laws.proofs.Interpolate.{interpolate_takes, vanish_else}
+use Rattle.algebra_laws.proofs.Interpolate.{interpolate_takes, vanish_else}
 use Rattle.code_defs.specs.Polynomials.{value, vanish, interpolate, TakesSymbols}
 use Rattle.code_defs.specs.Points.{upto, others_product, multiplier}
 use Rattle.code_defs.specs.Profiles.{Profile}

@@ -1,15 +1,15 @@
 -- Lagrange's formula for the value of the interpolating polynomial at another point.
 use Rattle.std.proofs.Common.{◌≡◌, ◌≢◌, ℕ, Bool, true, false, cond, nat_eq, sym, ◌∙◌, ap, refl, arith, List, [], ◌∷◌, length, map}
-use Rattle.plain_laws.specs.Lists.{Each}
-use Rattle.field_laws.specs.Field.{Apart}
-use Rattle.field_laws.proofs.Solve.{v, ◌⊞◌, ◌⊡◌, solve}
-use Rattle.field_laws.proofs.Ring.{one_mul, add_swap, sum_zero, mul_left_comm, add_mul}
+use Rattle.algebra_laws.specs.Lists.{Each}
+use Rattle.algebra_laws.specs.Field.{Apart}
+use Rattle.algebra_laws.proofs.Solve.{v, ◌⊞◌, ◌⊡◌, solve}
+use Rattle.algebra_laws.proofs.Ring.{one_mul, add_swap, sum_zero, mul_left_comm, add_mul}
 use Rattle.hail_field.specs.Nim.{nim, nim_add, nim_mul, nim_inv}
 use Rattle.hail_field.proofs.AllNumbers.{nim_laws, nim_ring, nim_mul_inv, nim_inv_is}
-use Rattle.poly_laws.specs.Poly.{value as value_over, interpolate as interpolate_over}
-use Rattle.field_laws.proofs.Inverse.{factor_zero}
-use Rattle.poly_laws.proofs.Values.{value-plus, value-scale}
-use Rattle.poly_laws.proofs.Interpolate.{value-vanish, vanish_else}
+use Rattle.algebra_laws.specs.Poly.{value as value_over, interpolate as interpolate_over}
+use Rattle.algebra_laws.proofs.Inverse.{factor_zero}
+use Rattle.algebra_laws.proofs.Values.{value-plus, value-scale}
+use Rattle.algebra_laws.proofs.Interpolate.{value-vanish, vanish_else}
 use Rattle.code_defs.specs.Polynomials.{value, scale, vanish, interpolate}
 use Rattle.code_defs.specs.Points.{others_product, multiplier}
 use Rattle.code_defs.specs.Sums.{dot}

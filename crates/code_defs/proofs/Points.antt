@@ -1,13 +1,13 @@
 -- Points that are apart, and the products of their sums.
 use Rattle.std.proofs.Common.{◌≡◌, ◌≢◌, ◌≤◌, ◌<◌, ◌+◌, ◌-◌, ◌++◌, ◌⊎◌, inl, inr, ℕ, zero, suc, sym, ◌∙◌, ap, refl, arith, List, [], ◌∷◌, Bool, true, false, cond, nat_eq, eqb-true, zero-add, add-one}
 use Rattle.std.specs.List.{range_with_len}
-use Rattle.plain_laws.specs.Lists.{Each}
-use Rattle.field_laws.specs.Field.{Apart}
-use Rattle.field_laws.proofs.Ring.{one_mul}
+use Rattle.algebra_laws.specs.Lists.{Each}
+use Rattle.algebra_laws.specs.Field.{Apart}
+use Rattle.algebra_laws.proofs.Ring.{one_mul}
 use Rattle.hail_field.specs.Nim.{nim, nim_add, nim_mul}
 use Rattle.hail_field.proofs.AllNumbers.{nim_laws, nim_ring}
-use Rattle.poly_laws.proofs.Interpolate.{value-vanish}
-use Rattle.poly_laws.specs.Poly.{value as value_over, vanish as vanish_over}
+use Rattle.algebra_laws.proofs.Interpolate.{value-vanish}
+use Rattle.algebra_laws.specs.Poly.{value as value_over, vanish as vanish_over}
 use Rattle.code_defs.specs.Polynomials.{value, vanish}
 use Rattle.code_defs.specs.Points.{others_product, upto}
 

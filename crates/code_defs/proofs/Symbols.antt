@@ -2,18 +2,18 @@
 use Rattle.std.specs.Prelude.{◌≡◌, ℕ, zero, suc, ◌+◌, ◌≤◌, Bool, true, false, cond, All, List, [], ◌∷◌, length, map, Option, Some, None, IfSome}
 use Rattle.std.proofs.Common.{arith, ap, sym, refl, subst}
 use Rattle.std.proofs.lemmas.List.Elements.{All-nil, All-cons, All-head, All-tail}
-use Rattle.field_laws.specs.Field.{Apart}
-use Rattle.field_laws.proofs.Ring.{sum_zero}
+use Rattle.algebra_laws.specs.Field.{Apart}
+use Rattle.algebra_laws.proofs.Ring.{sum_zero}
 use Rattle.hail_field.specs.Nim.{nim, nim_add, nim_mul, nim_inv, is_symbol}
 use Rattle.hail_field.proofs.AllNumbers.{nim_laws, nim_ring, nim_add-lt, nim_mul-lt, nim_inv-lt}
-use Rattle.poly_laws.specs.Poly.{value as value_over, plus as plus_over, scale as scale_over, times as times_over, vanish as vanish_over, interpolate as interpolate_over, agree as agree_over, is_seen as is_seen_over}
-use Rattle.poly_laws.proofs.Roots.{plus_zero}
-use Rattle.poly_laws.proofs.Interpolate.{length-interpolate, interpolate_takes}
+use Rattle.algebra_laws.specs.Poly.{value as value_over, plus as plus_over, scale as scale_over, times as times_over, vanish as vanish_over, interpolate as interpolate_over, agree as agree_over, is_seen as is_seen_over}
+use Rattle.algebra_laws.proofs.Roots.{plus_zero}
+use Rattle.algebra_laws.proofs.Interpolate.{length-interpolate, interpolate_takes}
 use Rattle.code_defs.specs.Polynomials.{value, plus, scale, times, vanish, interpolate, agree, is_seen}
 use Rattle.code_defs.specs.Points.{upto, values_at}
 use Rattle.std.specs.List.{range_with_len}
 use Rattle.std.proofs.lemmas.List.FromFn.{length-range_with_len}
-use Rattle.plain_laws.specs.Lists.{Each}
+use Rattle.algebra_laws.specs.Lists.{Each}
 use Rattle.code_defs.specs.Profiles.{profile_of}
 use Rattle.code_defs.specs.ServerCode.{IsNear}
 use Rattle.code_defs.specs.DispersalCode.{Accepts}

@@ -1,8 +1,8 @@
 -- Values of polynomials at points, and tests of them.
 use Rattle.std.proofs.Common.{◌≡◌, refl, sym, ap, ◌∙◌, ℕ, List, [], ◌∷◌, nat_eq, eqb-true}
 use Rattle.std.specs.Prelude.{Bool, true, false, None}
-use Rattle.plain_laws.specs.Lists.{Each}
-use Rattle.poly_laws.specs.Poly.{value as value_over, is_seen as is_seen_over}
+use Rattle.algebra_laws.specs.Lists.{Each}
+use Rattle.algebra_laws.specs.Poly.{value as value_over, is_seen as is_seen_over}
 use Rattle.code_defs.specs.Points.{values_at}
 use Rattle.code_defs.specs.Polynomials.{value, is_seen, TakesSymbols}
 use Rattle.code_defs.proofs.Points.{nat_eq-differ}

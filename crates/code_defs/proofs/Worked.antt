@@ -1,10 +1,10 @@
 -- Polynomials over the nim field worked out.
 use Rattle.std.proofs.Common.{subst, ◌≡◌, refl, sym, ap, ◌∙◌, arith, ℕ, List, [], ◌∷◌, Some}
-use Rattle.field_laws.specs.Field.{Apart}
+use Rattle.algebra_laws.specs.Field.{Apart}
 use Rattle.hail_field.specs.Nim.{product, nim, nim_mul, nim_add, nim_inv, inverse_below}
 use Rattle.hail_field.proofs.AllNumbers.{nim_laws}
-use Rattle.poly_laws.specs.Poly.{value as value_over, plus as plus_over, scale as scale_over, times as times_over, vanish as vanish_over, interpolate as interpolate_over, front, trim as trim_over, is_seen, agree as agree_over, Decodes, FirstRow, here, next}
-use Rattle.poly_laws.proofs.Values.{value-plus, value-times}
+use Rattle.algebra_laws.specs.Poly.{value as value_over, plus as plus_over, scale as scale_over, times as times_over, vanish as vanish_over, interpolate as interpolate_over, front, trim as trim_over, is_seen, agree as agree_over, Decodes, FirstRow, here, next}
+use Rattle.algebra_laws.proofs.Values.{value-plus, value-times}
 use Rattle.std.specs.Prelude.{All, IfSome}
 use Rattle.hail_field.specs.Nim.{is_symbol}
 use Rattle.code_defs.specs.Points.{upto, values_at}

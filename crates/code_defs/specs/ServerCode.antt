@@ -12,7 +12,7 @@
 -- coefficient times kept symbol
 use Rattle.std.specs.Prelude.{◌≡◌, ◌≤◌, ℕ, suc, List, ◌∷◌, length, slice_index, ◌==◌, if◌then◌else◌}
 use Rattle.hail_field.specs.Nim.{nim}
-use Rattle.poly_laws.specs.Poly.{Decodes}
+use Rattle.algebra_laws.specs.Poly.{Decodes}
 use Rattle.code_defs.specs.Polynomials.{interpolate}
 use Rattle.code_defs.specs.Points.{upto, values_at}
 use Rattle.code_defs.specs.Profiles.{Profile}

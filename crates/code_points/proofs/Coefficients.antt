@@ -1,11 +1,11 @@
 -- The coefficients of codewords are bytes, since the points are.
 use Rattle.std.proofs.Common.{◌≡◌, ◌≤◌, ◌<◌, ℕ, zero, suc, arith, List, [], ◌∷◌, map, get_or, set, replicate, zero-add}
 use Rattle.std.proofs.lemmas.List.FromFn.{get_or-map-range_with_len}
-use Rattle.plain_laws.specs.Lists.{Each}
+use Rattle.algebra_laws.specs.Lists.{Each}
 use Rattle.hail_field.specs.Nim.{nim, nim_add, nim_mul, nim_inv}
 use Rattle.hail_field.proofs.AllNumbers.{nim_laws, nim_ring, nim_add-lt, nim_mul-lt, nim_inv-lt}
-use Rattle.poly_laws.specs.Poly.{value as value_over, vanish as vanish_over}
-use Rattle.poly_laws.proofs.Interpolate.{value-vanish}
+use Rattle.algebra_laws.specs.Poly.{value as value_over, vanish as vanish_over}
+use Rattle.algebra_laws.proofs.Interpolate.{value-vanish}
 use Rattle.code_defs.specs.Polynomials.{value, vanish}
 use Rattle.code_defs.specs.Points.{upto, others_product}
 use Rattle.code_defs.specs.Profiles.{profile_of}

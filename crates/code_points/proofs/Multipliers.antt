@@ -3,7 +3,7 @@ use Rattle.std.proofs.Common.{◌≡◌, ◌≢◌, ◌≤◌, ◌<◌, ◌+◌,
 use Rattle.std.specs.List.{range_with_len}
 use Rattle.std.proofs.lemmas.Nat.{xor_lt}
 use Rattle.std.proofs.lemmas.Bool.{cases_lt}
-use Rattle.plain_laws.specs.Lists.{Each}
+use Rattle.algebra_laws.specs.Lists.{Each}
 use Rattle.hail_field.specs.Nim.{product, width, nim_add, nim_mul}
 use Rattle.hail_field.proofs.Products.{product-lt}
 use Rattle.hail_field.proofs.AllNumbers.{nim_ring, nim_mul_at, nim_inv_is}

@@ -3,8 +3,8 @@ use Rattle.std.proofs.Common.{◌≡◌, ◌≤◌, ◌<◌, ◌+◌, ◌-◌, �
 use Rattle.std.specs.List.{range_with_len}
 use Rattle.hail_field.specs.Nim.{nim, nim_add, nim_mul}
 use Rattle.hail_field.proofs.AllNumbers.{nim_laws, nim_ring}
-use Rattle.poly_laws.specs.Poly.{value as value_over, vanish as vanish_over}
-use Rattle.poly_laws.proofs.Interpolate.{value-vanish}
+use Rattle.algebra_laws.specs.Poly.{value as value_over, vanish as vanish_over}
+use Rattle.algebra_laws.proofs.Interpolate.{value-vanish}
 use Rattle.code_defs.specs.Polynomials.{value, vanish}
 use Rattle.code_defs.specs.Profiles.{profile_of}
 use Rattle.code_defs.proofs.Points.{range_with_len-step}

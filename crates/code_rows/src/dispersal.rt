@@ -1,5 +1,5 @@
 ghost use Rattle.std.specs.Prelude.{◌≡◌, ◌≤◌, length};
-ghost use Rattle.field_laws.specs.Field.{Apart};
+ghost use Rattle.algebra_laws.specs.Field.{Apart};
 
 use dispersal_code::{encode_row, open_row};
 use hail_field::{Shape, Symbol};

@@ -7,9 +7,9 @@ use Rattle.std.proofs.lemmas.List.{get_or-take, get_or-drop}
 use Rattle.std.proofs.lemmas.List.FromFn.{length-map-range_with_len, length-range_with_len, map-range_with_len_more, fill_by_all, get_or-map-range_with_len}
 use Rattle.hail_field.specs.Nim.{nim}
 use Rattle.hail_field.proofs.AllNumbers.{nim_laws}
-use Rattle.poly_laws.specs.Poly.{agree as agree_over}
-use Rattle.poly_laws.proofs.Steps.{is_seen-some, is_seen-none}
-use Rattle.poly_laws.proofs.Interpolate.{length-interpolate}
+use Rattle.algebra_laws.specs.Poly.{agree as agree_over}
+use Rattle.algebra_laws.proofs.Steps.{is_seen-some, is_seen-none}
+use Rattle.algebra_laws.proofs.Interpolate.{length-interpolate}
 use Rattle.code_defs.specs.Polynomials.{value, agree, is_seen, interpolate}
 use Rattle.code_defs.specs.Points.{upto}
 use Rattle.code_defs.specs.ServerCode.{codeword}

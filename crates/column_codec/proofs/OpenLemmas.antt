@@ -14,7 +14,7 @@ use Rattle.code_defs.specs.ServerCode.{Opens, OpensToNone}
 use Rattle.code_defs.specs.DispersalCode.{Accepts, AcceptsNone}
 use Rattle.column_defs.specs.Objects.{Object, stripe_symbols, row_number, is_primary, point, points}
 use Rattle.column_defs.specs.Opened.{SeenBlock, masked, bare, OpensTo, AllOpen, AcceptsRow, AcceptsNoRow, GivesSymbols, LosesRow, symbol_in}
-use Rattle.field_laws.specs.Field.{Apart}
+use Rattle.algebra_laws.specs.Field.{Apart}
 use Rattle.column_defs.proofs.PointLaws.{Apart-points}
 use Rattle.std.proofs.lemmas.Option.{slice_get-get_or}
 use Rattle.column_defs.proofs.MaskLengths.{length-bare}

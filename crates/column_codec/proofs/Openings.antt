@@ -4,9 +4,9 @@ use Rattle.std.proofs.Common.{arith, ap, refl, get_or, subst, eqb-true, inl, inr
 use Rattle.std.specs.List.{range_with_len}
 use Rattle.std.proofs.lemmas.List.{length-append, length-drop, get_or_default}
 use Rattle.std.proofs.lemmas.List.FromFn.{length-range_with_len}
-use Rattle.field_laws.specs.Field.{Apart}
-use Rattle.field_laws.proofs.Apart.{Apart-front}
-use Rattle.poly_laws.specs.Poly.{agree as agree_over, is_seen as is_seen_over}
+use Rattle.algebra_laws.specs.Field.{Apart}
+use Rattle.algebra_laws.proofs.Apart.{Apart-front}
+use Rattle.algebra_laws.specs.Poly.{agree as agree_over, is_seen as is_seen_over}
 use Rattle.code_defs.specs.Polynomials.{value, agree, is_seen, trim, interpolate}
 use Rattle.code_defs.specs.Points.{upto}
 use Rattle.code_defs.specs.Profiles.{Profile}

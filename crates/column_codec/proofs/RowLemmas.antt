@@ -3,7 +3,7 @@ use Rattle.std.specs.Prelude.{◌≡◌, ℕ, zero, suc, ◌+◌, ◌*◌, ◌<�
 use Rattle.std.proofs.Common.{arith, ap, sym, refl, ◌∙◌, get_or}
 use Rattle.std.proofs.lemmas.List.{ext_get_or, get_or-take, get_or-drop, length-take-le}
 use Rattle.std.proofs.lemmas.List.FromFn.{length-map-range_with_len, get_or-map-range_with_len}
-use Rattle.plain_laws.proofs.Lists.{take-front, map-range_same}
+use Rattle.algebra_laws.proofs.Lists.{take-front, map-range_same}
 use Rattle.hail_field.specs.Nim.{nim_add}
 use Rattle.code_defs.specs.Polynomials.{value, interpolate}
 use Rattle.code_defs.specs.Points.{upto, values_at}

@@ -4,16 +4,16 @@ use Rattle.std.proofs.Common.{arith, ap, sym, refl, ◌∙◌, get_or}
 use Rattle.std.specs.List.{range_with_len}
 use Rattle.std.proofs.lemmas.List.{get_or-take, length-take-le, length-replicate}
 use Rattle.std.proofs.lemmas.List.FromFn.{length-range_with_len, length-map-range_with_len, map-range_with_len_more, fill_by_all}
-use Rattle.plain_laws.specs.Lists.{Each}
-use Rattle.plain_laws.proofs.Each.{each_range}
+use Rattle.algebra_laws.specs.Lists.{Each}
+use Rattle.algebra_laws.proofs.Each.{each_range}
 use Rattle.hail_field.specs.Nim.{nim, nim_add, nim_mul, nim_inv}
 use Rattle.hail_field.proofs.AllNumbers.{nim_laws, nim_ring}
-use Rattle.field_laws.proofs.Inverse.{factor_zero}
-use Rattle.field_laws.proofs.Ring.{zero_mul, one_mul}
-use Rattle.field_laws.proofs.Solve.{v, i as one_term, ◌⊞◌, ◌⊡◌, solve}
-use Rattle.poly_laws.specs.Poly.{value as value_over}
-use Rattle.poly_laws.proofs.Roots.{plus_zero, same_values}
-use Rattle.poly_laws.proofs.Interpolate.{length-interpolate}
+use Rattle.algebra_laws.proofs.Inverse.{factor_zero}
+use Rattle.algebra_laws.proofs.Ring.{zero_mul, one_mul}
+use Rattle.algebra_laws.proofs.Solve.{v, i as one_term, ◌⊞◌, ◌⊡◌, solve}
+use Rattle.algebra_laws.specs.Poly.{value as value_over}
+use Rattle.algebra_laws.proofs.Roots.{plus_zero, same_values}
+use Rattle.algebra_laws.proofs.Interpolate.{length-interpolate}
 use Rattle.column_defs.proofs.ColumnLaws.{value-interpolate_upto}
 use Rattle.code_defs.specs.Polynomials.{value, interpolate}
 use Rattle.code_defs.specs.Points.{upto, others_product}

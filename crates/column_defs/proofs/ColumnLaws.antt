@@ -5,7 +5,7 @@ use Rattle.std.proofs.lemmas.List.FromFn.{length-range_with_len, length-map-rang
 use Rattle.std.proofs.lemmas.Option.{slice_get-get_or}
 use Rattle.hail_field.specs.Nim.{nim}
 use Rattle.hail_field.proofs.AllNumbers.{nim_laws}
-use Rattle.poly_laws.proofs.Interpolate.{length-interpolate}
+use Rattle.algebra_laws.proofs.Interpolate.{length-interpolate}
 use Rattle.code_defs.specs.Polynomials.{value, interpolate}
 use Rattle.code_defs.specs.Points.{upto}
 use Rattle.code_defs.specs.ServerCode.{codeword}

@@ -1,8 +1,8 @@
 -- How many counts an audit leaves, and how far they rise in a round.
 use Rattle.std.specs.Prelude.{◌≡◌, ℕ, suc, ◌+◌, ◌≤◌, true, false, List, [], ◌∷◌, length, Option}
 use Rattle.std.proofs.Common.{arith, ap, refl, Bool, cond}
-use Rattle.plain_laws.specs.Lists.{Each}
-use Rattle.plain_laws.proofs.Each.{each_at_most}
+use Rattle.algebra_laws.specs.Lists.{Each}
+use Rattle.algebra_laws.proofs.Each.{each_at_most}
 use Rattle.code_defs.specs.Polynomials.{value, is_seen}
 use Rattle.column_defs.specs.Verdicts.{counts_after}
 

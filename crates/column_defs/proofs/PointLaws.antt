@@ -4,8 +4,8 @@ use Rattle.std.proofs.Common.{arith, sym, ◌∙◌, ap, refl}
 use Rattle.std.specs.List.{range_with_len}
 use Rattle.std.specs.Int.{w128, from_le_bytes}
 use Rattle.sha2.proofs.Facts256.{length-sha256}
-use Rattle.plain_laws.specs.Lists.{Each}
-use Rattle.field_laws.specs.Field.{Apart}
+use Rattle.algebra_laws.specs.Lists.{Each}
+use Rattle.algebra_laws.specs.Field.{Apart}
 use Rattle.column_defs.specs.Keys.{file_key, secret_point}
 use Rattle.column_defs.specs.Objects.{Object, is_primary, point, points}
 

@@ -5,15 +5,15 @@ use Rattle.std.specs.List.{range_with_len}
 use Rattle.std.proofs.lemmas.List.FromFn.{length-range_with_len, length-map-range_with_len, get_or-map-range_with_len}
 use Rattle.std.proofs.Math.ListN.{length-drop}
 use Rattle.std.proofs.Math.Nat.{mul-le-mul_right}
-use Rattle.plain_laws.specs.Lists.{Each}
-use Rattle.plain_laws.proofs.Lists.{map-range_same}
-use Rattle.plain_laws.proofs.Each.{each_range}
+use Rattle.algebra_laws.specs.Lists.{Each}
+use Rattle.algebra_laws.proofs.Lists.{map-range_same}
+use Rattle.algebra_laws.proofs.Each.{each_range}
 use Rattle.hail_field.specs.Nim.{nim, nim_add, nim_mul}
 use Rattle.hail_field.proofs.AllNumbers.{nim_laws, nim_ring}
-use Rattle.poly_laws.specs.Poly.{value as value_over}
-use Rattle.poly_laws.proofs.Values.{value-plus, value-scale}
-use Rattle.poly_laws.proofs.Roots.{length-plus, plus_zero, same_values}
-use Rattle.poly_laws.proofs.Interpolate.{length-scale}
+use Rattle.algebra_laws.specs.Poly.{value as value_over}
+use Rattle.algebra_laws.proofs.Values.{value-plus, value-scale}
+use Rattle.algebra_laws.proofs.Roots.{length-plus, plus_zero, same_values}
+use Rattle.algebra_laws.proofs.Interpolate.{length-scale}
 use Rattle.code_defs.specs.Polynomials.{value, plus, scale, vanish, interpolate}
 use Rattle.code_defs.specs.Points.{upto, values_at}
 use Rattle.code_defs.specs.Profiles.{Profile}

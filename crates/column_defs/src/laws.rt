@@ -1,6 +1,6 @@
 //! Worked values of the definitions, and laws that follow from them alone.
 ghost use Rattle.std.specs.Prelude.{◌≡◌, ◌≢◌, ◌≤◌, ◌^◌, ◌%◌, ◌<◌, ℕ, length, true, false, List, [], ◌∷◌, None, Some, replicate};
-ghost use Rattle.field_laws.specs.Field.{Apart};
+ghost use Rattle.algebra_laws.specs.Field.{Apart};
 ghost use Rattle.code_defs.specs.Points.{upto};
 ghost use Rattle.code_defs.specs.Profiles.{profile_of};
 ghost use Rattle.code_defs.specs.ServerCode.{IsCodeword, differences};

@@ -2,7 +2,7 @@
 use Rattle.std.specs.Prelude.{◌≡◌, ℕ, zero, suc, ◌+◌, ◌-◌, ◌<◌, ◌≤◌, ◌&&◌, Bool, true, false, not, cond, List, [], ◌∷◌, map, nat_lt, slice_get, Option, None, option_and_then}
 use Rattle.std.proofs.Common.{arith, ap, sym, refl, ◌∙◌, subst}
 use Rattle.std.specs.List.{range_with_len}
-use Rattle.poly_laws.specs.Poly.{agree as agree_over, is_seen as is_seen_over}
+use Rattle.algebra_laws.specs.Poly.{agree as agree_over, is_seen as is_seen_over}
 use Rattle.code_defs.specs.Polynomials.{value, agree, is_seen}
 use Rattle.code_defs.specs.Points.{upto}
 use Rattle.column_defs.specs.Objects.{Object, points, point}

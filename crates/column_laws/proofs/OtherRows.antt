@@ -5,7 +5,7 @@ use Rattle.std.specs.List.{range_with_len}
 use Rattle.std.proofs.lemmas.List.FromFn.{length-map-range_with_len}
 use Rattle.std.proofs.lemmas.Bool.{not-true}
 use Rattle.hail_field.specs.Shape.{IsShape}
-use Rattle.poly_laws.specs.Poly.{agree as agree_over}
+use Rattle.algebra_laws.specs.Poly.{agree as agree_over}
 use Rattle.code_defs.specs.Polynomials.{value, agree, is_seen}
 use Rattle.code_defs.specs.Points.{upto, values_at}
 use Rattle.code_defs.specs.Profiles.{profile_of}

@@ -2,7 +2,7 @@
 use Rattle.std.specs.Prelude.{◌≡◌, ℕ, suc, ◌+◌, ◌*◌, ◌<◌, ◌≤◌, ◌||◌, ◌==◌, Bool, true, false, not, List, [], ◌∷◌, length, map, nat_lt, nat_eq, slice_get, None, Some, cond, if◌then◌else◌}
 use Rattle.std.proofs.Common.{arith, ap, sym, refl, ◌∙◌}
 use Rattle.std.proofs.lemmas.List.FromFn.{length-range_with_len, length-map-range_with_len}
-use Rattle.poly_laws.specs.Poly.{agree as agree_over, is_seen as is_seen_over}
+use Rattle.algebra_laws.specs.Poly.{agree as agree_over, is_seen as is_seen_over}
 use Rattle.code_defs.specs.Polynomials.{value, agree}
 use Rattle.code_defs.specs.Points.{upto, values_at}
 use Rattle.code_defs.specs.Profiles.{profile_of}

@@ -4,10 +4,10 @@ use Rattle.std.proofs.Common.{arith, ap, sym, ◌∙◌, get_or-take, get_or-dro
 use Rattle.std.proofs.Math.Nat.{mul-le-mul_right}
 use Rattle.std.proofs.lemmas.List.FromFn.{length-map-range_with_len, get_or-map-range_with_len, fill_by_all}
 use Rattle.std.proofs.lemmas.Option.{get_or_from_slice_get}
-use Rattle.plain_laws.proofs.Places.{IsPlace, place-of}
+use Rattle.algebra_laws.proofs.ListPlaces.{IsPlace, place-of}
 use Rattle.hail_field.specs.Shape.{IsShape}
 use Rattle.hail_field.proofs.AllNumbers.{nim_laws}
-use Rattle.poly_laws.specs.Poly.{is_seen as is_seen_over}
+use Rattle.algebra_laws.specs.Poly.{is_seen as is_seen_over}
 use Rattle.code_defs.specs.Polynomials.{value, interpolate, is_seen}
 use Rattle.code_defs.specs.Points.{upto}
 use Rattle.code_defs.specs.Profiles.{profile_of}

@@ -2,13 +2,13 @@
 use Rattle.std.specs.Prelude.{◌≡◌, ℕ, zero, suc, ◌+◌, ◌*◌, ◌≤◌, List, [], ◌∷◌, length, map, take, Option, None, Some}
 use Rattle.std.proofs.Common.{arith, ap, sym, refl, ◌∙◌}
 use Rattle.std.proofs.lemmas.List.FromFn.{length-range_with_len, length-map-range_with_len}
-use Rattle.field_laws.specs.Field.{Apart}
+use Rattle.algebra_laws.specs.Field.{Apart}
 use Rattle.hail_field.specs.Nim.{nim}
 use Rattle.hail_field.specs.Shape.{IsShape}
 use Rattle.hail_field.proofs.AllNumbers.{nim_laws}
-use Rattle.poly_laws.specs.Poly.{agree as agree_over, present}
-use Rattle.poly_laws.proofs.Agree.{unique}
-use Rattle.poly_laws.proofs.Roots.{same_values}
+use Rattle.algebra_laws.specs.Poly.{agree as agree_over, present}
+use Rattle.algebra_laws.proofs.Agree.{unique}
+use Rattle.algebra_laws.proofs.Roots.{same_values}
 use Rattle.code_defs.specs.Polynomials.{value, agree}
 use Rattle.code_defs.specs.Points.{upto, values_at}
 use Rattle.code_defs.specs.Profiles.{profile_of}

@@ -2,7 +2,7 @@
 use Rattle.std.specs.Prelude.{◌≡◌, ◌≢◌, ◌<◌, ℕ, ◌||◌, ◌==◌, not, false, nat_lt, List, [], ◌∷◌, None, Some}
 use Rattle.std.proofs.Common.{arith, ap, sym, refl, ◌∙◌}
 use Rattle.hail_field.specs.Shape.{IsShape}
-use Rattle.poly_laws.specs.Poly.{agree as agree_over, is_seen as is_seen_over}
+use Rattle.algebra_laws.specs.Poly.{agree as agree_over, is_seen as is_seen_over}
 use Rattle.code_defs.specs.Polynomials.{value, agree}
 use Rattle.code_defs.specs.Points.{upto, values_at}
 use Rattle.code_defs.specs.ServerCode.{differences}

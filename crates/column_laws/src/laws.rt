@@ -1,6 +1,6 @@
 //! What follows for seen blocks from how many of them are wrong.
 ghost use Rattle.std.specs.Prelude.{◌≡◌, ◌≢◌, ◌<◌, ◌≤◌, ◌+◌, ◌*◌, ℕ, false, List, [], ◌∷◌, None, Some};
-ghost use Rattle.field_laws.specs.Field.{Apart};
+ghost use Rattle.algebra_laws.specs.Field.{Apart};
 ghost use Rattle.hail_field.specs.Shape.{IsShape};
 ghost use Rattle.code_defs.specs.Polynomials.{value};
 ghost use Rattle.code_defs.specs.Points.{upto, values_at};

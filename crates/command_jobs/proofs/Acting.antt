@@ -1,7 +1,7 @@
 -- What a step of the only job of a state does: it makes an action, and what is in effect or in flight grows.
 use Rattle.std.proofs.Common.{◌≡◌, ℕ, ◌+◌, ◌≤◌, ◌==◌, ◌⊎◌, List, [], ◌∷◌, Option, Some, None, refl, ap, sym, subst, ◌∙◌, inl, inr, arith}
 use Rattle.std.proofs.lemmas.Bool.{cases_Bool}
-use Rattle.plain_laws.proofs.Options.{some-not-none}
+use Rattle.algebra_laws.proofs.Options.{some-not-none}
 use Rattle.record_defs.specs.Records.{Record}
 use Rattle.record_defs.specs.Journal.{text_size}
 use Rattle.machine_defs.specs.Jobs.{Kind, Job, job_of}

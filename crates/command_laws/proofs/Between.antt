@@ -3,7 +3,7 @@ use Rattle.std.proofs.Common.{◌≡◌, ℕ, ◌<◌, ◌==◌, Bool, true, fal
 use Rattle.std.specs.Prelude.{is_some, nat_lt, slice_get, slice_set, IsSome}
 use Rattle.std.proofs.lemmas.Bool.{cases_Bool, false≢true, eq-eqb, eqb-true, lt-ltb}
 use Rattle.std.proofs.lemmas.List.{length-set}
-use Rattle.plain_laws.proofs.Lists.{get-set_other, get-set_same}
+use Rattle.algebra_laws.proofs.Lists.{get-set_other, get-set_same}
 use Rattle.device_defs.specs.Cells.{Cells, firm}
 use Rattle.device_defs.specs.Disks.{Stopped}
 use Rattle.device_defs.specs.Images.{EachImage}

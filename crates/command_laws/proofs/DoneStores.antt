@@ -6,7 +6,7 @@ use Rattle.std.proofs.lemmas.Bool.{and_from, false≢true}
 use Rattle.std.proofs.lemmas.Bool.Decides.{nat_tests}
 use Rattle.std.proofs.lemmas.List.{append-nil}
 use Rattle.hex.proofs.HexLemmas.{decode_of-ok}
-use Rattle.plain_laws.proofs.Options.{is_some-option_map}
+use Rattle.algebra_laws.proofs.Options.{is_some-option_map}
 use Rattle.device_defs.specs.Cells.{Cells, reads, firm}
 use Rattle.device_defs.specs.Disks.{synced, Stopped}
 use Rattle.device_defs.specs.Images.{EachImage}

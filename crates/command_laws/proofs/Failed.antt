@@ -1,7 +1,7 @@
 -- What a store that failed and a lost row leave, and that nothing is fetched by the other commands.
 use Rattle.std.proofs.Common.{◌≡◌, ◌≢◌, ℕ, ◌+◌, ◌<◌, ◌⊎◌, true, List, [], ◌∷◌, Option, None, Some, refl, ap, sym, subst, ◌∙◌, inl, inr, arith}
 use Rattle.std.specs.Prelude.{IsSomeAnd}
-use Rattle.plain_laws.proofs.Numbers.{not_two}
+use Rattle.algebra_laws.proofs.Numbers.{not_two}
 use Rattle.column_defs.specs.Verdicts.{is_flagged}
 use Rattle.device_defs.specs.Cells.{Cells}
 use Rattle.device_defs.specs.Faults.{Rose}

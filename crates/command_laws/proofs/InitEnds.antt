@@ -9,7 +9,7 @@ use Rattle.device_defs.specs.Told.{Goes}
 use Rattle.record_defs.specs.Records.{Record, Setup, SetUp, PutStart, PutDone, Drop, AuditStart, AuditDone, RepairDone, PutDoneIn, Version, Resume, InEffect, RepairDue, is_setup, largest_journal}
 use Rattle.record_defs.specs.Table.{files_of}
 use Rattle.journal_core.proofs.Meanings.{one_meaning, bad_is_none, one_place}
-use Rattle.plain_laws.proofs.Numbers.{not_two}
+use Rattle.algebra_laws.proofs.Numbers.{not_two}
 use Rattle.command_defs.specs.Forms.{Numbers}
 use Rattle.command_defs.specs.Keys.{IsKeyForm, longest_key}
 use Rattle.command_defs.specs.Sinking.{WritesLine}

@@ -1,6 +1,6 @@
 -- Three sevens and a nine are accepted with the constant 7 alone.
 use Rattle.std.proofs.Common.{◌≡◌, ◌+◌, ◌≤◌, ℕ, Bool, true, false, cond, List, [], ◌∷◌, Option, Some, refl, ap, sym, ◌∙◌, inl, arith}
-use Rattle.poly_laws.specs.Poly.{value as value_over, agree as agree_over, is_seen as is_seen_over}
+use Rattle.algebra_laws.specs.Poly.{value as value_over, agree as agree_over, is_seen as is_seen_over}
 use Rattle.hail_field.specs.Nim.{nim}
 use Rattle.hail_field.specs.Shape.{IsShape}
 use Rattle.hail_field.proofs.AllNumbers.{nim_laws}

@@ -1,6 +1,6 @@
 -- After the run a second block is lost, and a get over what is left is lost: two of four blocks are absent, where one may be wrong.
 use Rattle.std.proofs.Common.{ℕ, ◌+◌, ◌<◌, ◌≤◌, ◌^◌, Bool, true, false, cond, List, [], ◌∷◌, Option, Some, None, refl, inl, arith}
-use Rattle.poly_laws.specs.Poly.{agree as agree_over, is_seen as is_seen_over}
+use Rattle.algebra_laws.specs.Poly.{agree as agree_over, is_seen as is_seen_over}
 use Rattle.code_defs.specs.Polynomials.{value, agree, is_seen}
 use Rattle.column_defs.specs.Opened.{SeenBlock, LosesRow, symbol_in}
 use Rattle.column_defs.specs.Objects.{point}

@@ -4,7 +4,7 @@ use Rattle.std.proofs.Common.{◌≡◌, ℕ, ◌/◌, ◌%◌, ◌<◌, true, f
 use Rattle.std.specs.Prelude.{is_some, unwrap_or, if◌then◌else◌}
 use Rattle.hail_field.specs.Nim.{nim_add, nim_mul, nim_pow}
 use Rattle.hail_field.proofs.AllNumbers.{nim_laws}
-use Rattle.poly_laws.specs.Poly.{is_seen as is_seen_over, agree as agree_over}
+use Rattle.algebra_laws.specs.Poly.{is_seen as is_seen_over, agree as agree_over}
 use Rattle.code_defs.specs.Polynomials.{value, agree, is_seen}
 use Rattle.code_defs.specs.Points.{upto}
 use Rattle.column_defs.specs.Objects.{Object, symbols_in, point}

@@ -1,15 +1,15 @@
 -- A row with absent symbols: it is its present symbols that are decoded.
 use Rattle.std.proofs.Common.{◌≡◌, ◌≢◌, ◌≤◌, ◌<◌, ◌+◌, ◌*◌, ℕ, List, [], ◌∷◌, length, Option, Some, None, refl, ap, arith}
-use Rattle.plain_laws.specs.Lists.{Each}
-use Rattle.field_laws.specs.Field.{Apart}
+use Rattle.algebra_laws.specs.Lists.{Each}
+use Rattle.algebra_laws.specs.Field.{Apart}
 use Rattle.hail_field.specs.Nim.{nim}
 use Rattle.hail_field.specs.Shape.{IsShape}
 use Rattle.hail_field.proofs.AllNumbers.{nim_laws}
-use Rattle.poly_laws.specs.Poly.{Decodes, present, agree as agree_over}
-use Rattle.poly_laws.proofs.Agree.{agree_le}
-use Rattle.poly_laws.proofs.Steps.{is_seen-none}
-use Rattle.poly_laws.proofs.Trim.{length-trim}
-use Rattle.poly_laws.proofs.Interpolate.{length-interpolate}
+use Rattle.algebra_laws.specs.Poly.{Decodes, present, agree as agree_over}
+use Rattle.algebra_laws.proofs.Agree.{agree_le}
+use Rattle.algebra_laws.proofs.Steps.{is_seen-none}
+use Rattle.algebra_laws.proofs.Trim.{length-trim}
+use Rattle.algebra_laws.proofs.Interpolate.{length-interpolate}
 use Rattle.code_defs.specs.Polynomials.{value, agree, trim, interpolate}
 use Rattle.code_defs.specs.DispersalCode.{Accepts, AcceptsNone, IsOnlyAccepted}
 use Rattle.hail_poly.specs.Decoding.{matches, IsDecoded, NoneDecodes}

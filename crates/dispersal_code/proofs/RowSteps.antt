@@ -3,7 +3,7 @@ use Rattle.std.proofs.Common.{◌≡◌, ◌≤◌, ◌<◌, ◌+◌, ◌++◌, 
 use Rattle.std.proofs.lemmas.List.{take_more, take_all, get_or_read, map-append}
 use Rattle.hail_field.specs.Nim.{nim}
 use Rattle.hail_field.proofs.AllNumbers.{nim_laws}
-use Rattle.poly_laws.proofs.Trim.{value-trim}
+use Rattle.algebra_laws.proofs.Trim.{value-trim}
 use Rattle.code_defs.specs.Polynomials.{value, interpolate, trim}
 use Rattle.code_defs.specs.Points.{values_at}
 use Rattle.code_defs.specs.DispersalCode.{row_of}

@@ -1,14 +1,14 @@
 -- At most one polynomial is accepted.
 use Rattle.std.proofs.Common.{◌≡◌, ◌≤◌, ℕ, List, [], ◌∷◌, length, Option, Some, None, arith}
-use Rattle.plain_laws.specs.Lists.{Each}
-use Rattle.field_laws.specs.Field.{Apart}
+use Rattle.algebra_laws.specs.Lists.{Each}
+use Rattle.algebra_laws.specs.Field.{Apart}
 use Rattle.hail_field.specs.Nim.{nim}
 use Rattle.hail_field.specs.Shape.{IsShape}
 use Rattle.hail_field.proofs.AllNumbers.{nim_laws}
-use Rattle.poly_laws.specs.Poly.{present}
-use Rattle.poly_laws.proofs.Agree.{unique}
-use Rattle.poly_laws.proofs.Roots.{same_values}
-use Rattle.poly_laws.proofs.Trim.{trim_same}
+use Rattle.algebra_laws.specs.Poly.{present}
+use Rattle.algebra_laws.proofs.Agree.{unique}
+use Rattle.algebra_laws.proofs.Roots.{same_values}
+use Rattle.algebra_laws.proofs.Trim.{trim_same}
 use Rattle.code_defs.specs.Polynomials.{value, plus, trim}
 use Rattle.code_defs.specs.DispersalCode.{Accepts}
 

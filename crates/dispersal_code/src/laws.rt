@@ -1,9 +1,9 @@
 //! What holds of every row.
 ghost use Rattle.std.specs.Prelude.{◌≡◌, ◌≤◌, ◌<◌, ◌+◌, ◌*◌, ◌↔◌, ℕ, List, [], ◌∷◌, Option, Some, None, length};
-ghost use Rattle.field_laws.specs.Field.{Apart};
+ghost use Rattle.algebra_laws.specs.Field.{Apart};
 ghost use Rattle.hail_field.specs.Shape.{IsShape};
 ghost use Rattle.hail_field.specs.Nim.{nim};
-ghost use Rattle.poly_laws.specs.Poly.{Decodes};
+ghost use Rattle.algebra_laws.specs.Poly.{Decodes};
 ghost use Rattle.code_defs.specs.Polynomials.{trim, value};
 ghost use Rattle.code_defs.specs.DispersalCode.{Accepts, AcceptsNone};
 ghost use Rattle.dispersal_code.specs.Present.{present_points, present_symbols, room_for};

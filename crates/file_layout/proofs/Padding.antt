@@ -6,8 +6,8 @@ use Rattle.std.proofs.lemmas.List.{get_or-take, drop_min}
 use Rattle.std.proofs.Math.ListN.{length-drop}
 use Rattle.std.proofs.Math.ListN.{get_or-append}
 use Rattle.std.proofs.Math.Seq.{get_or-append_right}
-use Rattle.plain_laws.proofs.Numbers.{from_le_bytes-same}
-use Rattle.plain_laws.proofs.Lists.{get_or-zeros}
+use Rattle.algebra_laws.proofs.Numbers.{from_le_bytes-same}
+use Rattle.algebra_laws.proofs.Lists.{get_or-zeros}
 
 -- also after some of them
 drop-zeros : (k n i : ℕ) → ◌≡◌ {A = ℕ} (get_or (drop k (replicate n 0)) i 0) 0

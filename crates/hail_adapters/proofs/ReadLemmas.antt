@@ -3,7 +3,7 @@ use Rattle.std.specs.Prelude.{ℕ, ◌+◌, ◌≤◌, List, ◌++◌, length, t
 use Rattle.std.specs.Io.KnownBytes.{Consumes}
 use Rattle.std.proofs.Common.{arith, sym, subst, length-append, length-take-le}
 use Rattle.std.proofs.KnownBytes.{Consumes-trans}
-use Rattle.plain_laws.proofs.Lists.{take-put_mid_behind}
+use Rattle.algebra_laws.proofs.Lists.{take-put_mid_behind}
 use borrow.Rule.Slice.PartMut.{put_mid, post_of}
 
 -- there is room for both

@@ -1,7 +1,7 @@
 //! The laws of the field.
 ghost use Rattle.std.specs.Prelude.{◌≡◌, ◌≢◌, ◌≤◌, ◌<◌, ◌+◌, ◌*◌, ◌/◌, ◌^◌, ℕ, All, map, slice_index};
 ghost use Rattle.std.specs.Int.{w128, from_le_bytes, to_le_bytes};
-ghost use Rattle.field_laws.specs.Field.{IsField, IsEndless};
+ghost use Rattle.algebra_laws.specs.Field.{IsField, IsEndless};
 ghost use Rattle.hail_field.specs.Shape.{IsShape};
 ghost use Rattle.hail_field.specs.Nim.{product, width, nim, nim_add, nim_mul, nim_pow, nim_inv, is_symbol};
 

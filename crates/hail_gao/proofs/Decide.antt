@@ -1,11 +1,11 @@
 -- What the decoder concludes of the quotient.
 use Rattle.std.proofs.Common.{◌≡◌, ◌≤◌, ◌<◌, ◌+◌, ◌*◌, ℕ, List, length, map, Some, sym, ◌∙◌, ap, arith}
-use Rattle.field_laws.specs.Field.{Apart}
+use Rattle.algebra_laws.specs.Field.{Apart}
 use Rattle.hail_field.specs.Nim.{nim}
 use Rattle.hail_field.proofs.AllNumbers.{nim_laws}
-use Rattle.poly_laws.specs.Poly.{Decodes}
-use Rattle.poly_laws.proofs.Agree.{agree_same}
-use Rattle.poly_laws.proofs.Trim.{value-trim, length-trim}
+use Rattle.algebra_laws.specs.Poly.{Decodes}
+use Rattle.algebra_laws.proofs.Agree.{agree_same}
+use Rattle.algebra_laws.proofs.Trim.{value-trim, length-trim}
 use Rattle.code_defs.specs.Polynomials.{value, trim}
 use Rattle.hail_poly.specs.Quotient.{IsQuotient, HasNoQuotient}
 use Rattle.hail_poly.proofs.Decoding.{IsFound, decoded, none_decodes}

@@ -2,18 +2,18 @@
 use Rattle.std.proofs.Common.{◌≡◌, ◌≢◌, ◌≤◌, ◌<◌, ◌+◌, ◌++◌, [], ◌∷◌, ℕ, List, length, take, drop, get_or, replicate, add-one, refl, sym, ◌∙◌, ap, arith}
 use Rattle.std.proofs.lemmas.List.{get_or_read}
 use Rattle.std.proofs.Math.Seq.{take-length}
-use Rattle.field_laws.specs.Field.{Apart}
-use Rattle.field_laws.proofs.Ring.{zero_add, zero_mul, one_mul, add_mul}
+use Rattle.algebra_laws.specs.Field.{Apart}
+use Rattle.algebra_laws.proofs.Ring.{zero_add, zero_mul, one_mul, add_mul}
 use Rattle.hail_field.specs.Nim.{nim, nim_add, nim_mul}
 use Rattle.hail_field.proofs.AllNumbers.{nim_laws, nim_ring, nim_endless}
-use Rattle.poly_laws.specs.Poly.{value as value_over}
-use Rattle.poly_laws.proofs.Trim.{value-trim, length-trim}
-use Rattle.poly_laws.proofs.Values.{value-plus, value-scale, value-times}
-use Rattle.poly_laws.proofs.Roots.{value-zero}
-use Rattle.poly_laws.proofs.Interpolate.{interpolate_takes, length-interpolate}
-use Rattle.poly_laws.proofs.Everywhere.{same_from_values}
-use Rattle.poly_laws.proofs.Shifts.{shifted, value-added}
-use Rattle.poly_laws.proofs.Places.{value-next, Takes-trim}
+use Rattle.algebra_laws.specs.Poly.{value as value_over}
+use Rattle.algebra_laws.proofs.Trim.{value-trim, length-trim}
+use Rattle.algebra_laws.proofs.Values.{value-plus, value-scale, value-times}
+use Rattle.algebra_laws.proofs.Roots.{value-zero}
+use Rattle.algebra_laws.proofs.Interpolate.{interpolate_takes, length-interpolate}
+use Rattle.algebra_laws.proofs.Everywhere.{same_from_values}
+use Rattle.algebra_laws.proofs.Shifts.{shifted, value-added}
+use Rattle.algebra_laws.proofs.Places.{value-next, Takes-trim}
 use Rattle.code_defs.specs.Polynomials.{value, plus, scale, times, trim, interpolate, TakesSymbols}
 use Rattle.hail_poly.specs.Rows.{Reduces}
 use Rattle.hail_poly.specs.Quotient.{IsDivision}

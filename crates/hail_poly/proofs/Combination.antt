@@ -1,11 +1,11 @@
 -- What the first short row of Euclid's algorithm is: a multiple of each of the two polynomials that it began with.
 use Rattle.std.proofs.Common.{◌≡◌, ◌≤◌, [], ◌∷◌, ℕ, List, length, refl, sym, ◌∙◌, ap}
-use Rattle.field_laws.proofs.Solve.{v, o, i, ◌⊞◌, ◌⊡◌, solve}
+use Rattle.algebra_laws.proofs.Solve.{v, o, i, ◌⊞◌, ◌⊡◌, solve}
 use Rattle.hail_field.specs.Nim.{nim, nim_add, nim_mul}
 use Rattle.hail_field.proofs.AllNumbers.{nim_laws, nim_ring}
-use Rattle.poly_laws.specs.Poly.{value as value_over, FirstRow, here, next}
-use Rattle.poly_laws.proofs.Trim.{value-trim}
-use Rattle.poly_laws.proofs.Values.{value-plus, value-times}
+use Rattle.algebra_laws.specs.Poly.{value as value_over, FirstRow, here, next}
+use Rattle.algebra_laws.proofs.Trim.{value-trim}
+use Rattle.algebra_laws.proofs.Values.{value-plus, value-times}
 use Rattle.code_defs.specs.Polynomials.{value, plus, times}
 use Rattle.code_defs.proofs.Values.{value-constant}
 use Rattle.hail_poly.specs.Quotient.{IsCombination}

@@ -2,7 +2,7 @@
 use Rattle.std.proofs.Common.{◌≡◌, ◌≤◌, ◌<◌, ◌+◌, ℕ, List, length, drop, map, get_or, add-one, Some, cond, Bool, sym, ◌∙◌, ap, arith}
 use Rattle.std.proofs.lemmas.List.{get_or_read, length-map, get_or-map}
 use Rattle.hail_field.specs.Nim.{nim}
-use Rattle.poly_laws.proofs.Steps.{agree_drop, agree_past}
+use Rattle.algebra_laws.proofs.Steps.{agree_drop, agree_past}
 use Rattle.code_defs.specs.Polynomials.{value, agree, is_seen}
 use Rattle.hail_poly.specs.Decoding.{matches}
 

@@ -6,15 +6,15 @@ use Rattle.hail_field.specs.Nim.{nim, nim_add, nim_mul, nim_inv}
 use Rattle.code_defs.specs.Polynomials.{trim, value, plus, scale}
 use Rattle.hail_poly.specs.Rows.{Reduces}
 use Rattle.hail_field.proofs.AllNumbers.{nim_laws, nim_endless}
-use Rattle.field_laws.proofs.Ring.{zero_add, zero_mul}
-use Rattle.poly_laws.proofs.Trim.{trim-zero_last, value-trim, length-trim}
-use Rattle.poly_laws.specs.Poly.{value as value_over, times as times_over, FirstRow, next}
-use Rattle.poly_laws.proofs.Everywhere.{same_from_values}
-use Rattle.poly_laws.proofs.Values.{value-plus, value-times}
-use Rattle.poly_laws.proofs.Roots.{length-plus}
-use Rattle.poly_laws.proofs.Division.{get_or-scale}
-use Rattle.poly_laws.proofs.Interpolate.{length-scale, length-times}
-use Rattle.poly_laws.proofs.Shifts.{shifted, length-shifted, value-added, take-added, get_or-added, reduce_rest}
+use Rattle.algebra_laws.proofs.Ring.{zero_add, zero_mul}
+use Rattle.algebra_laws.proofs.Trim.{trim-zero_last, value-trim, length-trim}
+use Rattle.algebra_laws.specs.Poly.{value as value_over, times as times_over, FirstRow, next}
+use Rattle.algebra_laws.proofs.Everywhere.{same_from_values}
+use Rattle.algebra_laws.proofs.Values.{value-plus, value-times}
+use Rattle.algebra_laws.proofs.Roots.{length-plus}
+use Rattle.algebra_laws.proofs.Division.{get_or-scale}
+use Rattle.algebra_laws.proofs.Interpolate.{length-scale, length-times}
+use Rattle.algebra_laws.proofs.Shifts.{shifted, length-shifted, value-added, take-added, get_or-added, reduce_rest}
 
 -- the first coefficients less the last, which is zero
 cut : (p : List ℕ) (n m x : ℕ) → n < m → m ≡ n + 1 → m ≤ length p → get_or p n 0 ≡ 0 → value (take n p) x ≡ value (take m p) x

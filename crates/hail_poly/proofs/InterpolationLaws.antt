@@ -1,13 +1,13 @@
 -- Interpolation gives a polynomial back from its values.
 use Rattle.std.proofs.Common.{◌≡◌, ◌≤◌, [], ◌∷◌, ℕ, List, length, take, refl, sym, ◌∙◌, arith}
 use Rattle.std.proofs.lemmas.List.{length-map, length-take-le}
-use Rattle.field_laws.specs.Field.{Apart}
-use Rattle.field_laws.proofs.Apart.{Apart-take}
+use Rattle.algebra_laws.specs.Field.{Apart}
+use Rattle.algebra_laws.proofs.Apart.{Apart-take}
 use Rattle.hail_field.specs.Nim.{nim}
 use Rattle.hail_field.proofs.AllNumbers.{nim_laws}
-use Rattle.poly_laws.proofs.Headlines.{one_takes}
-use Rattle.poly_laws.proofs.Trim.{value-trim}
-use Rattle.poly_laws.proofs.Interpolate.{interpolate_takes, length-interpolate}
+use Rattle.algebra_laws.proofs.Headlines.{one_takes}
+use Rattle.algebra_laws.proofs.Trim.{value-trim}
+use Rattle.algebra_laws.proofs.Interpolate.{interpolate_takes, length-interpolate}
 use Rattle.code_defs.specs.Points.{values_at}
 use Rattle.code_defs.specs.Polynomials.{value, interpolate, trim, TakesSymbols}
 

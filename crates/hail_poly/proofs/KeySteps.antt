@@ -4,7 +4,7 @@ use Rattle.std.proofs.lemmas.List.{take_more_set, take-replicate, length-replica
 use Rattle.std.proofs.Math.Seq.{take-append_seam}
 use Rattle.hail_field.specs.Nim.{nim}
 use Rattle.hail_field.proofs.AllNumbers.{nim_laws}
-use Rattle.poly_laws.proofs.Trim.{trim-last, length-trim}
+use Rattle.algebra_laws.proofs.Trim.{trim-last, length-trim}
 use Rattle.code_defs.specs.Polynomials.{trim}
 use Rattle.hail_poly.specs.Key.{power, key}
 use Rattle.hail_poly.specs.Registers.{Registers, IsLoaded}

@@ -3,8 +3,8 @@ use Rattle.std.proofs.lemmas.List.{take_more}
 use Rattle.hail_field.specs.Nim.{nim}
 use Rattle.code_defs.specs.Polynomials.{trim}
 use Rattle.hail_field.proofs.AllNumbers.{nim_laws}
-use Rattle.poly_laws.proofs.Trim.{trim-zero_last, trim-last}
-use Rattle.poly_laws.specs.Poly.{trim as trim_over}
+use Rattle.algebra_laws.proofs.Trim.{trim-zero_last, trim-last}
+use Rattle.algebra_laws.specs.Poly.{trim as trim_over}
 
 -- the last coefficient apart
 pub last_of : (p : List ℕ) (n : ℕ) → 0 < n → n ≤ length p → take n p ≡ take (n - 1) p ++ get_or p (n - 1) 0 ∷ []

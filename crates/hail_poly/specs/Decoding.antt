@@ -1,7 +1,7 @@
 -- What a decoder is to find.
 use Rattle.std.specs.Prelude.{◌≡◌, ℕ, List, Some, map}
 use Rattle.hail_field.specs.Nim.{nim}
-use Rattle.poly_laws.specs.Poly.{Decodes}
+use Rattle.algebra_laws.specs.Poly.{Decodes}
 use Rattle.code_defs.specs.Polynomials.{agree, trim}
 
 -- at how many points p takes the value

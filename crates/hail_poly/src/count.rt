@@ -6,7 +6,7 @@ use crate::read::eval;
 use hail_field::Symbol;
 
 /// Whether a symbol is the value.
-#[tactic(auto, unfolding(poly_laws::specs::Poly::is_seen))]
+#[tactic(auto, unfolding(algebra_laws::specs::Poly::is_seen))]
 fn meets(value: Symbol, seen: Symbol) -> bool
     ensures { result ≡ is_seen value (Some seen) }
 {

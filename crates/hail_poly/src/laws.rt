@@ -1,6 +1,6 @@
 //! What pins the results of a division and of Euclid's algorithm, and what interpolation gives back.
 ghost use Rattle.std.specs.Prelude.{◌≡◌, ◌≤◌, ℕ, List, length, take};
-ghost use Rattle.field_laws.specs.Field.{Apart};
+ghost use Rattle.algebra_laws.specs.Field.{Apart};
 ghost use Rattle.code_defs.specs.Points.{values_at};
 ghost use Rattle.code_defs.specs.Polynomials.{value, interpolate, trim};
 ghost use Rattle.hail_poly.specs.Quotient.{IsDivision};

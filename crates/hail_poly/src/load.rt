@@ -1,6 +1,6 @@
 ghost use Rattle.std.specs.Prelude.{◌≡◌, ◌<◌, ◌≤◌, ◌^◌, ◌+◌, ◌++◌, ◌∷◌, [], length, take};
 ghost use Rattle.code_defs.specs.Polynomials.{vanish, interpolate};
-ghost use Rattle.field_laws.specs.Field.{Apart};
+ghost use Rattle.algebra_laws.specs.Field.{Apart};
 
 use crate::read::eval;
 use crate::slices::{add_scaled, multiply_root};

@@ -26,7 +26,7 @@ impl Model for Poly {
 
 impl Poly {
     ghost use Rattle.std.specs.Prelude.{◌≡◌, ◌≢◌, ◌≤◌, [], length, IfOk};
-    ghost use Rattle.field_laws.specs.Field.{Apart};
+    ghost use Rattle.algebra_laws.specs.Field.{Apart};
     ghost use Rattle.code_defs.specs.Polynomials.{value, plus, times, interpolate, trim, TakesSymbols};
     ghost use Rattle.hail_poly.specs.Quotient.{IsDivision};
 

@@ -36,7 +36,7 @@ impl Model for Row {
 
 impl Row {
     ghost use Rattle.std.specs.Prelude.{◌≡◌, ◌≢◌, ◌<◌, ◌≤◌, ◌+◌, ◌-◌, ◌∷◌, [], length, take, slice_index, reverse, IfOk};
-    ghost use Rattle.field_laws.specs.Field.{Apart};
+    ghost use Rattle.algebra_laws.specs.Field.{Apart};
     ghost use Rattle.code_defs.specs.Polynomials.{vanish, interpolate, trim};
     ghost use Rattle.hail_poly.specs.Rows.{Reduces};
     ghost use Rattle.hail_poly.specs.RowState.{RowState};

@@ -39,8 +39,8 @@ impl Model for Work {
 impl Work {
     ghost use Rattle.std.specs.Prelude.{◌≡◌, ◌≢◌, ◌<◌, ◌≤◌, ◌+◌, ◌∷◌, [], length, IfOk};
     ghost use Rattle.std.specs.Bool.{OnTrue, OnFalse};
-    ghost use Rattle.field_laws.specs.Field.{Apart};
-    ghost use Rattle.poly_laws.specs.Poly.{FirstRow};
+    ghost use Rattle.algebra_laws.specs.Field.{Apart};
+    ghost use Rattle.algebra_laws.specs.Poly.{FirstRow};
     ghost use Rattle.hail_field.specs.Nim.{nim};
     ghost use Rattle.code_defs.specs.Polynomials.{value, vanish, interpolate, trim};
     ghost use Rattle.hail_poly.specs.Key.{power, key};

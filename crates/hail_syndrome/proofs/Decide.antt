@@ -2,14 +2,14 @@
 use Rattle.std.proofs.Common.{◌≡◌, ◌≤◌, ◌<◌, ◌+◌, ◌-◌, ◌*◌, ℕ, List, [], ◌∷◌, length, map, take, reverse, Some, sym, ◌∙◌, ap, arith}
 use Rattle.std.proofs.lemmas.List.{length-take, length-reverse, take-take}
 use Rattle.std.proofs.lemmas.List.FromFn.{length-map-range_with_len}
-use Rattle.field_laws.specs.Field.{Apart}
+use Rattle.algebra_laws.specs.Field.{Apart}
 use Rattle.hail_field.specs.Nim.{nim, nim_add, nim_mul}
 use Rattle.hail_field.proofs.AllNumbers.{nim_laws, nim_endless}
-use Rattle.poly_laws.specs.Poly.{FirstRow, Decodes}
-use Rattle.poly_laws.proofs.Agree.{agree_same}
-use Rattle.poly_laws.proofs.Trim.{value-trim, length-trim}
-use Rattle.poly_laws.proofs.Interpolate.{interpolate_takes, length-interpolate}
-use Rattle.poly_laws.proofs.Headlines.{one_takes}
+use Rattle.algebra_laws.specs.Poly.{FirstRow, Decodes}
+use Rattle.algebra_laws.proofs.Agree.{agree_same}
+use Rattle.algebra_laws.proofs.Trim.{value-trim, length-trim}
+use Rattle.algebra_laws.proofs.Interpolate.{interpolate_takes, length-interpolate}
+use Rattle.algebra_laws.proofs.Headlines.{one_takes}
 use Rattle.code_defs.specs.Polynomials.{value, vanish, interpolate, trim, TakesSymbols}
 use Rattle.hail_poly.specs.Decoding.{matches, IsDecoded, NoneDecodes}
 use Rattle.hail_poly.specs.Key.{power, key}

@@ -4,14 +4,14 @@ use Rattle.std.proofs.Common.{◌≡◌, ◌≢◌, ◌++◌, ◌⊎◌, inl, in
 use Rattle.std.proofs.lemmas.List.{reverse-append}
 use Rattle.std.proofs.lemmas.List.FromFn.{map-range_with_len_more}
 use Rattle.std.specs.List.{range_with_len}
-use Rattle.plain_laws.specs.Lists.{Each}
-use Rattle.field_laws.specs.Field.{Apart}
-use Rattle.field_laws.proofs.Ring.{zero_mul, one_mul}
-use Rattle.field_laws.proofs.Solve.{v, o, i, ◌⊞◌, ◌⊡◌, solve}
+use Rattle.algebra_laws.specs.Lists.{Each}
+use Rattle.algebra_laws.specs.Field.{Apart}
+use Rattle.algebra_laws.proofs.Ring.{zero_mul, one_mul}
+use Rattle.algebra_laws.proofs.Solve.{v, o, i, ◌⊞◌, ◌⊡◌, solve}
 use Rattle.hail_field.specs.Nim.{nim, nim_add, nim_mul, nim_inv, nim_pow}
 use Rattle.hail_field.proofs.AllNumbers.{nim_laws, nim_ring, nim_mul_inv}
-use Rattle.poly_laws.specs.Poly.{value as value_over}
-use Rattle.poly_laws.proofs.Interpolate.{interpolate_takes, vanish_roots, length-interpolate}
+use Rattle.algebra_laws.specs.Poly.{value as value_over}
+use Rattle.algebra_laws.proofs.Interpolate.{interpolate_takes, vanish_roots, length-interpolate}
 use Rattle.code_defs.specs.Polynomials.{value, vanish, interpolate, TakesSymbols}
 use Rattle.code_defs.specs.Points.{multiplier}
 use Rattle.code_defs.specs.Sums.{dot}

@@ -1,10 +1,10 @@
 -- The places at which a polynomial is not 0.
 use Rattle.std.proofs.Common.{◌≡◌, ◌≢◌, ◌≤◌, ◌<◌, ◌+◌, ℕ, zero, ◌⊎◌, inl, inr, refl, arith, List, [], ◌∷◌, length, take, Bool, true, false, cond, suc}
-use Rattle.plain_laws.specs.Lists.{Each}
-use Rattle.plain_laws.proofs.Each.{each_take}
-use Rattle.field_laws.specs.Field.{FieldOf, IsField, Apart}
-use Rattle.poly_laws.specs.Poly.{value, Takes}
-use Rattle.poly_laws.proofs.Roots.{zero_from_roots}
+use Rattle.algebra_laws.specs.Lists.{Each}
+use Rattle.algebra_laws.proofs.Each.{each_take}
+use Rattle.algebra_laws.specs.Field.{FieldOf, IsField, Apart}
+use Rattle.algebra_laws.specs.Poly.{value, Takes}
+use Rattle.algebra_laws.proofs.Roots.{zero_from_roots}
 use Rattle.hail_syndrome.specs.Sound.{sound_points, sound_values}
 use Rattle.hail_syndrome.proofs.KeyRow.{TakesWhere}
 

@@ -3,8 +3,8 @@
 -- sound_points F f xs    == the points of xs at which f is not 0
 -- sound_values F f xs ys == the values at the places of these
 use Rattle.std.specs.Prelude.{cond, List, [], ◌∷◌}
-use Rattle.field_laws.specs.Field.{FieldOf}
-use Rattle.poly_laws.specs.Poly.{value}
+use Rattle.algebra_laws.specs.Field.{FieldOf}
+use Rattle.algebra_laws.specs.Poly.{value}
 
 module _ {A : Type 0} (F : FieldOf A) where
   -- the points at which f is not 0

@@ -1,5 +1,5 @@
 ghost use Rattle.std.specs.Prelude.{◌≡◌, ◌≤◌, ◌+◌, ◌*◌, ◌-◌, ◌∷◌, [], length, MatchOption};
-ghost use Rattle.field_laws.specs.Field.{Apart};
+ghost use Rattle.algebra_laws.specs.Field.{Apart};
 ghost use Rattle.hail_poly.specs.Decoding.{IsDecoded, NoneDecodes};
 ghost use Rattle.hail_poly.specs.Key.{power, key};
 ghost use Rattle.hail_syndrome.specs.Syndromes.{syndromes_of};

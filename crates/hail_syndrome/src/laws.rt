@@ -1,7 +1,7 @@
 //! The law of syndromes, and an instance.
 ghost use Rattle.std.specs.Prelude.{◌≡◌, ◌+◌, ◌↔◌, ℕ, List, [], ◌∷◌, length};
-ghost use Rattle.plain_laws.specs.Lists.{Each};
-ghost use Rattle.field_laws.specs.Field.{Apart};
+ghost use Rattle.algebra_laws.specs.Lists.{Each};
+ghost use Rattle.algebra_laws.specs.Field.{Apart};
 ghost use Rattle.hail_syndrome.specs.Syndromes.{syndromes_of, AreValues};
 
 /// Of N values at points that are apart, the first N - `keep` syndromes are all 0 exactly where the values are those of a polynomial of

@@ -1,6 +1,6 @@
 ghost use Rattle.std.specs.Prelude.{◌≡◌, ◌≤◌, ◌<◌, ◌+◌, ◌↔◌, ℕ, length, get_or};
-ghost use Rattle.plain_laws.specs.Lists.{Each};
-ghost use Rattle.field_laws.specs.Field.{Apart};
+ghost use Rattle.algebra_laws.specs.Lists.{Each};
+ghost use Rattle.algebra_laws.specs.Field.{Apart};
 ghost use Rattle.hail_field.specs.Nim.{nim_add, nim_mul, nim_pow};
 ghost use Rattle.hail_syndrome.specs.Syndromes.{syndromes_of, AreValues};
 

@@ -4,8 +4,8 @@ use Rattle.std.specs.Prelude.{nat_lt}
 use Rattle.std.specs.List.{flat_map}
 use Rattle.std.proofs.lemmas.Bool.{cases_Bool}
 use Rattle.std.proofs.lemmas.Grind.{flat_map-append}
-use Rattle.plain_laws.specs.Lists.{Each}
-use Rattle.plain_laws.proofs.Each.{each_append, each_map, each_flat}
+use Rattle.algebra_laws.specs.Lists.{Each}
+use Rattle.algebra_laws.proofs.Each.{each_append, each_map, each_flat}
 use Rattle.code_defs.specs.Points.{upto}
 use Rattle.record_defs.specs.Records.{Setup}
 use Rattle.record_defs.specs.Table.{File}

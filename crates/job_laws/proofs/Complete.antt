@@ -4,7 +4,7 @@ use Rattle.std.specs.Prelude.{IfSome, nat_lt, nat_le, is_some, is_none}
 use Rattle.std.specs.List.{range_with_len, list_any}
 use Rattle.std.proofs.lemmas.Bool.{cases_Bool, cases_eq, and_parts, false≢true, or_parts}
 use Rattle.std.proofs.lemmas.Bool.Decides.{nat_tests}
-use Rattle.plain_laws.proofs.Lists.{get-map_range}
+use Rattle.algebra_laws.proofs.Lists.{get-map_range}
 use Rattle.hail_field.specs.Shape.{IsShape}
 use Rattle.code_defs.specs.Points.{upto}
 use Rattle.code_defs.specs.ServerCode.{differences}

@@ -4,9 +4,9 @@ use Rattle.std.specs.Prelude.{slice_get, is_some}
 use Rattle.std.specs.Option.{option_map}
 use Rattle.std.proofs.lemmas.Bool.{cases_Bool, and_parts, eqb-true, false≢true}
 use Rattle.std.proofs.lemmas.List.{take-append-drop}
-use Rattle.plain_laws.specs.Lists.{Each}
-use Rattle.plain_laws.proofs.Each.{each_get, each_append, each_map, each_flat, each_take}
-use Rattle.plain_laws.proofs.Lists.{drop-get}
+use Rattle.algebra_laws.specs.Lists.{Each}
+use Rattle.algebra_laws.proofs.Each.{each_get, each_append, each_map, each_flat, each_take}
+use Rattle.algebra_laws.proofs.Lists.{drop-get}
 use Rattle.code_defs.specs.Points.{upto}
 use Rattle.device_defs.specs.Faults.{Rose}
 use Rattle.device_defs.specs.Told.{Goes}

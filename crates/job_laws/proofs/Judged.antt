@@ -1,7 +1,7 @@
 -- The verdict of an audit is one, and is that over its questions.
 use Rattle.std.proofs.Common.{◌≡◌, ℕ, ◌+◌, ◌*◌, ◌≤◌, cond, List, [], ◌∷◌, ◌++◌, length, map, replicate, Option, refl, ap, sym, subst, ◌∙◌, inl, inr, arith}
 use Rattle.std.proofs.lemmas.List.FromFn.{length-map-range_with_len}
-use Rattle.plain_laws.specs.Lists.{Each}
+use Rattle.algebra_laws.specs.Lists.{Each}
 use Rattle.hail_field.specs.Shape.{IsShape}
 use Rattle.code_defs.specs.Polynomials.{value, is_seen}
 use Rattle.column_defs.specs.Objects.{Object, point, points}

@@ -1,6 +1,6 @@
 -- The last step of a job: what it does to the records, to what is in doubt and to the disk's count.
 use Rattle.std.proofs.Common.{◌≡◌, ℕ, ◌<◌, ◌≤◌, ◌==◌, ◌⊎◌, Bool, true, false, cond, [], ◌∷◌, Option, Some, None, refl, ap, sym, subst, ◌∙◌, inl, inr, arith}
-use Rattle.plain_laws.proofs.Options.{some-not-none}
+use Rattle.algebra_laws.proofs.Options.{some-not-none}
 use Rattle.device_defs.specs.Faults.{Rose}
 use Rattle.machine_defs.specs.Jobs.{Kind, Job, job_of, advanced}
 use Rattle.machine_defs.specs.Actions.{Action, WriteBody, SyncBody, WriteGate, SyncGate, actions_left, appends_left}

@@ -5,8 +5,8 @@ use Rattle.std.specs.List.{flat_map, range_with_len}
 use Rattle.std.proofs.lemmas.Bool.{cases_eq, eq-eqb, ne_eqb}
 use Rattle.std.proofs.lemmas.List.{append_assoc, append-nil}
 use Rattle.std.proofs.lemmas.List.Sums.{sum_by-append}
-use Rattle.plain_laws.specs.Lists.{Each, In}
-use Rattle.plain_laws.proofs.Each.{each_get, each_append, each_map, each_mono, in_left, in_right}
+use Rattle.algebra_laws.specs.Lists.{Each, In}
+use Rattle.algebra_laws.proofs.Each.{each_get, each_append, each_map, each_mono, in_left, in_right}
 use Rattle.code_defs.specs.Points.{upto}
 use Rattle.column_defs.specs.Opened.{SeenBlock, GivesSymbols}
 use Rattle.device_defs.specs.Providers.{Held, sized}

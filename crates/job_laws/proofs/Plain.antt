@@ -1,7 +1,7 @@
 -- As long as journals have their first version, files have the setup's profile: their objects are those of the setup.
 use Rattle.std.proofs.Common.{◌≡◌, ℕ, ◌==◌, true, false, List, [], ◌∷◌, map, Option, Some, None, refl, ap, sym, subst, ◌∙◌, inl, inr}
 use Rattle.std.proofs.lemmas.Bool.{cases_Bool, eqb-true, eq-eqb}
-use Rattle.plain_laws.specs.Lists.{Each, In}
+use Rattle.algebra_laws.specs.Lists.{Each, In}
 use Rattle.record_defs.specs.Records.{Setup, PutDone}
 use Rattle.record_defs.specs.Table.{File, profile_in, setup_of, version_of, files_of, file_of}
 use Rattle.record_defs.specs.Acceptance.{AreAccepted}

@@ -2,7 +2,7 @@
 use Rattle.std.proofs.Common.{◌≡◌, ℕ, zero, suc, ◌+◌, ◌<◌, ◌≤◌, ◌==◌, ◌⊎◌, List, [], ◌∷◌, map, Option, ap, sym, subst, ◌∙◌, inl, inr, arith}
 use Rattle.std.specs.List.{range_with_len}
 use Rattle.std.proofs.lemmas.Bool.{cases_Bool, eqb-true}
-use Rattle.plain_laws.specs.Lists.{Each}
+use Rattle.algebra_laws.specs.Lists.{Each}
 use Rattle.column_defs.specs.Challenges.{honest_answer}
 use Rattle.device_defs.specs.Providers.{Provider}
 use Rattle.device_defs.specs.ProviderCalls.{Stores, Fetches, Asks, Removes}

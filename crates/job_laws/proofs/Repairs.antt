@@ -5,9 +5,9 @@ use Rattle.std.specs.Option.{option_map}
 use Rattle.std.specs.List.{flat_map}
 use Rattle.std.proofs.lemmas.Bool.{eq-eqb, false≢true}
 use Rattle.std.proofs.lemmas.List.{append_assoc, append-nil}
-use Rattle.plain_laws.specs.Lists.{Each, In}
-use Rattle.plain_laws.proofs.Each.{each_get, each_append, each_map, each_mono, each_take, in_contains, in_left, in_right}
-use Rattle.plain_laws.proofs.Lists.{drop-get}
+use Rattle.algebra_laws.specs.Lists.{Each, In}
+use Rattle.algebra_laws.proofs.Each.{each_get, each_append, each_map, each_mono, each_take, in_contains, in_left, in_right}
+use Rattle.algebra_laws.proofs.Lists.{drop-get}
 use Rattle.code_defs.specs.Points.{upto}
 use Rattle.column_defs.specs.Objects.{Object}
 use Rattle.column_defs.specs.Opened.{GivesSymbols, LosesRow}

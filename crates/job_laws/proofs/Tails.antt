@@ -1,7 +1,7 @@
 -- What a job does once its record is written: it takes copies away, and ends.
 use Rattle.std.proofs.Common.{[], ◌∷◌, ◌++◌}
-use Rattle.plain_laws.specs.Lists.{Each}
-use Rattle.plain_laws.proofs.Each.{each_append, each_map, each_flat}
+use Rattle.algebra_laws.specs.Lists.{Each}
+use Rattle.algebra_laws.proofs.Each.{each_append, each_map, each_flat}
 use Rattle.code_defs.specs.Points.{upto}
 use Rattle.record_defs.specs.Records.{Setup}
 use Rattle.machine_defs.specs.Jobs.{Job}

@@ -5,7 +5,7 @@ use Rattle.std.specs.Prelude.{is_some, is_none}
 use Rattle.std.specs.List.{range_with_len}
 use Rattle.std.proofs.lemmas.Bool.{cases_eq, eq-eqb, ne_eqb}
 use Rattle.std.proofs.lemmas.List.Sums.{sum_by-cons}
-use Rattle.plain_laws.specs.Lists.{Each}
+use Rattle.algebra_laws.specs.Lists.{Each}
 use Rattle.column_defs.specs.Challenges.{honest_answer}
 use Rattle.device_defs.specs.Faults.{last_count}
 use Rattle.device_defs.specs.Providers.{Held, Provider}

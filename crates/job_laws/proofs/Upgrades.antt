@@ -2,9 +2,9 @@
 use Rattle.std.proofs.Common.{◌≡◌, ℕ, ◌+◌, ◌<◌, ◌≤◌, ◌⊎◌, List, [], ◌∷◌, take, drop, Option, None, Some, refl, ap, sym, subst, ◌∙◌, inl, inr, arith}
 use Rattle.std.specs.Prelude.{slice_get}
 use Rattle.std.specs.Option.{option_map}
-use Rattle.plain_laws.specs.Lists.{Each}
-use Rattle.plain_laws.proofs.Each.{each_get, each_take}
-use Rattle.plain_laws.proofs.Lists.{drop-get}
+use Rattle.algebra_laws.specs.Lists.{Each}
+use Rattle.algebra_laws.proofs.Each.{each_get, each_take}
+use Rattle.algebra_laws.proofs.Lists.{drop-get}
 use Rattle.device_defs.specs.Providers.{Provider}
 use Rattle.device_defs.proofs.Lasting.{rose-before}
 use Rattle.record_defs.specs.Records.{Setup, Record, Version}

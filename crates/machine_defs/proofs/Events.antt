@@ -4,7 +4,7 @@ use Rattle.std.specs.Prelude.{IsSome, is_some, nat_lt}
 use Rattle.std.specs.Option.{option_map}
 use Rattle.std.specs.Prelude.{◌||◌, length}
 use Rattle.std.proofs.lemmas.Bool.{lt-ltb, eqb-true, eq-eqb, ne_eqb, cases_Bool, and_parts, and_from, false≢true}
-use Rattle.plain_laws.proofs.Options.{is_some-none}
+use Rattle.algebra_laws.proofs.Options.{is_some-none}
 use Rattle.record_defs.specs.Records.{Record, Setup, SetUp, is_setup}
 use Rattle.record_defs.specs.Table.{next_id, setup_of, version_of}
 use Rattle.device_defs.specs.Providers.{Held, Provider, with_block, without_object, with_symbol, without_block, LosesPart, HasPlace}

@@ -11,8 +11,8 @@ use Rattle.machine_defs.specs.Setups.{profiled, stripes_of}
 use Rattle.machine_defs.specs.States.{State, setup_in}
 use Rattle.machine_defs.specs.Steps.{next_action, is_idle_drop}
 use Rattle.machine_defs.proofs.JobLists.{cond_true, cond_false}
-use Rattle.plain_laws.specs.Lists.{Each, In}
-use Rattle.plain_laws.proofs.Each.{each_flat_in, each_get, each_append, each_map, each_flat}
+use Rattle.algebra_laws.specs.Lists.{Each, In}
+use Rattle.algebra_laws.proofs.Each.{each_flat_in, each_get, each_append, each_map, each_flat}
 use Rattle.machine_defs.proofs.ActionLists.{split_get}
 use Rattle.machine_defs.proofs.Numbers.{next_by, next_is_by}
 

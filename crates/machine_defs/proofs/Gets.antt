@@ -2,8 +2,8 @@
 use Rattle.std.proofs.Common.{◌≡◌, ℕ, ◌+◌, ◌<◌, ◌==◌, cond, ◌&&◌, List, [], ◌∷◌, ◌++◌, length, Option, Some, None, refl, ap, sym, subst, ◌∙◌, inl, inr, arith}
 use Rattle.std.specs.Prelude.{is_some, slice_get}
 use Rattle.std.proofs.lemmas.Bool.{cases_Bool, cases_lt, and_parts, eqb-true, eq-eqb}
-use Rattle.plain_laws.proofs.Each.{each_get}
-use Rattle.plain_laws.proofs.Lists.{map-same}
+use Rattle.algebra_laws.proofs.Each.{each_get}
+use Rattle.algebra_laws.proofs.Lists.{map-same}
 use Rattle.code_defs.specs.Points.{upto}
 use Rattle.column_defs.specs.Opened.{GivesSymbols}
 use Rattle.record_defs.specs.Records.{Setup, is_name}

@@ -2,7 +2,7 @@
 use Rattle.std.proofs.Common.{◌≡◌, ℕ, ◌+◌, ◌<◌, ◌==◌, ◌&&◌, List, [], ◌∷◌, ◌++◌, Option, refl, ap, sym, ◌∙◌, inl, inr, arith, zero, suc, replicate}
 use Rattle.std.proofs.lemmas.Bool.{cases_Bool, and_from, eq-eqb}
 use Rattle.std.specs.Prelude.{option_and_then}
-use Rattle.plain_laws.proofs.Lists.{get-map_range}
+use Rattle.algebra_laws.proofs.Lists.{get-map_range}
 use Rattle.column_defs.specs.Opened.{block_at, SeenBlock}
 use Rattle.machine_defs.specs.Jobs.{Given, Worked}
 use Rattle.machine_defs.specs.States.{State}

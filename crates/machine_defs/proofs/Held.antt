@@ -15,11 +15,11 @@ use Rattle.machine_defs.specs.Steps.{next_action, block_to_store}
 use Rattle.machine_defs.specs.Runs.{Moment, now, first_moments, is_replacement, is_replaced_since, IsRun}
 use Rattle.machine_defs.specs.Deeds.{told_block, HasMadeStore}
 use Rattle.machine_defs.proofs.JobLists.{cond_true, same_value, found_none}
-use Rattle.plain_laws.proofs.Each.{each_get}
+use Rattle.algebra_laws.proofs.Each.{each_get}
 use Rattle.machine_defs.proofs.Changes.{Grown, Job_is, Block_is, Changes}
 use Rattle.machine_defs.proofs.Events.{some_told, changes}
 use Rattle.machine_defs.proofs.Numbers.{objects, Draws, next_is_by, first_above, drawn_later}
-use Rattle.plain_laws.specs.Lists.{In}
+use Rattle.algebra_laws.specs.Lists.{In}
 use Rattle.machine_defs.proofs.RecordFacts.{started-less}
 use Rattle.machine_defs.proofs.Refused.{none_lone}
 use Rattle.machine_defs.proofs.Done.{done-started}

@@ -16,7 +16,7 @@ use Rattle.machine_defs.proofs.JobLists.{cond_true, cond_false, same_value, foun
 use Rattle.machine_defs.proofs.Changes.{IsPlain, Grown, Job_is, Append_is, Records_is, Doubt_is, Changes}
 use Rattle.machine_defs.proofs.Numbers.{objects, Draws, next_of_records, at_three, first_above, first_below, drawn_later}
 use Rattle.machine_defs.proofs.RecordFacts.{IsProper, AreSound, sound-more, sound-none, not_started-more, file-more}
-use Rattle.plain_laws.specs.Lists.{In}
+use Rattle.algebra_laws.specs.Lists.{In}
 use Rattle.record_defs.proofs.FilesLaws.{same-refl}
 use Rattle.machine_defs.proofs.Done.{put_ended, profile_done, done-setup, done-ended, done-file}
 use Rattle.machine_defs.proofs.Fair.{stores_count, gate_place}

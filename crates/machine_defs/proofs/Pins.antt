@@ -17,7 +17,7 @@ use Rattle.machine_defs.proofs.JobLists.{cond_true, cond_false, same_value}
 use Rattle.machine_defs.proofs.Sights.{any-aims}
 use Rattle.machine_defs.proofs.Numbers.{first_above, first_below}
 use Rattle.machine_defs.proofs.RecordFacts.{IsProper, listed_file}
-use Rattle.plain_laws.specs.Lists.{In}
+use Rattle.algebra_laws.specs.Lists.{In}
 
 -- ---- what begins pin
 

@@ -1,7 +1,7 @@
 -- What holds of records in effect of which each put's start has the number that was next.
 use Rattle.std.proofs.Common.{◌≡◌, ℕ, ◌<◌, ◌≤◌, ◌==◌, false, cond, ◌⊎◌, List, [], ◌∷◌, Option, Some, None, refl, ap, sym, subst, ◌∙◌, inl, inr, arith}
 use Rattle.std.proofs.lemmas.Bool.{eqb-true, eq-eqb, ne_eqb, cases_Bool, false≢true}
-use Rattle.plain_laws.specs.Lists.{In}
+use Rattle.algebra_laws.specs.Lists.{In}
 use Rattle.record_defs.specs.Records.{Record, SetUp, PutStart, PutDone, Drop, AuditStart, AuditDone, RepairDone, PutDoneIn, Version, Resume, InEffect, RepairDue}
 use Rattle.record_defs.specs.Table.{File, next_id, started_as, is_same_name, is_start_of, file_of, files_of, with_put, with_file, without_file, is_name_before, setup_of, profile_in}
 use Rattle.record_defs.proofs.FilesLaws.{same-eq, same-refl}

@@ -2,8 +2,8 @@
 use Rattle.std.proofs.Common.{◌≡◌, ℕ, ◌-◌, ◌<◌, ◌≤◌, List, [], ◌∷◌, ◌++◌, Some, refl, sym, subst, ◌∙◌, inl, inr}
 use Rattle.std.specs.Prelude.{slice_get}
 use Rattle.std.specs.List.{flat_map}
-use Rattle.plain_laws.specs.Lists.{Each}
-use Rattle.plain_laws.proofs.Each.{each_get, each_append, each_map, each_flat}
+use Rattle.algebra_laws.specs.Lists.{Each}
+use Rattle.algebra_laws.proofs.Each.{each_get, each_append, each_map, each_flat}
 use Rattle.code_defs.specs.Points.{upto}
 use Rattle.record_defs.specs.Records.{Setup}
 use Rattle.record_defs.specs.Table.{next_id, next_audit}

@@ -5,7 +5,7 @@ use Rattle.std.specs.Option.{option_map}
 use Rattle.std.proofs.lemmas.Bool.{cases_lt}
 use Rattle.std.proofs.lemmas.Option.{slice_get-map, slice_get_within}
 use Rattle.std.proofs.lemmas.List.{length-set, length-map}
-use Rattle.plain_laws.proofs.Lists.{get-set_there, get-set_other}
+use Rattle.algebra_laws.proofs.Lists.{get-set_there, get-set_other}
 use Rattle.device_defs.specs.Cells.{Cells}
 use Rattle.device_defs.specs.Faults.{HasCause}
 use Rattle.device_defs.specs.Providers.{Provider}

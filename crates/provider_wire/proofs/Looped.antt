@@ -2,7 +2,7 @@
 use Rattle.std.proofs.Common.{◌≡◌, ℕ, ◌<◌, ◌+◌, List, [], ◌∷◌, ◌++◌, length, take, drop, Option, Some, None, is_some, refl, sym, ap, subst, ◌∙◌, arith}
 use Rattle.std.specs.Option.{option_map}
 use Rattle.std.proofs.lemmas.List.{append-nil}
-use Rattle.plain_laws.proofs.Options.{is_some-option_map}
+use Rattle.algebra_laws.proofs.Options.{is_some-option_map}
 use Rattle.device_defs.specs.Told.{Goes}
 use Rattle.device_defs.specs.Providers.{Held, Provider, LosesPart}
 use Rattle.device_defs.proofs.Lasting.{is_some-goes}

@@ -6,7 +6,7 @@ use Rattle.std.specs.List.{list_all}
 use Rattle.std.proofs.lemmas.Bool.{eqb-true, ltb-false, le-ltb, lt-ltb, and_from, and_parts}
 use Rattle.std.proofs.lemmas.Bool.Decides.{nat_tests}
 use Rattle.std.proofs.lemmas.List.{take_at, drop_at}
-use Rattle.plain_laws.proofs.Options.{cond-cases}
+use Rattle.algebra_laws.proofs.Options.{cond-cases}
 use Rattle.column_defs.specs.Challenges.{Challenge}
 use Rattle.column_defs.specs.Objects.{bytes_of_symbols}
 use Rattle.column_defs.proofs.SymbolBytes.{length-bytes_of_symbols}

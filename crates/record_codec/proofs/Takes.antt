@@ -6,7 +6,7 @@ use Rattle.std.specs.List.{list_all}
 use Rattle.std.proofs.lemmas.Bool.{eqb-true, leb-true, ltb-false, le-ltb, lt-ltb}
 use Rattle.std.proofs.lemmas.Bool.Decides.{nat_tests}
 use Rattle.std.proofs.lemmas.List.{take_at, drop_at as drop-front}
-use Rattle.plain_laws.proofs.Options.{cond-cases}
+use Rattle.algebra_laws.proofs.Options.{cond-cases}
 use Rattle.record_defs.specs.Records.{Setup, Record, SetUp, PutStart, PutDone, Drop, AuditStart, AuditDone, RepairDone, is_name, is_setup, is_master, is_byte, is_in_grammar, PutDoneIn, Version, Resume, InEffect, RepairDue, is_spelled, is_held}
 use Rattle.record_defs.specs.Spellings.{name_bytes, setup_bytes, counts_bytes, spelling}
 use Rattle.record_codec.specs.Reading.{◌>>=◌, number_at, name_at, counts_at, keyed_at, setup_at, put_start_at, put_done_at, drop_at, audit_start_at, audit_done_at, repair_done_at, record_at, profile_at, object_at, put_done_in_at, version_at, resume_at, in_effect_at, repair_due_at, spelled_at}

@@ -3,7 +3,7 @@
 use Rattle.std.proofs.Common.{◌≡◌, ℕ, ◌==◌, Bool, true, false, ◌⊎◌, List, [], ◌∷◌, ◌++◌, Option, Some, None, refl, ap, sym, subst, ◌∙◌, inl, inr}
 use Rattle.std.specs.Prelude.{IsTrue, IsSome, is_some, nat_lt}
 use Rattle.std.proofs.lemmas.Bool.{and_from, false≢true}
-use Rattle.plain_laws.proofs.Options.{some-not-none}
+use Rattle.algebra_laws.proofs.Options.{some-not-none}
 use Rattle.record_defs.specs.Records.{Record, Setup, SetUp, is_setup, is_master, is_in_grammar}
 use Rattle.record_defs.specs.Table.{setup_of}
 use Rattle.device_defs.specs.Providers.{Held, with_symbol, without_block, HasPlace}

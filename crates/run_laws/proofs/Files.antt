@@ -4,8 +4,8 @@ use Rattle.std.specs.Prelude.{slice_index}
 use Rattle.std.proofs.lemmas.Bool.{cases_eq}
 use Rattle.std.proofs.lemmas.List.FromFn.{fill_by_all}
 use Rattle.std.proofs.lemmas.Option.{get_or_from_slice_get}
-use Rattle.plain_laws.proofs.Lists.{flat_map-range_same, map-range_at, same_or_other}
-use Rattle.plain_laws.proofs.Places.{IsPlace, place-of}
+use Rattle.algebra_laws.proofs.Lists.{flat_map-range_same, map-range_at, same_or_other}
+use Rattle.algebra_laws.proofs.ListPlaces.{IsPlace, place-of}
 use Rattle.hail_field.specs.Shape.{IsShape}
 use Rattle.code_defs.specs.Polynomials.{value}
 use Rattle.code_defs.specs.Points.{upto, values_at}

@@ -2,7 +2,7 @@
 use Rattle.std.proofs.Common.{◌≡◌, ℕ, ◌+◌, ◌<◌, ◌≤◌, ◌==◌, ◌&&◌, true, List, [], ◌∷◌, length, Some, None, refl, ap, sym, subst, ◌∙◌, inl, inr, arith}
 use Rattle.std.specs.Prelude.{is_some}
 use Rattle.std.proofs.lemmas.Bool.{cases_Bool, cases_eq, cases_lt, eq-eqb, and_from, and_parts, false≢true}
-use Rattle.plain_laws.proofs.Options.{some-not-none}
+use Rattle.algebra_laws.proofs.Options.{some-not-none}
 use Rattle.hail_field.specs.Shape.{IsShape}
 use Rattle.record_defs.specs.Records.{Record, Setup, SetUp, PutStart, PutDone, Drop, AuditStart, AuditDone, RepairDone, PutDoneIn, Version, Resume, InEffect, RepairDue, is_setup, is_master}
 use Rattle.record_defs.specs.Table.{File, file_as, profile_in, version_of, setup_of, next_id, started_as, is_start_of, is_same_name, file_of}

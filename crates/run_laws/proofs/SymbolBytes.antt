@@ -5,7 +5,7 @@ use Rattle.std.specs.Int.{w128, from_le_bytes, to_le_bytes}
 use Rattle.std.proofs.lemmas.Bool.{ltb-true, and_parts}
 use Rattle.std.proofs.lemmas.List.{drop-drop}
 use Rattle.std.proofs.Math.Nat.{mul-le-mul, div-add-mod, mod-lt}
-use Rattle.plain_laws.proofs.Numbers.{from_le_bytes-same}
+use Rattle.algebra_laws.proofs.Numbers.{from_le_bytes-same}
 use Rattle.hail_field.proofs.Bytes.{to_from}
 use Rattle.record_defs.specs.Records.{is_byte}
 use Rattle.code_defs.specs.Points.{upto}

@@ -2,7 +2,7 @@
 use Rattle.std.proofs.Common.{◌≡◌, ℕ, false, List, [], ◌∷◌, Option, Some, None, refl, sym, ap, ◌∙◌, inl, inr, ◌⊎◌}
 use Rattle.std.specs.Prelude.{codes, ◌==◌, slice_index}
 use Rattle.std.proofs.lemmas.Bool.{eqb-true, eq-eqb}
-use Rattle.plain_laws.proofs.Options.{cond-cases}
+use Rattle.algebra_laws.proofs.Options.{cond-cases}
 use Rattle.record_defs.specs.Records.{Setup}
 use Rattle.record_codec.proofs.Fields.{bind_some}
 use Rattle.machine_defs.specs.Jobs.{PutJob, GetJob, DropJob, AuditJob, RepairJob, UpgradeJob}

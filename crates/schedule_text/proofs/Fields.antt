@@ -5,7 +5,7 @@ use Rattle.std.specs.Str.{bytes_eq}
 use Rattle.std.proofs.lemmas.Bool.{eqb-true, lt-ltb, ltb-true, eq-eqb}
 use Rattle.std.proofs.lemmas.Slice.Eq.{bytes_eq-Decides}
 use Rattle.hex.specs.Hex.{decode_of}
-use Rattle.plain_laws.proofs.Options.{cond-cases}
+use Rattle.algebra_laws.proofs.Options.{cond-cases}
 use Rattle.record_codec.specs.Reading.{◌>>=◌}
 use Rattle.record_codec.proofs.Fields.{bind_some, some_is, done}
 use Rattle.machine_defs.specs.Transcripts.{Instruction}

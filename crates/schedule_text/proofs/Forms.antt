@@ -3,7 +3,7 @@ use Rattle.std.proofs.Common.{◌≡◌, true, List, [], ◌∷◌, ◌++◌, So
 use Rattle.std.specs.Prelude.{codes}
 use Rattle.std.specs.Str.{bytes_eq}
 use Rattle.std.proofs.lemmas.Slice.Eq.{bytes_eq-Decides}
-use Rattle.plain_laws.proofs.Options.{cond-cases}
+use Rattle.algebra_laws.proofs.Options.{cond-cases}
 use Rattle.record_defs.specs.Records.{Setup}
 use Rattle.record_codec.proofs.Fields.{bind_some, some_is}
 use Rattle.machine_defs.specs.Jobs.{PutJob, GetJob, DropJob, AuditJob, RepairJob}

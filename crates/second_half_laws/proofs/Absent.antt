@@ -3,9 +3,9 @@ use Rattle.std.proofs.Common.{◌≡◌, ℕ, ◌+◌, ◌*◌, ◌<◌, ◌≤�
 use Rattle.std.specs.Prelude.{is_some, slice_index}
 use Rattle.std.proofs.lemmas.Bool.{and_parts, and_from, false≢true}
 use Rattle.std.proofs.lemmas.Option.{get_or_from_slice_get}
-use Rattle.plain_laws.proofs.Lists.{map-range_at, same_or_other}
+use Rattle.algebra_laws.proofs.Lists.{map-range_at, same_or_other}
 use Rattle.hail_field.specs.Shape.{IsShape}
-use Rattle.poly_laws.specs.Poly.{is_seen as is_seen_over}
+use Rattle.algebra_laws.specs.Poly.{is_seen as is_seen_over}
 use Rattle.code_defs.specs.Polynomials.{value, is_seen}
 use Rattle.code_defs.specs.Points.{upto, values_at}
 use Rattle.code_defs.specs.Profiles.{profile_of}

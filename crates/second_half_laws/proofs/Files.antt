@@ -2,8 +2,8 @@
 use Rattle.std.proofs.Common.{◌≡◌, ℕ, Bool, true, false, cond, List, [], ◌∷◌, Option, Some, None, refl, ap, sym, subst, ◌∙◌, inl, inr}
 use Rattle.std.specs.Prelude.{nat_lt}
 use Rattle.std.proofs.lemmas.Bool.{cases_Bool, false≢true}
-use Rattle.plain_laws.specs.Lists.{In}
-use Rattle.plain_laws.proofs.Options.{some-not-none}
+use Rattle.algebra_laws.specs.Lists.{In}
+use Rattle.algebra_laws.proofs.Options.{some-not-none}
 use Rattle.record_defs.specs.Records.{Record, SetUp, PutStart, PutDone, Drop, AuditStart, AuditDone, RepairDone, PutDoneIn, Version, Resume, InEffect, RepairDue}
 use Rattle.record_defs.specs.Table.{File, started_as, is_same_name, is_name_before, is_start_of, file_of, files_of, with_put, with_file, without_file, file_as, setup_of, profile_in}
 use Rattle.record_defs.proofs.FilesLaws.{same-eq, same-refl}

@@ -2,8 +2,8 @@
 -- are calm.
 use Rattle.std.proofs.Common.{◌≡◌, ℕ, ◌<◌, ◌==◌, Bool, true, false, ◌⊎◌, List, [], ◌∷◌, length, Option, Some, None, refl, ap, sym, subst, ◌∙◌, inl, inr, arith}
 use Rattle.std.specs.Prelude.{IsSome, nat_lt}
-use Rattle.plain_laws.specs.Lists.{In}
-use Rattle.plain_laws.proofs.Options.{some-not-none}
+use Rattle.algebra_laws.specs.Lists.{In}
+use Rattle.algebra_laws.proofs.Options.{some-not-none}
 use Rattle.column_defs.specs.Objects.{stripes}
 use Rattle.record_defs.specs.Records.{Setup, is_setup}
 use Rattle.record_defs.specs.Table.{File}

@@ -1,6 +1,6 @@
 -- What a get was given that a step ended.
 use Rattle.std.proofs.Common.{◌≡◌, ℕ, ◌<◌, List, [], ◌∷◌, length, Some, refl, ap, sym, subst, ◌∙◌, inl, arith}
-use Rattle.plain_laws.specs.Lists.{In}
+use Rattle.algebra_laws.specs.Lists.{In}
 use Rattle.column_defs.specs.Objects.{stripes}
 use Rattle.record_defs.specs.Records.{Setup}
 use Rattle.record_defs.specs.Table.{File}

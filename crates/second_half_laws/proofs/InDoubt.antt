@@ -2,8 +2,8 @@
 use Rattle.std.proofs.Common.{◌≡◌, ℕ, suc, ◌+◌, ◌≤◌, ◌<◌, true, false, ◌⊎◌, List, [], ◌∷◌, length, Option, Some, refl, ap, sym, subst, ◌∙◌, inl, inr, arith}
 use Rattle.std.specs.Prelude.{slice_get}
 use Rattle.std.proofs.lemmas.Bool.{cases_Bool, cases_lt, false≢true}
-use Rattle.plain_laws.specs.Lists.{In}
-use Rattle.plain_laws.proofs.Options.{some-not-none}
+use Rattle.algebra_laws.specs.Lists.{In}
+use Rattle.algebra_laws.proofs.Options.{some-not-none}
 use Rattle.column_defs.specs.Columns.{columns}
 use Rattle.record_defs.specs.Records.{Setup}
 use Rattle.record_defs.specs.Table.{setup_of, next_id, started_as}

@@ -2,7 +2,7 @@
 use Rattle.std.proofs.Common.{◌≡◌, ◌⊎◌, ℕ, List, ◌∷◌, length, Some, None, refl, ap, sym, ◌∙◌, inl, inr, arith}
 use Rattle.std.specs.Option.{option_map}
 use Rattle.std.specs.List.{Contains}
-use Rattle.plain_laws.specs.Lists.{In}
+use Rattle.algebra_laws.specs.Lists.{In}
 use Rattle.record_defs.specs.Table.{File, started_as}
 use Rattle.machine_defs.specs.Jobs.{Pinned, Job, job_of}
 use Rattle.machine_defs.specs.Actions.{Store, Remove}

@@ -4,9 +4,9 @@ use Rattle.std.specs.Prelude.{slice_get}
 use Rattle.std.specs.List.{flat_map, range_with_len}
 use Rattle.std.proofs.lemmas.Option.{slice_get_within}
 use Rattle.std.proofs.lemmas.Bool.{cases_eq}
-use Rattle.plain_laws.specs.Lists.{Each, In}
-use Rattle.plain_laws.proofs.Each.{each_get}
-use Rattle.plain_laws.proofs.Lists.{get_behind, get-map_range}
+use Rattle.algebra_laws.specs.Lists.{Each, In}
+use Rattle.algebra_laws.proofs.Each.{each_get}
+use Rattle.algebra_laws.proofs.Lists.{get_behind, get-map_range}
 use Rattle.code_defs.specs.Points.{upto}
 use Rattle.machine_defs.proofs.ActionLists.{split_get}
 use Rattle.machine_defs.proofs.Stripes.{get_left}

@@ -3,8 +3,8 @@ use Rattle.std.proofs.Common.{◌≡◌, ◌⊎◌, ℕ, suc, ◌<◌, ◌≤◌
 use Rattle.std.specs.Prelude.{slice_get}
 use Rattle.std.proofs.lemmas.Bool.{cases_Bool, cases_lt, and_parts, and_from, eqb-true, eq-eqb, false≢true}
 use Rattle.std.proofs.lemmas.List.{append_assoc}
-use Rattle.plain_laws.specs.Lists.{In}
-use Rattle.plain_laws.proofs.Each.{each_get, each_append}
+use Rattle.algebra_laws.specs.Lists.{In}
+use Rattle.algebra_laws.proofs.Each.{each_get, each_append}
 use Rattle.column_defs.specs.Challenges.{honest_answer, challenge_of}
 use Rattle.column_defs.specs.Opened.{SeenBlock, GivesSymbols, block_at}
 use Rattle.device_defs.specs.Providers.{Held}

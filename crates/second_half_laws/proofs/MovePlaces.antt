@@ -3,9 +3,9 @@ use Rattle.std.proofs.Common.{◌≡◌, ℕ, zero, suc, ◌+◌, ◌-◌, ◌<�
 use Rattle.std.specs.Prelude.{not, is_some, slice_get}
 use Rattle.std.proofs.lemmas.Bool.{and_left, ne_eqb, false≢true}
 use Rattle.std.specs.List.{flat_map}
-use Rattle.plain_laws.specs.Lists.{Each, In}
-use Rattle.plain_laws.proofs.Each.{each_get, each_append, each_map, each_flat, each_flat_in}
-use Rattle.plain_laws.proofs.Lists.{get_behind}
+use Rattle.algebra_laws.specs.Lists.{Each, In}
+use Rattle.algebra_laws.proofs.Each.{each_get, each_append, each_map, each_flat, each_flat_in}
+use Rattle.algebra_laws.proofs.Lists.{get_behind}
 use Rattle.code_defs.specs.Points.{upto}
 use Rattle.record_defs.specs.Records.{Setup}
 use Rattle.record_defs.specs.Table.{setup_of, file_of}

@@ -1,7 +1,7 @@
 -- No fetched row of a get is a forgery in a run that is calm by a mark.
 use Rattle.std.proofs.Common.{◌≡◌, ℕ, List, [], ◌∷◌, Some, refl, ap, sym, subst, ◌∙◌, inl}
 use Rattle.std.specs.Prelude.{IsTrue, ◌≤◌}
-use Rattle.plain_laws.specs.Lists.{In}
+use Rattle.algebra_laws.specs.Lists.{In}
 use Rattle.hail_field.specs.Shape.{IsShape}
 use Rattle.column_defs.specs.Opened.{SeenBlock, AllOpen}
 use Rattle.record_defs.specs.Records.{Setup}

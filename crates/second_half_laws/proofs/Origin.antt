@@ -2,7 +2,7 @@
 use Rattle.std.proofs.Common.{◌≡◌, ℕ, ◌≤◌, ◌==◌, Bool, true, false, List, [], ◌∷◌, length, Option, Some, None, refl, ap, sym, subst, ◌∙◌, inl, inr, arith}
 use Rattle.std.specs.Prelude.{IsSome, nat_lt}
 use Rattle.std.proofs.lemmas.Bool.{eq-eqb}
-use Rattle.plain_laws.specs.Lists.{In}
+use Rattle.algebra_laws.specs.Lists.{In}
 use Rattle.record_defs.specs.Records.{Setup, is_setup}
 use Rattle.device_defs.specs.Providers.{Held, Provider, with_symbol, without_block, HasPlace}
 use Rattle.device_defs.specs.ProviderCalls.{FailsToGive, Fetches}

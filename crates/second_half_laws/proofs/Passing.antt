@@ -2,7 +2,7 @@
 use Rattle.std.proofs.Common.{◌≡◌, ℕ, zero, suc, ◌+◌, ◌-◌, ◌<◌, ◌≤◌, ◌⊎◌, List, [], ◌∷◌, ◌++◌, length, Some, refl, ap, sym, subst, ◌∙◌, inl, inr, arith}
 use Rattle.std.specs.Prelude.{slice_get}
 use Rattle.std.proofs.lemmas.Bool.{cases_lt}
-use Rattle.plain_laws.proofs.Each.{each_get}
+use Rattle.algebra_laws.proofs.Each.{each_get}
 use Rattle.record_defs.specs.Records.{Setup}
 use Rattle.machine_defs.specs.Jobs.{Kind, PutJob, GetJob, DropJob, AuditJob, RepairJob, UpgradeJob, Given, Job, advanced, advanced_with}
 use Rattle.machine_defs.specs.Actions.{Action, WriteBody, SyncGate, End, append_actions, store_actions, remove_actions, actions_by, actions_of}

@@ -1,10 +1,10 @@
 -- What holds in a run that is calm by a mark: blocks that are stored are right, and a moment since which all damage is new stays one.
 use Rattle.std.proofs.Common.{◌≡◌, ℕ, ◌≤◌, ◌<◌, true, false, ◌⊎◌, List, ◌∷◌, length, Option, Some, None, refl, ap, sym, subst, ◌∙◌, inl, inr, arith}
 use Rattle.std.proofs.lemmas.Bool.{cases_Bool}
-use Rattle.plain_laws.specs.Lists.{In}
+use Rattle.algebra_laws.specs.Lists.{In}
 use Rattle.column_defs.specs.Objects.{symbols_in}
 use Rattle.column_defs.specs.Columns.{columns, column_of_symbols, is_wrong_block}
-use Rattle.plain_laws.proofs.Options.{some-not-none}
+use Rattle.algebra_laws.proofs.Options.{some-not-none}
 use Rattle.record_defs.specs.Table.{File, next_id, started_as}
 use Rattle.machine_defs.specs.Jobs.{PutJob, RepairJob, Pinned, Fetched, Worked, Job, job_of}
 use Rattle.machine_defs.specs.Actions.{Action, Store, Remove}

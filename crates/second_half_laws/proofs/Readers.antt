@@ -3,11 +3,11 @@ use Rattle.std.proofs.Common.{◌≡◌, ℕ, suc, ◌+◌, ◌≤◌, ◌<◌, 
 use Rattle.std.specs.Prelude.{IsTrue, IsSome, slice_get}
 use Rattle.std.specs.Option.{option_map}
 use Rattle.std.proofs.lemmas.Bool.{cases_Bool, cases_lt, and_parts, eqb-true, false≢true}
-use Rattle.plain_laws.specs.Lists.{In}
-use Rattle.plain_laws.proofs.Each.{each_get}
+use Rattle.algebra_laws.specs.Lists.{In}
+use Rattle.algebra_laws.proofs.Each.{each_get}
 use Rattle.hail_field.specs.Shape.{IsShape}
 use Rattle.code_defs.specs.Points.{upto}
-use Rattle.plain_laws.proofs.Options.{some-not-none}
+use Rattle.algebra_laws.proofs.Options.{some-not-none}
 use Rattle.column_defs.specs.Objects.{Object, symbols_in}
 use Rattle.column_defs.specs.Columns.{columns, is_wrong_block}
 use Rattle.column_defs.specs.Opened.{GivesSymbols, block_at}

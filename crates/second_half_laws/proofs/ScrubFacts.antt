@@ -5,9 +5,9 @@ use Rattle.std.specs.Prelude.{IsSome}
 use Rattle.std.specs.Option.{option_map}
 use Rattle.std.specs.List.{flat_map}
 use Rattle.std.proofs.lemmas.Bool.{false≢true}
-use Rattle.plain_laws.specs.Lists.{Each, In}
-use Rattle.plain_laws.proofs.Each.{each_append, each_map, each_flat, each_flat_in}
-use Rattle.plain_laws.proofs.Options.{some-not-none}
+use Rattle.algebra_laws.specs.Lists.{Each, In}
+use Rattle.algebra_laws.proofs.Each.{each_append, each_map, each_flat, each_flat_in}
+use Rattle.algebra_laws.proofs.Options.{some-not-none}
 use Rattle.hail_field.specs.Shape.{IsShape}
 use Rattle.code_defs.specs.Points.{upto}
 use Rattle.column_defs.specs.Objects.{Object, symbols_in}

@@ -2,8 +2,8 @@
 use Rattle.std.proofs.Common.{◌≡◌, ℕ, zero, suc, ◌≤◌, ◌<◌, ◌==◌, Bool, true, false, cond, ◌⊎◌, List, [], ◌∷◌, ◌++◌, length, Option, Some, None, refl, ap, sym, subst, ◌∙◌, inl, inr, arith}
 use Rattle.std.specs.List.{flat_map}
 use Rattle.std.proofs.lemmas.Bool.{cases_Bool, eqb-true, false≢true}
-use Rattle.plain_laws.specs.Lists.{Each, In}
-use Rattle.plain_laws.proofs.Each.{each_append, each_map, each_flat, in_left, in_right, in_flat}
+use Rattle.algebra_laws.specs.Lists.{Each, In}
+use Rattle.algebra_laws.proofs.Each.{each_append, each_map, each_flat, in_left, in_right, in_flat}
 use Rattle.code_defs.specs.Points.{upto}
 use Rattle.code_defs.specs.Profiles.{profile_of}
 use Rattle.code_defs.specs.ServerCode.{differences}

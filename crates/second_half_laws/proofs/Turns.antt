@@ -2,7 +2,7 @@
 use Rattle.std.proofs.Common.{◌≡◌, ℕ, ◌==◌, Bool, true, false, cond, ◌⊎◌, List, [], ◌∷◌, Option, Some, None, refl, ap, sym, subst, ◌∙◌, inl, inr}
 use Rattle.std.specs.Prelude.{IsSome, nat_lt}
 use Rattle.std.proofs.lemmas.Bool.{ne_eqb, cases_eq, cases_Bool, eqb-true, false≢true}
-use Rattle.plain_laws.proofs.Options.{some-not-none, is_some-none}
+use Rattle.algebra_laws.proofs.Options.{some-not-none, is_some-none}
 use Rattle.record_defs.specs.Records.{Record, Setup, SetUp, is_setup}
 use Rattle.record_defs.specs.Table.{setup_of}
 use Rattle.device_defs.specs.Providers.{Held, Provider, with_symbol, without_block, HasPlace}

@@ -2,7 +2,7 @@
 use Rattle.std.proofs.Common.{◌≡◌, ℕ, ◌==◌, Bool, true, false, List, [], ◌∷◌, Option, Some, None, refl, ap, sym, subst, ◌∙◌, inl, inr}
 use Rattle.std.specs.Prelude.{IsSome, nat_lt}
 use Rattle.std.proofs.lemmas.Bool.{eq-eqb}
-use Rattle.plain_laws.proofs.Options.{is_some-none}
+use Rattle.algebra_laws.proofs.Options.{is_some-none}
 use Rattle.column_defs.specs.Opened.{GivesSymbols}
 use Rattle.record_defs.specs.Records.{Setup, SetUp, is_setup}
 use Rattle.record_defs.specs.Table.{setup_of}

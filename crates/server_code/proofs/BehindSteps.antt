@@ -4,14 +4,14 @@ use Rattle.std.specs.List.{range_with_len}
 use Rattle.std.proofs.Math.Seq.{drop-append_seam}
 use Rattle.std.proofs.lemmas.List.{take_more_set, take_all, length-append, length-drop}
 use Rattle.std.proofs.lemmas.List.FromFn.{length-range_with_len}
-use Rattle.plain_laws.proofs.Lists.{take-front}
-use Rattle.field_laws.specs.Field.{Apart}
-use Rattle.field_laws.proofs.Solve.{v, o, ◌⊞◌, ◌⊡◌, solve}
+use Rattle.algebra_laws.proofs.Lists.{take-front}
+use Rattle.algebra_laws.specs.Field.{Apart}
+use Rattle.algebra_laws.proofs.Solve.{v, o, ◌⊞◌, ◌⊡◌, solve}
 use Rattle.hail_field.specs.Nim.{nim, nim_add, nim_mul}
 use Rattle.hail_field.proofs.AllNumbers.{nim_laws, nim_ring}
-use Rattle.poly_laws.specs.Poly.{value as value_over, root_times as root_times_over, vanish as vanish_over}
-use Rattle.poly_laws.proofs.Interpolate.{value-vanish, vanish_else}
-use Rattle.poly_laws.proofs.Trim.{value-trim}
+use Rattle.algebra_laws.specs.Poly.{value as value_over, root_times as root_times_over, vanish as vanish_over}
+use Rattle.algebra_laws.proofs.Interpolate.{value-vanish, vanish_else}
+use Rattle.algebra_laws.proofs.Trim.{value-trim}
 use Rattle.code_defs.specs.Polynomials.{value, vanish, trim, root_times}
 use Rattle.code_defs.specs.Points.{upto}
 use Rattle.code_defs.proofs.Points.{one_not_zero, Each-outside, Apart-range, range_with_len-append}

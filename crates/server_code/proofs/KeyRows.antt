@@ -3,18 +3,18 @@ use Rattle.std.proofs.Common.{◌≡◌, ◌≤◌, ◌<◌, ◌+◌, ◌-◌, �
 use Rattle.std.specs.List.{range_with_len}
 use Rattle.std.proofs.lemmas.List.{take-append-drop, get_or-drop, length-take, length-drop}
 use Rattle.std.proofs.lemmas.List.FromFn.{length-range_with_len}
-use Rattle.plain_laws.specs.Lists.{Each}
+use Rattle.algebra_laws.specs.Lists.{Each}
 use Rattle.hail_field.specs.Nim.{nim, nim_add, nim_mul}
 use Rattle.hail_field.proofs.AllNumbers.{nim_laws, nim_ring, nim_endless}
-use Rattle.poly_laws.specs.Poly.{FirstRow, plus as plus_over}
-use Rattle.poly_laws.specs.Rows.{Solves}
-use Rattle.poly_laws.proofs.Roots.{same_values}
-use Rattle.poly_laws.proofs.Values.{value-plus, value-times}
-use Rattle.poly_laws.proofs.Interpolate.{length-vanish, vanish_roots}
-use Rattle.poly_laws.proofs.Everywhere.{cancel}
-use Rattle.poly_laws.proofs.Euclid.{IsKeyRow, key_row, factor_not_zero}
-use Rattle.poly_laws.proofs.Decode.{first_rows}
-use Rattle.poly_laws.proofs.Gao.{row_is_product}
+use Rattle.algebra_laws.specs.Poly.{FirstRow, plus as plus_over}
+use Rattle.algebra_laws.specs.Rows.{Solves}
+use Rattle.algebra_laws.proofs.Roots.{same_values}
+use Rattle.algebra_laws.proofs.Values.{value-plus, value-times}
+use Rattle.algebra_laws.proofs.Interpolate.{length-vanish, vanish_roots}
+use Rattle.algebra_laws.proofs.Everywhere.{cancel}
+use Rattle.algebra_laws.proofs.Euclid.{IsKeyRow, key_row, factor_not_zero}
+use Rattle.algebra_laws.proofs.Decode.{first_rows}
+use Rattle.algebra_laws.proofs.Gao.{row_is_product}
 use Rattle.code_defs.specs.Polynomials.{value, vanish, interpolate, trim, plus, times}
 use Rattle.code_defs.specs.Points.{upto}
 use Rattle.code_defs.specs.Profiles.{Profile}

@@ -4,11 +4,11 @@ use Rattle.std.specs.List.{range_with_len}
 use Rattle.std.proofs.lemmas.List.FromFn.{length-range_with_len, length-map-range_with_len, take-map-range_with_len}
 use Rattle.hail_field.specs.Nim.{nim}
 use Rattle.hail_field.proofs.AllNumbers.{nim_laws}
-use Rattle.poly_laws.specs.Poly.{plus as plus_over, scale as scale_over, value as value_over, present as present_over}
-use Rattle.poly_laws.proofs.Values.{value-plus, value-scale}
-use Rattle.poly_laws.proofs.Roots.{plus_zero, same_values, length-plus}
-use Rattle.poly_laws.proofs.Agree.{unique}
-use Rattle.poly_laws.proofs.Interpolate.{length-scale, interpolate_takes}
+use Rattle.algebra_laws.specs.Poly.{plus as plus_over, scale as scale_over, value as value_over, present as present_over}
+use Rattle.algebra_laws.proofs.Values.{value-plus, value-scale}
+use Rattle.algebra_laws.proofs.Roots.{plus_zero, same_values, length-plus}
+use Rattle.algebra_laws.proofs.Agree.{unique}
+use Rattle.algebra_laws.proofs.Interpolate.{length-scale, interpolate_takes}
 use Rattle.code_defs.specs.Polynomials.{value, plus, scale, interpolate, TakesSymbols}
 use Rattle.code_defs.specs.Points.{upto, values_at}
 use Rattle.code_defs.specs.Profiles.{Profile}

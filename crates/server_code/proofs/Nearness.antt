@@ -2,12 +2,12 @@
 use Rattle.std.proofs.Common.{◌≡◌, ◌≤◌, ◌<◌, ℕ, subst, sym, ◌∙◌, ap, refl, arith, List, [], ◌∷◌, Option, Some, None, length, take, map, get_or}
 use Rattle.std.specs.Prelude.{IfNone, IfSome, OnSome}
 use Rattle.std.proofs.lemmas.List.FromFn.{fill_by_all, length-range_with_len, length-map-range_with_len, take-map-range_with_len}
-use Rattle.field_laws.proofs.Solve.{v, ◌⊞◌, solve}
+use Rattle.algebra_laws.proofs.Solve.{v, ◌⊞◌, solve}
 use Rattle.hail_field.specs.Nim.{nim, nim_add}
 use Rattle.hail_field.proofs.AllNumbers.{nim_laws, nim_ring}
-use Rattle.poly_laws.specs.Poly.{Decodes, plus as plus_over, agree as agree_over, is_seen as is_seen_over}
-use Rattle.poly_laws.proofs.Values.{value-plus}
-use Rattle.poly_laws.proofs.Roots.{length-plus}
+use Rattle.algebra_laws.specs.Poly.{Decodes, plus as plus_over, agree as agree_over, is_seen as is_seen_over}
+use Rattle.algebra_laws.proofs.Values.{value-plus}
+use Rattle.algebra_laws.proofs.Roots.{length-plus}
 use Rattle.code_defs.specs.Polynomials.{value, agree, plus, interpolate}
 use Rattle.code_defs.specs.Points.{upto, values_at}
 use Rattle.code_defs.specs.Profiles.{Profile}

@@ -4,7 +4,7 @@ use Rattle.std.proofs.lemmas.Nat.{and_le_r}
 use Rattle.std.proofs.lemmas.List.{ext_get_or, length-map, get_or-map, get_or-set_same, get_or-set_other}
 use Rattle.std.proofs.lemmas.Simd.{Each1-get_or, below_from_Fits, length-zip2, get_or-zip2, swz_l, length-swz_l}
 use lib.Lanes.{zip2}
-use Rattle.field_laws.proofs.Ring.{add_mul}
+use Rattle.algebra_laws.proofs.Ring.{add_mul}
 use Rattle.hail_field.specs.Nim.{nim_add, nim_mul}
 use Rattle.hail_field.proofs.AllNumbers.{nim_ring}
 use Rattle.hail_field.proofs.Table.{holds_below, at_each}

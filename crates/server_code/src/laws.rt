@@ -1,6 +1,6 @@
 //! The laws of the server code.
 ghost use Rattle.std.specs.Prelude.{◌≡◌, ◌≤◌, ◌+◌, ◌-◌, ◌*◌, ◌↔◌, ℕ, List, [], ◌∷◌, length, take, replicate};
-ghost use Rattle.plain_laws.specs.Lists.{Each};
+ghost use Rattle.algebra_laws.specs.Lists.{Each};
 ghost use Rattle.code_defs.specs.Polynomials.{plus, scale};
 ghost use Rattle.code_defs.specs.Points.{upto};
 ghost use Rattle.code_defs.specs.Profiles.{Profile, profile_of};

@@ -6,8 +6,8 @@ use Rattle.std.proofs.lemmas.Bool.{cases_Bool, cases_lt, cases_eq, false≢true,
 use Rattle.std.proofs.lemmas.Bool.Decides.{nat_tests}
 use Rattle.std.proofs.lemmas.List.Folds.{list_any-append}
 use Rattle.std.proofs.lemmas.List.Sums.{sum_by-cons, sum_by-take-drop}
-use Rattle.plain_laws.specs.Lists.{Each}
-use Rattle.plain_laws.proofs.Options.{some-not-none}
+use Rattle.algebra_laws.specs.Lists.{Each}
+use Rattle.algebra_laws.proofs.Options.{some-not-none}
 use Rattle.record_defs.specs.Records.{Setup, SetUp, is_name, is_in_grammar, largest_file, largest_journal, most_files, all_profiles}
 use Rattle.record_defs.specs.Table.{Due, version_of, next_id, next_audit, profile_in, file_of, due_of, is_same_name}
 use Rattle.record_defs.specs.Acceptance.{is_due}

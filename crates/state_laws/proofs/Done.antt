@@ -3,7 +3,7 @@ use Rattle.std.proofs.Common.{◌≡◌, ℕ, zero, suc, ◌+◌, ◌-◌, ◌^�
 use Rattle.std.specs.Prelude.{is_some, IsTrue, slice_get}
 use Rattle.std.proofs.lemmas.Bool.{cases_Bool, cases_lt, false≢true, eq-eqb, ne_eqb, and_from}
 use Rattle.std.proofs.lemmas.List.Sums.{sum_by-cons}
-use Rattle.plain_laws.proofs.Options.{some-not-none}
+use Rattle.algebra_laws.proofs.Options.{some-not-none}
 use Rattle.record_defs.specs.Records.{Setup, Record, SetUp, PutStart, PutDone, Drop, AuditStart, AuditDone, RepairDone, largest_journal, PutDoneIn, Version, Resume, InEffect, RepairDue}
 use Rattle.std.proofs.lemmas.Bool.Decides.{nat_tests}
 use Rattle.record_defs.specs.Table.{File, version_of, next_id, next_audit, started_as, file_of, running_audit, due_of, is_same_name}

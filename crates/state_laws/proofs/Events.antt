@@ -2,8 +2,8 @@
 use Rattle.std.proofs.Common.{◌≡◌, ℕ, ◌+◌, ◌==◌, Bool, true, false, List, [], ◌∷◌, length, drop, Option, Some, None, refl, ap, sym, subst, ◌∙◌, inl, inr, arith}
 use Rattle.std.specs.Prelude.{IsSome, nat_lt, slice_get}
 use Rattle.std.proofs.lemmas.Bool.{cases_Bool, false≢true, and_parts, eqb-true}
-use Rattle.plain_laws.proofs.Options.{some-not-none}
-use Rattle.plain_laws.proofs.Lists.{drop-get}
+use Rattle.algebra_laws.proofs.Options.{some-not-none}
+use Rattle.algebra_laws.proofs.Lists.{drop-get}
 use Rattle.device_defs.specs.Providers.{Held, Provider, with_symbol, without_block, HasPlace}
 use Rattle.machine_defs.specs.Jobs.{Kind, PutJob, GetJob, DropJob, AuditJob, RepairJob, UpgradeJob, Job, Given, Fetched, Answered, Worked, job_of, advanced}
 use Rattle.machine_defs.specs.Actions.{Action, WriteBody, SyncBody, WriteGate, SyncGate, Store, Fetch, Ask, Work, Remove, End, ends_append, actions_of, actions_left}

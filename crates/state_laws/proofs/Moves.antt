@@ -1,7 +1,7 @@
 -- Sound states after the first three moves of an append.
 use Rattle.std.proofs.Common.{◌≡◌, ℕ, ◌+◌, ◌<◌, ◌≤◌, ◌^◌, ◌==◌, Bool, true, false, cond, List, Option, Some, None, refl, ap, sym, subst, ◌∙◌, inl, inr, arith}
 use Rattle.std.proofs.lemmas.Bool.{cases_lt, cases_eq, false≢true}
-use Rattle.plain_laws.proofs.Options.{some-not-none}
+use Rattle.algebra_laws.proofs.Options.{some-not-none}
 use Rattle.record_defs.specs.Records.{Record}
 use Rattle.record_defs.specs.Table.{next_id, next_audit}
 use Rattle.machine_defs.specs.Jobs.{Kind, PutJob, GetJob, DropJob, AuditJob, RepairJob, UpgradeJob, Given, Job, job_of, with_job}

@@ -3,8 +3,8 @@ use Rattle.std.proofs.Common.{◌≡◌, ℕ, ◌+◌, ◌*◌, ◌^◌, ◌<◌
 use Rattle.std.specs.Prelude.{is_some, not, IsTrue, nat_lt, nat_le}
 use Rattle.std.proofs.lemmas.Bool.{cases_Bool, and_from, lt-ltb}
 use Rattle.std.proofs.lemmas.Bool.Decides.{nat_tests}
-use Rattle.plain_laws.specs.Lists.{In}
-use Rattle.plain_laws.proofs.Options.{some-not-none}
+use Rattle.algebra_laws.specs.Lists.{In}
+use Rattle.algebra_laws.proofs.Options.{some-not-none}
 use Rattle.record_defs.specs.Records.{Setup, Record, SetUp, PutStart, PutDone, Drop, AuditStart, AuditDone, RepairDone, PutDoneIn, Version, Resume, InEffect, RepairDue, is_name, is_spelled, largest_file, largest_journal, most_files, all_profiles}
 use Rattle.record_defs.specs.Table.{File, Due, setup_of, version_of, next_id, next_audit, started_as, with_put, file_of, files_of, find_file, due_of}
 use Rattle.record_defs.specs.Acceptance as no

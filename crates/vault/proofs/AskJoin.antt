@@ -9,8 +9,8 @@ use Rattle.std.proofs.lemmas.List.{append-nil}
 use Rattle.std.proofs.lemmas.List.Sums.{sum_by-cons}
 use Rattle.std.proofs.lemmas.Iterator.Adapters.{position_from-zero}
 use Rattle.std.proofs.Common.{zero-add}
-use Rattle.plain_laws.specs.Lists.{Each}
-use Rattle.plain_laws.proofs.Each.{each_middle}
+use Rattle.algebra_laws.specs.Lists.{Each}
+use Rattle.algebra_laws.proofs.Each.{each_middle}
 use Rattle.code_points.specs.Profile.{plain_profile}
 use Rattle.code_defs.specs.Profiles.{Profile as PlainProfile, profile_of}
 use Rattle.column_defs.specs.Challenges.{challenge_of, honest_answer}

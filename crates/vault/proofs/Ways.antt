@@ -3,7 +3,7 @@ use Rattle.std.proofs.Common.{◌≡◌, ℕ, zero, suc, ◌<◌, ◌≤◌, ◌
 use Rattle.std.specs.Prelude.{slice_get, slice_set}
 use Rattle.std.proofs.Common.{length-set}
 use Rattle.std.proofs.lemmas.Bool.{cases_eq, eq-eqb, ne_eqb}
-use Rattle.plain_laws.proofs.Lists.{get-set_same}
+use Rattle.algebra_laws.proofs.Lists.{get-set_same}
 use Rattle.device_defs.specs.Cells.{Cells}
 use Rattle.device_defs.specs.Providers.{Provider}
 use Rattle.record_defs.specs.Records.{Setup, Record}

@@ -3,8 +3,8 @@ use Rattle.std.proofs.Common.{◌≡◌, ℕ, zero, suc, ◌+◌, ◌<◌, Bool,
 use Rattle.std.specs.Prelude.{Option, ◌⊎◌, ◌&&◌, not, nat_lt, slice_get, IsTrue}
 use Rattle.std.specs.List.{flat_map, range_with_len}
 use Rattle.std.proofs.lemmas.Bool.{le-ltb, false≢true}
-use Rattle.plain_laws.specs.Lists.{Each}
-use Rattle.plain_laws.proofs.Each.{each_get, each_append}
+use Rattle.algebra_laws.specs.Lists.{Each}
+use Rattle.algebra_laws.proofs.Each.{each_get, each_append}
 use Rattle.code_defs.specs.Points.{upto}
 use Rattle.column_defs.specs.Verdicts.{Sums, Judges}
 use Rattle.column_defs.specs.Challenges.{challenge_of}

@@ -4,7 +4,7 @@ use Rattle.std.specs.Prelude.{slice_get}
 use Rattle.std.proofs.lemmas.Bool.{cases_Bool}
 use Rattle.std.proofs.lemmas.List.Elements.{All-head, All-tail}
 use Rattle.std.specs.List.{All, flat_map, range_with_len}
-use Rattle.plain_laws.proofs.Lists.{drop-get}
+use Rattle.algebra_laws.proofs.Lists.{drop-get}
 use Rattle.machine_defs.specs.Actions.{Action, Store, Work, Remove, End, Ask, Fetch}
 use Rattle.vault_core.specs.declared.wish.Wish.{Wish}
 use Rattle.vault_core.specs.declared.wish.Wish.TheVariants as wish

@@ -3,7 +3,7 @@ use Rattle.std.proofs.Common.{◌≡◌, ℕ, zero, suc, Bool, true, false, List
 use Rattle.std.specs.Prelude.{Option, ◌⊎◌, if◌then◌else◌, ◌==◌, ◌&&◌, not, is_some, nat_lt, nat_le, slice_get}
 use Rattle.std.specs.Option.{option_map}
 use Rattle.std.proofs.lemmas.Bool.{cases_Bool, le-ltb, ne_eqb, false≢true}
-use Rattle.plain_laws.proofs.Each.{each_get, each_append, each_map, each_flat}
+use Rattle.algebra_laws.proofs.Each.{each_get, each_append, each_map, each_flat}
 use Rattle.record_defs.specs.Records.{Setup, Record, PutStart, PutDone, Drop, AuditStart, AuditDone, RepairDone}
 use Rattle.record_defs.specs.Table.{File, version_of, find_file, file_of, next_id}
 use Rattle.record_defs.proofs.FilesLaws.{find-files_of}

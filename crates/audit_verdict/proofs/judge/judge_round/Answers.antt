@@ -1,5 +1,5 @@
 use Rattle.std.proofs.Common.{List, ℕ, length, subst, sym, arith}
-use Rattle.field_laws.specs.Field.{Apart}
+use Rattle.algebra_laws.specs.Field.{Apart}
 use Rattle.column_defs.proofs.PointLaws.{Apart-points}
 use Rattle.file_layout.specs.Files.{shaped_object}
 use Rattle.audit_verdict.proofs.Places.{counts-grow}

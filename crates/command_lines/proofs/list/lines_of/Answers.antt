@@ -1,5 +1,5 @@
 use Rattle.std.proofs.Common.{◌++◌, List, ℕ, sym, ap, ◌∙◌, arith}
-use Rattle.plain_laws.proofs.Lists.{get_within}
+use Rattle.algebra_laws.proofs.Lists.{get_within}
 use Rattle.machine_defs.specs.Lines.{line, then_number}
 use Rattle.vault_table.specs.Values.{file_of_entry}
 use Rattle.command_lines.proofs.ListSteps.{listed_more}

@@ -1,5 +1,5 @@
 use Rattle.std.proofs.Common.{length, arith, ap}
-use Rattle.field_laws.proofs.Apart.{Apart-take}
+use Rattle.algebra_laws.proofs.Apart.{Apart-take}
 use Rattle.hail_poly.specs.Registers.{Registers}
 use Rattle.dispersal_code.proofs.RowSteps.{row_is}
 use Rattle.dispersal_code.proofs.encode.encode_row.Goals as goal

@@ -1,6 +1,6 @@
 use Rattle.std.proofs.Common.{◌≡◌, ◌-◌, ◌∙◌, ap, sym, List, ℕ, length, take, arith}
 use Rattle.std.proofs.lemmas.List.{length-take}
-use Rattle.field_laws.proofs.Apart.{Apart-take}
+use Rattle.algebra_laws.proofs.Apart.{Apart-take}
 use Rattle.code_defs.specs.DispersalCode.{Accepts, IsOnlyAccepted}
 use Rattle.hail_poly.specs.Registers.{Registers}
 use Rattle.dispersal_code.specs.Present.{Chosen, present_points, present_symbols}

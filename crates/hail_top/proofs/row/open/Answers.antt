@@ -1,6 +1,6 @@
 use Rattle.std.proofs.Common.{List, ℕ, length, ap, ◌∙◌, sym, subst}
 use Rattle.std.proofs.lemmas.List.FromFn.{length-range_with_len}
-use Rattle.field_laws.specs.Field.{Apart}
+use Rattle.algebra_laws.specs.Field.{Apart}
 use Rattle.hail_top.proofs.PointSteps.{Apart-upto}
 use Rattle.hail_top.proofs.row.open.Goals as goal
 

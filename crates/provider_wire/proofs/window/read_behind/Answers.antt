@@ -1,5 +1,5 @@
 use Rattle.std.proofs.Common.{◌-◌, ◌≤◌, length, take, arith, length-take}
-use Rattle.plain_laws.proofs.Lists.{take-put_mid_behind}
+use Rattle.algebra_laws.proofs.Lists.{take-put_mid_behind}
 use Rattle.provider_wire.proofs.window.read_behind.Goals as goal
 
 pub returns-clause-given : goal.returns-clause-given

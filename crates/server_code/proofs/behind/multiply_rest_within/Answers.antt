@@ -2,7 +2,7 @@ use Rattle.std.proofs.Common.{◌∙◌, ◌+◌, ap, length, take, arith}
 use Rattle.std.proofs.lemmas.List.{length-take}
 use Rattle.hail_field.specs.Nim.{nim}
 use Rattle.hail_field.proofs.AllNumbers.{nim_laws}
-use Rattle.poly_laws.proofs.Trim.{length-trim}
+use Rattle.algebra_laws.proofs.Trim.{length-trim}
 use Rattle.code_defs.specs.Polynomials.{value, vanish}
 use Rattle.code_defs.specs.Points.{upto}
 use Rattle.hail_poly.specs.Registers.{Registers}

@@ -1,5 +1,5 @@
 use Rattle.std.proofs.Common.{◌≡◌, refl, arith, ◌∷◌, []}
-use Rattle.poly_laws.specs.Poly.{value as value_over}
+use Rattle.algebra_laws.specs.Poly.{value as value_over}
 use Rattle.hail_field.specs.Nim.{product, nim_mul, nim_add}
 use Rattle.code_defs.specs.Points.{upto, values_at}
 use Rattle.code_defs.specs.Profiles.{profile_of}

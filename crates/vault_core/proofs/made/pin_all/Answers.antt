@@ -1,5 +1,5 @@
 use Rattle.std.proofs.Common.{◌-◌, ◌∙◌, ap, arith}
-use Rattle.plain_laws.proofs.Lists.{get_within}
+use Rattle.algebra_laws.proofs.Lists.{get_within}
 use Rattle.vault_table.specs.Values.{file_of_entry}
 use Rattle.vault_core.specs.declared.pinned.Pinned.{Pinned}
 use Rattle.vault_core.specs.Making.{core_pins}

@@ -1,6 +1,6 @@
 use Rattle.std.proofs.Common.{ℕ, List, sym, subst, ap, length, arith, ◌∙◌}
 use Rattle.std.proofs.lemmas.List.FromFn.{length-range_with_len}
-use Rattle.field_laws.specs.Field.{Apart}
+use Rattle.algebra_laws.specs.Field.{Apart}
 use Rattle.code_defs.proofs.Points.{Apart-range}
 use Rattle.code_defs.proofs.Profiles.{size_is, some_kept}
 use Rattle.code_points.specs.declared.profile.Profile.{Profile}

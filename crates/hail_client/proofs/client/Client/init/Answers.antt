@@ -1,5 +1,5 @@
 use Rattle.std.proofs.Common.{sym, ◌∙◌}
-use Rattle.plain_laws.proofs.Options.{is_some-none}
+use Rattle.algebra_laws.proofs.Options.{is_some-none}
 use Rattle.hail_client.proofs.Begun.{init-open, init-closed}
 use Rattle.hail_client.proofs.Anew.{by-told, closed-standing, left-same}
 use Rattle.record_codec.specs.Entries.{with_master}

@@ -1,0 +1,5 @@
+pub mod Lists
+pub mod Field
+pub mod Poly
+pub mod Rows
+pub mod Sums

@@ -1,5 +1,0 @@
-use Rattle.poly_laws.proofs.Sums.{value_as_sum}
-use Rattle.poly_laws.proofs.laws.value_is_sum_of_terms.Goals as goal
-
-pub returns : goal.returns
-returns g c = λ F laws p x. value_as_sum F laws p x
