@@ -19,13 +19,12 @@ use Rattle.state_laws.proofs.Records.{file-spelled}
 use Rattle.state_laws.proofs.Written.{setup-providers, file-first}
 use Rattle.vault.specs.declared.bench.Bench.{Bench}
 use Rattle.vault.specs.declared.tasks.GetTask.{GetTask}
-use Rattle.vault.specs.declared.vault.Vault.{Vault}
+use Rattle.vault.specs.declared.desk.Desk.{Desk}
 use Rattle.vault.specs.declared.heard.Fetch.{Fetch}
 use Rattle.vault_open.specs.Devices.{Devices}
 use Rattle.vault.specs.Heard.{fetched_entries, blocks_in}
 use Rattle.vault.specs.Orders.{Between, GoesOn, OpensFrom, fetches_left, works_left}
-use Rattle.vault.specs.Seen.{table_of}
-use Rattle.vault.specs.Stands.{Stands}
+use Rattle.vault.specs.Desks.{DeskStands}
 use Rattle.vault.specs.Tasks.{IsGet, IsBench, bench_object}
 use Rattle.vault.specs.Benches.{IsBenchFor, IsNewGet, stripes_on}
 use Rattle.vault.proofs.BenchLemmas.{bench-is}
@@ -34,13 +33,13 @@ use Rattle.vault.proofs.Puts.{name_cause}
 use Rattle.vault.proofs.StripeOrders.{get-order, get-opens, get-fetches, get-works}
 
 -- the table finds what is in effect
-pub found-in : (v : Vault) (d : Devices) (w : State) (name : List ℕ) → Stands v d w → find_file (table_of v).files name ≡ file_in w name
+pub found-in : (v : Desk) (d : Devices) (w : State) (name : List ℕ) → DeskStands v d w → find_file v.core.table.files name ≡ file_in w name
 found-in v d w name stands = ap (λ files. find_file files name) stands.core.table.files ∙ find-files_of w.records name
 
 pub no-such-name : (w : State) (name : List ℕ) → IsTrue (is_name name) → file_in w name ≡ None → first_refusal (name_cause name ∷ causes_of_name w (GetJob name) name) ≡ Some refusal.NoSuchName
 no-such-name w name named none = (let not_there = stored-file w name ∙ ap is_some none in rw (named, not_there) refl)
 
-module _ (v : Vault) (d : Devices) (w : State) (moment : ℕ) (stands : Stands v d w) (name : List ℕ) (file : File) (found : file_in w name ≡ Some file) where
+module _ (v : Desk) (d : Devices) (w : State) (moment : ℕ) (stands : DeskStands v d w) (name : List ℕ) (file : File) (found : file_in w name ≡ Some file) where
   abbrev s : Setup
   s = setup_in w
 
