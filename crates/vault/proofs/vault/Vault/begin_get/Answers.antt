@@ -1,17 +1,14 @@
 use Rattle.std.proofs.Common.{Result, ℕ, sym, subst, ◌∙◌, ◌∷◌, ◌≡◌, Some, None, ◌^◌}
-use Rattle.machine_defs.specs.Jobs.{GetJob, ToGet}
+use Rattle.machine_defs.specs.Jobs.{GetJob}
 use Rattle.vault_core.specs.declared.wish.BeginFault.{BeginFault}
 use Rattle.vault_core.specs.declared.wish.BeginFault.TheVariants as fault
 use Rattle.record_defs.specs.Table.{find_file}
 use Rattle.vault_table.specs.Values.{file_of_entry}
-use Rattle.vault.specs.Benches.{IsBenchFor, IsNewGet}
 use Rattle.vault.proofs.Begun.{causes_of_name, aims-counted, turned_down}
 use Rattle.vault_open.proofs.InitEvents.{err-is}
 use Rattle.vault.proofs.Puts.{name_cause}
-use Rattle.vault.proofs.GetBegins.{found-in, no-such-name, size-fits, get-task, least}
-use Rattle.machine_defs.specs.States.{State}
-use Rattle.vault_open.specs.Devices.{Devices}
-use Rattle.vault.specs.Desks.{DeskStands, DeskMakesBegin}
+use Rattle.vault.proofs.GetBegins.{found-in, no-such-name, get-begun}
+use Rattle.vault.specs.Desks.{DeskMakesBegin}
 use Rattle.vault.proofs.AtWork.{begun_works}
 use Rattle.vault.proofs.vault.Vault.begin_get.Goals as goal
 
@@ -33,26 +30,27 @@ returns-in_default-clause-machine c = λ w d moment stands.
     (aims-counted w (name_cause name ∷ causes_of_name w kind name) ∙ (c.in_ok-name.ensures.free w (name_cause name ∷ causes_of_name w kind name) stands.core
     ∙ no-such-name w name c.in_ok-name.ensures.is_name (sym (found-in v d w name stands) ∙ none)))
 
--- the begin is one of the machine
-made : (c : goal.After-admit) (w : State) (d : Devices) (moment : ℕ) → DeskStands c.args.self.now.desk d w
-    → DeskMakesBegin w moment (GetJob c.args.name.now) c.admit.result c.admit.new.self d
-made c w d moment stands =
+pub returns-in-Ok-clause-machine : goal.returns-in-Ok-clause-machine
+returns-in-Ok-clause-machine c =
     let v = c.args.self.now.desk in
     let name = c.args.name.now in
-    let kind = GetJob name in
     let file = file_of_entry c.in-Some.file in
-    let bench = c.in_ok-bench.bench in
-    let some : find_file v.core.table.files name ≡ Some file = sym (c.in-Some.ensures ∙ (λ i. find_file (c.table.ensures i).files (c.in_ok-name.ensures.named i))) in
-    let found = sym (found-in v d w name stands) ∙ some in
-    let fits = size-fits v d w moment stands name file found in
-    let for_file = subst (λ (k : ℕ). IsBenchFor v file.id k bench) (c.min.ensures ∙ least file.size (2 ^ 22) fits) c.in_ok-bench.ensures.ok in
-    let new = subst (λ (k : ℕ). IsNewGet k bench c.in-Ok.task) c.next_job.ensures c.in-Ok.ensures in
-    c.admit.ensures.machine w d moment kind stands (λ i. ToGet (c.in_ok-name.ensures.named i)) c.in_ok-name.ensures.bytes
-    (λ accepted. get-task v d w moment stands name file found bench c.in-Ok.task for_file new)
-
-pub returns-in-Ok-clause-machine : goal.returns-in-Ok-clause-machine
-returns-in-Ok-clause-machine c = made c.before.before.before
+    let some : find_file v.core.table.files name ≡ Some file =
+    sym (c.in-Some.ensures ∙ (λ i. find_file (c.table.ensures i).files (c.in_ok-name.ensures.named i))) in
+    λ w d moment stands.
+    get-begun v c.admit.new.self name c.in_ok-name.name file c.in_ok-bench.bench c.in-Ok.task c.admit.result
+    c.min.result c.next_job.result c.in_ok-name.ensures.named c.in_ok-name.ensures.bytes some c.min.ensures
+    c.in_ok-bench.ensures.ok c.next_job.ensures c.in-Ok.ensures c.admit.ensures.machine w d moment stands
 
 pub invariant_of-self : goal.invariant_of-self
 invariant_of-self c =
-    record { at_work = begun_works c.args.self.now.desk c.admit.new.self (GetJob c.args.name.now) c.admit.result (made c) c.args.self.now.at_work }
+    let v = c.args.self.now.desk in
+    let name = c.args.name.now in
+    let file = file_of_entry c.in-Some.file in
+    let some : find_file v.core.table.files name ≡ Some file =
+    sym (c.in-Some.ensures ∙ (λ i. find_file (c.table.ensures i).files (c.in_ok-name.ensures.named i))) in
+    let made =
+    get-begun v c.admit.new.self name c.in_ok-name.name file c.in_ok-bench.bench c.in-Ok.task c.admit.result
+    c.min.result c.next_job.result c.in_ok-name.ensures.named c.in_ok-name.ensures.bytes some c.min.ensures
+    c.in_ok-bench.ensures.ok c.next_job.ensures c.in-Ok.ensures c.admit.ensures.machine in
+    record { at_work = begun_works v c.admit.new.self (GetJob name) c.admit.result made c.args.self.now.at_work }
