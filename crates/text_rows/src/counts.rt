@@ -1,8 +1,8 @@
 use record_codec::Counts;
 use std::test::Fail;
 use stream_model::Bytes;
-use transcript_lines::Came;
-use trial_counts::*;
+use hail_replay::Came;
+use hail_replay::*;
 use vault::{Answer, BeginFault, Turn};
 
 #[test]

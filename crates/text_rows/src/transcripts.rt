@@ -3,7 +3,7 @@ use record_codec::{Counts, Record};
 use std::alloc::Global;
 use std::test::Fail;
 use stream_model::Bytes;
-use transcript_lines::*;
+use hail_replay::*;
 use vault::{Answer, BeginFault, InitFault, StartFault, Turn};
 use vault_table::{Refused, Table};
 
