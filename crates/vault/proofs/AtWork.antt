@@ -35,7 +35,8 @@ works v w faults ps stands = ∣ (w, faults, ps, stands) ∣₁
 
 -- and so is one that a begin left
 pub begun_works : (old new : Desk) (kind : Kind) (result : Result ℕ BeginFault)
-    → ((w : State) (d : Devices) (moment : ℕ) → DeskStands old d w → DeskMakesBegin w moment kind result new d)
+    → ((w : State) (d : Devices) (moment : ℕ) → DeskStands old d w
+    → DeskMakesBegin w moment kind result new d)
     → IsAtWork old → IsAtWork new
 begun_works old new kind result makes at =
     ∥∥₁_map at (λ x. (let m = makes x.0 (devices None x.1 x.2) 0 x.3 in (m.state, x.1, x.2, m.stands)))

@@ -106,7 +106,8 @@ pub removes_by : (is_told : Bool) (o : ℕ) (p q : Provider) → Removes o p q
     → Removes o (provider_by is_told p) (provider_by is_told q)
 removes_by true o p q h = h
 removes_by false o p q (inl h) = inl (record { held = refl; counts = other_counts p q h.counts })
-removes_by false o p q (inr h) = inr (record { held = tt; counts = other_counts p q h.counts; cause = h.cause })
+removes_by false o p q (inr h) =
+    inr (record { held = tt; counts = other_counts p q h.counts; cause = h.cause })
 
 -- ---- the disk
 

@@ -146,7 +146,8 @@ impl AuditTask {
     )
         requires size { 16 ≤ work.old.size }
         requires there { CanAsk question.now.file.shape.n provider self.old }
-        ensures asked { (symbol : Option ℕ) × TakesAsk master.now.0 question.now provider self.old self.new symbol
+        ensures asked { (symbol : Option ℕ)
+            × TakesAsk master.now.0 question.now provider self.old self.new symbol
             × Asks (honest_answer (challenge_put master.now.0 question.now)) question.now.file.id
             (provider_seen P.Provider from.old)
             symbol (provider_seen P.Provider from.new) }
@@ -173,7 +174,8 @@ impl Task {
     )
         requires size { 16 ≤ work.old.size }
         requires there { MayAsk question.now.file.shape.n provider self.old }
-        ensures asked { (symbol : Option ℕ) × Asked master.now.0 question.now provider self.old self.new symbol
+        ensures asked { (symbol : Option ℕ)
+            × Asked master.now.0 question.now provider self.old self.new symbol
             × Asks (honest_answer (challenge_put master.now.0 question.now)) question.now.file.id
             (provider_seen P.Provider from.old)
             symbol (provider_seen P.Provider from.new) }

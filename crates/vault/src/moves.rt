@@ -37,7 +37,8 @@ impl Desk {
     fn take_flight(&mut self, job: u32) -> Flight
         requires { ComesMove self.old.core job }
         ensures rest { self.new ≡ record self.old { flight = None } }
-        ensures is { (w : State) (told : Option Cells) (faults : ℕ) (providers : List Provider) (action : Action)
+        ensures is { (w : State) (told : Option Cells) (faults : ℕ) (providers : List Provider)
+            (action : Action)
             → DeskStands self.old (devices told faults providers) w → Comes self.old.core job action
             → IsMover self.old w told job action result }
     {
@@ -53,7 +54,8 @@ impl Desk {
         requires next { ComesMove self.old.core job }
         requires at_work { IsAtWork self.old }
         ensures machine { (w : State) (moment : ℕ) (providers : List Provider) (is_told : Bool)
-            → DeskStands self.old (devices (cells_by is_told (D.holds disk.old)) (D.faults disk.old) providers) w
+            → DeskStands self.old
+            (devices (cells_by is_told (D.holds disk.old)) (D.faults disk.old) providers) w
             → DeskMakesStep w moment job result self.new
             (devices (cells_by is_told (D.holds disk.old)) (D.faults disk.old) providers)
             (devices (cells_by is_told (D.holds disk.new)) (D.faults disk.new) providers) }
