@@ -398,6 +398,7 @@ told_has c number k o r true (task.Audit t) (reply.Verdict undecided counts) las
 )
 told_has c number k o r is_last y told last tells may = absurd tells
 
+-- so the core takes it
 pub told_takes : (c : CoreView) (number k o r : ℕ) (is_last : Bool) (y : Task) (told : Reply)
     → next_in c number ≡ Acts (Ask k o r) → is_last ≡ is_last_ask_of (job_in c.jobs number)
     → TellsAsk is_last y told → MayTell c.setup.n y → TakesReply c number told

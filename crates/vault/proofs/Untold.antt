@@ -30,21 +30,25 @@ other_counts : (p q : Provider) → OtherCounts p q
 other_counts p q h =
     record { store_faults = h.store_faults; other_faults = h.other_faults; fetches = h.fetches }
 
+-- a store that is done
 pub stores_by : (is_told : Bool) (o s : ℕ) (block : List ℕ) (p q : Provider) → Stores o s block p q
     → Stores o s block (provider_by is_told p) (provider_by is_told q)
 stores_by true o s block p q h = h
 stores_by false o s block p q h = record { held = refl; counts = store_counts p q h.counts }
 
+-- a store that found no memory
 pub no_memory_by : (is_told : Bool) (p q : Provider) → FindsNoMemory p q
     → FindsNoMemory (provider_by is_told p) (provider_by is_told q)
 no_memory_by true p q h = h
 no_memory_by false p q h = record { held = refl; counts = store_counts p q h.counts }
 
+-- a store that failed
 pub fails_by : (is_told : Bool) (p q : Provider) → FailsToStore p q
     → FailsToStore (provider_by is_told p) (provider_by is_told q)
 fails_by true p q h = h
 fails_by false p q h = record { held = refl; counts = store_counts p q h.counts; cause = h.cause }
 
+-- a fetch, of a block where it gave something
 pub fetches_by : (is_told : Bool) (size o s : ℕ) (p q : Provider) (given : Option (List ℕ))
     → IfSome given (IsBlock size) → Fetches size o s p given q
     → Fetches size o s (provider_by is_told p) given (provider_by is_told q)
@@ -77,6 +81,7 @@ taken (task.Repair t) (task.Repair u) fetch found block takes =
     (record { size_is = takes.1.fits; symbols = takes.1.numbers })
 taken t u fetch found block takes = absurd takes
 
+-- an ask, of a symbol where it gave something
 pub asks_by : (is_told : Bool) (honest : (ℕ → Option (List ℕ)) → Option ℕ) (o : ℕ) (p q : Provider)
     (given : Option ℕ) → IfSome given (λ symbol. symbol < 2 ^ 128) → Asks honest o p given q
     → Asks honest o (provider_by is_told p) given (provider_by is_told q)
@@ -102,6 +107,7 @@ pub audits_on : (master : List ℕ) (q : Question) (k : ℕ) (t u : Task) (symbo
 audits_on master q k (task.Audit t) (task.Audit u) symbol asked = tt
 audits_on master q k t u symbol asked = absurd asked
 
+-- a removal
 pub removes_by : (is_told : Bool) (o : ℕ) (p q : Provider) → Removes o p q
     → Removes o (provider_by is_told p) (provider_by is_told q)
 removes_by true o p q h = h
@@ -111,11 +117,13 @@ removes_by false o p q (inr h) =
 
 -- ---- the disk
 
+-- what the cells went to
 pub goes_by : (is_told : Bool) (step : Cells → Cells → Type 0) (old new : Option Cells) → Goes step old new
     → Goes step (cells_by is_told old) (cells_by is_told new)
 goes_by true step old new h = h
 goes_by false step old new h = tt
 
+-- a move of an append
 pub move_by : (is_told : Bool) (a : Append) (old : Option Cells) (m : Moved) (new : Option Cells)
     → MakesMove a old m new → MakesMove a (cells_by is_told old) m (cells_by is_told new)
 move_by true a old m new h = h
