@@ -1,6 +1,7 @@
 ghost use Rattle.std.specs.Prelude.{◌≡◌, ◌≤◌, length};
 ghost use Rattle.algebra_laws.specs.Field.{Apart};
 
+use crate::given::six;
 use hail_field::Symbol;
 use hail_gao::decode_gao;
 use hail_poly::Work;
@@ -26,20 +27,6 @@ fn answer_alike(
     let by_quotient = decode_gao(points, values, 2, fix, first).is_some();
     let by_syndromes = decode_syndromes(points, values, 2, fix, second).is_some();
     by_quotient == by_syndromes && (!by_quotient || first.rest() == second.rest())
-}
-
-/// The symbols of six numbers.
-fn six(numbers: [u128; 6]) -> [Symbol; 6]
-    ensures { length result ≡ 6 }
-{
-    [
-        Symbol(numbers[0]),
-        Symbol(numbers[1]),
-        Symbol(numbers[2]),
-        Symbol(numbers[3]),
-        Symbol(numbers[4]),
-        Symbol(numbers[5]),
-    ]
 }
 
 #[test]

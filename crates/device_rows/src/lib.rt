@@ -6,6 +6,8 @@ mod adapters;
 #[cfg(test)]
 mod disk;
 #[cfg(test)]
+mod given;
+#[cfg(test)]
 mod providers;
 #[cfg(test)]
 mod streams;

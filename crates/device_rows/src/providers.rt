@@ -1,4 +1,4 @@
-use challenge::Challenge;
+use crate::given::{CHALLENGE, WEIGHT};
 use hail_field::Symbol;
 use provider_model::*;
 use std::test::Fail;
@@ -44,23 +44,9 @@ fn blocks_are_altered_and_lost(rt: HostRuntime) -> Result<(), Fail> {
     Ok(())
 }
 
-// The seed of the first round of the first audit to object 1 under the master key of the bytes 0 to 31.
-const SEED: [u8; 32] = [
-    177, 74, 118, 122, 222, 48, 6, 117, 101, 126, 116, 193, 72, 36, 68, 4, 49, 129, 168, 69, 205,
-    174, 1, 200, 246, 125, 22, 196, 8, 2, 145, 83,
-];
-
-// A ChaCha20 written in Python from RFC 8439 gives this challenge the rows 19, 70, 6 and 24, and the weight below. With
-// 1 in row 19 and 0 in the others the answer is the weight.
+// With 1 in row 19 and 0 in the others the answer is the weight.
 #[test]
 fn challenges_are_answered(rt: HostRuntime) -> Result<(), Fail> {
-    let challenge = Challenge {
-        seed: SEED,
-        rows: 96,
-        size: 6,
-        picks: 4,
-    };
-    let weight = Symbol(65_912_960_681_525_404_807_291_868_634_059_098_642);
     let mut block = [Symbol(0); 6];
     let mut provider = MemProvider::new(rt.alloc(), &[4])?;
     for stripe in [1, 4, 11] {
@@ -68,25 +54,25 @@ fn challenges_are_answered(rt: HostRuntime) -> Result<(), Fail> {
     }
     block[1] = Symbol(1);
     assert_eq!(rt; provider.store(1, 3, &block), Ok(()));
-    assert_eq!(rt; provider.ask(1, &challenge), Err(Failed));
-    assert_eq!(rt; provider.ask(1, &challenge), Ok(Some(weight)));
-    assert_eq!(rt; provider.ask(2, &challenge), Ok(None));
+    assert_eq!(rt; provider.ask(1, &CHALLENGE), Err(Failed));
+    assert_eq!(rt; provider.ask(1, &CHALLENGE), Ok(Some(WEIGHT)));
+    assert_eq!(rt; provider.ask(2, &CHALLENGE), Ok(None));
     assert_eq!(rt; provider.store(1, 4, &block[..5]), Ok(()));
-    assert_eq!(rt; provider.ask(1, &challenge), Ok(None));
+    assert_eq!(rt; provider.ask(1, &CHALLENGE), Ok(None));
 
     let mut provider = SureProvider::new(rt.alloc());
     for stripe in [1, 3, 4, 11] {
         assert_eq!(rt; provider.store(1, stripe, &block), Ok(()));
     }
-    assert_eq!(rt; provider.ask(1, &challenge), Ok(Some(weight)));
+    assert_eq!(rt; provider.ask(1, &CHALLENGE), Ok(Some(WEIGHT)));
     assert_eq!(rt; provider.lose(1, 11), true);
-    assert_eq!(rt; provider.ask(1, &challenge), Ok(None));
+    assert_eq!(rt; provider.ask(1, &CHALLENGE), Ok(None));
 
     let mut liar = Liar::new(rt.alloc(), Symbol(1));
     for stripe in [1, 3, 4, 11] {
         assert_eq!(rt; liar.store(1, stripe, &block), Ok(()));
     }
-    assert_eq!(rt; liar.ask(1, &challenge), Ok(Some(weight.add(Symbol::ONE))));
+    assert_eq!(rt; liar.ask(1, &CHALLENGE), Ok(Some(WEIGHT.add(Symbol::ONE))));
     Ok(())
 }
 

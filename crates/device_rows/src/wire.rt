@@ -1,6 +1,6 @@
 ghost use Rattle.std.specs.Prelude.{◌≡◌, None, IfOk};
 
-use challenge::Challenge;
+use crate::given::{CHALLENGE, WEIGHT};
 use hail_field::Symbol;
 use provider_model::{MemProvider, Provider, StoreFault, SureProvider, Tamper};
 use provider_wire::*;
@@ -162,22 +162,8 @@ fn faults_end_a_server(rt: HostRuntime) -> Result<(), Fail> {
     Ok(())
 }
 
-// A ChaCha20 written in Python from RFC 8439 gives this challenge the rows 19, 70, 6 and 24, and the weight below.
-const SEED: [u8; 32] = [
-    177, 74, 118, 122, 222, 48, 6, 117, 101, 126, 116, 193, 72, 36, 68, 4, 49, 129, 168, 69, 205,
-    174, 1, 200, 246, 125, 22, 196, 8, 2, 145, 83,
-];
-
-const WEIGHT: Symbol = Symbol(65_912_960_681_525_404_807_291_868_634_059_098_642);
-
 #[test]
 fn a_provider_is_reached_over_a_loop(rt: HostRuntime) -> Result<(), Fail> {
-    let challenge = Challenge {
-        seed: SEED,
-        rows: 96,
-        size: 6,
-        picks: 4,
-    };
     let link = LoopLink::new(MemProvider::new(rt.alloc(), &[6, 9])?)?;
     let mut provider = LinkProvider::new(link)?;
     let mut block = [Symbol(0); 6];
@@ -186,9 +172,9 @@ fn a_provider_is_reached_over_a_loop(rt: HostRuntime) -> Result<(), Fail> {
     }
     block[1] = Symbol(1);
     assert_eq!(rt; provider.store(1, 3, &block), Ok(()));
-    assert_eq!(rt; provider.ask(1, &challenge), Ok(Some(WEIGHT)));
-    assert_eq!(rt; provider.ask(2, &challenge), Ok(None));
-    assert_eq!(rt; provider.ask(1, &challenge), Err(Failed));
+    assert_eq!(rt; provider.ask(1, &CHALLENGE), Ok(Some(WEIGHT)));
+    assert_eq!(rt; provider.ask(2, &CHALLENGE), Ok(None));
+    assert_eq!(rt; provider.ask(1, &CHALLENGE), Err(Failed));
     let mut out = [Symbol(7); 6];
     assert_eq!(rt; provider.fetch(1, 3, &mut out), Ok(true));
     assert_eq!(rt; out, block);
