@@ -17,8 +17,8 @@ use Rattle.hail_client.specs.declared.client.Client.{Client}
 use Rattle.hail_client.specs.Client.{is_open}
 use Rattle.hail_client.specs.Outcomes.{step_outcome}
 use Rattle.hail_client.specs.Stands.{ClientStands, MakesEvent, IsReached, RunsJobOn}
-use Rattle.transcript_lines.specs.declared.came.Came.{Came}
-use Rattle.transcript_lines.specs.declared.came.Came.TheVariants as came
+use Rattle.hail_replay.specs.declared.came.Came.{Came}
+use Rattle.hail_replay.specs.declared.came.Came.TheVariants as came
 use Rattle.hail_replay.proofs.Standing.{open-by}
 use Rattle.hail_replay.specs.Performed.{outcome_in, heard_in_turn, heard_in_came, Performs}
 

@@ -11,12 +11,12 @@ use Rattle.machine_defs.specs.States.{State, IsStart, continued}
 use Rattle.machine_defs.specs.Transcripts.{Instruction, Once, RunJob, GoOn, CarriesOut}
 use Rattle.headline.specs.Headline.{Headline}
 use Rattle.state_laws.specs.Sound.{IsSound}
-use Rattle.trial_counts.specs.Counts.{TrialCounts}
-use Rattle.trial_counts.specs.Seen.{SeesOne}
+use Rattle.hail_replay.specs.Counts.{TrialCounts}
+use Rattle.hail_replay.specs.Seen.{SeesOne}
 use Rattle.vault_open.specs.Devices.{Devices, AreDevices}
 use Rattle.hail_client.specs.declared.client.Client.{Client}
 use Rattle.hail_client.specs.Stands.{ClientStands, IsReached}
-use Rattle.transcript_lines.specs.declared.came.Came.{Came}
+use Rattle.hail_replay.specs.declared.came.Came.{Came}
 use Rattle.hail_replay.specs.Starts.{AreLeft, called_behind}
 use Rattle.hail_replay.specs.Performed.{outcome_in, heard_in_came, AreMomentsOf, Performs}
 use Rattle.hail_replay.specs.Replayed.{CarriesOn}

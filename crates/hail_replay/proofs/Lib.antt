@@ -1,3 +1,7 @@
+pub mod Digits
+pub mod Numbers
+pub mod Flags
+pub mod Steps
 mod Lists
 mod Same
 mod Standing

@@ -12,7 +12,7 @@ use Rattle.machine_defs.specs.Transcripts.{Instruction}
 use Rattle.headline.specs.Headline.{Headline}
 use Rattle.state_laws.specs.Sound.{IsLimit, IsSound}
 use Rattle.trial_maker.specs.Trials.{trial_bytes, trial_commands}
-use Rattle.trial_counts.specs.Counts.{TrialCounts, counts_of, trial_lines}
+use Rattle.hail_replay.specs.Counts.{TrialCounts, counts_of, trial_lines}
 use Rattle.vault_open.specs.Devices.{Devices, AreDevices}
 use Rattle.hail_client.specs.declared.client.Client.{Client}
 use Rattle.hail_client.specs.Client.{is_open, client_next_job}

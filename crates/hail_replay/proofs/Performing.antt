@@ -22,8 +22,8 @@ use Rattle.hail_client.specs.Client.{is_open, client_coming, IsSame}
 use Rattle.hail_client.specs.Outcomes.{client_begin_outcome, step_outcome, replace_outcome}
 use Rattle.hail_client.specs.Stands.{ClientStands, MakesEvent, IsReached, RunsJobOn}
 use Rattle.vault_core.specs.Coming.{IsNoJob}
-use Rattle.transcript_lines.specs.declared.came.Came.{Came}
-use Rattle.transcript_lines.specs.declared.came.Came.TheVariants as came
+use Rattle.hail_replay.specs.declared.came.Came.{Came}
+use Rattle.hail_replay.specs.declared.came.Came.TheVariants as came
 use Rattle.hail_replay.specs.Performed.{StandsWhereOpen, KeepsStanding, IsPerformed}
 use Rattle.hail_replay.proofs.Same.{Same}
 use Rattle.hail_replay.proofs.Arms.{begun-kept, closed-kept, closed-coming, step-kept, run-kept, replaced-kept, same-kept}

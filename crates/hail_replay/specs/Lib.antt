@@ -1,3 +1,7 @@
+pub mod Came
+pub mod Counts
+pub mod Seen
+pub mod TrialLines
 pub mod Heard
 pub mod Starts
 pub mod Performed

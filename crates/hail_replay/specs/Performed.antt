@@ -30,9 +30,9 @@ use Rattle.hail_client.specs.declared.client.Client.{Client}
 use Rattle.hail_client.specs.Client.{is_open, client_next_job, names_of}
 use Rattle.hail_client.specs.Outcomes.{names_outcome}
 use Rattle.hail_client.specs.Stands.{IsStanding, IsReached}
-use Rattle.transcript_lines.specs.declared.came.Came.{Came}
-use Rattle.transcript_lines.specs.declared.came.Came.TheVariants as came
-use Rattle.transcript_lines.specs.Came.{came_outcome}
+use Rattle.hail_replay.specs.declared.came.Came.{Came}
+use Rattle.hail_replay.specs.declared.came.Came.TheVariants as came
+use Rattle.hail_replay.specs.Came.{came_outcome}
 
 -- the outcome of what an event came to
 abbrev pub outcome_in : Client → Option Came → Outcome

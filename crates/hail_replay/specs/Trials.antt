@@ -11,8 +11,8 @@ use Rattle.machine_defs.specs.Heard.{Entry}
 use Rattle.machine_defs.specs.Runs.{Moment}
 use Rattle.machine_defs.specs.States.{State}
 use Rattle.machine_defs.specs.Transcripts.{Instruction}
-use Rattle.trial_counts.specs.Counts.{TrialCounts, counts_of}
-use Rattle.trial_counts.specs.Trials.{TellsTrial}
+use Rattle.hail_replay.specs.Counts.{TrialCounts, counts_of}
+use Rattle.hail_replay.specs.TrialLines.{TellsTrial}
 use Rattle.trial_maker.specs.Trials.{trial_commands}
 use Rattle.vault_open.specs.Devices.{Devices}
 use Rattle.hail_replay.specs.Replayed.{CarriesOn}

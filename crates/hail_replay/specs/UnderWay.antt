@@ -14,7 +14,7 @@ use Rattle.machine_defs.specs.Heard.{Entry, heard_in}
 use Rattle.machine_defs.specs.Runs.{Moment}
 use Rattle.machine_defs.specs.States.{State}
 use Rattle.machine_defs.specs.Transcripts.{Instruction, CarriesOut}
-use Rattle.trial_counts.specs.Counts.{TrialCounts, counts_of}
+use Rattle.hail_replay.specs.Counts.{TrialCounts, counts_of}
 use Rattle.vault_open.specs.Devices.{Devices}
 use Rattle.hail_client.specs.declared.client.Client.{Client}
 use Rattle.hail_client.specs.Stands.{IsReached}

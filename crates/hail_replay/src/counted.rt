@@ -13,6 +13,7 @@ ghost use Rattle.hail_replay.specs.Starts.{devices_of, sinking_of, AreLeft};
 ghost use Rattle.hail_replay.specs.Trials.{RunsTrial, RunsTo, CountsTo};
 ghost use Rattle.hail_replay.specs.UnderWay.{HasRun, HasCounted};
 
+use crate::Tally;
 use crate::event::perform;
 use crate::heard::HeardLists;
 use crate::schedule::{Replayed, heard_of, named};
@@ -26,7 +27,6 @@ use second_half_laws::laws::failed_calls_are_counted;
 use state_laws::laws::runs_are_sound;
 use std::alloc::Global;
 use stream_model::{Memory, Sink};
-use trial_counts::Tally;
 use trial_maker::laws::sizes_of_a_trial;
 use trial_maker::{Trial, make_trial};
 

@@ -2,17 +2,17 @@
 ghost use Rattle.std.specs.Prelude.{◌<◌, ◌-◌, ◌^◌, Some};
 ghost use Rattle.machine_defs.specs.Transcripts.{RunJob};
 ghost use Rattle.schedule_text.specs.Events.{event_command};
-ghost use Rattle.transcript_lines.specs.declared.came.Came.TheVariants as came;
+ghost use Rattle.hail_replay.specs.declared.came.Came.TheVariants as came;
 ghost use Rattle.hail_client.specs.Client.{client_next_job};
 ghost use Rattle.hail_replay.specs.Starts.{devices_of};
 ghost use Rattle.hail_replay.specs.Performed.{StandsWhereOpen, IsPerformed};
 
+use crate::Came;
 use disk_model::Disk;
 use hail_client::Client;
 use provider_model::Tamper;
 use schedule_text::Event;
 use std::alloc::Global;
-use transcript_lines::Came;
 use vault::Turn;
 
 /// Runs a job; while no vault is open, nothing is called.

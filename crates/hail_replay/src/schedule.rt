@@ -6,7 +6,7 @@ ghost use Rattle.machine_defs.specs.Runs.{Moment};
 ghost use Rattle.machine_defs.specs.States.{State};
 ghost use Rattle.machine_defs.specs.Transcripts.{Instruction};
 ghost use Rattle.schedule_text.specs.Events.{event_command, commands_of};
-ghost use Rattle.transcript_lines.specs.Came.{came_outcome};
+ghost use Rattle.hail_replay.specs.Came.{came_outcome};
 ghost use Rattle.hail_client.specs.Client.{client_next_job};
 ghost use Rattle.hail_replay.specs.Answers.{CarriedOut};
 ghost use Rattle.hail_replay.specs.Heard.{entries_heard, room_of};
@@ -17,6 +17,7 @@ ghost use Rattle.hail_replay.specs.UnderWay.{HasDone};
 
 use crate::event::perform;
 use crate::heard::HeardLists;
+use crate::{Came, came_lines};
 use command_lines::{NO_MEMORY, WRITTEN, write_text};
 use disk_model::Disk;
 use hail_client::Client;
@@ -27,7 +28,6 @@ use second_half_laws::laws::failed_calls_are_counted;
 use state_laws::laws::runs_are_sound;
 use std::alloc::Global;
 use stream_model::{Memory, Sink};
-use transcript_lines::{Came, came_lines};
 use vault::{HeardList, Turn};
 
 /// How the events of a schedule ended: the status, which is 0, 15 or 70, and what their jobs heard.

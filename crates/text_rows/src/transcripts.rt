@@ -1,9 +1,9 @@
 use crate::given::{SETUP, table_of};
 use hail_client::ReopenFault;
+use hail_replay::*;
 use record_codec::Counts;
 use std::test::Fail;
 use stream_model::Bytes;
-use transcript_lines::*;
 use vault::{Answer, BeginFault, InitFault, StartFault, Turn};
 
 #[test]

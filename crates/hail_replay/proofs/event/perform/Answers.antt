@@ -9,7 +9,7 @@ use Rattle.record_codec.specs.Entries.{with_master}
 use Rattle.vault_open.specs.Devices.{devices}
 use Rattle.provider_model.specs.Seen.{provider_seen}
 use Rattle.hail_client.specs.Outcomes.{replace_outcome}
-use Rattle.transcript_lines.specs.declared.came.Came.TheVariants as came
+use Rattle.hail_replay.specs.declared.came.Came.TheVariants as came
 use Rattle.hail_replay.proofs.Same.{replaces_if}
 use Rattle.hail_replay.proofs.Arms.{init-kept, reopen-kept, stop-kept}
 use Rattle.hail_replay.proofs.Behind.{once}

@@ -1,0 +1,6 @@
+use Rattle.std.proofs.Common.{◌≡◌, take}
+use Rattle.hail_replay.specs.Counts.{flagged_from}
+use Rattle.hail_replay.proofs.seen.flagged_of.Given as goal
+
+abbrev pub invariant-loop-place : goal.invariant-loop-place
+invariant-loop-place l = l.flagged.items ≡ flagged_from 0 (take l.place l.counts)
