@@ -36,11 +36,11 @@ use Rattle.state_laws.specs.Sound.{IsSound}
 use Rattle.vault.specs.declared.turn.Turn.{Turn}
 use Rattle.vault.specs.declared.vault.Vault.{Vault}
 use Rattle.vault_open.specs.Devices.{Devices, devices, AreDevices}
-use Rattle.vault.specs.Devices.{IsSameBeyond}
+use Rattle.vault.specs.Devices.{IsSameBeyond, IsSamePast}
 use Rattle.opening_defs.specs.Journals.{IsRead}
 use Rattle.opening_defs.specs.Opened.{IsJustOpened}
 use Rattle.vault.specs.Outcomes.{IfEnded}
-use Rattle.vault.specs.Stands.{Stands, IsSamePast}
+use Rattle.vault.specs.Stands.{Stands}
 use Rattle.hail_client.specs.declared.client.Client.{Client}
 use Rattle.hail_client.specs.Outcomes.{step_outcome}
 

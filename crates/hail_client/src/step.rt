@@ -1,4 +1,4 @@
-ghost use Rattle.std.specs.Prelude.{◌≡◌, ◌≢◌, ◌<◌, ◌≤◌, ◌++◌, ◌∷◌, [], ℕ, true, false, Some, None, IfSome, is_some, length, map, slice_get};
+ghost use Rattle.std.specs.Prelude.{◌≡◌, ◌≢◌, ◌↔◌, ◌<◌, ◌≤◌, ◌++◌, ◌∷◌, [], ℕ, true, false, Some, None, IfSome, is_some, length, map, slice_get};
 ghost use Rattle.device_defs.specs.Faults.{one_more};
 ghost use Rattle.machine_defs.specs.Heard.{heard_by};
 ghost use Rattle.machine_defs.specs.Jobs.{job_of};
@@ -53,18 +53,14 @@ impl Client {
         ensures others { (j k : ℕ) → called_provider (client_coming self.old job) ≡ Some j → k ≢ j
             → slice_get providers.new k ≡ slice_get providers.old k }
         ensures one_disk_call { calls_disk (client_coming self.old job) ≡ true
-            → result ≢ Some turn.NoSuchJob → D.calls disk.new ≡ one_more (D.calls disk.old) }
+            → D.calls disk.new ≡ one_more (D.calls disk.old) }
         ensures one_provider_call { (j : ℕ) → called_provider (client_coming self.old job) ≡ Some j
-            → result ≢ Some turn.NoSuchJob
             → CalledOnce P.calls j providers.old providers.new }
         ensures no_job { client_coming self.old job ≡ IsNoJob
             → IsSame self.old self.new × (disk.new ≡ disk.old) × (providers.new ≡ providers.old) }
-        ensures gone { (w : State)
-            → ClientStands self.old (devices_seen D.Disk P.Provider disk.old providers.old) w
-            → result ≡ Some turn.NoSuchJob → client_coming self.old job ≡ IsNoJob }
-        ensures waits { (w : State)
-            → ClientStands self.old (devices_seen D.Disk P.Provider disk.old providers.old) w
-            → IfSome result (λ turn. IsNoAction turn
+        ensures gone { IfSome result
+            (λ t. (t ≡ turn.NoSuchJob) ↔ (client_coming self.old job ≡ IsNoJob)) }
+        ensures waits { IfSome result (λ turn. IsNoAction turn
             → IsSame self.old self.new × (disk.new ≡ disk.old) × (providers.new ≡ providers.old)) }
         ensures closed { result ≡ None
             → (self.new ≡ self.old) × (disk.new ≡ disk.old) × (providers.new ≡ providers.old) }

@@ -54,23 +54,3 @@ job-ends start new moment kind answer heard O spelled r =
       free = a.2;
       acts = a.3;
     })
-
--- a state opened over good records
-pub opened-over : (w : State) (records : List Record) (faults : ℕ) (providers : List Provider) → IsOpenedOver w records faults providers → AreAccepted records → IsTrue (list_all is_in_grammar records) →
-    text_size records ≤ largest_journal → is_some (setup_of records) ≡ true → (setup_in_effect records).n ≤ length providers → IsOpenAtRest w 1
-unfolding setup_in
-opened-over w records faults providers o accepted spelled room up enough = record {
-  rest = record {
-    idle = (o.jobs, o.append, o.unbarred, o.none_alone);
-    undoubted = o.doubt;
-    whole = o.whole;
-    accepted = subst AreAccepted (sym o.records) accepted;
-    in_grammar = subst (λ rs. IsTrue (list_all is_in_grammar rs)) (sym o.records) spelled;
-    room = subst (λ rs. text_size rs ≤ largest_journal) (sym o.records) room;
-    files = λ name file h. o.bytes name file (ap (λ rs. file_of rs name) (sym o.records) ∙ h);
-    set_up = λ e. ap (λ rs. is_some (setup_of rs)) o.records ∙ up;
-    handed = λ e. subst (λ rs. (setup_in_effect rs).n ≤ w.handed) (sym o.records) (subst (λ n. (setup_in_effect records).n ≤ n) (sym o.handed.count) enough);
-  };
-  opened = o.is_open;
-  next = o.next_job;
-}

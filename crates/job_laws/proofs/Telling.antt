@@ -3,32 +3,28 @@ use Rattle.std.proofs.Common.{◌≡◌, ℕ, zero, suc, ◌<◌, ◌≤◌, ◌
 use Rattle.std.specs.Prelude.{slice_get, is_some, IsSomeAnd}
 use Rattle.std.specs.Option.{option_map}
 use Rattle.std.proofs.lemmas.Bool.{cases_Bool, cases_lt, false≢true}
-use Rattle.std.proofs.lemmas.List.{length-replicate}
 use Rattle.device_defs.specs.Cells.{Cells}
 use Rattle.device_defs.specs.Images.{EachImage}
 use Rattle.device_defs.specs.Providers.{Provider}
 use Rattle.record_defs.specs.Records.{Record}
 use Rattle.record_defs.specs.Table.{files_of, setup_of}
 use Rattle.record_defs.specs.Acceptance.{AreAccepted}
-use Rattle.record_defs.specs.Areas.{A}
 use Rattle.record_defs.specs.Journal.{StandsFor, StandsOrIsEmpty}
-use Rattle.record_defs.proofs.SizeLaws.{size_by_id, size-in_effect}
 use Rattle.machine_defs.specs.Jobs.{Kind, PutJob, GetJob, DropJob, AuditJob, RepairJob, UpgradeJob}
 use Rattle.machine_defs.specs.Answers.{Answer}
 use Rattle.machine_defs.specs.Events.{IsSpelledKind}
 use Rattle.machine_defs.specs.Heard.{Entry}
 use Rattle.machine_defs.specs.States.{State, Doubt}
 use Rattle.machine_defs.specs.Stands.{StandsPlain, StandsWithDoubt, StandsSwitched}
-use Rattle.machine_defs.proofs.Given.{zeros-bytes}
 use Rattle.command_defs.specs.Seen.{Seen, nobody, provider_at}
 use Rattle.command_defs.specs.Opens as opens
 use Rattle.command_defs.specs.Ran.{ran_from, ran_alone}
 use Rattle.opening_defs.specs.Opened.{IsOpenedOver, IsOpenAtRest}
+use Rattle.opening_defs.proofs.Opened.{opened-over, has-setup, state_with, opened-with}
 use Rattle.command_defs.specs.JobRuns.{RunsJob}
 use Rattle.command_defs.specs.Jobs.{Leaves, LeftAlone, RanAlone, RunsAlone}
-use Rattle.state_laws.proofs.Records.{none-set_up}
 use Rattle.state_laws.specs.Sound.{IsWholeJournal}
-use Rattle.job_laws.proofs.Runs.{job-ends, opened-over}
+use Rattle.job_laws.proofs.Runs.{job-ends}
 use Rattle.job_laws.proofs.Whole.{runs-whole}
 use Rattle.job_laws.proofs.Audits.{audits-leave}
 use Rattle.job_laws.proofs.Repairs.{repairs-leave}
@@ -41,36 +37,13 @@ use Rattle.job_laws.proofs.Refused.{drop-has}
 -- ---- a state that was opened over records that a start read
 
 pub over-opened : (w : State) (old : Seen) (records : List Record) (faults : ℕ) → opens.IsOpened old records → IsOpenedOver w records faults old.providers → IsOpenAtRest w 1
-over-opened w old records faults R V = opened-over w records faults old.providers V R.read.accepted R.read.in_grammar R.read.room has_setup R.enough
-  where
-    has_setup : is_some (setup_of records) ≡ true
-    has_setup = elim (cases_Bool (is_some (setup_of records))) [
-      | inl t ↦ t
-      | inr f ↦ absurd (R.read.some (none-set_up records R.read.accepted f))
-    ]
+over-opened w old records faults R V = opened-over w records faults old.providers V R.read.accepted R.read.in_grammar R.read.room (has-setup records R.read.accepted R.read.some) R.enough
 
 -- ---- there is such a state
 
 -- the state with zeros for the bytes of its files
 abbrev pub opened_state : List Record → ℕ → List Provider → State
-opened_state records faults providers = record {
-  records = records;
-  journal = records;
-  area = A;
-  is_switching = false;
-  bytes = λ id. replicate (size_by_id (files_of records) id) 0;
-  audits = λ number. 0;
-  jobs = [];
-  next_job = 1;
-  alone = None;
-  append = None;
-  doubt = None;
-  providers = provider_at providers;
-  handed = length providers;
-  disk_faults = faults;
-  is_open = true;
-  is_barred = false;
-}
+opened_state records faults providers = state_with records faults (provider_at providers) (length providers)
 
 get-provider : (ps : List Provider) (j : ℕ) → j < length ps → slice_get ps j ≡ Some (provider_at ps j)
 get-provider [] j l = absurd (omega (arith, l))
@@ -83,20 +56,7 @@ get-none (p ∷ ps) zero l = absurd (omega (arith, l))
 get-none (p ∷ ps) (suc j) l = get-none ps j (omega (arith, l))
 
 pub state-over : (records : List Record) (faults : ℕ) (providers : List Provider) → AreAccepted records → IsOpenedOver (opened_state records faults providers) records faults providers
-state-over records faults providers accepted = record {
-  records = refl;
-  whole = record { journal = refl; area = refl; unswitched = refl };
-  jobs = refl;
-  next_job = refl;
-  none_alone = refl;
-  append = refl;
-  doubt = refl;
-  is_open = refl;
-  unbarred = refl;
-  bytes = λ name file h. (zeros-bytes (size_by_id (files_of records) file.id), length-replicate (size_by_id (files_of records) file.id) 0 ∙ size-in_effect records accepted name file h);
-  faults_are = refl;
-  handed = record { count = refl; each = get-provider providers };
-}
+state-over records faults providers accepted = opened-with records faults providers (provider_at providers) accepted (get-provider providers)
 
 -- ---- what is left of the run
 

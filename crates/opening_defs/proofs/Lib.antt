@@ -1,2 +1,3 @@
 pub mod Resyncs
 pub mod Readings
+pub mod Opened

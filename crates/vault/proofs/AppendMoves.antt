@@ -35,13 +35,13 @@ use Rattle.vault.specs.declared.flight.Moved.TheVariants as moves
 use Rattle.vault.specs.declared.turn.Answer.TheVariants as answer
 use Rattle.vault.specs.declared.turn.Turn.{Turn}
 use Rattle.vault.specs.declared.turn.Turn.TheVariants as turn
-use Rattle.vault.specs.declared.vault.Vault.{Vault}
+use Rattle.vault.specs.declared.desk.Desk.{Desk}
 use Rattle.vault_open.specs.Devices.{devices}
-use Rattle.vault.specs.Devices.{records_in_flight}
+use Rattle.vault.specs.Devices.{records_in_flight, IsSamePast}
 use Rattle.vault.specs.Flights.{HasFailed, MakesMove, GoesOn, EndsAppend, GivesUp}
 use Rattle.vault.specs.Running.{KeepsAll, IsFed, IsStopped}
 use Rattle.vault.specs.Movers.{IsUnbegun, IsMover}
-use Rattle.vault.specs.Stands.{Stands, Comes, IsFlight, IsSamePast, MakesStep, MakesTurn}
+use Rattle.vault.specs.Desks.{DeskStands, Comes, IsFlight, DeskMakesStep}
 use Rattle.vault_open.proofs.FirstVersion.{FirstStands, first-images}
 use Rattle.vault_core.proofs.Standing.{entry_machine}
 use Rattle.vault_core.proofs.Steps.{none_flies}
@@ -86,7 +86,7 @@ closed_of None rs told is = is
 closed_of (Some f) rs told is = absurd is
 
 -- a later move of a job finds its append in flight
-module _ (v : Vault) (w : State) (holds : Option Cells) (faults number : ℕ) (ps : List Provider) (stands : Stands v (devices holds faults ps) w) (action : Action) (comes : Comes v.core number action) (later : 0 < moves_before action) where
+module _ (v : Desk) (w : State) (holds : Option Cells) (faults number : ℕ) (ps : List Provider) (stands : DeskStands v (devices holds faults ps) w) (action : Action) (comes : Comes v.core number action) (later : 0 < moves_before action) where
   next : ComesNext w number action None
   next = comes.machine w stands.core
 
@@ -117,7 +117,7 @@ module _ (v : Vault) (w : State) (holds : Option Cells) (faults number : ℕ) (p
       }
 
 -- a first move of a job finds none in flight
-module _ (v : Vault) (w : State) (holds : Option Cells) (faults number : ℕ) (ps : List Provider) (stands : Stands v (devices holds faults ps) w) (comes : Comes v.core number WriteBody) where
+module _ (v : Desk) (w : State) (holds : Option Cells) (faults number : ℕ) (ps : List Provider) (stands : DeskStands v (devices holds faults ps) w) (comes : Comes v.core number WriteBody) where
   alone : w.append ≡ None
   alone = none_flies w.append (comes.machine w stands.core).holder
 
@@ -147,7 +147,7 @@ module _ (v : Vault) (w : State) (holds : Option Cells) (faults number : ℕ) (p
       }
 
 -- the append that a vault has in flight is at the move that comes next
-pub flight_moves : (v : Vault) (w : State) (holds : Option Cells) (faults number : ℕ) (ps : List Provider) → Stands v (devices holds faults ps) w → (action : Action) → Comes v.core number action → is_move (Some action) ≡ true
+pub flight_moves : (v : Desk) (w : State) (holds : Option Cells) (faults number : ℕ) (ps : List Provider) → DeskStands v (devices holds faults ps) w → (action : Action) → Comes v.core number action → is_move (Some action) ≡ true
     → (f : Flight) → v.flight ≡ Some f → IsMover v w holds number action f
 flight_moves v w holds faults number ps stands WriteBody comes moves f is = absurd (not_some v w holds faults number ps stands comes f is)
 flight_moves v w holds faults number ps stands SyncBody comes moves f is = goes_on v w holds faults number ps stands SyncBody comes (omega arith) moves f is
@@ -161,7 +161,7 @@ flight_moves v w holds faults number ps stands (Remove j object) comes moves f i
 flight_moves v w holds faults number ps stands End comes moves f is = absurd (false_true moves)
 
 -- where it has none, the job's append begins
-pub flight_begins : (v : Vault) (w : State) (holds : Option Cells) (faults number : ℕ) (ps : List Provider) → Stands v (devices holds faults ps) w → (action : Action) → Comes v.core number action → is_move (Some action) ≡ true
+pub flight_begins : (v : Desk) (w : State) (holds : Option Cells) (faults number : ℕ) (ps : List Provider) → DeskStands v (devices holds faults ps) w → (action : Action) → Comes v.core number action → is_move (Some action) ≡ true
     → v.flight ≡ None → (f : Flight) → IsUnbegun v.core number f → IsMover v w holds number action f
 flight_begins v w holds faults number ps stands WriteBody comes moves is f first = begins v w holds faults number ps stands comes f first
 flight_begins v w holds faults number ps stands SyncBody comes moves is f first = absurd (not_none v w holds faults number ps stands SyncBody comes (omega arith) is)
@@ -175,16 +175,16 @@ flight_begins v w holds faults number ps stands (Remove j object) comes moves is
 flight_begins v w holds faults number ps stands End comes moves is f first = absurd (false_true moves)
 
 -- a vault that gave its flight away is else the same
-pub gave_away : (v v0 : Vault) → v0 ≡ record v { flight = None } → KeepsAll v v0
-gave_away v v0 rest = record { setup = ap (λ (x : Vault). x.setup) rest; master = ap (λ (x : Vault). x.master) rest; shape = ap (λ (x : Vault). x.shape) rest; profile = ap (λ (x : Vault). x.profile) rest }
+pub gave_away : (v v0 : Desk) → v0 ≡ record v { flight = None } → KeepsAll v v0
+gave_away v v0 rest = record { setup = ap (λ (x : Desk). x.setup) rest; master = ap (λ (x : Desk). x.master) rest; shape = ap (λ (x : Desk). x.shape) rest; profile = ap (λ (x : Desk). x.profile) rest }
 
 -- its core is fed as that of the vault was
-pub fed_away : (v v0 : Vault) (number : ℕ) (r : Reply) (core : CoreView) → v0 ≡ record v { flight = None } → IsFed v0.core number r core → IsFed v.core number r core
-fed_away v v0 number r core rest = subst (λ (x : Vault). IsFed x.core number r core) rest
+pub fed_away : (v v0 : Desk) (number : ℕ) (r : Reply) (core : CoreView) → v0 ≡ record v { flight = None } → IsFed v0.core number r core → IsFed v.core number r core
+fed_away v v0 number r core rest = subst (λ (x : Desk). IsFed x.core number r core) rest
 
 -- ---- what comes of a move
 
-module _ (v : Vault) (w : State) (holds holds' : Option Cells) (faults faults' moment number : ℕ) (ps : List Provider) (stands : Stands v (devices holds faults ps) w) (f : Flight) where
+module _ (v : Desk) (w : State) (holds holds' : Option Cells) (faults faults' moment number : ℕ) (ps : List Provider) (stands : DeskStands v (devices holds faults ps) w) (f : Flight) where
   -- the state counts the faults of the disk
   falls_not : faults ≤ faults' → w.disk_faults ≤ faults'
   falls_not = subst (λ (n : ℕ). n ≤ faults') (sym stands.devices.faults)
@@ -206,10 +206,10 @@ module _ (v : Vault) (w : State) (holds holds' : Option Cells) (faults faults' m
   still_past action m beyond = record { entry = m.entry; writing = m.writing; in_flight = m.in_flight; same = beyond_of w.records m.entry f.append holds holds' m.appends beyond }
 
   -- the disk failed
-  pub append_failed : (action : Action) (comes : Comes v.core number action) → is_move (Some action) ≡ true → (m : IsMover v w holds number action f) (v1 v2 : Vault) (result : Option Turn)
+  pub append_failed : (action : Action) (comes : Comes v.core number action) → is_move (Some action) ≡ true → (m : IsMover v w holds number action f) (v1 v2 : Desk) (result : Turn)
       → MakesMove f.append holds moves.Failed holds' → Goes (SameFrom (gate_of f.append + 1 + length (body_of f.append))) holds holds' → HasCause faults faults' (HasFailed moves.Failed)
       → v1.core ≡ v.core → v1.jobs.items ≡ v.jobs.items → KeepsAll v v1 → IsStopped v1 number reply.Failed answer.DiskFault result v2
-      → MakesTurn w moment number result v2 (devices holds faults ps) (devices holds' faults' ps)
+      → DeskMakesStep w moment number result v2 (devices holds faults ps) (devices holds' faults' ps)
   append_failed WriteBody comes move m v1 v2 result made beyond cause core jobs keeps stopped =
       let next = comes.machine w stands.core in
       let up : GivesUp f.append w.records m.entry holds' = made w.records m.entry m.appends in
@@ -265,10 +265,10 @@ module _ (v : Vault) (w : State) (holds holds' : Option Cells) (faults faults' m
   append_failed End comes move m v1 v2 result made beyond cause core jobs keeps stopped = absurd (false_true move)
 
   -- a move is made behind which others are left
-  pub append_goes_on : (action : Action) (comes : Comes v.core number action) → is_move (Some action) ≡ true → (m : IsMover v w holds number action f) (v' : Vault) (g : Flight)
+  pub append_goes_on : (action : Action) (comes : Comes v.core number action) → is_move (Some action) ≡ true → (m : IsMover v w holds number action f) (v' : Desk) (g : Flight)
       → MakesMove f.append holds (moves.On g) holds' → Goes (SameFrom (gate_of f.append + 1 + length (body_of f.append))) holds holds' → HasCause faults faults' (HasFailed (moves.On g))
       → v'.flight ≡ Some g → v'.jobs.items ≡ v.jobs.items → KeepsAll v v' → IsFed v.core number reply.Done v'.core
-      → MakesStep w moment number turn.More v' (devices holds faults ps) (devices holds' faults' ps)
+      → DeskMakesStep w moment number turn.More v' (devices holds faults ps) (devices holds' faults' ps)
   append_goes_on WriteBody comes move m v' g made beyond cause flight jobs keeps fed =
       let next = comes.machine w stands.core in
       let job = next.job in
@@ -336,10 +336,10 @@ module _ (v : Vault) (w : State) (holds holds' : Option Cells) (faults faults' m
   append_goes_on End comes move m v' g made beyond cause flight jobs keeps fed = absurd (false_true move)
 
   -- the last move is made
-  pub append_done : (action : Action) (comes : Comes v.core number action) → is_move (Some action) ≡ true → (m : IsMover v w holds number action f) (v' : Vault)
+  pub append_done : (action : Action) (comes : Comes v.core number action) → is_move (Some action) ≡ true → (m : IsMover v w holds number action f) (v' : Desk)
       → MakesMove f.append holds moves.Done holds' → Goes (SameFrom (gate_of f.append + 1 + length (body_of f.append))) holds holds' → HasCause faults faults' (HasFailed moves.Done)
       → v'.flight ≡ None → v'.jobs.items ≡ v.jobs.items → KeepsAll v v' → IsFed v.core number reply.Done v'.core
-      → MakesStep w moment number turn.More v' (devices holds faults ps) (devices holds' faults' ps)
+      → DeskMakesStep w moment number turn.More v' (devices holds faults ps) (devices holds' faults' ps)
   append_done SyncGate comes move m v' made beyond cause flight jobs keeps fed =
       let next = comes.machine w stands.core in
       let a = flies SyncGate comes (omega arith) m in
@@ -370,10 +370,10 @@ module _ (v : Vault) (w : State) (holds holds' : Option Cells) (faults faults' m
   append_done End comes move m v' made beyond cause flight jobs keeps fed = absurd (false_true move)
 
   -- a write found no memory
-  pub append_unwritten : (action : Action) (comes : Comes v.core number action) → is_move (Some action) ≡ true → (m : IsMover v w holds number action f) (v1 v2 : Vault) (result : Option Turn)
+  pub append_unwritten : (action : Action) (comes : Comes v.core number action) → is_move (Some action) ≡ true → (m : IsMover v w holds number action f) (v1 v2 : Desk) (result : Turn)
       → MakesMove f.append holds moves.Memory holds' → HasCause faults faults' (HasFailed moves.Memory)
       → v1.core ≡ v.core → v1.jobs.items ≡ v.jobs.items → v1.flight ≡ None → KeepsAll v v1 → IsStopped v1 number reply.Memory answer.Memory result v2
-      → MakesTurn w moment number result v2 (devices holds faults ps) (devices holds' faults' ps)
+      → DeskMakesStep w moment number result v2 (devices holds faults ps) (devices holds' faults' ps)
   append_unwritten WriteBody comes move m v1 v2 result made cause core jobs flight keeps stopped =
       let next = comes.machine w stands.core in
       let none = alone v w holds faults number ps stands comes in

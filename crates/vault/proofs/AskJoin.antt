@@ -34,10 +34,12 @@ use Rattle.state_laws.proofs.Orders.{next-left, get-drop}
 use Rattle.state_laws.proofs.Written.{setup-rounds}
 use Rattle.state_laws.specs.SoundJobs.{IsPlainJob, IsSoundJob}
 use Rattle.state_laws.specs.Orders.{moves_made}
+use Rattle.record_codec.specs.Entries.{IsPadded}
+use Rattle.record_codec.specs.declared.counts.Counts.{Counts}
 use Rattle.vault_core.specs.Carried.{IsJobOf, ComesNext, pin_of}
-use Rattle.vault_core.specs.Coming.{is_last_ask, is_last_ask_of}
+use Rattle.vault_core.specs.Coming.{Coming, Acts, is_last_ask, is_last_ask_of, next_in, HasReply, TakesReply}
 use Rattle.vault_core.specs.Replies.{Tells}
-use Rattle.vault_core.specs.View.{CoreJob, job_in}
+use Rattle.vault_core.specs.View.{CoreJob, CoreView, job_in}
 use Rattle.vault_core.specs.declared.pinned.Pinned.{Pinned as PinnedValue}
 use Rattle.vault_core.specs.declared.reply.Reply.{Reply}
 use Rattle.vault_core.specs.declared.reply.Reply.TheVariants as reply
@@ -47,14 +49,14 @@ use Rattle.vault.specs.declared.tasks.Running.{Running}
 use Rattle.vault.specs.declared.tasks.Task.{Task}
 use Rattle.vault.specs.declared.tasks.Task.TheVariants as task
 use Rattle.vault.specs.declared.turn.Turn.TheVariants as turn
-use Rattle.vault.specs.declared.vault.Vault.{Vault}
+use Rattle.vault.specs.declared.desk.Desk.{Desk}
 use Rattle.vault.specs.Asking.{length_among, length_at, length_in, length_found, IsAuditNumber, IsQuestion, challenge_put, sums_on, TakesAsk, HasJudged, CanAsk, Asked, MayAsk, TellsAsk, MayTell, MayPut, vault_object}
 use Rattle.opening_defs.specs.Opened.{AreHanded}
 use Rattle.vault_open.specs.Devices.{devices}
 use Rattle.vault.specs.Orders.{is_ask}
 use Rattle.vault.specs.Rounds.{Round, rounds_in, asked_after, AsksOn, JudgesEach}
 use Rattle.vault.specs.Running.{place_in, KeepsAll, IsFed}
-use Rattle.vault.specs.Stands.{Stands, Comes, MakesStep}
+use Rattle.vault.specs.Desks.{DeskStands, Comes, DeskMakesStep}
 use Rattle.vault.specs.Tasks.{IsTask, IsRunning, AreRunning, IsAudit, empty_sums}
 use Rattle.vault_core.proofs.Onward.{asks_ask}
 use Rattle.vault.proofs.FirstVersion.{plain-core, profile-among}
@@ -211,7 +213,7 @@ audit_of s job tail k o r allowed (task.Audit t) is = (t, refl, is)
 audit_of s job tail k o r allowed (task.Repair t) is = absurd (subst (λ (x : Kind). IsAllowed s.n x (Ask k o r)) is.kind allowed)
 
 -- what is known of a job whose next action is an ask
-record IsAsking (v : Vault) (w : State) (number k o r : ℕ) : Type 0 where
+record IsAsking (v : Desk) (w : State) (number k o r : ℕ) : Type 0 where
   next : ComesNext w number (Ask k o r) None
   left_is : actions_left (setup_in w) next.job ≡ Ask k o r ∷ after w next.job
   sound_job : IsSoundJob (setup_in w) w.records w.bytes (moves_made w.append number) next.job
@@ -227,7 +229,7 @@ record IsAsking (v : Vault) (w : State) (number k o r : ℕ) : Type 0 where
   rounds_are : (setup_in w).rounds ≤ 64
   rising : Rising 0 0 (rounds_in (setup_in w) next.job.pinned)
 
-asking : (v : Vault) (w : State) (holds : Option Cells) (faults number k o r : ℕ) (ps : List Provider) → Stands v (devices holds faults ps) w → Comes v.core number (Ask k o r) → IsAsking v w number k o r
+asking : (v : Desk) (w : State) (holds : Option Cells) (faults number k o r : ℕ) (ps : List Provider) → DeskStands v (devices holds faults ps) w → Comes v.core number (Ask k o r) → IsAsking v w number k o r
 asking v w holds faults number k o r ps stands comes =
     let next = comes.machine w stands.core in
     let sound_job = stands.core.sound.jobs number next.job next.runs in
@@ -249,11 +251,11 @@ asking v w holds faults number k o r ps stands comes =
     }
 
 -- it works with an audit
-audit_in : (v : Vault) (w : State) (number k o r : ℕ) (it : IsAsking v w number k o r) → (x : Running) → IsRunning (setup_in w) x it.next.job → AsksAt (setup_in w) it.next.job (after w it.next.job) k o r x.task
+audit_in : (v : Desk) (w : State) (number k o r : ℕ) (it : IsAsking v w number k o r) → (x : Running) → IsRunning (setup_in w) x it.next.job → AsksAt (setup_in w) it.next.job (after w it.next.job) k o r x.task
 audit_in v w number k o r it x running = audit_of (setup_in w) it.next.job (after w it.next.job) k o r (next_allowed w it.next.job (Ask k o r) it.next.comes) x.task
     (subst (λ (l : List Action). IsTask (setup_in w) it.next.job l x.task) it.left_is running.task)
 
-module _ (v : Vault) (w : State) (number k o r : ℕ) (it : IsAsking v w number k o r) (t : AuditTask) (is : IsAudit (setup_in w) t it.next.job (Ask k o r ∷ after w it.next.job)) where
+module _ (v : Desk) (w : State) (number k o r : ℕ) (it : IsAsking v w number k o r) (t : AuditTask) (is : IsAudit (setup_in w) t it.next.job (Ask k o r ∷ after w it.next.job)) where
   nx : IsNext (setup_in w) t it.next.job k o r (after w it.next.job)
   nx = next_round (setup_in w) t it.next.job k o r (after w it.next.job) is
 
@@ -364,7 +366,7 @@ module _ (v : Vault) (w : State) (number k o r : ℕ) (it : IsAsking v w number 
               (subst (λ (l : List Round). AsksOn (setup_in w).n l (asked_after (setup_in w).n k) (after w it.next.job)) (cond_false (k + 1 == (setup_in w).n) nx.xs (nx.x ∷ nx.xs) (ne_eqb (k + 1) (setup_in w).n other)) nx.order)))
         ]
 
-module _ (v : Vault) (w : State) (number k o r : ℕ) (it : IsAsking v w number k o r) where
+module _ (v : Desk) (w : State) (number k o r : ℕ) (it : IsAsking v w number k o r) where
   -- after the last ask all rounds are judged
   all_judged : (symbol : Option ℕ) (u : AuditTask) → IsAudit (setup_in w) u (advanced_with it.next.job (Answered k o r symbol)) (after w it.next.job)
       → is_last_ask_of (job_in v.core.jobs number) ≡ true → HasSums (setup_in w) (advanced_with it.next.job (Answered k o r symbol)) (sums_on u)
@@ -382,17 +384,37 @@ module _ (v : Vault) (w : State) (number k o r : ℕ) (it : IsAsking v w number 
       as_files s (advanced_with job (Answered k o r symbol)) job.pinned (empty_sums s) (sums_on u)
       (subst (λ (l : List Round). JudgesEach s (advanced_with job (Answered k o r symbol)) l (empty_sums s) (sums_on u)) (sym all) is.sums)
 
+-- ---- the reply to an ask
+
+-- a reply that tells what an ask came to is one that the ask has
+told_has : (c : CoreView) (number k o r : ℕ) (is_last : Bool) (y : Task) (told : Reply)
+    → is_last ≡ is_last_ask_of (job_in c.jobs number) → TellsAsk is_last y told → MayTell c.setup.n y
+    → HasReply c number (Acts (Ask k o r)) told
+told_has c number k o r false y reply.Done last tells may = sym last
+told_has c number k o r true (task.Audit t) (reply.Verdict undecided counts) last tells may = (
+  sym last,
+  ap (λ (x : Counts). x.n) tells.1 ∙ may.0,
+  subst IsPadded (sym tells.1) may.1,
+)
+told_has c number k o r is_last y told last tells may = absurd tells
+
+pub told_takes : (c : CoreView) (number k o r : ℕ) (is_last : Bool) (y : Task) (told : Reply)
+    → next_in c number ≡ Acts (Ask k o r) → is_last ≡ is_last_ask_of (job_in c.jobs number)
+    → TellsAsk is_last y told → MayTell c.setup.n y → TakesReply c number told
+told_takes c number k o r is_last y told next last tells may =
+    subst (λ (x : Coming). HasReply c number x told) (sym next) (told_has c number k o r is_last y told last tells may)
+
 -- ---- what the ask comes to
 
 -- there is something to ask for
-pub put_there : (v : Vault) (w : State) (holds : Option Cells) (faults moment number k o r : ℕ) (ps : List Provider) → Stands v (devices holds faults ps) w → Comes v.core number (Ask k o r) → MayPut v number o
+pub put_there : (v : Desk) (w : State) (holds : Option Cells) (faults moment number k o r : ℕ) (ps : List Provider) → DeskStands v (devices holds faults ps) w → Comes v.core number (Ask k o r) → MayPut v number o
 put_there v w holds faults moment number k o r ps stands comes =
     let it = asking v w holds faults number k o r ps stands comes in
     let f = working v (devices holds faults ps) w number (Ask k o r) stands it.next in
     let audit = audit_in v w number k o r it f.running f.is in
     may_put v w number k o r it audit.0 audit.2
 
-module _ (v : Vault) (w : State) (holds : Option Cells) (faults moment number k o r : ℕ) (ps : List Provider) (stands : Stands v (devices holds faults ps) w) (comes : Comes v.core number (Ask k o r))
+module _ (v : Desk) (w : State) (holds : Option Cells) (faults moment number k o r : ℕ) (ps : List Provider) (stands : DeskStands v (devices holds faults ps) w) (comes : Comes v.core number (Ask k o r))
     (place : ℕ) (x : Running) (at : place_in v.jobs.items number ≡ Some place) (there : slice_get v.jobs.items place ≡ Some x) (q : Question) (put : IsQuestion v number o r q) where
   it : IsAsking v w number k o r
   it = asking v w holds faults number k o r ps stands comes
@@ -420,20 +442,22 @@ module _ (v : Vault) (w : State) (holds : Option Cells) (faults moment number k 
       by_task t is (task.Repair u) takes = absurd takes
 
   -- a last ask has a verdict
-  pub tell_there : (y : Task) (symbol : Option ℕ) (n : ℕ) → Asked v.master.0 q k x.task y symbol → n ≡ v.core.setup.n → MayTell n y
-  tell_there y symbol n asked same =
+  pub tell_there : (y : Task) (symbol : Option ℕ) → Asked v.master.0 q k x.task y symbol
+      → MayTell v.core.setup.n y
+  tell_there y symbol asked =
       let u = still y symbol asked in
-      subst (MayTell n) (sym u.1) (u.2.counts.0 ∙ sym (same ∙ ap (λ (s : Setup). s.n) stands.core.setup), u.2.counts.1)
+      let n = v.core.setup.n in
+      subst (MayTell n) (sym u.1) (u.2.counts.0 ∙ sym (ap (λ (s : Setup). s.n) stands.core.setup), u.2.counts.1)
 
   -- the reply tells what the ask came to
-  tells_more : (symbol : Option ℕ) (y : Task) (p' : Provider) (n : ℕ) (is_last : Bool) (told : Reply) → Asked v.master.0 q k x.task y symbol → is_last ≡ is_last_ask_of (job_in v.core.jobs number) → TellsAsk is_last n y told
+  tells_more : (symbol : Option ℕ) (y : Task) (p' : Provider) (is_last : Bool) (told : Reply) → Asked v.master.0 q k x.task y symbol → is_last ≡ is_last_ask_of (job_in v.core.jobs number) → TellsAsk is_last y told
       → Tells number told More (record (going_on w (advanced_with it.next.job (Answered k o r symbol))) { providers = with_provider w.providers k p' })
-  tells_more symbol y p' n is_last told asked last_is tells = (let u = still y symbol asked in by_reply is_last told last_is u.0 (subst (λ (z : Task). TellsAsk is_last n z told) u.1 tells) u.2)
+  tells_more symbol y p' is_last told asked last_is tells = (let u = still y symbol asked in by_reply is_last told last_is u.0 (subst (λ (z : Task). TellsAsk is_last z told) u.1 tells) u.2)
     where
       new : State
       new = record (going_on w (advanced_with it.next.job (Answered k o r symbol))) { providers = with_provider w.providers k p' }
 
-      by_reply : (is_last : Bool) (told : Reply) → is_last ≡ is_last_ask_of (job_in v.core.jobs number) → (u : AuditTask) → TellsAsk is_last n (task.Audit u) told
+      by_reply : (is_last : Bool) (told : Reply) → is_last ≡ is_last_ask_of (job_in v.core.jobs number) → (u : AuditTask) → TellsAsk is_last (task.Audit u) told
           → IsAudit (setup_in w) u (advanced_with it.next.job (Answered k o r symbol)) (after w it.next.job) → Tells number told More new
       by_reply false reply.Done last u tells is = tt
       by_reply false reply.Failed last u tells is = absurd tells
@@ -455,12 +479,12 @@ module _ (v : Vault) (w : State) (holds : Option Cells) (faults moment number k 
           (subst (HasSums (setup_in w) (advanced_with it.next.job (Answered k o r symbol))) sums (all_judged v w number k o r it symbol u is (sym last))))
 
   -- the ask is a step of the machine
-  pub ask_step : (v' : Vault) (ps' : List Provider) (p p' : Provider) (y : Running) (symbol : Option ℕ) (n : ℕ) (is_last : Bool) (told : Reply) → y.number ≡ x.number → Asked v.master.0 q k x.task y.task symbol
+  pub ask_step : (v' : Desk) (ps' : List Provider) (p p' : Provider) (y : Running) (symbol : Option ℕ) (is_last : Bool) (told : Reply) → y.number ≡ x.number → Asked v.master.0 q k x.task y.task symbol
       → Asks (honest_answer (challenge_put v.master.0 q)) q.file.id p symbol p' → slice_get ps k ≡ Some p → ps' ≡ slice_set ps k p'
-      → is_last ≡ is_last_ask_of (job_in v.core.jobs number) → TellsAsk is_last n y.task told
+      → is_last ≡ is_last_ask_of (job_in v.core.jobs number) → TellsAsk is_last y.task told
       → v'.jobs.items ≡ slice_set v.jobs.items place y → KeepsAll v v' → v'.flight ≡ v.flight → IsFed v.core number told v'.core
-      → MakesStep w moment number turn.More v' (devices holds faults ps) (devices holds faults ps')
-  ask_step v' ps' p p' y symbol n is_last told same_number asked call p_is ps_is last_is tells jobs keeps flight fed =
+      → DeskMakesStep w moment number turn.More v' (devices holds faults ps) (devices holds faults ps')
+  ask_step v' ps' p p' y symbol is_last told same_number asked call p_is ps_is last_is tells jobs keeps flight fed =
       let job = it.next.job in
       let a = audit_in v w number k o r it x runs in
       let u = still y.task symbol asked in
@@ -485,7 +509,7 @@ module _ (v : Vault) (w : State) (holds : Option Cells) (faults moment number k 
         task = subst (λ (l : List Action). IsTask (setup_in w) next_job l y.task) (sym tail_is) (subst (IsTask (setup_in w) next_job (after w job)) (sym u.1) u.2);
       } in
       let core = fed w new More moment stands.core happens (record {
-        tells = tells_more symbol y.task p' n is_last told asked last_is tells;
+        tells = tells_more symbol y.task p' is_last told asked last_is tells;
         entry = λ b is mine. entry_kept v.core w w.append number stands.core.append b is mine;
       }) in
       let are : AreRunning (setup_in w) v'.jobs.items new.jobs =

@@ -26,9 +26,9 @@ use Rattle.vault.specs.Tasks.{HasAnswered, IsAsked, IsAudit, empty_sums}
 use Rattle.device_defs.specs.Cells.{Cells}
 use Rattle.device_defs.specs.Providers.{Provider}
 use Rattle.vault_core.specs.Carried.{ComesNext}
-use Rattle.vault.specs.declared.vault.Vault.{Vault}
+use Rattle.vault.specs.declared.desk.Desk.{Desk}
 use Rattle.vault_open.specs.Devices.{devices}
-use Rattle.vault.specs.Stands.{Stands, Comes}
+use Rattle.vault.specs.Desks.{DeskStands, Comes}
 use Rattle.vault.proofs.Allowed.{IsAllowed, next_allowed}
 use Rattle.vault.proofs.Ways.{is_handed}
 use Rattle.vault.proofs.Asks.{entries_more, none_answered, answered_more, last_given, apart, judges_still, judges_more}
@@ -168,7 +168,7 @@ next_round s t job k o r tail is = by_left is.left is.asked is.rounds is.order i
       sums = is.sums;
     }
 
-module _ (v : Vault) (w : State) (holds : Option Cells) (faults number k o r : ℕ) (ps : List Provider) (stands : Stands v (devices holds faults ps) w) (comes : Comes v.core number (Ask k o r)) where
+module _ (v : Desk) (w : State) (holds : Option Cells) (faults number k o r : ℕ) (ps : List Provider) (stands : DeskStands v (devices holds faults ps) w) (comes : Comes v.core number (Ask k o r)) where
   coming : ComesNext w number (Ask k o r) None
   coming = comes.machine w stands.core
 

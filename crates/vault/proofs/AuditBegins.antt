@@ -13,13 +13,12 @@ use Rattle.record_codec.specs.Entries.{counted}
 use Rattle.state_laws.proofs.Pinning.{length-pin_all}
 use Rattle.vault.specs.declared.heard.Ask.{Ask}
 use Rattle.vault.specs.declared.tasks.AuditTask.{AuditTask}
-use Rattle.vault.specs.declared.vault.Vault.{Vault}
+use Rattle.vault.specs.declared.desk.Desk.{Desk}
 use Rattle.vault_open.specs.Devices.{Devices}
 use Rattle.vault.specs.Heard.{answered_entries}
 use Rattle.vault.specs.Orders.{asks_left}
 use Rattle.vault.specs.Rounds.{Round, rounds_in}
-use Rattle.vault.specs.Seen.{table_of}
-use Rattle.vault.specs.Stands.{Stands}
+use Rattle.vault.specs.Desks.{DeskStands}
 use Rattle.vault.specs.Tasks.{IsAudit, IsAsked}
 use Rattle.vault.specs.Benches.{IsNewAudit}
 use Rattle.vault.proofs.AskOrders.{audit-order, audit-count}
@@ -29,11 +28,11 @@ started : (xs : List Round) (symbols : List (Option ℕ)) → symbols ≡ [] →
 started [] symbols is = tt
 started (x ∷ xs) symbols is = record { before = []; now = []; older = []; symbols_is = is; count = refl; given_is = refl }
 
-module _ (v : Vault) (d : Devices) (w : State) (moment : ℕ) (stands : Stands v d w) where
-  pub few-files : length (table_of v).files ≤ most_files
+module _ (v : Desk) (d : Devices) (w : State) (moment : ℕ) (stands : DeskStands v d w) where
+  pub few-files : length v.core.table.files ≤ most_files
   few-files = (let e = ap (λ (fs : List File). length fs) stands.core.table.files in let f = few-files_of w.records stands.core.sound.accepted in omega (arith, e, f))
 
-  pub audit-task : (t : AuditTask) (asks : ℕ) → IsNewAudit v.core.next_job v.setup.n asks t → asks ≡ length (table_of v).files * (v.setup.rounds * v.setup.n)
+  pub audit-task : (t : AuditTask) (asks : ℕ) → IsNewAudit v.core.next_job v.setup.n asks t → asks ≡ length v.core.table.files * (v.setup.rounds * v.setup.n)
       → IsAudit (setup_in w) t (new_job w moment AuditJob) (actions_left (setup_in w) (new_job w moment AuditJob))
   audit-task t asks new asks_are =
       let s = setup_in w in
@@ -44,7 +43,7 @@ module _ (v : Vault) (d : Devices) (w : State) (moment : ℕ) (stands : Stands v
       let least = limits.0 in
       let most = limits.1 in
       let counts_n : t.counts.n ≡ s.n = new.n_is ∙ sym n_is in
-      let files : length job.pinned ≡ length (table_of v).files = length-pin_all w (files_of w.records) ∙ sym (ap (λ (fs : List File). length fs) stands.core.table.files) in
+      let files : length job.pinned ≡ length v.core.table.files = length-pin_all w (files_of w.records) ∙ sym (ap (λ (fs : List File). length fs) stands.core.table.files) in
       let few : asks_left (actions_left s job) ≤ length job.pinned * (s.rounds * s.n) = audit-count s job refl in
       let same : length job.pinned * (s.rounds * s.n) ≡ asks = (λ i. files i * (rounds_is i * n_is i)) ∙ sym asks_are in
       let room_asks = new.room_asks in

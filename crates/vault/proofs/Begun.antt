@@ -12,12 +12,12 @@ use Rattle.machine_defs.specs.States.{State, setup_in}
 use Rattle.machine_defs.proofs.Sights.{length-aims}
 use Rattle.vault_core.specs.declared.wish.BeginFault.{BeginFault}
 use Rattle.vault_core.specs.Carried.{CoreIs, refusal_of, begun}
-use Rattle.vault.specs.declared.vault.Vault.{Vault}
+use Rattle.vault.specs.declared.desk.Desk.{Desk}
 use Rattle.vault.specs.declared.tasks.Running.{Running}
 use Rattle.vault.specs.declared.tasks.Task.{Task}
 use Rattle.vault_open.specs.Devices.{Devices}
 use Rattle.vault.specs.Running.{KeepsAll}
-use Rattle.vault.specs.Stands.{Stands, MakesBegin}
+use Rattle.vault.specs.Desks.{DeskStands, DeskMakesBegin}
 use Rattle.vault.specs.Tasks.{IsTask, IsRunning, AreRunning}
 use Rattle.vault.proofs.Ways.{stands_on, handed_same}
 
@@ -43,11 +43,11 @@ running-push s [] (k ∷ js) r j are is = absurd are
 running-push s (q ∷ rs) [] r j are is = absurd are
 running-push s (q ∷ rs) (k ∷ js) r j are is = (are.0, running-push s rs js r j are.1 is)
 
-module _ (old new : Vault) (d : Devices) (w : State) (moment : ℕ) (kind : Kind) (stands : Stands old d w) where
+module _ (old new : Desk) (d : Devices) (w : State) (moment : ℕ) (kind : Kind) (stands : DeskStands old d w) where
   -- a begin that is accepted
   pub admitted : (number : ℕ) (task : Task) → CoreIs new.core (begun w moment kind) → begin_refusal 8 w kind ≡ None → number ≡ old.core.next_job
       → IsTask (setup_in w) (new_job w moment kind) (actions_left (setup_in w) (new_job w moment kind)) task
-      → new.jobs.items ≡ old.jobs.items ++ record { number = number; task = task } ∷ [] → KeepsAll old new → new.flight ≡ old.flight → MakesBegin w moment kind (Ok number) new d
+      → new.jobs.items ≡ old.jobs.items ++ record { number = number; task = task } ∷ [] → KeepsAll old new → new.flight ≡ old.flight → DeskMakesBegin w moment kind (Ok number) new d
   admitted number task core accepted number_is is jobs keeps flight =
       let next : number ≡ w.next_job = number_is ∙ stands.core.next_job in
       record {
@@ -60,5 +60,5 @@ module _ (old new : Vault) (d : Devices) (w : State) (moment : ℕ) (kind : Kind
       }
 
   -- a begin that is refused, and leaves the vault as it was
-  pub turned_down : (why : BeginFault) → begin_refusal 8 w kind ≡ Some (refusal_of why) → MakesBegin w moment kind (Err why) old d
+  pub turned_down : (why : BeginFault) → begin_refusal 8 w kind ≡ Some (refusal_of why) → DeskMakesBegin w moment kind (Err why) old d
   turned_down why is = record { state = w; begins = (stands.core.is_open, inl is, refl); stands = stands }

@@ -7,13 +7,12 @@ use Rattle.code_defs.specs.Profiles.{profile_of}
 use Rattle.record_defs.specs.Records.{Setup}
 use Rattle.record_codec.specs.Entries.{with_master}
 use Rattle.vault.specs.declared.bench.Bench.{Bench}
-use Rattle.vault.specs.declared.vault.Vault.{Vault}
-use Rattle.vault.specs.Seen.{vault_setup, master_of}
-use Rattle.vault.specs.Stands.{IsShaped}
+use Rattle.vault.specs.declared.desk.Desk.{Desk}
+use Rattle.vault.specs.Desks.{IsShaped}
 use Rattle.vault.specs.Tasks.{IsBench}
 use Rattle.vault.specs.Benches.{IsBenchFor}
 
-pub bench-is : (v : Vault) (s : Setup) (id size : ℕ) (bench : Bench) → IsShaped v → s ≡ with_master (vault_setup v) (master_of v) → IsBenchFor v id size bench → IsBench s bench
+pub bench-is : (v : Desk) (s : Setup) (id size : ℕ) (bench : Bench) → IsShaped v → s ≡ with_master v.setup v.master.0 → IsBenchFor v id size bench → IsBench s bench
 bench-is v s id size bench shaped setup is =
     let n : bench.keys.file.shape.n ≡ s.n = ap (λ (x : Shape). x.n) is.shape ∙ shaped.n ∙ sym (ap (λ (x : Setup). x.n) setup) in
     let l : bench.keys.file.shape.l ≡ s.l = ap (λ (x : Shape). x.l) is.shape ∙ shaped.l ∙ sym (ap (λ (x : Setup). x.l) setup) in

@@ -5,9 +5,9 @@ use Rattle.record_defs.specs.Records.{Record}
 use Rattle.machine_defs.specs.States.{State}
 use Rattle.machine_defs.specs.States as states
 use Rattle.vault.specs.declared.flight.Flight.{Flight}
-use Rattle.vault.specs.declared.vault.Vault.{Vault}
+use Rattle.vault.specs.declared.desk.Desk.{Desk}
 use Rattle.vault_open.specs.Devices.{Devices}
-use Rattle.vault.specs.Stands.{IsFlight, Stands, CarriesText, Carries}
+use Rattle.vault.specs.Desks.{IsFlight, DeskStands, CarriesText, DeskCarries}
 
 pub carried_text : (f : Option Flight) (append : Option states.Append) (rs : List Record) (told : Option Cells) → IsFlight f append rs told → CarriesText f rs told
 carried_text None None rs told closed = closed
@@ -15,6 +15,6 @@ carried_text (Some f) (Some append) rs told flight = (append.entry, flight.1)
 carried_text None (Some append) rs told never = absurd never
 carried_text (Some f) None rs told never = absurd never
 
-pub carried : (v : Vault) (d : Devices) (w : State) → Stands v d w → w.is_barred ≡ false → Carries v d.holds
+pub carried : (v : Desk) (d : Devices) (w : State) → DeskStands v d w → w.is_barred ≡ false → DeskCarries v d.holds
 carried v d w stands unbarred =
     (w.records, stands.core.table, stands.core.end, carried_text v.flight w.append w.records d.holds (stands.flight unbarred))

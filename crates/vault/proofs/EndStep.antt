@@ -35,13 +35,13 @@ use Rattle.vault.specs.declared.tasks.Running.{Running}
 use Rattle.vault.specs.declared.tasks.Task.{Task}
 use Rattle.vault.specs.declared.tasks.Task.TheVariants as task
 use Rattle.vault.specs.declared.turn.Turn.{Turn}
-use Rattle.vault.specs.declared.vault.Vault.{Vault}
+use Rattle.vault.specs.declared.desk.Desk.{Desk}
 use Rattle.vault_open.specs.Devices.{Devices}
 use Rattle.vault.specs.Ending.{answer_at_end}
 use Rattle.vault.specs.Orders.{OpensFrom}
 use Rattle.vault.specs.Outcomes.{machine_answer}
-use Rattle.vault.specs.Running.{place_in, HasStopped}
-use Rattle.vault.specs.Stands.{Stands, Comes, MakesStep}
+use Rattle.vault.specs.Running.{place_in, IsStopped}
+use Rattle.vault.specs.Desks.{DeskStands, Comes, DeskMakesStep}
 use Rattle.vault.specs.Tasks.{IsTask}
 use Rattle.vault.proofs.RemoveStep.{set_same}
 use Rattle.vault.proofs.Stops.{ends_by}
@@ -165,7 +165,7 @@ no_fault (task.Repair t) subject undecided counts e = cc
 some_of : {X Y : Type 0} (f : X → Y) (o : Option X) (x : X) (y : Y) → o ≡ Some x → option_map f o ≡ Some y → f x ≡ y
 some_of f o x y is e = (let h : Some (f x) ≡ Some y = ap (option_map f) (sym is) ∙ e in cc)
 
-module _ (v : Vault) (d : Devices) (w : State) (moment number : ℕ) (stands : Stands v d w) (comes : Comes v.core number End) where
+module _ (v : Desk) (d : Devices) (w : State) (moment number : ℕ) (stands : DeskStands v d w) (comes : Comes v.core number End) where
   coming : ComesNext w number End None
   coming = comes.machine w stands.core
 
@@ -173,17 +173,17 @@ module _ (v : Vault) (d : Devices) (w : State) (moment number : ℕ) (stands : S
   of_core = core_of (setup_in w) v.core.jobs w.jobs number coming.job (subst (λ (s : Setup). AllZip (IsJobOf s) v.core.jobs w.jobs) stands.core.setup stands.core.jobs) coming.runs
 
   -- the end is a step of the machine
-  pub end_step : (v2 : Vault) (t : Turn) (place subject undecided : ℕ) (counts : Counts) (r : Running)
+  pub end_step : (v2 : Desk) (t : Turn) (place subject undecided : ℕ) (counts : Counts) (r : Running)
       → option_map (λ (j : CoreJob). j.subject) (job_in v.core.jobs number) ≡ Some subject
       → option_map (λ (j : CoreJob). j.sums) (job_in v.core.jobs number) ≡ Some (record { counts = counted counts; undecided = undecided })
       → place_in v.jobs.items number ≡ Some place → slice_get v.jobs.items place ≡ Some r
-      → HasStopped v number reply.Done (answer_at_end r.task subject undecided counts) t v2 → MakesStep w moment number t v2 d d
+      → IsStopped v number reply.Done (answer_at_end r.task subject undecided counts) t v2 → DeskMakesStep w moment number t v2 d d
   end_step v2 t place subject undecided counts r subject_is sums_is at there stopped =
       let new : State = ended w coming.job in
       let running = at_place v d w number place End r stands coming at there in
       let drawn = some_of (λ (j : CoreJob). j.subject) _ of_core.job subject of_core.runs subject_is in
       let sums = some_of (λ (j : CoreJob). j.sums) _ of_core.job _ of_core.runs sums_is in
-      ends_by v v v2 w new d.holds d.faults moment number place d.providers d.providers End r r reply.Done (answer_at_end r.task subject undecided counts) (Some t) stands coming
+      ends_by v v v2 w new d.holds d.faults moment number place d.providers d.providers End r r reply.Done (answer_at_end r.task subject undecided counts) t stands coming
       (ends w coming.job coming.comes of_core.job of_core.is subject undecided counts drawn sums r.task running.task, refl)
       (record { records = refl; doubt = refl; append = refl; faults = refl; barred = refl })
       (ap (without_job w.jobs) (number_of w.jobs number coming.job coming.runs))

@@ -17,12 +17,12 @@ use Rattle.vault.specs.declared.tasks.Running.{Running}
 use Rattle.vault.specs.declared.tasks.Task.{Task}
 use Rattle.vault.specs.declared.tasks.Task.TheVariants as task
 use Rattle.vault.specs.declared.turn.Turn.TheVariants as turn
-use Rattle.vault.specs.declared.vault.Vault.{Vault}
+use Rattle.vault.specs.declared.desk.Desk.{Desk}
 use Rattle.vault.specs.Blocks.{given_of}
 use Rattle.vault_open.specs.Devices.{devices}
 use Rattle.vault.specs.Fetching.{TakesFetch, HasRoomFor, fetch_size}
 use Rattle.vault.specs.Running.{place_in, KeepsAll, IsFed}
-use Rattle.vault.specs.Stands.{Stands, Comes, MakesStep}
+use Rattle.vault.specs.Desks.{DeskStands, Comes, DeskMakesStep}
 use Rattle.vault.specs.Tasks.{IsTask, IsRunning}
 use Rattle.vault.proofs.FirstVersion.{plain-core, worked-plain}
 use Rattle.vault.proofs.Allowed.{IsAllowed, next_allowed}
@@ -43,7 +43,7 @@ size_is w job k o s r plain next running = by_task r.task (subst (λ (l : List A
     by_task (task.Audit t) is = absurd (not_allowed AuditJob is.kind)
     by_task (task.Repair t) is = is.size ∙ ap (λ (x : Object). x.profile.size) is.bench ∙ ap (λ (x : Object). x.profile.size) (worked-plain w job o plain)
 
-module _ (v : Vault) (w : State) (holds : Option Cells) (faults moment number k o s : ℕ) (ps : List Provider) (stands : Stands v (devices holds faults ps) w) (comes : Comes v.core number (Fetch k o s)) where
+module _ (v : Desk) (w : State) (holds : Option Cells) (faults moment number k o s : ℕ) (ps : List Provider) (stands : DeskStands v (devices holds faults ps) w) (comes : Comes v.core number (Fetch k o s)) where
   coming : ComesNext w number (Fetch k o s) None
   coming = comes.machine w stands.core
 
@@ -60,10 +60,10 @@ module _ (v : Vault) (w : State) (holds : Option Cells) (faults moment number k 
     room_there = room_for w coming.job k o s coming.comes r runs
 
     -- the fetch is a step of the machine
-    pub fetch_step : (v' : Vault) (ps' : List Provider) (p q : Provider) (r' : Running) (fetch : FetchValue) (found : Bool) (block : List ℕ) → r'.number ≡ r.number → fetch ≡ record { provider = k; object = o; stripe = s }
+    pub fetch_step : (v' : Desk) (ps' : List Provider) (p q : Provider) (r' : Running) (fetch : FetchValue) (found : Bool) (block : List ℕ) → r'.number ≡ r.number → fetch ≡ record { provider = k; object = o; stripe = s }
         → TakesFetch r.task r'.task fetch found block → Fetches (fetch_size r.task) o s p (given_of found block) q → slice_get ps k ≡ Some p → ps' ≡ slice_set ps k q
         → v'.jobs.items ≡ slice_set v.jobs.items place r' → KeepsAll v v' → v'.flight ≡ v.flight → IsFed v.core number reply.Done v'.core
-        → MakesStep w moment number turn.More v' (devices holds faults ps) (devices holds faults ps')
+        → DeskMakesStep w moment number turn.More v' (devices holds faults ps) (devices holds faults ps')
     fetch_step v' ps' p q r' fetch found block same_number fetch_is takes fetches p_is ps_is jobs keeps flight fed =
         let job = coming.job in
         let next_job = advanced_with job (Fetched k o s (given_of found block)) in

@@ -1,5 +1,5 @@
 -- What a get begins with.
-use Rattle.std.proofs.Common.{◌≡◌, ℕ, ◌+◌, ◌*◌, ◌≤◌, List, [], ◌∷◌, ◌++◌, length, min, Some, None, refl, sym, ap, ◌∙◌, subst, arith, append_assoc}
+use Rattle.std.proofs.Common.{◌≡◌, ℕ, ◌+◌, ◌*◌, ◌≤◌, ◌^◌, List, [], ◌∷◌, ◌++◌, length, min, Some, None, Result, refl, sym, ap, ◌∙◌, subst, arith, append_assoc}
 use Rattle.std.specs.Prelude.{IsTrue, is_some, vec_len, vec_capacity}
 use Rattle.std.specs.List.{flat_map}
 use Rattle.code_defs.specs.Points.{upto}
@@ -8,8 +8,9 @@ use Rattle.record_defs.specs.Records.{Setup, is_name, largest_file}
 use Rattle.record_defs.specs.Table.{File, find_file}
 use Rattle.record_defs.proofs.FilesLaws.{find-files_of}
 use Rattle.machine_defs.specs.Actions.{End, open_actions, actions_left, actions_of}
-use Rattle.machine_defs.specs.Begins.{new_job, pin_found, pinned_file}
-use Rattle.machine_defs.specs.Jobs.{GetJob}
+use Rattle.machine_defs.specs.Begins.{begin_refusal, new_job, pin_found, pinned_file}
+use Rattle.machine_defs.specs.Events.{IsSpelledKind}
+use Rattle.machine_defs.specs.Jobs.{Kind, GetJob, ToGet}
 use Rattle.machine_defs.specs.Refusals as refusal
 use Rattle.machine_defs.specs.Refusals.{first_refusal}
 use Rattle.machine_defs.specs.Setups.{profiled, stripes_of, pinned_stripes}
@@ -17,16 +18,19 @@ use Rattle.machine_defs.specs.States.{State, setup_in, file_in}
 use Rattle.machine_defs.proofs.Sights.{stored-file}
 use Rattle.state_laws.proofs.Records.{file-spelled}
 use Rattle.state_laws.proofs.Written.{setup-providers, file-first}
+use Rattle.vault_core.specs.Carried.{IsKindOf}
+use Rattle.vault_core.specs.declared.wish.BeginFault.{BeginFault}
+use Rattle.vault_core.specs.declared.wish.Wish.TheVariants as wish
 use Rattle.vault.specs.declared.bench.Bench.{Bench}
 use Rattle.vault.specs.declared.tasks.GetTask.{GetTask}
-use Rattle.vault.specs.declared.vault.Vault.{Vault}
+use Rattle.vault.specs.declared.tasks.Task.TheVariants as task
+use Rattle.vault.specs.declared.desk.Desk.{Desk}
 use Rattle.vault.specs.declared.heard.Fetch.{Fetch}
 use Rattle.vault_open.specs.Devices.{Devices}
 use Rattle.vault.specs.Heard.{fetched_entries, blocks_in}
 use Rattle.vault.specs.Orders.{Between, GoesOn, OpensFrom, fetches_left, works_left}
-use Rattle.vault.specs.Seen.{table_of}
-use Rattle.vault.specs.Stands.{Stands}
-use Rattle.vault.specs.Tasks.{IsGet, IsBench, bench_object}
+use Rattle.vault.specs.Desks.{DeskStands, DeskMakesBegin}
+use Rattle.vault.specs.Tasks.{IsGet, IsBench, IsTask, bench_object}
 use Rattle.vault.specs.Benches.{IsBenchFor, IsNewGet, stripes_on}
 use Rattle.vault.proofs.BenchLemmas.{bench-is}
 use Rattle.vault.proofs.Begun.{causes_of_name}
@@ -34,13 +38,13 @@ use Rattle.vault.proofs.Puts.{name_cause}
 use Rattle.vault.proofs.StripeOrders.{get-order, get-opens, get-fetches, get-works}
 
 -- the table finds what is in effect
-pub found-in : (v : Vault) (d : Devices) (w : State) (name : List ℕ) → Stands v d w → find_file (table_of v).files name ≡ file_in w name
+pub found-in : (v : Desk) (d : Devices) (w : State) (name : List ℕ) → DeskStands v d w → find_file v.core.table.files name ≡ file_in w name
 found-in v d w name stands = ap (λ files. find_file files name) stands.core.table.files ∙ find-files_of w.records name
 
 pub no-such-name : (w : State) (name : List ℕ) → IsTrue (is_name name) → file_in w name ≡ None → first_refusal (name_cause name ∷ causes_of_name w (GetJob name) name) ≡ Some refusal.NoSuchName
 no-such-name w name named none = (let not_there = stored-file w name ∙ ap is_some none in rw (named, not_there) refl)
 
-module _ (v : Vault) (d : Devices) (w : State) (moment : ℕ) (stands : Stands v d w) (name : List ℕ) (file : File) (found : file_in w name ≡ Some file) where
+module _ (v : Desk) (d : Devices) (w : State) (moment : ℕ) (stands : DeskStands v d w) (name : List ℕ) (file : File) (found : file_in w name ≡ Some file) where
   abbrev s : Setup
   s = setup_in w
 
@@ -100,3 +104,23 @@ module _ (v : Vault) (d : Devices) (w : State) (moment : ℕ) (stands : Stands v
 
 pub least : (a b : ℕ) → a ≤ b → min a b ≡ a
 least a b le = omega (arith, le)
+
+-- where its wish is let in, the begin of a get is one of the machine
+pub get-begun : (v new : Desk) (name named : List ℕ) (file : File) (bench : Bench) (t : GetTask)
+    (result : Result ℕ BeginFault) (size number : ℕ) → named ≡ name → IsSpelledKind (GetJob name)
+    → find_file v.core.table.files name ≡ Some file → size ≡ min file.size (2 ^ 22)
+    → IsBenchFor v file.id size bench → number ≡ v.core.next_job → IsNewGet number bench t
+    → ((w : State) (d : Devices) (moment : ℕ) (kind : Kind) → DeskStands v d w
+    → IsKindOf (wish.Get named) kind → IsSpelledKind kind
+    → (begin_refusal 8 w kind ≡ None → IsTask (setup_in w) (new_job w moment kind)
+    (actions_left (setup_in w) (new_job w moment kind)) (task.Get t))
+    → DeskMakesBegin w moment kind result new d)
+    → (w : State) (d : Devices) (moment : ℕ) → DeskStands v d w
+    → DeskMakesBegin w moment (GetJob name) result new d
+get-begun v new name named file bench t result size number same spelled some size_is for_size number_is is_new admits w d moment stands =
+    let found = sym (found-in v d w name stands) ∙ some in
+    let fits = size-fits v d w moment stands name file found in
+    let for_file = subst (λ (k : ℕ). IsBenchFor v file.id k bench) (size_is ∙ least file.size (2 ^ 22) fits) for_size in
+    let next = subst (λ (k : ℕ). IsNewGet k bench t) number_is is_new in
+    admits w d moment (GetJob name) stands (λ i. ToGet (same i)) spelled
+    (λ accepted. get-task v d w moment stands name file found bench t for_file next)

@@ -31,3 +31,6 @@ pub mod AskJoin
 pub mod Carried
 pub mod HeardAt
 pub mod MovedCells
+pub mod AtWork
+pub mod Untold
+pub mod Props

@@ -31,33 +31,33 @@ use Rattle.vault.specs.declared.tasks.Running.{Running}
 use Rattle.vault.specs.declared.turn.Answer.{Answer}
 use Rattle.vault.specs.declared.turn.Turn.{Turn}
 use Rattle.vault.specs.declared.turn.Turn.TheVariants as turn
-use Rattle.vault.specs.declared.vault.Vault.{Vault}
+use Rattle.vault.specs.declared.desk.Desk.{Desk}
 use Rattle.opening_defs.specs.Opened.{AreHanded}
 use Rattle.vault_open.specs.Devices.{devices}
-use Rattle.vault.specs.Devices.{IsSameBeyond}
+use Rattle.vault.specs.Devices.{IsSameBeyond, IsSamePast}
 use Rattle.vault.specs.Outcomes.{machine_answer}
 use Rattle.vault.specs.Running.{place_in, KeepsAll, IsFed, IsStopped}
-use Rattle.vault.specs.Stands.{Stands, IsFlight, IsSamePast, MakesStep, MakesTurn}
+use Rattle.vault.specs.Desks.{DeskStands, IsFlight, DeskMakesStep}
 use Rattle.vault.specs.Tasks.{AreRunning}
 use Rattle.vault_open.proofs.FirstVersion.{FirstStands, images-first}
 use Rattle.vault.proofs.FirstVersion.{whole-core}
 use Rattle.vault.proofs.JobPlaces.{place_is, put_back}
 use Rattle.vault.proofs.Moving.{IsMove, moved_on, move_runs}
-use Rattle.vault.proofs.Stops.{IsAside, is_left, not_gone}
+use Rattle.vault.proofs.Stops.{IsAside, is_left}
 use Rattle.vault.proofs.Ways.{happens_by, shaped_on, working}
 
 -- ---- the state after
 
 -- what a move leaves: the disk and its count, and the append in flight
-pub record IsLeft (v' : Vault) (w new : State) (holds : Option Cells) (count : ℕ) (ps : List Provider) : Type 0 where
+pub record IsLeft (v' : Desk) (w new : State) (holds : Option Cells) (count : ℕ) (ps : List Provider) : Type 0 where
   pub setup : setup_in new ≡ setup_in w
   pub handed : AreHanded ps new
   pub faults : new.disk_faults ≡ count
   pub images : FirstStands holds new
   pub flight : new.is_barred ≡ false → IsFlight v'.flight new.append new.records holds
 
-stands_left : (v v' v2 : Vault) (w new : State) (holds holds' : Option Cells) (faults faults' : ℕ) (ps : List Provider) → Stands v (devices holds faults ps) w → IsLeft v' w new holds' faults' ps
-    → CoreIs v2.core new → KeepsAll v v2 → v2.flight ≡ v'.flight → AreRunning (setup_in w) v2.jobs.items new.jobs → Stands v2 (devices holds' faults' ps) new
+stands_left : (v v' v2 : Desk) (w new : State) (holds holds' : Option Cells) (faults faults' : ℕ) (ps : List Provider) → DeskStands v (devices holds faults ps) w → IsLeft v' w new holds' faults' ps
+    → CoreIs v2.core new → KeepsAll v v2 → v2.flight ≡ v'.flight → AreRunning (setup_in w) v2.jobs.items new.jobs → DeskStands v2 (devices holds' faults' ps) new
 stands_left v v' v2 w new holds holds' faults faults' ps stands left core keeps flight jobs = record {
   devices = record { images = images-first holds' new (whole-core v2.core new core) left.images; faults = left.faults; providers = left.handed };
   core = core;
@@ -73,12 +73,12 @@ set_same (y ∷ ys) zero x is = (let e : y ≡ x = (let f : Some y ≡ Some x = 
 set_same (y ∷ ys) (suc p) x is = ap (λ (l : List _). y ∷ l) (set_same ys p x is)
 
 -- a job goes on behind a move
-pub moves_on : (v v' : Vault) (w new : State) (holds holds' : Option Cells) (faults faults' moment number : ℕ) (ps : List Provider) (action : Action) (subject : ℕ) (older : List ℕ)
-    → Stands v (devices holds faults ps) w → (next : ComesNext w number action None) → IsMove action → (4 ≤ next.job.place → subject ≡ next.job.subject) → Acts w next.job action More new
+pub moves_on : (v v' : Desk) (w new : State) (holds holds' : Option Cells) (faults faults' moment number : ℕ) (ps : List Provider) (action : Action) (subject : ℕ) (older : List ℕ)
+    → DeskStands v (devices holds faults ps) w → (next : ComesNext w number action None) → IsMove action → (4 ≤ next.job.place → subject ≡ next.job.subject) → Acts w next.job action More new
     → new.jobs ≡ with_job w.jobs (moved_on next.job subject older) → v'.jobs.items ≡ v.jobs.items → IsLeft v' w new holds' faults' ps
     → ((a : Append) → new.append ≡ Some a → a.job ≡ number → entry_in v.core number ≡ Some a.entry)
     → IsSameBeyond new (devices holds faults ps) (devices holds' faults' ps) → KeepsAll v v' → IsFed v.core number reply.Done v'.core
-    → MakesStep w moment number turn.More v' (devices holds faults ps) (devices holds' faults' ps)
+    → DeskMakesStep w moment number turn.More v' (devices holds faults ps) (devices holds' faults' ps)
 moves_on v v' w new holds holds' faults faults' moment number ps action subject older stands next move kept acts jobs same left entry beyond keeps fed =
     let f = working v (devices holds faults ps) w number action stands next in
     let j = moved_on next.job subject older in
@@ -100,19 +100,14 @@ moves_on v v' w new holds holds' faults faults' moment number ps action subject 
     }
 
 -- a job ends by a move
-pub moves_end : (v v1 v2 : Vault) (w new : State) (holds holds' : Option Cells) (faults faults' moment number : ℕ) (ps : List Provider) (action : Action) (reply : Reply) (answer : Answer) (result : Option Turn)
-    → Stands v (devices holds faults ps) w → (next : ComesNext w number action None) → Acts w next.job action (Ended (machine_answer answer)) new → new.jobs ≡ without_job w.jobs number
-    → v1.core ≡ v.core → v1.jobs.items ≡ v.jobs.items → KeepsAll v v1 → IsStopped v1 number reply answer result v2 → Tells number reply (Ended (machine_answer answer)) new
+pub moves_end : (v v1 v2 : Desk) (w new : State) (holds holds' : Option Cells) (faults faults' moment number : ℕ) (ps : List Provider) (action : Action) (reply : Reply) (answer : Answer) (t : Turn)
+    → DeskStands v (devices holds faults ps) w → (next : ComesNext w number action None) → Acts w next.job action (Ended (machine_answer answer)) new → new.jobs ≡ without_job w.jobs number
+    → v1.core ≡ v.core → v1.jobs.items ≡ v.jobs.items → KeepsAll v v1 → IsStopped v1 number reply answer t v2 → Tells number reply (Ended (machine_answer answer)) new
     → IsLeft v1 w new holds' faults' ps → new.append ≡ None
     → (Ended (machine_answer answer) ≢ Ended answers.DiskFault → IsSameBeyond new (devices holds faults ps) (devices holds' faults' ps))
     → (Ended (machine_answer answer) ≡ Ended answers.DiskFault → IsSamePast w number (devices holds faults ps) (devices holds' faults' ps))
-    → MakesTurn w moment number result v2 (devices holds faults ps) (devices holds' faults' ps)
-moves_end v v1 v2 w new holds holds' faults faults' moment number ps action reply answer None stands next acts jobs same_core same_jobs keeps stopped tells left none beyond torn =
-    let f = working v (devices holds faults ps) w number action stands next in
-    let at : place_in v.jobs.items number ≡ Some f.place = place_is v.jobs.items number ∙ f.at in
-    let aside : IsAside v v1 f.place f.running f.running = record { core = same_core; jobs = same_jobs ∙ sym (set_same v.jobs.items f.place f.running f.there); number = refl; heard = refl; keeps = keeps } in
-    absurd (not_gone v v1 (devices holds faults ps) w number f.place action f.running f.running stands next at f.there aside v2 reply answer stopped)
-moves_end v v1 v2 w new holds holds' faults faults' moment number ps action reply answer (Some t) stands next acts jobs same_core same_jobs keeps stopped tells left none beyond torn =
+    → DeskMakesStep w moment number t v2 (devices holds faults ps) (devices holds' faults' ps)
+moves_end v v1 v2 w new holds holds' faults faults' moment number ps action reply answer t stands next acts jobs same_core same_jobs keeps stopped tells left none beyond torn =
     let f = working v (devices holds faults ps) w number action stands next in
     let at : place_in v.jobs.items number ≡ Some f.place = place_is v.jobs.items number ∙ f.at in
     let aside : IsAside v v1 f.place f.running f.running = record { core = same_core; jobs = same_jobs ∙ sym (set_same v.jobs.items f.place f.running f.there); number = refl; heard = refl; keeps = keeps } in
@@ -126,7 +121,7 @@ moves_end v v1 v2 w new holds holds' faults faults' moment number ps action repl
       shape = stopped.keeps.shape ∙ keeps.shape;
       profile = stopped.keeps.profile ∙ keeps.profile;
     } in
-    subst (λ (x : Turn). MakesStep w moment number x v2 (devices holds faults ps) (devices holds' faults' ps)) (sym gone.turn_is)
+    subst (λ (x : Turn). DeskMakesStep w moment number x v2 (devices holds faults ps) (devices holds' faults' ps)) (sym gone.turn_is)
     (record {
       state = new;
       happens = happens;

@@ -1,6 +1,5 @@
 -- What a move does to the cells of the disk, by what the core tells of its append.
-use Rattle.std.proofs.Common.{◌≡◌, ℕ, List, [], ◌∷◌, ◌++◌, Option, None, Some, sym, ap, subst, ◌∙◌, arith}
-use Rattle.std.specs.Prelude.{IfSome}
+use Rattle.std.proofs.Common.{◌≡◌, ℕ, ◌-◌, List, [], ◌∷◌, ◌++◌, Option, None, Some, sym, ap, subst, ◌∙◌, arith}
 use Rattle.std.specs.Option.{option_map}
 use Rattle.device_defs.specs.Cells.{Cells}
 use Rattle.device_defs.specs.Providers.{Provider}
@@ -13,45 +12,44 @@ use Rattle.machine_defs.specs.States.{State}
 use Rattle.journal_core.specs.declared.append.Append.{Append}
 use Rattle.journal_core.specs.Appends.{gate_of, body_of, moves_of}
 use Rattle.journal_core.specs.Moves.{cells_after, MayTear}
+use Rattle.vault_core.specs.Coming.{entry_in, next_in}
 use Rattle.vault_core.specs.declared.reply.Reply.{Reply}
 use Rattle.vault.specs.declared.flight.Flight.{Flight}
 use Rattle.vault.specs.declared.turn.Answer.{Answer}
 use Rattle.vault.specs.declared.turn.Turn.{Turn}
-use Rattle.vault.specs.declared.vault.Vault.{Vault}
+use Rattle.vault.specs.declared.desk.Desk.{Desk}
 use Rattle.vault.specs.Calls.{EndsCells, MovesCells, moves_before_next}
 use Rattle.vault_open.specs.Devices.{devices}
 use Rattle.vault.specs.Running.{IsStopped}
-use Rattle.vault.specs.Seen.{coming_of, vault_entry, closed_gate_of}
 use Rattle.vault.specs.Movers.{IsMover}
-use Rattle.vault.specs.Stands.{Stands, Comes}
+use Rattle.vault.specs.Desks.{DeskStands, Comes}
 use Rattle.vault.proofs.FirstVersion.{grammar-core}
 
 -- an append at the closed gate with this record, so many moves of which are made
-pub record IsAppendOf (v : Vault) (n : ℕ) (entry : Record) (a : Append) : Type 0 where
+pub record IsAppendOf (v : Desk) (n : ℕ) (entry : Record) (a : Append) : Type 0 where
   pub moves : moves_of a ≡ n
-  pub gate : gate_of a ≡ closed_gate_of v
+  pub gate : gate_of a ≡ v.core.end - 1
   pub body : body_of a ≡ spelling entry ++ 0 ∷ []
 
-pub cells_on : (v : Vault) (n : ℕ) (entry : Record) (a : Append) (old new : Option Cells) → IsAppendOf v n entry a → new ≡ option_map (cells_after (moves_of a) (gate_of a) (body_of a)) old
-    → new ≡ option_map (cells_after n (closed_gate_of v) (spelling entry ++ 0 ∷ [])) old
+pub cells_on : (v : Desk) (n : ℕ) (entry : Record) (a : Append) (old new : Option Cells) → IsAppendOf v n entry a → new ≡ option_map (cells_after (moves_of a) (gate_of a) (body_of a)) old
+    → new ≡ option_map (cells_after n (v.core.end - 1) (spelling entry ++ 0 ∷ [])) old
 cells_on v n entry a old new of is = is ∙ (λ i. option_map (cells_after (of.moves i) (of.gate i) (of.body i)) old)
 
-pub cells_torn : (v : Vault) (n : ℕ) (entry : Record) (a : Append) (old new : Option Cells) → IsAppendOf v n entry a → Goes (MayTear (moves_of a) (gate_of a) (body_of a)) old new
-    → Goes (MayTear n (closed_gate_of v) (spelling entry ++ 0 ∷ [])) old new
+pub cells_torn : (v : Desk) (n : ℕ) (entry : Record) (a : Append) (old new : Option Cells) → IsAppendOf v n entry a → Goes (MayTear (moves_of a) (gate_of a) (body_of a)) old new
+    → Goes (MayTear n (v.core.end - 1) (spelling entry ++ 0 ∷ [])) old new
 cells_torn v n entry a old new of is =
-    subst (λ (m : ℕ). Goes (MayTear m (closed_gate_of v) (spelling entry ++ 0 ∷ [])) old new) of.moves
+    subst (λ (m : ℕ). Goes (MayTear m (v.core.end - 1) (spelling entry ++ 0 ∷ [])) old new) of.moves
     (subst (λ (g : ℕ). Goes (MayTear (moves_of a) g (spelling entry ++ 0 ∷ [])) old new) of.gate
     (subst (λ (b : List ℕ). Goes (MayTear (moves_of a) (gate_of a) b) old new) of.body is))
 
 -- where a job was ended
-pub cells_stopped : (v1 v2 : Vault) (job n gate : ℕ) (body : List ℕ) (reply : Reply) (answer : Answer) (result : Option Turn) (old new : Option Cells) → IsStopped v1 job reply answer result v2 → EndsCells n gate body answer old new
-    → IfSome result (λ t. MovesCells n gate body t old new)
-cells_stopped v1 v2 job n gate body reply answer None old new stopped ends = tt
-cells_stopped v1 v2 job n gate body reply answer (Some t) old new stopped ends = subst (λ (x : Turn). MovesCells n gate body x old new) (sym stopped.turn_is) ends
+pub cells_stopped : (v1 v2 : Desk) (job n gate : ℕ) (body : List ℕ) (reply : Reply) (answer : Answer) (t : Turn) (old new : Option Cells) → IsStopped v1 job reply answer t v2 → EndsCells n gate body answer old new
+    → MovesCells n gate body t old new
+cells_stopped v1 v2 job n gate body reply answer t old new stopped ends = subst (λ (x : Turn). MovesCells n gate body x old new) (sym stopped.turn_is) ends
 
 -- the append at a move of a job
-pub append_of : (v : Vault) (w : State) (holds : Option Cells) (faults number : ℕ) (ps : List Provider) → Stands v (devices holds faults ps) w → (action : Action) → Comes v.core number action
-    → (f : Flight) → IsMover v w holds number action f → (entry : Record) → vault_entry v number ≡ Some entry → IsAppendOf v (moves_before_next (coming_of v number)) entry f.append
+pub append_of : (v : Desk) (w : State) (holds : Option Cells) (faults number : ℕ) (ps : List Provider) → DeskStands v (devices holds faults ps) w → (action : Action) → Comes v.core number action
+    → (f : Flight) → IsMover v w holds number action f → (entry : Record) → entry_in v.core number ≡ Some entry → IsAppendOf v (moves_before_next (next_in v.core number)) entry f.append
 append_of v w holds faults number ps stands action comes f m entry given =
     let same : m.entry ≡ entry = (let e : Some m.entry ≡ Some entry = sym m.given ∙ given in cc) in
     let size = length-before_gate w.records (grammar-core v.core w stands.core) in

@@ -1,6 +1,8 @@
--- A vault that was just opened.
-use Rattle.std.proofs.Common.{◌≡◌, inl, ℕ, List, Option, Some, None, refl, sym, ap, ◌∙◌, subst}
-use Rattle.std.specs.Prelude.{IfSome}
+-- A desk that was just opened.
+use Rattle.std.proofs.Common.{◌≡◌, ◌<◌, inl, ℕ, List, length, replicate, Option, Some, None, refl, sym, ap, ◌∙◌, subst, arith}
+use Rattle.std.specs.Prelude.{IfSome, slice_get}
+use Rattle.std.proofs.lemmas.List.{length-replicate, get_or-replicate}
+use Rattle.std.proofs.lemmas.Option.{slice_get-get_or}
 use Rattle.device_defs.specs.Cells.{Cells}
 use Rattle.device_defs.specs.Images.{EachImage}
 use Rattle.device_defs.specs.Providers.{Provider}
@@ -20,13 +22,15 @@ use Rattle.vault_open.specs.Stores.{IsStoreOf}
 use Rattle.vault_core.specs.View.{CoreView}
 use Rattle.vault_core.specs.Carried.{CoreIs}
 use Rattle.opening_defs.specs.Journals.{IsRead}
-use Rattle.opening_defs.specs.Opened.{IsJustOpened}
-use Rattle.vault.specs.declared.vault.Vault.{Vault}
-use Rattle.vault.specs.Stands.{Stands, Carries}
-use Rattle.vault.specs.Fresh.{IsFreshVault}
+use Rattle.opening_defs.specs.Opened.{IsJustOpened, IsOpenAtRest}
+use Rattle.opening_defs.proofs.Opened.{opened-over, has-setup, state_with, opened-with}
+use Rattle.vault.specs.declared.desk.Desk.{Desk}
+use Rattle.vault.specs.Desks.{DeskStands, IsAtWork, DeskCarries}
+use Rattle.vault.specs.Fresh.{IsFreshDesk}
+use Rattle.vault.proofs.AtWork.{works}
 use Rattle.vault_open.proofs.FirstVersion.{FirstStands, images-first}
 
-module _ (told now : Option Cells) (rs : List Record) (store : Store) (first : ℕ) (v : Vault) (read : IsRead told rs) (is : IsStoreOf store rs now) (fresh : IsFreshVault v store first) where
+module _ (told now : Option Cells) (rs : List Record) (store : Store) (first : ℕ) (v : Desk) (read : IsRead told rs) (is : IsStoreOf store rs now) (fresh : IsFreshDesk v store first) where
   images : (now : Option Cells) → IfSome now (IsClosed (before_gate rs)) → EachImage now (λ image. StandsFor image rs)
   images None shut = tt
   images (Some cells) shut = closed_images rs (RepairDone 0) read.in_grammar refl cells shut
@@ -35,7 +39,7 @@ module _ (told now : Option Cells) (rs : List Record) (store : Store) (first : �
   shown w None same all = tt
   shown w (Some cells) same all = λ image of. inl (inl (subst (λ (l : List Record). StandsFor image l) (sym same) (all image of)))
 
-  pub carries : Carries v now
+  pub carries : DeskCarries v now
   carries = (
     rs,
     subst (λ (c : CoreView). IsFoldOf rs c.table) (sym fresh.core) is.folds,
@@ -65,7 +69,7 @@ module _ (told now : Option Cells) (rs : List Record) (store : Store) (first : �
       barred = sym j.at_rest.rest.idle.2;
     })
 
-    pub stands : Stands v (devices now faults providers) w
+    pub stands : DeskStands v (devices now faults providers) w
     stands = record {
       devices = record { images = images-first now w j.at_rest.rest.whole (shown w now j.records (images now is.closed)); faults = j.faults_are; providers = j.handed };
       core = core;
@@ -74,3 +78,68 @@ module _ (told now : Option Cells) (rs : List Record) (store : Store) (first : �
       jobs = rw (fresh.jobs, j.at_rest.rest.idle.0) tt;
       flight = (λ unbarred. rw (fresh.flight, j.at_rest.rest.idle.1, j.records) is.closed);
     }
+
+-- ---- there is one
+
+-- jobs may be numbered from any number on
+renumbered : (w : State) (first : ℕ) → IsOpenAtRest w 1 → IsOpenAtRest (record w { next_job = first }) first
+unfolding setup_in
+renumbered w first o = record {
+  rest = record {
+    idle = o.rest.idle;
+    undoubted = o.rest.undoubted;
+    whole = record {
+      journal = o.rest.whole.journal;
+      area = o.rest.whole.area;
+      unswitched = o.rest.whole.unswitched;
+    };
+    accepted = o.rest.accepted;
+    in_grammar = o.rest.in_grammar;
+    room = o.rest.room;
+    files = o.rest.files;
+    set_up = o.rest.set_up;
+    handed = o.rest.handed;
+  };
+  opened = o.opened;
+  next = refl;
+}
+
+abbrev untold : Provider
+untold = record { held = None; store_faults = 0; other_faults = 0; fetches = 0 }
+
+-- a desk that was just opened is at work
+pub fresh_works : (told now : Option Cells) (rs : List Record) (store : Store) (first : ℕ) (v : Desk)
+    → IsRead told rs → IsStoreOf store rs now → IsFreshDesk v store first → IsAtWork v
+fresh_works told now rs store first v read is fresh =
+    works v w 0 ps (stands told None rs store first v read blank fresh 0 w ps (record {
+      at_rest = renumbered opened first rests;
+      records = refl;
+      faults_are = refl;
+      handed = record { count = refl; each = each };
+    }))
+  where
+    n : ℕ
+    n = (setup_or_none (setup_of rs)).n
+
+    ps : List Provider
+    ps = replicate n untold
+
+    opened : State
+    opened = state_with rs 0 (λ j. untold) (length ps)
+
+    w : State
+    w = record opened { next_job = first }
+
+    blank : IsStoreOf store rs None
+    blank = record { folds = is.folds; setup = is.setup; limits = is.limits; end = is.end; closed = tt }
+
+    each : (j : ℕ) → j < length ps → slice_get ps j ≡ Some untold
+    each j below =
+        slice_get-get_or ps j untold below
+        ∙ ap Some (get_or-replicate n j untold untold (omega (arith, below, length-replicate n untold)))
+
+    rests : IsOpenAtRest opened 1
+    rests =
+        opened-over opened rs 0 ps (opened-with rs 0 ps (λ j. untold) read.accepted each)
+        read.accepted read.in_grammar read.room (has-setup rs read.accepted read.some)
+        (omega (arith, length-replicate n untold))

@@ -14,11 +14,11 @@ use Rattle.vault.specs.declared.tasks.Running.{Running}
 use Rattle.vault.specs.declared.tasks.Task.{Task}
 use Rattle.vault.specs.declared.tasks.Task.TheVariants as task
 use Rattle.vault.specs.declared.turn.Turn.TheVariants as turn
-use Rattle.vault.specs.declared.vault.Vault.{Vault}
+use Rattle.vault.specs.declared.desk.Desk.{Desk}
 use Rattle.opening_defs.specs.Opened.{AreHanded}
 use Rattle.vault_open.specs.Devices.{devices}
 use Rattle.vault.specs.Running.{KeepsAll, IsFed}
-use Rattle.vault.specs.Stands.{Stands, Comes, MakesStep}
+use Rattle.vault.specs.Desks.{DeskStands, Comes, DeskMakesStep}
 use Rattle.vault.specs.Tasks.{IsTask, IsRunning}
 use Rattle.vault.proofs.Allowed.{IsAllowed, next_allowed}
 use Rattle.vault.proofs.JobPlaces.{place_is}
@@ -56,7 +56,7 @@ set_same [] p x there = (let e : None ≡ Some x = there in cc)
 set_same (y ∷ ys) zero x there = (let same : y ≡ x = (let e : Some y ≡ Some x = there in cc) in ap (λ (z : _). z ∷ ys) same)
 set_same (y ∷ ys) (suc p) x there = ap (λ (l : List _). y ∷ l) (set_same ys p x there)
 
-module _ (v : Vault) (w : State) (holds : Option Cells) (faults moment number k o : ℕ) (ps : List Provider) (stands : Stands v (devices holds faults ps) w) (comes : Comes v.core number (Remove k o)) where
+module _ (v : Desk) (w : State) (holds : Option Cells) (faults moment number k o : ℕ) (ps : List Provider) (stands : DeskStands v (devices holds faults ps) w) (comes : Comes v.core number (Remove k o)) where
   coming : ComesNext w number (Remove k o) None
   coming = comes.machine w stands.core
 
@@ -65,9 +65,9 @@ module _ (v : Vault) (w : State) (holds : Option Cells) (faults moment number k 
   provider_there = is_handed v (devices holds faults ps) w k stands (within w coming.job k o coming.comes)
 
   -- the removal is a step of the machine
-  pub remove_step : (v' : Vault) (ps' : List Provider) (p q : Provider) → Removes o p q → slice_get ps k ≡ Some p → ps' ≡ slice_set ps k q
+  pub remove_step : (v' : Desk) (ps' : List Provider) (p q : Provider) → Removes o p q → slice_get ps k ≡ Some p → ps' ≡ slice_set ps k q
       → v'.jobs.items ≡ v.jobs.items → KeepsAll v v' → v'.flight ≡ v.flight → IsFed v.core number reply.Done v'.core
-      → MakesStep w moment number turn.More v' (devices holds faults ps) (devices holds faults ps')
+      → DeskMakesStep w moment number turn.More v' (devices holds faults ps) (devices holds faults ps')
   remove_step v' ps' p q removes p_is ps_is jobs keeps flight fed =
       let job = coming.job in
       let f = working v (devices holds faults ps) w number (Remove k o) stands coming in

@@ -9,16 +9,16 @@ use Rattle.machine_defs.specs.States.{State, setup_in}
 use Rattle.state_laws.proofs.Written.{setup-providers}
 use Rattle.vault.specs.declared.bench.Bench.{Bench}
 use Rattle.vault.specs.declared.blocks.Blocks.{Blocks}
-use Rattle.vault.specs.declared.vault.Vault.{Vault}
+use Rattle.vault.specs.declared.desk.Desk.{Desk}
 use Rattle.vault_open.specs.Devices.{Devices}
 use Rattle.vault.specs.Orders.{Between}
-use Rattle.vault.specs.Stands.{Stands}
+use Rattle.vault.specs.Desks.{DeskStands}
 use Rattle.vault.specs.Tasks.{IsRepair}
 use Rattle.vault.specs.Benches.{IsBenchFor}
 use Rattle.vault.proofs.BenchLemmas.{bench-is}
 use Rattle.vault.proofs.StripeOrders.{repair-order}
 
-pub repair-task : (v : Vault) (d : Devices) (w : State) (moment id size : ℕ) (bench : Bench) (blocks : Blocks) → Stands v d w → IsBenchFor v id size bench
+pub repair-task : (v : Desk) (d : Devices) (w : State) (moment id size : ℕ) (bench : Bench) (blocks : Blocks) → DeskStands v d w → IsBenchFor v id size bench
     → blocks.size ≡ bench.keys.file.profile.size → blocks.present.items ≡ [] → blocks.symbols.items ≡ [] → v.setup.n ≤ vec_capacity blocks.present → v.setup.n * blocks.size ≤ vec_capacity blocks.symbols
     → IsRepair (setup_in w) (record { blocks = blocks; bench = bench }) (new_job w moment RepairJob) (actions_left (setup_in w) (new_job w moment RepairJob))
 repair-task v d w moment id size bench blocks stands is size_is present symbols room_present room_symbols =

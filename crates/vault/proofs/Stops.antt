@@ -24,12 +24,12 @@ use Rattle.vault.specs.declared.tasks.Task.TheVariants as task
 use Rattle.vault.specs.declared.turn.Answer.{Answer}
 use Rattle.vault.specs.declared.turn.Turn.{Turn}
 use Rattle.vault.specs.declared.turn.Turn.TheVariants as turn
-use Rattle.vault.specs.declared.vault.Vault.{Vault}
+use Rattle.vault.specs.declared.desk.Desk.{Desk}
 use Rattle.opening_defs.specs.Opened.{AreHanded}
 use Rattle.vault_open.specs.Devices.{Devices, devices}
 use Rattle.vault.specs.Outcomes.{machine_answer}
-use Rattle.vault.specs.Running.{place_in, heard_of, KeepsAll, IsFed, HasStopped, IsStopped}
-use Rattle.vault.specs.Stands.{Stands, MakesStep, MakesTurn}
+use Rattle.vault.specs.Running.{place_in, heard_of, KeepsAll, IsFed, IsStopped}
+use Rattle.vault.specs.Desks.{DeskStands, DeskMakesStep}
 use Rattle.vault.specs.Tasks.{IsTask, IsRunning, AreRunning}
 use Rattle.vault.proofs.JobPlaces.{at_number, place_is, taken_out}
 use Rattle.vault.proofs.Ways.{happens_by, IsQuiet, stands_on, at_place, entry_kept, same_beyond}
@@ -43,6 +43,12 @@ at_set (x ∷ rs) k zero r r' there same =
     let number : r'.number ≡ x.number = same ∙ (let e : Some x ≡ Some r = there in let f : x ≡ r = cc in ap (λ (y : Running). y.number) (sym f)) in
     ap (λ (n : ℕ). cond (n == k) (Some 0) (option_map suc (at_number rs k))) number
 at_set (x ∷ rs) k (suc p) r r' there same = ap (λ (o : Option ℕ). cond (x.number == k) (Some 0) (option_map suc o)) (at_set rs k p r r' there same)
+
+-- it has the same place
+pub place_set : (rs : List Running) (k p : ℕ) (r r' : Running) → place_in rs k ≡ Some p
+    → slice_get rs p ≡ Some r → r'.number ≡ r.number → place_in (slice_set rs p r') k ≡ Some p
+place_set rs k p r r' at there same =
+    place_is (slice_set rs p r') k ∙ at_set rs k p r r' there same ∙ sym (place_is rs k) ∙ at
 
 removed_same : {X : Type 0} (xs : List X) (p : ℕ) (x : X) → remove (slice_set xs p x) p ≡ remove xs p
 removed_same [] p x = refl
@@ -63,7 +69,7 @@ heard_is s r j running = by_task r.task running.task
 -- ---- the step
 
 -- a vault but for what one of its jobs works with
-pub record IsAside (v v' : Vault) (place : ℕ) (r r' : Running) : Type 0 where
+pub record IsAside (v v' : Desk) (place : ℕ) (r r' : Running) : Type 0 where
   pub core : v'.core ≡ v.core
   pub jobs : v'.jobs.items ≡ slice_set v.jobs.items place r'
   pub number : r'.number ≡ r.number
@@ -71,22 +77,24 @@ pub record IsAside (v v' : Vault) (place : ℕ) (r r' : Running) : Type 0 where
   pub keeps : KeepsAll v v'
 
 -- what is left of the jobs, and what the turn tells
-pub record Leaves (v2 : Vault) (w : State) (number : ℕ) (reply : Reply) (answer : Answer) (t : Turn) (core : CoreView) : Type 0 where
+pub record Leaves (v2 : Desk) (w : State) (number : ℕ) (reply : Reply) (answer : Answer) (t : Turn) (core : CoreView) : Type 0 where
   pub heard : List Entry
   pub turn_is : t ≡ turn.Done (record { answer = answer; heard = heard })
   pub heard_is : heard ≡ heard_by (job_of w.jobs number)
   pub jobs : AreRunning (setup_in w) v2.jobs.items (without_job w.jobs number)
   pub fed : IsFed core number reply v2.core
 
-module _ (v v1 : Vault) (d : Devices) (w : State) (number place : ℕ) (action : Action) (r r' : Running) (stands : Stands v d w) (next : ComesNext w number action None)
+module _ (v v1 : Desk) (d : Devices) (w : State) (number place : ℕ) (action : Action) (r r' : Running) (stands : DeskStands v d w) (next : ComesNext w number action None)
     (at : place_in v.jobs.items number ≡ Some place) (there : slice_get v.jobs.items place ≡ Some r) (aside : IsAside v v1 place r r') where
   at_first : at_number v.jobs.items number ≡ Some place
   at_first = sym (place_is v.jobs.items number) ∙ at
 
   at_aside : place_in v1.jobs.items number ≡ Some place
-  at_aside = ap (λ (l : List Running). place_in l number) aside.jobs ∙ place_is (slice_set v.jobs.items place r') number ∙ at_set v.jobs.items number place r r' there aside.number ∙ at_first
+  at_aside =
+      ap (λ (l : List Running). place_in l number) aside.jobs
+      ∙ place_set v.jobs.items number place r r' at there aside.number
 
-  pub is_left : (v2 : Vault) (reply : Reply) (answer : Answer) (t : Turn) → HasStopped v1 number reply answer t v2 → Leaves v2 w number reply answer t v.core
+  pub is_left : (v2 : Desk) (reply : Reply) (answer : Answer) (t : Turn) → IsStopped v1 number reply answer t v2 → Leaves v2 w number reply answer t v.core
   is_left v2 reply answer t stopped =
       let same : stopped.place ≡ place = (let e : Some stopped.place ≡ Some place = sym stopped.found ∙ at_aside in cc) in
       let there' : slice_get v1.jobs.items place ≡ Some r' = ap (λ (l : List Running). slice_get l place) aside.jobs ∙ get-set_there v.jobs.items place r r' there in
@@ -103,22 +111,17 @@ module _ (v v1 : Vault) (d : Devices) (w : State) (number place : ℕ) (action :
         fed = subst (λ (c : CoreView). IsFed c number reply v2.core) aside.core stopped.fed;
       }
 
-  pub not_gone : (v2 : Vault) (reply : Reply) (answer : Answer) → IsStopped v1 number reply answer None v2 → ⊥
-  not_gone v2 reply answer none = (let e : None ≡ Some place = sym none ∙ at_aside in cc)
-
 -- one end is one answer
 same_answer : (a b : answers.Answer) → Ended a ≡ Ended b → a ≡ b
 same_answer a b e = cc
 
 -- a job ends, and another state is left of it alone, and of the providers
-pub ends_by : (v v1 v2 : Vault) (w new : State) (holds : Option Cells) (faults moment number place : ℕ) (ps ps' : List Provider) (action : Action) (r r' : Running) (reply : Reply) (answer : Answer) (result : Option Turn)
-    → Stands v (devices holds faults ps) w → (next : ComesNext w number action None) → Acts w next.job action (Ended (machine_answer answer)) new → IsQuiet w new → new.jobs ≡ without_job w.jobs number
+pub ends_by : (v v1 v2 : Desk) (w new : State) (holds : Option Cells) (faults moment number place : ℕ) (ps ps' : List Provider) (action : Action) (r r' : Running) (reply : Reply) (answer : Answer) (t : Turn)
+    → DeskStands v (devices holds faults ps) w → (next : ComesNext w number action None) → Acts w next.job action (Ended (machine_answer answer)) new → IsQuiet w new → new.jobs ≡ without_job w.jobs number
     → place_in v.jobs.items number ≡ Some place → slice_get v.jobs.items place ≡ Some r → IsAside v v1 place r r' → v1.flight ≡ v.flight
-    → IsStopped v1 number reply answer result v2 → Tells number reply (Ended (machine_answer answer)) new → AreHanded ps' new → (machine_answer answer ≡ answers.DiskFault → ⊥)
-    → MakesTurn w moment number result v2 (devices holds faults ps) (devices holds faults ps')
-ends_by v v1 v2 w new holds faults moment number place ps ps' action r r' reply answer None stands next acts quiet jobs at there aside flight stopped tells handed whole =
-    absurd (not_gone v v1 (devices holds faults ps) w number place action r r' stands next at there aside v2 reply answer stopped)
-ends_by v v1 v2 w new holds faults moment number place ps ps' action r r' reply answer (Some t) stands next acts quiet jobs at there aside flight stopped tells handed whole =
+    → IsStopped v1 number reply answer t v2 → Tells number reply (Ended (machine_answer answer)) new → AreHanded ps' new → (machine_answer answer ≡ answers.DiskFault → ⊥)
+    → DeskMakesStep w moment number t v2 (devices holds faults ps) (devices holds faults ps')
+ends_by v v1 v2 w new holds faults moment number place ps ps' action r r' reply answer t stands next acts quiet jobs at there aside flight stopped tells handed whole =
     let left = is_left v v1 (devices holds faults ps) w number place action r r' stands next at there aside v2 reply answer t stopped in
     let happens = happens_by w new moment number action (Ended (machine_answer answer)) stands.core.is_open stands.core.none_alone next acts in
     let core = left.fed w new (Ended (machine_answer answer)) moment stands.core happens (record { tells = tells; entry = λ a is mine. entry_kept v.core w w.append number stands.core.append a (sym quiet.append ∙ is) mine }) in
@@ -129,7 +132,7 @@ ends_by v v1 v2 w new holds faults moment number place ps ps' action r r' reply 
       shape = stopped.keeps.shape ∙ aside.keeps.shape;
       profile = stopped.keeps.profile ∙ aside.keeps.profile;
     } in
-    subst (λ (x : Turn). MakesStep w moment number x v2 (devices holds faults ps) (devices holds faults ps')) (sym left.turn_is)
+    subst (λ (x : Turn). DeskMakesStep w moment number x v2 (devices holds faults ps) (devices holds faults ps')) (sym left.turn_is)
     (record {
       state = new;
       happens = happens;

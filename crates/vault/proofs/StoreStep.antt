@@ -30,12 +30,12 @@ use Rattle.vault.specs.declared.tasks.Task.TheVariants as task
 use Rattle.vault.specs.declared.turn.Answer.TheVariants as answer
 use Rattle.vault.specs.declared.turn.Turn.{Turn}
 use Rattle.vault.specs.declared.turn.Turn.TheVariants as turn
-use Rattle.vault.specs.declared.vault.Vault.{Vault}
+use Rattle.vault.specs.declared.desk.Desk.{Desk}
 use Rattle.opening_defs.specs.Opened.{AreHanded}
 use Rattle.vault_open.specs.Devices.{devices}
 use Rattle.vault.specs.Orders.{Phase, Between, Fetching, Opened, GoesOn}
 use Rattle.vault.specs.Running.{place_in, heard_of, KeepsAll, IsFed, IsStopped}
-use Rattle.vault.specs.Stands.{Stands, Comes, MakesStep, MakesTurn}
+use Rattle.vault.specs.Desks.{DeskStands, Comes, DeskMakesStep}
 use Rattle.vault.specs.Storing.{turned, stored_block, KeepsTask, IsStorer}
 use Rattle.provider_model.specs.Seen.{StoresAs}
 use Rattle.vault.specs.Tasks.{bench_object, fetched_in, IsBench, IsInWork, IsRepair, IsTask, IsRunning}
@@ -191,7 +191,7 @@ heard_same (task.Get t) u o keeps = absurd keeps
 heard_same task.Drop u o keeps = absurd keeps
 heard_same (task.Audit t) u o keeps = absurd keeps
 
-module _ (v : Vault) (w : State) (holds : Option Cells) (faults moment number k o s : ℕ) (ps : List Provider) (stands : Stands v (devices holds faults ps) w) (comes : Comes v.core number (Store k o s)) where
+module _ (v : Desk) (w : State) (holds : Option Cells) (faults moment number k o s : ℕ) (ps : List Provider) (stands : DeskStands v (devices holds faults ps) w) (comes : Comes v.core number (Store k o s)) where
   coming : ComesNext w number (Store k o s) None
   coming = comes.machine w stands.core
 
@@ -215,8 +215,8 @@ module _ (v : Vault) (w : State) (holds : Option Cells) (faults moment number k 
       seen = (let e : Some p ≡ Some (w.providers k) = sym p_is ∙ stands.devices.providers.each k provider_there in cc)
 
       -- a store that is done is a step of the machine
-      pub store_step : (v' : Vault) → Stores o s (stored_block r.task o k s) p q → v'.jobs.items ≡ slice_set v.jobs.items place r' → KeepsAll v v' → v'.flight ≡ v.flight → IsFed v.core number reply.Done v'.core
-          → MakesStep w moment number turn.More v' (devices holds faults ps) (devices holds faults ps')
+      pub store_step : (v' : Desk) → Stores o s (stored_block r.task o k s) p q → v'.jobs.items ≡ slice_set v.jobs.items place r' → KeepsAll v v' → v'.flight ≡ v.flight → IsFed v.core number reply.Done v'.core
+          → DeskMakesStep w moment number turn.More v' (devices holds faults ps) (devices holds faults ps')
       store_step v' stores jobs keeps_all flight fed =
           let new : State = record (going_on w (advanced coming.job)) { providers = with_provider w.providers k q } in
           let call : Stores o s (block_to_store w coming.job coming.job.kind k o s) (w.providers k) q =
@@ -231,7 +231,7 @@ module _ (v : Vault) (w : State) (holds : Option Cells) (faults moment number k 
           (subst (λ (l : List Provider). AreHanded l new) (sym ps_is) (handed_on ps w new k q stands.devices.providers provider_there refl (λ j. refl)))
           keeps_all flight fed
 
-      module _ (v1 v2 : Vault) (result : Option Turn) (core : v1.core ≡ v.core) (jobs : v1.jobs.items ≡ slice_set v.jobs.items place r') (keeps_all : KeepsAll v v1) (flight : v1.flight ≡ v.flight) where
+      module _ (v1 v2 : Desk) (result : Turn) (core : v1.core ≡ v.core) (jobs : v1.jobs.items ≡ slice_set v.jobs.items place r') (keeps_all : KeepsAll v v1) (flight : v1.flight ≡ v.flight) where
         aside : IsAside v v1 place r r'
         aside = record { core = core; jobs = jobs; number = same_number; heard = heard_same r.task r'.task o keeps; keeps = keeps_all }
 
@@ -244,7 +244,7 @@ module _ (v : Vault) (w : State) (holds : Option Cells) (faults moment number k 
 
         -- a store that failed ends the job
         pub failed_step : FailsToStore p q → IsStopped v1 number reply.Failed (answer.ProviderFault k) result v2
-            → MakesTurn w moment number result v2 (devices holds faults ps) (devices holds faults ps')
+            → DeskMakesStep w moment number result v2 (devices holds faults ps) (devices holds faults ps')
         failed_step fails stopped =
             ends_by v v1 v2 w (record (ended w coming.job) { providers = with_provider w.providers k q }) holds faults moment number place ps ps' (Store k o s) r r' reply.Failed (answer.ProviderFault k) result stands coming
             (refl, (q, subst (λ (x : Provider). FailsToStore x q) seen fails, refl))
@@ -254,7 +254,7 @@ module _ (v : Vault) (w : State) (holds : Option Cells) (faults moment number k 
 
         -- and so does one that found no memory
         pub no_memory_step : FindsNoMemory p q → IsStopped v1 number reply.Memory answer.Memory result v2
-            → MakesTurn w moment number result v2 (devices holds faults ps) (devices holds faults ps')
+            → DeskMakesStep w moment number result v2 (devices holds faults ps) (devices holds faults ps')
         no_memory_step finds stopped =
             ends_by v v1 v2 w (record (ended w coming.job) { providers = with_provider w.providers k q }) holds faults moment number place ps ps' (Store k o s) r r' reply.Memory answer.Memory result stands coming
             (q, subst (λ (x : Provider). FindsNoMemory x q) seen finds, refl)

@@ -23,7 +23,7 @@ use Rattle.vault_core.specs.View.{CoreView}
 use Rattle.opening_defs.specs.Opened.{AreHanded}
 use Rattle.vault_open.specs.Devices.{Devices, devices}
 use Rattle.vault.specs.Devices.{IsSameBeyond, records_in_flight}
-use Rattle.vault.specs.declared.vault.Vault.{Vault}
+use Rattle.vault.specs.declared.desk.Desk.{Desk}
 use Rattle.vault.specs.declared.flight.Flight.{Flight}
 use Rattle.record_codec.specs.declared.setup.Setup.{Setup as SetupValue}
 use Rattle.record_codec.specs.Entries.{with_master}
@@ -36,7 +36,7 @@ use Rattle.vault.specs.declared.tasks.Running.{Running}
 use Rattle.vault_core.specs.Replies.{Tells}
 use Rattle.vault_core.specs.declared.reply.Reply.{Reply}
 use Rattle.vault_core.specs.declared.reply.Reply.TheVariants as reply
-use Rattle.vault.specs.Stands.{Stands, IsFlight, IsShaped, MakesStep}
+use Rattle.vault.specs.Desks.{DeskStands, IsFlight, IsShaped, DeskMakesStep}
 use Rattle.vault.specs.Tasks.{IsRunning, AreRunning}
 use Rattle.vault_open.proofs.FirstVersion.{FirstStands, first-images, images-first}
 use Rattle.vault.proofs.FirstVersion.{whole-core}
@@ -114,7 +114,7 @@ pub record IsQuiet (w new : State) : Type 0 where
   pub faults : new.disk_faults ≡ w.disk_faults
   pub barred : new.is_barred ≡ w.is_barred
 
-pub shaped_on : (v v' : Vault) → KeepsAll v v' → IsShaped v → IsShaped v'
+pub shaped_on : (v v' : Desk) → KeepsAll v v' → IsShaped v → IsShaped v'
 shaped_on v v' keeps is = record {
   n = ap (λ (s : ShapeValue). s.n) keeps.shape ∙ is.n ∙ sym (ap (λ (s : SetupValue). s.n) keeps.setup);
   l = ap (λ (s : ShapeValue). s.l) keeps.shape ∙ is.l ∙ sym (ap (λ (s : SetupValue). s.l) keeps.setup);
@@ -122,8 +122,8 @@ shaped_on v v' keeps is = record {
   profile = ap plain_profile keeps.profile ∙ is.profile ∙ ap (λ (s : SetupValue). profile_of s.profile) (sym keeps.setup);
 }
 
-pub stands_on : (v v' : Vault) (w new : State) (holds : Option Cells) (faults : ℕ) (ps ps' : List Provider) → Stands v (devices holds faults ps) w → IsQuiet w new → AreHanded ps' new
-    → CoreIs v'.core new → KeepsAll v v' → v'.flight ≡ v.flight → AreRunning (setup_in w) v'.jobs.items new.jobs → Stands v' (devices holds faults ps') new
+pub stands_on : (v v' : Desk) (w new : State) (holds : Option Cells) (faults : ℕ) (ps ps' : List Provider) → DeskStands v (devices holds faults ps) w → IsQuiet w new → AreHanded ps' new
+    → CoreIs v'.core new → KeepsAll v v' → v'.flight ≡ v.flight → AreRunning (setup_in w) v'.jobs.items new.jobs → DeskStands v' (devices holds faults ps') new
 stands_on v v' w new holds faults ps ps' stands quiet handed core keeps flight jobs = record {
   devices = record {
     images = images-first holds new (whole-core v'.core new core) (images_on holds w new quiet.records quiet.doubt (first-images holds w (whole-core v.core w stands.core) stands.devices.images));
@@ -154,11 +154,11 @@ pub same_beyond : (w : State) (holds : Option Cells) (faults : ℕ) (ps ps' : Li
 same_beyond w holds faults ps ps' = goes_still (text_size (records_in_flight w.records w.append)) holds holds refl
 
 -- a job goes on, and another state is left of it alone, and of the providers
-pub goes_told : (v v' : Vault) (w new : State) (holds : Option Cells) (faults moment number place : ℕ) (ps ps' : List Provider) (action : Action) (r : Running) (j : Job) (answer : Reply)
-    → Stands v (devices holds faults ps) w → (next : ComesNext w number action None) → Acts w next.job action More new → IsQuiet w new → new.jobs ≡ with_job w.jobs j
+pub goes_told : (v v' : Desk) (w new : State) (holds : Option Cells) (faults moment number place : ℕ) (ps ps' : List Provider) (action : Action) (r : Running) (j : Job) (answer : Reply)
+    → DeskStands v (devices holds faults ps) w → (next : ComesNext w number action None) → Acts w next.job action More new → IsQuiet w new → new.jobs ≡ with_job w.jobs j
     → j.number ≡ next.job.number → IsRunning (setup_in w) r j → place_in v.jobs.items number ≡ Some place → v'.jobs.items ≡ slice_set v.jobs.items place r
     → AreHanded ps' new → KeepsAll v v' → v'.flight ≡ v.flight → IsFed v.core number answer v'.core → Tells number answer More new
-    → MakesStep w moment number turn.More v' (devices holds faults ps) (devices holds faults ps')
+    → DeskMakesStep w moment number turn.More v' (devices holds faults ps) (devices holds faults ps')
 goes_told v v' w new holds faults moment number place ps ps' action r j answer stands next acts quiet jobs numbered running at jobs' handed keeps flight fed tells =
     let happens = happens_by w new moment number action More stands.core.is_open stands.core.none_alone next acts in
     let mine : j.number ≡ number = numbered ∙ number_of w.jobs number next.job next.runs in
@@ -177,28 +177,28 @@ goes_told v v' w new holds faults moment number place ps ps' action r j answer s
     }
 
 -- the same, where all that came of it is that it was done
-pub goes_on : (v v' : Vault) (w new : State) (holds : Option Cells) (faults moment number place : ℕ) (ps ps' : List Provider) (action : Action) (r : Running) (j : Job)
-    → Stands v (devices holds faults ps) w → (next : ComesNext w number action None) → Acts w next.job action More new → IsQuiet w new → new.jobs ≡ with_job w.jobs j
+pub goes_on : (v v' : Desk) (w new : State) (holds : Option Cells) (faults moment number place : ℕ) (ps ps' : List Provider) (action : Action) (r : Running) (j : Job)
+    → DeskStands v (devices holds faults ps) w → (next : ComesNext w number action None) → Acts w next.job action More new → IsQuiet w new → new.jobs ≡ with_job w.jobs j
     → j.number ≡ next.job.number → IsRunning (setup_in w) r j → place_in v.jobs.items number ≡ Some place → v'.jobs.items ≡ slice_set v.jobs.items place r
     → AreHanded ps' new → KeepsAll v v' → v'.flight ≡ v.flight → IsFed v.core number reply.Done v'.core
-    → MakesStep w moment number turn.More v' (devices holds faults ps) (devices holds faults ps')
+    → DeskMakesStep w moment number turn.More v' (devices holds faults ps) (devices holds faults ps')
 goes_on v v' w new holds faults moment number place ps ps' action r j stands next acts quiet jobs numbered running at jobs' handed keeps flight fed =
     goes_told v v' w new holds faults moment number place ps ps' action r j reply.Done stands next acts quiet jobs numbered running at jobs' handed keeps flight fed tt
 
 -- ---- what a job works with
 
 -- the job of a next action has its place
-pub working : (v : Vault) (d : Devices) (w : State) (number : ℕ) (action : Action) → Stands v d w → (next : ComesNext w number action None) → Found (setup_in w) v.jobs.items number next.job
+pub working : (v : Desk) (d : Devices) (w : State) (number : ℕ) (action : Action) → DeskStands v d w → (next : ComesNext w number action None) → Found (setup_in w) v.jobs.items number next.job
 working v d w number action stands next = found (setup_in w) v.jobs.items w.jobs number next.job stands.jobs next.runs
 
-pub no_place : (v : Vault) (d : Devices) (w : State) (number : ℕ) (action : Action) → Stands v d w → ComesNext w number action None → place_in v.jobs.items number ≡ None → ⊥
+pub no_place : (v : Desk) (d : Devices) (w : State) (number : ℕ) (action : Action) → DeskStands v d w → ComesNext w number action None → place_in v.jobs.items number ≡ None → ⊥
 no_place v d w number action stands next none =
     let f = working v d w number action stands next in
     let e : None ≡ Some f.place = sym none ∙ place_is v.jobs.items number ∙ f.at in
     absurd cc
 
 -- what stands at its place
-pub at_place : (v : Vault) (d : Devices) (w : State) (number place : ℕ) (action : Action) (r : Running) → Stands v d w → (next : ComesNext w number action None)
+pub at_place : (v : Desk) (d : Devices) (w : State) (number place : ℕ) (action : Action) (r : Running) → DeskStands v d w → (next : ComesNext w number action None)
     → place_in v.jobs.items number ≡ Some place → slice_get v.jobs.items place ≡ Some r → IsRunning (setup_in w) r next.job
 at_place v d w number place action r stands next at there =
     let f = working v d w number action stands next in
@@ -207,7 +207,7 @@ at_place v d w number place action r stands next at there =
     subst (λ (x : Running). IsRunning (setup_in w) x next.job) one f.is
 
 -- a provider of the setup is handed in
-pub is_handed : (v : Vault) (d : Devices) (w : State) (k : ℕ) → Stands v d w → k < (setup_in w).n → k < length d.providers
+pub is_handed : (v : Desk) (d : Devices) (w : State) (k : ℕ) → DeskStands v d w → k < (setup_in w).n → k < length d.providers
 is_handed v d w k stands below =
     let handed : (setup_in w).n ≤ w.handed = stands.core.sound.handed stands.core.is_open in
     omega (arith, below, handed, stands.devices.providers.count)

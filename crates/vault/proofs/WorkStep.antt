@@ -31,13 +31,13 @@ use Rattle.vault.specs.declared.tasks.Task.TheVariants as task
 use Rattle.vault.specs.declared.turn.Answer.TheVariants as answer
 use Rattle.vault.specs.declared.turn.Turn.{Turn}
 use Rattle.vault.specs.declared.turn.Turn.TheVariants as turn
-use Rattle.vault.specs.declared.vault.Vault.{Vault}
+use Rattle.vault.specs.declared.desk.Desk.{Desk}
 use Rattle.vault_open.specs.Devices.{Devices}
 use Rattle.vault.specs.Heard.{fetched_entries, blocks_in}
 use Rattle.vault.specs.Opening.{work_blocks, OpensRows, LosesWork, TakesWork, KeepsHeard, WorksAs, CanWork}
 use Rattle.vault.specs.Orders.{Opened, fetches_left, works_left, is_fetch, is_work}
 use Rattle.vault.specs.Running.{place_in, heard_of, KeepsAll, IsFed, IsStopped}
-use Rattle.vault.specs.Stands.{Stands, Comes, MakesStep, MakesTurn}
+use Rattle.vault.specs.Desks.{DeskStands, Comes, DeskMakesStep}
 use Rattle.vault.specs.Tasks.{bench_object, IsGet, IsRepair, IsTask, IsRunning, HasFetched}
 use Rattle.vault.proofs.FirstVersion.{plain-core, worked-plain}
 use Rattle.vault.proofs.Allowed.{IsAllowed, next_allowed}
@@ -280,7 +280,7 @@ heard_same (task.Put t) u keeps = absurd keeps
 heard_same task.Drop u keeps = absurd keeps
 heard_same (task.Audit t) u keeps = absurd keeps
 
-module _ (v : Vault) (w : State) (d : Devices) (moment number o s : ℕ) (stands : Stands v d w) (comes : Comes v.core number (Work o s)) where
+module _ (v : Desk) (w : State) (d : Devices) (moment number o s : ℕ) (stands : DeskStands v d w) (comes : Comes v.core number (Work o s)) where
   coming : ComesNext w number (Work o s) None
   coming = comes.machine w stands.core
 
@@ -297,8 +297,8 @@ module _ (v : Vault) (w : State) (d : Devices) (moment number o s : ℕ) (stands
 
     module _ (r' : Running) (same_number : r'.number ≡ r.number) where
       -- work that is done is a step of the machine
-      pub work_step : (v' : Vault) (result : Result Unit RowLost) (x : Unit) → result ≡ Ok x → WorksAs r.task r'.task o s result → v'.jobs.items ≡ slice_set v.jobs.items place r' → KeepsAll v v' → v'.flight ≡ v.flight → IsFed v.core number reply.Done v'.core
-          → MakesStep w moment number turn.More v' d d
+      pub work_step : (v' : Desk) (result : Result Unit RowLost) (x : Unit) → result ≡ Ok x → WorksAs r.task r'.task o s result → v'.jobs.items ≡ slice_set v.jobs.items place r' → KeepsAll v v' → v'.flight ≡ v.flight → IsFed v.core number reply.Done v'.core
+          → DeskMakesStep w moment number turn.More v' d d
       work_step v' result x is works jobs keeps_all flight fed =
           let done : OpensRows r.task r'.task o s × TakesWork r.task r'.task o = subst (λ (y : Result Unit RowLost). WorksAs r.task r'.task o s y) is works in
           let rows = rows_of w coming.job o s coming.comes plain_job r'.task in
@@ -313,9 +313,9 @@ module _ (v : Vault) (w : State) (d : Devices) (moment number o s : ℕ) (stands
           keeps_all flight fed
 
       -- a row that is lost ends the job
-      pub lost_step : (v1 v2 : Vault) (turn : Option Turn) (row : ℕ) (result : Result Unit RowLost) (lost : RowLost) → result ≡ Err lost → row ≡ lost.row → WorksAs r.task r'.task o s result
+      pub lost_step : (v1 v2 : Desk) (turn : Turn) (row : ℕ) (result : Result Unit RowLost) (lost : RowLost) → result ≡ Err lost → row ≡ lost.row → WorksAs r.task r'.task o s result
           → v1.core ≡ v.core → v1.jobs.items ≡ slice_set v.jobs.items place r' → KeepsAll v v1 → v1.flight ≡ v.flight
-          → IsStopped v1 number (reply.Lost row) (answer.Lost s row) turn v2 → MakesTurn w moment number turn v2 d d
+          → IsStopped v1 number (reply.Lost row) (answer.Lost s row) turn v2 → DeskMakesStep w moment number turn v2 d d
       lost_step v1 v2 turn row result lost is row_is works core jobs keeps_all flight stopped =
           let loss : LosesWork r.task o s lost.row × KeepsHeard r.task r'.task = subst (λ (y : Result Unit RowLost). WorksAs r.task r'.task o s y) is works in
           let new : State = ended w coming.job in

@@ -13,11 +13,12 @@
 --                                          both, where there has to be
 --   Asked, MayAsk               == the same of what a job works with
 --   sums_on t                   == the sums of an audit so far
---   TellsAsk is_last n t reply  == the reply to an ask: a verdict to the last, with the sums of what the
+--   TellsAsk is_last t reply    == the reply to an ask: a verdict to the last, with the sums of what the
 --                                  audit works with
+--   IsAuditing t                == an audit works with it
 --   MayTell n t                 == its counts are padded, and those of so many providers
 --   MayPut v job object         == there is such a file, which has rows
-use Rattle.std.specs.Prelude.{◌≡◌, ℕ, ◌+◌, ◌-◌, ◌*◌, ◌≤◌, ◌<◌, ◌^◌, ◌==◌, Bool, true, false, List, [], ◌∷◌, ◌++◌, length, drop, Option, None, Some, vec_len, vec_capacity, nat_lt, position, slice_get}
+use Rattle.std.specs.Prelude.{◌≡◌, ℕ, ◌+◌, ◌-◌, ◌*◌, ◌≤◌, ◌<◌, ◌^◌, ◌==◌, Bool, true, false, List, [], ◌∷◌, ◌++◌, length, drop, Option, None, Some, IfSome, vec_len, vec_capacity, nat_lt, position, slice_get}
 use Rattle.std.specs.List.{list_all}
 use Rattle.std.specs.Option.{option_map}
 use Rattle.column_defs.specs.Challenges.{Challenge, challenge_of}
@@ -37,7 +38,7 @@ use Rattle.vault.specs.declared.heard.Answers.{Answers}
 use Rattle.vault.specs.declared.tasks.AuditTask.{AuditTask}
 use Rattle.vault.specs.declared.tasks.Task.{Task}
 use Rattle.vault.specs.declared.tasks.Task.TheVariants as task
-use Rattle.vault.specs.declared.vault.Vault.{Vault}
+use Rattle.vault.specs.declared.desk.Desk.{Desk}
 
 -- the length of the file at a place
 abbrev pub length_at : List Pinned → Option ℕ → Option ℕ
@@ -63,7 +64,7 @@ IsAuditNumber None number = ⊥
 IsAuditNumber (Some j) number = number ≡ j.subject
 
 -- the file, the audit's number, the round and the picks of an ask
-pub record IsQuestion (v : Vault) (job object round : ℕ) (q : Question) : Type 0 where
+pub record IsQuestion (v : Desk) (job object round : ℕ) (q : Question) : Type 0 where
   pub id_is : q.file.id ≡ object
   pub shape_is : q.file.shape ≡ v.shape
   pub profile_is : q.file.profile ≡ v.profile
@@ -107,6 +108,7 @@ ask_put q k = record { provider = k; object = q.file.id; round = q.round }
 -- one answer more was heard, and nothing else changed
 pub record HasHeard (q : Question) (k : ℕ) (old new : AuditTask) (symbol : Option ℕ) : Type 0 where
   pub heard : GrowsAnswers old.heard new.heard (ask_put q k) symbol
+  pub number : IfSome symbol (λ s. s < 2 ^ 128)
   pub counts : new.counts ≡ old.counts
   pub undecided : new.undecided ≡ old.undecided
 
@@ -151,11 +153,16 @@ MayAsk n k (task.Audit t) = CanAsk n k t
 MayAsk n k t = ⊥
 
 -- the reply to an ask: a verdict to the last, with the sums of what the audit works with
-abbrev pub TellsAsk : Bool → ℕ → Task → Reply → Type 0
-TellsAsk true n (task.Audit t) (reply.Verdict undecided counts) =
-    (undecided ≡ t.undecided) × (counts ≡ t.counts) × (counts.n ≡ n) × IsPadded counts
-TellsAsk false n t reply.Done = Unit {0}
-TellsAsk is_last n t r = ⊥
+abbrev pub TellsAsk : Bool → Task → Reply → Type 0
+TellsAsk true (task.Audit t) (reply.Verdict undecided counts) =
+    (undecided ≡ t.undecided) × (counts ≡ t.counts)
+TellsAsk false t reply.Done = Unit {0}
+TellsAsk is_last t r = ⊥
+
+-- an audit works with it
+abbrev pub IsAuditing : Task → Type 0
+IsAuditing (task.Audit t) = Unit {0}
+IsAuditing t = ⊥
 
 -- an audit whose counts are padded, of so many providers
 abbrev pub MayTell : ℕ → Task → Type 0
@@ -163,7 +170,7 @@ MayTell n (task.Audit t) = (t.counts.n ≡ n) × IsPadded t.counts
 MayTell n t = ⊥
 
 -- an object of the shape and the profile of a vault
-abbrev pub vault_object : Vault → ℕ → Object
+abbrev pub vault_object : Desk → ℕ → Object
 vault_object v object =
     record {
       shape = record { n = v.shape.n; l = v.shape.l; b = v.shape.b };
@@ -173,7 +180,7 @@ vault_object v object =
     }
 
 -- an ask can be put: there is such a file, which has rows
-pub record MayPut (v : Vault) (job object : ℕ) : Type 0 where
+pub record MayPut (v : Desk) (job object : ℕ) : Type 0 where
   pub size : ℕ
   pub length_is : length_in v.core job object ≡ Some size
   pub few : size ≤ 2 ^ 22

@@ -5,10 +5,10 @@ use Rattle.vault.specs.declared.tasks.AuditTask.{AuditTask}
 use Rattle.vault.specs.declared.tasks.GetTask.{GetTask}
 use Rattle.vault.specs.Tasks.{bench_object}
 use Rattle.vault.specs.declared.bench.Bench.{Bench}
-use Rattle.vault.specs.declared.vault.Vault.{Vault}
+use Rattle.vault.specs.declared.desk.Desk.{Desk}
 
 -- a bench for a file of this number and length
-pub record IsBenchFor (v : Vault) (id size : ℕ) (bench : Bench) : Type 0 where
+pub record IsBenchFor (v : Desk) (id size : ℕ) (bench : Bench) : Type 0 where
   pub master : bench.keys.master ≡ v.master
   pub id_is : bench.keys.file.id ≡ id
   pub length_is : bench.keys.file.length ≡ size

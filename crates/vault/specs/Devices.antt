@@ -3,7 +3,13 @@
 --   devices_seen D P disk providers == the devices, of a disk and providers by the members of their traits
 --                                      taken whole
 --   IsSameBeyond w d e == what the disk reads past the text with the record in flight is as before
-use Rattle.std.specs.Prelude.{List, ◌∷◌, Option, Some, None, map}
+--   IsSamePast w job d e == past the text with the record that a job's append writes the disk reads as
+--                           before
+--   cells_by is_told told, sight is_told P p, devices_by is_told D P disk providers == what is seen of a
+--                           disk's cells, a provider and the devices, or the same with no content told
+use Rattle.std.specs.Prelude.{◌≡◌, ℕ, Bool, true, false, List, ◌∷◌, Option, Some, None, map}
+use Rattle.device_defs.specs.Cells.{Cells}
+use Rattle.device_defs.specs.Providers.{Provider}
 use Rattle.disk_model.specs.declared.disk.Disk.{Ghosts as DiskGhosts}
 use Rattle.provider_model.specs.declared.provider.Provider.{Ghosts as ProviderGhosts}
 use Rattle.provider_model.specs.Seen.{provider_seen}
@@ -12,6 +18,7 @@ use Rattle.record_defs.specs.Records.{Record}
 use Rattle.record_defs.specs.Journal.{text_size}
 use Rattle.machine_defs.specs.States.{State, Append}
 use Rattle.journal_core.specs.Moves.{SameFrom}
+use Rattle.vault_core.specs.Carried.{IsWriting}
 use Rattle.vault_open.specs.Devices.{Devices, devices}
 
 -- the devices, by the members of their traits
@@ -27,3 +34,30 @@ records_in_flight rs (Some flight) = flight.entry ∷ rs
 abbrev pub IsSameBeyond : State → Devices → Devices → Type 0
 IsSameBeyond w old new =
     Goes (SameFrom (text_size (records_in_flight w.records w.append))) old.holds new.holds
+
+-- past the text of the records in effect, with the one that the job was appending, the disk reads as
+-- before; where an append was in flight, it is its record
+pub record IsSamePast (w : State) (job : ℕ) (old new : Devices) : Type 0 where
+  pub entry : Record
+  pub writing : IsWriting w job entry
+  pub in_flight : (a : Append) → w.append ≡ Some a → a.entry ≡ entry
+  pub same : Goes (SameFrom (text_size (entry ∷ w.records))) old.holds new.holds
+
+-- the cells of a disk, or none told
+abbrev pub cells_by : Bool → Option Cells → Option Cells
+cells_by true told = told
+cells_by false told = None
+
+-- a provider, or the same with nothing told of what it holds
+abbrev pub provider_by : Bool → Provider → Provider
+provider_by true p = p
+provider_by false p = record p { held = None }
+
+-- what is seen of a provider, with its content or without
+abbrev pub sight : {X : Type 0} → Bool → ProviderGhosts X → X → Provider
+sight is_told P p = provider_by is_told (provider_seen P p)
+
+-- the devices, with their content or without
+abbrev pub devices_by : {W X : Type 0} → Bool → DiskGhosts W → ProviderGhosts X → W → List X → Devices
+devices_by is_told D P disk providers =
+    devices (cells_by is_told (D.holds disk)) (D.faults disk) (map (sight is_told P) providers)

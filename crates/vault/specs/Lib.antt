@@ -12,6 +12,7 @@ pub mod Opening
 pub mod Seen
 pub mod Flights
 pub mod Running
+pub mod Desks
 pub mod Stands
 pub mod Movers
 pub mod Calls

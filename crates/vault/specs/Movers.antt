@@ -16,8 +16,8 @@ use Rattle.vault_core.specs.Carried.{IsWriting}
 use Rattle.vault_core.specs.Coming.{is_move, entry_in}
 use Rattle.vault_core.specs.View.{CoreView}
 use Rattle.vault.specs.declared.flight.Flight.{Flight}
-use Rattle.vault.specs.declared.vault.Vault.{Vault}
-use Rattle.vault.specs.Stands.{Comes}
+use Rattle.vault.specs.declared.desk.Desk.{Desk}
+use Rattle.vault.specs.Desks.{Comes}
 
 -- a move of the job's append comes next
 pub record ComesMove (c : CoreView) (job : ℕ) : Type 0 where
@@ -36,7 +36,7 @@ pub record IsUnbegun (c : CoreView) (job : ℕ) (f : Flight) : Type 0 where
 
 -- an append that is at this move of the job: its moves so far are made, and it brings the record that the job
 -- writes, which is that of the append in flight, if there is one
-pub record IsMover (v : Vault) (w : State) (told : Option Cells) (job : ℕ) (action : Action) (f : Flight)
+pub record IsMover (v : Desk) (w : State) (told : Option Cells) (job : ℕ) (action : Action) (f : Flight)
     : Type 0 where
   pub entry : Record
   pub given : entry_in v.core job ≡ Some entry

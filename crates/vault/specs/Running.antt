@@ -1,4 +1,4 @@
--- The running jobs of a vault, and the end of one of them.
+-- The running jobs of a desk, and the end of one of them.
 --
 --   place_in jobs number    == the place of the job of a number; None where there is none
 --   RunsIn c job              == a job of this number runs
@@ -6,7 +6,9 @@
 --   IsFed old job reply new == the core was given a reply
 --   KeepsAll old new        == nothing but the core, the running jobs and the append in flight may have
 --                              changed
---   HasStopped, IsStopped   == a job was ended with an answer
+--   IsSameDesk old new      == the same jobs with what they work with, the same core, the same append;
+--                              spare room does not count
+--   IsStopped old job reply answer t new == a job was ended with an answer
 use Rattle.std.specs.Prelude.{◌≡◌, ℕ, ◌==◌, true, List, [], Option, Some, None, is_some, slice_get, position}
 use Rattle.std.specs.List.{remove}
 use Rattle.machine_defs.specs.Events.{Outcome, Step}
@@ -23,7 +25,7 @@ use Rattle.vault.specs.declared.tasks.Task.TheVariants as task
 use Rattle.vault.specs.declared.turn.Answer.{Answer}
 use Rattle.vault.specs.declared.turn.Turn.{Turn}
 use Rattle.vault.specs.declared.turn.Turn.TheVariants as turn
-use Rattle.vault.specs.declared.vault.Vault.{Vault}
+use Rattle.vault.specs.declared.desk.Desk.{Desk}
 use Rattle.vault.specs.Heard.{fetched_entries, answered_entries, blocks_in}
 
 -- the place of the job of a number
@@ -47,15 +49,23 @@ IsFed old job reply new =
     → IsReplyTo old job reply outcome n → CoreIs new n
 
 -- nothing but the core, the running jobs and the append in flight may have changed
-pub record KeepsAll (old new : Vault) : Type 0 where
+pub record KeepsAll (old new : Desk) : Type 0 where
   pub setup : new.setup ≡ old.setup
   pub master : new.master ≡ old.master
   pub shape : new.shape ≡ old.shape
   pub profile : new.profile ≡ old.profile
 
+-- nothing changed but spare room
+pub record IsSameDesk (old new : Desk) : Type 0 where
+  pub core : new.core ≡ old.core
+  pub setup : new.setup ≡ old.setup
+  pub master : new.master ≡ old.master
+  pub flight : new.flight ≡ old.flight
+  pub jobs : new.jobs.items ≡ old.jobs.items
+
 -- a job was ended with an answer
-pub record HasStopped (old : Vault) (job : ℕ) (reply : Reply) (answer : Answer) (t : Turn)
-    (new : Vault) : Type 0 where
+pub record IsStopped (old : Desk) (job : ℕ) (reply : Reply) (answer : Answer) (t : Turn)
+    (new : Desk) : Type 0 where
   pub place : ℕ
   pub running : Running
   pub found : place_in old.jobs.items job ≡ Some place
@@ -65,8 +75,3 @@ pub record HasStopped (old : Vault) (job : ℕ) (reply : Reply) (answer : Answer
   pub flight : new.flight ≡ old.flight
   pub fed : IsFed old.core job reply new.core
   pub keeps : KeepsAll old new
-
--- a job was ended with an answer, where it runs
-abbrev pub IsStopped : Vault → ℕ → Reply → Answer → Option Turn → Vault → Type 0
-IsStopped old job reply answer None new = place_in old.jobs.items job ≡ None
-IsStopped old job reply answer (Some t) new = HasStopped old job reply answer t new

@@ -11,16 +11,16 @@ ghost use Rattle.machine_defs.specs.States.{State, setup_in};
 ghost use Rattle.vault_core.specs.Carried.{CoreIs, IsKindOf, refusal_of};
 ghost use Rattle.vault_core.specs.Wished.{IsShort};
 ghost use Rattle.vault_open.specs.Devices.{Devices};
-ghost use Rattle.vault.specs.Seen.{next_job_of, IsUnchanged};
-ghost use Rattle.vault.specs.Stands.{Stands, MakesBegin};
+ghost use Rattle.vault.specs.Running.{IsSameDesk};
+ghost use Rattle.vault.specs.Desks.{DeskStands, DeskMakesBegin};
 ghost use Rattle.vault.specs.Tasks.{IsTask};
 
+use crate::desk::Desk;
 use crate::tasks::{Running, Task};
-use crate::vault::Vault;
 use record_codec::Name;
 use vault_core::{BeginFault, Wish};
 
-impl Vault {
+impl Desk {
     /// The name of these bytes, or why a put, a get or a drop of it does not begin.
     pub(crate) fn checked_name(&self, name: &[u8]) -> Result<Name, BeginFault>
         ensures named { IfOk result (λ n. n ≡ name.now) }
@@ -49,15 +49,15 @@ impl Vault {
     /// Takes a job in with what it works with, where its begin is accepted. Conditions: a number is left for the job, and a
     /// put has at most 2^22 bytes.
     pub(crate) fn admit(&mut self, wish: Wish, task: Task) -> Result<u32, BeginFault>
-        requires number { next_job_of self.old < 2 ^ 32 - 1 }
+        requires number { self.old.core.next_job < 2 ^ 32 - 1 }
         requires size { IsShort wish }
-        ensures machine { (w : State) (d : Devices) (moment : ℕ) (kind : Kind) → Stands self.old d w
+        ensures machine { (w : State) (d : Devices) (moment : ℕ) (kind : Kind) → DeskStands self.old d w
             → IsKindOf wish kind → IsSpelledKind kind
             → (begin_refusal 8 w kind ≡ None
             → IsTask (setup_in w) (new_job w moment kind)
             (actions_left (setup_in w) (new_job w moment kind)) task)
-            → MakesBegin w moment kind result self.new d }
-        ensures unchanged { OnErr result (IsUnchanged self.old self.new) }
+            → DeskMakesBegin w moment kind result self.new d }
+        ensures unchanged { OnErr result (IsSameDesk self.old self.new) }
     {
         if self.jobs.reserve(1).is_err() {
             return Err(BeginFault::Memory);

@@ -1,5 +1,4 @@
-ghost use Rattle.std.specs.Prelude.{◌≡◌, ◌≢◌, slice_get, ◌≤◌, ◌<◌, ◌^◌, ◌↔◌, ◌*◌, ℕ, List, Option, Some, length, drop, map, All, slice_index, replicate, nat_lt, position, ◌==◌, IfSome, IsSome, OnSome, IsTrue};
-ghost use Rattle.std.specs.List.{list_all};
+ghost use Rattle.std.specs.Prelude.{◌≡◌, ◌≢◌, ◌<◌, ◌≤◌, ◌^◌, ◌==◌, ℕ, Bool, List, Option, Some, length, map, slice_get, position, IfSome, IsSome};
 ghost use Rattle.column_defs.specs.Challenges.{honest_answer};
 ghost use Rattle.device_defs.specs.Cells.{Cells};
 ghost use Rattle.device_defs.specs.Faults.{one_more};
@@ -7,24 +6,22 @@ ghost use Rattle.device_defs.specs.ProviderCalls.{Asks};
 ghost use Rattle.machine_defs.specs.Actions.{Ask as AskAction};
 ghost use Rattle.machine_defs.specs.States.{State};
 ghost use Rattle.challenge.specs.Asked.{asked};
-ghost use Rattle.record_codec.specs.Entries.{IsPadded};
-ghost use Rattle.vault_core.specs.declared.pinned.Pinned.{Pinned as PinnedValue};
-ghost use Rattle.vault.specs.Asking.{length_among, length_in, IsQuestion, challenge_put, HasHeard, HasJudged, TakesAsk, HasRoomForAsk, CanJudge, CanAsk, Asked, MayAsk, TellsAsk, MayTell, MayPut};
-ghost use Rattle.vault.specs.Calls.{CalledOnce};
-ghost use Rattle.vault.specs.Running.{RunsIn};
-ghost use Rattle.vault_open.specs.Devices.{devices};
 ghost use Rattle.provider_model.specs.Seen.{provider_seen};
-ghost use Rattle.vault.specs.Stands.{Stands, Comes, MakesTurn};
+ghost use Rattle.vault_core.specs.Coming.{core_left};
+ghost use Rattle.vault_core.specs.declared.pinned.Pinned.{Pinned as PinnedValue};
+ghost use Rattle.vault_open.specs.Devices.{devices};
+ghost use Rattle.vault.specs.Asking.{length_among, length_in, IsQuestion, challenge_put, Asked, MayAsk, TellsAsk, IsAuditing, MayPut};
+ghost use Rattle.vault.specs.Calls.{CalledOnce};
+ghost use Rattle.vault.specs.Desks.{DeskStands, IsAtWork, Comes, DeskMakesStep};
+ghost use Rattle.vault.specs.Devices.{sight};
+ghost use Rattle.vault.specs.Running.{RunsIn};
 ghost use Rattle.vault.specs.declared.turn.Turn.TheVariants as turn;
-ghost use Rattle.vault.specs.Outcomes.{IfEnded, IsNoAction, HasPaddedCounts};
-ghost use Rattle.vault.specs.Seen.{left_of};
 
-use crate::end::place_of;
+use crate::desk::Desk;
 use crate::heard::Ask;
 use crate::question::Question;
 use crate::tasks::{AuditTask, Task};
 use crate::turn::Turn;
-use crate::vault::Vault;
 use audit_verdict::{judge_round, round_challenge};
 use challenge::Challenge;
 use file_layout::FileShape;
@@ -33,14 +30,7 @@ use hail_field::laws::symbol_is_number;
 use hail_poly::Work;
 use key_schedule::Master;
 use provider_model::Provider;
-use record_codec::Counts;
 use vault_core::{Pinned, Reply};
-
-/// The longest file, in bytes.
-const LARGEST: u32 = 4_194_304;
-
-/// A counter below this has room for one more.
-const LIMIT: u32 = 2_147_483_648;
 
 /// The place of the file of an object number among these.
 fn place_among(pinned: &[Pinned], object: u64) -> Option<usize>
@@ -49,19 +39,22 @@ fn place_among(pinned: &[Pinned], object: u64) -> Option<usize>
     pinned.iter().position(|file| file.id == object)
 }
 
-/// The length of the file of an object number among these.
-fn length_of(pinned: &[Pinned], object: u64) -> Option<u32>
-    ensures { result ≡ length_among pinned.now object }
+/// The length of the file of an object number among these, where it is.
+fn length_of(pinned: &[Pinned], object: u64) -> u32
+    requires { IsSome (length_among pinned.now object) }
+    ensures { length_among pinned.now object ≡ Some result }
 {
-    let place = place_among(pinned, object)?;
-    let file = pinned.get(place)?;
-    Some(file.length)
+    match place_among(pinned, object) {
+        Some(place) => pinned[place].length,
+        None => unreachable!(),
+    }
 }
 
 /// Asks a provider. One that fails gives no answer.
 fn ask_provider<P: Provider>(from: &mut P, object: u64, challenge: &Challenge) -> Option<Symbol>
     ensures asked { Asks (honest_answer (asked challenge.now)) object (provider_seen P.Provider from.old)
         result (provider_seen P.Provider from.new) }
+    ensures number { IfSome result (λ symbol. symbol < 2 ^ 128) }
     ensures called { P.calls from.new ≡ one_more (P.calls from.old) }
 {
     let answer = from.ask(object, challenge);
@@ -75,64 +68,28 @@ fn ask_provider<P: Provider>(from: &mut P, object: u64, challenge: &Challenge) -
     }
 }
 
-/// Whether each counter has room for one more.
-fn are_small(counts: &Counts) -> bool
-    ensures { result ≡ list_all (λ count. nat_lt count (2 ^ 31)) counts.now.by }
-{
-    counts.by.iter().all(|count| *count < LIMIT)
-}
-
-/// Whether all of these are zeros.
-fn are_zeros(counts: &[u32]) -> bool
-    ensures { result ≡ list_all (λ count. count == 0) counts.now }
-{
-    counts.iter().all(|count| *count == 0)
-}
-
-/// Whether all of these from a place on are zeros.
-fn are_zeros_from(counts: &[u32], from: usize) -> bool
-    requires { from ≤ length counts.now }
-    ensures { result ≡ list_all (λ count. count == 0) (drop from counts.now) }
-{
-    are_zeros(&counts[from..])
-}
-
-/// Whether there are at most 16 counts, and zeros behind them.
-fn is_padded(counts: &Counts) -> bool
-    ensures { IsTrue result ↔ IsPadded counts.now }
-{
-    let n = usize::from(counts.n);
-    if n > 16 {
-        return false;
-    }
-    are_zeros_from(&counts.by, n)
-}
-
 impl AuditTask {
-    ghost use Rattle.std.specs.Prelude.{◌≡◌, ◌≤◌, ◌↔◌, ◌+◌, ◌<◌, ◌^◌, ◌*◌, ℕ, Option, OnSome, IfSome, IsSome, All, length, slice_index};
+    ghost use Rattle.std.specs.Prelude.{◌≡◌, ◌≤◌, ℕ, Option};
     ghost use Rattle.column_defs.specs.Challenges.{honest_answer};
     ghost use Rattle.device_defs.specs.Faults.{one_more};
     ghost use Rattle.device_defs.specs.ProviderCalls.{Asks};
     ghost use Rattle.vault.specs.Asking.{challenge_put, HasHeard, HasJudged, TakesAsk, HasRoomForAsk, CanJudge, CanAsk};
 
-    /// Asks a provider, and keeps its answer. It takes no memory where there is room.
+    /// Asks a provider, and keeps its answer, for which there is room.
     fn hear<P: Provider>(
         &mut self,
         master: &Master,
         question: &Question,
         provider: u32,
         from: &mut P,
-    ) -> Option<()>
-        ensures heard { OnSome result
-            ((symbol : Option ℕ) × HasHeard question.now provider self.old self.new symbol
+    )
+        requires { HasRoomForAsk self.old.heard }
+        ensures heard { (symbol : Option ℕ) × HasHeard question.now provider self.old self.new symbol
             × Asks (honest_answer (challenge_put master.now.0 question.now)) question.now.file.id
             (provider_seen P.Provider from.old)
-            symbol (provider_seen P.Provider from.new)) }
-        ensures called { OnSome result (P.calls from.new ≡ one_more (P.calls from.old)) }
-        ensures room { HasRoomForAsk self.old.heard → IsSome result }
+            symbol (provider_seen P.Provider from.new) }
+        ensures called { P.calls from.new ≡ one_more (P.calls from.old) }
     {
-        self.heard.asks.reserve(1).ok()?;
-        self.heard.symbols.reserve(1).ok()?;
         let question = *question;
         let object = question.file.id;
         let round = question.round;
@@ -150,24 +107,19 @@ impl AuditTask {
             round,
         });
         self.heard.symbols.push_reserved(symbol);
-        Some(())
     }
 
-    /// Judges the round of the last answers, one of each provider; None where there are no such, or a counter is full.
-    fn judge(&mut self, master: &Master, question: &Question, work: &mut Work) -> Option<()>
-        requires { 16 ≤ work.old.size }
-        ensures judged { OnSome result (HasJudged master.now.0 question.now self.old self.new) }
-        ensures there { CanJudge question.now.file.shape.n self.old → IsSome result }
+    /// Judges the round of the last answers, one of each provider.
+    fn judge(&mut self, master: &Master, question: &Question, work: &mut Work)
+        requires size { 16 ≤ work.old.size }
+        requires there { CanJudge question.now.file.shape.n self.old }
+        ensures judged { HasJudged master.now.0 question.now self.old self.new }
         ensures room { work.new.size ≡ work.old.size }
     {
         let question = *question;
-        let n = question.file.shape.n;
-        let start = self.heard.symbols.len().checked_sub(usize::from(n))?;
+        let start = self.heard.symbols.len() - usize::from(question.file.shape.n);
         let mut counts = self.counts;
         let mut undecided = self.undecided;
-        if counts.n != n || undecided >= LIMIT || !are_small(&counts) {
-            return None;
-        }
         judge_round(
             master,
             &question.file,
@@ -181,7 +133,6 @@ impl AuditTask {
         );
         self.counts = counts;
         self.undecided = undecided;
-        Some(())
     }
 
     /// Asks a provider, and judges the round where it is the last one.
@@ -192,28 +143,27 @@ impl AuditTask {
         provider: u32,
         from: &mut P,
         work: &mut Work,
-    ) -> Option<()>
-        requires { 16 ≤ work.old.size }
-        ensures asked { OnSome result
-            ((symbol : Option ℕ) × TakesAsk master.now.0 question.now provider self.old self.new symbol
+    )
+        requires size { 16 ≤ work.old.size }
+        requires there { CanAsk question.now.file.shape.n provider self.old }
+        ensures asked { (symbol : Option ℕ)
+            × TakesAsk master.now.0 question.now provider self.old self.new symbol
             × Asks (honest_answer (challenge_put master.now.0 question.now)) question.now.file.id
             (provider_seen P.Provider from.old)
-            symbol (provider_seen P.Provider from.new)) }
-        ensures called { OnSome result (P.calls from.new ≡ one_more (P.calls from.old)) }
-        ensures there { CanAsk question.now.file.shape.n provider self.old → IsSome result }
+            symbol (provider_seen P.Provider from.new) }
+        ensures called { P.calls from.new ≡ one_more (P.calls from.old) }
         ensures room { work.new.size ≡ work.old.size }
     {
-        self.hear(master, question, provider, from)?;
+        self.hear(master, question, provider, from);
         if u64::from(provider) + 1 != u64::from(question.file.shape.n) {
-            return Some(());
+            return;
         }
-        self.judge(master, question, work)?;
-        Some(())
+        self.judge(master, question, work);
     }
 }
 
 impl Task {
-    /// Makes an ask of an audit; None where there is nothing to ask for.
+    /// Makes an ask of an audit.
     fn ask<P: Provider>(
         &mut self,
         master: &Master,
@@ -221,49 +171,47 @@ impl Task {
         provider: u32,
         from: &mut P,
         work: &mut Work,
-    ) -> Option<()>
-        requires { 16 ≤ work.old.size }
-        ensures asked { OnSome result
-            ((symbol : Option ℕ) × Asked master.now.0 question.now provider self.old self.new symbol
+    )
+        requires size { 16 ≤ work.old.size }
+        requires there { MayAsk question.now.file.shape.n provider self.old }
+        ensures asked { (symbol : Option ℕ)
+            × Asked master.now.0 question.now provider self.old self.new symbol
             × Asks (honest_answer (challenge_put master.now.0 question.now)) question.now.file.id
             (provider_seen P.Provider from.old)
-            symbol (provider_seen P.Provider from.new)) }
-        ensures called { OnSome result (P.calls from.new ≡ one_more (P.calls from.old)) }
-        ensures there { MayAsk question.now.file.shape.n provider self.old → IsSome result }
+            symbol (provider_seen P.Provider from.new) }
+        ensures called { P.calls from.new ≡ one_more (P.calls from.old) }
         ensures room { work.new.size ≡ work.old.size }
     {
         match self {
             Task::Audit(audit) => audit.ask(master, question, provider, from, work),
-            _ => None,
+            Task::Put(_) | Task::Get(_) | Task::Drop | Task::Repair(_) => unreachable!(),
         }
     }
 
-    /// The reply to an ask, which was the last one or not; None where a last one has no verdict for so many providers.
-    fn reply(&self, is_last: bool, n: u8) -> Option<Reply>
-        ensures told { IfSome result (TellsAsk is_last n self.now) }
-        ensures there { (IsTrue is_last → MayTell n self.now) → IsSome result }
+    /// The reply to an ask of an audit, which was the last one or not: to the last one its verdict.
+    fn reply(&self, is_last: bool) -> Reply
+        requires { IsAuditing self.now }
+        ensures { TellsAsk is_last self.now result }
     {
         if !is_last {
-            return Some(Reply::Done);
+            return Reply::Done;
         }
-        let Task::Audit(audit) = self else {
-            return None;
-        };
-        if audit.counts.n != n || !is_padded(&audit.counts) {
-            return None;
+        match self {
+            Task::Audit(audit) => Reply::Verdict {
+                undecided: audit.undecided,
+                counts: audit.counts,
+            },
+            Task::Put(_) | Task::Get(_) | Task::Drop | Task::Repair(_) => unreachable!(),
         }
-        Some(Reply::Verdict {
-            undecided: audit.undecided,
-            counts: audit.counts,
-        })
     }
 }
 
-impl Vault {
+impl Desk {
     /// The length of a file that a running job works on.
-    fn length_in(&self, job: u32, object: u64) -> Option<u32>
-        requires { RunsIn self.now.core job }
-        ensures { result ≡ length_in self.now.core job object }
+    fn length_in(&self, job: u32, object: u64) -> u32
+        requires runs { RunsIn self.now.core job }
+        requires there { IsSome (length_in self.now.core job object) }
+        ensures { length_in self.now.core job object ≡ Some result }
     {
         match self.core.pinned(job) {
             Some(pinned) => length_of(pinned, object),
@@ -271,60 +219,53 @@ impl Vault {
         }
     }
 
-    /// What an ask of a running audit is for; None where there is no such.
-    fn question(&self, job: u32, object: u64, round: u32) -> Option<Question>
-        requires { RunsIn self.now.core job }
-        ensures is { IfSome result (IsQuestion self.now job object round) }
-        ensures there { MayPut self.now job object → IsSome result }
+    /// What an ask of a running audit is for.
+    fn question(&self, job: u32, object: u64, round: u32) -> Question
+        requires runs { RunsIn self.now.core job }
+        requires there { ∥ MayPut self.now job object ∥₁ }
+        ensures { IsQuestion self.now job object round result }
     {
-        let length = self.length_in(job, object)?;
+        let length = self.length_in(job, object);
         let number = self.subject_of(job);
         let picks = u32::from(self.setup.picks);
-        if length > LARGEST {
-            return None;
-        }
-        let file = FileShape {
-            id: object,
-            length,
-            shape: self.shape,
-            profile: self.profile,
-        };
-        if file.rows() < 1 {
-            return None;
-        }
-        Some(Question {
-            file,
+        Question {
+            file: FileShape {
+                id: object,
+                length,
+                shape: self.shape,
+                profile: self.profile,
+            },
             number,
             round,
             picks,
-        })
+        }
     }
 
     /// Asks a provider for its answer in a round, and judges the round where it is the last one. A provider that fails gives none.
-    pub(crate) fn ask<P: Provider>(
+    pub fn ask<P: Provider>(
         &mut self,
         job: u32,
         provider: u32,
         object: u64,
         round: u32,
         providers: &mut [P],
-    ) -> Option<Turn>
+    ) -> Turn
         requires next { Comes self.old.core job (AskAction provider object round) }
         requires there { provider < length providers.old }
-        ensures machine { (w : State) (moment : ℕ) (holds : Option Cells) (faults : ℕ)
-            → Stands self.old (devices holds faults (map (provider_seen P.Provider) providers.old)) w
-            → MakesTurn w moment job result self.new
-            (devices holds faults (map (provider_seen P.Provider) providers.old))
-            (devices holds faults (map (provider_seen P.Provider) providers.new)) }
+        requires at_work { IsAtWork self.old }
+        ensures machine { (w : State) (moment : ℕ) (holds : Option Cells) (faults : ℕ) (is_told : Bool)
+            → DeskStands self.old (devices holds faults (map (sight is_told P.Provider) providers.old)) w
+            → DeskMakesStep w moment job result self.new
+            (devices holds faults (map (sight is_told P.Provider) providers.old))
+            (devices holds faults (map (sight is_told P.Provider) providers.new)) }
         ensures count { length providers.new ≡ length providers.old }
         ensures others { (k : ℕ) → k ≢ provider → slice_get providers.new k ≡ slice_get providers.old k }
-        ensures left { result ≡ Some turn.More → left_of self.new job < left_of self.old job }
-        ensures padded { IfSome result (λ turn. IfEnded turn (λ ended. HasPaddedCounts ended.answer)) }
-        ensures acted { IfSome result (λ turn. IsNoAction turn → ⊥) }
-        ensures called { OnSome result (CalledOnce P.calls provider providers.old providers.new) }
+        ensures left { core_left self.new.core job < core_left self.old.core job }
+        ensures more { result ≡ turn.More }
+        ensures called { CalledOnce P.calls provider providers.old providers.new }
     {
-        let question = self.question(job, object, round)?;
-        let place = place_of(&self.jobs, job)?;
+        let question = self.question(job, object, round);
+        let place = self.place_of(job);
         let index = provider as usize;
         let task = &mut self.jobs[place].task;
         task.ask(
@@ -333,10 +274,10 @@ impl Vault {
             provider,
             &mut providers[index],
             &mut self.codec.work,
-        )?;
+        );
         let is_last = self.core.is_last_ask(job);
-        let reply = task.reply(is_last, self.core.setup().0.n)?;
+        let reply = task.reply(is_last);
         self.core.feed(job, reply);
-        Some(Turn::More)
+        Turn::More
     }
 }

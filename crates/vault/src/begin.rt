@@ -26,13 +26,13 @@ impl Vault {
             → MakesBegin w moment (PutJob name.now bytes) result self.new d }
         ensures unchanged { OnErr result (IsUnchanged self.old self.new) }
     {
-        let name = self.checked_name(name)?;
+        let name = self.desk.checked_name(name)?;
         bytes_are_bytes(bytes.as_slice());
         let length = bytes.as_slice().len();
         if length > LARGEST_FILE {
             return Err(BeginFault::TooLong);
         }
-        let bench = self.bench_for(0, length as u32)?;
+        let bench = self.desk.bench_for(0, length as u32)?;
         let wish = Wish::Put {
             name,
             length: length as u32,
@@ -42,7 +42,7 @@ impl Vault {
             bench,
             at_hand: None,
         };
-        self.admit(wish, Task::Put(task))
+        self.desk.admit(wish, Task::Put(task))
     }
 
     /// Begins to get the file of a name. No step of it takes memory.
@@ -52,13 +52,13 @@ impl Vault {
             → MakesBegin w moment (GetJob name.now) result self.new d }
         ensures unchanged { OnErr result (IsUnchanged self.old self.new) }
     {
-        let name = self.checked_name(name)?;
-        let Some(file) = self.core.table().find(&name) else {
+        let name = self.desk.checked_name(name)?;
+        let Some(file) = self.desk.core.table().find(&name) else {
             return Err(BeginFault::NoSuchName);
         };
-        let bench = self.bench_for(file.id, file.length.min(LARGEST_FILE as u32))?;
-        match GetTask::new(self.alloc, self.core.next_job(), bench) {
-            Ok(task) => self.admit(Wish::Get { name }, Task::Get(task)),
+        let bench = self.desk.bench_for(file.id, file.length.min(LARGEST_FILE as u32))?;
+        match GetTask::new(self.desk.alloc, self.desk.core.next_job(), bench) {
+            Ok(task) => self.desk.admit(Wish::Get { name }, Task::Get(task)),
             Err(_) => Err(BeginFault::Memory),
         }
     }
@@ -70,8 +70,8 @@ impl Vault {
             → MakesBegin w moment (DropJob name.now) result self.new d }
         ensures unchanged { OnErr result (IsUnchanged self.old self.new) }
     {
-        let name = self.checked_name(name)?;
-        self.admit(Wish::Drop { name }, Task::Drop)
+        let name = self.desk.checked_name(name)?;
+        self.desk.admit(Wish::Drop { name }, Task::Drop)
     }
 
     /// Begins to audit all files in effect.
@@ -81,11 +81,11 @@ impl Vault {
             → MakesBegin w moment AuditJob result self.new d }
         ensures unchanged { OnErr result (IsUnchanged self.old self.new) }
     {
-        let files = self.core.table().count().min(MOST_FILES);
-        let n = self.setup.n;
-        let asks = files * (usize::from(self.setup.rounds) * usize::from(n));
-        match AuditTask::new(self.alloc, self.core.next_job(), n, asks) {
-            Ok(task) => self.admit(Wish::Audit, Task::Audit(task)),
+        let files = self.desk.core.table().count().min(MOST_FILES);
+        let n = self.desk.setup.n;
+        let asks = files * (usize::from(self.desk.setup.rounds) * usize::from(n));
+        match AuditTask::new(self.desk.alloc, self.desk.core.next_job(), n, asks) {
+            Ok(task) => self.desk.admit(Wish::Audit, Task::Audit(task)),
             Err(_) => Err(BeginFault::Memory),
         }
     }
@@ -98,10 +98,10 @@ impl Vault {
             → MakesBegin w moment RepairJob result self.new d }
         ensures unchanged { OnErr result (IsUnchanged self.old self.new) }
     {
-        let bench = self.bench_for(0, LARGEST_FILE as u32)?;
+        let bench = self.desk.bench_for(0, LARGEST_FILE as u32)?;
         let size = bench.keys.file.profile.size as usize;
-        match Blocks::with_room(self.alloc, usize::from(self.setup.n), size) {
-            Ok(blocks) => self.admit(Wish::Repair, Task::Repair(RepairTask { blocks, bench })),
+        match Blocks::with_room(self.desk.alloc, usize::from(self.desk.setup.n), size) {
+            Ok(blocks) => self.desk.admit(Wish::Repair, Task::Repair(RepairTask { blocks, bench })),
             Err(_) => Err(BeginFault::Memory),
         }
     }

@@ -26,7 +26,7 @@ pub struct Bench {
 }
 
 impl Bench {
-    ghost use Rattle.std.specs.Prelude.{◌≡◌, ◌<◌, ◌*◌, ◌↔◌, length, IsSome, OnSome, OnOk, OnErr, IfErr, IfSome, IsTrue};
+    ghost use Rattle.std.specs.Prelude.{◌≡◌, ◌<◌, ◌*◌, length};
     ghost use Rattle.column_defs.specs.Columns.{column_of_symbols};
     ghost use Rattle.column_defs.specs.Objects.{symbols_in};
     ghost use Rattle.file_layout.specs.Files.{shaped_object};
@@ -53,28 +53,22 @@ impl Bench {
         self.keys.symbols_into(stripe, bytes, &mut self.rows);
     }
 
-    /// Makes a provider's block of the stripe whose symbols are at hand; false where there is no such provider.
-    pub fn make_column(&mut self, stripe: u32, provider: u32) -> bool
-        ensures there { IsTrue result ↔ (provider < self.old.keys.file.shape.n) }
+    /// Makes a provider's block of the stripe whose symbols are at hand.
+    pub fn make_column(&mut self, stripe: u32, provider: u32)
+        requires { provider < self.old.keys.file.shape.n }
         ensures keys { self.new.keys ≡ self.old.keys }
         ensures rows { self.new.rows ≡ self.old.rows }
-        ensures column { IsTrue result
-            → self.new.column.items ≡ column_of_symbols (bench_object self.old) self.old.rows.items provider
-            stripe }
+        ensures column { self.new.column.items
+            ≡ column_of_symbols (bench_object self.old) self.old.rows.items provider stripe }
     {
-        let provider = provider as usize;
-        if provider >= usize::from(self.keys.file.shape.n) {
-            return false;
-        }
         self.keys.column_into(
             &self.code,
             stripe,
             &self.rows,
-            provider,
+            provider as usize,
             &mut self.masks,
             &mut self.column,
         );
-        true
     }
 
     /// Opens a stripe: the symbols at hand are then its own.

@@ -4,7 +4,7 @@ ghost use Rattle.vault_core.specs.declared.wish.BeginFault.TheVariants as fault;
 ghost use Rattle.vault.specs.Benches.{IsBenchFor};
 
 use crate::bench::Bench;
-use crate::vault::Vault;
+use crate::desk::Desk;
 use column_codec::{Block, MasksAtHand, ObjectKeys, Trust};
 use file_layout::FileShape;
 use hail_field::{Memory, Symbol};
@@ -78,7 +78,7 @@ fn made(alloc: Global, master: &Master, file: &FileShape) -> Result<Bench, Memor
     Bench::new(alloc, keys)
 }
 
-impl Vault {
+impl Desk {
     /// A bench for a file of this number and length.
     pub(crate) fn bench_for(&self, id: u64, length: u32) -> Result<Bench, BeginFault>
         requires { length ≤ 2 ^ 22 }

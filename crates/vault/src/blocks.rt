@@ -1,4 +1,4 @@
-ghost use Rattle.std.specs.Prelude.{◌≡◌, ◌+◌, ◌≤◌, ◌++◌, ℕ, Bool, List, Some, None, length, take, drop, replicate, IsOk, OnOk, vec_len, vec_capacity, if◌then◌else◌};
+ghost use Rattle.std.specs.Prelude.{◌≡◌, ◌+◌, ◌<◌, ◌≤◌, ◌^◌, ◌++◌, ℕ, All, Bool, List, Some, None, length, take, drop, replicate, vec_len, vec_capacity, if◌then◌else◌};
 ghost use Rattle.device_defs.specs.Faults.{one_more};
 ghost use Rattle.device_defs.specs.ProviderCalls.{Fetches};
 ghost use Rattle.provider_model.specs.Seen.{provider_seen};
@@ -6,7 +6,6 @@ ghost use Rattle.provider_model.specs.Seen.{provider_seen};
 use hail_field::Symbol;
 use hail_field::laws::symbols_are_numbers;
 use provider_model::Provider;
-use stream_model::Memory;
 
 /// Blocks that were fetched, one after the other, each with whether the provider gave it.
 #[derive(Drop)]
@@ -32,6 +31,7 @@ fn fetch_into<P: Provider>(
     ensures front { take start all.new ≡ take start all.old }
     ensures fetched { Fetches (length (drop start all.old)) object stripe (provider_seen P.Provider from.old)
         (if result then Some (drop start all.new) else None) (provider_seen P.Provider from.new) }
+    ensures numbers { All (λ symbol. symbol < 2 ^ 128) (drop start all.new) }
     ensures called { P.calls from.new ≡ one_more (P.calls from.old) }
 {
     let out = &mut all[start..];
@@ -43,40 +43,31 @@ fn fetch_into<P: Provider>(
     found
 }
 
-/// Puts so many zeros at the end.
-fn push_zeros(symbols: &mut Vec<Symbol>, count: usize) -> Result<(), Memory>
-    ensures ok { OnOk result (symbols.new.items ≡ symbols.old.items ++ replicate count 0) }
+/// Puts so many zeros at the end, for which there is room.
+fn push_zeros(symbols: &mut Vec<Symbol>, count: usize)
+    requires { vec_len symbols.old + count ≤ vec_capacity symbols.old }
+    ensures zeros { symbols.new.items ≡ symbols.old.items ++ replicate count 0 }
     ensures capacity { vec_capacity symbols.old ≤ vec_capacity symbols.new }
-    ensures fits { vec_len symbols.old + count ≤ vec_capacity symbols.old → IsOk result }
 {
-    symbols.reserve(count)?;
     for _ in 0..count {
         symbols.push_reserved(Symbol::ZERO);
     }
-    Ok(())
 }
 
 impl Blocks {
     ghost use Rattle.vault.specs.Blocks.{given_of, Grows, HasRoom};
 
-    /// Fetches one block more. It takes no memory where there is room for the block.
-    pub fn fetch<P: Provider>(
-        &mut self,
-        from: &mut P,
-        object: u64,
-        stripe: u32,
-    ) -> Result<(), Memory>
-        ensures fetched { OnOk result ((found : Bool) × (block : List ℕ) × Grows self.old self.new found block
+    /// Fetches one block more, for which there is room.
+    pub fn fetch<P: Provider>(&mut self, from: &mut P, object: u64, stripe: u32)
+        requires { HasRoom self.old }
+        ensures fetched { (found : Bool) × (block : List ℕ) × Grows self.old self.new found block
             × Fetches self.old.size object stripe (provider_seen P.Provider from.old)
-            (given_of found block) (provider_seen P.Provider from.new)) }
-        ensures called { OnOk result (P.calls from.new ≡ one_more (P.calls from.old)) }
-        ensures room { HasRoom self.old → IsOk result }
+            (given_of found block) (provider_seen P.Provider from.new) }
+        ensures called { P.calls from.new ≡ one_more (P.calls from.old) }
     {
-        self.present.reserve(1)?;
         let start = self.symbols.len();
-        push_zeros(&mut self.symbols, self.size)?;
+        push_zeros(&mut self.symbols, self.size);
         let found = fetch_into(from, object, stripe, &mut self.symbols, start);
         self.present.push_reserved(found);
-        Ok(())
     }
 }

@@ -1,29 +1,28 @@
-ghost use Rattle.std.specs.Prelude.{◌≡◌, ◌<◌, ℕ, [], Some, IfSome};
+ghost use Rattle.std.specs.Prelude.{◌≡◌, ◌<◌, ℕ, [], Some, IsSome};
 ghost use Rattle.machine_defs.specs.Actions.{End};
 ghost use Rattle.machine_defs.specs.States.{State};
 ghost use Rattle.std.specs.Option.{option_map};
 ghost use Rattle.column_defs.specs.Verdicts.{Sums};
 ghost use Rattle.record_codec.specs.Entries.{counted, IsPadded};
-ghost use Rattle.vault_core.specs.Coming.{TakesReply};
+ghost use Rattle.vault_core.specs.Coming.{TakesReply, core_left};
 ghost use Rattle.vault_core.specs.View.{job_in, CoreJob};
 ghost use Rattle.vault_open.specs.Devices.{Devices};
+ghost use Rattle.vault.specs.Desks.{DeskStands, IsAtWork, Comes, DeskMakesStep};
 ghost use Rattle.vault.specs.Ending.{answer_at_end};
 ghost use Rattle.vault.specs.Outcomes.{IfEnded, IsNoAction, HasPaddedCounts};
 ghost use Rattle.vault.specs.Running.{place_in, heard_of, IsStopped, RunsIn};
-ghost use Rattle.vault.specs.Seen.{left_of};
-ghost use Rattle.vault.specs.Stands.{Stands, Comes, MakesTurn};
 ghost use Rattle.vault.specs.declared.turn.Turn.TheVariants as turn;
 
+use crate::desk::Desk;
 use crate::heard::{HeardList, Parts};
 use crate::tasks::{GetTask, Running, Task};
 use crate::turn::{Answer, Ended, Turn};
-use crate::vault::Vault;
 use record_codec::Counts;
 use stream_model::Bytes;
 use vault_core::Reply;
 
-/// The place of a job among the running ones.
-pub(crate) fn place_of(jobs: &[Running], job: u32) -> Option<usize>
+/// The place of a job among these.
+fn find_place(jobs: &[Running], job: u32) -> Option<usize>
     ensures { result ≡ place_in jobs.now job }
 {
     jobs.iter().position(|running| running.number == job)
@@ -108,9 +107,20 @@ impl Task {
     }
 }
 
-impl Vault {
+impl Desk {
+    /// The place of a job among those that the desk works on.
+    pub fn place_of(&self, job: u32) -> usize
+        requires { IsSome (place_in self.now.jobs.items job) }
+        ensures { place_in self.now.jobs.items job ≡ Some result }
+    {
+        match find_place(&self.jobs, job) {
+            Some(place) => place,
+            None => unreachable!(),
+        }
+    }
+
     /// The object number of a running put, or the number of an audit or a repair; 0 until it is drawn.
-    pub(crate) fn subject_of(&self, job: u32) -> u64
+    pub fn subject_of(&self, job: u32) -> u64
         requires { RunsIn self.now.core job }
         ensures { Some result ≡ option_map (λ (j : CoreJob). j.subject) (job_in self.now.core.jobs job) }
     {
@@ -134,32 +144,34 @@ impl Vault {
     }
 
     /// Ends a job that made all its actions: what it did, read or found.
-    pub(crate) fn end(&mut self, job: u32) -> Option<Turn>
-        requires { Comes self.old.core job End }
-        ensures machine { (w : State) (moment : ℕ) (d : Devices) → Stands self.old d w
-            → MakesTurn w moment job result self.new d d }
-        ensures left { result ≡ Some turn.More → left_of self.new job < left_of self.old job }
-        ensures padded { IfSome result (λ turn. IfEnded turn (λ ended. HasPaddedCounts ended.answer)) }
-        ensures acted { IfSome result (λ turn. IsNoAction turn → ⊥) }
+    pub fn end(&mut self, job: u32) -> Turn
+        requires next { Comes self.old.core job End }
+        requires at_work { IsAtWork self.old }
+        ensures machine { (w : State) (moment : ℕ) (d : Devices) → DeskStands self.old d w
+            → DeskMakesStep w moment job result self.new d d }
+        ensures left { result ≡ turn.More → core_left self.new.core job < core_left self.old.core job }
+        ensures padded { IfEnded result (λ ended. HasPaddedCounts ended.answer) }
+        ensures acted { IsNoAction result → ⊥ }
     {
-        let place = place_of(&self.jobs, job)?;
+        let place = self.place_of(job);
         let number = self.subject_of(job);
         let sums = self.sums_of(job);
         self.core.feed(job, Reply::Done);
         let running = self.jobs.remove(place);
-        Some(Turn::Done(running.task.into_end(number, sums.0, sums.1)))
+        Turn::Done(running.task.into_end(number, sums.0, sums.1))
     }
 
     /// Ends a job with this answer, for which the core is given this reply.
-    pub(crate) fn stop(&mut self, job: u32, reply: Reply, answer: Answer) -> Option<Turn>
-        requires { TakesReply self.old.core job reply }
+    pub fn stop(&mut self, job: u32, reply: Reply, answer: Answer) -> Turn
+        requires reply { TakesReply self.old.core job reply }
+        requires there { IsSome (place_in self.old.jobs.items job) }
         ensures stopped { IsStopped self.old job reply answer result self.new }
-        ensures acted { IfSome result (λ turn. IsNoAction turn → ⊥) }
+        ensures acted { IsNoAction result → ⊥ }
     {
-        let place = place_of(&self.jobs, job)?;
+        let place = self.place_of(job);
         self.core.feed(job, reply);
         let running = self.jobs.remove(place);
         let heard = running.task.into_heard();
-        Some(Turn::Done(Ended { answer, heard }))
+        Turn::Done(Ended { answer, heard })
     }
 }

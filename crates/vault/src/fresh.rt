@@ -2,24 +2,24 @@ ghost use Rattle.std.specs.Prelude.{◌≡◌, ◌≤◌, ◌^◌, IfOk, IfErr, 
 ghost use Rattle.record_defs.specs.Records.{is_setup};
 ghost use Rattle.record_codec.specs.Entries.{with_master};
 ghost use Rattle.vault_open.specs.declared.fault.StartFault.TheVariants as start_fault;
-ghost use Rattle.vault.specs.Fresh.{IsFreshVault};
+ghost use Rattle.vault.specs.Fresh.{IsFreshDesk};
 
 use crate::codec::Codec;
-use crate::vault::Vault;
+use crate::desk::Desk;
 use code_points::find_profile;
 use hail_field::Shape;
 use std::alloc::Global;
 use vault_core::Core;
 use vault_open::{StartFault, Store};
 
-/// A vault with no job, over a store; jobs are numbered from `first` on. Conditions: its setup is the table's and within
+/// A desk with no job, over a store; jobs are numbered from `first` on. Conditions: its setup is the table's and within
 /// its limits, and its text has at least 9 bytes and at most 2^24.
-pub(crate) fn open_fresh(alloc: Global, store: Store, first: u32) -> Result<Vault, StartFault>
+pub(crate) fn open_fresh(alloc: Global, store: Store, first: u32) -> Result<Desk, StartFault>
     requires set_up { store.table.setup ≡ Some (with_master store.setup store.master.0) }
     requires limits { IsTrue (is_setup (with_master store.setup store.master.0)) }
     requires least { 9 ≤ store.end }
     requires most { store.end ≤ 2 ^ 24 }
-    ensures ok { IfOk result (λ v. IsFreshVault v store first) }
+    ensures ok { IfOk result (λ v. IsFreshDesk v store first) }
     ensures refused { IfErr result (λ why. why ≡ start_fault.Memory) }
 {
     let Store {
@@ -37,7 +37,7 @@ pub(crate) fn open_fresh(alloc: Global, store: Store, first: u32) -> Result<Vaul
     let Ok(codec) = Codec::new(alloc) else {
         return Err(StartFault::Memory);
     };
-    Ok(Vault {
+    Ok(Desk {
         alloc,
         core: Core::new(alloc, table, end, first),
         setup,

@@ -1,6 +1,7 @@
 //! The jobs of a client on its disk and its providers. Each call is one event of the machine of jobs.
 #![tactic(auto)]
 
+mod act;
 mod admit;
 mod ask;
 mod auditing;
@@ -9,6 +10,7 @@ mod bench;
 mod benches;
 mod blocks;
 mod codec;
+mod desk;
 mod end;
 mod fetch;
 mod flight;

@@ -1,4 +1,4 @@
-ghost use Rattle.std.specs.Prelude.{◌≡◌, ◌≢◌, slice_get, ℕ, Option, length, map, ◌<◌};
+ghost use Rattle.std.specs.Prelude.{◌≡◌, ◌≢◌, slice_get, ℕ, Bool, Option, length, map, ◌<◌};
 ghost use Rattle.device_defs.specs.Cells.{Cells};
 ghost use Rattle.device_defs.specs.Faults.{one_more};
 ghost use Rattle.device_defs.specs.ProviderCalls.{Removes};
@@ -7,12 +7,13 @@ ghost use Rattle.machine_defs.specs.States.{State};
 ghost use Rattle.vault.specs.Calls.{CalledOnce};
 ghost use Rattle.vault_open.specs.Devices.{devices};
 ghost use Rattle.provider_model.specs.Seen.{provider_seen};
-ghost use Rattle.vault.specs.Stands.{Stands, Comes, MakesStep};
+ghost use Rattle.vault_core.specs.Coming.{core_left};
+ghost use Rattle.vault.specs.Desks.{DeskStands, Comes, DeskMakesStep};
+ghost use Rattle.vault.specs.Devices.{sight};
 ghost use Rattle.vault.specs.declared.turn.Turn.TheVariants as turn;
-ghost use Rattle.vault.specs.Seen.{left_of};
 
+use crate::desk::Desk;
 use crate::turn::Turn;
-use crate::vault::Vault;
 use provider_model::Provider;
 use vault_core::Reply;
 
@@ -24,9 +25,9 @@ fn remove_from<P: Provider>(from: &mut P, object: u64)
     let _ = from.remove(object);
 }
 
-impl Vault {
+impl Desk {
     /// Takes an object that is no longer in effect away from a provider. A failure is passed over: what is left is never read.
-    pub(crate) fn remove<P: Provider>(
+    pub fn remove<P: Provider>(
         &mut self,
         job: u32,
         provider: u32,
@@ -35,14 +36,14 @@ impl Vault {
     ) -> Turn
         requires next { Comes self.old.core job (Remove provider object) }
         requires there { provider < length providers.old }
-        ensures machine { (w : State) (moment : ℕ) (holds : Option Cells) (faults : ℕ)
-            → Stands self.old (devices holds faults (map (provider_seen P.Provider) providers.old)) w
-            → MakesStep w moment job result self.new
-            (devices holds faults (map (provider_seen P.Provider) providers.old))
-            (devices holds faults (map (provider_seen P.Provider) providers.new)) }
+        ensures machine { (w : State) (moment : ℕ) (holds : Option Cells) (faults : ℕ) (is_told : Bool)
+            → DeskStands self.old (devices holds faults (map (sight is_told P.Provider) providers.old)) w
+            → DeskMakesStep w moment job result self.new
+            (devices holds faults (map (sight is_told P.Provider) providers.old))
+            (devices holds faults (map (sight is_told P.Provider) providers.new)) }
         ensures count { length providers.new ≡ length providers.old }
         ensures others { (k : ℕ) → k ≢ provider → slice_get providers.new k ≡ slice_get providers.old k }
-        ensures left { left_of self.new job < left_of self.old job }
+        ensures left { core_left self.new.core job < core_left self.old.core job }
         ensures more { result ≡ turn.More }
         ensures called { CalledOnce P.calls provider providers.old providers.new }
     {

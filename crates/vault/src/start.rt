@@ -38,6 +38,7 @@ impl Vault {
             (IsErrOf result start_fault.DiskFault) }
     {
         let store = read_store(alloc, disk)?;
-        open_fresh(alloc, store, first)
+        let desk = open_fresh(alloc, store, first)?;
+        Ok(Vault { desk })
     }
 }

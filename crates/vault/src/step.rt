@@ -1,22 +1,21 @@
-ghost use Rattle.std.specs.Prelude.{◌≡◌, ◌≢◌, ◌<◌, ◌≤◌, ◌++◌, ◌∷◌, [], ℕ, true, false, None, Some, IfSome, OnSome, is_some, length, map, slice_get};
+ghost use Rattle.std.specs.Prelude.{◌≡◌, ◌≢◌, ◌↔◌, ◌<◌, ◌≤◌, ◌++◌, ◌∷◌, [], ℕ, true, false, None, Some, is_some, length, slice_get};
 ghost use Rattle.device_defs.specs.Faults.{one_more};
 ghost use Rattle.machine_defs.specs.States.{State};
 ghost use Rattle.record_defs.specs.Records.{Record as Entry};
 ghost use Rattle.record_defs.specs.Spellings.{spelling};
 ghost use Rattle.vault.specs.Calls.{moves_before_next, CalledOnce, MovesCells};
-ghost use Rattle.vault_open.specs.Devices.{Devices};
 ghost use Rattle.vault.specs.Devices.{devices_seen};
 ghost use Rattle.vault.specs.Outcomes.{IfEnded, IsNoAction, HasPaddedCounts};
 ghost use Rattle.vault.specs.declared.turn.Turn.TheVariants as turn;
 ghost use Rattle.vault.specs.Seen.{provider_count, coming_of, vault_entry, closed_gate_of, left_of, IsUnchanged};
-ghost use Rattle.vault.specs.Stands.{Stands, Comes, MakesStep, MakesTurn};
-ghost use Rattle.vault_core.specs.Coming.{Acts, IsNoJob, seen_action, calls_disk, called_provider};
+ghost use Rattle.vault.specs.Stands.{Stands, MakesStep};
+ghost use Rattle.vault_core.specs.Coming.{IsNoJob, calls_disk, called_provider};
 
 use crate::turn::Turn;
 use crate::vault::Vault;
 use disk_model::Disk;
 use provider_model::Provider;
-use vault_core::{Action, Next};
+use vault_core::Next;
 
 impl Vault {
     /// Makes the next action of a job, with its one call of a device, if it has one. Conditions: the setup's `n` providers
@@ -46,89 +45,19 @@ impl Vault {
         ensures count { length providers.new ≡ length providers.old }
         ensures others { (j k : ℕ) → called_provider (coming_of self.old job) ≡ Some j → k ≢ j
             → slice_get providers.new k ≡ slice_get providers.old k }
-        ensures one_disk_call { calls_disk (coming_of self.old job) ≡ true → result ≢ turn.NoSuchJob
+        ensures one_disk_call { calls_disk (coming_of self.old job) ≡ true
             → D.calls disk.new ≡ one_more (D.calls disk.old) }
         ensures one_provider_call { (j : ℕ) → called_provider (coming_of self.old job) ≡ Some j
-            → result ≢ turn.NoSuchJob
             → CalledOnce P.calls j providers.old providers.new }
-        ensures waits { IsNoAction result → result ≢ turn.NoSuchJob
+        ensures waits { IsNoAction result
             → IsUnchanged self.old self.new × (disk.new ≡ disk.old) × (providers.new ≡ providers.old) }
-        ensures no_job { coming_of self.old job ≡ IsNoJob
-            → IsUnchanged self.old self.new × (disk.new ≡ disk.old) × (providers.new ≡ providers.old) }
-        ensures gone { (w : State) → Stands self.old (devices_seen D.Disk P.Provider disk.old providers.old) w
-            → result ≡ turn.NoSuchJob → coming_of self.old job ≡ IsNoJob }
+        ensures no_job { (result ≡ turn.NoSuchJob) ↔ (coming_of self.old job ≡ IsNoJob) }
     {
-        match self.core.next(job) {
-            Next::Act(action) => match self.act(job, action, disk, providers) {
-                Some(turn) => turn,
-                None => Turn::NoSuchJob,
-            },
+        match self.desk.core.next(job) {
+            Next::Act(action) => self.desk.act(job, action, disk, providers),
             Next::Waiting { holder } => Turn::Waiting { holder },
             Next::NoSuchJob => Turn::NoSuchJob,
             Next::MustReopen => Turn::MustReopen,
-        }
-    }
-
-    /// Makes this action of a job, which comes next for it; None where there is nothing to make it with.
-    fn act<D: Disk, P: Provider>(
-        &mut self,
-        job: u32,
-        action: Action,
-        disk: &mut D,
-        providers: &mut [P],
-    ) -> Option<Turn>
-        requires next { Comes self.old.core job (seen_action action) }
-        requires there { (j : ℕ) → called_provider (Acts (seen_action action)) ≡ Some j
-            → j < length providers.old }
-        ensures machine { (w : State) (moment : ℕ)
-            → Stands self.old (devices_seen D.Disk P.Provider disk.old providers.old) w
-            → MakesTurn w moment job result self.new
-            (devices_seen D.Disk P.Provider disk.old providers.old)
-            (devices_seen D.Disk P.Provider disk.new providers.new) }
-        ensures tells { is_some (D.holds disk.new) ≡ is_some (D.holds disk.old) }
-        ensures left { result ≡ Some turn.More → left_of self.new job < left_of self.old job }
-        ensures padded { IfSome result (λ turn. IfEnded turn (λ ended. HasPaddedCounts ended.answer)) }
-        ensures still { calls_disk (Acts (seen_action action)) ≡ false → disk.new ≡ disk.old }
-        ensures moves { (w : State) (entry : Entry)
-            → Stands self.old (devices_seen D.Disk P.Provider disk.old providers.old) w
-            → vault_entry self.old job ≡ Some entry → calls_disk (Acts (seen_action action)) ≡ true
-            → IfSome result (λ turn. MovesCells (moves_before_next (Acts (seen_action action)))
-            (closed_gate_of self.old) (spelling entry ++ 0 ∷ []) turn (D.holds disk.old)
-            (D.holds disk.new)) }
-        ensures away { called_provider (Acts (seen_action action)) ≡ None → providers.new ≡ providers.old }
-        ensures count { length providers.new ≡ length providers.old }
-        ensures others { (j k : ℕ) → called_provider (Acts (seen_action action)) ≡ Some j → k ≢ j
-            → slice_get providers.new k ≡ slice_get providers.old k }
-        ensures one_disk_call { calls_disk (Acts (seen_action action)) ≡ true
-            → OnSome result (D.calls disk.new ≡ one_more (D.calls disk.old)) }
-        ensures one_provider_call { (j : ℕ) → called_provider (Acts (seen_action action)) ≡ Some j
-            → OnSome result (CalledOnce P.calls j providers.old providers.new) }
-        ensures acted { IfSome result (λ turn. IsNoAction turn → ⊥) }
-    {
-        match action {
-            Action::WriteBody | Action::SyncBody | Action::WriteGate | Action::SyncGate => {
-                self.move_append(job, disk)
-            }
-            Action::Store {
-                provider,
-                object,
-                stripe,
-            } => self.store(job, provider, object, stripe, providers),
-            Action::Fetch {
-                provider,
-                object,
-                stripe,
-            } => self.fetch(job, provider, object, stripe, providers),
-            Action::Ask {
-                provider,
-                object,
-                round,
-            } => self.ask(job, provider, object, round, providers),
-            Action::Work { object, stripe } => self.work(job, object, stripe),
-            Action::Remove { provider, object } => {
-                Some(self.remove(job, provider, object, providers))
-            }
-            Action::End => self.end(job),
         }
     }
 }

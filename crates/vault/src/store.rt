@@ -1,23 +1,23 @@
-ghost use Rattle.std.specs.Prelude.{◌≡◌, ◌≢◌, ◌≤◌, ◌<◌, ℕ, List, Option, length, map, slice_get, IfSome, IsSome, OnSome, Some};
+ghost use Rattle.std.specs.Prelude.{◌≡◌, ◌≢◌, ◌≤◌, ◌<◌, ℕ, Bool, List, Option, length, map, slice_get};
 ghost use Rattle.column_defs.specs.Columns.{column_of_symbols};
 ghost use Rattle.device_defs.specs.Cells.{Cells};
 ghost use Rattle.device_defs.specs.Faults.{one_more};
 ghost use Rattle.machine_defs.specs.Actions.{Store};
 ghost use Rattle.machine_defs.specs.States.{State};
-ghost use Rattle.vault.specs.Calls.{CalledOnce};
-ghost use Rattle.vault_open.specs.Devices.{devices};
-ghost use Rattle.vault.specs.Storing.{turned, stored_block, KeepsTask, IsStorer};
 ghost use Rattle.provider_model.specs.Seen.{StoresAs, provider_seen};
-ghost use Rattle.vault.specs.Stands.{Stands, Comes, MakesTurn};
-ghost use Rattle.vault.specs.declared.turn.Turn.TheVariants as turn;
+ghost use Rattle.vault_core.specs.Coming.{core_left};
+ghost use Rattle.vault_open.specs.Devices.{devices};
+ghost use Rattle.vault.specs.Calls.{CalledOnce};
+ghost use Rattle.vault.specs.Desks.{DeskStands, IsAtWork, Comes, DeskMakesStep};
+ghost use Rattle.vault.specs.Devices.{sight};
 ghost use Rattle.vault.specs.Outcomes.{IfEnded, IsNoAction, HasPaddedCounts};
-ghost use Rattle.vault.specs.Seen.{left_of};
+ghost use Rattle.vault.specs.Storing.{turned, stored_block, KeepsTask, IsStorer};
+ghost use Rattle.vault.specs.declared.turn.Turn.TheVariants as turn;
 
 use crate::bench::Bench;
-use crate::end::place_of;
+use crate::desk::Desk;
 use crate::tasks::{PutTask, Task};
 use crate::turn::{Answer, Turn};
-use crate::vault::Vault;
 use hail_field::Symbol;
 use provider_model::{Provider, StoreFault};
 use vault_core::Reply;
@@ -39,39 +39,36 @@ fn store_block<P: Provider>(
 }
 
 impl Bench {
-    ghost use Rattle.std.specs.Prelude.{◌≡◌, ◌<◌, IfSome, IsSome, OnSome};
+    ghost use Rattle.std.specs.Prelude.{◌≡◌, ◌<◌};
     ghost use Rattle.column_defs.specs.Columns.{column_of_symbols};
     ghost use Rattle.device_defs.specs.Faults.{one_more};
     ghost use Rattle.vault.specs.Storing.{turned};
     ghost use Rattle.vault.specs.Tasks.{bench_object};
 
-    /// Stores a provider's block of the stripe at hand; None where there is no such provider.
+    /// Stores a provider's block of the stripe at hand.
     fn store<P: Provider>(
         &mut self,
         to: &mut P,
         provider: u32,
         object: u64,
         stripe: u32,
-    ) -> Option<Result<(), StoreFault>>
-        ensures stored { IfSome result
-            (λ r. StoresAs object stripe
-            (column_of_symbols (turned self.old object) self.old.rows.items provider stripe) r
-            (provider_seen P.Provider to.old) (provider_seen P.Provider to.new)) }
-        ensures called { OnSome result (P.calls to.new ≡ one_more (P.calls to.old)) }
-        ensures there { provider < self.old.keys.file.shape.n → IsSome result }
+    ) -> Result<(), StoreFault>
+        requires { provider < self.old.keys.file.shape.n }
+        ensures stored { StoresAs object stripe
+            (column_of_symbols (turned self.old object) self.old.rows.items provider stripe) result
+            (provider_seen P.Provider to.old) (provider_seen P.Provider to.new) }
+        ensures called { P.calls to.new ≡ one_more (P.calls to.old) }
         ensures object { bench_object self.new ≡ turned self.old object }
         ensures rows { self.new.rows ≡ self.old.rows }
     {
         self.turn_to(object);
-        if !self.make_column(stripe, provider) {
-            return None;
-        }
-        Some(store_block(to, object, stripe, &self.column))
+        self.make_column(stripe, provider);
+        store_block(to, object, stripe, &self.column)
     }
 }
 
 impl PutTask {
-    ghost use Rattle.std.specs.Prelude.{◌≡◌, ◌<◌, IfSome, IsSome, OnSome};
+    ghost use Rattle.std.specs.Prelude.{◌≡◌, ◌<◌};
     ghost use Rattle.device_defs.specs.Faults.{one_more};
     ghost use Rattle.column_defs.specs.Columns.{column_of_symbols};
     ghost use Rattle.column_defs.specs.Objects.{symbols_in};
@@ -92,20 +89,20 @@ impl PutTask {
         self.at_hand = Some(stripe);
     }
 
-    /// Stores a provider's block of a stripe of the file; None where there is no such provider.
+    /// Stores a provider's block of a stripe of the file.
     fn store<P: Provider>(
         &mut self,
         to: &mut P,
         provider: u32,
         object: u64,
         stripe: u32,
-    ) -> Option<Result<(), StoreFault>>
-        ensures stored { IfSome result (λ r. StoresAs object stripe
+    ) -> Result<(), StoreFault>
+        requires { provider < self.old.bench.keys.file.shape.n }
+        ensures stored { StoresAs object stripe
             (column_of_symbols (turned self.old.bench object)
-            (symbols_in (turned self.old.bench object) self.old.bytes stripe) provider stripe) r
-            (provider_seen P.Provider to.old) (provider_seen P.Provider to.new)) }
-        ensures called { OnSome result (P.calls to.new ≡ one_more (P.calls to.old)) }
-        ensures there { provider < self.old.bench.keys.file.shape.n → IsSome result }
+            (symbols_in (turned self.old.bench object) self.old.bytes stripe) provider stripe) result
+            (provider_seen P.Provider to.old) (provider_seen P.Provider to.new) }
+        ensures called { P.calls to.new ≡ one_more (P.calls to.old) }
         ensures object { bench_object self.new.bench ≡ turned self.old.bench object }
         ensures bytes { self.new.bytes ≡ self.old.bytes }
     {
@@ -115,60 +112,60 @@ impl PutTask {
 }
 
 impl Task {
-    /// Stores a block of a put or a repair; None where there is nothing to store, or no such provider.
+    /// Stores a block of a put or a repair.
     fn store<P: Provider>(
         &mut self,
         to: &mut P,
         provider: u32,
         object: u64,
         stripe: u32,
-    ) -> Option<Result<(), StoreFault>>
-        ensures stored { IfSome result
-            (λ r. StoresAs object stripe (stored_block self.old object provider stripe) r
-            (provider_seen P.Provider to.old) (provider_seen P.Provider to.new)) }
-        ensures called { OnSome result (P.calls to.new ≡ one_more (P.calls to.old)) }
-        ensures there { IsStorer self.old provider → IsSome result }
-        ensures keeps { IfSome result (λ _. KeepsTask self.old self.new object) }
+    ) -> Result<(), StoreFault>
+        requires { IsStorer self.old provider }
+        ensures stored { StoresAs object stripe (stored_block self.old object provider stripe) result
+            (provider_seen P.Provider to.old) (provider_seen P.Provider to.new) }
+        ensures called { P.calls to.new ≡ one_more (P.calls to.old) }
+        ensures keeps { KeepsTask self.old self.new object }
     {
         match self {
             Task::Put(put) => put.store(to, provider, object, stripe),
             Task::Repair(repair) => repair.bench.store(to, provider, object, stripe),
-            _ => None,
+            Task::Get(_) | Task::Drop | Task::Audit(_) => unreachable!(),
         }
     }
 }
 
-impl Vault {
+impl Desk {
     /// Stores a block of a put's file, or of a stripe that a repair opened. A store that fails ends the job.
-    pub(crate) fn store<P: Provider>(
+    pub fn store<P: Provider>(
         &mut self,
         job: u32,
         provider: u32,
         object: u64,
         stripe: u32,
         providers: &mut [P],
-    ) -> Option<Turn>
+    ) -> Turn
         requires next { Comes self.old.core job (Store provider object stripe) }
         requires there { provider < length providers.old }
-        ensures machine { (w : State) (moment : ℕ) (holds : Option Cells) (faults : ℕ)
-            → Stands self.old (devices holds faults (map (provider_seen P.Provider) providers.old)) w
-            → MakesTurn w moment job result self.new
-            (devices holds faults (map (provider_seen P.Provider) providers.old))
-            (devices holds faults (map (provider_seen P.Provider) providers.new)) }
+        requires at_work { IsAtWork self.old }
+        ensures machine { (w : State) (moment : ℕ) (holds : Option Cells) (faults : ℕ) (is_told : Bool)
+            → DeskStands self.old (devices holds faults (map (sight is_told P.Provider) providers.old)) w
+            → DeskMakesStep w moment job result self.new
+            (devices holds faults (map (sight is_told P.Provider) providers.old))
+            (devices holds faults (map (sight is_told P.Provider) providers.new)) }
         ensures count { length providers.new ≡ length providers.old }
         ensures others { (k : ℕ) → k ≢ provider → slice_get providers.new k ≡ slice_get providers.old k }
-        ensures left { result ≡ Some turn.More → left_of self.new job < left_of self.old job }
-        ensures padded { IfSome result (λ turn. IfEnded turn (λ ended. HasPaddedCounts ended.answer)) }
-        ensures acted { IfSome result (λ turn. IsNoAction turn → ⊥) }
-        ensures called { OnSome result (CalledOnce P.calls provider providers.old providers.new) }
+        ensures left { result ≡ turn.More → core_left self.new.core job < core_left self.old.core job }
+        ensures padded { IfEnded result (λ ended. HasPaddedCounts ended.answer) }
+        ensures acted { IsNoAction result → ⊥ }
+        ensures called { CalledOnce P.calls provider providers.old providers.new }
     {
-        let place = place_of(&self.jobs, job)?;
+        let place = self.place_of(job);
         let index = provider as usize;
         let task = &mut self.jobs[place].task;
-        match task.store(&mut providers[index], provider, object, stripe)? {
+        match task.store(&mut providers[index], provider, object, stripe) {
             Ok(()) => {
                 self.core.feed(job, Reply::Done);
-                Some(Turn::More)
+                Turn::More
             }
             Err(StoreFault::Failed) => {
                 self.stop(job, Reply::Failed, Answer::ProviderFault { provider })

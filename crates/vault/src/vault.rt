@@ -1,31 +1,14 @@
-ghost use Rattle.std.specs.Prelude.{◌≡◌, ◌≤◌};
+ghost use Rattle.vault.specs.Desks.{IsAtWork};
 
-use crate::codec::Codec;
-use crate::flight::Flight;
-use crate::tasks::Running;
-use code_points::Profile;
-use hail_field::Shape;
-use key_schedule::Master;
+use crate::desk::Desk;
 use record_codec::Setup;
-use std::alloc::Global;
-use vault_core::Core;
 use vault_table::Table;
 
 /// An open vault: the jobs of a client over a disk and providers, which it does not hold: each step is lent them.
 #[derive(Drop)]
 pub struct Vault {
-    pub(crate) alloc: Global,
-    pub(crate) core: Core,
-    pub(crate) setup: Setup,
-    pub(crate) master: Master,
-    pub(crate) shape: Shape,
-    pub(crate) profile: Profile,
-    pub(crate) codec: Codec,
-    pub(crate) flight: Option<Flight>,
-    pub(crate) jobs: Vec<Running>,
-    ghost providers_fit: { core.setup.n ≡ setup.n },
-    ghost some_picks: { 1 ≤ setup.picks },
-    ghost few_picks: { setup.picks ≤ 64 },
+    pub(crate) desk: Desk,
+    ghost at_work: { IsAtWork desk },
 }
 
 impl Vault {
@@ -36,20 +19,20 @@ impl Vault {
     pub fn setup(&self) -> Setup
         ensures { result ≡ vault_setup self.now }
     {
-        self.setup
+        self.desk.setup
     }
 
     /// The fold of the records in effect.
     pub fn table(&self) -> &Table
         ensures { result.now ≡ table_of self.now }
     {
-        self.core.table()
+        self.desk.core.table()
     }
 
     /// The number that the next accepted begin gets.
     pub fn next_job(&self) -> u32
         ensures { result ≡ next_job_of self.now }
     {
-        self.core.next_job()
+        self.desk.core.next_job()
     }
 }

@@ -10,7 +10,7 @@ pub step-requires : goal.step-requires
 step-requires g c =
     let u = c.requires.under_way in
     let way = c.loop-ended.invariant.0 u.start u.state u.kind 0 u.only u.stands in
-    let few = stands-enough _ _ _ way.stands in
+    let few = stands-enough c.loop-ended.vault _ _ way.stands in
     let e = length-map c.loop-ended.providers (provider_seen g.P.Provider) in
     omega (arith, few, e)
 

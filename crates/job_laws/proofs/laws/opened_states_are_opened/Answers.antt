@@ -1,4 +1,4 @@
-use Rattle.job_laws.proofs.Runs.{opened-over}
+use Rattle.opening_defs.proofs.Opened.{opened-over}
 use Rattle.job_laws.proofs.laws.opened_states_are_opened.Goals as goal
 
 pub returns : goal.returns

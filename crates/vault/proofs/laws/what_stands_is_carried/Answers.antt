@@ -2,4 +2,4 @@ use Rattle.vault.proofs.Carried.{carried}
 use Rattle.vault.proofs.laws.what_stands_is_carried.Goals as goal
 
 pub returns : goal.returns
-returns c = carried
+returns c = λ v. carried v.desk

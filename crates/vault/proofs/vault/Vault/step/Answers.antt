@@ -1,20 +1,20 @@
-use Rattle.std.proofs.Common.{Option, map, subst}
-use Rattle.vault.specs.declared.turn.Turn.{Turn}
-use Rattle.vault_open.specs.Devices.{devices}
-use Rattle.provider_model.specs.Seen.{provider_seen}
-use Rattle.vault.specs.Stands.{MakesTurn}
+use Rattle.std.proofs.Common.{false, true, arith, map}
+use Rattle.std.proofs.lemmas.List.{length-map}
+use Rattle.vault.specs.Devices.{sight}
+use Rattle.vault.proofs.AtWork.{works_on}
 use Rattle.vault.proofs.vault.Vault.step.Goals as goal
 
-pub returns-in-None-clause-machine : goal.returns-in-None-clause-machine
-returns-in-None-clause-machine g c = λ w moment stands.
-    let seen = provider_seen g.P.Provider in
-    let old = devices (g.D.Disk.holds c.args.disk.now) (g.D.Disk.faults c.args.disk.now) (map seen c.args.providers.now) in
-    let new = devices (g.D.Disk.holds c.act.new.disk) (g.D.Disk.faults c.act.new.disk) (map seen c.act.new.providers) in
-    absurd (subst (λ (t : Option Turn). MakesTurn w moment c.args.job t c.act.new.self old new) c.in-None.is (c.act.ensures.machine w moment stands))
+pub invariant_of-self : goal.invariant_of-self
+invariant_of-self g c =
+    let seen = sight false g.P.Provider in
+    record {
+      at_work = works_on c.args.self.now.desk c.act.new.self
+          (g.D.Disk.faults c.args.disk.now) (g.D.Disk.faults c.act.new.disk)
+          (map seen c.args.providers.now) (map seen c.act.new.providers)
+          (omega (arith, c.requires, length-map c.args.providers.now seen))
+          (λ w stands. (let made = c.act.ensures.machine w 0 false stands in (made.state, made.stands)))
+          c.args.self.now.at_work;
+    }
 
-pub returns-in-None-clause-gone : goal.returns-in-None-clause-gone
-returns-in-None-clause-gone g c = λ w stands none.
-    let seen = provider_seen g.P.Provider in
-    let old = devices (g.D.Disk.holds c.args.disk.now) (g.D.Disk.faults c.args.disk.now) (map seen c.args.providers.now) in
-    let new = devices (g.D.Disk.holds c.act.new.disk) (g.D.Disk.faults c.act.new.disk) (map seen c.act.new.providers) in
-    absurd (subst (λ (t : Option Turn). MakesTurn w 0 c.args.job t c.act.new.self old new) c.in-None.is (c.act.ensures.machine w 0 stands))
+pub returns-in-Act-clause-machine : goal.returns-in-Act-clause-machine
+returns-in-Act-clause-machine g c = λ w moment stands. c.act.ensures.machine w moment true stands

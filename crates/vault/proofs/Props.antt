@@ -1,0 +1,32 @@
+-- What a task can do holds in one way.
+use Rattle.std.proofs.Common.{ℕ}
+use Rattle.std.proofs.Props.{props}
+use Rattle.vault.specs.declared.tasks.Task.{Task}
+use Rattle.vault.specs.declared.tasks.Task.TheVariants as task
+use Rattle.vault.specs.Asking.{MayAsk, MayTell}
+use Rattle.vault.specs.Fetching.{HasRoomFor}
+use Rattle.vault.specs.Opening.{CanWork}
+use Rattle.vault.specs.Storing.{IsStorer}
+
+pub room_prop : (t : Task) → IsProp (HasRoomFor t)
+room_prop (task.Get t) = hlevel props
+room_prop (task.Repair t) = hlevel props
+room_prop t = hlevel props
+
+pub storer_prop : (t : Task) (j : ℕ) → IsProp (IsStorer t j)
+storer_prop (task.Put t) j = hlevel props
+storer_prop (task.Repair t) j = hlevel props
+storer_prop t j = hlevel props
+
+pub work_prop : (t : Task) → IsProp (CanWork t)
+work_prop (task.Get t) = hlevel props
+work_prop (task.Repair t) = hlevel props
+work_prop t = hlevel props
+
+pub ask_prop : (n k : ℕ) (t : Task) → IsProp (MayAsk n k t)
+ask_prop n k (task.Audit t) = hlevel props
+ask_prop n k t = hlevel props
+
+pub tell_prop : (n : ℕ) (t : Task) → IsProp (MayTell n t)
+tell_prop n (task.Audit t) = hlevel props
+tell_prop n t = hlevel props

@@ -1,0 +1,106 @@
+-- How the desk of a vault and its devices stand for a state of the machine.
+--
+--   IsShaped v            == the shape and the profile are those of the setup
+--   IsFlight f flight rs told == no append is in flight, and the disk has the text with a closed gate; or
+--                            that of the machine is, and the disk is as after its moves so far
+--   DeskStands v d w      == the desk and the devices stand for a state in which a vault is open
+--   IsAtWork v            == the desk stands for some state, over some devices of which the disk tells
+--                            nothing: what its parts owe each other, whatever devices it was lent
+--   DeskCarries v told    == the disk carries the desk: the text, of the core's length, of records that
+--                            fold to its table, but for what the moves of an append in flight have done; a
+--                            disk that tells nothing carries every desk
+--   Comes c job action    == what comes next for a job, by its core
+--   DeskMakesStep, DeskMakesBegin == a step and a begin are events of the machine
+use Rattle.std.specs.Prelude.{◌≡◌, ◌≢◌, ℕ, false, List, Option, Some, None, Result, IfSome}
+use Rattle.code_defs.specs.Profiles.{profile_of}
+use Rattle.device_defs.specs.Cells.{Cells}
+use Rattle.device_defs.specs.Providers.{Provider}
+use Rattle.record_defs.specs.Records.{Record}
+use Rattle.record_defs.specs.Journal.{before_gate, text_size}
+use Rattle.machine_defs.specs.Actions.{Action}
+use Rattle.machine_defs.specs.Jobs.{Kind, job_of}
+use Rattle.machine_defs.specs.Answers as answers
+use Rattle.machine_defs.specs.Events.{Step, Ended}
+use Rattle.machine_defs.specs.Heard.{heard_by}
+use Rattle.machine_defs.specs.Begins.{Begins}
+use Rattle.machine_defs.specs.States.{State, setup_in}
+use Rattle.machine_defs.specs.States as states
+use Rattle.machine_defs.specs.Machine.{Happens}
+use Rattle.code_points.specs.Profile.{plain_profile}
+use Rattle.record_codec.specs.Entries.{with_master}
+use Rattle.journal_core.specs.Appends.{Appends, moves_of}
+use Rattle.journal_core.specs.Moves.{IsClosed}
+use Rattle.vault_table.specs.Values.{IsFoldOf}
+use Rattle.vault_core.specs.View.{CoreView}
+use Rattle.vault_core.specs.Coming.{Acts, next_in}
+use Rattle.vault_core.specs.Carried.{CoreIs, ComesNext}
+use Rattle.vault_core.specs.declared.wish.BeginFault.{BeginFault}
+use Rattle.vault.specs.declared.flight.Flight.{Flight}
+use Rattle.vault.specs.declared.desk.Desk.{Desk}
+use Rattle.vault.specs.declared.turn.Turn.{Turn}
+use Rattle.vault_open.specs.Devices.{Devices, devices, AreDevices}
+use Rattle.vault.specs.Devices.{IsSameBeyond, IsSamePast}
+use Rattle.vault.specs.Outcomes.{outcome_of, begin_outcome, IfEnded}
+use Rattle.vault.specs.Tasks.{AreRunning}
+
+-- the shape and the profile are those of the setup
+pub record IsShaped (v : Desk) : Type 0 where
+  pub n : v.shape.n ≡ v.setup.n
+  pub l : v.shape.l ≡ v.setup.l
+  pub b : v.shape.b ≡ v.setup.b
+  pub profile : plain_profile v.profile ≡ profile_of v.setup.profile
+
+-- the append in flight, and what the disk holds of it
+abbrev pub IsFlight : Option Flight → Option states.Append → List Record → Option Cells → Type 0
+IsFlight None None rs told = IfSome told (IsClosed (before_gate rs))
+IsFlight (Some f) (Some flight) rs told =
+    (moves_of f.append ≡ flight.moves) × Appends rs flight.entry f.append told
+IsFlight f flight rs told = ⊥
+
+-- the desk and the devices stand for a state
+pub record DeskStands (v : Desk) (d : Devices) (w : State) : Type 0 where
+  pub devices : AreDevices d w
+  pub core : CoreIs v.core w
+  pub setup : setup_in w ≡ with_master v.setup v.master.0
+  pub shaped : IsShaped v
+  pub jobs : AreRunning (setup_in w) v.jobs.items w.jobs
+  pub flight : w.is_barred ≡ false → IsFlight v.flight w.append w.records d.holds
+
+-- the desk stands for some state, over some devices of which the disk tells nothing
+abbrev pub IsAtWork : Desk → Type 0
+IsAtWork v =
+    ∥ ((w : State) × (faults : ℕ) × (ps : List Provider) × DeskStands v (devices None faults ps) w) ∥₁
+
+-- the records of a text that a disk holds, with the append that is made behind them
+abbrev pub CarriesText : Option Flight → List Record → Option Cells → Type 0
+CarriesText None rs told = IfSome told (IsClosed (before_gate rs))
+CarriesText (Some f) rs told = (entry : Record) × Appends rs entry f.append told
+
+-- the disk carries the desk
+abbrev pub DeskCarries : Desk → Option Cells → Type 0
+DeskCarries v told =
+    (rs : List Record) × IsFoldOf rs v.core.table × (v.core.end ≡ text_size rs)
+    × CarriesText v.flight rs told
+
+-- a begin is one of the machine
+pub record DeskMakesBegin (w : State) (moment : ℕ) (kind : Kind) (result : Result ℕ BeginFault) (v : Desk)
+    (d : Devices) : Type 0 where
+  pub state : State
+  pub begins : Begins 8 moment w kind (begin_outcome result) state
+  pub stands : DeskStands v d state
+
+-- a step is one of the machine; past the text with the record in flight the disk reads as before, and where
+-- a call of it failed, past the text with the record that was being appended
+pub record DeskMakesStep (w : State) (moment job : ℕ) (turn : Turn) (v : Desk)
+    (old new : Devices) : Type 0 where
+  pub state : State
+  pub happens : Happens 8 moment w (Step job) (outcome_of turn) state
+  pub stands : DeskStands v new state
+  pub heard : IfEnded turn (λ ended. ended.heard ≡ heard_by (job_of w.jobs job))
+  pub beyond : outcome_of turn ≢ Ended answers.DiskFault → IsSameBeyond state old new
+  pub torn : outcome_of turn ≡ Ended answers.DiskFault → IsSamePast w job old new
+
+-- what comes next for a job, by its core
+pub record Comes (c : CoreView) (job : ℕ) (action : Action) : Type 0 where
+  pub value : next_in c job ≡ Acts action
+  pub machine : (w : State) → CoreIs c w → ComesNext w job action None

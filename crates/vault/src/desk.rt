@@ -1,0 +1,29 @@
+ghost use Rattle.std.specs.Prelude.{◌≡◌, ◌≤◌};
+
+use crate::codec::Codec;
+use crate::flight::Flight;
+use crate::tasks::Running;
+use code_points::Profile;
+use hail_field::Shape;
+use key_schedule::Master;
+use record_codec::Setup;
+use std::alloc::Global;
+use vault_core::Core;
+
+/// What a vault works with: the core, the numbers of its setup, the registers of the decoders, the append in flight, and what
+/// each running job works with.
+#[derive(Drop)]
+pub struct Desk {
+    pub alloc: Global,
+    pub core: Core,
+    pub setup: Setup,
+    pub master: Master,
+    pub shape: Shape,
+    pub profile: Profile,
+    pub codec: Codec,
+    pub flight: Option<Flight>,
+    pub jobs: Vec<Running>,
+    ghost providers_fit: { core.setup.n ≡ setup.n },
+    ghost some_picks: { 1 ≤ setup.picks },
+    ghost few_picks: { setup.picks ≤ 64 },
+}
