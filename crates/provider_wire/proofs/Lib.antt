@@ -16,3 +16,4 @@ pub mod BadBytes
 pub mod OneEnd
 pub mod Counting
 pub mod Instances
+pub mod Causes
