@@ -119,17 +119,22 @@ goes_by false step old new h = tt
 pub move_by : (is_told : Bool) (a : Append) (old : Option Cells) (m : Moved) (new : Option Cells)
     → MakesMove a old m new → MakesMove a (cells_by is_told old) m (cells_by is_told new)
 move_by true a old m new h = h
-move_by false a old (moved.On f) new h = (h.0, h.1, h.2, λ rs r appends. record {
-  appends = record {
-    records = appends.records;
-    entry = appends.entry;
-    gate = h.1 ∙ appends.gate;
-    body = h.2 ∙ appends.body;
-    disk = tt;
-  };
-  before = λ few. tt;
-  between = tt;
-})
+move_by false a old (moved.On f) new h = (
+  h.0,
+  h.1,
+  h.2,
+  λ rs r appends. record {
+    appends = record {
+      records = appends.records;
+      entry = appends.entry;
+      gate = h.1 ∙ appends.gate;
+      body = h.2 ∙ appends.body;
+      disk = tt;
+    };
+    before = λ few. tt;
+    between = tt;
+  },
+)
 move_by false a old moved.Done new h = (h.0, λ rs r appends. record { closed = tt; after = tt })
 move_by false a old moved.Failed new h = λ rs r appends. record { before = λ few. tt; between = tt }
 move_by false a old moved.Memory new h = (h.0, refl)

@@ -56,7 +56,9 @@ impl Vault {
         let Some(file) = self.desk.core.table().find(&name) else {
             return Err(BeginFault::NoSuchName);
         };
-        let bench = self.desk.bench_for(file.id, file.length.min(LARGEST_FILE as u32))?;
+        let bench = self
+            .desk
+            .bench_for(file.id, file.length.min(LARGEST_FILE as u32))?;
         match GetTask::new(self.desk.alloc, self.desk.core.next_job(), bench) {
             Ok(task) => self.desk.admit(Wish::Get { name }, Task::Get(task)),
             Err(_) => Err(BeginFault::Memory),
@@ -101,7 +103,9 @@ impl Vault {
         let bench = self.desk.bench_for(0, LARGEST_FILE as u32)?;
         let size = bench.keys.file.profile.size as usize;
         match Blocks::with_room(self.desk.alloc, usize::from(self.desk.setup.n), size) {
-            Ok(blocks) => self.desk.admit(Wish::Repair, Task::Repair(RepairTask { blocks, bench })),
+            Ok(blocks) => self
+                .desk
+                .admit(Wish::Repair, Task::Repair(RepairTask { blocks, bench })),
             Err(_) => Err(BeginFault::Memory),
         }
     }
