@@ -16,4 +16,3 @@ pub mod BadBytes
 pub mod OneEnd
 pub mod Counting
 pub mod Instances
-pub mod Causes

@@ -2,8 +2,6 @@ use Rattle.std.proofs.Common.{◌≡◌, ◌+◌, ◌-◌, ◌<◌, ◌≤◌, �
 use Rattle.std.proofs.lemmas.List.{take_rest}
 use Rattle.wire_defs.specs.Requests.{SpellsNoRequest, is_bad_request}
 use Rattle.provider_wire.proofs.Progress.{starts, nothing_spells, ended_inside_at, grown_to, write_failed, turned, turned_bad, turned_long, all_within}
-use Rattle.provider_wire.proofs.Causes.{no_fault_ends}
-use Rattle.provider_wire.specs.declared.end.ServeEnd.TheVariants as serve_end
 use Rattle.provider_wire.proofs.server.serve_all.Goals as goal
 
 pub loop-count-init : goal.loop-count-init
@@ -86,34 +84,3 @@ returns-then-count-eq0-clause-served g c =
     let some : 0 < length c.loop-count.window = omega (arith, size, c.len-waiting.ensures, c.if-waiting-eq0.false) in
     let end = c.in-Ok.ensures.end none (omega (arith, inv.within)) (omega (arith, inv.short)) in
     ended_inside_at _ _ c.loop-count.taken c.loop-count.window _ _ _ _ inv.so_far _ given.0 given.4 empty end inv.within inv.none some _ (ap (λ (k : ℕ). c.loop-count.taken - k) (c.len-waiting.ensures ∙ size))
-
--- a server that ends for another reason had no fault of a device
-pub returns-then-waiting-eq0-clause-source : goal.returns-then-waiting-eq0-clause-source
-returns-then-waiting-eq0-clause-source g c =
-    no_fault_ends _ _ _ serve_end.SourceFault tt (λ faultless. faultless) (omega (arith, c.loop-count.invariant.source_count, c.fill.ensures.cause.never_falls))
-
-pub returns-then-waiting-eq0-clause-sink : goal.returns-then-waiting-eq0-clause-sink
-returns-then-waiting-eq0-clause-sink g c = no_fault_ends _ _ _ serve_end.SinkFault tt (λ faultless. faultless) c.loop-count.invariant.sink_count
-
-pub returns-then-count-eq0-clause-source : goal.returns-then-count-eq0-clause-source
-returns-then-count-eq0-clause-source g c =
-    no_fault_ends _ _ _ serve_end.SourceFault tt (λ faultless. faultless) (omega (arith, c.loop-count.invariant.source_count, c.fill.ensures.cause.never_falls))
-
-pub returns-then-count-eq0-clause-sink : goal.returns-then-count-eq0-clause-sink
-returns-then-count-eq0-clause-sink g c = no_fault_ends _ _ _ serve_end.SinkFault tt (λ faultless. faultless) c.loop-count.invariant.sink_count
-
-pub returns-then-is_bad-clause-source : goal.returns-then-is_bad-clause-source
-returns-then-is_bad-clause-source g c =
-    no_fault_ends _ _ _ serve_end.SourceFault tt (λ faultless. faultless) (omega (arith, c.loop-count.invariant.source_count, c.fill.ensures.cause.never_falls))
-
-pub returns-then-is_bad-clause-sink : goal.returns-then-is_bad-clause-sink
-returns-then-is_bad-clause-sink g c =
-    no_fault_ends _ _ _ serve_end.SinkFault tt (λ faultless. faultless) (omega (arith, c.loop-count.invariant.sink_count, c.serve_front.ensures.cause.never_falls))
-
-pub returns-then-taken-gt-MOST-clause-source : goal.returns-then-taken-gt-MOST-clause-source
-returns-then-taken-gt-MOST-clause-source g c =
-    no_fault_ends _ _ _ serve_end.SourceFault tt (λ faultless. faultless) (omega (arith, c.loop-count.invariant.source_count, c.fill.ensures.cause.never_falls))
-
-pub returns-then-taken-gt-MOST-clause-sink : goal.returns-then-taken-gt-MOST-clause-sink
-returns-then-taken-gt-MOST-clause-sink g c =
-    no_fault_ends _ _ _ serve_end.SinkFault tt (λ faultless. faultless) (omega (arith, c.loop-count.invariant.sink_count, c.serve_front.ensures.cause.never_falls))
