@@ -1,6 +1,7 @@
 ghost use Rattle.std.specs.Prelude.{◌≡◌, ◌≤◌, length};
 ghost use Rattle.algebra_laws.specs.Field.{Apart};
 
+use crate::given::six;
 use hail_field::Symbol;
 use hail_gao::decode_gao;
 use hail_poly::Work;
@@ -28,18 +29,19 @@ fn answer_alike(
     by_quotient == by_syndromes && (!by_quotient || first.rest() == second.rest())
 }
 
-/// The symbols of six numbers.
-fn six(numbers: [u128; 6]) -> [Symbol; 6]
-    ensures { length result ≡ 6 }
+/// Whether both decoders find x among six values, of which two may be wrong.
+fn both_find_x(points: &[Symbol], values: &[Symbol], first: &mut Work, second: &mut Work) -> bool
+    requires apart { Apart points.now }
+    requires points { length points.now ≡ 6 }
+    requires values { length values.now ≡ 6 }
+    requires first { 6 ≤ first.old.size }
+    requires second { 6 ≤ second.old.size }
 {
-    [
-        Symbol(numbers[0]),
-        Symbol(numbers[1]),
-        Symbol(numbers[2]),
-        Symbol(numbers[3]),
-        Symbol(numbers[4]),
-        Symbol(numbers[5]),
-    ]
+    let x = [Symbol(0), Symbol(1)];
+    decode_gao(points, values, 2, 2, first).is_some()
+        && decode_syndromes(points, values, 2, 2, second).is_some()
+        && first.rest() == x.as_slice()
+        && second.rest() == x.as_slice()
 }
 
 #[test]
@@ -87,23 +89,7 @@ fn decoders_agree_on_a_table_of_words(rt: HostRuntime) {
             assert!(rt; answer_alike(&others, &values, fix, &mut first, &mut second));
         }
     }
-}
-
-#[test]
-fn words_that_open_do_so_by_both(rt: HostRuntime) {
-    let mut first = Work::new(rt.alloc(), 6).expect(&rt, "memory");
-    let mut second = Work::new(rt.alloc(), 6).expect(&rt, "memory");
-    let points = [
-        Symbol(7),
-        Symbol(0),
-        Symbol(300),
-        Symbol(1),
-        Symbol(256),
-        Symbol(255),
-    ];
-    let values = six([7, 0, 9, 1, 256, 9]);
-    assert!(rt; decode_gao(&points, &values, 2, 2, &mut first).is_some());
-    assert!(rt; decode_syndromes(&points, &values, 2, 2, &mut second).is_some());
-    assert_eq!(rt; first.rest(), &[Symbol(0), Symbol(1)][..]);
-    assert_eq!(rt; second.rest(), &[Symbol(0), Symbol(1)][..]);
+    let two_wrong = six([7, 0, 9, 1, 1 << 100, 9]);
+    assert!(rt; first.size() == 6 && second.size() == 6);
+    assert!(rt; both_find_x(&others, &two_wrong, &mut first, &mut second));
 }

@@ -1,5 +1,71 @@
 use hail_field::{Shape, Symbol};
 
+/// The place of the first row whose third number is not the product of the others, from either side.
+fn first_wrong_product(rows: &[(u128, u128, u128)]) -> Option<usize> {
+    for place in 0..rows.len() {
+        let (a, b, product) = rows[place];
+        let (a, b, product) = (Symbol(a), Symbol(b), Symbol(product));
+        if a.mul(b) != product || b.mul(a) != product {
+            return Some(place);
+        }
+    }
+    None
+}
+
+/// The first number whose product with another is not the one at its place.
+fn first_wrong_multiple(a: u128, products: &[u128]) -> Option<usize> {
+    for place in 0..products.len() {
+        if Symbol(a).mul(Symbol(place as u128)) != Symbol(products[place]) {
+            return Some(place);
+        }
+    }
+    None
+}
+
+/// The place of the first row whose third number is not the first to the power of the second.
+fn first_wrong_power(rows: &[(u128, u32, u128)]) -> Option<usize> {
+    for place in 0..rows.len() {
+        let (a, exponent, power) = rows[place];
+        if Symbol(a).pow(exponent) != Symbol(power) {
+            return Some(place);
+        }
+    }
+    None
+}
+
+/// The place of the first row whose symbol has another inverse, or has or lacks one wrongly.
+fn first_wrong_inverse(rows: &[(u128, Option<Symbol>)]) -> Option<usize> {
+    for place in 0..rows.len() {
+        let (a, inverse) = rows[place];
+        if Symbol(a).inv() != inverse {
+            return Some(place);
+        }
+    }
+    None
+}
+
+/// The place of the first row whose number is spelled otherwise, or whose bytes spell another.
+fn first_wrong_spelling(rows: &[(u128, [u8; 16])]) -> Option<usize> {
+    for place in 0..rows.len() {
+        let (number, bytes) = rows[place];
+        if Symbol(number).to_bytes() != bytes || Symbol::from_bytes(bytes) != Symbol(number) {
+            return Some(place);
+        }
+    }
+    None
+}
+
+/// The place of the first row whose shape is made or refused wrongly.
+fn first_wrong_shape(rows: &[(u8, u8, u8, bool)]) -> Option<usize> {
+    for place in 0..rows.len() {
+        let (n, l, b, is_made) = rows[place];
+        if Shape::new(n, l, b).is_some() != is_made {
+            return Some(place);
+        }
+    }
+    None
+}
+
 #[test]
 fn multiplies_as_in_the_tables(rt: HostRuntime) {
     let rows: [(u128, u128, u128); 9] = [
@@ -17,23 +83,14 @@ fn multiplies_as_in_the_tables(rt: HostRuntime) {
             300_811_656_294_689_809_880_988_711_510_307_766_638,
         ),
     ];
-    for (a, b, want) in rows {
-        assert_eq!(rt; Symbol(a).mul(Symbol(b)), Symbol(want), "{a} times {b}");
-        assert_eq!(rt; Symbol(b).mul(Symbol(a)), Symbol(want), "{b} times {a}");
-    }
+    assert_eq!(rt; first_wrong_product(&rows), None);
     let of_small: [(u128, [u128; 16]); 3] = [
         (4, [0, 4, 8, 12, 6, 2, 14, 10, 11, 15, 3, 7, 13, 9, 5, 1]),
         (5, [0, 5, 10, 15, 2, 7, 8, 13, 3, 6, 9, 12, 1, 4, 11, 14]),
         (8, [0, 8, 12, 4, 11, 3, 7, 15, 13, 5, 1, 9, 6, 14, 10, 2]),
     ];
-    for (a, products) in of_small {
-        for (b, want) in products.into_iter().enumerate() {
-            assert_eq!(rt;
-                Symbol(a).mul(Symbol(b as u128)),
-                Symbol(want),
-                "{a} times {b}"
-            );
-        }
+    for (a, products) in of_small.iter() {
+        assert_eq!(rt; first_wrong_multiple(*a, products), None);
     }
 }
 
@@ -46,9 +103,7 @@ fn inverts_and_raises_as_in_the_tables(rt: HostRuntime) {
         (4, Some(Symbol(15))),
         (5, Some(Symbol(12))),
     ];
-    for (a, want) in inverses {
-        assert_eq!(rt; Symbol(a).inv(), want, "of {a}");
-    }
+    assert_eq!(rt; first_wrong_inverse(&inverses), None);
     let powers: [(u128, u32, u128); 6] = [
         (0, 0, 1),
         (0, 1, 0),
@@ -57,13 +112,7 @@ fn inverts_and_raises_as_in_the_tables(rt: HostRuntime) {
         (4, 2, 6),
         (18, 255, 1),
     ];
-    for (a, exponent, want) in powers {
-        assert_eq!(rt;
-            Symbol(a).pow(exponent),
-            Symbol(want),
-            "{a} to the power {exponent}"
-        );
-    }
+    assert_eq!(rt; first_wrong_power(&powers), None);
     assert_eq!(rt; Symbol(6).add(Symbol(5)), Symbol(3));
     assert!(rt; Symbol::ZERO.is_zero());
     assert!(rt; !Symbol::ONE.is_zero());
@@ -76,10 +125,7 @@ fn spells_numbers_lowest_byte_first(rt: HostRuntime) {
         (1 << 64, [0, 0, 0, 0, 0, 0, 0, 0, 1, 0, 0, 0, 0, 0, 0, 0]),
         (u128::MAX, [255; 16]),
     ];
-    for (number, bytes) in rows {
-        assert_eq!(rt; Symbol(number).to_bytes(), bytes, "of {number}");
-        assert_eq!(rt; Symbol::from_bytes(bytes), Symbol(number), "of {number}");
-    }
+    assert_eq!(rt; first_wrong_spelling(&rows), None);
 }
 
 #[test]
@@ -94,8 +140,5 @@ fn makes_the_shapes_within_the_limits(rt: HostRuntime) {
         (5, 3, 0, false),
         (255, 255, 255, false),
     ];
-    for (n, l, b, want) in rows {
-        let is_made = Shape::new(n, l, b).is_some();
-        assert_eq!(rt; is_made, want, "{n} {l} {b}");
-    }
+    assert_eq!(rt; first_wrong_shape(&rows), None);
 }

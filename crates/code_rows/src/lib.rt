@@ -10,6 +10,8 @@ mod field;
 #[cfg(test)]
 mod gao;
 #[cfg(test)]
+mod given;
+#[cfg(test)]
 mod points;
 #[cfg(test)]
 mod poly;

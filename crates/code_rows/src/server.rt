@@ -1,5 +1,6 @@
 ghost use Rattle.std.specs.Prelude.{◌≡◌, ◌≤◌, length};
 
+use crate::given::six;
 use code_points::find_profile;
 use hail_field::Symbol;
 use hail_poly::Work;
@@ -23,85 +24,38 @@ fn decode(rt: &impl Abort, code: &AnyCode, block: &mut [Symbol], work: &mut Work
     code.decode_in(block, work)
 }
 
-/// The block of six numbers.
-fn six(a: u128, b: u128, c: u128, d: u128, e: u128, f: u128) -> [Symbol; 6]
-    ensures { length result ≡ 6 }
-{
-    [
-        Symbol(a),
-        Symbol(b),
-        Symbol(c),
-        Symbol(d),
-        Symbol(e),
-        Symbol(f),
-    ]
-}
-
-/// Whether a 1 behind zeros, encoded and then changed at as many places as can be corrected, is given back.
-fn corrects_all(rt: &impl Abort, alloc: Global, number: u8, work: &mut Work) -> bool
-    requires { 128 ≤ work.old.size }
-    ensures { work.new.size ≡ work.old.size }
-{
-    let code = code_of(rt, alloc, number);
-    let profile = code.profile();
-    let zero = Symbol::ZERO;
-    let size = profile.size as usize;
-    let keep = profile.keep as usize;
-    assert!(rt; keep >= 1);
-    let mut kept = vec![in alloc; zero; keep].expect(rt, "memory");
-    let mut block = vec![in alloc; zero; size].expect(rt, "memory");
-    kept[keep - 1] = Symbol::ONE;
-    code.encode_into(&kept, &mut block);
-    let mut seen = Vec::from_slice(alloc, &block).expect(rt, "memory");
-    for k in 0..profile.fix as usize {
-        assert!(rt; 2 * k + 1 < size && seen.len() == size);
-        seen[2 * k + 1] = seen[2 * k + 1].add(Symbol(2 + 256 * k as u128));
-    }
-    let answer = decode(rt, &code, &mut seen, work);
-    answer == Some(profile.fix) && seen == block
-}
-
 #[test]
 fn a_block_of_profile_0_is_encoded_as_worked_out(rt: HostRuntime) {
     let code = code_of(&rt, rt.alloc(), 0);
     let profile = code.profile();
     let kept = [Symbol(0), Symbol(5)];
-    let mut block = six(0, 0, 0, 0, 0, 0);
+    let mut block = six([0, 0, 0, 0, 0, 0]);
     assert!(rt; profile.keep == 2 && profile.size == 6);
     code.encode_into(&kept, &mut block);
-    assert!(rt; block == six(0, 5, 10, 15, 2, 7));
+    assert!(rt; block == six([0, 5, 10, 15, 2, 7]));
 }
 
 #[test]
 fn blocks_of_profile_0_decode_as_worked_out(rt: HostRuntime) {
     let mut work = Work::new(rt.alloc(), 128).expect(&rt, "memory");
     let code = code_of(&rt, rt.alloc(), 0);
-    let mut clean = six(0, 5, 10, 15, 2, 7);
+    let mut clean = six([0, 5, 10, 15, 2, 7]);
     assert!(rt; decode(&rt, &code, &mut clean, &mut work) == Some(0));
-    assert!(rt; clean == six(0, 5, 10, 15, 2, 7));
-    let mut two_wrong = six(0, 5, 10, 15, 0, 0);
+    assert!(rt; clean == six([0, 5, 10, 15, 2, 7]));
+    let mut two_wrong = six([0, 5, 10, 15, 0, 0]);
     assert!(rt; decode(&rt, &code, &mut two_wrong, &mut work) == Some(2));
-    assert!(rt; two_wrong == six(0, 5, 10, 15, 2, 7));
-    let mut another = six(0, 5, 10, 0, 0, 0);
+    assert!(rt; two_wrong == six([0, 5, 10, 15, 2, 7]));
+    let mut another = six([0, 5, 10, 0, 0, 0]);
     assert!(rt; decode(&rt, &code, &mut another, &mut work) == Some(2));
-    assert!(rt; another == six(0, 0, 0, 0, 0, 0));
-    let mut lost = six(0, 5, 10, 0, 0, 1);
+    assert!(rt; another == six([0, 0, 0, 0, 0, 0]));
+    let mut lost = six([0, 5, 10, 0, 0, 1]);
     assert!(rt; decode(&rt, &code, &mut lost, &mut work).is_none());
-    assert!(rt; lost == six(0, 5, 10, 0, 0, 1));
+    assert!(rt; lost == six([0, 5, 10, 0, 0, 1]));
 }
 
-#[test]
-fn each_profile_corrects_as_many_as_it_can(rt: HostRuntime) {
-    let mut work = Work::new(rt.alloc(), 128).expect(&rt, "memory");
-    assert!(rt; corrects_all(&rt, rt.alloc(), 0, &mut work));
-    assert!(rt; corrects_all(&rt, rt.alloc(), 1, &mut work));
-    assert!(rt; corrects_all(&rt, rt.alloc(), 2, &mut work));
-    assert!(rt; corrects_all(&rt, rt.alloc(), 3, &mut work));
-    assert!(rt; corrects_all(&rt, rt.alloc(), 4, &mut work));
-}
-
-/// How many symbols are corrected of a 1 behind zeros, encoded and then changed at every third place, at so many in all.
-fn corrected(rt: &impl Abort, alloc: Global, number: u8, errors: u32) -> Option<u32> {
+/// How many symbols are corrected of a 1 behind zeros, encoded and then changed at every third place, at so many in all, and
+/// whether the codeword is given back.
+fn corrected(rt: &impl Abort, alloc: Global, number: u8, errors: u32) -> (Option<u32>, bool) {
     let code = code_of(rt, alloc, number);
     let profile = code.profile();
     let size = profile.size as usize;
@@ -112,13 +66,15 @@ fn corrected(rt: &impl Abort, alloc: Global, number: u8, errors: u32) -> Option<
     assert!(rt; keep >= 1 && size <= 128);
     kept[keep - 1] = Symbol::ONE;
     code.encode_into(&kept, &mut block);
+    let codeword = Vec::from_slice(alloc, &block).expect(rt, "memory");
     for k in 0..errors as usize {
         assert!(rt; k < 128 && size > 0 && block.len() == size);
         let place = 3 * k % size;
         block[place] = block[place].add(Symbol(2 + 256 * k as u128));
     }
     assert!(rt; block.len() == size);
-    code.decode_in(&mut block, &mut work)
+    let count = code.decode_in(&mut block, &mut work);
+    (count, block == codeword)
 }
 
 #[test]
@@ -133,7 +89,10 @@ fn all_that_can_be_corrected_is_found(rt: HostRuntime) {
         (4, 7),
         (4, 16),
     ] {
-        assert_eq!(rt; corrected(&rt, rt.alloc(), number, errors), Some(errors));
+        assert_eq!(rt;
+            corrected(&rt, rt.alloc(), number, errors),
+            (Some(errors), true)
+        );
     }
-    assert!(rt; corrected(&rt, rt.alloc(), 4, 17).is_none());
+    assert_eq!(rt; corrected(&rt, rt.alloc(), 4, 17), (None, false));
 }

@@ -1,22 +1,9 @@
 ghost use Rattle.std.specs.Prelude.{◌≡◌, ◌≤◌, length};
 
+use crate::given::six;
 use hail_field::Symbol;
 use hail_poly::Work;
 use hail_syndrome::{decode_syndromes, syndromes};
-
-/// The symbols of six numbers.
-fn six(numbers: [u128; 6]) -> [Symbol; 6]
-    ensures { length result ≡ 6 }
-{
-    [
-        Symbol(numbers[0]),
-        Symbol(numbers[1]),
-        Symbol(numbers[2]),
-        Symbol(numbers[3]),
-        Symbol(numbers[4]),
-        Symbol(numbers[5]),
-    ]
-}
 
 /// Asks for 5 x among values at the points 0 to 5, of which `fix` may be wrong, and tells whether it was found.
 fn finds_line(values: [u128; 6], fix: usize, work: &mut Work) -> bool

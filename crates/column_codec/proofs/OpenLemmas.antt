@@ -5,6 +5,7 @@ use Rattle.std.specs.Bool.{OnTrue, OnFalse}
 use Rattle.std.specs.List.{range_with_len}
 use Rattle.std.proofs.lemmas.List.{get_or-set_same, get_or-set_other, get_or-take, length-set, length-take-le, ext_get_or, get_or_default}
 use Rattle.std.proofs.lemmas.Grind.{get_or-set_at}
+use Rattle.std.proofs.lemmas.Bool.{OnTrue_at}
 use Rattle.std.proofs.lemmas.Nat.{div-mul-add, mod-mul-add}
 use Rattle.std.proofs.lemmas.List.FromFn.{length-map-range_with_len, get_or-map-range_with_len}
 use Rattle.code_defs.specs.Polynomials.{value}
@@ -20,7 +21,7 @@ use Rattle.std.proofs.lemmas.Option.{slice_get-get_or}
 use Rattle.column_defs.proofs.MaskLengths.{length-bare}
 use Rattle.column_codec.proofs.Places.{index_within}
 use Rattle.column_codec.specs.ObjectKeys.{ArePoints}
-use Rattle.column_codec.specs.OpenedBlocks.{opened_at, opened_of, HasRow, LosesPlace}
+use Rattle.column_codec.specs.OpenedBlocks.{opened_at, opened_of, AreOpened, HasRow, LosesPlace}
 
 -- a primary block has no masks
 pub bare-primary : (o : Object) (j stripe : ℕ) (block : List ℕ) → j < o.shape.l → block ≡ bare o j stripe block
@@ -99,6 +100,27 @@ opened_more o stripe seen marks blocks j s b x new in_marks in_blocks at is hold
         let f : opened_at marks blocks k ≡ opened_at (set marks j b) (set blocks j x) k =
         (λ i. if sym (get_or-set_other marks j k b false other) i then Some (sym (get_or-set_other blocks j k x [] other) i) else None) in
         subst (λ (t : SeenBlock). OpensTo o k stripe (get_or seen k None) t) f (before k (let n : k ≡ j → ⊥ = other in omega arith))
+
+-- one block more is marked, if it is opened
+pub marked_more : (o : Object) (stripe : ℕ) (seen : List SeenBlock) (marks : List Bool) (blocks : List (List ℕ)) (j : ℕ) (b : Bool) (x new : List ℕ) →
+    j < length marks → j < length blocks → x ≡ new → OnTrue b (OpensTo o j stripe (get_or seen j None) (Some new)) →
+    AreOpened o stripe seen marks blocks → AreOpened o stripe seen (set marks j b) (set blocks j x)
+marked_more o stripe seen marks blocks j b x new in_marks in_blocks is holds before k below marked = go (nat_eq k j) refl
+  where
+    here : get_or (set marks j b) j false ≡ true → OpensTo o j stripe (get_or seen j None) (Some (get_or (set blocks j x) j []))
+    here mark =
+        subst (λ (t : List ℕ). OpensTo o j stripe (get_or seen j None) (Some t)) (sym (get_or-set_same blocks j x [] in_blocks ∙ is))
+        (OnTrue_at (sym (get_or-set_same marks j b false in_marks) ∙ mark) holds)
+
+    go : (t : Bool) → nat_eq k j ≡ t → OpensTo o k stripe (get_or seen k None) (Some (get_or (set blocks j x) k []))
+    go true same =
+        let e = eqb-true k j same in
+        subst (λ (n : ℕ). OpensTo o n stripe (get_or seen n None) (Some (get_or (set blocks j x) n []))) (sym e)
+        (here (subst (λ (n : ℕ). get_or (set marks j b) n false ≡ true) e marked))
+    go false differ =
+        let other : k ≡ j → ⊥ = λ h. grind (arith, differ, h) in
+        subst (λ (t : List ℕ). OpensTo o k stripe (get_or seen k None) (Some t)) (sym (get_or-set_other blocks j k x [] other))
+        (before k below (sym (get_or-set_other marks j k b false other) ∙ marked))
 
 -- all sizes stay
 pub all_sizes : (blocks : List (List ℕ)) (size j : ℕ) (x new : List ℕ) → j < length blocks → x ≡ new → length new ≡ size →
@@ -211,6 +233,13 @@ loses o stripe row seen opened opens h = record {
 -- the sizes of all blocks, whatever is read past the end
 pub all-blocks : (blocks : List (List ℕ)) (size : ℕ) → ((k : ℕ) → k < length blocks → length (get_or blocks k []) ≡ size) → All (λ block. length block ≡ size) blocks
 all-blocks blocks size each k d below = ap length (get_or_default blocks k d [] below) ∙ each k below
+
+-- the front of a block
+pub length-front : (blocks : List (List ℕ)) (seen block : List ℕ) (j size keep : ℕ) → seen ≡ block → block ≡ get_or blocks j block → j < length blocks →
+    ((k : ℕ) → k < length blocks → length (get_or blocks k []) ≡ size) → keep ≤ size → length (take keep seen) ≡ keep
+length-front blocks seen block j size keep is at below sizes fits =
+    let long : length seen ≡ size = ap length (is ∙ at ∙ get_or_default blocks j block [] below) ∙ sizes j below in
+    length-take-le keep seen (omega (arith, long, fits))
 
 -- a fact that holds where a call succeeded gives another there
 pub on_ok : {T E : Type 0} (P Q : Type 0) (r : Result T E) → (P → Q) → OnOk r P → OnOk r Q

@@ -69,6 +69,17 @@ impl ObjectKeys {
         above.mul(below.inv().unwrap_or(Symbol::ZERO))
     }
 
+    /// The symbols at the kept places of a provider's block.
+    fn kept_of<'a>(&self, blocks: &'a [Block], provider: usize) -> &'a [Symbol]
+        requires provider { provider < length blocks.now }
+        requires sizes { (j : ℕ) → j < length blocks.now
+            → length (slice_index_or blocks.now j []) ≡ self.now.file.profile.size }
+        ensures { length result.now ≡ self.now.file.profile.keep }
+    {
+        let keep = self.file.profile.keep as usize;
+        &blocks[provider].symbols()[..keep]
+    }
+
     /// Copies what trusted primary providers hold of the kept rows, and leaves zeros for the others.
     fn copy_trusted(&self, trusted: &[bool; 16], blocks: &[Block], rows: &mut [Symbol])
         requires blocks { length blocks.now ≡ self.now.file.shape.n }
@@ -80,7 +91,7 @@ impl ObjectKeys {
         for j in 0..usize::from(self.file.shape.l) {
             let row = &mut rows[j * keep..j * keep + keep];
             if trusted[j] {
-                row.copy_from_slice(&blocks[j].symbols()[..keep]);
+                row.copy_from_slice(self.kept_of(blocks, j));
             } else {
                 row.fill(Symbol::ZERO);
             }
@@ -88,6 +99,7 @@ impl ObjectKeys {
     }
 
     /// What a secondary provider holds of the kept rows beyond their values by `rows` at its point.
+    #[tactic(auto, using(crate::proofs::RowLemmas::profile_small))]
     fn residue(&self, blocks: &[Block], provider: usize, rows: &[Symbol], out: &mut [Symbol; 96])
         requires blocks { length blocks.now ≡ self.now.file.shape.n }
         requires sizes { (j : ℕ) → j < length blocks.now
@@ -99,7 +111,7 @@ impl ObjectKeys {
         let keep = self.file.profile.keep as usize;
         let out = &mut out[..keep];
         self.kept_into(rows, provider, out);
-        add_each(out, &blocks[provider].symbols()[..keep]);
+        add_each(out, self.kept_of(blocks, provider));
     }
 
     /// Adds to the symbols of a primary provider those residues, of the first trusted secondary ones, by their shares in it.

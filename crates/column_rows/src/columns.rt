@@ -1,22 +1,14 @@
 ghost use Rattle.std.specs.Prelude.{◌≡◌, replicate};
 
+use crate::given::numbered_key;
 use code_points::find_profile;
 use column_codec::*;
 use file_layout::FileShape;
 use hail_field::{Shape, Symbol};
 use hail_poly::Work;
-use key_schedule::Master;
 use server_code::AnyCode;
 use std::alloc::Global;
 use std::process::Abort;
-
-fn numbered_key() -> Master {
-    let mut bytes = [0; 32];
-    for (place, byte) in bytes.iter_mut().enumerate() {
-        *byte = place as u8;
-    }
-    Master(bytes)
-}
 
 // Keys, codewords and nim products written in Python from their definitions gave these values.
 #[test]

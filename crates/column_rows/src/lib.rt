@@ -8,6 +8,8 @@ mod challenges;
 #[cfg(test)]
 mod columns;
 #[cfg(test)]
+mod given;
+#[cfg(test)]
 mod keys;
 #[cfg(test)]
 mod layout;

@@ -1,39 +1,35 @@
+use crate::given::MASK_KEY;
+use hail_field::Symbol;
 use mask_tag::*;
 
-// The key of the masks of provider 3 for object 1 under the master key of the bytes 0 to 31.
-const KEY: [u8; 32] = [
-    167, 187, 129, 227, 41, 81, 35, 176, 235, 147, 63, 13, 2, 213, 109, 34, 52, 201, 92, 41, 237,
-    226, 202, 15, 106, 128, 223, 167, 102, 253, 58, 44,
-];
-
-// A ChaCha20 written in Python from RFC 8439 computed these values.
+// A ChaCha20 written in Python from RFC 8439 computed these values and those of the block.
 #[test]
 fn masks_are_as_computed_elsewhere(rt: HostRuntime) {
     assert_eq!(rt;
-        mask(&KEY, 5),
+        mask(&MASK_KEY, 5),
         Symbol(132_404_573_127_933_671_675_181_182_103_192_641_507)
     );
     assert_eq!(rt;
-        mask(&KEY, (1 << 40) + 1),
+        mask(&MASK_KEY, (1 << 40) + 1),
         Symbol(84_677_465_710_808_750_392_760_207_484_068_712_142)
     );
     assert_eq!(rt;
-        mask(&KEY, u64::MAX),
+        mask(&MASK_KEY, u64::MAX),
         Symbol(98_766_597_404_400_273_572_257_413_031_661_977_278)
     );
 }
 
 #[test]
-fn masks_of_a_block_are_the_words_in_sequence(rt: HostRuntime) {
+fn masks_of_a_block_are_as_computed_elsewhere(rt: HostRuntime) {
     let mut masks = [Symbol::ZERO; 6];
-    mask_block(&KEY, 1, &mut masks);
-    let mut rng = ChaCha20Rng::from_seed(KEY);
-    rng.set_word_pos(24);
-    for symbol in masks {
-        let mut want = 0;
-        for place in 0..4u32 {
-            want |= u128::from(rng.next_word()) << (32 * place);
-        }
-        assert_eq!(rt; symbol, Symbol(want));
-    }
+    mask_block(&MASK_KEY, 1, &mut masks);
+    let wanted = [
+        Symbol(31_260_199_018_784_472_631_801_668_278_117_275_176),
+        Symbol(188_417_656_135_743_284_463_310_311_914_075_700_201),
+        Symbol(282_612_794_951_351_476_611_725_552_516_256_906_284),
+        Symbol(262_427_142_420_750_215_065_805_825_723_154_265_757),
+        Symbol(35_197_396_585_757_088_927_215_211_191_803_504_645),
+        Symbol(162_872_769_359_184_709_944_573_996_126_273_346_862),
+    ];
+    assert_eq!(rt; masks, wanted);
 }

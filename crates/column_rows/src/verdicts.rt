@@ -1,21 +1,13 @@
 ghost use Rattle.std.specs.Prelude.{◌≡◌, ◌≤◌};
 
+use crate::given::numbered_key;
 use audit_verdict::*;
 use code_points::find_profile;
 use file_layout::FileShape;
 use hail_field::{Shape, Symbol};
 use hail_poly::Work;
-use key_schedule::Master;
 use std::alloc::Global;
 use std::process::Abort;
-
-fn numbered_key() -> Master {
-    let mut bytes = [0; 32];
-    for (place, byte) in bytes.iter_mut().enumerate() {
-        *byte = place as u8;
-    }
-    Master(bytes)
-}
 
 // What the answers to a round come to, from counts of zero: the file of 33 bytes 1 over five providers, audit 7, round 2.
 fn judged(rt: &impl Abort, heard: &[Option<Symbol>], work: &mut Work) -> (Counts, u32)

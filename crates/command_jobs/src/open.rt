@@ -18,7 +18,7 @@ use vault::{StartFault, Vault};
 const FIRST_JOB: u32 = 1;
 
 /// Why no vault is opened.
-#[derive(Clone, Copy, Debug, PartialEq, Eq, Drop)]
+#[derive(Clone, Copy, Drop)]
 pub enum Unopened {
     /// A call of the disk failed.
     DiskFault,

@@ -1,210 +1,247 @@
+use crate::calls::Call::{self, Alter, Fetch, Lacks, Lose, Remove, Store};
+use crate::calls::is_right_tampered;
+use crate::disk_calls::DiskCall::{self, Len, Sync, Write};
+use crate::files::Look;
 use disk_model::Disk;
 use hail_adapters::transfer::{fill, write_some};
 use hail_adapters::*;
 use hail_field::Symbol;
-use provider_model::{Provider, Tamper};
+use provider_model::{StoreFault, Tamper};
+use std::alloc::{Alloc, Global};
 use std::fmt::Display;
 use std::fs::Files;
+use std::io;
 use std::io::{ErrorKind, Print, Read};
-use std::os::unix::fs::{PermissionsExt, symlink};
-use std::test::Fail;
-use std::{fs, io};
+use stream_model::{Failed, WriteFault};
 
-/// The most bytes of a journal.
-const LARGEST: u64 = 1 << 24;
-
-// What a test calls, each with no clause: a test is proved to be safe, and shows the rest by running.
-
-fn len<D: Disk>(disk: &mut D) -> Option<u64> {
-    disk.len().ok()
+/// A call of a disk, or a look at the files.
+#[derive(Clone, Copy)]
+enum OfDisk {
+    Calls(DiskCall),
+    Looks(Look),
 }
 
-fn writes<D: Disk>(disk: &mut D, at: u64, bytes: &[u8]) -> bool {
-    at <= LARGEST && bytes.len() as u64 <= LARGEST - at && disk.write_at(at, bytes).is_ok()
+/// The place of the first of these that comes to something else, or none.
+fn first_wrong_of_disk<R: Files + Alloc + Clone + Drop, D: Disk>(
+    rt: &R,
+    disk: &mut D,
+    deeds: &[OfDisk],
+) -> Option<usize> {
+    for place in 0..deeds.len() {
+        let right = match &deeds[place] {
+            OfDisk::Calls(call) => call.is_right(disk),
+            OfDisk::Looks(look) => look.is_right(rt),
+        };
+        if !right {
+            return Some(place);
+        }
+    }
+    None
 }
 
-fn syncs<D: Disk>(disk: &mut D) -> bool {
-    disk.sync().is_ok()
+/// The same over the file at a path.
+fn over_file<R: Files + Alloc + Clone + Drop>(
+    rt: &R,
+    alloc: Global,
+    path: &str,
+    deeds: &[OfDisk],
+) -> Option<Option<usize>> {
+    let mut disk = FileDisk::new(rt, alloc, path).ok()?;
+    Some(first_wrong_of_disk(rt, &mut disk, deeds))
 }
 
-// What is read of eight bytes that were all 9.
-fn reads<D: Disk>(disk: &mut D, at: u64) -> Option<[u8; 8]> {
-    let mut out = [9; 8];
-    disk.read_at(at, &mut out).ok()?;
-    Some(out)
+const NINES: &[u8] = &[9; 8];
+
+#[test]
+fn a_file_is_a_disk(rt: HostRuntime) {
+    let first = [
+        OfDisk::Calls(Len(Ok(0))),
+        OfDisk::Calls(DiskCall::Read(0, NINES, Ok(0), NINES)),
+        OfDisk::Calls(Sync(Ok(()))),
+        OfDisk::Looks(Look::IsFile("journal", false)),
+        OfDisk::Calls(Write(2, b"abcd", Ok(()))),
+        OfDisk::Calls(Write(3, b"x", Ok(()))),
+        OfDisk::Calls(Len(Ok(6))),
+        OfDisk::Calls(DiskCall::Read(1, NINES, Ok(5), b"\0axcd\x09\x09\x09")),
+        OfDisk::Calls(DiskCall::Read(7, NINES, Ok(0), NINES)),
+        OfDisk::Calls(Write(8, b"", Ok(()))),
+        OfDisk::Calls(Sync(Ok(()))),
+    ];
+    assert_eq!(rt; over_file(&rt, rt.alloc(), "journal", &first), Some(None));
+    let again = [
+        OfDisk::Calls(Sync(Ok(()))),
+        OfDisk::Calls(DiskCall::Read(0, NINES, Ok(8), b"\0\0axcd\0\0")),
+        OfDisk::Looks(Look::Mode("journal", 0o600)),
+        OfDisk::Looks(Look::RemoveFile("journal")),
+    ];
+    assert_eq!(rt; over_file(&rt, rt.alloc(), "journal", &again), Some(None));
+    let nowhere = [
+        OfDisk::Calls(Len(Ok(0))),
+        OfDisk::Calls(Write(0, b"a", Err(WriteFault::Failed))),
+    ];
+    let seen = over_file(&rt, rt.alloc(), "nowhere/journal", &nowhere);
+    assert_eq!(rt; seen, Some(None));
 }
 
-fn stores<P: Provider>(provider: &mut P, object: u64, stripe: u32, block: &[Symbol]) -> bool {
-    !block.is_empty() && block.len() <= 128 && provider.store(object, stripe, block).is_ok()
+/// A call of a provider, or a look at the files.
+#[derive(Clone, Copy)]
+enum OfProvider {
+    Calls(Call),
+    Looks(Look),
 }
 
-// The block of so many symbols, or none.
-fn block<P: Provider, const N: usize>(
+/// The place of the first of these that comes to something else, or none.
+fn first_wrong_of_provider<R: Files + Alloc + Clone + Drop, P: Tamper>(
+    rt: &R,
     provider: &mut P,
-    object: u64,
-    stripe: u32,
-) -> Option<[Symbol; N]> {
-    let mut out = [Symbol(0); N];
-    if out.is_empty() || out.len() > 128 {
-        return None;
+    deeds: &[OfProvider],
+) -> Option<usize> {
+    for place in 0..deeds.len() {
+        let right = match &deeds[place] {
+            OfProvider::Calls(call) => is_right_tampered(provider, call),
+            OfProvider::Looks(look) => look.is_right(rt),
+        };
+        if !right {
+            return Some(place);
+        }
     }
-    match provider.fetch(object, stripe, &mut out) {
-        Ok(true) => Some(out),
-        _ => None,
-    }
+    None
 }
 
-fn removes<P: Provider>(provider: &mut P, object: u64) -> bool {
-    provider.remove(object).is_ok()
+/// The same over the folder at a path.
+fn over_folder<R: Files + Alloc + Clone + Drop>(
+    rt: &R,
+    alloc: Global,
+    path: &str,
+    deeds: &[OfProvider],
+) -> Option<Option<usize>> {
+    let mut provider = FolderProvider::new(rt, alloc, path).ok()?;
+    Some(first_wrong_of_provider(rt, &mut provider, deeds))
 }
 
-fn alters<P: Tamper>(provider: &mut P, object: u64, stripe: u32, place: u32) -> bool {
-    provider.alter(object, stripe, place, Symbol(5))
-}
+const OWN: &[u128] = &[513, 1 << 127];
 
-fn loses<P: Tamper>(provider: &mut P, object: u64, stripe: u32) -> bool {
-    provider.lose(object, stripe)
-}
+const FIRST: &[u128] = &[513];
 
-fn is_file<R: Files>(rt: &R, path: &str) -> bool {
-    match fs::symlink_metadata(rt, path) {
-        Ok(metadata) => metadata.is_file(),
-        Err(_) => false,
-    }
-}
+const NINE: &[u128] = &[513, 9];
 
-fn mode<R: Files>(rt: &R, path: &str) -> Option<u32> {
-    let metadata = fs::metadata(rt, path).ok()?;
-    Some(metadata.permissions().mode() % 512)
+const FIVE: &[u128] = &[513, 5];
+
+/// What is to be fetched into before it is: one symbol, and two.
+const ROOM: &[u128] = &[0];
+
+const WIDE_ROOM: &[u128] = &[0, 0];
+
+const ONE: &[u128] = &[1];
+
+const TWO: &[u128] = &[2];
+
+const THREE: &[u128] = &[3];
+
+/// Bytes of a file that is no block.
+const ODD: &[u8] = &[0; 17];
+
+/// The bytes of that block.
+const BYTES: &[u8] = &[
+    1, 2, 0, 0, 0, 0, 0, 0, 0, 0, 0, 0, 0, 0, 0, 0, 0, 0, 0, 0, 0, 0, 0, 0, 0, 0, 0, 0, 0, 0, 0,
+    128,
+];
+
+#[test]
+fn blocks_are_files(rt: HostRuntime) {
+    let deeds = [
+        OfProvider::Calls(Lacks(7, 12, 2)),
+        OfProvider::Looks(Look::IsThere("blocks", false)),
+        OfProvider::Calls(Store(7, 12, OWN, Ok(()))),
+        OfProvider::Looks(Look::Bytes("blocks/7-12", BYTES)),
+        OfProvider::Looks(Look::Mode("blocks", 0o700)),
+        OfProvider::Looks(Look::Mode("blocks/7-12", 0o600)),
+        OfProvider::Calls(Lacks(7, 12, 1)),
+        OfProvider::Calls(Lacks(7, 12, 3)),
+        OfProvider::Calls(Fetch(7, 12, WIDE_ROOM, Ok(true), OWN)),
+        OfProvider::Calls(Store(7, 12, FIRST, Ok(()))),
+        OfProvider::Calls(Fetch(7, 12, ROOM, Ok(true), FIRST)),
+        OfProvider::Calls(Remove(7, Ok(()))),
+        OfProvider::Looks(Look::RemoveFolder("blocks")),
+    ];
+    let seen = over_folder(&rt, rt.alloc(), "blocks", &deeds);
+    assert_eq!(rt; seen, Some(None));
 }
 
 #[test]
-fn a_file_is_a_disk(rt: HostRuntime) -> Result<(), Fail> {
-    let mut disk = FileDisk::new(&rt, rt.alloc(), "journal")?;
-    let empty = (len(&mut disk), reads(&mut disk, 0), syncs(&mut disk));
-    assert_eq!(rt; empty, (Some(0), Some([9; 8]), true));
-    assert_eq!(rt; is_file(&rt, "journal"), false);
-    assert_eq!(rt;
-        [writes(&mut disk, 2, b"abcd"), writes(&mut disk, 3, b"x")],
-        [true; 2]
-    );
-    let begun = (len(&mut disk), reads(&mut disk, 1), reads(&mut disk, 7));
-    let bytes = [0, b'a', b'x', b'c', b'd', 9, 9, 9];
-    assert_eq!(rt; begun, (Some(6), Some(bytes), Some([9; 8])));
-    assert_eq!(rt; [writes(&mut disk, 8, &[]), syncs(&mut disk)], [true; 2]);
-
-    let mut again = FileDisk::new(&rt, rt.alloc(), "journal")?;
-    let bytes = [0, 0, b'a', b'x', b'c', b'd', 0, 0];
-    assert_eq!(rt;
-        (syncs(&mut again), reads(&mut again, 0)),
-        (true, Some(bytes))
-    );
-    assert_eq!(rt; mode(&rt, "journal"), Some(0o600));
-    fs::remove_file(&rt, "journal")?;
-
-    let mut nowhere = FileDisk::new(&rt, rt.alloc(), "nowhere/journal")?;
-    assert_eq!(rt;
-        (len(&mut nowhere), writes(&mut nowhere, 0, b"a")),
-        (Some(0), false)
-    );
-    Ok(())
-}
-
-#[test]
-fn blocks_are_files(rt: HostRuntime) -> Result<(), Fail> {
-    let own = [Symbol(513), Symbol(1 << 127)];
-    let mut provider = FolderProvider::new(&rt, rt.alloc(), "blocks")?;
-    assert_eq!(rt; block::<_, 2>(&mut provider, 7, 12), None);
-    assert_eq!(rt; fs::exists(&rt, "blocks")?, false);
-
-    assert_eq!(rt; stores(&mut provider, 7, 12, &own), true);
-    let mut bytes = [0; 32];
-    (bytes[0], bytes[1], bytes[31]) = (1, 2, 128);
-    assert_eq!(rt; fs::read(&rt, "blocks/7-12")?.as_slice(), bytes.as_slice());
-    assert_eq!(rt;
-        [mode(&rt, "blocks"), mode(&rt, "blocks/7-12")],
-        [Some(0o700), Some(0o600)]
-    );
-    assert_eq!(rt; block::<_, 1>(&mut provider, 7, 12), None);
-    assert_eq!(rt; block::<_, 3>(&mut provider, 7, 12), None);
-    assert_eq!(rt; block(&mut provider, 7, 12), Some(own));
-
-    assert_eq!(rt; stores(&mut provider, 7, 12, &own[..1]), true);
-    assert_eq!(rt; block(&mut provider, 7, 12), Some([Symbol(513)]));
-    assert_eq!(rt; removes(&mut provider, 7), true);
-    fs::remove_dir(&rt, "blocks")?;
-    Ok(())
-}
-
-#[test]
-fn blocks_are_altered_and_lost(rt: HostRuntime) -> Result<(), Fail> {
-    let mut provider = FolderProvider::new(&rt, rt.alloc(), "altered")?;
-    assert_eq!(rt;
-        stores(&mut provider, 7, 12, &[Symbol(513), Symbol(9)]),
-        true
-    );
-    let altered = [(12, 1), (12, 2), (11, 0)].map(|at| alters(&mut provider, 7, at.0, at.1));
-    assert_eq!(rt; altered, [true, false, false]);
-    assert_eq!(rt; block(&mut provider, 7, 12), Some([Symbol(513), Symbol(5)]));
-
-    fs::write(&rt, "altered/7-13", [0; 17])?;
-    assert_eq!(rt; block::<_, 1>(&mut provider, 7, 13), None);
-    assert_eq!(rt; alters(&mut provider, 7, 13, 0), false);
-    let lost = [13, 12, 12].map(|stripe| loses(&mut provider, 7, stripe));
-    assert_eq!(rt; lost, [false, true, false]);
-    assert_eq!(rt; block::<_, 2>(&mut provider, 7, 12), None);
-    assert_eq!(rt; removes(&mut provider, 7), true);
-    fs::remove_dir(&rt, "altered")?;
-    Ok(())
+fn blocks_are_altered_and_lost(rt: HostRuntime) {
+    let deeds = [
+        OfProvider::Calls(Store(7, 12, NINE, Ok(()))),
+        OfProvider::Calls(Alter(7, 12, 1, Symbol(5), true)),
+        OfProvider::Calls(Alter(7, 12, 2, Symbol(5), false)),
+        OfProvider::Calls(Alter(7, 11, 0, Symbol(5), false)),
+        OfProvider::Calls(Fetch(7, 12, WIDE_ROOM, Ok(true), FIVE)),
+        OfProvider::Looks(Look::Write("altered/7-13", ODD)),
+        OfProvider::Calls(Lacks(7, 13, 1)),
+        OfProvider::Calls(Alter(7, 13, 0, Symbol(5), false)),
+        OfProvider::Calls(Lose(7, 13, false)),
+        OfProvider::Calls(Lose(7, 12, true)),
+        OfProvider::Calls(Lose(7, 12, false)),
+        OfProvider::Calls(Lacks(7, 12, 2)),
+        OfProvider::Calls(Remove(7, Ok(()))),
+        OfProvider::Looks(Look::RemoveFolder("altered")),
+    ];
+    let seen = over_folder(&rt, rt.alloc(), "altered", &deeds);
+    assert_eq!(rt; seen, Some(None));
 }
 
 // A hole of 4,095 stripes hides nothing; an entry that is no file is a fault, behind which the removal goes on.
 #[test]
-fn only_blocks_of_the_object_are_removed(rt: HostRuntime) -> Result<(), Fail> {
-    let mut provider = FolderProvider::new(&rt, rt.alloc(), "removed")?;
-    assert_eq!(rt; removes(&mut provider, 7), true);
-    let stored = [0, 4096].map(|stripe| stores(&mut provider, 7, stripe, &[Symbol(1)]));
-    assert_eq!(rt; stored, [true; 2]);
-    assert_eq!(rt; stores(&mut provider, u64::MAX, 0, &[Symbol(1)]), true);
-    fs::create_dir(&rt, "removed/7-9")?;
-    for name in ["removed/7-00", "removed/77-1", "removed/7-+1"] {
-        fs::write(&rt, name, "")?;
-    }
-    assert_eq!(rt; removes(&mut provider, 7), false);
-    assert_eq!(rt; fs::read_dir(&rt, "removed")?.count(), 5);
-    assert_eq!(rt; removes(&mut provider, u64::MAX), true);
-    fs::remove_dir_all(&rt, "removed")?;
-    Ok(())
+fn only_blocks_of_the_object_are_removed(rt: HostRuntime) {
+    let deeds = [
+        OfProvider::Calls(Remove(7, Ok(()))),
+        OfProvider::Calls(Store(7, 0, ONE, Ok(()))),
+        OfProvider::Calls(Store(7, 4096, ONE, Ok(()))),
+        OfProvider::Calls(Store(u64::MAX, 0, ONE, Ok(()))),
+        OfProvider::Looks(Look::Folder("removed/7-9")),
+        OfProvider::Looks(Look::Write("removed/7-00", b"")),
+        OfProvider::Looks(Look::Write("removed/77-1", b"")),
+        OfProvider::Looks(Look::Write("removed/7-+1", b"")),
+        OfProvider::Calls(Remove(7, Err(Failed))),
+        OfProvider::Looks(Look::Names("removed", 5)),
+        OfProvider::Calls(Remove(u64::MAX, Ok(()))),
+        OfProvider::Looks(Look::RemoveAll("removed")),
+    ];
+    let seen = over_folder(&rt, rt.alloc(), "removed", &deeds);
+    assert_eq!(rt; seen, Some(None));
 }
 
 // A link is not followed, and a store puts a block in its place, and in that of what a cut store left. A folder that is a file
 // holds nothing.
 #[test]
-fn only_plain_files_are_blocks(rt: HostRuntime) -> Result<(), Fail> {
-    let mut provider = FolderProvider::new(&rt, rt.alloc(), "linked")?;
-    assert_eq!(rt; stores(&mut provider, 1, 0, &[Symbol(1)]), true);
-    symlink(&rt, "1-0", "linked/2-0")?;
-    symlink(&rt, "1-0", "linked/new")?;
-    assert_eq!(rt; block::<_, 1>(&mut provider, 2, 0), None);
-    assert_eq!(rt;
-        [alters(&mut provider, 2, 0, 0), loses(&mut provider, 2, 0)],
-        [false; 2]
-    );
-    assert_eq!(rt; stores(&mut provider, 2, 0, &[Symbol(2)]), true);
-    assert_eq!(rt; is_file(&rt, "linked/2-0"), true);
-    assert_eq!(rt; block(&mut provider, 1, 0), Some([Symbol(1)]));
-
-    fs::create_dir(&rt, "linked/3-0")?;
-    assert_eq!(rt; stores(&mut provider, 3, 0, &[Symbol(3)]), false);
-    let mut disk = FileDisk::new(&rt, rt.alloc(), "linked/3-0")?;
-    assert_eq!(rt; (len(&mut disk), writes(&mut disk, 0, b"a")), (None, false));
-
-    let mut within = FolderProvider::new(&rt, rt.alloc(), "linked/1-0")?;
-    let stored = stores(&mut within, 1, 0, &[Symbol(1)]);
-    let held = (block::<_, 1>(&mut within, 1, 0), removes(&mut within, 1));
-    assert_eq!(rt; (stored, held), (false, (None, true)));
-    fs::remove_dir_all(&rt, "linked")?;
-    Ok(())
+fn only_plain_files_are_blocks(rt: HostRuntime) {
+    let alloc = rt.alloc();
+    let linked = [
+        OfProvider::Calls(Store(1, 0, ONE, Ok(()))),
+        OfProvider::Looks(Look::Link("1-0", "linked/2-0")),
+        OfProvider::Looks(Look::Link("1-0", "linked/new")),
+        OfProvider::Calls(Lacks(2, 0, 1)),
+        OfProvider::Calls(Alter(2, 0, 0, Symbol(5), false)),
+        OfProvider::Calls(Lose(2, 0, false)),
+        OfProvider::Calls(Store(2, 0, TWO, Ok(()))),
+        OfProvider::Looks(Look::IsFile("linked/2-0", true)),
+        OfProvider::Calls(Fetch(1, 0, ROOM, Ok(true), ONE)),
+        OfProvider::Looks(Look::Folder("linked/3-0")),
+        OfProvider::Calls(Store(3, 0, THREE, Err(StoreFault::Failed))),
+    ];
+    assert_eq!(rt; over_folder(&rt, alloc, "linked", &linked), Some(None));
+    let disk = [
+        OfDisk::Calls(Len(Err(Failed))),
+        OfDisk::Calls(Write(0, b"a", Err(WriteFault::Failed))),
+    ];
+    assert_eq!(rt; over_file(&rt, alloc, "linked/3-0", &disk), Some(None));
+    let within = [
+        OfProvider::Calls(Store(1, 0, ONE, Err(StoreFault::Failed))),
+        OfProvider::Calls(Lacks(1, 0, 1)),
+        OfProvider::Calls(Remove(1, Ok(()))),
+        OfProvider::Looks(Look::RemoveAll("linked")),
+    ];
+    assert_eq!(rt; over_folder(&rt, alloc, "linked/1-0", &within), Some(None));
 }
 
 // Is cut off at its first call, gives one byte at the next two, and fails at the fourth.
@@ -255,12 +292,11 @@ fn filled<const N: usize>() -> Option<[u8; N]> {
 }
 
 #[test]
-fn a_signal_is_no_fault_and_nothing_taken_is_one(rt: HostRuntime) -> Result<(), Fail> {
+fn a_signal_is_no_fault_and_nothing_taken_is_one(rt: HostRuntime) {
     assert_eq!(rt; (filled(), filled::<3>()), (Some([2, 3]), None));
     let taken = [
         write_some(&Full, b"a").is_ok(),
         write_some(&Full, b"").is_ok(),
     ];
     assert_eq!(rt; taken, [false, true]);
-    Ok(())
 }

@@ -4,7 +4,15 @@
 #[cfg(test)]
 mod adapters;
 #[cfg(test)]
+mod calls;
+#[cfg(test)]
 mod disk;
+#[cfg(test)]
+mod disk_calls;
+#[cfg(test)]
+mod files;
+#[cfg(test)]
+mod given;
 #[cfg(test)]
 mod providers;
 #[cfg(test)]

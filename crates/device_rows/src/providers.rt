@@ -1,123 +1,191 @@
-use challenge::Challenge;
+use crate::calls::Call::{self, Alter, Ask, Fetch, Lose, Remove, Store};
+use crate::calls::{are, first_wrong};
+use crate::given::WEIGHT;
 use hail_field::Symbol;
 use provider_model::*;
-use std::test::Fail;
+use std::alloc::Global;
 use stream_model::Failed;
 
-const BLOCK: [Symbol; 3] = [Symbol(7), Symbol(8), Symbol(9)];
+const BLOCK: &[u128] = &[7, 8, 9];
 
-#[test]
-fn listed_calls_fail(rt: HostRuntime) -> Result<(), Fail> {
-    let mut provider = MemProvider::new(rt.alloc(), &[3, 5])?;
-    assert_eq!(rt; provider.store(1, 0, &BLOCK), Ok(()));
-    assert_eq!(rt; provider.store(1, 7, &BLOCK), Ok(()));
-    assert_eq!(rt; provider.store(2, 0, &BLOCK), Ok(()));
-    assert_eq!(rt; provider.store(1, 0, &[Symbol(4)]), Err(StoreFault::Failed));
-    let mut out = [Symbol(0); 3];
-    assert_eq!(rt; provider.fetch(1, 0, &mut out), Ok(true));
-    assert_eq!(rt; out, BLOCK);
-    assert_eq!(rt; provider.remove(1), Err(Failed));
-    assert_eq!(rt; provider.fetch(1, 7, &mut out), Ok(true));
-    assert_eq!(rt; provider.remove(1), Ok(()));
-    assert_eq!(rt; provider.fetch(1, 7, &mut out), Ok(false));
-    assert_eq!(rt; provider.held(2, 0), Some(BLOCK.as_slice()));
-    Ok(())
-}
+/// What is to be fetched into before it is.
+const ROOM: &[u128] = &[0; 3];
 
-#[test]
-fn blocks_are_altered_and_lost(rt: HostRuntime) -> Result<(), Fail> {
-    let mut provider = SureProvider::new(rt.alloc());
-    assert_eq!(rt; provider.store(1, 0, &BLOCK), Ok(()));
-    assert_eq!(rt; provider.alter(1, 0, 2, Symbol(5)), true);
-    assert_eq!(rt; provider.alter(1, 0, 3, Symbol(5)), false);
-    assert_eq!(rt; provider.alter(1, 1, 0, Symbol(5)), false);
-    assert_eq!(rt;
-        provider.held(1, 0),
-        Some([Symbol(7), Symbol(8), Symbol(5)].as_slice())
-    );
-    let mut out = [Symbol(0); 2];
-    assert_eq!(rt; provider.fetch(1, 0, &mut out), Ok(false));
-    assert_eq!(rt; out, [Symbol(0); 2]);
-    assert_eq!(rt; provider.lose(1, 0), true);
-    assert_eq!(rt; provider.lose(1, 0), false);
-    assert_eq!(rt; provider.held(1, 0), None);
-    Ok(())
-}
+const NARROW_ROOM: &[u128] = &[0; 2];
 
-// The seed of the first round of the first audit to object 1 under the master key of the bytes 0 to 31.
-const SEED: [u8; 32] = [
-    177, 74, 118, 122, 222, 48, 6, 117, 101, 126, 116, 193, 72, 36, 68, 4, 49, 129, 168, 69, 205,
-    174, 1, 200, 246, 125, 22, 196, 8, 2, 145, 83,
-];
+const FOUR: &[u128] = &[4];
 
-// A ChaCha20 written in Python from RFC 8439 gives this challenge the rows 19, 70, 6 and 24, and the weight below. With
-// 1 in row 19 and 0 in the others the answer is the weight.
-#[test]
-fn challenges_are_answered(rt: HostRuntime) -> Result<(), Fail> {
-    let challenge = Challenge {
-        seed: SEED,
-        rows: 96,
-        size: 6,
-        picks: 4,
-    };
-    let weight = Symbol(65_912_960_681_525_404_807_291_868_634_059_098_642);
-    let mut block = [Symbol(0); 6];
-    let mut provider = MemProvider::new(rt.alloc(), &[4])?;
-    for stripe in [1, 4, 11] {
-        assert_eq!(rt; provider.store(1, stripe, &block), Ok(()));
+/// Whether what is held is the block of these symbols, or none.
+fn is_held(held: Option<&[Symbol]>, wanted: Option<&[u128]>) -> bool {
+    match (held, wanted) {
+        (Some(held), Some(wanted)) => are(held, wanted),
+        (None, None) => true,
+        _ => false,
     }
-    block[1] = Symbol(1);
-    assert_eq!(rt; provider.store(1, 3, &block), Ok(()));
-    assert_eq!(rt; provider.ask(1, &challenge), Err(Failed));
-    assert_eq!(rt; provider.ask(1, &challenge), Ok(Some(weight)));
-    assert_eq!(rt; provider.ask(2, &challenge), Ok(None));
-    assert_eq!(rt; provider.store(1, 4, &block[..5]), Ok(()));
-    assert_eq!(rt; provider.ask(1, &challenge), Ok(None));
+}
 
-    let mut provider = SureProvider::new(rt.alloc());
-    for stripe in [1, 3, 4, 11] {
-        assert_eq!(rt; provider.store(1, stripe, &block), Ok(()));
-    }
-    assert_eq!(rt; provider.ask(1, &challenge), Ok(Some(weight)));
-    assert_eq!(rt; provider.lose(1, 11), true);
-    assert_eq!(rt; provider.ask(1, &challenge), Ok(None));
-
-    let mut liar = Liar::new(rt.alloc(), Symbol(1));
-    for stripe in [1, 3, 4, 11] {
-        assert_eq!(rt; liar.store(1, stripe, &block), Ok(()));
-    }
-    assert_eq!(rt; liar.ask(1, &challenge), Ok(Some(weight.add(Symbol::ONE))));
-    Ok(())
+/// The first of these calls that is answered otherwise by a provider in memory whose listed calls fail, and whether it then holds this
+/// as the first block of an object.
+fn by_memory(
+    alloc: Global,
+    fails: &[u64],
+    calls: &[Call],
+    object: u64,
+    block: Option<&[u128]>,
+) -> Option<(Option<usize>, bool)> {
+    let mut provider = MemProvider::new(alloc, fails).ok()?;
+    let wrong = first_wrong(&mut provider, calls);
+    Some((wrong, is_held(provider.held(object, 0), block)))
 }
 
 #[test]
-fn a_liar_adds_its_symbol(rt: HostRuntime) -> Result<(), Fail> {
-    let mut liar = Liar::new(rt.alloc(), Symbol(5));
-    let mut out = [Symbol(0); 3];
-    assert_eq!(rt; liar.store(1, 0, &BLOCK), Ok(()));
-    assert_eq!(rt; liar.fetch(1, 0, &mut out), Ok(true));
-    assert_eq!(rt; out, [Symbol(2), Symbol(13), Symbol(12)]);
-    assert_eq!(rt; liar.held(1, 0), Some(BLOCK.as_slice()));
-    assert_eq!(rt; liar.alter(1, 0, 2, Symbol(5)), true);
-    assert_eq!(rt; liar.fetch(1, 0, &mut out), Ok(true));
-    assert_eq!(rt; out, [Symbol(2), Symbol(13), Symbol(0)]);
-    assert_eq!(rt; liar.remove(1), Ok(()));
-    assert_eq!(rt; liar.lose(1, 0), false);
-    assert_eq!(rt; liar.fetch(1, 0, &mut out), Ok(false));
-    Ok(())
+fn listed_calls_fail(rt: HostRuntime) {
+    let calls = [
+        Store(1, 0, BLOCK, Ok(())),
+        Store(1, 7, BLOCK, Ok(())),
+        Store(2, 0, BLOCK, Ok(())),
+        Store(1, 0, FOUR, Err(StoreFault::Failed)),
+        Fetch(1, 0, ROOM, Ok(true), BLOCK),
+        Remove(1, Err(Failed)),
+        Fetch(1, 7, ROOM, Ok(true), BLOCK),
+        Remove(1, Ok(())),
+        Fetch(1, 7, ROOM, Ok(false), ROOM),
+    ];
+    let seen = by_memory(rt.alloc(), &[3, 5], &calls, 2, Some(BLOCK));
+    assert_eq!(rt; seen, Some((None, true)));
+}
+
+/// The same by one that never fails, of the object 1.
+fn by_sure(alloc: Global, calls: &[Call], block: Option<&[u128]>) -> (Option<usize>, bool) {
+    let mut provider = SureProvider::new(alloc);
+    let wrong = first_wrong(&mut provider, calls);
+    (wrong, is_held(provider.held(1, 0), block))
+}
+
+const ALTERED: &[u128] = &[7, 8, 5];
+
+#[test]
+fn blocks_are_altered_and_lost(rt: HostRuntime) {
+    let calls = [
+        Store(1, 0, BLOCK, Ok(())),
+        Alter(1, 0, 2, Symbol(5), true),
+        Alter(1, 0, 3, Symbol(5), false),
+        Alter(1, 1, 0, Symbol(5), false),
+        Fetch(1, 0, NARROW_ROOM, Ok(false), NARROW_ROOM),
+        Lose(1, 0, true),
+        Lose(1, 0, false),
+    ];
+    let altered = by_sure(rt.alloc(), &calls[..4], Some(ALTERED));
+    assert_eq!(rt; altered, (None, true));
+    let lost = by_sure(rt.alloc(), &calls, None);
+    assert_eq!(rt; lost, (None, true));
+}
+
+/// Zeros but at the second place.
+const ONE: &[u128] = &[0, 1, 0, 0, 0, 0];
+
+const ZEROS: &[u128] = &[0; 6];
+
+/// The same without the last.
+const SHORT_ONE: &[u128] = &[0, 1, 0, 0, 0];
+
+// With 1 in row 19 and 0 in the others the answer is the weight.
+#[test]
+fn challenges_are_answered(rt: HostRuntime) {
+    let calls = [
+        Store(1, 1, ZEROS, Ok(())),
+        Store(1, 4, ZEROS, Ok(())),
+        Store(1, 11, ZEROS, Ok(())),
+        Store(1, 3, ONE, Ok(())),
+        Ask(1, Err(Failed)),
+        Ask(1, Ok(Some(WEIGHT))),
+        Ask(2, Ok(None)),
+        Store(1, 4, SHORT_ONE, Ok(())),
+        Ask(1, Ok(None)),
+    ];
+    let seen = by_memory(rt.alloc(), &[4], &calls, 1, None);
+    assert_eq!(rt; seen, Some((None, true)));
+
+    let calls = [
+        Store(1, 1, ONE, Ok(())),
+        Store(1, 3, ONE, Ok(())),
+        Store(1, 4, ONE, Ok(())),
+        Store(1, 11, ONE, Ok(())),
+        Ask(1, Ok(Some(WEIGHT))),
+        Lose(1, 11, true),
+        Ask(1, Ok(None)),
+    ];
+    let seen = by_sure(rt.alloc(), &calls, None);
+    assert_eq!(rt; seen, (None, true));
+}
+
+/// The same by a liar that adds this symbol.
+fn by_liar(
+    alloc: Global,
+    symbol: Symbol,
+    calls: &[Call],
+    block: Option<&[u128]>,
+) -> (Option<usize>, bool) {
+    let mut liar = Liar::new(alloc, symbol);
+    let wrong = first_wrong(&mut liar, calls);
+    (wrong, is_held(liar.held(1, 0), block))
+}
+
+/// The block with 5 added to each symbol.
+const LIED: &[u128] = &[2, 13, 12];
+
+/// The same where the last symbol became 5.
+const LIED_ALTERED: &[u128] = &[2, 13, 0];
+
+#[test]
+fn a_liar_adds_its_symbol(rt: HostRuntime) {
+    let calls = [
+        Store(1, 0, BLOCK, Ok(())),
+        Fetch(1, 0, ROOM, Ok(true), LIED),
+        Alter(1, 0, 2, Symbol(5), true),
+        Fetch(1, 0, ROOM, Ok(true), LIED_ALTERED),
+        Remove(1, Ok(())),
+        Lose(1, 0, false),
+        Fetch(1, 0, ROOM, Ok(false), ROOM),
+    ];
+    let stored = by_liar(rt.alloc(), Symbol(5), &calls[..2], Some(BLOCK));
+    assert_eq!(rt; stored, (None, true));
+    let removed = by_liar(rt.alloc(), Symbol(5), &calls, None);
+    assert_eq!(rt; removed, (None, true));
 }
 
 #[test]
-fn calls_are_passed_on_untold(rt: HostRuntime) -> Result<(), Fail> {
-    let mut untold = Untold::new(MemProvider::new(rt.alloc(), &[1, 3])?);
-    let mut out = [Symbol(0); 3];
-    assert_eq!(rt; untold.store(1, 0, &BLOCK), Ok(()));
-    assert_eq!(rt; untold.store(1, 0, &[Symbol(4)]), Err(StoreFault::Failed));
-    assert_eq!(rt; untold.fetch(1, 0, &mut out), Ok(true));
-    assert_eq!(rt; out, BLOCK);
-    assert_eq!(rt; untold.remove(1), Err(Failed));
-    assert_eq!(rt; untold.alter(1, 0, 2, Symbol(5)), true);
-    assert_eq!(rt; untold.lose(1, 0), true);
-    assert_eq!(rt; untold.inner.held(1, 0), None);
-    Ok(())
+fn a_liar_adds_its_symbol_to_an_answer(rt: HostRuntime) {
+    let wrong = WEIGHT.add(Symbol::ONE);
+    let calls = [
+        Store(1, 1, ONE, Ok(())),
+        Store(1, 3, ONE, Ok(())),
+        Store(1, 4, ONE, Ok(())),
+        Store(1, 11, ONE, Ok(())),
+        Ask(1, Ok(Some(wrong))),
+    ];
+    let seen = by_liar(rt.alloc(), Symbol(1), &calls, None);
+    assert_eq!(rt; seen, (None, true));
+}
+
+/// The same by a provider whose listed calls fail and that tells nothing, which then is to hold no first block of the object 1.
+fn by_untold(alloc: Global, fails: &[u64], calls: &[Call]) -> Option<(Option<usize>, bool)> {
+    let inner = MemProvider::new(alloc, fails).ok()?;
+    let mut untold = Untold::new(inner);
+    let wrong = first_wrong(&mut untold, calls);
+    Some((wrong, untold.inner.held(1, 0).is_none()))
+}
+
+#[test]
+fn calls_are_passed_on_untold(rt: HostRuntime) {
+    let calls = [
+        Store(1, 0, BLOCK, Ok(())),
+        Store(1, 0, FOUR, Err(StoreFault::Failed)),
+        Fetch(1, 0, ROOM, Ok(true), BLOCK),
+        Remove(1, Err(Failed)),
+        Alter(1, 0, 2, Symbol(5), true),
+        Lose(1, 0, true),
+    ];
+    let seen = by_untold(rt.alloc(), &[1, 3], &calls);
+    assert_eq!(rt; seen, Some((None, true)));
 }

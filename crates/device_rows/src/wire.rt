@@ -1,12 +1,13 @@
 ghost use Rattle.std.specs.Prelude.{◌≡◌, None, IfOk};
 
-use challenge::Challenge;
+use crate::calls::Call::{self, Alter, Ask, Fetch, Lose, Remove, Store};
+use crate::calls::{first_wrong, is_right};
+use crate::given::WEIGHT;
 use hail_field::Symbol;
-use provider_model::{MemProvider, Provider, StoreFault, SureProvider, Tamper};
+use provider_model::{MemProvider, Provider, StoreFault, SureProvider};
 use provider_wire::*;
 use std::alloc::Global;
-use std::test::Fail;
-use stream_model::{Failed, MemSink, MemSource, Memory, Source, SureSink, SureSource};
+use stream_model::{Failed, MemSink, MemSource, Memory, Sink, Source, SureSink, SureSource};
 
 // A source that gives one byte a read.
 #[derive(Drop)]
@@ -78,153 +79,244 @@ impl Link for Script {
 
 const FETCH_SIX: [u8; 14] = [2, 1, 0, 0, 0, 0, 0, 0, 0, 0, 0, 0, 0, 6];
 
-const FETCH_ONE: [u8; 14] = [2, 1, 0, 0, 0, 0, 0, 0, 0, 0, 0, 0, 0, 1];
+// The same twice, the second without its last byte.
+const FETCH_SIX_AND_CUT: [u8; 27] = [
+    2, 1, 0, 0, 0, 0, 0, 0, 0, 0, 0, 0, 0, 6, 2, 1, 0, 0, 0, 0, 0, 0, 0, 0, 0, 0, 0,
+];
+
+const FETCH_TOO_WIDE: [u8; 14] = [2, 1, 0, 0, 0, 0, 0, 0, 0, 0, 0, 0, 0, 129];
 
 const STORE_FIVE: [u8; 30] = [
     1, 1, 0, 0, 0, 0, 0, 0, 0, 0, 0, 0, 0, 1, 5, 0, 0, 0, 0, 0, 0, 0, 0, 0, 0, 0, 0, 0, 0, 0,
 ];
 
-const REMOVE: [u8; 9] = [4, 1, 0, 0, 0, 0, 0, 0, 0];
+const STORE_AND_FETCH_FIVE: [u8; 44] = [
+    1, 1, 0, 0, 0, 0, 0, 0, 0, 0, 0, 0, 0, 1, 5, 0, 0, 0, 0, 0, 0, 0, 0, 0, 0, 0, 0, 0, 0, 0, 2, 1,
+    0, 0, 0, 0, 0, 0, 0, 0, 0, 0, 0, 1,
+];
 
 const FOUND_FIVE: [u8; 18] = [1, 1, 5, 0, 0, 0, 0, 0, 0, 0, 0, 0, 0, 0, 0, 0, 0, 0];
 
-// Whether a server over a provider that holds nothing answers the requests so, in one piece and in drops.
-fn answers(alloc: Global, requests: &[u8], output: &[u8], end: ServeEnd) -> Result<bool, Fail> {
-    let mut provider = SureProvider::new(alloc);
-    let mut source = SureSource::new(alloc, requests)?;
-    let mut sink = SureSink::new(alloc)?;
-    let whole = serve(alloc, &mut provider, &mut source, &mut sink) == end
-        && sink.written() == output;
+const REMOVE: [u8; 9] = [4, 1, 0, 0, 0, 0, 0, 0, 0];
 
-    let mut provider = SureProvider::new(alloc);
-    let mut source = Drops::new(alloc, requests)?;
-    let mut sink = SureSink::new(alloc)?;
-    let drops = serve(alloc, &mut provider, &mut source, &mut sink) == end
-        && sink.written() == output;
-    Ok(whole && drops)
+/// Serves the requests of a source.
+fn served<P: Provider, S: Source, K: Sink>(
+    alloc: Global,
+    provider: &mut P,
+    source: &mut S,
+    sink: &mut K,
+) -> ServeEnd {
+    serve(alloc, provider, source, sink)
 }
 
-#[test]
-fn rows_are_served_in_any_pieces(rt: HostRuntime) -> Result<(), Fail> {
-    let mut both = STORE_FIVE.to_vec(rt.alloc())?;
-    both.extend_from_slice(&FETCH_ONE)?;
-    let mut cut = FETCH_SIX.to_vec(rt.alloc())?;
-    cut.extend_from_slice(&FETCH_SIX[..13])?;
-    let mut wide = FETCH_SIX;
-    wide[13] = 129;
-    for (requests, output, end) in [
-        (FETCH_SIX.as_slice(), [0].as_slice(), ServeEnd::Done),
-        (both.as_slice(), FOUND_FIVE.as_slice(), ServeEnd::Done),
-        (
-            [4, 1, 0, 0, 0, 0, 0, 0, 0, 9].as_slice(),
-            [1].as_slice(),
-            ServeEnd::BadFrame { at: 9 },
-        ),
-        (
-            [1, 1, 2, 3, 4, 5].as_slice(),
-            [].as_slice(),
-            ServeEnd::BadFrame { at: 0 },
-        ),
-        ([].as_slice(), [].as_slice(), ServeEnd::Done),
-        (
-            cut.as_slice(),
-            [0].as_slice(),
-            ServeEnd::BadFrame { at: 14 },
-        ),
-        (wide.as_slice(), [].as_slice(), ServeEnd::BadFrame { at: 0 }),
-    ] {
-        assert!(rt; answers(rt.alloc(), requests, output, end)?, "{requests:?}");
+/// Whether a server of the requests in a source ends so, and writes these bytes.
+fn serves<P: Provider, S: Source>(
+    alloc: Global,
+    provider: &mut P,
+    source: &mut S,
+    output: &[u8],
+    end: ServeEnd,
+) -> Option<bool> {
+    let mut sink = SureSink::new(alloc).ok()?;
+    let right = served(alloc, provider, source, &mut sink) == end && sink.written() == output;
+    Some(right)
+}
+
+/// Requests, the bytes that a server over a provider that holds nothing answers, and how it ends.
+type Row = (&'static [u8], &'static [u8], ServeEnd);
+
+/// Whether a row is served so in one piece.
+fn is_right_whole(alloc: Global, row: Row) -> Option<bool> {
+    let mut provider = SureProvider::new(alloc);
+    let mut source = SureSource::new(alloc, row.0).ok()?;
+    serves(alloc, &mut provider, &mut source, row.1, row.2)
+}
+
+/// Whether a row is served so byte for byte.
+fn is_right_in_drops(alloc: Global, row: Row) -> Option<bool> {
+    let mut provider = SureProvider::new(alloc);
+    let mut source = Drops::new(alloc, row.0).ok()?;
+    serves(alloc, &mut provider, &mut source, row.1, row.2)
+}
+
+/// The place of the first of these rows that is served otherwise, or none.
+fn first_served_otherwise(alloc: Global, rows: &[Row]) -> Option<usize> {
+    for place in 0..rows.len() {
+        let row = rows[place];
+        if is_right_whole(alloc, row) != Some(true) || is_right_in_drops(alloc, row) != Some(true) {
+            return Some(place);
+        }
     }
-    Ok(())
+    None
 }
 
-#[test]
-fn faults_end_a_server(rt: HostRuntime) -> Result<(), Fail> {
-    let mut provider = SureProvider::new(rt.alloc());
-    let mut source = MemSource::new(rt.alloc(), &REMOVE, &[1])?;
-    let mut sink = SureSink::new(rt.alloc())?;
-    let end = serve(rt.alloc(), &mut provider, &mut source, &mut sink);
-    assert_eq!(rt; end, ServeEnd::SourceFault);
-    assert_eq!(rt; sink.written(), [1].as_slice());
-
-    let mut source = SureSource::new(rt.alloc(), &REMOVE)?;
-    let mut sink = MemSink::new(rt.alloc(), &[0])?;
-    let end = serve(rt.alloc(), &mut provider, &mut source, &mut sink);
-    assert_eq!(rt; end, ServeEnd::SinkFault);
-    assert_eq!(rt; sink.written(), [].as_slice());
-
-    let mut provider = MemProvider::new(rt.alloc(), &[0])?;
-    let mut source = SureSource::new(rt.alloc(), &STORE_FIVE)?;
-    let mut sink = SureSink::new(rt.alloc())?;
-    let end = serve(rt.alloc(), &mut provider, &mut source, &mut sink);
-    assert_eq!(rt; end, ServeEnd::Done);
-    assert_eq!(rt; sink.written(), [2].as_slice());
-    Ok(())
-}
-
-// A ChaCha20 written in Python from RFC 8439 gives this challenge the rows 19, 70, 6 and 24, and the weight below.
-const SEED: [u8; 32] = [
-    177, 74, 118, 122, 222, 48, 6, 117, 101, 126, 116, 193, 72, 36, 68, 4, 49, 129, 168, 69, 205,
-    174, 1, 200, 246, 125, 22, 196, 8, 2, 145, 83,
+const ROWS: [Row; 7] = [
+    (&FETCH_SIX, &[0], ServeEnd::Done),
+    (&STORE_AND_FETCH_FIVE, &FOUND_FIVE, ServeEnd::Done),
+    (
+        &[4, 1, 0, 0, 0, 0, 0, 0, 0, 9],
+        &[1],
+        ServeEnd::BadFrame { at: 9 },
+    ),
+    (&[1, 1, 2, 3, 4, 5], &[], ServeEnd::BadFrame { at: 0 }),
+    (&[], &[], ServeEnd::Done),
+    (&FETCH_SIX_AND_CUT, &[0], ServeEnd::BadFrame { at: 14 }),
+    (&FETCH_TOO_WIDE, &[], ServeEnd::BadFrame { at: 0 }),
 ];
 
-const WEIGHT: Symbol = Symbol(65_912_960_681_525_404_807_291_868_634_059_098_642);
-
 #[test]
-fn a_provider_is_reached_over_a_loop(rt: HostRuntime) -> Result<(), Fail> {
-    let challenge = Challenge {
-        seed: SEED,
-        rows: 96,
-        size: 6,
-        picks: 4,
-    };
-    let link = LoopLink::new(MemProvider::new(rt.alloc(), &[6, 9])?)?;
-    let mut provider = LinkProvider::new(link)?;
-    let mut block = [Symbol(0); 6];
-    for stripe in [1, 4, 11] {
-        assert_eq!(rt; provider.store(1, stripe, &block), Ok(()));
-    }
-    block[1] = Symbol(1);
-    assert_eq!(rt; provider.store(1, 3, &block), Ok(()));
-    assert_eq!(rt; provider.ask(1, &challenge), Ok(Some(WEIGHT)));
-    assert_eq!(rt; provider.ask(2, &challenge), Ok(None));
-    assert_eq!(rt; provider.ask(1, &challenge), Err(Failed));
-    let mut out = [Symbol(7); 6];
-    assert_eq!(rt; provider.fetch(1, 3, &mut out), Ok(true));
-    assert_eq!(rt; out, block);
-    assert_eq!(rt; provider.fetch(1, 2, &mut out), Ok(false));
-    assert_eq!(rt; provider.store(1, 2, &block), Err(StoreFault::Failed));
-    assert_eq!(rt; provider.alter(1, 3, 0, Symbol(9)), true);
-    assert_eq!(rt; provider.lose(1, 4), true);
-    assert_eq!(rt; provider.lose(1, 4), false);
-    assert_eq!(rt; provider.fetch(1, 3, &mut out), Ok(true));
-    block[0] = Symbol(9);
-    assert_eq!(rt; out, block);
-    assert_eq!(rt; provider.remove(1), Ok(()));
-    assert_eq!(rt; provider.fetch(1, 3, &mut out), Ok(false));
-    assert_eq!(rt; provider.broken(), false);
-    Ok(())
+fn rows_are_served_in_any_pieces(rt: HostRuntime) {
+    assert_eq!(rt; first_served_otherwise(rt.alloc(), &ROWS), None);
+}
+
+/// Whether a server whose source fails at its second read answers what came before.
+fn ends_with_its_source(alloc: Global) -> Option<bool> {
+    let mut provider = SureProvider::new(alloc);
+    let mut source = MemSource::new(alloc, &REMOVE, &[1]).ok()?;
+    serves(
+        alloc,
+        &mut provider,
+        &mut source,
+        &[1],
+        ServeEnd::SourceFault,
+    )
+}
+
+/// Serves a removal into a sink.
+fn removal_served<K: Sink>(alloc: Global, sink: &mut K) -> Option<ServeEnd> {
+    let mut provider = SureProvider::new(alloc);
+    let mut source = SureSource::new(alloc, &REMOVE).ok()?;
+    Some(served(alloc, &mut provider, &mut source, sink))
+}
+
+/// Whether a server whose sink fails at its first write ends, and nothing is written.
+fn ends_with_its_sink(alloc: Global) -> Option<bool> {
+    let mut sink = MemSink::new(alloc, &[0]).ok()?;
+    let end = removal_served(alloc, &mut sink);
+    Some(end == Some(ServeEnd::SinkFault) && sink.written().is_empty())
+}
+
+/// Whether a server whose provider fails says so and goes on.
+fn tells_its_providers_fault(alloc: Global) -> Option<bool> {
+    let mut provider = MemProvider::new(alloc, &[0]).ok()?;
+    let mut source = SureSource::new(alloc, &STORE_FIVE).ok()?;
+    serves(alloc, &mut provider, &mut source, &[2], ServeEnd::Done)
 }
 
 #[test]
-fn a_link_out_of_step_stays_broken(rt: HostRuntime) -> Result<(), Fail> {
-    for answers in [[].as_slice(), [7].as_slice(), [0].as_slice()] {
-        let mut provider = LinkProvider::new(Script::new(rt.alloc(), answers)?)?;
-        assert_eq!(rt; provider.store(1, 0, &[Symbol(5)]), Err(StoreFault::Failed));
-        assert_eq!(rt; provider.broken(), true);
-        assert_eq!(rt; provider.remove(1), Err(Failed));
-        assert_eq!(rt; provider.broken(), true);
+fn faults_end_a_server(rt: HostRuntime) {
+    let alloc = rt.alloc();
+    let right = [
+        ends_with_its_source(alloc),
+        ends_with_its_sink(alloc),
+        tells_its_providers_fault(alloc),
+    ];
+    assert_eq!(rt; right, [Some(true); 3]);
+}
+
+/// A provider over a loop to one in memory whose listed calls fail.
+fn looped(alloc: Global, fails: &[u64]) -> Option<LinkProvider<LoopLink<MemProvider>>> {
+    let inner = MemProvider::new(alloc, fails).ok()?;
+    let link = LoopLink::new(inner).ok()?;
+    LinkProvider::new(link).ok()
+}
+
+/// Whether a link is out of step.
+fn is_broken<L: Link>(provider: &LinkProvider<L>) -> bool {
+    provider.broken()
+}
+
+/// The first of these calls that is answered otherwise over a loop to a provider whose listed calls fail, and whether the link is out of
+/// step then.
+fn over_a_loop(alloc: Global, fails: &[u64], calls: &[Call]) -> Option<(Option<usize>, bool)> {
+    let mut provider = looped(alloc, fails)?;
+    let wrong = first_wrong(&mut provider, calls);
+    Some((wrong, is_broken(&provider)))
+}
+
+const ZEROS: &[u128] = &[0; 6];
+
+const ONE: &[u128] = &[0, 1, 0, 0, 0, 0];
+
+const NINE_AND_ONE: &[u128] = &[9, 1, 0, 0, 0, 0];
+
+const SEVENS: &[u128] = &[7; 6];
+
+const SEVEN: &[u128] = &[7];
+
+#[test]
+fn a_provider_is_reached_over_a_loop(rt: HostRuntime) {
+    let calls = [
+        Store(1, 1, ZEROS, Ok(())),
+        Store(1, 4, ZEROS, Ok(())),
+        Store(1, 11, ZEROS, Ok(())),
+        Store(1, 3, ONE, Ok(())),
+        Ask(1, Ok(Some(WEIGHT))),
+        Ask(2, Ok(None)),
+        Ask(1, Err(Failed)),
+        Fetch(1, 3, SEVENS, Ok(true), ONE),
+        Fetch(1, 2, SEVENS, Ok(false), SEVENS),
+        Store(1, 2, ONE, Err(StoreFault::Failed)),
+        Alter(1, 3, 0, Symbol(9), true),
+        Lose(1, 4, true),
+        Lose(1, 4, false),
+        Fetch(1, 3, SEVENS, Ok(true), NINE_AND_ONE),
+        Remove(1, Ok(())),
+        Fetch(1, 3, SEVENS, Ok(false), SEVENS),
+    ];
+    let seen = over_a_loop(rt.alloc(), &[6, 9], &calls);
+    assert_eq!(rt; seen, Some((None, false)));
+}
+
+/// A provider over a link that gives these answers.
+fn scripted(alloc: Global, answers: &[u8]) -> Option<LinkProvider<Script>> {
+    let link = Script::new(alloc, answers).ok()?;
+    LinkProvider::new(link).ok()
+}
+
+/// A call, and whether the link is out of step then.
+type Step = (Call, bool);
+
+/// The place of the first of these steps that goes otherwise, or none.
+fn first_wrong_step<L: Link>(provider: &mut LinkProvider<L>, steps: &[Step]) -> Option<usize> {
+    for place in 0..steps.len() {
+        let step = &steps[place];
+        if !is_right(provider, &step.0) || is_broken(provider) != step.1 {
+            return Some(place);
+        }
     }
-    let mut provider = LinkProvider::new(Script::new(rt.alloc(), &[2, 1, 3, 0, 1, 5])?)?;
-    assert_eq!(rt; provider.store(1, 0, &[Symbol(5)]), Err(StoreFault::Failed));
-    assert_eq!(rt; provider.store(1, 0, &[Symbol(5)]), Ok(()));
-    assert_eq!(rt; provider.store(1, 0, &[Symbol(5)]), Err(StoreFault::Memory));
-    assert_eq!(rt; provider.broken(), false);
-    let mut out = [Symbol(7)];
-    assert_eq!(rt; provider.fetch(1, 0, &mut out), Ok(false));
-    assert_eq!(rt; provider.broken(), false);
-    assert_eq!(rt; provider.fetch(1, 0, &mut out), Err(Failed));
-    assert_eq!(rt; out, [Symbol(7)]);
-    assert_eq!(rt; provider.broken(), true);
-    Ok(())
+    None
+}
+
+/// Whether all of these steps go so over a link that gives these answers.
+fn go_right(alloc: Global, answers: &[u8], steps: &[Step]) -> Option<bool> {
+    let mut provider = scripted(alloc, answers)?;
+    Some(first_wrong_step(&mut provider, steps).is_none())
+}
+
+const FIVE: &[u128] = &[5];
+
+#[test]
+fn a_link_out_of_step_stays_broken(rt: HostRuntime) {
+    let steps = [
+        (Store(1, 0, FIVE, Err(StoreFault::Failed)), true),
+        (Remove(1, Err(Failed)), true),
+    ];
+    for answers in [[].as_slice(), [7].as_slice(), [0].as_slice()] {
+        let right = go_right(rt.alloc(), answers, &steps);
+        assert_eq!(rt; right, Some(true), "{answers:?}");
+    }
+}
+
+#[test]
+fn a_link_breaks_at_an_answer_that_there_is_not(rt: HostRuntime) {
+    let steps = [
+        (Store(1, 0, FIVE, Err(StoreFault::Failed)), false),
+        (Store(1, 0, FIVE, Ok(())), false),
+        (Store(1, 0, FIVE, Err(StoreFault::Memory)), false),
+        (Fetch(1, 0, SEVEN, Ok(false), SEVEN), false),
+        (Fetch(1, 0, SEVEN, Err(Failed), SEVEN), true),
+    ];
+    let right = go_right(rt.alloc(), &[2, 1, 3, 0, 1, 5], &steps);
+    assert_eq!(rt; right, Some(true));
 }

@@ -1,4 +1,3 @@
 pub mod Mixing
 mod StripeLemmas
 pub mod Spoiling
-pub mod WordSteps

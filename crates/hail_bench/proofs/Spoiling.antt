@@ -30,6 +30,10 @@ spoil_more (x ∷ xs) (y ∷ ys) (suc k) v hx hy same other = go (nat_eq x y) (s
     go true h = h
     go false h = ap suc h
 
+-- a codeword has the profile's size
+pub length-codeword : (profile : Profile) (block : List ℕ) → IsCodeword profile block → length block ≡ profile.size
+length-codeword profile block is = ap length is.values ∙ length-map-range_with_len (value is.polynomial) 0 profile.size
+
 -- a block that differs from a codeword at few places opens to it
 pub spoiled_opens : (profile : Profile) (block word : List ℕ) (errors : ℕ) → IsCodeword profile word → length block ≡ length word →
     differences block word ≡ errors → errors ≤ profile.fix → Opens profile block word
@@ -49,7 +53,7 @@ spoiled_opens profile block word errors is even wrong few = record {
     points = length-range_with_len 0 profile.size
 
     whole : length block ≡ profile.size
-    whole = even ∙ ap length is.values ∙ length-map-range_with_len (value is.polynomial) 0 profile.size
+    whole = even ∙ length-codeword profile word is
 
     count : differences block (values_at (upto profile.size) is.polynomial) ≡ errors
     count = ap (differences block) (sym is.values) ∙ wrong

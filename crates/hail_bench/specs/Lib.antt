@@ -1,4 +1,3 @@
 pub mod Checksum
 pub mod Blocks
 pub mod Stripes
-pub mod Words

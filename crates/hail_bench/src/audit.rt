@@ -17,7 +17,6 @@ use file_layout::FileShape;
 use hail_field::Symbol;
 use hail_poly::Work;
 use std::alloc::Global;
-use std::fmt::{self, Display, Formatter, Write};
 
 /// How many bytes the audited file has.
 const BYTES: u32 = 65_536;
@@ -124,10 +123,10 @@ fn all_held(alloc: Global, coded: &Coded) -> Result<Vec<Held>, Failure>
 }
 
 /// The file that is audited, over as many providers as three words write, and no other number.
-fn file_over(n: &str, l: &str, b: &str) -> Option<FileShape> {
+fn file_over(n: &str, l: &str, b: &str) -> Result<FileShape, Failure> {
     let shape = shape_named(n, l, b)?;
-    let profile = find_profile(4)?;
-    Some(FileShape {
+    let profile = find_profile(4).ok_or(Failure::Usage)?;
+    Ok(FileShape {
         id: 1,
         length: BYTES,
         shape,
@@ -136,42 +135,30 @@ fn file_over(n: &str, l: &str, b: &str) -> Option<FileShape> {
 }
 
 impl AuditWork {
-    /// The work that these words name: `audit`, a shape, a count of rounds and one of picks, each at most 64. Makes the blocks.
-    pub fn from_words(alloc: Global, words: &[String]) -> Result<Option<AuditWork>, Failure> {
-        let [name, n, l, b, rounds, picks] = words else {
-            return Ok(None);
+    /// The work that these words name: a shape, a count of rounds and one of picks, each at most 64. Makes the blocks.
+    pub fn from_words(alloc: Global, words: &[String]) -> Result<AuditWork, Failure> {
+        let [n, l, b, rounds, picks] = words else {
+            return Err(Failure::Usage);
         };
-        if name.as_str() != "audit" {
-            return Ok(None);
-        }
-        let (Some(file), Ok(rounds), Ok(picks)) = (
-            file_over(n, l, b),
-            rounds.parse::<u32>(),
-            picks.parse::<u32>(),
-        ) else {
-            return Ok(None);
-        };
+        let file = file_over(n, l, b)?;
+        let rounds = rounds.parse::<u32>()?;
+        let picks = picks.parse::<u32>()?;
         let coded = Coded::new(alloc, file)?;
         AuditWork::ready(alloc, coded, rounds, picks)
     }
 
     /// So many rounds and picks of a file, if there are at most 64 and the file has a row. Makes the blocks.
-    fn ready(
-        alloc: Global,
-        coded: Coded,
-        rounds: u32,
-        picks: u32,
-    ) -> Result<Option<AuditWork>, Failure> {
+    fn ready(alloc: Global, coded: Coded, rounds: u32, picks: u32) -> Result<AuditWork, Failure> {
         if rounds > 64 || picks < 1 || picks > 64 || coded.file.rows() < 1 {
-            return Ok(None);
+            return Err(Failure::Usage);
         }
         let providers = all_held(alloc, &coded)?;
-        Ok(Some(AuditWork {
+        Ok(AuditWork {
             coded,
             providers,
             rounds,
             picks,
-        }))
+        })
     }
 
     /// Asks all providers in a round, and judges what they answer. The checksum goes on over the answers.
@@ -229,16 +216,5 @@ impl AuditWork {
             count: self.rounds,
             checksum: mix(sum, Symbol(u128::from(undecided))),
         })
-    }
-}
-
-impl Display for AuditWork {
-    fn fmt<W: Write>(&self, f: &mut Formatter<W>) -> fmt::Result {
-        let shape = self.coded.file.shape;
-        write!(
-            f,
-            "audit {} {} {} {} {}",
-            shape.n, shape.l, shape.b, self.rounds, self.picks
-        )
     }
 }

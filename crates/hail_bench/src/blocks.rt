@@ -3,14 +3,14 @@ ghost use Rattle.std.specs.Prelude.{◌≡◌, ◌+◌, length};
 ghost use Rattle.hail_bench.specs.Checksum.{number_after};
 ghost use Rattle.hail_bench.specs.Blocks.{kept_symbols, mixed, mixed_all};
 
+use crate::failure::Failure;
 use crate::numbers::after;
 use code_points::{Profile, find_profile};
 use hail_field::Symbol;
 
 /// The profile of the number that a word writes.
-pub fn profile_named(word: &str) -> Option<Profile> {
-    let number = word.parse::<u8>().ok()?;
-    find_profile(number)
+pub fn profile_named(word: &str) -> Result<Profile, Failure> {
+    find_profile(word.parse::<u8>()?).ok_or(Failure::Usage)
 }
 
 /// The kept symbol of a block at a place.

@@ -12,7 +12,6 @@ use hail_field::Symbol;
 use hail_poly::Work;
 use server_code::AnyCode;
 use std::alloc::Global;
-use std::fmt::{self, Display, Formatter, Write};
 
 /// Correcting of this many blocks, each with so many wrong symbols, by the code of a profile.
 #[derive(Drop)]
@@ -36,31 +35,24 @@ pub fn spoil(errors: u32, error: Symbol, block: &mut [Symbol])
 }
 
 impl DecodeWork {
-    /// The work that these words name: `decode`, a profile, a count of blocks, and how many symbols are wrong in each, which must be no
-    /// more than the profile corrects. Makes the code, which takes memory.
-    pub fn from_words(alloc: Global, words: &[String]) -> Result<Option<DecodeWork>, Failure> {
-        let [name, profile, count, errors] = words else {
-            return Ok(None);
+    /// The work that these words name: a profile, a count of blocks, and how many symbols are wrong in each, which must be no more than
+    /// the profile corrects. Makes the code, which takes memory.
+    pub fn from_words(alloc: Global, words: &[String]) -> Result<DecodeWork, Failure> {
+        let [profile, count, errors] = words else {
+            return Err(Failure::Usage);
         };
-        if name.as_str() != "decode" {
-            return Ok(None);
-        }
-        let (Some(profile), Ok(count), Ok(errors)) = (
-            profile_named(profile),
-            count.parse::<u32>(),
-            errors.parse::<u32>(),
-        ) else {
-            return Ok(None);
-        };
+        let profile = profile_named(profile)?;
+        let count = count.parse::<u32>()?;
+        let errors = errors.parse::<u32>()?;
         if errors > profile.fix {
-            return Ok(None);
+            return Err(Failure::Usage);
         }
         let code = AnyCode::new(alloc, profile)?;
-        Ok(Some(DecodeWork {
+        Ok(DecodeWork {
             code,
             count,
             errors,
-        }))
+        })
     }
 
     /// Spoils the first symbols of a codeword and corrects them. The answer is how many were changed.
@@ -115,16 +107,5 @@ impl DecodeWork {
             count: self.count,
             checksum: self.correct_all(&mut kept, &mut block, &mut work),
         })
-    }
-}
-
-impl Display for DecodeWork {
-    fn fmt<W: Write>(&self, f: &mut Formatter<W>) -> fmt::Result {
-        let profile = self.code.profile();
-        write!(
-            f,
-            "decode {} {} {}",
-            profile.number, self.count, self.errors
-        )
     }
 }

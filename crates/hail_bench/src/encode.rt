@@ -10,7 +10,6 @@ use crate::outcome::Outcome;
 use hail_field::Symbol;
 use server_code::AnyCode;
 use std::alloc::Global;
-use std::fmt::{self, Display, Formatter, Write};
 
 /// Encoding of this many blocks, by the code of a profile.
 #[derive(Drop)]
@@ -20,19 +19,15 @@ pub struct EncodeWork {
 }
 
 impl EncodeWork {
-    /// The work that these words name: `encode`, a profile and a count of blocks. Makes the code, which takes memory.
-    pub fn from_words(alloc: Global, words: &[String]) -> Result<Option<EncodeWork>, Failure> {
-        let [name, profile, count] = words else {
-            return Ok(None);
+    /// The work that these words name: a profile and a count of blocks. Makes the code, which takes memory.
+    pub fn from_words(alloc: Global, words: &[String]) -> Result<EncodeWork, Failure> {
+        let [profile, count] = words else {
+            return Err(Failure::Usage);
         };
-        if name.as_str() != "encode" {
-            return Ok(None);
-        }
-        let (Some(profile), Ok(count)) = (profile_named(profile), count.parse::<u32>()) else {
-            return Ok(None);
-        };
+        let profile = profile_named(profile)?;
+        let count = count.parse::<u32>()?;
         let code = AnyCode::new(alloc, profile)?;
-        Ok(Some(EncodeWork { code, count }))
+        Ok(EncodeWork { code, count })
     }
 
     /// Encodes each block, with room for its kept symbols and for its codeword, and gives the checksum.
@@ -65,12 +60,5 @@ impl EncodeWork {
             count: self.count,
             checksum: self.encode_all(&mut kept, &mut block),
         })
-    }
-}
-
-impl Display for EncodeWork {
-    fn fmt<W: Write>(&self, f: &mut Formatter<W>) -> fmt::Result {
-        let profile = self.code.profile();
-        write!(f, "encode {} {}", profile.number, self.count)
     }
 }

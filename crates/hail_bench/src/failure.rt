@@ -1,6 +1,7 @@
 use hail_field::Memory;
 use std::alloc::{AllocError, AllocFailed};
 use std::io;
+use std::num::ParseIntError;
 
 /// Why nothing was measured.
 #[derive(Debug, Drop)]
@@ -26,6 +27,12 @@ impl<T: Drop> From<AllocFailed<T>> for Failure {
 impl From<Memory> for Failure {
     fn from(_: Memory) -> Failure {
         Failure::Fault
+    }
+}
+
+impl From<ParseIntError> for Failure {
+    fn from(_: ParseIntError) -> Failure {
+        Failure::Usage
     }
 }
 

@@ -2,13 +2,13 @@
 ghost use Rattle.std.specs.Prelude.{◌≡◌};
 ghost use Rattle.hail_bench.specs.Checksum.{answer, checksum_of};
 
+use crate::failure::Failure;
 use crate::numbers::after;
 use crate::outcome::Outcome;
 use hail_field::Symbol;
-use std::fmt::{self, Display, Formatter, Write};
 
 /// What is done with each symbol.
-#[derive(Clone, Copy, Debug, PartialEq, Eq)]
+#[derive(Clone, Copy)]
 pub enum Operation {
     /// Its product with the next one.
     Product,
@@ -20,12 +20,12 @@ pub enum Operation {
 
 impl Operation {
     /// The operation of this name.
-    fn named(word: &str) -> Option<Operation> {
+    fn named(word: &str) -> Result<Operation, Failure> {
         match word {
-            "product" => Some(Operation::Product),
-            "square" => Some(Operation::Square),
-            "inverse" => Some(Operation::Inverse),
-            _ => None,
+            "product" => Ok(Operation::Product),
+            "square" => Ok(Operation::Square),
+            "inverse" => Ok(Operation::Inverse),
+            _ => Err(Failure::Usage),
         }
     }
 
@@ -44,18 +44,8 @@ impl Operation {
     }
 }
 
-impl Display for Operation {
-    fn fmt<W: Write>(&self, f: &mut Formatter<W>) -> fmt::Result {
-        f.write_str(match self {
-            Operation::Product => "product",
-            Operation::Square => "square",
-            Operation::Inverse => "inverse",
-        })
-    }
-}
-
 /// An operation on the first numbers of the row, this many of them.
-#[derive(Clone, Copy, Debug, PartialEq, Eq)]
+#[derive(Clone, Copy)]
 pub struct FieldWork {
     operation: Operation,
     count: u32,
@@ -63,13 +53,13 @@ pub struct FieldWork {
 
 impl FieldWork {
     /// The work that these words name: an operation and a count.
-    pub fn from_words(words: &[String]) -> Option<FieldWork> {
+    pub fn from_words(words: &[String]) -> Result<FieldWork, Failure> {
         let [operation, count] = words else {
-            return None;
+            return Err(Failure::Usage);
         };
         let operation = Operation::named(operation)?;
-        let count = count.parse::<u32>().ok()?;
-        Some(FieldWork { operation, count })
+        let count = count.parse::<u32>()?;
+        Ok(FieldWork { operation, count })
     }
 
     /// Does the work. The checksum is the sum of the answers.
@@ -88,12 +78,6 @@ impl FieldWork {
             count: self.count,
             checksum: sum.0,
         }
-    }
-}
-
-impl Display for FieldWork {
-    fn fmt<W: Write>(&self, f: &mut Formatter<W>) -> fmt::Result {
-        write!(f, "{} {}", self.operation, self.count)
     }
 }
 
@@ -117,7 +101,7 @@ mod tests {
                 let text = String::from_str(rt.alloc(), word).expect(&rt, "no memory");
                 owned.push(text).expect(&rt, "no memory");
             }
-            let count = FieldWork::from_words(&owned).map(|work| work.count);
+            let count = FieldWork::from_words(&owned).ok().map(|work| work.count);
             assert_eq!(rt; count, want);
         }
     }

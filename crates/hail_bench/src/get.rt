@@ -15,7 +15,6 @@ use column_codec::{Block, MasksAtHand, ObjectKeys, Trust};
 use hail_field::Symbol;
 use hail_poly::Work;
 use std::alloc::Global;
-use std::fmt::{self, Display, Formatter, Write};
 
 /// Opening of each stripe of a file, from the blocks of all providers as they were made, or spoilt, which lie one after the
 /// other.
@@ -107,37 +106,28 @@ fn made_all(alloc: Global, coded: &Coded, spoilt: Spoilt) -> Result<Vec<Symbol>,
 }
 
 impl GetWork {
-    /// The work that these words name: `get-stripes`, or `get-spoilt`, how the first providers spoil their blocks and how many
-    /// of them do, and then a shape, a profile and a count of bytes. Makes the code and the blocks.
-    pub fn from_words(alloc: Global, words: &[String]) -> Result<Option<GetWork>, Failure> {
-        match words {
-            [name, rest @ ..] if name.as_str() == "get-stripes" => {
-                GetWork::ready(alloc, Spoilt::NONE, rest)
-            }
-            [name, way, count, rest @ ..] if name.as_str() == "get-spoilt" => {
-                match Spoilt::from_words(way, count) {
-                    Some(spoilt) => GetWork::ready(alloc, spoilt, rest),
-                    None => Ok(None),
-                }
-            }
-            _ => Ok(None),
-        }
-    }
-
-    /// The work on the file that these words name.
-    fn ready(alloc: Global, spoilt: Spoilt, words: &[String]) -> Result<Option<GetWork>, Failure> {
-        let Some(coded) = Coded::from_words(alloc, words)? else {
-            return Ok(None);
-        };
+    /// The work on the file that these words name, a shape, a profile and a count of bytes, whose first providers spoil their blocks so.
+    /// Makes the code and the blocks.
+    pub fn from_words(alloc: Global, spoilt: Spoilt, words: &[String]) -> Result<GetWork, Failure> {
+        let coded = Coded::from_words(alloc, words)?;
         if !spoilt.fits(coded.file.shape) {
-            return Ok(None);
+            return Err(Failure::Usage);
         }
         let seen = made_all(alloc, &coded, spoilt)?;
-        Ok(Some(GetWork {
+        Ok(GetWork {
             coded,
             spoilt,
             seen,
-        }))
+        })
+    }
+
+    /// The same, where the first words say how the first providers spoil their blocks and how many of them do.
+    pub fn spoilt_from_words(alloc: Global, words: &[String]) -> Result<GetWork, Failure> {
+        let [way, count, rest @ ..] = words else {
+            return Err(Failure::Usage);
+        };
+        let spoilt = Spoilt::from_words(way, count)?;
+        GetWork::from_words(alloc, spoilt, rest)
     }
 
     /// The blocks of a stripe, one after the other.
@@ -242,11 +232,5 @@ impl GetWork {
         let count = self.coded.file.stripes();
         let checksum = self.open_all(&keys, count, &mut rows, &mut scratch, &mut work)?;
         Ok(Outcome { count, checksum })
-    }
-}
-
-impl Display for GetWork {
-    fn fmt<W: Write>(&self, f: &mut Formatter<W>) -> fmt::Result {
-        write!(f, "{} {}", self.spoilt, self.coded)
     }
 }

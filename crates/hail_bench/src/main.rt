@@ -4,7 +4,6 @@
 mod audit;
 mod blocks;
 mod decode;
-mod decoders;
 mod encode;
 mod failure;
 mod field;
@@ -28,22 +27,25 @@ const FAULT: u8 = 1;
 
 const USAGE: u8 = 2;
 
-/// The work that the words of the command line name. Words that are no text name none.
-fn asked(rt: &(impl Env + AllocGlobal)) -> Result<Work, Failure> {
+/// The words after the program's name. Words that are no text name no work.
+fn words(rt: &(impl Env + AllocGlobal)) -> Result<Vec<String>, Failure> {
     let Ok(all) = env::args(rt) else {
         return Err(Failure::Usage);
     };
-    let words: Vec<String> = all.skip(1).collect(rt.alloc())?;
-    Work::from_words(rt.alloc(), &words)?.ok_or(Failure::Usage)
+    Ok(all.skip(1).collect(rt.alloc())?)
 }
 
-/// Does the work; its answers go to standard output, the time to standard error.
+/// Does the work; its words and answers go to standard output, the time to standard error.
 fn measure(rt: &(impl Env + AllocGlobal + Clock + Print + Eprint)) -> Result<(), Failure> {
-    let work = asked(rt)?;
+    let words = words(rt)?;
+    let work = Work::from_words(rt.alloc(), &words)?;
     let start = Instant::now(rt)?;
     let outcome = work.run(rt.alloc())?;
     let nanos = start.elapsed(rt)?.as_nanos();
-    println!(rt; "{work} checksum {:032x}", outcome.checksum)?;
+    for word in &words {
+        print!(rt; "{word} ")?;
+    }
+    println!(rt; "checksum {:032x}", outcome.checksum)?;
     eprintln!(rt;
         "{} in {} ns, {} a second",
         outcome.count,

@@ -10,7 +10,6 @@ use crate::outcome::Outcome;
 use crate::stripes::{Coded, MASTER, mix_blocks};
 use column_codec::{Block, MasksAtHand, ObjectKeys};
 use std::alloc::Global;
-use std::fmt::{self, Display, Formatter, Write};
 
 /// Making of all providers' blocks of each stripe of a file.
 #[derive(Drop)]
@@ -21,19 +20,11 @@ pub struct PutWork {
 }
 
 impl PutWork {
-    /// The work that these words name: `put-stripes`, a shape, a profile and a count of bytes. Makes the code and the bytes.
-    pub fn from_words(alloc: Global, words: &[String]) -> Result<Option<PutWork>, Failure> {
-        let [name, rest @ ..] = words else {
-            return Ok(None);
-        };
-        if name.as_str() != "put-stripes" {
-            return Ok(None);
-        }
-        let Some(coded) = Coded::from_words(alloc, rest)? else {
-            return Ok(None);
-        };
+    /// The work that these words name: a shape, a profile and a count of bytes. Makes the code and the bytes.
+    pub fn from_words(alloc: Global, words: &[String]) -> Result<PutWork, Failure> {
+        let coded = Coded::from_words(alloc, words)?;
         let bytes = coded.bytes(alloc)?;
-        Ok(Some(PutWork { coded, bytes }))
+        Ok(PutWork { coded, bytes })
     }
 
     /// Makes the blocks of the first stripes, each time in the same room, and gives the checksum.
@@ -66,11 +57,5 @@ impl PutWork {
         let count = self.coded.file.stripes();
         let checksum = self.make_all(&keys, count, &mut blocks);
         Ok(Outcome { count, checksum })
-    }
-}
-
-impl Display for PutWork {
-    fn fmt<W: Write>(&self, f: &mut Formatter<W>) -> fmt::Result {
-        write!(f, "put-stripes {}", self.coded)
     }
 }

@@ -4,40 +4,19 @@ ghost use Rattle.code_defs.specs.ServerCode.{differences};
 
 use crate::blocks::fill;
 use crate::decode;
+use crate::failure::Failure;
 use crate::stripes::Coded;
 use column_codec::{MasksAtHand, ObjectKeys};
 use hail_field::{Shape, Symbol};
-use std::fmt::{self, Display, Formatter, Write};
-
-/// How a provider spoils its blocks.
-#[derive(Clone, Copy)]
-pub enum Way {
-    /// It gives codewords of other symbols, with its masks.
-    Codewords,
-    /// It gives blocks that are far from each codeword.
-    Garbage,
-    /// It gives its own blocks with as many wrong symbols as are corrected.
-    Errors,
-}
 
 /// How the first providers spoil their blocks: so many give others than their own, and after these so many in all give their
-/// own with wrong symbols.
+/// own with as many wrong symbols as are corrected.
 #[derive(Clone, Copy)]
 pub struct Spoilt {
-    pub way: Option<Way>,
+    /// Whether the others are far from each codeword. Else they are codewords of other symbols, with the masks.
+    pub garbage: bool,
     pub liars: u8,
     pub erring: u8,
-}
-
-impl Display for Spoilt {
-    fn fmt<W: Write>(&self, f: &mut Formatter<W>) -> fmt::Result {
-        match self.way {
-            None => write!(f, "get-stripes"),
-            Some(Way::Codewords) => write!(f, "get-spoilt codewords {}", self.liars),
-            Some(Way::Garbage) => write!(f, "get-spoilt garbage {}", self.liars),
-            Some(Way::Errors) => write!(f, "get-spoilt errors {}", self.erring),
-        }
-    }
 }
 
 /// Fills a block with the codeword of other symbols, and puts a provider's masks on.
@@ -71,22 +50,22 @@ fn add_errors(coded: &Coded, stripe: u32, block: &mut [Symbol])
 impl Spoilt {
     /// No provider.
     pub const NONE: Spoilt = Spoilt {
-        way: None,
+        garbage: false,
         liars: 0,
         erring: 0,
     };
 
     /// The way and the count of providers that two words name.
-    pub fn from_words(way: &str, count: &str) -> Option<Spoilt> {
-        let count = count.parse::<u8>().ok()?;
-        let (way, liars, erring) = match way {
-            "codewords" => (Way::Codewords, count, 0),
-            "garbage" => (Way::Garbage, count, 0),
-            "errors" => (Way::Errors, 0, count),
-            _ => return None,
+    pub fn from_words(way: &str, count: &str) -> Result<Spoilt, Failure> {
+        let count = count.parse::<u8>()?;
+        let (garbage, liars, erring) = match way {
+            "codewords" => (false, count, 0),
+            "garbage" => (true, count, 0),
+            "errors" => (false, 0, count),
+            _ => return Err(Failure::Usage),
         };
-        Some(Spoilt {
-            way: Some(way),
+        Ok(Spoilt {
+            garbage,
             liars,
             erring,
         })
@@ -117,9 +96,10 @@ impl Spoilt {
         ensures near { self.liars ≤ provider → differences block.new block.old ≤ coded.now.file.profile.fix }
     {
         if provider < u32::from(self.liars) {
-            match self.way {
-                Some(Way::Garbage) => fill(stripe.wrapping_mul(16).wrapping_add(provider), block),
-                _ => other_codeword(coded, keys, stripe, provider, masks, rows, block),
+            if self.garbage {
+                fill(stripe.wrapping_mul(16).wrapping_add(provider), block);
+            } else {
+                other_codeword(coded, keys, stripe, provider, masks, rows, block);
             }
         } else if provider < u32::from(self.erring) {
             add_errors(coded, stripe, block);

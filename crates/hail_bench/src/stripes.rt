@@ -12,7 +12,6 @@ use hail_field::{Shape, Symbol};
 use key_schedule::Master;
 use server_code::AnyCode;
 use std::alloc::Global;
-use std::fmt::{self, Display, Formatter, Write};
 
 /// The most bytes that a file has.
 const MOST_BYTES: u32 = 4_194_304;
@@ -30,11 +29,8 @@ pub struct Coded {
 
 impl Coded {
     /// The file that these words name, with its code, which takes memory: a shape, a profile, and a count of bytes.
-    pub fn from_words(alloc: Global, words: &[String]) -> Result<Option<Coded>, Failure> {
-        let Some(file) = file_named(words) else {
-            return Ok(None);
-        };
-        Ok(Some(Coded::new(alloc, file)?))
+    pub fn from_words(alloc: Global, words: &[String]) -> Result<Coded, Failure> {
+        Coded::new(alloc, file_named(words)?)
     }
 
     /// A file with its code, which takes memory.
@@ -74,17 +70,6 @@ impl Coded {
     }
 }
 
-impl Display for Coded {
-    fn fmt<W: Write>(&self, f: &mut Formatter<W>) -> fmt::Result {
-        let (shape, profile) = (self.file.shape, self.file.profile);
-        write!(
-            f,
-            "{} {} {} {} {}",
-            shape.n, shape.l, shape.b, profile.number, self.file.length
-        )
-    }
-}
-
 /// Fills `bytes` with the first bytes of the file.
 fn fill_bytes(bytes: &mut [u8])
     ensures { bytes.new ≡ file_bytes (length bytes.old) }
@@ -109,25 +94,25 @@ fn zeros(alloc: Global, count: usize, size: usize) -> Result<Vec<Block>, Failure
 }
 
 /// The shape that three words write.
-pub fn shape_named(n: &str, l: &str, b: &str) -> Option<Shape> {
-    let n = n.parse::<u8>().ok()?;
-    let l = l.parse::<u8>().ok()?;
-    let b = b.parse::<u8>().ok()?;
-    Shape::new(n, l, b)
+pub fn shape_named(n: &str, l: &str, b: &str) -> Result<Shape, Failure> {
+    let n = n.parse::<u8>()?;
+    let l = l.parse::<u8>()?;
+    let b = b.parse::<u8>()?;
+    Shape::new(n, l, b).ok_or(Failure::Usage)
 }
 
 /// The file that these words name: a shape, a profile, and a count of bytes.
-fn file_named(words: &[String]) -> Option<FileShape> {
+fn file_named(words: &[String]) -> Result<FileShape, Failure> {
     let [n, l, b, profile, bytes] = words else {
-        return None;
+        return Err(Failure::Usage);
     };
     let shape = shape_named(n, l, b)?;
     let profile = profile_named(profile)?;
-    let length = bytes.parse::<u32>().ok()?;
+    let length = bytes.parse::<u32>()?;
     if length > MOST_BYTES {
-        return None;
+        return Err(Failure::Usage);
     }
-    Some(FileShape {
+    Ok(FileShape {
         id: 1,
         length,
         shape,

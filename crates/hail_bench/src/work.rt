@@ -1,21 +1,20 @@
 use crate::audit::AuditWork;
 use crate::decode::DecodeWork;
-use crate::decoders::DecodersWork;
 use crate::encode::EncodeWork;
 use crate::failure::Failure;
 use crate::field::FieldWork;
 use crate::get::GetWork;
 use crate::outcome::Outcome;
 use crate::put::PutWork;
+use crate::spoilt::Spoilt;
 use std::alloc::Global;
-use std::fmt::{self, Display, Formatter, Write};
 
 /// The forms of a command line, a kind of work after another.
 pub const FORMS: &str =
-    "product|square|inverse COUNT, encode PROFILE BLOCKS, decode|decode-gao|decode-syndromes PROFILE BLOCKS ERRORS, put-stripes|get-stripes N L B PROFILE BYTES, get-spoilt codewords|garbage|errors COUNT N L B PROFILE BYTES, or audit N L B ROUNDS PICKS";
+    "product|square|inverse COUNT, encode PROFILE BLOCKS, decode PROFILE BLOCKS ERRORS, put-stripes|get-stripes N L B PROFILE BYTES, get-spoilt codewords|garbage|errors COUNT N L B PROFILE BYTES, or audit N L B ROUNDS PICKS";
 
-/// A piece of work that the words of a command line name. Each kind of work stands in a file of its own, as a type with `from_words`,
-/// `run` and `Display`; a further kind is one more variant here, and its forms in `FORMS`.
+/// A piece of work that the words of a command line name. Each kind of work stands in a file of its own, as a type with `from_words`
+/// and `run`; a further kind is one more variant here, and its forms in `FORMS`.
 #[derive(Drop)]
 pub enum Work {
     /// Products, squares or inverses of symbols.
@@ -24,8 +23,6 @@ pub enum Work {
     Encode(EncodeWork),
     /// Correcting of blocks.
     Decode(DecodeWork),
-    /// Decoding of words by one of the two decoders.
-    Decoders(DecodersWork),
     /// Making of a file's blocks.
     Put(PutWork),
     /// Opening of a file's stripes.
@@ -35,30 +32,20 @@ pub enum Work {
 }
 
 impl Work {
-    /// The work that these words name, if they name one. It is made ready, which may take memory.
-    pub fn from_words(alloc: Global, words: &[String]) -> Result<Option<Work>, Failure> {
-        if let Some(work) = FieldWork::from_words(words) {
-            return Ok(Some(Work::Field(work)));
-        }
-        if let Some(work) = EncodeWork::from_words(alloc, words)? {
-            return Ok(Some(Work::Encode(work)));
-        }
-        if let Some(work) = DecodeWork::from_words(alloc, words)? {
-            return Ok(Some(Work::Decode(work)));
-        }
-        if let Some(work) = DecodersWork::from_words(alloc, words)? {
-            return Ok(Some(Work::Decoders(work)));
-        }
-        if let Some(work) = PutWork::from_words(alloc, words)? {
-            return Ok(Some(Work::Put(work)));
-        }
-        if let Some(work) = GetWork::from_words(alloc, words)? {
-            return Ok(Some(Work::Get(work)));
-        }
-        if let Some(work) = AuditWork::from_words(alloc, words)? {
-            return Ok(Some(Work::Audit(work)));
-        }
-        Ok(None)
+    /// The work that these words name. It is made ready, which may take memory.
+    pub fn from_words(alloc: Global, words: &[String]) -> Result<Work, Failure> {
+        let [name, rest @ ..] = words else {
+            return Err(Failure::Usage);
+        };
+        Ok(match name.as_str() {
+            "encode" => Work::Encode(EncodeWork::from_words(alloc, rest)?),
+            "decode" => Work::Decode(DecodeWork::from_words(alloc, rest)?),
+            "put-stripes" => Work::Put(PutWork::from_words(alloc, rest)?),
+            "get-stripes" => Work::Get(GetWork::from_words(alloc, Spoilt::NONE, rest)?),
+            "get-spoilt" => Work::Get(GetWork::spoilt_from_words(alloc, rest)?),
+            "audit" => Work::Audit(AuditWork::from_words(alloc, rest)?),
+            _ => Work::Field(FieldWork::from_words(words)?),
+        })
     }
 
     /// Does the work, which may take memory.
@@ -67,24 +54,9 @@ impl Work {
             Work::Field(work) => Ok(work.run()),
             Work::Encode(work) => work.run(alloc),
             Work::Decode(work) => work.run(alloc),
-            Work::Decoders(work) => work.run(alloc),
             Work::Put(work) => work.run(alloc),
             Work::Get(work) => work.run(alloc),
             Work::Audit(work) => work.run(alloc),
-        }
-    }
-}
-
-impl Display for Work {
-    fn fmt<W: Write>(&self, f: &mut Formatter<W>) -> fmt::Result {
-        match self {
-            Work::Field(work) => write!(f, "{work}"),
-            Work::Encode(work) => write!(f, "{work}"),
-            Work::Decode(work) => write!(f, "{work}"),
-            Work::Decoders(work) => write!(f, "{work}"),
-            Work::Put(work) => write!(f, "{work}"),
-            Work::Get(work) => write!(f, "{work}"),
-            Work::Audit(work) => write!(f, "{work}"),
         }
     }
 }
@@ -100,9 +72,10 @@ mod tests {
         for word in words {
             owned.push(String::from_str(alloc, word)?)?;
         }
-        match Work::from_words(alloc, &owned)? {
-            Some(work) => Ok(Some(work.run(alloc)?.checksum)),
-            None => Ok(None),
+        match Work::from_words(alloc, &owned) {
+            Ok(work) => Ok(Some(work.run(alloc)?.checksum)),
+            Err(Failure::Usage) => Ok(None),
+            Err(fault) => Err(fault.into()),
         }
     }
 

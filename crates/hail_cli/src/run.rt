@@ -18,7 +18,7 @@ const BEHIND_LINKS: &str = "+";
 type Linked = LinkProvider<LoopLink<SureProvider>>;
 
 /// What is told of a command that ended: its status, and the place that the status speaks of.
-#[derive(Clone, Copy, Debug)]
+#[derive(Clone, Copy)]
 pub struct Told {
     pub status: u8,
     pub at: u64,

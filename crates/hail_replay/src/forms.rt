@@ -6,7 +6,7 @@ ghost use Rattle.hail_replay.specs.declared.forms.Form.{Form as FormOf};
 use command_words::read_number;
 
 /// A command that carries a schedule out.
-#[derive(Clone, Copy, Debug, PartialEq, Eq)]
+#[derive(Clone, Copy)]
 pub enum Form {
     /// The schedule that the source gives.
     Replay,

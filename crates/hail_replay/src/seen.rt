@@ -14,11 +14,17 @@ use vault::{Answer, Turn};
 /// What one event is to the counts.
 #[derive(Drop)]
 pub struct Seen {
+    /// Whether a get ended with bytes.
     pub got: bool,
+    /// Whether these are the bytes that it was to give.
     pub right: bool,
+    /// Whether an audit ended.
     pub audited: bool,
+    /// The providers whose count in that audit is above the tolerance, in rising order.
     pub flagged: Vec<u32>,
+    /// Whether a repair ended, having stored what it was to store.
     pub repaired: bool,
+    /// Whether the client was stopped.
     pub stopped: bool,
 }
 

@@ -12,7 +12,7 @@ use stream_model::{Bytes, Failed, Source};
 const PIECE: usize = 1 << 16;
 
 /// Why the bytes of a source were not read.
-#[derive(Clone, Copy, Debug, PartialEq, Eq)]
+#[derive(Clone, Copy)]
 pub enum ReadFault {
     /// A read failed, and the source's count of faults rose.
     Failed,

@@ -25,16 +25,10 @@ fn row_shape(n: u128, l: u128, b: u128) -> Option<Shape>
     ensures fits { IsSome result ↔ IsShape n l b }
     ensures value { IfSome result (λ shape. (shape.n ≡ n) × (shape.l ≡ l) × (shape.b ≡ b)) }
 {
-    let Ok(small_n) = u8::try_from(n) else {
+    if n.max(l).max(b) > MOST as u128 {
         return None;
-    };
-    let Ok(small_l) = u8::try_from(l) else {
-        return None;
-    };
-    let Ok(small_b) = u8::try_from(b) else {
-        return None;
-    };
-    Shape::new(small_n, small_l, small_b)
+    }
+    Shape::new(n as u8, l as u8, b as u8)
 }
 
 /// The points 0 to count - 1.

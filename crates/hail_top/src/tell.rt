@@ -41,7 +41,7 @@ impl<'a> Subject<'a> {
 }
 
 /// Why an answer has no text: the status that says it, and the place that the status speaks of.
-#[derive(Clone, Copy, Debug, PartialEq, Eq)]
+#[derive(Clone, Copy)]
 pub struct Fault {
     pub status: u8,
     pub at: u64,

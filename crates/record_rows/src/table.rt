@@ -1,14 +1,6 @@
+use crate::given::{AUDIT_DONE, SETUP};
 use record_codec::{Counts, Name, Record};
 use vault_table::*;
-
-const SETUP: [u8; 41] = [
-    1, 4, 1, 1, 0, 1, 1, 0, 0, 0, 0, 0, 0, 0, 0, 0, 0, 0, 0, 0, 0, 0, 0, 0, 0, 0, 0, 0, 0, 0, 0, 0,
-    0, 0, 0, 0, 0, 0, 0, 0, 0,
-];
-
-const AUDIT_DONE: [u8; 30] = [
-    6, 1, 0, 0, 0, 0, 0, 0, 0, 0, 0, 0, 0, 4, 0, 0, 0, 0, 0, 0, 0, 0, 1, 0, 0, 0, 0, 0, 0, 0,
-];
 
 /// Why the table refuses the record that these bytes spell.
 fn why(table: &mut Table, bytes: &[u8]) -> Option<Refused> {

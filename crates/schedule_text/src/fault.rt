@@ -21,7 +21,7 @@ impl<T: Drop> From<AllocFailed<T>> for ScheduleFault {
 }
 
 /// Why a line is not read: it is outside the grammar, or memory ran out.
-#[derive(Clone, Copy, Debug, PartialEq, Eq)]
+#[derive(Clone, Copy)]
 pub(crate) enum LineFault {
     Bad,
     Memory,

@@ -1,8 +1,7 @@
+use hail_replay::*;
 use record_codec::Counts;
 use std::test::Fail;
 use stream_model::Bytes;
-use hail_replay::Came;
-use hail_replay::*;
 use vault::{Answer, BeginFault, Turn};
 
 #[test]

@@ -4,6 +4,8 @@
 #[cfg(test)]
 mod counts;
 #[cfg(test)]
+mod given;
+#[cfg(test)]
 mod lines;
 #[cfg(test)]
 mod schedules;

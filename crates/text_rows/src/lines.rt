@@ -1,30 +1,9 @@
+use crate::given::{SETUP, table_of};
 use command_lines::*;
 use hail_field::Symbol;
-use record_codec::{Counts, Record};
-use std::alloc::Global;
+use record_codec::Counts;
 use std::test::Fail;
 use stream_model::{MemSink, SureSink};
-use vault_table::{Refused, Table};
-
-const SETUP: [u8; 41] = [
-    1, 4, 1, 1, 0, 1, 1, 0, 0, 0, 0, 0, 0, 0, 0, 0, 0, 0, 0, 0, 0, 0, 0, 0, 0, 0, 0, 0, 0, 0, 0, 0,
-    0, 0, 0, 0, 0, 0, 0, 0, 0,
-];
-
-// The table of some records, each as its bytes.
-fn table_of(alloc: Global, records: &[&[u8]]) -> Result<Table, Fail> {
-    let mut table = Table::new(alloc)?;
-    for bytes in records {
-        let why = match Record::read(bytes) {
-            Some((record, _)) => table.apply(&record).err(),
-            None => Some(Refused::Memory),
-        };
-        if why.is_some() {
-            return Err(Fail::new("a record is refused"));
-        }
-    }
-    Ok(table)
-}
 
 #[test]
 fn one_line_tells_of_each_change(rt: HostRuntime) -> Result<(), Fail> {

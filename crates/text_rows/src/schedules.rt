@@ -1,8 +1,7 @@
+use crate::given::KEY;
 use schedule_text::*;
 use std::alloc::Global;
 use std::test::Fail;
-
-const KEY: &str = "000102030405060708090A0b0c0d0e0f101112131415161718191a1b1C1d1eFf";
 
 // Bytes as lower-case digits, or `-` for none.
 fn digits(alloc: Global, bytes: &[u8]) -> Result<String, Fail> {

@@ -1,31 +1,10 @@
+use crate::given::{SETUP, table_of};
 use hail_client::ReopenFault;
-use record_codec::{Counts, Record};
-use std::alloc::Global;
+use hail_replay::*;
+use record_codec::Counts;
 use std::test::Fail;
 use stream_model::Bytes;
-use hail_replay::*;
 use vault::{Answer, BeginFault, InitFault, StartFault, Turn};
-use vault_table::{Refused, Table};
-
-const SETUP: [u8; 41] = [
-    1, 4, 1, 1, 0, 1, 1, 0, 0, 0, 0, 0, 0, 0, 0, 0, 0, 0, 0, 0, 0, 0, 0, 0, 0, 0, 0, 0, 0, 0, 0, 0,
-    0, 0, 0, 0, 0, 0, 0, 0, 0,
-];
-
-// The table of some records, each as its bytes.
-fn table_of(alloc: Global, records: &[&[u8]]) -> Result<Table, Fail> {
-    let mut table = Table::new(alloc)?;
-    for bytes in records {
-        let why = match Record::read(bytes) {
-            Some((record, _)) => table.apply(&record).err(),
-            None => Some(Refused::Memory),
-        };
-        if why.is_some() {
-            return Err(Fail::new("a record is refused"));
-        }
-    }
-    Ok(table)
-}
 
 #[test]
 fn a_begin_tells_its_job_or_why_not(rt: HostRuntime) -> Result<(), Fail> {

@@ -1,3 +1,4 @@
+use crate::given::KEY;
 use command_words::*;
 use hail_field::Symbol;
 use record_codec::Setup;
@@ -159,8 +160,6 @@ fn setups_are_within_limits(rt: HostRuntime) {
     }
 }
 
-const DIGITS_OF_KEY: &str = "000102030405060708090A0b0c0d0e0f101112131415161718191a1b1C1d1eFf";
-
 #[test]
 fn keys_are_sixty_four_digits_and_a_line_end(rt: HostRuntime) -> Result<(), Fail> {
     let mut key = [0; 32];
@@ -180,7 +179,7 @@ fn keys_are_sixty_four_digits_and_a_line_end(rt: HostRuntime) -> Result<(), Fail
         ("0", false),
         ("00", false),
     ] {
-        let text = format!(in rt.alloc(); "{DIGITS_OF_KEY}{behind}")?;
+        let text = format!(in rt.alloc(); "{KEY}{behind}")?;
         let wanted = if found { Some(key) } else { None };
         assert_eq!(rt;
             read_key(text.as_bytes()).map(|master| master.0),
@@ -188,11 +187,11 @@ fn keys_are_sixty_four_digits_and_a_line_end(rt: HostRuntime) -> Result<(), Fail
             "behind: {behind:?}"
         );
     }
-    let text = DIGITS_OF_KEY.as_bytes();
+    let text = KEY.as_bytes();
     assert_eq!(rt; read_key(&text[1..]), None);
     assert_eq!(rt; read_key(&text[..62]), None);
     assert_eq!(rt; read_key(b""), None);
-    let other = format!(in rt.alloc(); "g{}", &DIGITS_OF_KEY[1..])?;
+    let other = format!(in rt.alloc(); "g{}", &KEY[1..])?;
     assert_eq!(rt; read_key(other.as_bytes()), None);
     Ok(())
 }

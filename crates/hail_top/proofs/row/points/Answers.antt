@@ -1,4 +1,5 @@
-use Rattle.std.proofs.Common.{List, ◌++◌, ◌∷◌, ℕ, [], ap, ◌∙◌, sym}
+use Rattle.std.proofs.Common.{◌≡◌, List, ◌++◌, ◌∷◌, ℕ, [], ap, ◌∙◌, sym, arith}
+use Rattle.code_defs.specs.Points.{upto}
 use Rattle.code_defs.proofs.Points.{upto_more}
 use Rattle.hail_top.proofs.row.points.Goals as goal
 
@@ -9,3 +10,8 @@ loop-place-preserved c =
     ∙ ap (λ (x : ℕ). c.loop-place.points.items ++ x ∷ []) c.from.ensures
     ∙ ap (λ (xs : List ℕ). xs ++ place ∷ []) c.loop-place.invariant
     ∙ sym (upto_more place)
+
+pub returns : goal.returns
+returns c =
+    let ended : c.loop-place.place ≡ c.args.count = omega arith in
+    c.loop-place.invariant ∙ ap upto ended

@@ -4,8 +4,17 @@ use Rattle.code_defs.proofs.Profiles.{size_is}
 use Rattle.code_points.specs.Profile.{plain_profile}
 use Rattle.server_code.specs.Any.{code_profile}
 use Rattle.server_code.proofs.Linear.{opened_is_one}
-use Rattle.hail_bench.proofs.Spoiling.{spoiled_opens}
+use Rattle.hail_bench.proofs.Spoiling.{length-codeword, spoiled_opens}
 use Rattle.hail_bench.proofs.decode.DecodeWork.correct.Goals as goal
+
+pub spoil-requires-clause-errors : goal.spoil-requires-clause-errors
+spoil-requires-clause-errors c =
+    let p = code_profile c.args.self.now.code in
+    omega (arith, c.args.self.now.errors_fit, p.size_is, p.fix_is, size_is p.number, length-codeword (plain_profile p) c.args.block.now c.requires.codeword)
+
+pub decode_in-requires-clause-block : goal.decode_in-requires-clause-block
+decode_in-requires-clause-block c =
+    c.spoil.ensures.length ∙ length-codeword (plain_profile (code_profile c.args.self.now.code)) c.args.block.now c.requires.codeword
 
 pub returns-in-Some-clause-restored : goal.returns-in-Some-clause-restored
 returns-in-Some-clause-restored c =

@@ -1,0 +1,17 @@
+use challenge::Challenge;
+use hail_field::Symbol;
+
+/// Four of the 96 rows of 16 stripes of six, by the seed of the first round of the first audit to object 1 under the master
+/// key of the bytes 0 to 31. A ChaCha20 written in Python from RFC 8439 gives it the rows 19, 70, 6 and 24, and the weight below.
+pub const CHALLENGE: Challenge = Challenge {
+    seed: [
+        177, 74, 118, 122, 222, 48, 6, 117, 101, 126, 116, 193, 72, 36, 68, 4, 49, 129, 168, 69,
+        205, 174, 1, 200, 246, 125, 22, 196, 8, 2, 145, 83,
+    ],
+    rows: 96,
+    size: 6,
+    picks: 4,
+};
+
+/// The weight of the first row of that challenge.
+pub const WEIGHT: Symbol = Symbol(65_912_960_681_525_404_807_291_868_634_059_098_642);
