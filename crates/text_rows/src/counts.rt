@@ -1,13 +1,46 @@
 use hail_replay::*;
 use record_codec::Counts;
-use std::test::Fail;
+use std::alloc::Global;
 use stream_model::Bytes;
 use vault::{Answer, BeginFault, Turn};
 
+/// The bytes that a get is to give.
+const WANTED: &[u8] = b"hail";
+
+/// Counts an event.
+fn count(alloc: Global, tally: &mut Tally, came: &Came<'_>) -> Option<()> {
+    if tally.events() == u64::MAX {
+        return None;
+    }
+    tally.see(alloc, WANTED, came).ok()
+}
+
+/// The counts of some events.
+fn counted(alloc: Global, events: &[Came<'_>]) -> Option<Tally> {
+    let mut tally = Tally::new(alloc);
+    for came in events {
+        count(alloc, &mut tally, came)?;
+    }
+    Some(tally)
+}
+
+/// Whether the counts tell this of a trial of this number.
+fn tells(alloc: Global, tally: &Tally, number: u64, wanted: &[u8]) -> bool {
+    match tally.lines(alloc, number) {
+        Ok(text) => text.as_slice() == wanted,
+        Err(_) => false,
+    }
+}
+
+/// How many of these events are counted, and whether this is then told of the trial of the largest number.
+fn told(alloc: Global, events: &[Came<'_>], wanted: &[u8]) -> Option<(u64, bool)> {
+    let tally = counted(alloc, events)?;
+    Some((tally.events(), tells(alloc, &tally, u64::MAX, wanted)))
+}
+
 #[test]
-fn events_are_counted(rt: HostRuntime) -> Result<(), Fail> {
-    let mut tally = Tally::new(rt.alloc());
-    for came in [
+fn events_are_counted(rt: HostRuntime) {
+    let events = [
         Came::Inited(Ok(())),
         Came::Reopened(Ok(())),
         Came::Begun(Some(Err(BeginFault::NothingDue))),
@@ -16,57 +49,56 @@ fn events_are_counted(rt: HostRuntime) -> Result<(), Fail> {
         Came::Replaced(true),
         Came::Named(None),
         Came::Stopped,
-    ] {
-        if tally.events() == u64::MAX {
-            return Err(Fail::new("no more events"));
+    ];
+    let wanted =
+        b"trial 18446744073709551615\nevents 8\ngets 0 right 0\naudits 0 flagged\nrepairs 0\nstops 2\n";
+    assert_eq!(rt; told(rt.alloc(), &events, wanted), Some((8, true)));
+}
+
+/// Whether the end of a job is seen so: as a get, as a right one, as an audit, as a repair, and with these providers flagged.
+fn is_seen(alloc: Global, answer: &Answer, flags: [bool; 4], flagged: &[u32]) -> bool {
+    match seen_end(alloc, WANTED, answer) {
+        Ok(seen) => {
+            [seen.got, seen.right, seen.audited, seen.repaired] == flags
+                && seen.flagged.as_slice() == flagged
         }
-        tally.see(rt.alloc(), b"hail", &came)?;
+        Err(_) => false,
     }
-    assert_eq!(rt; tally.events(), 8);
-    let text = tally.lines(rt.alloc(), u64::MAX)?;
-    assert_eq!(rt;
-        text.as_slice(),
-        b"trial 18446744073709551615\nevents 8\ngets 0 right 0\naudits 0 flagged\nrepairs 0\nstops 2\n".as_slice()
-    );
-    Ok(())
+}
+
+/// Whether the end of a get with these bytes is seen as a get, and as a right one.
+fn is_seen_as_get(alloc: Global, bytes: &[u8], right: bool) -> Option<bool> {
+    let bytes = Bytes::from_slice(alloc, bytes).ok()?;
+    let answer = Answer::Got { bytes };
+    Some(is_seen(alloc, &answer, [true, right, false, false], &[]))
 }
 
 #[test]
-fn ends_are_seen(rt: HostRuntime) -> Result<(), Fail> {
+fn gets_are_seen(rt: HostRuntime) {
+    let right = [
+        is_seen_as_get(rt.alloc(), b"hail", true),
+        is_seen_as_get(rt.alloc(), b"hall", false),
+    ];
+    assert_eq!(rt; right, [Some(true); 2]);
+}
+
+#[test]
+fn other_ends_are_seen(rt: HostRuntime) {
     let mut counts = Counts { n: 6, by: [0; 16] };
     counts.by[2] = 4;
     counts.by[5] = 1;
-    for (answer, wanted) in [
-        (
-            Answer::Got {
-                bytes: Bytes::from_slice(rt.alloc(), b"hail")?,
-            },
-            (true, true, false, false),
-        ),
-        (
-            Answer::Got {
-                bytes: Bytes::from_slice(rt.alloc(), b"hall")?,
-            },
-            (true, false, false, false),
-        ),
-        (Answer::Put, (false, false, false, false)),
-        (
-            Answer::Lost { stripe: 0, row: 1 },
-            (false, false, false, false),
-        ),
-        (Answer::Repaired { number: 1 }, (false, false, false, true)),
-    ] {
-        let seen = seen_end(rt.alloc(), b"hail", &answer)?;
-        assert_eq!(rt; (seen.got, seen.right, seen.audited, seen.repaired), wanted);
-        assert!(rt; seen.flagged.is_empty());
-    }
     let audited = Answer::Audited {
         number: 1,
         undecided: 0,
         counts,
     };
-    let seen = seen_end(rt.alloc(), b"hail", &audited)?;
-    assert!(rt; seen.audited && !seen.got);
-    assert_eq!(rt; seen.flagged.as_slice(), [2, 5].as_slice());
-    Ok(())
+    let lost = Answer::Lost { stripe: 0, row: 1 };
+    let repaired = Answer::Repaired { number: 1 };
+    let right = [
+        is_seen(rt.alloc(), &Answer::Put, [false; 4], &[]),
+        is_seen(rt.alloc(), &lost, [false; 4], &[]),
+        is_seen(rt.alloc(), &repaired, [false, false, false, true], &[]),
+        is_seen(rt.alloc(), &audited, [false, false, true, false], &[2, 5]),
+    ];
+    assert_eq!(rt; right, [true; 4]);
 }

@@ -1,83 +1,164 @@
 use crate::given::KEY;
+use record_codec::Setup;
 use schedule_text::*;
-use std::alloc::Global;
-use std::test::Fail;
+use std::alloc::{AllocError, Global};
 
-// Bytes as lower-case digits, or `-` for none.
-fn digits(alloc: Global, bytes: &[u8]) -> Result<String, Fail> {
+/// Bytes as lower-case digits, or `-` for none.
+fn digits(alloc: Global, bytes: &[u8]) -> Result<String, AllocError> {
     if bytes.is_empty() {
-        return Ok(String::from_str(alloc, "-")?);
+        return String::from_str(alloc, "-");
     }
-    Ok(hex::encode(alloc, bytes)?)
+    hex::encode(alloc, bytes)
 }
 
-// An event as a line of its own: names as digits, numbers in decimal.
-fn shown(alloc: Global, event: &Event) -> Result<String, Fail> {
-    Ok(match event {
-        Event::Init { setup, master } => {
-            let key = digits(alloc, &master.0)?;
-            format!(in alloc; "init {setup:?} {key}")?
-        }
-        Event::BeginPut { name, bytes } => {
-            let name = digits(alloc, name.as_slice())?;
-            let bytes = digits(alloc, bytes.as_slice())?;
-            format!(in alloc; "put {name} {bytes}")?
-        }
-        Event::BeginGet { name } => {
-            let name = digits(alloc, name.as_slice())?;
-            format!(in alloc; "get {name}")?
-        }
-        Event::BeginDrop { name } => {
-            let name = digits(alloc, name.as_slice())?;
-            format!(in alloc; "drop {name}")?
-        }
-        Event::BeginAudit => String::from_str(alloc, "audit")?,
-        Event::BeginRepair => String::from_str(alloc, "repair")?,
-        Event::Step { job } => format!(in alloc; "step {job}")?,
-        Event::Run { job } => format!(in alloc; "run {job}")?,
+/// A word, and bytes as digits.
+fn one_shown(alloc: Global, word: &str, bytes: &[u8]) -> Result<String, AllocError> {
+    let bytes = digits(alloc, bytes)?;
+    format!(in alloc; "{word} {bytes}")
+}
+
+/// A put with its name and its bytes as digits.
+fn put_shown(alloc: Global, name: &[u8], bytes: &[u8]) -> Result<String, AllocError> {
+    let name = digits(alloc, name)?;
+    let bytes = digits(alloc, bytes)?;
+    format!(in alloc; "put {name} {bytes}")
+}
+
+/// A set-up, its key as digits.
+fn init_shown(alloc: Global, setup: &Setup, key: &[u8]) -> Result<String, AllocError> {
+    let key = digits(alloc, key)?;
+    format!(in alloc; "init {setup:?} {key}")
+}
+
+/// A word and a number.
+fn number_shown(alloc: Global, word: &str, number: u32) -> Result<String, AllocError> {
+    format!(in alloc; "{word} {number}")
+}
+
+fn alter_shown(
+    alloc: Global,
+    provider: u32,
+    object: u64,
+    stripe: u32,
+    place: u32,
+    symbol: u128,
+) -> Result<String, AllocError> {
+    format!(in alloc; "alter {provider} {object} {stripe} {place} {symbol}")
+}
+
+fn lose_shown(
+    alloc: Global,
+    provider: u32,
+    object: u64,
+    stripe: u32,
+) -> Result<String, AllocError> {
+    format!(in alloc; "lose {provider} {object} {stripe}")
+}
+
+/// An event as a line of its own: names as digits, numbers in decimal.
+fn shown(alloc: Global, event: &Event) -> Result<String, AllocError> {
+    match event {
+        Event::Init { setup, master } => init_shown(alloc, setup, &master.0),
+        Event::BeginPut { name, bytes } => put_shown(alloc, name.as_slice(), bytes.as_slice()),
+        Event::BeginGet { name } => one_shown(alloc, "get", name.as_slice()),
+        Event::BeginDrop { name } => one_shown(alloc, "drop", name.as_slice()),
+        Event::BeginAudit => String::from_str(alloc, "audit"),
+        Event::BeginRepair => String::from_str(alloc, "repair"),
+        Event::Step { job } => number_shown(alloc, "step", *job),
+        Event::Run { job } => number_shown(alloc, "run", *job),
         Event::Alter {
             provider,
             object,
             stripe,
             place,
             symbol,
-        } => {
-            let symbol = symbol.0;
-            format!(in alloc; "alter {provider} {object} {stripe} {place} {symbol}")?
-        }
+        } => alter_shown(alloc, *provider, *object, *stripe, *place, symbol.0),
         Event::Lose {
             provider,
             object,
             stripe,
-        } => format!(in alloc; "lose {provider} {object} {stripe}")?,
-        Event::Stop { picks } => {
-            let picks = digits(alloc, picks.as_slice())?;
-            format!(in alloc; "stop {picks}")?
-        }
-        Event::Reopen => String::from_str(alloc, "reopen")?,
-        Event::List => String::from_str(alloc, "list")?,
-    })
-}
-
-// What a text is read as: its events with a semicolon behind each, or the fault.
-fn read(alloc: Global, text: &[u8]) -> Result<String, Fail> {
-    match read_schedule(alloc, text) {
-        Ok(events) => {
-            let mut all = String::new(alloc);
-            for event in events.as_slice() {
-                let line = shown(alloc, event)?;
-                all.push_str(line.as_str())?;
-                all.push_str(";")?;
-            }
-            Ok(all)
-        }
-        Err(fault) => Ok(format!(in alloc; "{fault:?}")?),
+        } => lose_shown(alloc, *provider, *object, *stripe),
+        Event::Stop { picks } => one_shown(alloc, "stop", picks.as_slice()),
+        Event::Reopen => String::from_str(alloc, "reopen"),
+        Event::List => String::from_str(alloc, "list"),
     }
 }
 
+/// Adds an event and a semicolon to a text.
+fn add(alloc: Global, all: &mut String, event: &Event) -> Result<(), AllocError> {
+    let line = shown(alloc, event)?;
+    all.push_str(line.as_str())?;
+    all.push_str(";")
+}
+
+/// The events with a semicolon behind each.
+fn all_shown(alloc: Global, events: &[Event]) -> Result<String, AllocError> {
+    let mut all = String::new(alloc);
+    for event in events {
+        add(alloc, &mut all, event)?;
+    }
+    Ok(all)
+}
+
+fn fault_shown(alloc: Global, fault: ScheduleFault) -> Result<String, AllocError> {
+    format!(in alloc; "{fault:?}")
+}
+
+/// What a text is read as: its events with a semicolon behind each, or the fault.
+fn read(alloc: Global, text: &[u8]) -> Result<String, AllocError> {
+    match read_schedule(alloc, text) {
+        Ok(events) => all_shown(alloc, &events),
+        Err(fault) => fault_shown(alloc, fault),
+    }
+}
+
+/// Whether a text is read as this.
+fn reads_as(alloc: Global, text: &[u8], wanted: &str) -> bool {
+    match read(alloc, text) {
+        Ok(found) => found.as_str() == wanted,
+        Err(_) => false,
+    }
+}
+
+/// The first of these texts that is read as something else than what stands behind it, or none.
+fn first_misread<'a>(alloc: Global, rows: &[(&'a str, &'a str)]) -> Option<&'a str> {
+    for (text, wanted) in rows {
+        if !reads_as(alloc, text.as_bytes(), wanted) {
+            return Some(*text);
+        }
+    }
+    None
+}
+
+/// A line with the key behind it, and more.
+fn line_with_key(alloc: Global, line: &str, more: &str) -> Result<String, AllocError> {
+    format!(in alloc; "{line} {KEY}{more}")
+}
+
+/// Whether a line with the key behind it, and more, is read as this.
+fn reads_with_key(alloc: Global, line: &str, more: &str, wanted: &str) -> bool {
+    match line_with_key(alloc, line, more) {
+        Ok(text) => reads_as(alloc, text.as_bytes(), wanted),
+        Err(_) => false,
+    }
+}
+
+/// The fault of a text whose first line is bad.
+const BAD: &str = "BadLine { number: 1 }";
+
+/// The first of these lines that is read, or none.
+fn first_read<'a>(alloc: Global, lines: &[&'a str]) -> Option<&'a str> {
+    for line in lines {
+        if !reads_as(alloc, line.as_bytes(), BAD) {
+            return Some(*line);
+        }
+    }
+    None
+}
+
 #[test]
-fn each_line_is_read(rt: HostRuntime) -> Result<(), Fail> {
-    for (text, wanted) in [
+fn each_line_is_read(rt: HostRuntime) {
+    let rows = [
         ("reopen", "reopen;"),
         ("list", "list;"),
         ("begin put a/b 00", "put 612f62 00;"),
@@ -100,22 +181,17 @@ fn each_line_is_read(rt: HostRuntime) -> Result<(), Fail> {
         ("stop -", "stop -;"),
         ("stop 0aFF", "stop 0aff;"),
         ("  step   7  ", "step 7;"),
-    ] {
-        let found = read(rt.alloc(), text.as_bytes())?;
-        assert_eq!(rt; found.as_str(), wanted, "text: {text:?}");
-    }
-    let text = format!(in rt.alloc(); "init 6 3 1 2 4 8 65535 {KEY}")?;
-    let found = read(rt.alloc(), text.as_bytes())?;
-    assert_eq!(rt;
-        found.as_str(),
-        "init Setup { n: 6, l: 3, b: 1, profile: 2, rounds: 4, picks: 8, tolerance: 65535 } 000102030405060708090a0b0c0d0e0f101112131415161718191a1b1c1d1eff;"
-    );
-    Ok(())
+    ];
+    assert_eq!(rt; first_misread(rt.alloc(), &rows), None);
+    let wanted =
+        "init Setup { n: 6, l: 3, b: 1, profile: 2, rounds: 4, picks: 8, tolerance: 65535 } 000102030405060708090a0b0c0d0e0f101112131415161718191a1b1c1d1eff;";
+    let right = reads_with_key(rt.alloc(), "init 6 3 1 2 4 8 65535", "", wanted);
+    assert_eq!(rt; right, true);
 }
 
 #[test]
-fn lines_are_cut_at_newlines(rt: HostRuntime) -> Result<(), Fail> {
-    for (text, wanted) in [
+fn lines_are_cut_at_newlines(rt: HostRuntime) {
+    let rows = [
         ("", ""),
         ("\n", ""),
         ("\r\n \r\n", ""),
@@ -132,16 +208,13 @@ fn lines_are_cut_at_newlines(rt: HostRuntime) -> Result<(), Fail> {
         ("reopen list", "BadLine { number: 1 }"),
         ("reopen\tlist", "BadLine { number: 1 }"),
         ("reopen\n\tlist", "BadLine { number: 2 }"),
-    ] {
-        let found = read(rt.alloc(), text.as_bytes())?;
-        assert_eq!(rt; found.as_str(), wanted, "text: {text:?}");
-    }
-    Ok(())
+    ];
+    assert_eq!(rt; first_misread(rt.alloc(), &rows), None);
 }
 
 #[test]
-fn other_lines_are_bad(rt: HostRuntime) -> Result<(), Fail> {
-    for line in [
+fn other_lines_are_bad(rt: HostRuntime) {
+    let lines = [
         "fly",
         "Reopen",
         "init",
@@ -184,23 +257,20 @@ fn other_lines_are_bad(rt: HostRuntime) -> Result<(), Fail> {
         "stop 0",
         "stop 00 00",
         "list 1",
+    ];
+    assert_eq!(rt; first_read(rt.alloc(), &lines), None);
+    assert_eq!(rt; reads_as(rt.alloc(), b"step \xff", BAD), true);
+}
+
+#[test]
+fn other_setups_are_bad(rt: HostRuntime) {
+    for (line, more) in [
+        ("init 256 3 1 2 4 8 0", ""),
+        ("init 6 3 1 2 4 8 65536", ""),
+        ("init 6 3 1 2 4 8", ""),
+        ("init 6 3 1 2 4 8 0", "00"),
     ] {
-        let found = read(rt.alloc(), line.as_bytes())?;
-        assert_eq!(rt; found.as_str(), "BadLine { number: 1 }", "line: {line:?}");
+        let right = reads_with_key(rt.alloc(), line, more, BAD);
+        assert_eq!(rt; right, true, "{line}");
     }
-    for line in [
-        "init 256 3 1 2 4 8 0",
-        "init 6 3 1 2 4 8 65536",
-        "init 6 3 1 2 4 8",
-    ] {
-        let text = format!(in rt.alloc(); "{line} {KEY}")?;
-        let found = read(rt.alloc(), text.as_bytes())?;
-        assert_eq!(rt; found.as_str(), "BadLine { number: 1 }", "line: {line:?}");
-        let text = format!(in rt.alloc(); "init 6 3 1 2 4 8 0 {KEY}00")?;
-        let found = read(rt.alloc(), text.as_bytes())?;
-        assert_eq!(rt; found.as_str(), "BadLine { number: 1 }");
-    }
-    let found = read(rt.alloc(), b"step \xff")?;
-    assert_eq!(rt; found.as_str(), "BadLine { number: 1 }");
-    Ok(())
 }

@@ -1,10 +1,26 @@
-use provider_model::SureProvider;
+use provider_model::{Provider, SureProvider};
 use provider_server::*;
-use std::test::Fail;
-use stream_model::{SureSink, SureSource};
+use std::alloc::Global;
+use stream_model::{Sink, Source, SureSink, SureSource};
+
+/// Some words.
+fn spelled(alloc: Global, words: &[&str]) -> Option<Vec<String>> {
+    let mut all = Vec::new(alloc);
+    for word in words {
+        let word = String::from_str(alloc, word).ok()?;
+        all.push(word).ok()?;
+    }
+    Some(all)
+}
+
+/// Whether words name this provider, or none.
+fn name(alloc: Global, words: &[&str], number: Option<u8>) -> Option<bool> {
+    let words = spelled(alloc, words)?;
+    Some(read_serve(&words) == number)
+}
 
 #[test]
-fn words_name_a_provider(rt: HostRuntime) -> Result<(), Fail> {
+fn words_name_a_provider(rt: HostRuntime) {
     for (words, number) in [
         (["serve", "0"].as_slice(), Some(0)),
         (["serve", "15"].as_slice(), Some(15)),
@@ -15,32 +31,39 @@ fn words_name_a_provider(rt: HostRuntime) -> Result<(), Fail> {
         (["Serve", "0"].as_slice(), None),
         ([].as_slice(), None),
     ] {
-        let mut spelled: Vec<String> = Vec::new(rt.alloc());
-        for word in words {
-            spelled.push(word.to_string(rt.alloc())?)?;
-        }
-        assert_eq!(rt; read_serve(&spelled), number, "{words:?}");
+        let right = name(rt.alloc(), words, number);
+        assert_eq!(rt; right, Some(true), "{words:?}");
     }
-    Ok(())
+}
+
+/// Serves the requests of a source with the provider of this number.
+fn served<P: Provider, S: Source, K: Sink>(
+    alloc: Global,
+    number: u8,
+    providers: &mut [P],
+    source: &mut S,
+    sink: &mut K,
+) -> Served {
+    serve_at(alloc, number, providers, source, sink)
+}
+
+/// How the provider of this number, of two, serves a removal and a byte behind it, and whether it answers so.
+fn removal_served(alloc: Global, number: u8, answers: &[u8]) -> Option<(Served, bool)> {
+    let requests = [4, 1, 0, 0, 0, 0, 0, 0, 0, 9];
+    let mut providers = [SureProvider::new(alloc), SureProvider::new(alloc)];
+    let mut source = SureSource::new(alloc, &requests).ok()?;
+    let mut sink = SureSink::new(alloc).ok()?;
+    let end = served(alloc, number, &mut providers, &mut source, &mut sink);
+    Some((end, sink.written() == answers))
 }
 
 #[test]
-fn the_provider_of_the_number_is_served(rt: HostRuntime) -> Result<(), Fail> {
-    let removal = [4, 1, 0, 0, 0, 0, 0, 0, 0, 9];
-    let mut providers = [SureProvider::new(rt.alloc()), SureProvider::new(rt.alloc())];
-    let mut source = SureSource::new(rt.alloc(), &removal)?;
-    let mut sink = SureSink::new(rt.alloc())?;
-    let end = serve_at(rt.alloc(), 2, &mut providers, &mut source, &mut sink);
-    assert_eq!(rt; end, Served { status: 22, at: 0 });
-    assert_eq!(rt; sink.written(), [].as_slice());
-    let end = serve_at(rt.alloc(), 1, &mut providers, &mut source, &mut sink);
-    assert_eq!(rt;
-        end,
-        Served {
-            status: BAD_FRAME,
-            at: 9
-        }
-    );
-    assert_eq!(rt; sink.written(), [1].as_slice());
-    Ok(())
+fn the_provider_of_the_number_is_served(rt: HostRuntime) {
+    let none = Served { status: 22, at: 0 };
+    assert_eq!(rt; removal_served(rt.alloc(), 2, &[]), Some((none, true)));
+    let bad = Served {
+        status: BAD_FRAME,
+        at: 9,
+    };
+    assert_eq!(rt; removal_served(rt.alloc(), 1, &[1]), Some((bad, true)));
 }

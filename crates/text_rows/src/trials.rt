@@ -1,33 +1,72 @@
 use schedule_text::Event;
-use std::alloc::Global;
-use std::test::Fail;
+use std::alloc::{AllocError, Global};
 use trial_maker::*;
 
-// A begin, a step, a run or a loss as a line.
-fn shown(alloc: Global, event: &Event) -> Result<String, Fail> {
-    Ok(match event {
-        Event::Run { job } => format!(in alloc; "run {job}")?,
-        Event::Step { job } => format!(in alloc; "step {job}")?,
+/// A word and a number.
+fn number_shown(alloc: Global, word: &str, number: u32) -> Result<String, AllocError> {
+    format!(in alloc; "{word} {number}")
+}
+
+fn lose_shown(alloc: Global, provider: u32, stripe: u32) -> Result<String, AllocError> {
+    format!(in alloc; "lose {provider} {stripe}")
+}
+
+/// A begin, a step, a run or a loss as a line.
+fn shown(alloc: Global, event: &Event) -> Result<String, AllocError> {
+    match event {
+        Event::Run { job } => number_shown(alloc, "run", *job),
+        Event::Step { job } => number_shown(alloc, "step", *job),
         Event::Lose {
             provider,
             stripe,
             ..
-        } => format!(in alloc; "lose {provider} {stripe}")?,
-        Event::BeginAudit => String::from_str(alloc, "audit")?,
-        Event::BeginRepair => String::from_str(alloc, "repair")?,
-        Event::BeginGet { .. } => String::from_str(alloc, "get")?,
-        Event::Reopen => String::from_str(alloc, "reopen")?,
-        Event::Stop { .. } => String::from_str(alloc, "stop")?,
-        _ => String::from_str(alloc, "another")?,
-    })
+        } => lose_shown(alloc, *provider, *stripe),
+        Event::BeginAudit => String::from_str(alloc, "audit"),
+        Event::BeginRepair => String::from_str(alloc, "repair"),
+        Event::BeginGet { .. } => String::from_str(alloc, "get"),
+        Event::Reopen => String::from_str(alloc, "reopen"),
+        Event::Stop { .. } => String::from_str(alloc, "stop"),
+        _ => String::from_str(alloc, "another"),
+    }
+}
+
+/// Whether an event is shown as this line.
+fn is_shown(alloc: Global, event: &Event, wanted: &str) -> bool {
+    match shown(alloc, event) {
+        Ok(line) => line.as_str() == wanted,
+        Err(_) => false,
+    }
+}
+
+/// The first of these places at which the event is not shown as the line beside it, or none.
+fn first_other(alloc: Global, events: &[Event], rows: &[(usize, &str)]) -> Option<usize> {
+    for (place, wanted) in rows {
+        let right = match events.get(*place) {
+            Some(event) => is_shown(alloc, event, wanted),
+            None => false,
+        };
+        if !right {
+            return Some(*place);
+        }
+    }
+    None
+}
+
+/// The trial of a number.
+fn trial_of(alloc: Global, number: u64) -> Option<Trial> {
+    make_trial(alloc, number).ok()
+}
+
+/// How many events and bytes the trial of seven has, and the first place at which its event is not shown as the line beside it.
+fn seven_seen(alloc: Global, rows: &[(usize, &str)]) -> Option<(usize, usize, Option<usize>)> {
+    let trial = trial_of(alloc, 7)?;
+    let other = first_other(alloc, &trial.events, rows);
+    Some((trial.events.len(), trial.expected.as_slice().len(), other))
 }
 
 #[test]
-fn trial_of_seven_has_its_events(rt: HostRuntime) -> Result<(), Fail> {
-    let trial = make_trial(rt.alloc(), 7)?;
-    assert_eq!(rt; trial.events.len(), 225);
-    assert_eq!(rt; trial.expected.as_slice().len(), 65536);
-    for (place, wanted) in [
+fn trial_of_seven_has_its_events(rt: HostRuntime) {
+    let rows = [
         (1, "reopen"),
         (3, "run 1"),
         (4, "lose 2 0"),
@@ -43,26 +82,42 @@ fn trial_of_seven_has_its_events(rt: HostRuntime) -> Result<(), Fail> {
         (160, "lose 4 0"),
         (222, "run 14"),
         (224, "run 15"),
-    ] {
-        if let Some(event) = trial.events.get(place) {
-            let line = shown(rt.alloc(), event)?;
-            assert_eq!(rt; line.as_str(), wanted);
-        }
-    }
-    Ok(())
+    ];
+    assert_eq!(rt; seven_seen(rt.alloc(), &rows), Some((225, 65536, None)));
 }
 
-// Bytes between two places, as digits.
-fn digits(alloc: Global, bytes: &[u8], start: usize, end: usize) -> Result<String, Fail> {
-    match bytes.get(start..end) {
-        Some(part) => Ok(hex::encode(alloc, part)?),
-        None => Err(Fail::new("too few bytes")),
+/// Whether bytes between two places are these digits.
+fn are_digits(alloc: Global, bytes: &[u8], start: usize, end: usize, wanted: &str) -> Option<bool> {
+    let part = bytes.get(start..end)?;
+    let digits = hex::encode(alloc, part).ok()?;
+    Some(digits.as_str() == wanted)
+}
+
+/// Whether the first event of a trial sets up with the key of these digits.
+fn begins_with_key(alloc: Global, events: &[Event], wanted: &str) -> Option<bool> {
+    match events.first()? {
+        Event::Init { master, .. } => are_digits(alloc, &master.0, 0, 32, wanted),
+        _ => None,
     }
+}
+
+/// A number, the digits of the key of its trial, and those of the first and the last eight bytes of its file.
+type Draws = (u64, &'static str, &'static str, &'static str);
+
+/// Whether the trial of a number has this key and these bytes.
+fn has_draws(alloc: Global, draws: &Draws) -> Option<bool> {
+    let (number, key, front, back) = draws;
+    let trial = trial_of(alloc, *number)?;
+    let bytes = trial.expected.as_slice();
+    let right = begins_with_key(alloc, &trial.events, key)?
+        && are_digits(alloc, bytes, 0, 8, front)?
+        && are_digits(alloc, bytes, 65528, 65536, back)?;
+    Some(right)
 }
 
 #[test]
-fn draws_give_key_and_bytes(rt: HostRuntime) -> Result<(), Fail> {
-    for (number, key, front, back) in [
+fn draws_give_key_and_bytes(rt: HostRuntime) {
+    let rows: [Draws; 2] = [
         (
             7,
             "f4e84544236752fbb56b8f31a23a10e42814f5f55ca037cdcc11c64c9a3b2949",
@@ -75,15 +130,9 @@ fn draws_give_key_and_bytes(rt: HostRuntime) -> Result<(), Fail> {
             "cfce3496e8fff2ef",
             "603fa6b2a5d1cb70",
         ),
-    ] {
-        let trial = make_trial(rt.alloc(), number)?;
-        if let Some(Event::Init { master, .. }) = trial.events.first() {
-            let found = digits(rt.alloc(), &master.0, 0, 32)?;
-            assert_eq!(rt; found.as_str(), key);
-        }
-        let bytes = trial.expected.as_slice();
-        assert_eq!(rt; digits(rt.alloc(), bytes, 0, 8)?.as_str(), front);
-        assert_eq!(rt; digits(rt.alloc(), bytes, 65528, 65536)?.as_str(), back);
+    ];
+    for draws in rows.iter() {
+        let right = has_draws(rt.alloc(), draws);
+        assert_eq!(rt; right, Some(true), "{}", draws.0);
     }
-    Ok(())
 }
