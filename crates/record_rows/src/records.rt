@@ -1,5 +1,12 @@
-use crate::given::{AUDIT_DONE, SETUP};
+use crate::given::AUDIT_DONE;
 use record_codec::*;
+
+/// The setup of four providers, one of them primary and one of them bad, in the first profile: one round of one pick,
+/// and a tolerance of 4,096. The bytes of the key are 0.
+pub const SETUP: [u8; 41] = [
+    1, 4, 1, 1, 0, 1, 1, 0, 16, 0, 0, 0, 0, 0, 0, 0, 0, 0, 0, 0, 0, 0, 0, 0, 0, 0, 0, 0, 0, 0, 0,
+    0, 0, 0, 0, 0, 0, 0, 0, 0, 0,
+];
 
 const PUT_START: [u8; 19] = [
     2, 1, 0, 0, 0, 0, 0, 0, 0, 9, 110, 111, 116, 101, 115, 46, 116, 120, 116,

@@ -1,6 +1,13 @@
-use crate::given::{AUDIT_DONE, SETUP};
+use crate::given::AUDIT_DONE;
 use record_codec::{Counts, Name, Record};
 use vault_table::*;
+
+/// The setup of four providers, one of them primary and one of them bad, in the first profile: one round of one pick,
+/// and no tolerance. The bytes of the key are 0.
+const SETUP: [u8; 41] = [
+    1, 4, 1, 1, 0, 1, 1, 0, 0, 0, 0, 0, 0, 0, 0, 0, 0, 0, 0, 0, 0, 0, 0, 0, 0, 0, 0, 0, 0, 0, 0, 0,
+    0, 0, 0, 0, 0, 0, 0, 0, 0,
+];
 
 /// Why the table refuses the record that these bytes spell.
 fn why(table: &mut Table, bytes: &[u8]) -> Option<Refused> {
