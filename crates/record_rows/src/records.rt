@@ -3,7 +3,7 @@ use record_codec::*;
 
 /// The setup of four providers, one of them primary and one of them bad, in the first profile: one round of one pick,
 /// and a tolerance of 4,096. The bytes of the key are 0.
-pub const SETUP: [u8; 41] = [
+const SETUP: [u8; 41] = [
     1, 4, 1, 1, 0, 1, 1, 0, 16, 0, 0, 0, 0, 0, 0, 0, 0, 0, 0, 0, 0, 0, 0, 0, 0, 0, 0, 0, 0, 0, 0,
     0, 0, 0, 0, 0, 0, 0, 0, 0, 0,
 ];
