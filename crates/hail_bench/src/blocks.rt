@@ -8,7 +8,7 @@ use crate::numbers::after;
 use code_points::{Profile, find_profile};
 use hail_field::Symbol;
 
-/// The profile of the number that a word writes.
+/// The profile of the number that a word writes; `Usage` where there is none.
 pub fn profile_named(word: &str) -> Result<Profile, Failure> {
     find_profile(word.parse::<u8>()?).ok_or(Failure::Usage)
 }

@@ -55,7 +55,7 @@ impl Spoilt {
         erring: 0,
     };
 
-    /// The way and the count of providers that two words name.
+    /// The way and the count of providers that two words name; `Usage` where they name none.
     pub fn from_words(way: &str, count: &str) -> Result<Spoilt, Failure> {
         let count = count.parse::<u8>()?;
         let (garbage, liars, erring) = match way {

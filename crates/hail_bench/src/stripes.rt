@@ -93,7 +93,7 @@ fn zeros(alloc: Global, count: usize, size: usize) -> Result<Vec<Block>, Failure
     Ok(blocks)
 }
 
-/// The shape that three words write.
+/// The shape that three words write; `Usage` where it is none.
 pub fn shape_named(n: &str, l: &str, b: &str) -> Result<Shape, Failure> {
     let n = n.parse::<u8>()?;
     let l = l.parse::<u8>()?;
