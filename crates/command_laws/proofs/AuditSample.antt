@@ -25,7 +25,7 @@ use Rattle.job_laws.proofs.BeginRefusals.{refusal-of}
 use Rattle.command_laws.proofs.Samples.{store-sure, set_up-sure}
 use Rattle.command_laws.proofs.PutSample.{formed, form-is}
 
-pub audited-sure : IsSure (store audited_records) audited_records
+audited-sure : IsSure (store audited_records) audited_records
 audited-sure = store-sure audited_records (λ e. cc) refl (refl, (refl, (refl, tt))) (omega arith) (omega arith)
 
 module _ (w : State) (n : ℕ) (H : AreHanded idle_providers (formed w)) where
@@ -139,7 +139,7 @@ module _ (w : State) (n : ℕ) (H : AreHanded idle_providers (formed w)) where
     past_text = refl;
   }
 
-pub audit-alone : RunsAlone set_up_records AuditJob (Audited 1 0 no_counts) (store set_up_records) audited_store []
+audit-alone : RunsAlone set_up_records AuditJob (Audited 1 0 no_counts) (store set_up_records) audited_store []
 audit-alone = record {
   faults = 0;
   before = omega arith;

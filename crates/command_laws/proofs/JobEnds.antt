@@ -73,7 +73,7 @@ not-done status n is zero sink (inl done) = zero (sym is ∙ done)
 not-done status n is zero sink (inr done) = sink (sym is ∙ done)
 
 -- no refusal ends a command so
-pub refused-done : (why : Refusal) (status : ℕ) → status ≡ status_of why → (status ≡ 0) ⊎ (status ≡ 15) → ⊥
+refused-done : (why : Refusal) (status : ℕ) → status ≡ status_of why → (status ≡ 0) ⊎ (status ≡ 15) → ⊥
 refused-done why status is (inl done) = refused-not why 0 refl (λ e. omega (arith, e)) (sym is ∙ done)
 refused-done why status is (inr done) = refused-not why 15 refl (λ e. omega (arith, e)) (sym is ∙ done)
 
@@ -130,7 +130,7 @@ put-done name old new end (AnswersPut.begun records bytes opened read (AnswersJo
     put-by name bytes records old new end opened read none how left left.leaves.by_kind.0 by done
 
 -- what is read of a source that is no longer than a file may be is all of it
-pub read-all : (old new : Option (List ℕ)) (bytes seen : List ℕ) → old ≡ Some bytes → length bytes ≤ largest_file → ReadsUpTo (largest_file + 1) old new seen → seen ≡ bytes
+read-all : (old new : Option (List ℕ)) (bytes seen : List ℕ) → old ≡ Some bytes → length bytes ≤ largest_file → ReadsUpTo (largest_file + 1) old new seen → seen ≡ bytes
 read-all old None bytes seen is small R = absurd (let e : Some bytes ≡ None = sym is ∙ R.front in cc)
 read-all old (Some left) bytes seen is small R =
     (let e : Some bytes ≡ Some (seen ++ left) = sym is ∙ R.front in

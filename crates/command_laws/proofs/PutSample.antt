@@ -143,7 +143,7 @@ module _ (w : State) (n : ℕ) (H : AreHanded idle_providers (formed w)) where
     past_text = refl;
   }
 
-pub put-alone : RunsAlone set_up_records (PutJob held_name []) Put (store set_up_records) (with_sink (store held_records) (stored_line held_name 0)) []
+put-alone : RunsAlone set_up_records (PutJob held_name []) Put (store set_up_records) (with_sink (store held_records) (stored_line held_name 0)) []
 put-alone = record {
   faults = 0;
   before = omega arith;

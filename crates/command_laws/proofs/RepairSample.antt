@@ -110,7 +110,7 @@ module _ (w : State) (n : ℕ) (H : AreHanded idle_providers (formed w)) where
     past_text = refl;
   }
 
-pub repair-alone : RunsAlone due_records RepairJob (Repaired 1) (store due_records) repaired_store []
+repair-alone : RunsAlone due_records RepairJob (Repaired 1) (store due_records) repaired_store []
 repair-alone = record {
   faults = 0;
   before = omega arith;

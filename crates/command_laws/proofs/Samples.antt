@@ -150,7 +150,7 @@ module _ (w : State) (n : ℕ) (H : AreHanded idle_providers (formed w)) (empty 
     past_text = refl;
   }
 
-pub got-alone : RunsAlone held_records (GetJob held_name) (Got []) (store held_records) (store held_records) []
+got-alone : RunsAlone held_records (GetJob held_name) (Got []) (store held_records) (store held_records) []
 got-alone = record {
   faults = 0;
   before = omega arith;

@@ -35,7 +35,7 @@ same_at ps j p e k = elim (cases_Bool (k == j)) [
 from_some : {X : Type 0} (x y : X) → Some x ≡ Some y → x ≡ y
 from_some x y e = cc
 
-pub over-is : (ps : ℕ → Provider) (p q r s : Provider) → p ≡ ps 0 → q ≡ ps 1 → r ≡ ps 2 → s ≡ ps 3 → over ps p q r s ≡ ps
+over-is : (ps : ℕ → Provider) (p q r s : Provider) → p ≡ ps 0 → q ≡ ps 1 → r ≡ ps 2 → s ≡ ps 3 → over ps p q r s ≡ ps
 over-is ps p q r s a b c d = λ i k. (same_at (with_provider (with_provider (with_provider ps 3 s) 2 r) 1 q) 0 p a k
     ∙ (same_at (with_provider (with_provider ps 3 s) 2 r) 1 q b k
     ∙ (same_at (with_provider ps 3 s) 2 r c k ∙ same_at ps 3 s d k))) i

@@ -5,7 +5,7 @@ use Rattle.command_laws.specs.After.{IsSure}
 use Rattle.command_runs.specs.Devices.{four_records, started_records, byte_records, dropped_records, byte_audited_records, byte_repaired_records, both_records, to_put_other, stored_other, all_hidden, to_put, byte_stored, put_failed, put_cut, put_unmade, byte_kept, dropped, all_lost, found_lost, due_lost, repair_lost, damaged, byte_audited, due, repaired, repair_failed, mended, got, drop_cut, audit_cut, repair_cut}
 use Rattle.command_runs.proofs.Shape.{AreFit, sure}
 
-pub four-fit : AreFit four_records
+four-fit : AreFit four_records
 four-fit = record { some = λ e. cc; all = refl; accepted = (refl, tt); room = omega arith }
 
 pub started-fit : AreFit started_records
@@ -17,10 +17,10 @@ byte-fit = record { some = λ e. cc; all = refl; accepted = (refl, (refl, (refl,
 pub dropped-fit : AreFit dropped_records
 dropped-fit = record { some = λ e. cc; all = refl; accepted = (refl, (refl, (refl, (refl, tt)))); room = omega arith }
 
-pub audited-fit : AreFit byte_audited_records
+audited-fit : AreFit byte_audited_records
 audited-fit = record { some = λ e. cc; all = refl; accepted = (refl, (refl, (refl, (refl, (refl, tt))))); room = omega arith }
 
-pub repaired-fit : AreFit byte_repaired_records
+repaired-fit : AreFit byte_repaired_records
 repaired-fit = record { some = λ e. cc; all = refl; accepted = (refl, (refl, (refl, (refl, (refl, (refl, tt)))))); room = omega arith }
 
 pub put-old : IsSure to_put four_records
@@ -77,7 +77,7 @@ mended-sure = sure mended byte_repaired_records repaired-fit refl (omega arith)
 pub got-new : IsSure got byte_repaired_records
 got-new = sure got byte_repaired_records repaired-fit refl (omega arith)
 
-pub both-fit : AreFit both_records
+both-fit : AreFit both_records
 both-fit = record { some = λ e. cc; all = refl; accepted = (refl, (refl, (refl, (refl, (refl, tt))))); room = omega arith }
 
 pub to_put_other-sure : IsSure to_put_other byte_records

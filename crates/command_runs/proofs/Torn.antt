@@ -19,7 +19,7 @@ any-gate (x ∷ a) b g [] is = absurd is
 any-gate (x ∷ a) b g (i ∷ image) is = (let r = any-gate a b g image is.1 in (r.0, λ k. is.0 refl k ∷ r.1 k))
 
 -- any byte may stand there
-pub gate-image : (a b : List ℕ) (g x : ℕ) → IsImage (firm a ++ (g, true) ∷ firm b) (a ++ x ∷ b)
+gate-image : (a b : List ℕ) (g x : ℕ) → IsImage (firm a ++ (g, true) ∷ firm b) (a ++ x ∷ b)
 gate-image [] [] g x = (λ e. absurd (false≢true (sym e)), tt)
 gate-image [] (y ∷ b) g x = (λ e. absurd (false≢true (sym e)), firm-image (y ∷ b))
   where

@@ -142,7 +142,7 @@ abbrev pub is_never_out : List ℕ → List Moment → Bool
 is_never_out called [] = true
 is_never_out called (m ∷ ms) = is_left called m.state.records m.state.doubt && is_never_out called ms
 
-pub left_by_test : (called : List ℕ) (rs : List Record) (doubt : Option Doubt) → is_left called rs doubt ≡ true → (d : Doubt) → doubt ≡ Some d → takes_out rs called d.entry ≡ false
+left_by_test : (called : List ℕ) (rs : List Record) (doubt : Option Doubt) → is_left called rs doubt ≡ true → (d : Doubt) → doubt ≡ Some d → takes_out rs called d.entry ≡ false
 left_by_test called rs None h d e = (let f : None ≡ Some d = e in cc)
 left_by_test called rs (Some c) h d e = (let f : c ≡ d = cc in subst (λ (x : Doubt). takes_out rs called x.entry ≡ false) f (not-true (takes_out rs called c.entry) h))
 

@@ -105,7 +105,7 @@ module _ (start : State) (O : IsOpenAtRest start 1) (w : State) (job : Job) (W :
   auditing-all : Each (IsAuditing s.n) (actions_of s job)
   auditing-all = subst (Each (IsAuditing s.n)) (sym list-is) (auditing-list s job)
 
-  pub auditing-next : (action : Action) → next_action w job ≡ Some action → (action ≡ End → ⊥) → IsAuditing s.n action
+  auditing-next : (action : Action) → next_action w job ≡ Some action → (action ≡ End → ⊥) → IsAuditing s.n action
   auditing-next action next n = each_get (IsAuditing s.n) (actions_of s job) job.place action auditing-all
       (subst (λ (t : Setup). slice_get (actions_of t job) job.place ≡ Some action) W.setup (next_stands w job action next n))
 
@@ -128,7 +128,7 @@ module _ (start : State) (O : IsOpenAtRest start 1) (w : State) (job : Job) (W :
       step SyncGate given now p q u c = absurd c
       step End given now p q u c = absurd c
 
-  pub fetches-kept : (i : ℕ) → (w.providers i).fetches ≡ (start.providers i).fetches
+  fetches-kept : (i : ℕ) → (w.providers i).fetches ≡ (start.providers i).fetches
   fetches-kept i = made-keeps x i (λ p q. q.fetches ≡ p.fetches) (IsAuditing s.n) (λ p. refl) (λ p q r a b. b ∙ a) step (take job.place (actions_of s job)) start.providers w.providers [] job.given made-taken W.made
     where
       step : (a : Action) (given now : List Given) (p q : Provider) → IsAuditing s.n a → Called x a given now i p q → q.fetches ≡ p.fetches
@@ -499,7 +499,7 @@ module _ (start new : State) (how : Answer) (heard : List Entry) (O : IsOpenAtRe
   pub gives : Gives how
   gives = by-action E.action refl E.free E.acts (λ n. auditing-next start O E.before E.job E.walked E.action E.next n)
 
-  pub audit-leaves : AuditLeaves (ran_from start new heard) how
+  audit-leaves : AuditLeaves (ran_from start new heard) how
   unfolding setup_in
   audit-leaves = record {
     gives = gives.0;

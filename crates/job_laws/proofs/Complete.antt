@@ -147,11 +147,11 @@ module _ (x : Ran) (file : File) (bytes : List ℕ) where
 
   module _ (shape : IsShape (setup_at_begin x).n (setup_at_begin x).l (setup_at_begin x).b) (size : length bytes ≡ file.size) where
     -- what was heard opens to the file, or holds a forgery
-    pub right-or-forged : (got : List ℕ) → AreBytes bytes → GetGives x file (answer.Got got) → (got ≡ bytes) ⊎ ((stripe : ℕ) × (place : ℕ) × IsForgery o bytes (blocks_heard x file.id) stripe place)
+    right-or-forged : (got : List ℕ) → AreBytes bytes → GetGives x file (answer.Got got) → (got ≡ bytes) ⊎ ((stripe : ℕ) × (place : ℕ) × IsForgery o bytes (blocks_heard x file.id) stripe place)
     right-or-forged got fits gives = file_or_forged o bytes file.profile refl shape (blocks_heard x file.id) got fits (subst (λ n. OpensFile o n (blocks_heard x file.id) got) (sym size) gives.1)
 
     -- a forgery needs two more wrong providers than may be
-    pub few-right : (got : List ℕ) → AreBytes bytes → GetGives x file (answer.Got got) → bad_count x file bytes ≤ (setup_at_begin x).b + 1 → got ≡ bytes
+    few-right : (got : List ℕ) → AreBytes bytes → GetGives x file (answer.Got got) → bad_count x file bytes ≤ (setup_at_begin x).b + 1 → got ≡ bytes
     few-right got fits gives few = elim (right-or-forged got fits gives) [
       | inl same ↦ same
       | inr forged ↦ absurd (let F = forged.2 in
@@ -172,7 +172,7 @@ module _ (x : Ran) (file : File) (bytes : List ℕ) where
         ]
 
     -- and as few as may be leave no row lost
-    pub few-kept : (stripe row : ℕ) → GetGives x file (answer.Lost stripe row) → bad_count x file bytes ≤ (setup_at_begin x).b → ⊥
+    few-kept : (stripe row : ℕ) → GetGives x file (answer.Lost stripe row) → bad_count x file bytes ≤ (setup_at_begin x).b → ⊥
     few-kept stripe row L few =
         (let k : stripe < stripes o (length bytes) = subst (λ z. stripe < stripes_of (profiled (setup_at_begin x) file.profile) z) (sym size) L.within in
         let within = count_of-within (λ j. is_wrong_block o bytes j stripe (block_at (blocks_heard x file.id stripe) j)) (is_bad x file bytes) 0 (setup_at_begin x).n (bad-block (stripe + 1) stripe L.hears (omega arith) k) in
@@ -188,7 +188,7 @@ shape-of w new heard O = valid-shape (setup_in w) (setup-valid 8 w (opened-sound
 
 -- a get of a file gives it, or holds a forgery
 module _ (x : Ran) (name bytes : List ℕ) (file : File) (shape : IsShape (setup_at_begin x).n (setup_at_begin x).l (setup_at_begin x).b) (in_effect : file_of x.records name ≡ Some file) (fits : AreBytes bytes) (size : length bytes ≡ file.size) where
-  pub gives-file : (how : Answer) → GetLeaves x name how → GetGives x file how
+  gives-file : (how : Answer) → GetLeaves x name how → GetGives x file how
   gives-file how L = subst (λ f. GetGives x f how) (same_value (file_of x.records name) L.file file L.in_effect in_effect) L.gives
 
   pub get-complete : (how : Answer) → GetLeaves x name how → bad_count x file bytes ≤ (setup_at_begin x).b → how ≡ answer.Got bytes

@@ -61,14 +61,14 @@ take-within [] ys (suc p) l = absurd (omega (arith, l))
 take-within (x ∷ xs) ys zero l = refl
 take-within (x ∷ xs) ys (suc p) l = ap (λ zs. x ∷ zs) (take-within xs ys p (omega (arith, l)))
 
-pub take-beyond : {X : Type 0} (xs ys : List X) (p : ℕ) → length xs ≤ p → take p (xs ++ ys) ≡ xs ++ take (p - length xs) ys
+take-beyond : {X : Type 0} (xs ys : List X) (p : ℕ) → length xs ≤ p → take p (xs ++ ys) ≡ xs ++ take (p - length xs) ys
 take-beyond xs ys p l = ap (λ n. take n (xs ++ ys)) (let e : p ≡ length xs + (p - length xs) = omega (arith, l) in e) ∙ take-append-add xs ys (p - length xs)
 
-pub single-get : {X : Type 0} (w x : X) (k : ℕ) → slice_get (w ∷ []) k ≡ Some x → (k ≡ 0) × (x ≡ w)
+single-get : {X : Type 0} (w x : X) (k : ℕ) → slice_get (w ∷ []) k ≡ Some x → (k ≡ 0) × (x ≡ w)
 single-get w x zero h = (refl, (let e : Some w ≡ Some x = h in let f : w ≡ x = cc in sym f))
 single-get w x (suc k) h = absurd (let e : None ≡ Some x = h in cc)
 
-pub flat-append : {A X : Type 0} (f : A → List X) (xs ys : List A) → flat_map f (xs ++ ys) ≡ flat_map f xs ++ flat_map f ys
+flat-append : {A X : Type 0} (f : A → List X) (xs ys : List A) → flat_map f (xs ++ ys) ≡ flat_map f xs ++ flat_map f ys
 flat-append f [] ys = refl
 flat-append f (x ∷ xs) ys = ap (λ l. f x ++ l) (flat-append f xs ys) ∙ sym (append_assoc (f x) (flat_map f xs) (flat_map f ys))
 
@@ -138,7 +138,7 @@ module _ (s : Setup) (id : ℕ) where
   distinct-open t = distinct-append (fetches t) (Work id t ∷ []) (distinct-fetches t) (tt, tt)
       (each_map (λ x. IsOver x (Work id t ∷ [])) (λ j. Fetch j id t) (upto s.n) (λ j. ((λ e. (let f : Fetch j id t ≡ Work id t = e in cc)), tt)))
 
-  pub distinct-reads : (a n : ℕ) → AreDistinct (reads a n)
+  distinct-reads : (a n : ℕ) → AreDistinct (reads a n)
   distinct-reads a n = distinct-range stripe_tag (open_actions s id) a n open-tags distinct-open
 
   -- the whole of it without the work on its last stripe
@@ -169,7 +169,7 @@ module _ (s : Setup) (id : ℕ) where
       over-left SyncGate h = tt
       over-left End h = tt
 
-  pub distinct-cut : (a k : ℕ) → AreDistinct (reads a k ++ fetches (a + k))
+  distinct-cut : (a k : ℕ) → AreDistinct (reads a k ++ fetches (a + k))
   distinct-cut a k = distinct-left (reads a k ++ fetches (a + k)) (Work id (a + k) ∷ []) (subst AreDistinct (reads-last a k) (distinct-reads a (suc k)))
 
   -- ---- what is heard of them
@@ -184,14 +184,14 @@ module _ (s : Setup) (id : ℕ) where
       singles [] = refl
       singles (j ∷ js) = ap (λ l. record { job = 1; given = Fetched j id t (block_given now id t j) } ∷ l) (singles js)
 
-  pub entries-reads : (now : List Given) (a n : ℕ) → flat_map (entry_for 1 now) (reads a n) ≡ flat_map (entries_at now) (range_with_len a n)
+  entries-reads : (now : List Given) (a n : ℕ) → flat_map (entry_for 1 now) (reads a n) ≡ flat_map (entries_at now) (range_with_len a n)
   entries-reads now a zero = refl
   entries-reads now a (suc n) = flat-append (entry_for 1 now) (open_actions s id a) (reads (a + 1) n) ∙ (λ i. piece i ++ entries-reads now (a + 1) n i)
     where
       piece : flat_map (entry_for 1 now) (open_actions s id a) ≡ entries_at now a
       piece = flat-append (entry_for 1 now) (fetches a) (Work id a ∷ []) ∙ (append-nil (flat_map (entry_for 1 now) (fetches a)) ∙ entries-fetches now a)
 
-  pub entries-cut : (now : List Given) (a k : ℕ) → flat_map (entry_for 1 now) (reads a k ++ fetches (a + k)) ≡ flat_map (entries_at now) (range_with_len a (suc k))
+  entries-cut : (now : List Given) (a k : ℕ) → flat_map (entry_for 1 now) (reads a k ++ fetches (a + k)) ≡ flat_map (entries_at now) (range_with_len a (suc k))
   entries-cut now a k = sym (append-nil (flat_map (entry_for 1 now) (reads a k ++ fetches (a + k))))
       ∙ (sym (flat-append (entry_for 1 now) (reads a k ++ fetches (a + k)) (Work id (a + k) ∷ [])) ∙ (ap (flat_map (entry_for 1 now)) (sym (reads-last a k)) ∙ entries-reads now a (suc k)))
 
@@ -264,7 +264,7 @@ module _ (x : With) (j : ℕ) (held : Held) (now : List Given) where
   read-step End actions old mid new given so_far reading over did rest h = absurd reading
 
   -- all of them
-  pub blocks-told : (actions : List Action) (old new : ℕ → Provider) (given : List Given) → Each IsReading actions → AreDistinct actions → Made x actions old new given now → (old j).held ≡ Some held →
+  blocks-told : (actions : List Action) (old new : ℕ → Provider) (given : List Given) → Each IsReading actions → AreDistinct actions → Made x actions old new given now → (old j).held ≡ Some held →
       Each IsToldBlock actions × ((new j).other_faults < last_count → (old j).other_faults + sum_by lack_block actions ≤ (new j).other_faults)
   blocks-told [] old new given reading d m h = (tt, λ l. (let e = ap (λ (f : ℕ → Provider). (f j).other_faults) m.0 in omega (arith, e)))
   blocks-told (a ∷ actions) old new given reading d (mid, so_far, did, rest) h =
@@ -274,7 +274,7 @@ module _ (x : With) (j : ℕ) (held : Held) (now : List Given) where
       ((s.told, r.0), λ l. (let c = s.count (omega (arith, up, l)) in let e = r.1 l in let f = sum_by-cons lack_block a actions in omega (arith, c, e, f))))
 
   -- works are told of nothing, and lack nothing
-  pub works-told : (ws : List Action) → Each IsWork ws → Each IsToldBlock ws × (sum_by lack_block ws ≡ 0)
+  works-told : (ws : List Action) → Each IsWork ws → Each IsToldBlock ws × (sum_by lack_block ws ≡ 0)
   works-told [] w = (tt, refl)
   works-told (Work o t ∷ ws) w = (let r = works-told ws w.1 in ((tt, r.0), (let f = sum_by-cons lack_block (Work o t) ws in let e = r.1 in omega (arith, f, e))))
   works-told (Fetch k o t ∷ ws) w = absurd w.0
@@ -293,7 +293,7 @@ module _ (x : With) (j : ℕ) (held : Held) (now : List Given) where
     left-told P [] ys h = (tt, h)
     left-told P (y ∷ xs) ys h = (let r = left-told P xs ys h.1 in ((h.0, r.0), r.1))
 
-    pub stripes-told : (a n : ℕ) → Each IsToldBlock (reads s id a n) → Each (λ t. (gave t ≡ has id t) ⊎ (gave t ≡ None)) (range_with_len a n)
+    stripes-told : (a n : ℕ) → Each IsToldBlock (reads s id a n) → Each (λ t. (gave t ≡ has id t) ⊎ (gave t ≡ None)) (range_with_len a n)
     stripes-told a zero h = tt
     stripes-told a (suc n) h =
         (let p = left-told IsToldBlock (open_actions s id a) (reads s id (a + 1) n) h in
@@ -301,7 +301,7 @@ module _ (x : With) (j : ℕ) (held : Held) (now : List Given) where
         let one = each-at IsToldBlock (λ k. Fetch k id a) 0 s.n j q.0 (omega arith) (omega (arith, below)) refl in
         (elim one [ inl e ↦ inl (gave_is a ∙ e) | inr e ↦ inr (gave_is a ∙ e) ], stripes-told (a + 1) n p.1))
 
-    pub stripes-lack : (a n : ℕ) → sum_by lack_block (reads s id a n) ≡ missing gave (has id) (range_with_len a n)
+    stripes-lack : (a n : ℕ) → sum_by lack_block (reads s id a n) ≡ missing gave (has id) (range_with_len a n)
     stripes-lack a zero = refl
     stripes-lack a (suc n) =
         (let e = sum_by-append lack_block (open_actions s id a) (reads s id (a + 1) n) in
@@ -321,7 +321,7 @@ module _ (x : With) (id : ℕ) (now : List Given) where
   IsFrom low (Work o t) = low ≤ t
   IsFrom low action = Unit {0}
 
-  pub from-fetches : (low a : ℕ) → low ≤ a → Each (IsFrom low) (fetches x.setup id a)
+  from-fetches : (low a : ℕ) → low ≤ a → Each (IsFrom low) (fetches x.setup id a)
   from-fetches low a l = each_map (IsFrom low) (λ j. Fetch j id a) (upto x.setup.n) (λ j. l)
 
   from-reads : (low a n : ℕ) → low ≤ a → Each (IsFrom low) (reads x.setup id a n)
@@ -350,7 +350,7 @@ module _ (x : With) (id : ℕ) (now : List Given) where
       subst (λ z. GivesSymbols (object_made x id) a (blocks_given now x.setup.n id a) z) (sym symbols)
       (subst (λ (g : ℕ → Option (List ℕ)). GivesSymbols (object_made x id) a (map g (upto x.setup.n)) did.0) (λ i j. sym (blocks j) i) did.1))
 
-  pub reads-give : (rest : List Action) (n a : ℕ) (old new : ℕ → Provider) (given : List Given) → Each (IsFrom (a + n)) rest → Made x (reads x.setup id a n ++ rest) old new given now → (t : ℕ) → a ≤ t → t < a + n →
+  reads-give : (rest : List Action) (n a : ℕ) (old new : ℕ → Provider) (given : List Given) → Each (IsFrom (a + n)) rest → Made x (reads x.setup id a n ++ rest) old new given now → (t : ℕ) → a ≤ t → t < a + n →
       GivesSymbols (object_made x id) t (blocks_given now x.setup.n id t) (symbols_given now id t)
   reads-give rest zero a old new given from m t l u = absurd (omega (arith, l, u))
   reads-give rest (suc n) a old new given from m t l u =

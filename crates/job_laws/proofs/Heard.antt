@@ -29,7 +29,7 @@ abbrev pub AreDistinct : List Action → Type 0
 AreDistinct [] = Unit {0}
 AreDistinct (x ∷ xs) = IsOver x xs × AreDistinct xs
 
-pub over-all : (x : Action) (xs : List Action) → Each (IsNot x) xs → IsOver x xs
+over-all : (x : Action) (xs : List Action) → Each (IsNot x) xs → IsOver x xs
 over-all (Fetch j o s) xs h = h
 over-all (Ask j o r) xs h = h
 over-all (Work o s) xs h = h
@@ -65,7 +65,7 @@ over-take WriteGate xs p a = tt
 over-take SyncGate xs p a = tt
 over-take End xs p a = tt
 
-pub distinct-take : (xs : List Action) (p : ℕ) → AreDistinct xs → AreDistinct (take p xs)
+distinct-take : (xs : List Action) (p : ℕ) → AreDistinct xs → AreDistinct (take p xs)
 distinct-take xs zero d = tt
 distinct-take [] (suc p) d = tt
 distinct-take (x ∷ xs) (suc p) d = (over-take x xs p d.0, distinct-take xs p d.1)
@@ -79,7 +79,7 @@ pub apart-by : (tag : Action → ℕ) (k : ℕ) (xs ys : List Action) → Each (
 apart-by tag k [] ys a b = tt
 apart-by tag k (x ∷ xs) ys a b = (over-all x ys (each_mono (λ y. k < tag y) (IsNot x) ys (λ y l e. (let f = ap tag e in let g = a.0 in omega (arith, l, f, g))) b), apart-by tag k xs ys a.1 b)
 
-pub each-range : (P : ℕ → Action → Type 0) (Q : Action → Type 0) (f : ℕ → List Action) (a n : ℕ) → ((k : ℕ) → a ≤ k → Each (P k) (f k)) → ((k : ℕ) (x : Action) → a ≤ k → P k x → Q x) → Each Q (flat_map f (range_with_len a n))
+each-range : (P : ℕ → Action → Type 0) (Q : Action → Type 0) (f : ℕ → List Action) (a n : ℕ) → ((k : ℕ) → a ≤ k → Each (P k) (f k)) → ((k : ℕ) (x : Action) → a ≤ k → P k x → Q x) → Each Q (flat_map f (range_with_len a n))
 each-range P Q f a zero h g = tt
 each-range P Q f a (suc n) h g = each_append Q (f a) (flat_map f (range_with_len (a + 1) n)) (each_mono (P a) Q (f a) (λ x. g a x (omega arith)) (h a (omega arith)))
     (each-range P Q f (a + 1) n (λ k l. h k (omega (arith, l))) (λ k x l. g k x (omega (arith, l))))

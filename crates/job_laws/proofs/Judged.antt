@@ -30,7 +30,7 @@ counted-same p q (x ∷ xs) [] counts h = refl
 counted-same p q (x ∷ xs) (answer ∷ more) [] h = refl
 counted-same p q (x ∷ xs) (answer ∷ more) (n ∷ ns) h = (λ i. cond (is_seen (h x i) answer) n (n + 1) ∷ counted-same p q xs more ns h i)
 
-pub judges-one : (o : Object) (c : Challenge) (heard : List (Option ℕ)) (old a b : Sums) → IsShape o.shape.n o.shape.l o.shape.b → Judges o c heard old a → Judges o c heard old b → a ≡ b
+judges-one : (o : Object) (c : Challenge) (heard : List (Option ℕ)) (old a b : Sums) → IsShape o.shape.n o.shape.l o.shape.b → Judges o c heard old a → Judges o c heard old b → a ≡ b
 judges-one o c heard old a b shape (inl (p, dp, ep)) (inl (q, dq, eq)) =
     (let many : length (points o) ≡ o.shape.n = length-map-range_with_len (point o) 0 o.shape.n in
     let same : (x : ℕ) → value p x ≡ value q x = often_same p q (points o) (bare_answers o c 0 heard) o.shape.l (Apart-points o (small shape)) dp.degree dq.degree

@@ -104,7 +104,7 @@ module _ (x : Ran) (shape : IsShape (setup_at_begin x).n (setup_at_begin x).l (s
     | inr n ↦ absurd (false≢true (sym (good-place j (omega (arith, below)) n k) ∙ wrong))
   ]
 
-  pub few-mended : L.place.stripe < stripes o (length bytes) → count_of is_bad_here (upto (setup_at_begin x).n) ≤ (setup_at_begin x).b → ⊥
+  few-mended : L.place.stripe < stripes o (length bytes) → count_of is_bad_here (upto (setup_at_begin x).n) ≤ (setup_at_begin x).b → ⊥
   few-mended k few =
       (let lost : LosesRow o L.place.stripe (blocks_at x L.gave L.place) row = subst (λ t. LosesRow o t (blocks_at x L.gave L.place) row) (sym L.stripe_is) L.loses in
       let within = count_of-within (λ j. is_wrong_block o bytes j L.place.stripe (block_at (blocks_at x L.gave L.place) j)) is_bad_here 0 (setup_at_begin x).n (bad-place k) in

@@ -26,14 +26,14 @@ use Rattle.job_laws.proofs.Questions.{each-in}
 pub profiled-same : (s : Setup) (p : ℕ) → p ≡ s.profile → profiled s p ≡ s
 profiled-same s p e = ap (profiled s) e
 
-pub pinned-plain : (q : ℕ) (pins : List Pinned) (id : ℕ) → Each (λ (f : Pinned). f.profile ≡ q) pins → pinned_profile q pins id ≡ q
+pinned-plain : (q : ℕ) (pins : List Pinned) (id : ℕ) → Each (λ (f : Pinned). f.profile ≡ q) pins → pinned_profile q pins id ≡ q
 pinned-plain q [] id h = refl
 pinned-plain q (f ∷ fs) id h = elim (cases_Bool (f.id == id)) [
   | inl t ↦ cond_true (f.id == id) f.profile (pinned_profile q fs id) t ∙ h.0
   | inr o ↦ cond_false (f.id == id) f.profile (pinned_profile q fs id) o ∙ pinned-plain q fs id h.1
 ]
 
-pub among-plain : (q : ℕ) (files : List File) (id : ℕ) → Each (λ (f : File). f.profile ≡ q) files → profile_among q files id ≡ q
+among-plain : (q : ℕ) (files : List File) (id : ℕ) → Each (λ (f : File). f.profile ≡ q) files → profile_among q files id ≡ q
 among-plain q [] id h = refl
 among-plain q (f ∷ fs) id h = elim (cases_Bool (f.id == id)) [
   | inl t ↦ cond_true (f.id == id) f.profile (profile_among q fs id) t ∙ h.0
@@ -66,7 +66,7 @@ numbered-file x accepted file i = ap (λ p. object_of (profiled (setup_at_begin 
 -- ---- a state whose vault was just opened
 
 module _ (start : State) (O : IsOpenAtRest start 1) where
-  pub version-one : version_of start.records ≡ 1
+  version-one : version_of start.records ≡ 1
   version-one = version-first start.records O.rest.in_grammar
 
   pub plain-file : (name : List ℕ) (file : File) → file_in start name ≡ Some file → file.profile ≡ (setup_in start).profile
@@ -92,7 +92,7 @@ module _ (start : State) (O : IsOpenAtRest start 1) where
   one-pin name None e = tt
   one-pin name (Some f) e = (plain-file name f e, tt)
 
-  pub plain-pins : (kind : Kind) → Each (λ (f : Pinned). f.profile ≡ (setup_in start).profile) (pinned_for start kind)
+  plain-pins : (kind : Kind) → Each (λ (f : Pinned). f.profile ≡ (setup_in start).profile) (pinned_for start kind)
   plain-pins (GetJob name) = one-pin name (file_in start name) refl
   plain-pins (PutJob name bytes) = tt
   plain-pins (DropJob name) = tt
@@ -124,5 +124,5 @@ module _ (w : State) (O : IsOpenAtRest w 1) where
       ap (λ p. object_of (profiled (setup_at_begin x) p) id)
       (among-plain (setup_at_begin x).profile (files_of x.records) id (subst (λ rs. Each (λ (f : File). f.profile ≡ (setup_at_begin (record x { records = rs })).profile) (files_of rs)) (sym same) (plain-files w O)))
 
-  pub begin-plain : (x : Ran) → x.records ≡ w.records → (file : File) → file.profile ≡ (setup_at_begin x).profile → object_at_begin x file ≡ object_of (setup_at_begin x) file.id
+  begin-plain : (x : Ran) → x.records ≡ w.records → (file : File) → file.profile ≡ (setup_at_begin x).profile → object_at_begin x file ≡ object_of (setup_at_begin x) file.id
   begin-plain x same file e = ap (λ p. object_of (profiled (setup_at_begin x) p) file.id) e

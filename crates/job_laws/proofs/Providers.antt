@@ -28,7 +28,7 @@ calls-at old j call new i (p, made, is) = elim (cases_Bool (i == j)) [
   | inr f ↦ inl (ap (λ g. g i) is ∙ cond_false (i == j) p (old i) f)
 ]
 
-pub did-at : (x : With) (a : Action) (old new : ℕ → Provider) (given now : List Given) (i : ℕ) → Did x a old new given now → (new i ≡ old i) ⊎ Called x a given now i (old i) (new i)
+did-at : (x : With) (a : Action) (old new : ℕ → Provider) (given now : List Given) (i : ℕ) → Did x a old new given now → (new i ≡ old i) ⊎ Called x a given now i (old i) (new i)
 did-at x (Store j o s) old new given now i (called, is) = elim (calls-at old j (Stores o s (block_stored x x.kind given j o s)) new i called) [ inl e ↦ inl e | inr c ↦ inr (c.0, c.1, is) ]
 did-at x (Fetch j o s) old new given now i (block, called, is) = elim (calls-at old j (λ p q. Fetches (object_made x o).profile.size o s p block q) new i called) [ inl e ↦ inl e | inr c ↦ inr (c.0, (block, c.1, is)) ]
 did-at x (Ask j o r) old new given now i (symbol, called, is) = elim (calls-at old j (λ p q. Asks (honest_answer (challenge_made x o r)) o p symbol q) new i called) [ inl e ↦ inl e | inr c ↦ inr (c.0, (symbol, c.1, is)) ]

@@ -101,7 +101,7 @@ module _ (s : Setup) (name bytes : List ℕ) (subject id : ℕ) (pinned : List P
         ];
   }
 
-  pub stores-go : (n a : ℕ) (old new : ℕ → Provider) (given now : List Given) → j < s.n → Made x (flat_map stripe_stores (range_with_len a n)) old new given now → Goes (StoresRange a n) (old j).held (new j).held
+  stores-go : (n a : ℕ) (old new : ℕ → Provider) (given now : List Given) → j < s.n → Made x (flat_map stripe_stores (range_with_len a n)) old new given now → Goes (StoresRange a n) (old j).held (new j).held
   stores-go zero a old new given now below m = subst (λ (f : ℕ → Provider). Goes (StoresRange a 0) (old j).held (f j).held) (sym m.0) (goes-same (StoresRange a 0) (range-none a) (old j).held)
   stores-go (suc n) a old new given now below m =
       (let p = made-split x (stripe_stores a) (flat_map stripe_stores (range_with_len (a + 1) n)) old new given now m in
@@ -141,7 +141,7 @@ module _ (s : Setup) (name bytes : List ℕ) (subject id : ℕ) (pinned : List P
     others = λ o u n. elim (with_block-cases id t (block t) p o u) [ inl same ↦ same | inr hit ↦ absurd (n hit.0) ];
   }
 
-  pub partly-goes : (xs : List Action) (old new : ℕ → Provider) (given now : List Given) → Each IsStoring xs → Made x xs old new given now → Goes Partly (old j).held (new j).held
+  partly-goes : (xs : List Action) (old new : ℕ → Provider) (given now : List Given) → Each IsStoring xs → Made x xs old new given now → Goes Partly (old j).held (new j).held
   partly-goes xs old new given now e m = made-keeps x j (λ p q. Goes Partly p.held q.held) IsStoring (λ p. goes-same Partly partly-same p.held)
       (λ p q r a b. goes-more Partly Partly Partly partly-more p.held q.held r.held a b) one xs old new given now e m
     where

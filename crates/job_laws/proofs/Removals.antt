@@ -24,7 +24,7 @@ use Rattle.job_laws.proofs.Truth.{call-hit, call-miss}
 use Rattle.job_laws.proofs.Leaving.{LastCall}
 
 -- and so did one that rose before
-pub rose-on : (a b c : ℕ) → b ≤ c → Rose a b → Rose a c
+rose-on : (a b c : ℕ) → b ≤ c → Rose a b → Rose a c
 rose-on a b c m rose below = (let r = rose below in omega (arith, m, r))
 
 -- before an append one is left
@@ -37,7 +37,7 @@ left-within (x ∷ xs) ys (suc p) l h = left-within xs ys p (omega (arith, l)) h
 
 module _ (x : With) (f : ℕ → Action) (call : ℕ → Provider → Provider → Type 0) (calls : (k : ℕ) (old new : ℕ → Provider) (given now : List Given) → Did x (f k) old new given now → CallsOne old k (call k) new) where
   -- providers below the first one are as they were
-  pub row-miss : (j a m : ℕ) (old new : ℕ → Provider) (given now : List Given) → j < a → Made x (map f (range_with_len a m)) old new given now → new j ≡ old j
+  row-miss : (j a m : ℕ) (old new : ℕ → Provider) (given now : List Given) → j < a → Made x (map f (range_with_len a m)) old new given now → new j ≡ old j
   row-miss j a zero old new given now l m = ap (λ g. g j) m.0
   row-miss j a (suc m) old new given now l (mid, so_far, did, rest) =
       row-miss j (a + 1) m mid new so_far now (omega (arith, l)) rest ∙ call-miss old a (call a) mid j (λ e. omega (arith, l, e)) (calls a old mid given so_far did)
@@ -59,12 +59,12 @@ pub goes-by : (R : Held → Held → Type 0) (old new : Option Held) → (old �
 goes-by R None new none some = subst (Goes R None) (sym (none refl)) tt
 goes-by R (Some p) new none some = (let r = some p refl in subst (Goes R (Some p)) (sym r.1) r.2)
 
-pub goes-none : (R : Held → Held → Type 0) (old new : Option Held) → Goes R old new → old ≡ None → new ≡ None
+goes-none : (R : Held → Held → Type 0) (old new : Option Held) → Goes R old new → old ≡ None → new ≡ None
 goes-none R None None g e = refl
 goes-none R None (Some q) g e = absurd g
 goes-none R (Some p) new g e = absurd (let f : Some p ≡ None = e in cc)
 
-pub goes-some : (R : Held → Held → Type 0) (old new : Option Held) (p : Held) → Goes R old new → old ≡ Some p → (q : Held) × (new ≡ Some q) × R p q
+goes-some : (R : Held → Held → Type 0) (old new : Option Held) (p : Held) → Goes R old new → old ≡ Some p → (q : Held) × (new ≡ Some q) × R p q
 goes-some R None new p g e = absurd (let f : None ≡ Some p = e in cc)
 goes-some R (Some r) None p g e = absurd g
 goes-some R (Some r) (Some q) p g e = (q, refl, subst (λ z. R z q) (let f : Some r ≡ Some p = e in let h : r ≡ p = cc in h) g)
@@ -106,7 +106,7 @@ gone-part o rose p q r lost = record {
 }
 
 -- what is held after a removal, done or failed
-pub removal-goes : (o : ℕ) (old new : Provider) → Removes o old new → Goes (DroppedFrom o (Rose old.other_faults new.other_faults)) old.held new.held
+removal-goes : (o : ℕ) (old new : Provider) → Removes o old new → Goes (DroppedFrom o (Rose old.other_faults new.other_faults)) old.held new.held
 removal-goes o old new (inl c) = goes-map (DroppedFrom o (Rose old.other_faults new.other_faults)) (without_object o) (gone-all o (Rose old.other_faults new.other_faults)) old.held new.held c.held
 removal-goes o old new (inr c) = goes-mono (LosesPart o) (DroppedFrom o (Rose old.other_faults new.other_faults)) (λ p q l. gone-part o (Rose old.other_faults new.other_faults) p q c.cause l) old.held new.held c.held
 
@@ -115,7 +115,7 @@ pub dropped-over : (o : ℕ) (a b : Type 0) (p q : Held) → (a → b) → Dropp
 dropped-over o a b p q f d = record { gone = λ t. elim (d.gone t) [ inl none ↦ inl none | inr same ↦ inr (f same.0, same.1) ]; others = d.others }
 
 -- removals of an object from all providers
-pub removals-go : (x : With) (o n : ℕ) (old new : ℕ → Provider) (given now : List Given) (j : ℕ) → j < n → Made x (map (λ k. Remove k o) (range_with_len 0 n)) old new given now →
+removals-go : (x : With) (o n : ℕ) (old new : ℕ → Provider) (given now : List Given) (j : ℕ) → j < n → Made x (map (λ k. Remove k o) (range_with_len 0 n)) old new given now →
     Goes (DroppedFrom o (Rose (old j).other_faults (new j).other_faults)) (old j).held (new j).held
 removals-go x o n old new given now j l m = removal-goes o (old j) (new j)
     (row-hit x (λ k. Remove k o) (λ k. Removes o) (λ k a b g h did. did.0) j 0 n old new given now (omega arith) (omega (arith, l)) m)
@@ -160,7 +160,7 @@ moves-made x old new given now (a, ga, da, (b, gb, db, (c, gc, dc, (d, gd, dd, l
 -- ---- the removals of a put or a drop
 
 -- the object of the file that a name had at the begin
-pub nothing-pinned : (start : State) → start.jobs ≡ [] → (f : File) → removable start (Some f) ≡ f.id ∷ []
+nothing-pinned : (start : State) → start.jobs ≡ [] → (f : File) → removable start (Some f) ≡ f.id ∷ []
 nothing-pinned start none f = cond_false (is_pinned start f.id) [] (f.id ∷ [])
     (ap (λ (js : List Job). list_any (λ (j : Job). list_any (λ (g : Pinned). g.id == f.id) j.pinned) js) none)
 

@@ -542,10 +542,10 @@ module _ (start new : State) (how : Answer) (heard : List Entry) (O : IsOpenAtRe
   by-action (Ask j o r) at free h = absurd h
   by-action (Remove j o) at free h = absurd h
 
-  pub repair-gives : Gives how
+  repair-gives : Gives how
   repair-gives = by-action E.action refl E.free E.acts
 
-  pub repair-silent : heard ≡ []
+  repair-silent : heard ≡ []
   repair-silent = E.heard_is ∙ ap (heard_by_kind E.job) E.walked.kind_is
 
 pub repairs-leave : (start new : State) (moment : ℕ) (how : Answer) (heard : List Entry) → IsOpenAtRest start 1 → RunsJob start moment RepairJob how heard new → Leaves (ran_from start new heard) RepairJob how

@@ -57,7 +57,7 @@ none-fetch j o s WriteGate h e = cc
 none-fetch j o s SyncGate h e = cc
 none-fetch j o s End h e = cc
 
-pub none-work : (o s : ℕ) (y : Action) → IsNoneOf o s y → IsNot (Work o s) y
+none-work : (o s : ℕ) (y : Action) → IsNoneOf o s y → IsNot (Work o s) y
 none-work o s (Fetch k p t) h e = cc
 none-work o s (Work p t) h e = h ((let f = e in cc), (let f = e in cc))
 none-work o s (Ask k p t) h e = cc

@@ -39,7 +39,7 @@ made-rises x actions old new given now j m = made-keeps x j Rises (λ a. Unit {0
 abbrev pub lacks : {B : Type 0} → Option B → Option B → ℕ
 lacks given held = cond (is_none given && is_some held) 1 0
 
-pub lacks-itself : {B : Type 0} (h : Option B) → lacks h h ≡ 0
+lacks-itself : {B : Type 0} (h : Option B) → lacks h h ≡ 0
 lacks-itself None = refl
 lacks-itself (Some b) = refl
 
@@ -133,7 +133,7 @@ module _ (x : With) (j : ℕ) (held : Held) (now : List Given) where
 
 -- ---- sums over a range of which one number counts
 
-pub range-miss : (j v : ℕ) (f : Action → ℕ) (g : ℕ → Action) (a n : ℕ) → ((k : ℕ) → (k ≡ j → ⊥) → f (g k) ≡ 0) → j < a → sum_by f (map g (range_with_len a n)) ≡ 0
+range-miss : (j v : ℕ) (f : Action → ℕ) (g : ℕ → Action) (a n : ℕ) → ((k : ℕ) → (k ≡ j → ⊥) → f (g k) ≡ 0) → j < a → sum_by f (map g (range_with_len a n)) ≡ 0
 range-miss j v f g a zero h l = refl
 range-miss j v f g a (suc n) h l = sum_by-cons f (g a) (map g (range_with_len (a + 1) n)) ∙ (let e = h a (λ e. omega (arith, e, l)) in let r = range-miss j v f g (a + 1) n h (omega (arith, l)) in omega (arith, e, r))
 

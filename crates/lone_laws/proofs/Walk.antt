@@ -53,7 +53,7 @@ pub opened-sound : (start : State) → IsOpenAtRest start 1 → IsSound 8 start
 opened-sound start O = rest-sound 8 start O.rest
 
 -- a begin, of a put also with a profile of its own
-pub walk-begin_at : (moment number : ℕ) (start new : State) (kind : Kind) (wish : Option ℕ) → ((p : ℕ) → wish ≡ Some p → (name : List ℕ) × (bytes : List ℕ) × (kind ≡ PutJob name bytes)) →
+walk-begin_at : (moment number : ℕ) (start new : State) (kind : Kind) (wish : Option ℕ) → ((p : ℕ) → wish ≡ Some p → (name : List ℕ) × (bytes : List ℕ) × (kind ≡ PutJob name bytes)) →
     IsOpenAtRest start 1 → IsSpelledKind kind → BeginsAt 8 moment start kind wish (Begun number) new →
     (number ≡ 1) × WalkedAt start kind (chosen (setup_in start) wish) new (beginning start moment kind wish)
 walk-begin_at moment number start new kind wish named O spelled (opened, allowed, is_number, is) = (
@@ -220,7 +220,7 @@ module _ (start : State) (O : IsOpenAtRest start 1) (kind : Kind) {profile : ℕ
     on-records rs (RecordsAre.one left is) = RecordsAre.one (ap (λ n. n + 1) count-same ∙ left) is
     on-records rs (RecordsAre.two entry left second is) = RecordsAre.two entry (ap (λ n. n + 2) count-same ∙ left) (on-second kind entry refl left second) is
 
-    pub on-walk : (flight : Option Append) (doubt : Option Doubt) (providers : ℕ → Provider) (faults : ℕ) → w.disk_faults ≤ faults → Did (with_job_at start kind profile job) action w.providers providers job.given given →
+    on-walk : (flight : Option Append) (doubt : Option Doubt) (providers : ℕ → Provider) (faults : ℕ) → w.disk_faults ≤ faults → Did (with_job_at start kind profile job) action w.providers providers job.given given →
         IsSound 8 (record (going_on w later) { append = flight; doubt = doubt; providers = providers; disk_faults = faults }) →
         WalkedAt start kind profile (record (going_on w later) { append = flight; doubt = doubt; providers = providers; disk_faults = faults }) later
     on-walk flight doubt providers faults low did sound =
@@ -239,7 +239,7 @@ module _ (start : State) (O : IsOpenAtRest start 1) (kind : Kind) {profile : ℕ
     first : appends_left (setup_in w) job ≡ appends_of start kind → w.records ≡ start.records → entry ≡ first_record start kind → Wrote entry
     second : appends_left (setup_in w) job + 1 ≡ appends_of start kind → w.records ≡ first_record start kind ∷ start.records → IsSecondRecord start job kind entry → Wrote entry
 
-  pub all-left : (kd : Kind) (k : ℕ) → kind ≡ kd → appends_of start kd ≡ k → appends_left (setup_in w) job ≡ k → w.records ≡ start.records
+  all-left : (kd : Kind) (k : ℕ) → kind ≡ kd → appends_of start kd ≡ k → appends_left (setup_in w) job ≡ k → w.records ≡ start.records
   all-left kd k e count left = records-by w.records W.records
     where
       total : appends_of start kind ≡ k
@@ -250,7 +250,7 @@ module _ (start : State) (O : IsOpenAtRest start 1) (kind : Kind) {profile : ℕ
       records-by rs (RecordsAre.one l is) = absurd (let f = left-start k left in omega (arith, f, l, total))
       records-by rs (RecordsAre.two entry l sec is) = absurd (let f = left-start k left in omega (arith, f, l, total))
 
-  pub one-left : (kd : Kind) (k : ℕ) → kind ≡ kd → appends_of start kd ≡ k + 1 → appends_left (setup_in w) job ≡ k → w.records ≡ first_record start kind ∷ start.records
+  one-left : (kd : Kind) (k : ℕ) → kind ≡ kd → appends_of start kd ≡ k + 1 → appends_left (setup_in w) job ≡ k → w.records ≡ first_record start kind ∷ start.records
   one-left kd k e count left = records-by w.records W.records
     where
       total : appends_of start kind ≡ k + 1
@@ -400,7 +400,7 @@ module _ (start : State) (O : IsOpenAtRest start 1) (kind : Kind) {profile : ℕ
     body-made RepairJob e = same-drawn (drawn-kind RepairJob e)
     body-made UpgradeJob e = same-drawn (drawn-kind UpgradeJob e)
 
-    pub body-walk : (entry : Record) (faults : ℕ) → w.disk_faults ≤ faults → IsSound 8 (record (begun_append w job entry) { disk_faults = faults }) →
+    body-walk : (entry : Record) (faults : ℕ) → w.disk_faults ≤ faults → IsSound 8 (record (begun_append w job entry) { disk_faults = faults }) →
         WalkedAt start kind profile (record (begun_append w job entry) { disk_faults = faults }) drawn
     body-walk entry faults low sound =
         walked-next (record (begun_append w job entry) { disk_faults = faults }) drawn sound refl refl (setup_same (record (begun_append w job entry) { disk_faults = faults }) w refl) refl refl refl refl refl refl
@@ -480,7 +480,7 @@ module _ (start : State) (O : IsOpenAtRest start 1) (kind : Kind) {profile : ℕ
         first-older-same name bytes e l = ap (taken_out w job) e ∙ (cond_true (is_first_append job) [] (removable w (file_in w name)) (first_below job l)
             ∙ sym ((W.sound.jobs job.number job runs).undecided (let c = put-first (setup_in w) job name bytes e l in omega (arith, c))))
 
-    pub gate-walk : (faults : ℕ) → w.disk_faults ≤ faults → IsSound 8 (record (done_append w job a) { disk_faults = faults }) → WalkedAt start kind profile (record (done_append w job a) { disk_faults = faults }) done
+    gate-walk : (faults : ℕ) → w.disk_faults ≤ faults → IsSound 8 (record (done_append w job a) { disk_faults = faults }) → WalkedAt start kind profile (record (done_append w job a) { disk_faults = faults }) done
     gate-walk faults low sound =
         walked-next (record (done_append w job a) { disk_faults = faults }) done sound refl refl
         (setup_same (record (done_append w job a) { disk_faults = faults }) w (setup-more a.entry w.records (W.sound.set_up W.opened) (W.sound.append a flight).follows.accepted)) refl refl refl refl refl refl
@@ -502,7 +502,7 @@ module _ (start : State) (O : IsOpenAtRest start 1) (kind : Kind) {profile : ℕ
   block-same RepairJob j object stripe = ap (λ o. column_of_symbols o (symbols_given job.given object stripe) j stripe) (object-made object)
   block-same UpgradeJob j object stripe = ap (λ o. column_of_symbols o (symbols_given job.given object stripe) j stripe) (object-made object)
 
-  pub block-stored : (j object stripe : ℕ) → block_to_store w job job.kind j object stripe ≡ block_stored (with_job_at start kind profile job) kind job.given j object stripe
+  block-stored : (j object stripe : ℕ) → block_to_store w job job.kind j object stripe ≡ block_stored (with_job_at start kind profile job) kind job.given j object stripe
   block-stored j object stripe = ap (λ kd. block_to_store w job kd j object stripe) W.kind_is ∙ block-same kind j object stripe
 
   challenge-made : (object round : ℕ) → asked_challenge (setup_in w) job object round ≡ challenge_made (with_job_at start kind profile job) object round

@@ -65,7 +65,7 @@ module _ (limit : ℕ) (mark : Mark) (start : State) (m : Moment) (ms : List Mom
   audit_on from P clear = on from (WrongAt start ms from) (WrongAt start (m ∷ ms) from) P clear
       (λ q f i s stood h setup l k bad x. inr (subst (λ hs. WasWrong (now start hs) i f.id) (sym (first_more from m ms P.early)) x))
 
-  pub audit_doubt_step : (d : Doubt) (number u : ℕ) (c : List ℕ) → m.state.doubt ≡ Some d → d.entry ≡ AuditDone number u c → IsClear start (m ∷ ms) (m.state.audits number) (WrongAt start (m ∷ ms) (m.state.audits number))
+  audit_doubt_step : (d : Doubt) (number u : ℕ) (c : List ℕ) → m.state.doubt ≡ Some d → d.entry ≡ AuditDone number u c → IsClear start (m ∷ ms) (m.state.audits number) (WrongAt start (m ∷ ms) (m.state.audits number))
   audit_doubt_step d number u c h e = elim (T.doubt d h) [
     | Doubt_now.kept was rec ↦ (let P = E.audit_doubt d number u c was e in moved P.0 ((now start ms).audits number) refl P.1 (G.audit_doubt d number u c was e))
     | Doubt_now.gated job a runs next_is flight mine entry_is maker rec on_ ↦
@@ -91,7 +91,7 @@ module _ (limit : ℕ) (mark : Mark) (start : State) (m : Moment) (ms : List Mom
         | inr r ↦ inl (since_now (length ms) i m ms r (omega arith))
       ])
 
-  pub audit_step : (k : ℕ) (j : Job) → job_of m.state.jobs k ≡ Some j → j.kind ≡ AuditJob → IsClear start (m ∷ ms) j.begun (WrongAt start (m ∷ ms) j.begun)
+  audit_step : (k : ℕ) (j : Job) → job_of m.state.jobs k ≡ Some j → j.kind ≡ AuditJob → IsClear start (m ∷ ms) j.begun (WrongAt start (m ∷ ms) j.begun)
   audit_step k j h kind = elim (pins_is limit start m ms A.numbers A.pins X k j h) [
     | Pins_is.had x runs pinned kind_x begun g ↦ (let kx = sym kind_x ∙ kind in subst (λ n. IsClear start (m ∷ ms) n (WrongAt start (m ∷ ms) n)) (sym begun) (audit_on x.begun (E.audit k x runs kx) (G.audit k x runs kx)))
     | Pins_is.new_one kd wish is k_is allowed rec ↦ subst (λ n. IsClear start (m ∷ ms) n (WrongAt start (m ∷ ms) n)) (sym (ap (λ (x : Job). x.begun) is)) (audit_new rec)
@@ -152,7 +152,7 @@ module _ (limit : ℕ) (mark : Mark) (start : State) (m : Moment) (ms : List Mom
           (subst (λ (y : List ℕ). s < stripes_of (profiled (setup_in m.state) f.profile) (length y)) bytes b) in
           inr (flagged, (st.0, (let z : j.place ≡ 0 = ap (λ (x : Job). x.place) is in omega arith), st.1)))
 
-  pub repair_step : (k : ℕ) (j : Job) → job_of m.state.jobs k ≡ Some j → j.kind ≡ RepairJob → IsClear start (m ∷ ms) (m.state.audits j.subject) (Remains m.state j)
+  repair_step : (k : ℕ) (j : Job) → job_of m.state.jobs k ≡ Some j → j.kind ≡ RepairJob → IsClear start (m ∷ ms) (m.state.audits j.subject) (Remains m.state j)
   repair_step k j h kind = elim (X.job k j h) [
     | Job_is.kept r grown ↦ (let P = E.repair k j r kind in
         subst (λ n. IsClear start (m ∷ ms) n (Remains m.state j)) (sym (audits_below j.subject P.0))
@@ -169,7 +169,7 @@ module _ (limit : ℕ) (mark : Mark) (start : State) (m : Moment) (ms : List Mom
         (λ i o s b e told. absurd (let z : SyncGate ≡ Store i o s = e in cc))
   ]
 
-  pub repair_doubt_step : (d : Doubt) (number : ℕ) → m.state.doubt ≡ Some d → d.entry ≡ RepairDone number → IsClear start (m ∷ ms) (m.state.audits number) Never
+  repair_doubt_step : (d : Doubt) (number : ℕ) → m.state.doubt ≡ Some d → d.entry ≡ RepairDone number → IsClear start (m ∷ ms) (m.state.audits number) Never
   repair_doubt_step d number h e = elim (T.doubt d h) [
     | Doubt_now.kept was rec ↦ (let P = E.repair_doubt d number was e in
         subst (λ n. IsClear start (m ∷ ms) n Never) (sym (audits_below number P.0)) (on ((now start ms).audits number) Never Never P.1 (G.repair_doubt d number was e) (λ q f i s stood h2 setup l b bad x. absurd x)))
@@ -218,7 +218,7 @@ module _ (limit : ℕ) (mark : Mark) (start : State) (m : Moment) (ms : List Mom
         (due_of (now start ms).records ≡ Some u) ⊎ ((und : ℕ) × (d.entry ≡ AuditDone u.number und u.counts))
     due_entered u d at h = due_done d.entry (now start ms).records u (A.numbers.written.1 d at) h
 
-    pub due_step : (u : Due) → due_of m.state.records ≡ Some u → IsClear start (m ∷ ms) (m.state.audits u.number) (IsFlaggedBy m.state u.counts)
+    due_step : (u : Due) → due_of m.state.records ≡ Some u → IsClear start (m ∷ ms) (m.state.audits u.number) (IsFlaggedBy m.state u.counts)
     due_step u h = elim (ev.effect limit start m ms A U I E X T) [
       | ev.Effect_is.nothing rec ↦ old_due u (ap due_of (sym rec) ∙ h)
       | ev.Effect_is.entered d at rec ↦ elim (due_entered u d at (ap due_of (sym rec) ∙ h)) [

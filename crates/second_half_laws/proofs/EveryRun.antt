@@ -96,7 +96,7 @@ ends_other : (v id size profile : ℕ) (r : Record) → done_record v id size pr
 ends_other v id size profile r e none = (let f : Some id ≡ None = sym (done-ended v id size profile) ∙ (ap put_ended e ∙ none) in cc)
 
 -- a put's end is written by a put that has its number
-pub wrote_put : (job : Job) (kind : Kind) (entry : Record) (id : ℕ) → Wrote job kind entry → put_ended entry ≡ Some id → (name : List ℕ) × (bytes : List ℕ) × (kind ≡ PutJob name bytes) × (4 ≤ job.place) × (job.subject ≡ id)
+wrote_put : (job : Job) (kind : Kind) (entry : Record) (id : ℕ) → Wrote job kind entry → put_ended entry ≡ Some id → (name : List ℕ) × (bytes : List ℕ) × (kind ≡ PutJob name bytes) × (4 ≤ job.place) × (job.subject ≡ id)
 wrote_put job (PutJob name bytes) entry id (inl h) e = (let f : None ≡ Some id = sym (ap put_ended h.1) ∙ e in cc)
 wrote_put job (PutJob name bytes) entry id (inr h) e =
     (let f : Some job.subject ≡ Some id = sym (ap put_ended h.1.1 ∙ done-ended h.1.0 job.subject (length bytes) job.profile) ∙ e in (name, bytes, refl, h.0, (let g : job.subject ≡ id = cc in g)))
@@ -107,7 +107,7 @@ wrote_put job AuditJob entry id (inr h) e = (let f : None ≡ Some id = sym (ap 
 wrote_put job RepairJob entry id h e = (let f : None ≡ Some id = sym (ap put_ended h.1) ∙ e in cc)
 wrote_put job UpgradeJob entry id h e = (let f : None ≡ Some id = sym (ap put_ended h) ∙ e in cc)
 
-pub wrote_audit : (job : Job) (kind : Kind) (entry : Record) (number u : ℕ) (c : List ℕ) → Wrote job kind entry → entry ≡ AuditDone number u c → kind ≡ AuditJob
+wrote_audit : (job : Job) (kind : Kind) (entry : Record) (number u : ℕ) (c : List ℕ) → Wrote job kind entry → entry ≡ AuditDone number u c → kind ≡ AuditJob
 wrote_audit job (PutJob name bytes) entry number u c (inl h) e = (let f : PutStart job.subject name ≡ AuditDone number u c = sym h.1 ∙ e in cc)
 wrote_audit job (PutJob name bytes) entry number u c (inr h) e = absurd (ends_other h.1.0 job.subject (length bytes) job.profile (AuditDone number u c) (sym h.1.1 ∙ e) refl)
 wrote_audit job (GetJob name) entry number u c h e = absurd h
@@ -116,7 +116,7 @@ wrote_audit job AuditJob entry number u c h e = refl
 wrote_audit job RepairJob entry number u c h e = (let f : RepairDone h.0 ≡ AuditDone number u c = sym h.1 ∙ e in cc)
 wrote_audit job UpgradeJob entry number u c h e = (let f : Version ≡ AuditDone number u c = sym h ∙ e in cc)
 
-pub wrote_repair : (job : Job) (kind : Kind) (entry : Record) (number : ℕ) → Wrote job kind entry → entry ≡ RepairDone number → kind ≡ RepairJob
+wrote_repair : (job : Job) (kind : Kind) (entry : Record) (number : ℕ) → Wrote job kind entry → entry ≡ RepairDone number → kind ≡ RepairJob
 wrote_repair job (PutJob name bytes) entry number (inl h) e = (let f : PutStart job.subject name ≡ RepairDone number = sym h.1 ∙ e in cc)
 wrote_repair job (PutJob name bytes) entry number (inr h) e = absurd (ends_other h.1.0 job.subject (length bytes) job.profile (RepairDone number) (sym h.1.1 ∙ e) refl)
 wrote_repair job (GetJob name) entry number h e = absurd h
@@ -126,7 +126,7 @@ wrote_repair job AuditJob entry number (inr h) e = (let f : AuditDone h.0 h.1 h.
 wrote_repair job RepairJob entry number h e = refl
 wrote_repair job UpgradeJob entry number h e = (let f : Version ≡ RepairDone number = sym h ∙ e in cc)
 
-pub wrote_no_setup : (job : Job) (kind : Kind) (entry : Record) (s : Setup) → Wrote job kind entry → entry ≡ SetUp s → ⊥
+wrote_no_setup : (job : Job) (kind : Kind) (entry : Record) (s : Setup) → Wrote job kind entry → entry ≡ SetUp s → ⊥
 wrote_no_setup job (PutJob name bytes) entry s (inl h) e = (let f : PutStart job.subject name ≡ SetUp s = sym h.1 ∙ e in cc)
 wrote_no_setup job (PutJob name bytes) entry s (inr h) e = ends_other h.1.0 job.subject (length bytes) job.profile (SetUp s) (sym h.1.1 ∙ e) refl
 wrote_no_setup job (GetJob name) entry s h e = h
@@ -199,7 +199,7 @@ not_barred limit w kind wish h = elim (cases_Bool w.is_barred) [
 ]
 
 -- no put runs where an audit begins
-pub no_put : (limit : ℕ) (w : State) (wish : Option ℕ) → refusal_of_begin limit w AuditJob wish ≡ None → (k : ℕ) (j : Job) (name bytes : List ℕ) → job_of w.jobs k ≡ Some j → j.kind ≡ PutJob name bytes → ⊥
+no_put : (limit : ℕ) (w : State) (wish : Option ℕ) → refusal_of_begin limit w AuditJob wish ≡ None → (k : ℕ) (j : Job) (name bytes : List ℕ) → job_of w.jobs k ≡ Some j → j.kind ≡ PutJob name bytes → ⊥
 no_put limit w wish none k j name bytes runs kind =
     (let f = any_aim is_put_or_check w.jobs k j runs (right_false _ _ (right_false (is_shut (sight_of w)) (are_jobs_in_the_way limit (aims_of w.jobs) (aim_of AuditJob)) (not_busy limit w AuditJob wish none))) in
     false≢true (sym f ∙ ap (λ kd. is_put_or_check (aim_of kd)) kind))
@@ -303,7 +303,7 @@ module _ (limit : ℕ) (start : State) (m : Moment) (ms : List Moment) (A : All 
 
   -- ---- the record in doubt
 
-  pub setup_doubt_step : (d : Doubt) (s : Setup) → m.state.doubt ≡ Some d → d.entry ≡ SetUp s → setup_of m.state.records ≡ None
+  setup_doubt_step : (d : Doubt) (s : Setup) → m.state.doubt ≡ Some d → d.entry ≡ SetUp s → setup_of m.state.records ≡ None
   setup_doubt_step d s h e = elim (T.doubt d h) [
     | Doubt_now.kept was rec ↦ ap setup_of rec ∙ E.setup_doubt d s was e
     | Doubt_now.gated job a runs next_is flight mine entry_is maker rec on ↦
@@ -321,7 +321,7 @@ module _ (limit : ℕ) (start : State) (m : Moment) (ms : List Moment) (A : All 
   put_number : (job : Job) (name bytes : List ℕ) → job.kind ≡ PutJob name bytes → 4 ≤ job.place → HasNumber objects job
   put_number job name bytes kind late = (subst (Draws objects) (sym kind) tt, late)
 
-  pub put_held_step : (d : Doubt) (id : ℕ) → m.state.doubt ≡ Some d → put_ended d.entry ≡ Some id → PutHeld m.state id (suc (length ms)) d.maker
+  put_held_step : (d : Doubt) (id : ℕ) → m.state.doubt ≡ Some d → put_ended d.entry ≡ Some id → PutHeld m.state id (suc (length ms)) d.maker
   put_held_step d id h e = elim (T.doubt d h) [
     | Doubt_now.kept was rec ↦ (let g = E.put_held d id was e in record {
       below = (let l = g.below in let r = ap next_id rec in omega arith);
@@ -348,7 +348,7 @@ module _ (limit : ℕ) (start : State) (m : Moment) (ms : List Moment) (A : All 
           })
 
   -- a block that a put stores is the column
-  pub put_column : (x : Job) (name bytes : List ℕ) (i o s : ℕ) (b : Option (List ℕ)) → job_of (now start ms).jobs x.number ≡ Some x → next_action (now start ms) x ≡ Some (Store i o s) → x.kind ≡ PutJob name bytes → o ≡ x.subject →
+  put_column : (x : Job) (name bytes : List ℕ) (i o s : ℕ) (b : Option (List ℕ)) → job_of (now start ms).jobs x.number ≡ Some x → next_action (now start ms) x ≡ Some (Store i o s) → x.kind ≡ PutJob name bytes → o ≡ x.subject →
       b ≡ Some (block_to_store (now start ms) x x.kind i o s) → b ≡ Some (columns (object_in (now start ms) x.profile o) ((now start ms).bytes o) i s)
   put_column x name bytes i o s b runs next_is kind o_is b_is =
       (let place = store_place (now start ms) x name bytes i o s kind next_is in
@@ -414,7 +414,7 @@ module _ (limit : ℕ) (start : State) (m : Moment) (ms : List Moment) (A : All 
       (let k : x.number ≡ job.number = A.numbers.apart x.number job.number x job runs_x runs (put_number x n more kind_x late_x) (put_number job name bytes kind late) e in
       let same : x ≡ job = same_value _ x job (subst (λ z. job_of (now start ms).jobs z ≡ Some x) k runs_x) runs in ap (λ (y : Job). y.profile) same)
 
-  pub put_columns_step : (d : Doubt) (id size p i s : ℕ) (b : Option (List ℕ)) → m.state.doubt ≡ Some d → IsEndOfPut m.state.records d.entry id size p → i < (setup_in m.state).n →
+  put_columns_step : (d : Doubt) (id size p i s : ℕ) (b : Option (List ℕ)) → m.state.doubt ≡ Some d → IsEndOfPut m.state.records d.entry id size p → i < (setup_in m.state).n →
       s < stripes_of (profiled (setup_in m.state) p) (length (m.state.bytes id)) → is_replaced_since (begun_of d.maker) i (m ∷ ms) ≡ false → told_block m.state i id s ≡ Some b → b ≡ Some (columns (object_in m.state p id) (m.state.bytes id) i s)
   put_columns_step d id size p i s b h e l k none told = elim (T.doubt d h) [
     | Doubt_now.kept was rec ↦ put_right d id size p i s b was (ends_same d id size p rec e) (setup_same m.state (now start ms) (ap setup_of rec)) l k none told
@@ -478,7 +478,7 @@ module _ (limit : ℕ) (start : State) (m : Moment) (ms : List Moment) (A : All 
     | Job_is.finished y a runs next_is flight mine is rec2 free ↦ absurd (let e : length (now start ms).records ≡ suc (length (now start ms).records) = sym (ap length rec) ∙ ap length rec2 in omega arith)
   ]
 
-  pub put_own_step : (d : Doubt) (id size p k : ℕ) (x : Job) (name bytes : List ℕ) → m.state.doubt ≡ Some d → IsEndOfPut m.state.records d.entry id size p → job_of m.state.jobs k ≡ Some x → x.kind ≡ PutJob name bytes → 4 ≤ x.place → x.subject ≡ id → x.profile ≡ p
+  put_own_step : (d : Doubt) (id size p k : ℕ) (x : Job) (name bytes : List ℕ) → m.state.doubt ≡ Some d → IsEndOfPut m.state.records d.entry id size p → job_of m.state.jobs k ≡ Some x → x.kind ≡ PutJob name bytes → 4 ≤ x.place → x.subject ≡ id → x.profile ≡ p
   put_own_step d id size p k x name bytes h e runs_on kind late mine_x = elim (T.doubt d h) [
     | Doubt_now.kept was rec ↦ (let y = was_put k x name bytes runs_on kind late rec in
         y.profile ∙ E.put_own d id size p k y.before name bytes was (ends_same d id size p rec e) y.runs y.kind y.late (sym y.subject ∙ mine_x))
@@ -491,7 +491,7 @@ module _ (limit : ℕ) (start : State) (m : Moment) (ms : List Moment) (A : All 
     | Doubt_now.set_up t entry_is bare none_up closed ↦ absurd (let z : None ≡ Some id = sym (ap put_ended entry_is) ∙ ends_ended m.state.records d.entry id size p e in cc)
   ]
 
-  pub doubt_put_step : (d : Doubt) (job : Job) (id : ℕ) → m.state.doubt ≡ Some d → d.maker ≡ Some job → put_ended d.entry ≡ Some id → (name : List ℕ) × (bytes : List ℕ) × (job.kind ≡ PutJob name bytes)
+  doubt_put_step : (d : Doubt) (job : Job) (id : ℕ) → m.state.doubt ≡ Some d → d.maker ≡ Some job → put_ended d.entry ≡ Some id → (name : List ℕ) × (bytes : List ℕ) × (job.kind ≡ PutJob name bytes)
   doubt_put_step d job id h maker e = elim (T.doubt d h) [
     | Doubt_now.kept was rec ↦ E.doubt_put d job id was maker e
     | Doubt_now.gated x a runs next_is flight mine entry_is maker_is rec on ↦
@@ -501,7 +501,7 @@ module _ (limit : ℕ) (start : State) (m : Moment) (ms : List Moment) (A : All 
   ]
 
   -- while a vault goes on, the job whose record is in doubt runs and makes its fourth move next
-  pub doubt_runs_step : (d : Doubt) → m.state.is_open ≡ true → m.state.is_barred ≡ false → m.state.doubt ≡ Some d → AtGate m.state d
+  doubt_runs_step : (d : Doubt) → m.state.is_open ≡ true → m.state.is_barred ≡ false → m.state.doubt ≡ Some d → AtGate m.state d
   doubt_runs_step d is_open unbarred h = elim (T.doubt d h) [
     | Doubt_now.kept was rec ↦ (let o = T.opened d h is_open in goes_on rec (E.doubt_runs d o.0 (o.1 unbarred) was))
     | Doubt_now.gated job a runs next_is flight mine entry_is maker rec on ↦ elim on [
@@ -583,7 +583,7 @@ module _ (limit : ℕ) (start : State) (m : Moment) (ms : List Moment) (A : All 
   pub grows : next_audit (now start ms).records ≤ next_audit m.state.records
   grows = next_of_records audits (now start ms) m.state A.numbers.written X.records
 
-  pub audit_fresh_step : (a : Append) (j : Job) → m.state.append ≡ Some a → job_of m.state.jobs a.job ≡ Some j → j.kind ≡ AuditJob → j.place < 4 → m.state.audits j.subject ≡ j.begun
+  audit_fresh_step : (a : Append) (j : Job) → m.state.append ≡ Some a → job_of m.state.jobs a.job ≡ Some j → j.kind ≡ AuditJob → j.place < 4 → m.state.audits j.subject ≡ j.begun
   audit_fresh_step a j h hj kind small = elim (X.append a h) [
     | Append_is.kept b flight job_is entry rec ↦ elim (X.job a.job j hj) [
       | Job_is.kept r grown ↦ carried b flight j refl refl kind small (subst (λ n. job_of (now start ms).jobs n ≡ Some j) job_is r)
@@ -612,10 +612,10 @@ module _ (limit : ℕ) (start : State) (m : Moment) (ms : List Moment) (A : All 
       carried : (b : Append) → (now start ms).append ≡ Some b → (x : Job) → j.subject ≡ x.subject → j.begun ≡ x.begun → x.kind ≡ AuditJob → x.place < 4 → job_of (now start ms).jobs b.job ≡ Some x → m.state.audits j.subject ≡ j.begun
       carried b flight x subject begun kx small_x runs = ap (λ f. f j.subject) (audits_stay b flight) ∙ (ap (now start ms).audits subject ∙ (E.audit_fresh b x flight runs kx small_x ∙ sym begun))
 
-  pub audit_number : (job : Job) → job.kind ≡ AuditJob → 4 ≤ job.place → HasNumber audits job
+  audit_number : (job : Job) → job.kind ≡ AuditJob → 4 ≤ job.place → HasNumber audits job
   audit_number job kind late = (subst (Draws audits) (sym kind) tt, late)
 
-  pub audit_kept_step : (k : ℕ) (j : Job) → job_of m.state.jobs k ≡ Some j → j.kind ≡ AuditJob → 4 ≤ j.place → m.state.audits j.subject ≡ j.begun
+  audit_kept_step : (k : ℕ) (j : Job) → job_of m.state.jobs k ≡ Some j → j.kind ≡ AuditJob → 4 ≤ j.place → m.state.audits j.subject ≡ j.begun
   audit_kept_step k j h kind late = elim (X.job k j h) [
     | Job_is.kept r grown ↦ carried j r refl refl kind late
     | Job_is.begun kd wish is k_is allowed rec ↦ absurd (let e : j.place ≡ 0 = ap (λ (z : Job). z.place) is in omega arith)
@@ -647,7 +647,7 @@ module _ (limit : ℕ) (start : State) (m : Moment) (ms : List Moment) (A : All 
       carried x runs subject begun kx l =
           ap m.state.audits subject ∙ (audits_below x.subject (U.below k x runs (audit_number x kx l)) ∙ (E.audit_kept k x runs kx l ∙ sym begun))
 
-  pub audit_entry_step : (a : Append) (j : Job) (number u : ℕ) (c : List ℕ) → m.state.append ≡ Some a → job_of m.state.jobs a.job ≡ Some j → j.kind ≡ AuditJob → a.entry ≡ AuditDone number u c → (number ≡ j.subject) × (4 ≤ j.place)
+  audit_entry_step : (a : Append) (j : Job) (number u : ℕ) (c : List ℕ) → m.state.append ≡ Some a → job_of m.state.jobs a.job ≡ Some j → j.kind ≡ AuditJob → a.entry ≡ AuditDone number u c → (number ≡ j.subject) × (4 ≤ j.place)
   audit_entry_step a j number u c h hj kind e = elim (X.append a h) [
     | Append_is.kept b flight job_is entry rec ↦ elim (X.job a.job j hj) [
       | Job_is.kept r grown ↦ E.audit_entry b j number u c flight (subst (λ n. job_of (now start ms).jobs n ≡ Some j) job_is r) kind (sym entry ∙ e)
@@ -666,7 +666,7 @@ module _ (limit : ℕ) (start : State) (m : Moment) (ms : List Moment) (A : All 
         (g.0 ∙ sym (ap (λ (z : Job). z.subject) is ∙ drawn_later (now start ms) x x.kind (first_above x g.1)), (let l = g.1 in omega arith)))
   ]
 
-  pub repair_entry_step : (a : Append) (j : Job) (number : ℕ) → m.state.append ≡ Some a → job_of m.state.jobs a.job ≡ Some j → j.kind ≡ RepairJob → a.entry ≡ RepairDone number → number ≡ j.subject
+  repair_entry_step : (a : Append) (j : Job) (number : ℕ) → m.state.append ≡ Some a → job_of m.state.jobs a.job ≡ Some j → j.kind ≡ RepairJob → a.entry ≡ RepairDone number → number ≡ j.subject
   repair_entry_step a j number h hj kind e = elim (X.append a h) [
     | Append_is.kept b flight job_is entry rec ↦ elim (X.job a.job j hj) [
       | Job_is.kept r grown ↦ E.repair_entry b j number flight (subst (λ n. job_of (now start ms).jobs n ≡ Some j) job_is r) kind (sym entry ∙ e)
@@ -682,7 +682,7 @@ module _ (limit : ℕ) (start : State) (m : Moment) (ms : List Moment) (A : All 
         repair_writes (now start ms) x x.kind a.entry number kx writes e ∙ sym (ap (λ (z : Job). z.subject) is ∙ ap (subject_drawn (now start ms) x) kx))
   ]
 
-  pub pinned_step : (k : ℕ) (j : Job) (f : Pinned) → job_of m.state.jobs k ≡ Some j → In f j.pinned → f.bytes ≡ m.state.bytes f.id
+  pinned_step : (k : ℕ) (j : Job) (f : Pinned) → job_of m.state.jobs k ≡ Some j → In f j.pinned → f.bytes ≡ m.state.bytes f.id
   pinned_step k j f h in_f = elim (pins_is limit start m ms A.numbers A.pins X k j h) [
     | Pins_is.had x runs pinned kind begun g ↦ (let in_x = subst (In f) pinned in_f in E.pinned k x f runs in_x ∙ sym (X.bytes f.id (A.pins.pins k x f runs in_x).0))
     | Pins_is.new_one kd wish is k_is allowed rec ↦
@@ -698,7 +698,7 @@ module _ (limit : ℕ) (start : State) (m : Moment) (ms : List Moment) (A : All 
   stands_file : (f : Pinned) (q : List ℕ) (g : File) → Stands (now start ms) f → file_in (now start ms) q ≡ Some g → f.id ≡ g.id → f.profile ≡ g.profile
   stands_file f q g st h e = ap (λ (x : Pinned). x.profile) (stands_once (now start ms) A.pins.sound f (pinned_file (now start ms) g) st (record { name = q; file = g; in_effect = h; is = refl }) e)
 
-  pub one_pin_step : (k l : ℕ) (j i : Job) (f g : Pinned) → job_of m.state.jobs k ≡ Some j → job_of m.state.jobs l ≡ Some i → In f j.pinned → In g i.pinned → f.id ≡ g.id → f.profile ≡ g.profile
+  one_pin_step : (k l : ℕ) (j i : Job) (f g : Pinned) → job_of m.state.jobs k ≡ Some j → job_of m.state.jobs l ≡ Some i → In f j.pinned → In g i.pinned → f.id ≡ g.id → f.profile ≡ g.profile
   one_pin_step k l j i f g h h2 in_f in_g e = elim (pins_is limit start m ms A.numbers A.pins X k j h) [
     | Pins_is.had x runs pinned kind begun growth ↦ elim (pins_is limit start m ms A.numbers A.pins X l i h2) [
       | Pins_is.had y runs_y pinned_y kind_y begun_y growth_y ↦ E.one_pin k l x y f g runs runs_y (subst (In f) pinned in_f) (subst (In g) pinned_y in_g) e
@@ -714,7 +714,7 @@ module _ (limit : ℕ) (start : State) (m : Moment) (ms : List Moment) (A : All 
     ]
   ]
 
-  pub pin_file_step : (k : ℕ) (j : Job) (f : Pinned) (q : List ℕ) (g : File) → job_of m.state.jobs k ≡ Some j → In f j.pinned → file_in m.state q ≡ Some g → f.id ≡ g.id → f.profile ≡ g.profile
+  pin_file_step : (k : ℕ) (j : Job) (f : Pinned) (q : List ℕ) (g : File) → job_of m.state.jobs k ≡ Some j → In f j.pinned → file_in m.state q ≡ Some g → f.id ≡ g.id → f.profile ≡ g.profile
   pin_file_step k j f q g h in_f in_effect e = elim (comes q g in_effect).how [
     | inl stood ↦ elim (pins_is limit start m ms A.numbers A.pins X k j h) [
       | Pins_is.had x runs pinned kind begun growth ↦ E.pin_file k x f q g runs (subst (In f) pinned in_f) stood e
@@ -800,7 +800,7 @@ module _ (limit : ℕ) (start : State) (m : Moment) (ms : List Moment) (A : All 
       let kind = wrote_repair job job.kind a.entry number (A.pins.wrote a job flight at_job) e in
       record { kind = kind; subject = E.repair_entry a job number flight at_job kind e })
 
-  pub audit_doubt_begins : (d : Doubt) (number u : ℕ) (c : List ℕ) → m.state.doubt ≡ Some d → d.entry ≡ AuditDone number u c → (number < next_audit m.state.records) × PrecedesPuts start (m ∷ ms) (m.state.audits number)
+  audit_doubt_begins : (d : Doubt) (number u : ℕ) (c : List ℕ) → m.state.doubt ≡ Some d → d.entry ≡ AuditDone number u c → (number < next_audit m.state.records) × PrecedesPuts start (m ∷ ms) (m.state.audits number)
   audit_doubt_begins d number u c h e = elim (T.doubt d h) [
     | Doubt_now.kept was rec ↦ moved number (E.audit_doubt d number u c was e)
     | Doubt_now.gated job a runs next_is flight mine entry_is maker rec on ↦ (let g = audit_gated job a number u c runs flight mine (sym entry_is ∙ e) in
@@ -808,7 +808,7 @@ module _ (limit : ℕ) (start : State) (m : Moment) (ms : List Moment) (A : All 
     | Doubt_now.set_up t entry_is bare none closed ↦ absurd (let z : SetUp t ≡ AuditDone number u c = sym entry_is ∙ e in cc)
   ]
 
-  pub due_begins : (u : Due) → due_of m.state.records ≡ Some u → (u.number < next_audit m.state.records) × PrecedesPuts start (m ∷ ms) (m.state.audits u.number)
+  due_begins : (u : Due) → due_of m.state.records ≡ Some u → (u.number < next_audit m.state.records) × PrecedesPuts start (m ∷ ms) (m.state.audits u.number)
   due_begins u h = elim effect [
     | nothing rec ↦ moved u.number (E.due u (ap due_of (sym rec) ∙ h))
     | entered d at rec ↦ of_doubt d at (ap due_of (sym rec) ∙ h)
@@ -839,7 +839,7 @@ module _ (limit : ℕ) (start : State) (m : Moment) (ms : List Moment) (A : All 
       as_number : (n : ℕ) → j.subject ≡ n → (n < next_audit m.state.records) × PrecedesPuts start (m ∷ ms) (m.state.audits n) → (j.subject < next_audit m.state.records) × PrecedesPuts start (m ∷ ms) (m.state.audits j.subject)
       as_number n e P = subst (λ x. (x < next_audit m.state.records) × PrecedesPuts start (m ∷ ms) (m.state.audits x)) (sym e) P
 
-  pub repair_doubt_begins : (d : Doubt) (number : ℕ) → m.state.doubt ≡ Some d → d.entry ≡ RepairDone number → (number < next_audit m.state.records) × PrecedesPuts start (m ∷ ms) (m.state.audits number)
+  repair_doubt_begins : (d : Doubt) (number : ℕ) → m.state.doubt ≡ Some d → d.entry ≡ RepairDone number → (number < next_audit m.state.records) × PrecedesPuts start (m ∷ ms) (m.state.audits number)
   repair_doubt_begins d number h e = elim (T.doubt d h) [
     | Doubt_now.kept was rec ↦ moved number (E.repair_doubt d number was e)
     | Doubt_now.gated job a runs next_is flight mine entry_is maker rec on ↦ (let g = repair_gated job a number runs flight mine (sym entry_is ∙ e) in
@@ -848,7 +848,7 @@ module _ (limit : ℕ) (start : State) (m : Moment) (ms : List Moment) (A : All 
   ]
 
   -- so does that of the last settled audit
-  pub mark_begins : PrecedesPuts start (m ∷ ms) (since start (m ∷ ms))
+  mark_begins : PrecedesPuts start (m ∷ ms) (since start (m ∷ ms))
   mark_begins = elim came_is [
     | no_record e ↦ as_came None e (before_on (since start ms) E.mark)
     | setup s e ↦ as_came (Some (SetUp s)) e (before_on (since start ms) E.mark)
@@ -875,7 +875,7 @@ module _ (limit : ℕ) (start : State) (m : Moment) (ms : List Moment) (A : All 
       by_entry d at (InEffect k size profile kept) e = before_on (since start ms) E.mark
       by_entry d at (RepairDue number counts) e = before_on (since start ms) E.mark
 
-  pub always_step : ((scrub : Scrub) → m.state.alone ≡ Some (Scrubbing scrub) → m.state.is_open ≡ true) → ((scrub : Scrub) (d : Doubt) → m.state.alone ≡ Some (Scrubbing scrub) → m.state.doubt ≡ Some d → ⊥) → Always start (m ∷ ms)
+  always_step : ((scrub : Scrub) → m.state.alone ≡ Some (Scrubbing scrub) → m.state.is_open ≡ true) → ((scrub : Scrub) (d : Doubt) → m.state.alone ≡ Some (Scrubbing scrub) → m.state.doubt ≡ Some d → ⊥) → Always start (m ∷ ms)
   always_step lone_open lone_sure = record {
     gated = X.gated E.gated;
     setup_doubt = setup_doubt_step;
@@ -917,10 +917,10 @@ module _ (limit : ℕ) (start : State) (m : Moment) (ms : List Moment) (A : All 
   lone_sure_by scrub d none (Scrub_is.begun event is none_alone is_open unbarred b) h = (let g = E.doubt_runs d is_open unbarred (sym b.doubt ∙ h) in found_none (now start ms).jobs g.job.number g.job (sym b.jobs ∙ none) g.runs)
   lone_sure_by scrub d none (Scrub_is.went before was goes b) h = E.lone_sure before d was (sym b.doubt ∙ h)
 
-  pub lone_open_step : (scrub : Scrub) → m.state.alone ≡ Some (Scrubbing scrub) → m.state.is_open ≡ true
+  lone_open_step : (scrub : Scrub) → m.state.alone ≡ Some (Scrubbing scrub) → m.state.is_open ≡ true
   lone_open_step scrub h = lone_open_by scrub (S scrub h)
 
-  pub lone_sure_step : (scrub : Scrub) (d : Doubt) → m.state.alone ≡ Some (Scrubbing scrub) → m.state.doubt ≡ Some d → ⊥
+  lone_sure_step : (scrub : Scrub) (d : Doubt) → m.state.alone ≡ Some (Scrubbing scrub) → m.state.doubt ≡ Some d → ⊥
   lone_sure_step scrub d h = lone_sure_by scrub d (X.lone A.numbers.idle.lone (Scrubbing scrub) h) (S scrub h)
 
 start_always : (limit : ℕ) (start : State) → IsStart start → Always start []

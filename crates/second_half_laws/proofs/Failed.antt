@@ -24,7 +24,7 @@ use Rattle.record_defs.specs.Records.{is_setup}
 use Rattle.second_half_laws.proofs.Onward.{run_onward}
 
 -- a step by a job that makes an action is that action
-pub made_acts : (limit moment : ℕ) (old : State) (m : Moment) (job : Job) (action : Action) → Makes old m job action → Happens limit moment old m.event m.outcome m.state → Acts old job action m.outcome m.state
+made_acts : (limit moment : ℕ) (old : State) (m : Moment) (job : Job) (action : Action) → Makes old m job action → Happens limit moment old m.event m.outcome m.state → Acts old job action m.outcome m.state
 made_acts limit moment old m job action makes h = waits (holder_of old.append action) makes.unheld
     (subst (λ (a : Option Action). StepsOn old job a m.outcome m.state) makes.next
     (subst (λ (o : Option Job). StepsJob old o m.outcome m.state) makes.runs

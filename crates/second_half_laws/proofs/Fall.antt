@@ -111,7 +111,7 @@ plain_falls t x j action at place kind same no_gate =
     ))
 
 -- an append of a job that takes nothing away, or a first append
-pub gate_falls : (t : Setup) (x j : Job) → slice_get (actions_of t x) x.place ≡ Some SyncGate → j.place ≡ x.place + 1 → x.kind ≡ j.kind → shape (actions_of t j) ≡ shape (actions_of t x) → (removes_older (aim_of j.kind) ≡ false) ⊎ (0 < count_by ends_append (left_of t j)) →
+gate_falls : (t : Setup) (x j : Job) → slice_get (actions_of t x) x.place ≡ Some SyncGate → j.place ≡ x.place + 1 → x.kind ≡ j.kind → shape (actions_of t j) ≡ shape (actions_of t x) → (removes_older (aim_of j.kind) ≡ false) ⊎ (0 < count_by ends_append (left_of t j)) →
     most_left t x ≡ suc (most_left t j)
 gate_falls t x j at place kind same which =
     (let l = left_next t x j SyncGate at place same in
@@ -162,7 +162,7 @@ decides t x j removes left none left_j few undecided decided =
     none_decided true n = omega arith
     none_decided false n = omega arith
 
-pub removable_few : (w : State) (f : Option File) → FewOlder (removable w f)
+removable_few : (w : State) (f : Option File) → FewOlder (removable w f)
 removable_few w None = inl refl
 removable_few w (Some f) = elim (cases_Bool (is_pinned w f.id)) [
   | inl t ↦ inl (cond_true (is_pinned w f.id) [] (f.id ∷ []) t)
@@ -336,7 +336,7 @@ silent_plain SyncGate h = absurd h
 silent_plain End h = absurd h
 
 -- one step of a job
-pub one_step : (old : State) (x : Job) (action : Action) (new : State) (j : Job) → next_action old x ≡ Some action → (is_undecided (setup_in old) x ≡ true → x.older ≡ []) → Passed old x action new j → Falls (setup_in old) x j
+one_step : (old : State) (x : Job) (action : Action) (new : State) (j : Job) → next_action old x ≡ Some action → (is_undecided (setup_in old) x ≡ true → x.older ≡ []) → Passed old x action new j → Falls (setup_in old) x j
 one_step old x action new j next_is settled passed = go passed
   where
     at : slice_get (actions_of (setup_in old) x) x.place ≡ Some action

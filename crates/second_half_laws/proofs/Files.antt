@@ -91,7 +91,7 @@ in_put fs (Some n) name k size profile rest f h named old = by_name (is_same_nam
     by_name false o e = with_old (without_file fs n) (file_as n k size profile) f
         (without_old fs n f (old e) (ap (λ x. is_same_name x n) (named e) ∙ apart n name o))
 
-pub in_files : (rs : List Record) (name : List ℕ) (f : File) → file_of rs name ≡ Some f → In f (files_of rs)
+in_files : (rs : List Record) (name : List ℕ) (f : File) → file_of rs name ≡ Some f → In f (files_of rs)
 in_files [] name f h = absurd (some-not-none None f h refl)
 in_files (SetUp s ∷ rs) name f h = in_files rs name f h
 in_files (PutStart k n ∷ rs) name f h = in_files rs name f h

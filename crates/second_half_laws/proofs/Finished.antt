@@ -90,7 +90,7 @@ module _ (moment : ℕ) (old new : State) (lone : IsLone old) (scrub : Scrub) (a
   lists true h = absurd h
   lists false h = absurd h
 
-  pub scrub_ends : (limit : ℕ) (e : Event) → Happens limit moment old e (Ended (answer.Scrubbed a xs ys)) new → HasEnded old new scrub
+  scrub_ends : (limit : ℕ) (e : Event) → Happens limit moment old e (Ended (answer.Scrubbed a xs ys)) new → HasEnded old new scrub
   scrub_ends limit (Init s) h = inits s old.is_open h
   scrub_ends limit (Begin kind) h = absurd h
   scrub_ends limit (BeginAt profile name bytes) h = absurd h
@@ -185,7 +185,7 @@ module _ (limit : ℕ) (start : State) (m : Moment) (ms : List Moment) (clean : 
         W.scrubs W.swept (calm_scrub (scrubbed start) start clean ms calm_scrubs) (scrub_was limit start m ms clean run);
   })
 
-pub sweep : (limit : ℕ) (start : State) → IsStart start → AllTell start → (ms : List Moment) → IsRun limit start ms → IsCalm relies (scrubbed start) ms → AreScrubsCalm (scrubbed start) ms → Sweep start ms
+sweep : (limit : ℕ) (start : State) → IsStart start → AllTell start → (ms : List Moment) → IsRun limit start ms → IsCalm relies (scrubbed start) ms → AreScrubsCalm (scrubbed start) ms → Sweep start ms
 sweep limit start clean tell [] run calm scrubs = record {
   marks = start_moment start clean;
   scrubs = λ scrub h. absurd (some-not-none start.alone (Scrubbing scrub) h clean.none_alone);

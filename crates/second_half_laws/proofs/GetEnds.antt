@@ -215,7 +215,7 @@ get_ends limit start m ms job name f how lone run event outcome runs kind pinned
 
 -- ---- few wrong blocks leave the file
 
-pub shape_of_file : (limit : ℕ) (start : State) (ms : List Moment) (name : List ℕ) (file : File) → IsStart start → IsRun limit start ms → file_in (now start ms) name ≡ Some file →
+shape_of_file : (limit : ℕ) (start : State) (ms : List Moment) (name : List ℕ) (file : File) → IsStart start → IsRun limit start ms → file_in (now start ms) name ≡ Some file →
     IsShape (setup_in (now start ms)).n (setup_in (now start ms)).l (setup_in (now start ms)).b
 shape_of_file limit start ms name file clean run h =
     shape_in (now start ms) (λ s e. valid_shape s (valid_setup limit start ms s clean run e)) (held_file limit start ms name file clean run h).up

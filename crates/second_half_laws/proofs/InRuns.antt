@@ -53,7 +53,7 @@ wrong_stripe : (o : Object) (bytes : List ℕ) (j : ℕ) (held : ℕ → Option 
 unfolding is_wrong
 wrong_stripe o bytes j held h = (let q = some_stripe (λ s. is_wrong_block o bytes j s (held s)) 0 (stripes o (length bytes)) h in (q.0, (let l = q.1 in omega (arith, l)), q.2))
 
-pub wrong_bad : (w : State) (f : File) (j : ℕ) → is_wrong_now w f j ≡ true → (s : ℕ) × (s < stripes (file_object w f) (length (w.bytes f.id))) × IsBad w f.profile f.id j s
+wrong_bad : (w : State) (f : File) (j : ℕ) → is_wrong_now w f j ≡ true → (s : ℕ) × (s < stripes (file_object w f) (length (w.bytes f.id))) × IsBad w f.profile f.id j s
 wrong_bad w f j h = by_told (w.providers j).held refl h
   where
     by_told : (x : Option Held) → (w.providers j).held ≡ x → is_wrong_told w f j x ≡ true → (s : ℕ) × (s < stripes (file_object w f) (length (w.bytes f.id))) × IsBad w f.profile f.id j s

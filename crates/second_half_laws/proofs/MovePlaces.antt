@@ -74,7 +74,7 @@ IsWithin t job (Work o s) = (f : Pinned) × In f job.pinned × (f.id ≡ o) × (
 IsWithin t job action = Unit {0}
 
 -- the work of a repair is on a stripe of one of its files
-pub work_within : (w : State) (job : Job) (o s : ℕ) → job.kind ≡ RepairJob → next_action w job ≡ Some (Work o s) → (f : Pinned) × In f job.pinned × (f.id ≡ o) × (s < pinned_stripes (setup_in w) f)
+work_within : (w : State) (job : Job) (o s : ℕ) → job.kind ≡ RepairJob → next_action w job ≡ Some (Work o s) → (f : Pinned) × In f job.pinned × (f.id ≡ o) × (s < pinned_stripes (setup_in w) f)
 work_within w job o s kind h =
     each_get (IsWithin (setup_in w) job) (actions_by (setup_in w) job RepairJob) job.place (Work o s)
     (each_append (IsWithin (setup_in w) job) (repair_actions (setup_in w) job) (append_actions ++ End ∷ [])

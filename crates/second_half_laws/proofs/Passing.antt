@@ -78,11 +78,11 @@ same_front (x ∷ xs) ys zs zero n l h = refl
 same_front (x ∷ xs) ys zs (suc p) n l h = same_front xs ys zs p n (omega (arith, l)) h
 
 -- the first four moves, whatever follows
-pub four_same : (ys zs : List Action) (p : ℕ) → p < 4 → slice_get (append_actions ++ ys) p ≡ slice_get (append_actions ++ zs) p
+four_same : (ys zs : List Action) (p : ℕ) → p < 4 → slice_get (append_actions ++ ys) p ≡ slice_get (append_actions ++ zs) p
 four_same ys zs p l = same_front append_actions ys zs p 0 (omega (arith, l)) (λ q k. absurd (omega (arith, k)))
 
 -- up to the end of a put's second append
-pub eight_same : (ss ys zs : List Action) (p : ℕ) → p < 8 + length ss → slice_get (append_actions ++ (ss ++ (append_actions ++ ys))) p ≡ slice_get (append_actions ++ (ss ++ (append_actions ++ zs))) p
+eight_same : (ss ys zs : List Action) (p : ℕ) → p < 8 + length ss → slice_get (append_actions ++ (ss ++ (append_actions ++ ys))) p ≡ slice_get (append_actions ++ (ss ++ (append_actions ++ zs))) p
 eight_same ss ys zs p l = same_front append_actions (ss ++ (append_actions ++ ys)) (ss ++ (append_actions ++ zs)) p (length ss + 4) (omega (arith, l))
     (λ q k. same_front ss (append_actions ++ ys) (append_actions ++ zs) q 4 k (λ i m. four_same ys zs i m))
 
@@ -124,7 +124,7 @@ older_first s x l p RepairJob k = refl
 older_first s x l p UpgradeJob k = refl
 
 -- where the fourth moves of a put and a drop stand
-pub gate_within : (w : State) (x : Job) (name bytes : List ℕ) → x.kind ≡ PutJob name bytes → next_action w x ≡ Some SyncGate → (x.place < 4) ⊎ (x.place < 8 + length (store_actions (setup_in w) x bytes))
+gate_within : (w : State) (x : Job) (name bytes : List ℕ) → x.kind ≡ PutJob name bytes → next_action w x ≡ Some SyncGate → (x.place < 4) ⊎ (x.place < 8 + length (store_actions (setup_in w) x bytes))
 gate_within w x name bytes kind h = elim (put_next w x name bytes SyncGate kind h) [
   | PutAt.first l e ↦ inl l
   | PutAt.store l m is ↦ absurd is
@@ -137,7 +137,7 @@ abbrev NoGate : Action → Type 0
 NoGate SyncGate = ⊥
 NoGate action = Unit {0}
 
-pub drop_gate : (s : Setup) (x : Job) (name : List ℕ) (p : ℕ) → slice_get (actions_by s x (DropJob name)) p ≡ Some SyncGate → p < 4
+drop_gate : (s : Setup) (x : Job) (name : List ℕ) (p : ℕ) → slice_get (actions_by s x (DropJob name)) p ≡ Some SyncGate → p < 4
 drop_gate s x name p h = elim (split_get append_actions (remove_actions s x ++ End ∷ []) p SyncGate h) [
   | inl a ↦ a.0
   | inr b ↦ absurd (each_get NoGate (remove_actions s x ++ End ∷ []) (p - 4) SyncGate (tail_all s x NoGate (λ j o. tt) tt) b.1)

@@ -49,7 +49,7 @@ IsCall SyncGate = ⊥
 IsCall End = ⊥
 IsCall action = Unit {0}
 
-pub each_not : (P : Action → Type 0) (a : Action) (xs : List Action) → (P a → ⊥) → Each P xs → Each (λ x. x ≡ a → ⊥) xs
+each_not : (P : Action → Type 0) (a : Action) (xs : List Action) → (P a → ⊥) → Each P xs → Each (λ x. x ≡ a → ⊥) xs
 each_not P a [] bad h = tt
 each_not P a (x ∷ xs) bad h = (λ e. bad (subst P e h.0), each_not P a xs bad h.1)
 
@@ -164,13 +164,13 @@ reads_all t pinned P f g = each_flat P (λ (f : Pinned). on_each_stripe (profile
 reads_call : (t : Setup) (pinned : List Pinned) → Each IsCall (read_actions t pinned)
 reads_call t pinned = reads_all t pinned IsCall (λ j o st. tt) (λ o st. tt)
 
-pub fetch_stands : (t : Setup) (job : Job) (name : List ℕ) (f : Pinned) (s i : ℕ) → In f job.pinned → s < pinned_stripes t f → i < t.n → Stands (Fetch i f.id s) (read_actions t job.pinned)
+fetch_stands : (t : Setup) (job : Job) (name : List ℕ) (f : Pinned) (s i : ℕ) → In f job.pinned → s < pinned_stripes t f → i < t.n → Stands (Fetch i f.id s) (read_actions t job.pinned)
 fetch_stands t job name f s i in_f l k = stands_flat (λ (g : Pinned). on_each_stripe (profiled t g.profile) (length g.bytes) (open_actions t g.id)) job.pinned f (Fetch i f.id s) in_f
     (stands_flat (open_actions t f.id) (upto (pinned_stripes t f)) s (Fetch i f.id s) (in_upto (pinned_stripes t f) s l)
     (stands_left (on_each_provider t (λ j. Fetch j f.id s)) (Work f.id s ∷ []) (Fetch i f.id s) (fetches_stand t f.id s i k)))
 
 -- the next action of a get is the one at its place
-pub get_stands : (w : State) (job : Job) (name : List ℕ) (action : Action) → job.kind ≡ GetJob name → next_action w job ≡ Some action → slice_get (actions_of (setup_in w) job) job.place ≡ Some action
+get_stands : (w : State) (job : Job) (name : List ℕ) (action : Action) → job.kind ≡ GetJob name → next_action w job ≡ Some action → slice_get (actions_of (setup_in w) job) job.place ≡ Some action
 get_stands w job name action kind h = sym (cond_false (is_idle_drop w job job.kind) (Some End) (slice_get (actions_of (setup_in w) job) job.place) (ap (is_idle_drop w job) kind)) ∙ h
 
 pub fetched_before_end : (w : State) (job : Job) (name : List ℕ) (f : Pinned) (s i : ℕ) → job.kind ≡ GetJob name → next_action w job ≡ Some End → In f job.pinned → s < pinned_stripes (setup_in w) f → i < (setup_in w).n →
@@ -205,7 +205,7 @@ stores_behind t job i o s = behind_append (Work o s) (Store i o s) (repair_actio
     (behind_none (Work o s) (Store i o s) (append_actions ++ End ∷ []) (each_not NoStore (Store i o s) (append_actions ++ End ∷ []) (λ z. z) (tt, (tt, (tt, (tt, (tt, tt)))))))
 
 -- before each place of a store of a repair stands the work on its stripe
-pub work_before_store : (t : Setup) (job : Job) (p i o s : ℕ) → job.kind ≡ RepairJob → slice_get (actions_of t job) p ≡ Some (Store i o s) → (q : ℕ) × (q < p) × (slice_get (actions_of t job) q ≡ Some (Work o s))
+work_before_store : (t : Setup) (job : Job) (p i o s : ℕ) → job.kind ≡ RepairJob → slice_get (actions_of t job) p ≡ Some (Store i o s) → (q : ℕ) × (q < p) × (slice_get (actions_of t job) q ≡ Some (Work o s))
 work_before_store t job p i o s kind h = (let r = stores_behind t job i o s p (by_kind t job RepairJob p (Store i o s) kind h) in (r.0, r.1, of_kind t job RepairJob r.0 (Work o s) kind r.2))
 
 pub worked_before_store : (w : State) (job : Job) (i o s : ℕ) → job.kind ≡ RepairJob → next_action w job ≡ Some (Store i o s) →
@@ -236,7 +236,7 @@ move_behind t job p action kind h bad = elim (split_get (repair_actions t job) (
   | inr x ↦ x.0
 ]
 
-pub store_within : (t : Setup) (job : Job) (p i o s : ℕ) → job.kind ≡ RepairJob → slice_get (actions_of t job) p ≡ Some (Store i o s) → p < length (repair_actions t job)
+store_within : (t : Setup) (job : Job) (p i o s : ℕ) → job.kind ≡ RepairJob → slice_get (actions_of t job) p ≡ Some (Store i o s) → p < length (repair_actions t job)
 store_within t job p i o s kind h = elim (split_get (repair_actions t job) (append_actions ++ End ∷ []) p (Store i o s) (by_kind t job RepairJob p (Store i o s) kind h)) [
   | inl x ↦ x.0
   | inr x ↦ absurd (each_get NoStore (append_actions ++ End ∷ []) (p - length (repair_actions t job)) (Store i o s) (tt, (tt, (tt, (tt, (tt, tt))))) x.1)
@@ -271,7 +271,7 @@ IsStore (Store j o s) = Unit {0}
 IsStore a = ⊥
 
 -- a move of a put's second append, and what follows it, stands behind its stores
-pub put_late_at : (w : State) (job : Job) (name bytes : List ℕ) (p : ℕ) (action : Action) → slice_get (actions_by (setup_in w) job (PutJob name bytes)) p ≡ Some action → 4 ≤ p → (IsStore action → ⊥) → 4 + stores_count w job bytes ≤ p
+put_late_at : (w : State) (job : Job) (name bytes : List ℕ) (p : ℕ) (action : Action) → slice_get (actions_by (setup_in w) job (PutJob name bytes)) p ≡ Some action → 4 ≤ p → (IsStore action → ⊥) → 4 + stores_count w job bytes ≤ p
 put_late_at w job name bytes p action h late none = elim (put_at w job name bytes p action h) [
   | PutAt.first l e ↦ absurd (omega (arith, l, late))
   | PutAt.store l m is ↦ absurd (none is)

@@ -109,7 +109,7 @@ module _ (limit : ℕ) (mark : Mark) (start : State) (m : Moment) (ms : List Mom
   ]
 
   -- a block that is bad was so before, or its provider is replaced now
-  pub bad_before : RowsRight (now start ms) → (p o i s : ℕ) → setup_in m.state ≡ setup_in (now start ms) → o < next_id (now start ms).records → started_as (now start ms).records o ≡ None →
+  bad_before : RowsRight (now start ms) → (p o i s : ℕ) → setup_in m.state ≡ setup_in (now start ms) → o < next_id (now start ms).records → started_as (now start ms).records o ≡ None →
       ((x : Job) (f : Pinned) → job_of (now start ms).jobs x.number ≡ Some x → In f x.pinned → f.id ≡ o → f.profile ≡ p) →
       ((x : Job) → job_of (now start ms).jobs x.number ≡ Some x → In o x.older → ⊥) →
       ((scrub : Scrub) (rest : List Action) → (now start ms).alone ≡ Some (Scrubbing scrub) → scrub.todo ≡ Store i o s ∷ rest → block_to_scrub (now start ms) scrub i o s ≡ columns (object_in (now start ms) p o) ((now start ms).bytes o) i s) →

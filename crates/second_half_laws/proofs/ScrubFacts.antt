@@ -109,7 +109,7 @@ module _ (mark : Mark) (start : State) (ms : List Moment) (A : All start ms) (sc
       let rows = K.rows f s (symbols_given scrub.given f.id s) in_f (given_symbols scrub.given f.id s head.3.0 head.3.1) in
       ap (λ (ob : Object). column_of_symbols ob (symbols_given scrub.given f.id s) i s) (object_is f in_f) ∙ ap (λ l. column_of_symbols (pinned_object (now start ms) f) l i s) rows)
 
-  pub right_in_effect : (rest : List Action) (i s : ℕ) (q : List ℕ) (f : File) → scrub.todo ≡ Store i f.id s ∷ rest → file_in (now start ms) q ≡ Some f →
+  right_in_effect : (rest : List Action) (i s : ℕ) (q : List ℕ) (f : File) → scrub.todo ≡ Store i f.id s ∷ rest → file_in (now start ms) q ≡ Some f →
       block_to_scrub (now start ms) scrub i f.id s ≡ columns (pinned_object (now start ms) (pinned_file (now start ms) f)) ((now start ms).bytes f.id) i s
   right_in_effect rest i s q f next_is in_effect =
       (let head = (subst (Each (Ready (setup_in (now start ms)) scrub.files scrub.given)) next_is K.todo).0 in
