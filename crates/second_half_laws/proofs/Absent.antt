@@ -27,6 +27,7 @@ unfolding is_seen_over
 agrees_seen o j stripe place v None opened e h = absurd (false≢true (ap (λ (x : SeenBlock). is_seen v (symbol_in place x)) (sym e) ∙ h))
 agrees_seen o j stripe place v (Some block) opened e h = refl
 
+-- an accepted row is the file's own where at most b of the blocks that are there are wrong
 pub own_row : (o : Object) (bytes : List ℕ) (number stripe place : ℕ) (seen opened : List SeenBlock) (p : List ℕ) → o.profile ≡ profile_of number → IsShape o.shape.n o.shape.l o.shape.b →
     IsRow o bytes stripe place → count_of (λ j. is_wrong_seen o bytes j stripe (block_at seen j)) (upto o.shape.n) ≤ o.shape.b → AllOpen o stripe 0 seen opened → AcceptsRow o opened place p →
     values_at (upto o.shape.l) p ≡ primary_row o (symbols_in o bytes stripe) place
@@ -44,6 +45,7 @@ own_row o bytes number stripe place seen opened p is shape row few opens accepte
         let many = f.forged.wrong_ones in
         omega (arith, w, many, few))
 
+-- symbols that blocks open to are the file's own where at most b of those that are there are wrong
 pub own_symbols : (o : Object) (bytes : List ℕ) (number stripe : ℕ) (seen : List SeenBlock) (symbols : List ℕ) → o.profile ≡ profile_of number → IsShape o.shape.n o.shape.l o.shape.b →
     stripe < stripes o (length bytes) → count_of (λ j. is_wrong_seen o bytes j stripe (block_at seen j)) (upto o.shape.n) ≤ o.shape.b → GivesSymbols o stripe seen symbols → symbols ≡ symbols_in o bytes stripe
 own_symbols o bytes number stripe seen symbols is shape below few gives = right-symbols o bytes stripe symbols gives.size (λ place kept. by_row place kept (gives.accepted place kept))

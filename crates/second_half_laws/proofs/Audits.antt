@@ -239,6 +239,7 @@ module _ (limit : ℕ) (mark : Mark) (start : State) (m : Moment) (ms : List Mom
           ]
     ]
 
+    -- an event keeps what files in effect are clear of while audits run, repairs are due and repairs run
     pub audited_step : Audited start (m ∷ ms)
     audited_step = record { audit = audit_step; audit_doubt = audit_doubt_step; due = due_step; repair = repair_step; repair_doubt = repair_doubt_step }
 
@@ -277,6 +278,7 @@ module _ (limit : ℕ) (mark : Mark) (start : State) (m : Moment) (ms : List Mom
       by_entry d at (InEffect k size profile kept) e came_in = stays
       by_entry d at (RepairDue number counts) e came_in = stays
 
+      -- after an event all damage of files in effect is new since the begin of the last settled audit
       pub mark_clear : IsClear start (m ∷ ms) (since start (m ∷ ms)) Never
       mark_clear = elim (ev.came_is limit start m ms A U I E X T) [
         | ev.Came_is.no_record e ↦ as_came None e stays

@@ -26,12 +26,15 @@ use Rattle.second_half_laws.specs.Marks.{IsEndOfPut}
 
 -- ---- replacements
 
+-- a provider that was replaced since a moment is so with one more event
 pub since_more : (from j : ℕ) (m : Moment) (ms : List Moment) → IsReplaced from j ms → IsReplaced from j (m ∷ ms)
 since_more from j m ms h = or_right (is_replacement m.event m.outcome j && nat_le from (length ms)) (is_replaced_since from j ms) h
 
+-- an event that replaces a provider is a replacement since each moment up to it
 pub since_now : (from j : ℕ) (m : Moment) (ms : List Moment) → is_replacement m.event m.outcome j ≡ true → from ≤ length ms → IsReplaced from j (m ∷ ms)
 since_now from j m ms h l = or_left (is_replacement m.event m.outcome j && nat_le from (length ms)) (is_replaced_since from j ms) (and_from _ _ h (le-leb from (length ms) l))
 
+-- a replacement since a moment is one since each earlier moment
 pub since_earlier : (from to j : ℕ) (ms : List Moment) → from ≤ to → IsReplaced to j ms → IsReplaced from j ms
 since_earlier from to j [] l h = h
 since_earlier from to j (m ∷ ms) l h = elim (or_cases _ _ h) [
@@ -155,6 +158,7 @@ pub up_before : (r : Record) (rs : List Record) (q : List ℕ) (f : File) → Is
     (put_ended r ≡ Some f.id → is_some (setup_of rs) ≡ true) → is_some (setup_of rs) ≡ true
 up_before r rs q f good h old new = elim (file_done r rs q f good h) [ inl was ↦ old was | inr e ↦ new (ends_ended rs r f.id f.size f.profile e) ]
 
+-- a setup that is in effect stays so with one more record
 pub up_more : (r : Record) (rs : List Record) → is_some (setup_of rs) ≡ true → setup_of (r ∷ rs) ≡ None → ⊥
 up_more (SetUp s) rs h e = (let f : Some s ≡ None = e in cc)
 up_more (PutStart id name) rs h e = false≢true (ap is_some (sym e) ∙ h)
@@ -201,6 +205,7 @@ pub no_first_file : (rs : List Record) (q : List ℕ) (f : File) → AreFirst rs
 no_first_file rs q f (inl e) h = (let g : None ≡ Some f = ap (λ l. file_of l q) (sym e) ∙ h in cc)
 no_first_file rs q f (inr p) h = (let g : None ≡ Some f = ap (λ l. file_of l q) (sym p.2) ∙ h in cc)
 
+-- before the first event no repair is due
 pub no_first_due : (rs : List Record) (u : Due) → AreFirst rs → due_of rs ≡ Some u → ⊥
 no_first_due rs u (inl e) h = (let g : None ≡ Some u = ap due_of (sym e) ∙ h in cc)
 no_first_due rs u (inr p) h = (let g : None ≡ Some u = ap due_of (sym p.2) ∙ h in cc)

@@ -22,9 +22,11 @@ begun = record { event = Begin (GetJob (97 ∷ [])); outcome = Begun 2; state = 
 abbrev pub moments : List Moment
 moments = record { event = Step 2; outcome = Ended (Got (111 ∷ [])); state = state_22 } ∷ (steps ++ begun)
 
+-- the put of a byte and the get that gives it back are a run
 pub is_run : IsRun 1 set_up moments
 is_run = (fits_two, happens_21, (fits_two, happens_20, (fits_two, happens_19, (fits_two, happens_18, (fits_two, happens_17, (fits_two, happens_16, (refl, happens_15, is_stored)))))))
 
+-- a schedule of the two is carried out by these moments and has this transcript
 pub transcript : CarriesOut (RunJob 2 ∷ Once (Begin (GetJob (97 ∷ []))) ∷ RunJob 1 ∷ Once (Begin (PutJob (97 ∷ []) (111 ∷ []))) ∷ Once Reopen ∷ []) moments
     (((((codes "opened" ++ 10 ∷ []) ++ (codes "job 1" ++ 10 ∷ [])) ++ (codes "put" ++ 10 ∷ [])) ++ (codes "job 2" ++ 10 ∷ [])) ++ (codes "got 6f" ++ 10 ∷ []))
 unfolding digits

@@ -42,6 +42,7 @@ with_fetch w job j = record (going_on w (advanced_with job (Fetched j 1 0 (Some 
 abbrev pub state_16 : State
 state_16 = begun state_15 15 (GetJob (97 ∷ []))
 
+-- the get begins as job 2
 pub happens_15 : Happens 1 15 state_15 (Begin (GetJob (97 ∷ []))) (Begun 2) state_16
 unfolding setup_in actions_of
 happens_15 = (refl, refl, refl, refl)
@@ -49,6 +50,7 @@ happens_15 = (refl, refl, refl, refl)
 abbrev pub state_17 : State
 state_17 = with_fetch state_16 (job_at state_16 2) 0
 
+-- the get fetches provider 0's block
 pub happens_16 : Happens 1 16 state_16 (Step 2) More state_17
 unfolding setup_in actions_of
 happens_16 = (
@@ -63,6 +65,7 @@ happens_16 = (
 abbrev pub state_18 : State
 state_18 = with_fetch state_17 (job_at state_17 2) 1
 
+-- the get fetches provider 1's block
 pub happens_17 : Happens 1 17 state_17 (Step 2) More state_18
 unfolding setup_in actions_of
 happens_17 = (
@@ -77,6 +80,7 @@ happens_17 = (
 abbrev pub state_19 : State
 state_19 = with_fetch state_18 (job_at state_18 2) 2
 
+-- the get fetches provider 2's block
 pub happens_18 : Happens 1 18 state_18 (Step 2) More state_19
 unfolding setup_in actions_of
 happens_18 = (
@@ -91,6 +95,7 @@ happens_18 = (
 abbrev pub state_20 : State
 state_20 = with_fetch state_19 (job_at state_19 2) 3
 
+-- the get fetches provider 3's block
 pub happens_19 : Happens 1 19 state_19 (Step 2) More state_20
 unfolding setup_in actions_of
 happens_19 = (
@@ -113,6 +118,7 @@ own_work = own_give (object_of four 1) (111 ∷ []) 0 0 refl (omega arith, omega
 abbrev pub state_21 : State
 state_21 = going_on state_20 (advanced_with (job_at state_20 2) (Worked 1 0 symbols))
 
+-- the work on the four blocks gives the symbols of the stripe
 pub happens_20 : Happens 1 20 state_20 (Step 2) More state_21
 unfolding setup_in actions_of
 happens_20 = (symbols, own_work, refl)
@@ -124,6 +130,7 @@ state_22 = ended state_21 (job_at state_21 2)
 pub byte_back : 111 ∷ [] ≡ take 1 (flat_map (λ stripe. bytes_of_symbols (symbols_in (object_of four 1) (111 ∷ []) stripe)) (upto 1))
 byte_back = sym (bytes_back (object_of four 1) (111 ∷ []) (omega arith) (omega arith) refl)
 
+-- the get ends with the byte
 pub happens_21 : Happens 1 21 state_21 (Step 2) (Ended (Got (111 ∷ []))) state_22
 unfolding setup_in actions_of
 happens_21 = (byte_back, refl)

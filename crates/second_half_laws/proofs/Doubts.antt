@@ -86,6 +86,7 @@ module _ (limit : ℕ) (start : State) (m : Moment) (ms : List Moment) (A : All 
   step_facts : Facts start (m ∷ ms)
   step_facts = record { made = made.step_facts limit start m ms A F.made X W; flights = flight_step limit start m ms A V F.made F.flights X W; doubt = doubt_step }
 
+-- in every run a record in doubt is a first setup, or its job had made and was given all that it tells of
 pub facts : (limit : ℕ) (start : State) → IsStart start → (ms : List Moment) → IsRun limit start ms → Facts start ms
 facts limit start clean [] run = record { made = made.start_facts start clean; flights = start_flights start clean; doubt = λ d h. absurd (let e : None ≡ Some d = sym clean.doubt ∙ h in cc) }
 facts limit start clean (m ∷ ms) run =
@@ -124,6 +125,7 @@ setup_step limit start m ms s A F X h = elim X.records [
     on_top d (Standing.bare t entry maker none_) = absurd (let e : None ≡ Some s = sym none_ ∙ h in cc)
     on_top d (Standing.by_job x maker done) = final_setup (setup_in (now start ms)) x d.entry x.kind (now start ms).records done.final
 
+-- a setup in effect stays in effect for the rest of a run
 pub setups_stay : (limit : ℕ) (start : State) (later ms : List Moment) (s : Setup) → IsStart start → IsRun limit start (later ++ ms) → setup_of (now start ms).records ≡ Some s → setup_of (now start (later ++ ms)).records ≡ Some s
 setups_stay limit start [] ms s clean run h = h
 setups_stay limit start (m ∷ later) ms s clean run h =

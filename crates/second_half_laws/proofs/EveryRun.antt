@@ -220,6 +220,7 @@ module _ (limit : ℕ) (start : State) (m : Moment) (ms : List Moment) (A : All 
     set_up : (s : Setup) (rs : List Record) → m.state.records ≡ SetUp s ∷ rs → setup_of rs ≡ None →
         (rs ≡ (now start ms).records) ⊎ ((d : Doubt) × ((now start ms).doubt ≡ Some d) × (rs ≡ d.entry ∷ (now start ms).records)) → Effect_is
 
+  -- nothing comes into effect by an event, or the record that was in doubt, or a setup
   pub effect : Effect_is
   effect = elim X.records [
     | Records_is.same rec ↦ nothing rec
@@ -243,11 +244,13 @@ module _ (limit : ℕ) (start : State) (m : Moment) (ms : List Moment) (A : All 
     pub setup : setup_of m.state.records ≡ setup_of (now start ms).records
     pub how : (file_in (now start ms) q ≡ Some f) ⊎ ((d : Doubt) × ((now start ms).doubt ≡ Some d) × IsEndOfPut (now start ms).records d.entry f.id f.size f.profile)
 
+  -- where no setup is in effect no file is, also with the record in doubt added
   pub no_file : (rs : List Record) (q : List ℕ) (f : File) → setup_of rs ≡ None → (rs ≡ (now start ms).records) ⊎ ((d : Doubt) × ((now start ms).doubt ≡ Some d) × (rs ≡ d.entry ∷ (now start ms).records)) → file_of rs q ≡ Some f → ⊥
   no_file rs q f none (inl e) h = false≢true (sym (ap is_some (ap setup_of (sym e) ∙ none)) ∙ held_up q f (ap (λ l. file_of l q) (sym e) ∙ h))
   no_file rs q f none (inr (d, at, e)) h =
       up_more d.entry (now start ms).records (entry_up d q f at (ap (λ l. file_of l q) (sym e) ∙ h)) (ap setup_of (sym e) ∙ none)
 
+  -- a file in effect after an event was so before, or is that of a put whose record was in doubt
   pub comes : (q : List ℕ) (f : File) → file_in m.state q ≡ Some f → Comes q f
   comes q f h = elim effect [
     | nothing rec ↦ record { setup = ap setup_of rec; how = inl (ap (λ l. file_of l q) (sym rec) ∙ h) }
@@ -270,9 +273,11 @@ module _ (limit : ℕ) (start : State) (m : Moment) (ms : List Moment) (A : All 
     subst (λ (t : Setup). s < stripes_of (profiled t p) (length ((now start ms).bytes o))) setup (subst (λ (y : List ℕ). s < stripes_of (profiled (setup_in m.state) p) (length y)) (X.bytes o below) k),
   )
 
+  -- the number of a file in effect has been drawn
   pub file_below : (q : List ℕ) (f : File) → file_in (now start ms) q ≡ Some f → f.id < next_id (now start ms).records
   file_below q f h = (A.pins.sound.file q f h).0
 
+  -- no running job takes away the object of a file in effect
   pub no_remover : (q : List ℕ) (f : File) → file_in (now start ms) q ≡ Some f → (x : Job) → job_of (now start ms).jobs x.number ≡ Some x → In f.id x.older → ⊥
   no_remover q f h x runs o = A.pins.older_out x.number x f.id q f runs o h refl
 
@@ -283,6 +288,7 @@ module _ (limit : ℕ) (start : State) (m : Moment) (ms : List Moment) (A : All 
 
   -- ---- moments before which no put began that works
 
+  -- a moment before which no put began that works stays one
   pub before_on : (from : ℕ) → PrecedesPuts start ms from → PrecedesPuts start (m ∷ ms) from
   before_on from P = record { early = (let l = P.early in omega arith); puts = puts_on; doubts = doubts_on }
     where
@@ -522,14 +528,17 @@ module _ (limit : ℕ) (start : State) (m : Moment) (ms : List Moment) (A : All 
         | Stay_is.undoubted none ↦ absurd (some-not-none m.state.doubt d h none)
       ]
 
+  -- the next object number does not fall
   pub ids_grow : next_id (now start ms).records ≤ next_id m.state.records
   ids_grow = next_of_records objects (now start ms) m.state A.numbers.written X.records
 
   -- ---- the record that comes into effect
 
+  -- where one record is added, that one came into effect
   pub came_one : (rs : List Record) (r : Record) → m.state.records ≡ r ∷ rs → rs ≡ (now start ms).records → came (now start ms) m.state ≡ Some r
   came_one rs r rec e = cond_true (length m.state.records == suc (length (now start ms).records)) (newest m.state.records) None (eq-eqb _ _ (ap length rec ∙ ap (λ l. suc (length l)) e)) ∙ ap newest rec
 
+  -- where the records did not grow by one, none came into effect
   pub came_none : (n : ℕ) → length m.state.records ≡ n → (n ≡ suc (length (now start ms).records) → ⊥) → came (now start ms) m.state ≡ None
   came_none n e other = cond_false (length m.state.records == suc (length (now start ms).records)) (newest m.state.records) None (ne_eqb _ _ (λ z. other (sym e ∙ z)))
 
@@ -539,6 +548,7 @@ module _ (limit : ℕ) (start : State) (m : Moment) (ms : List Moment) (A : All 
     setup : (s : Setup) → came (now start ms) m.state ≡ Some (SetUp s) → Came_is
     doubted : (d : Doubt) → (now start ms).doubt ≡ Some d → m.state.records ≡ d.entry ∷ (now start ms).records → came (now start ms) m.state ≡ Some d.entry → Came_is
 
+  -- the record that comes into effect by an event, if one does, is a setup or was in doubt
   pub came_is : Came_is
   came_is = elim effect [
     | nothing rec ↦ no_record (came_none (length (now start ms).records) (ap length rec) (λ z. omega (arith, z)))
@@ -554,6 +564,7 @@ module _ (limit : ℕ) (start : State) (m : Moment) (ms : List Moment) (A : All 
     pub entry : doubt.entry ≡ r
     pub setup : setup_in m.state ≡ setup_in (now start ms)
 
+  -- the record of a put's end that comes into effect was in doubt, and the setup stays
   pub put_came : (r : Record) (id : ℕ) → put_ended r ≡ Some id → came (now start ms) m.state ≡ Some r → PutCame r
   put_came r id ends e = elim came_is [
     | no_record none ↦ absurd (some-not-none (came (now start ms) m.state) r e none)
@@ -568,6 +579,7 @@ module _ (limit : ℕ) (start : State) (m : Moment) (ms : List Moment) (A : All 
 
   -- ---- begins of audit numbers
 
+  -- the begin of an audit number that is drawn does not change
   pub audits_below : (number : ℕ) → number < next_audit (now start ms).records → m.state.audits number ≡ (now start ms).audits number
   audits_below number l = elim T.audits [
     | Audits_are.undrawn e no_new ↦ ap (λ f. f number) e
@@ -580,6 +592,7 @@ module _ (limit : ℕ) (start : State) (m : Moment) (ms : List Moment) (A : All 
     | Audits_are.drew x runs free mine e ↦ absurd (some-not-none (now start ms).append b flight free)
   ]
 
+  -- the next audit number does not fall
   pub grows : next_audit (now start ms).records ≤ next_audit m.state.records
   grows = next_of_records audits (now start ms) m.state A.numbers.written X.records
 
@@ -764,6 +777,7 @@ module _ (limit : ℕ) (start : State) (m : Moment) (ms : List Moment) (A : All 
         | Doubt_now.set_up t entry_is bare none closed ↦ ends_other version id size profile (SetUp t) (sym e ∙ entry_is) refl
       ])
 
+  -- no put that works began before a running audit
   pub audit_begins : (k : ℕ) (j : Job) → job_of m.state.jobs k ≡ Some j → j.kind ≡ AuditJob → PrecedesPuts start (m ∷ ms) j.begun
   audit_begins k j h kind = elim (pins_is limit start m ms A.numbers A.pins X k j h) [
     | Pins_is.had x runs pinned kind_x begun g ↦ subst (PrecedesPuts start (m ∷ ms)) (sym begun) (before_on x.begun (E.audit k x runs (sym kind_x ∙ kind)))
@@ -778,6 +792,7 @@ module _ (limit : ℕ) (start : State) (m : Moment) (ms : List Moment) (A : All 
     pub below : number < next_audit (now start ms).records
     pub begins : (now start ms).audits number ≡ job.begun
 
+  -- an audit whose last record comes into doubt has this number, whose begin is its own
   pub audit_gated : (job : Job) (a : Append) (number u : ℕ) (c : List ℕ) → job_of (now start ms).jobs job.number ≡ Some job → (now start ms).append ≡ Some a → a.job ≡ job.number → a.entry ≡ AuditDone number u c → AuditGated job number
   audit_gated job a number u c runs flight mine e =
       (let at_job = subst (λ n. job_of (now start ms).jobs n ≡ Some job) (sym mine) runs in
@@ -794,6 +809,7 @@ module _ (limit : ℕ) (start : State) (m : Moment) (ms : List Moment) (A : All 
     pub kind : job.kind ≡ RepairJob
     pub subject : number ≡ job.subject
 
+  -- a repair whose record comes into doubt has this number
   pub repair_gated : (job : Job) (a : Append) (number : ℕ) → job_of (now start ms).jobs job.number ≡ Some job → (now start ms).append ≡ Some a → a.job ≡ job.number → a.entry ≡ RepairDone number → RepairGated job number
   repair_gated job a number runs flight mine e =
       (let at_job = subst (λ n. job_of (now start ms).jobs n ≡ Some job) (sym mine) runs in
@@ -822,6 +838,7 @@ module _ (limit : ℕ) (start : State) (m : Moment) (ms : List Moment) (A : All 
         | inr (und, e) ↦ moved u.number (E.audit_doubt d u.number und u.counts at e)
       ]
 
+  -- no put that works began before the audit that a running repair settles
   pub repair_begins : (k : ℕ) (j : Job) → job_of m.state.jobs k ≡ Some j → j.kind ≡ RepairJob → (j.subject < next_audit m.state.records) × PrecedesPuts start (m ∷ ms) (m.state.audits j.subject)
   repair_begins k j h kind = elim (X.job k j h) [
     | Job_is.kept r grown ↦ moved j.subject (E.repair k j r kind)
@@ -954,6 +971,7 @@ start_always limit start clean = record {
   };
 }
 
+-- what holds of the record in doubt, of audits, repairs and the mark holds in every run
 pub always : (limit : ℕ) (start : State) → IsStart start → (ms : List Moment) → IsRun limit start ms → Always start ms
 always limit start clean [] run = start_always limit start clean
 always limit start clean (m ∷ ms) run = go (always limit start clean ms run.2)

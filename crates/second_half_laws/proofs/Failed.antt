@@ -326,6 +326,7 @@ after_more : (start : State) (later ms : List Moment) → now (now start ms) lat
 after_more start [] ms = refl
 after_more start (m ∷ later) ms = refl
 
+-- a count rises by as many as its failed calls, or stands at its last value
 pub failures_rose : (limit : ℕ) (start : State) (later ms : List Moment) (count : Count) (n : ℕ) → IsRun limit start (later ++ ms) → HasFailures count (now start ms) later n →
     RoseBy (count_in count (now start ms)) (count_in count (now start (later ++ ms))) n
 failures_rose limit start [] ms count n run none = inl (let e : n ≡ 0 = none in omega (arith, e))

@@ -431,6 +431,7 @@ module _ (limit : ℕ) (start : State) (m : Moment) (ms : List Moment) (A : All 
     | Went.went x action g ↦ absurd (other g.event g.outcome)
   ]
 
+  -- by a step that a job makes its steps left fall by one, or also by the removals that it then skips
   pub fell : (k : ℕ) (before job : Job) → job_of (now start ms).jobs k ≡ Some before → job_of m.state.jobs k ≡ Some job → m.event ≡ Step k → m.outcome ≡ More →
       (most_left (setup_in (now start ms)) before ≡ suc (most_left (setup_in m.state) job))
       ⊎ (SkipsRemovals (setup_in m.state) before job × (most_left (setup_in (now start ms)) before ≡ suc (most_left (setup_in m.state) job + (setup_in m.state).n)))
@@ -441,6 +442,7 @@ module _ (limit : ℕ) (start : State) (m : Moment) (ms : List Moment) (A : All 
         | Went.went x action g ↦ subst (λ (y : Job). FallsBy (setup_in (now start ms)) y job) (same_value _ x before g.runs runs) (one_step (now start ms) x action m.state job g.next (F.older k x g.runs) g.passed).0
       ])
 
+-- in every run a job that runs is before its end, and takes nothing away until it has decided on it
 pub facts : (limit : ℕ) (start : State) → IsStart start → (ms : List Moment) → IsRun limit start ms → Facts start ms
 facts limit start clean [] run = record { made = made.start_facts start clean; within = λ k j h. absurd (found_none start.jobs k j clean.jobs h); older = λ k j h undecided. absurd (found_none start.jobs k j clean.jobs h) }
 facts limit start clean (m ∷ ms) run =

@@ -61,6 +61,7 @@ module _ (old : State) (job : Job) (j object stripe : ℕ) where
       (subst (λ b. StepsOpen old job.number b r new) unbarred
       (subst (λ b. Steps old job.number b r new) is_open h))))
 
+-- a fetch gives a job what its provider holds then, or none and a count of that provider rises
 pub gave_fetched : (limit : ℕ) (start : State) (m : Moment) (ms : List Moment) (job : Job) (j object stripe : ℕ) → IsRun limit start (m ∷ ms) → Makes (now start ms) m job (Fetch j object stripe) →
     GaveFetched (now start ms) m.state job j object stripe
 gave_fetched limit start m ms job j object stripe run makes =

@@ -135,5 +135,6 @@ in_all w [] f h = absurd h
 in_all w (g ∷ gs) f (inl e) = subst (λ (x : File). In (pinned_file w f) (pin_by machine_pins (pinned_file w x) (pin_all w gs))) e (pin_new (pinned_file w f) (pin_all w gs))
 in_all w (g ∷ gs) f (inr h) = pin_old (pinned_file w g) (pin_all w gs) (pinned_file w f) (in_all w gs f h)
 
+-- a file in effect is among the pins of all files
 pub all_pinned : (w : State) (name : List ℕ) (f : File) → file_in w name ≡ Some f → In (pinned_file w f) (pin_all w (files_of w.records))
 all_pinned w name f h = in_all w (files_of w.records) f (in_files w.records name f h)

@@ -47,6 +47,7 @@ files_same : (s : Setup) (x j : Job) (fs : List Pinned) (old new : Sums) → x.s
 files_same s x j [] old new subject given h = h
 files_same s x j (f ∷ fs) old new subject given h = (h.0, rounds_same s x j f (rounds_of (profiled s f.profile) (length f.bytes)) old h.0 subject given h.1, files_same s x j fs h.0 new subject given h.2)
 
+-- the sums of an audit hang on its files, its number and what it was given alone
 pub sums_same : (s : Setup) (x j : Job) (sums : Sums) → x.pinned ≡ j.pinned → x.subject ≡ j.subject → j.given ≡ x.given → HasSums s x sums → HasSums s j sums
 sums_same s x j sums pinned subject given h = subst (λ fs. JudgesFiles s j fs (record { counts = replicate s.n 0; undecided = 0 }) sums) pinned (files_same s x j x.pinned (record { counts = replicate s.n 0; undecided = 0 }) sums subject given h)
 
@@ -84,6 +85,7 @@ module _ (t : Setup) (x : Job) (version id size profile : ℕ) (kind : Kind) (ow
     | inr f ↦ subst (λ r. Final t x r kind) (sym (cond_false (version == 2) (PutDoneIn id size profile) (PutDone id size) f)) (subst (λ p. FinalPut t x id size p kind) (own f) h)
   ]
 
+  -- a job whose record ends a put had made all of that put's stores, whatever the version
   pub final_done : Final t x (done_record version id size profile) kind → FinalPut t x id size profile kind
   final_done h = elim (cases_Bool (version == 2)) [
     | inl e ↦ subst (λ r. Final t x r kind) (cond_true (version == 2) (PutDoneIn id size profile) (PutDone id size) e) h
@@ -246,6 +248,7 @@ writes_final w x UpgradeJob entry plain is next_is h = subst (λ r. Final (setup
 abbrev pub Flights : State → List Moment → Type 0
 Flights start ms = (a : Append) (j : Job) → (now start ms).append ≡ Some a → job_of (now start ms).jobs a.job ≡ Some j → Final (setup_in (now start ms)) j a.entry j.kind
 
+-- an event keeps it that the job of an append in flight has done what its record says
 pub flight_step : (limit : ℕ) (start : State) (m : Moment) (ms : List Moment) (A : All start ms) → own.Facts start ms → made.Facts start ms → Flights start ms → (X : Changes limit (length ms) (now start ms) m.event m.outcome m.state) → Walked (length ms) (now start ms) m.event m.outcome m.state →
     Flights start (m ∷ ms)
 flight_step limit start m ms A V M F X W a j h hj = subst (λ t. Final t j a.entry j.kind) (sym (setup_stays limit start m ms A.numbers A.pins X a.job j hj)) (elim (X.append a h) [
@@ -260,5 +263,6 @@ flight_step limit start m ms A V M F X W a j h hj = subst (λ t. Final t j a.ent
       (λ name bytes kind first. V.plain x.number x name bytes runs kind first ∙ sym (setup_profile (now start ms))) refl next_is writes))
 ])
 
+-- at a start no append is in flight
 pub start_flights : (start : State) → IsStart start → Flights start []
 start_flights start clean a j h hj = absurd (found_none start.jobs a.job j clean.jobs hj)

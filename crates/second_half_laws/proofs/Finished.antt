@@ -193,9 +193,11 @@ sweep limit start clean tell [] run calm scrubs = record {
 }
 sweep limit start clean tell (m ∷ ms) run calm scrubs = sweep_step limit start m ms clean tell run calm.1 scrubs.1 (sweep limit start clean tell ms run.2 calm.1 scrubs.1)
 
+-- a run that is calm counted from finished scrubs is calm by a mark: the begin of the last of these
 pub scrub_marked : (limit : ℕ) (start : State) (ms : List Moment) → IsStart start → AllTell start → IsRun limit start ms → IsScrubCalm start ms → IsMarkedRun limit (scrubbed start) start ms
 scrub_marked limit start ms clean tell run h = record { clean = clean; tell = tell; run = run; calm = h.jobs; marks = (sweep limit start clean tell ms run h.jobs h.scrubs).marks }
 
+-- the second half holds of each run that is calm counted from finished scrubs
 pub half_by_scrubs : (limit : ℕ) (start : State) (ms : List Moment) → IsStart start → AllTell start → IsRun limit start ms → IsScrubCalm start ms → SecondHalf start ms
 half_by_scrubs limit start ms clean tell run h = half_by_mark limit (scrubbed start) start clean tell ms run h.jobs (sweep limit start clean tell ms run h.jobs h.scrubs).marks
 
@@ -210,6 +212,7 @@ none_runs limit start clean (m ∷ ms) run none scrub h = by_scrub (none_runs li
     by_scrub before (Scrub_is.begun event is alone is_open unbarred b) = none.0 event
     by_scrub before (Scrub_is.went other was goes b) = before other was
 
+-- a run in which no scrub begins is calm for scrubs, by whatever mark
 pub unscrubbed : (limit : ℕ) (mark : Mark) (start : State) (ms : List Moment) → IsStart start → IsRun limit start ms → BeginsNoScrub ms → AreScrubsCalm mark ms
 unscrubbed limit mark start [] clean run none = tt
 unscrubbed limit mark start (m ∷ ms) clean run none = (λ scrub h. absurd (none_runs limit start clean (m ∷ ms) run none scrub h), unscrubbed limit mark start ms clean run.2 none.1)

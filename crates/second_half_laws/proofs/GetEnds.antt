@@ -76,6 +76,7 @@ module _ (limit : ℕ) (start : State) (m : Moment) (ms : List Moment) (A : All 
         })
   ]
 
+-- in every run a running get works on the file that was in effect under its name at its begin
 pub have_files : (limit : ℕ) (start : State) → IsStart start → (ms : List Moment) → IsRun limit start ms → HaveFiles start ms
 have_files limit start clean [] run = λ k j name h kind. absurd (found_none start.jobs k j clean.jobs h)
 have_files limit start clean (m ∷ ms) run =
@@ -205,6 +206,7 @@ module _ (old : State) (job : Job) (name : List ℕ) (f : Pinned) (new : State) 
   by_step true how runs h = by_bar old.is_barred how runs h
   by_step false how runs h = absurd h
 
+-- a get that a step ends gave bytes, or is lost at a row of the stripe that it worked on
 pub get_ends : (limit : ℕ) (start : State) (m : Moment) (ms : List Moment) (job : Job) (name : List ℕ) (f : Pinned) (how : Answer) → IsLone (now start ms) → IsRun limit start (m ∷ ms) →
     m.event ≡ Step job.number → m.outcome ≡ Ended how → job_of (now start ms).jobs job.number ≡ Some job → job.kind ≡ GetJob name → job.pinned ≡ f ∷ [] → Get_ends (now start ms) job f how
 get_ends limit start m ms job name f how lone run event outcome runs kind pinned =
@@ -236,6 +238,7 @@ module _ (limit : ℕ) (start : State) (m : Moment) (ms : List Moment) (job : Jo
   run_b : IsRun limit start (first_moments job.begun ms)
   run_b = first_run limit start job.begun ms run.2
 
+  -- a get to which at most b providers gave a wrong block of each stripe gives the file's bytes
   pub few_give : (bytes : List ℕ) → m.outcome ≡ Ended (answer.Got bytes) →
       ((stripe : ℕ) → stripe < stripes (file_object (begin_of start ms job) file) (length ((begin_of start ms job).bytes file.id)) → IsFewWrong (begin_of start ms job) file job stripe) → bytes ≡ (begin_of start ms job).bytes file.id
   few_give bytes outcome few =
@@ -256,6 +259,7 @@ module _ (limit : ℕ) (start : State) (m : Moment) (ms : List Moment) (job : Jo
           (subst (λ seen. GivesSymbols o s seen (opens.symbols s)) (heard_blocks job name (setup_in b).n file.id s kind) (opens.given s (omega (arith, l)))))))
           ∙ bytes_back o own shape.2 (some_kept file.profile) (held_file limit start (first_moments job.begun ms) name file clean run_b in_effect).bytes))
 
+  -- a get to which at most b providers gave a wrong block of a stripe is not lost there
   pub few_not_lost : (stripe row : ℕ) → m.outcome ≡ Ended (answer.Lost stripe row) → IsFewWrong (begin_of start ms job) file job stripe → ⊥
   few_not_lost stripe row outcome few =
       (let H = have_files limit start clean ms run.2 job.number job name runs kind in

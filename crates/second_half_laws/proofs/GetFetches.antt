@@ -24,6 +24,7 @@ use Rattle.second_half_laws.specs.Gave.{WasFetched}
 use Rattle.second_half_laws.proofs.Places.{fetched_before_end}
 use Rattle.second_half_laws.proofs.MadeFacts.{facts, fetched_at, given_block}
 
+-- a get that gave bytes had fetched each stripe of its file from each provider
 pub got_fetched : (limit : ℕ) (start : State) (m : Moment) (ms : List Moment) (job : Job) (name bytes : List ℕ) (file : File) (j stripe : ℕ) → IsStart start → IsRun limit start (m ∷ ms) → m.event ≡ Step job.number →
     m.outcome ≡ Ended (Got bytes) → job_of (now start ms).jobs job.number ≡ Some job → job.kind ≡ GetJob name → file_in (now start (first_moments job.begun ms)) name ≡ Some file → j < (setup_in (now start ms)).n →
     stripe < stripes (file_object (now start (first_moments job.begun ms)) file) (length ((now start (first_moments job.begun ms)).bytes file.id)) → WasFetched start ms job j file.id stripe (block_given job.given file.id stripe j)
@@ -39,6 +40,7 @@ got_fetched limit start m ms job name bytes file j stripe clean run event outcom
     let g = (F.made job.number job made.place (Fetch j file.id stripe) runs made.made made.action).1 in
     F.came job.number job (Fetched j file.id stripe (block_given job.given file.id stripe j)) runs (given_block job.given j file.id stripe g.0 g.1))
 
+-- a get that is lost at a stripe had fetched this stripe from each provider
 pub lost_fetched : (limit : ℕ) (start : State) (m : Moment) (ms : List Moment) (job : Job) (name : List ℕ) (file : File) (j stripe row : ℕ) → IsStart start → IsRun limit start (m ∷ ms) → m.event ≡ Step job.number →
     m.outcome ≡ Ended (Lost stripe row) → job_of (now start ms).jobs job.number ≡ Some job → job.kind ≡ GetJob name → file_in (now start (first_moments job.begun ms)) name ≡ Some file → j < (setup_in (now start ms)).n →
     WasFetched start ms job j file.id stripe (block_given job.given file.id stripe j)

@@ -124,6 +124,7 @@ module _ (limit : ℕ) (start : State) (m : Moment) (ms : List Moment) (A : All 
   kept_step : Kept start (m ∷ ms)
   kept_step = record { begun = begun_step; below = below_step; audited = audited_step }
 
+-- in every run the blocks of an audit whose record is in doubt are those at its begin, but for replacements
 pub kept : (limit : ℕ) (start : State) → IsStart start → (ms : List Moment) → IsRun limit start ms → Kept start ms
 kept limit start clean [] run = record {
   begun = λ d job h. absurd (some-not-none start.doubt d h clean.doubt);
@@ -156,6 +157,7 @@ made_before t w x job i o s setup e next_is made = record { place = made.place; 
           let z : WriteGate ≡ Store i o s = same_value _ WriteGate (Store i o s) (next_stands w x WriteGate next_is (λ q. cc)) (subst (λ n. slice_get (actions_of (setup_in w) x) n ≡ Some (Store i o s)) here at_x) in cc)
     ])
 
+-- what a repair stored whose record is in doubt is the file's own, but for replacements
 pub rewritten : (limit : ℕ) (mark : Mark) (start : State) → IsStart start → AllTell start → (ms : List Moment) → IsRun limit start ms → IsCalm relies mark ms → AreMarks mark start ms → Rewritten start ms
 rewritten limit mark start clean tell [] run calm marks = λ d job i o s b h. absurd (some-not-none start.doubt d h clean.doubt)
 rewritten limit mark start clean tell (m ∷ ms) run calm marks = step (rewritten limit mark start clean tell ms run.2 calm.1 marks.1)

@@ -32,12 +32,15 @@ use Rattle.second_half_laws.proofs.Points.{Facts, rows_right}
 use Rattle.second_half_laws.proofs.ScrubFacts.{scrubs_right}
 use Rattle.second_half_laws.proofs.SecondHalf.{start_moment, Both, both, marked_facts, marked_scrubs, are_marks}
 
+-- in a run that is calm by a mark all that hangs on the mark holds
 pub in_run : (limit : ℕ) (mark : Mark) (start : State) (ms : List Moment) → IsMarkedRun limit mark start ms → Facts mark start ms
 in_run limit mark start ms h = marked_facts limit mark start h.clean h.tell ms h.run h.calm h.marks
 
+-- in a calm run in which no audit missed damage all that hangs on settled audits holds
 pub in_calm : (limit : ℕ) (start : State) (ms : List Moment) → IsCalmRun limit start ms → Both start ms
 in_calm limit start ms h = both limit start h.clean h.tell ms h.run h.calm h.scrubs h.found
 
+-- a calm run in which no audit missed damage is calm by a mark: the begin of the last settled audit
 pub calm_marked : (limit : ℕ) (start : State) (ms : List Moment) → IsCalmRun limit start ms → IsMarkedRun limit (since start) start ms
 calm_marked limit start ms h = record { clean = h.clean; tell = h.tell; run = h.run; calm = h.calm; marks = are_marks limit start h.clean h.tell ms h.run h.calm h.scrubs h.found }
 
@@ -66,6 +69,7 @@ pub clears : (start : State) (ms : List Moment) (from : ℕ) (Ex : ℕ → ℕ �
 clears start ms from Ex E clear name file j h l wrong out = (let q = wrong_bad (now start ms) file j wrong in
     elim (clear name file j q.0 h l q.1 q.2) [ inl r ↦ inl r | inr x ↦ inr (out q.0 x) ])
 
+-- where files are clear since a moment, a provider that is wrong for one was replaced since then
 pub clears_all : (start : State) (ms : List Moment) (from : ℕ) → IsClear start ms from Never → (name : List ℕ) (file : File) (j : ℕ) → file_in (now start ms) name ≡ Some file →
     j < (setup_in (now start ms)).n → is_wrong_now (now start ms) file j ≡ true → IsReplaced from j ms
 clears_all start ms from clear name file j h l wrong = elim (clears start ms from Never ⊥ clear name file j h l wrong (λ s x. x)) [ inl r ↦ r | inr x ↦ absurd x ]
@@ -108,5 +112,6 @@ start_marks limit start clean tell (m ∷ ms) run calm scrubs = step (start_mark
         (let h : IsMarkedRun limit (λ hs. 0) start ms = record { clean = clean; tell = tell; run = run.2; calm = calm.1; marks = marks } in
         (mark_stays limit (λ hs. 0) start m ms h scrubs.1 run 0 (in_run limit (λ hs. 0) start ms h).moment, marks))
 
+-- a run that is calm counted from its start has the start as a mark
 pub start_marked : (limit : ℕ) (start : State) (ms : List Moment) → IsStart start → AllTell start → IsRun limit start ms → IsCalm relies (λ hs. 0) ms → AreScrubsCalm (λ hs. 0) ms → IsMarkedRun limit (λ hs. 0) start ms
 start_marked limit start ms clean tell run calm scrubs = record { clean = clean; tell = tell; run = run; calm = calm; marks = start_marks limit start clean tell ms run calm scrubs }

@@ -46,12 +46,14 @@ module _ (limit : ℕ) (start : State) (m : Moment) (ms : List Moment) (A : All 
     | inr scrubs ↦ absurd (found_none (now start ms).jobs k j (A.numbers.idle.lone (Scrubbing scrubs.scrub) scrubs.runs) runs_j)
   ]
 
+-- a block of a file in effect stays, or is replaced, or a repair or a scrub stores it
 pub effect_stays : (limit : ℕ) (start : State) (m : Moment) (ms : List Moment) (name : List ℕ) (file : File) (j stripe : ℕ) → IsStart start → IsRun limit start (m ∷ ms) →
     file_in (now start ms) name ≡ Some file → Stays (now start ms) m j file.id stripe ⊎ IsScrubbed (now start ms) m j file.id stripe
 effect_stays limit start m ms name file j stripe clean run h =
     (let A = all limit start clean ms run.2 in
     in_effect_stays limit start m ms A (changes limit (length ms) (now start ms) m.event m.outcome m.state A.numbers.idle run.1) name file j stripe h)
 
+-- a block of a file that a job works on stays, or is replaced, or a repair stores it
 pub work_stays : (limit : ℕ) (start : State) (m : Moment) (ms : List Moment) (number : ℕ) (job : Job) (file : Pinned) (j stripe : ℕ) → IsStart start → IsRun limit start (m ∷ ms) →
     job_of (now start ms).jobs number ≡ Some job → Contains job.pinned file → Stays (now start ms) m j file.id stripe
 work_stays limit start m ms number job file j stripe clean run runs h =

@@ -20,17 +20,21 @@ only w x (suc k) h = (let e : None ≡ Some x = h in cc)
 abbrev pub Stands : {X : Type 0} → X → List X → Type 0
 Stands x xs = (p : ℕ) × (slice_get xs p ≡ Some x)
 
+-- an element of the first list stands in two put together
 pub stands_left : {X : Type 0} (xs ys : List X) (x : X) → Stands x xs → Stands x (xs ++ ys)
 stands_left xs ys x h = (h.0, get_left xs ys h.0 x h.1)
 
+-- an element of the second list stands in two put together
 pub stands_right : {X : Type 0} (xs ys : List X) (x : X) → Stands x ys → Stands x (xs ++ ys)
 stands_right xs ys x h = (length xs + h.0, get_behind xs ys h.0 x h.1)
 
+-- what a function makes of an element stands in the list of all that it makes
 pub stands_map : {A X : Type 0} (f : A → X) (as_ : List A) (a : A) → In a as_ → Stands (f a) (map f as_)
 stands_map f [] a i = absurd i
 stands_map f (b ∷ as_) a (inl e) = (0, ap (λ c. Some (f c)) (sym e))
 stands_map f (b ∷ as_) a (inr i) = (let r = stands_map f as_ a i in (suc r.0, r.1))
 
+-- what stands in the list made of an element stands in all such lists put together
 pub stands_flat : {A X : Type 0} (f : A → List X) (as_ : List A) (a : A) (x : X) → In a as_ → Stands x (f a) → Stands x (flat_map f as_)
 stands_flat f [] a x i h = absurd i
 stands_flat f (b ∷ as_) a x (inl e) h = stands_left (f b) (flat_map f as_) x (subst (λ c. Stands x (f c)) e h)
@@ -45,9 +49,11 @@ range_in zero a t i = absurd i
 range_in (suc n) a t (inl e) = omega arith
 range_in (suc n) a t (inr i) = (let l = range_in n (a + 1) t i in omega arith)
 
+-- each number below n is among those below n
 pub in_upto : (n t : ℕ) → t < n → In t (upto n)
 in_upto n t l = in_range n 0 t (omega arith) (omega arith)
 
+-- each number among those below n is below n
 pub upto_in : (n t : ℕ) → In t (upto n) → t < n
 upto_in n t i = (let l = range_in n 0 t i in omega arith)
 
@@ -55,15 +61,18 @@ upto_in n t i = (let l = range_in n 0 t i in omega arith)
 abbrev pub Behind : {X : Type 0} → X → X → List X → Type 0
 Behind a b xs = (p : ℕ) → slice_get xs p ≡ Some b → (q : ℕ) × (q < p) × (slice_get xs q ≡ Some a)
 
+-- where the second one does not occur, the first one stands before each place of it
 pub behind_none : {X : Type 0} (a b : X) (xs : List X) → Each (λ x. x ≡ b → ⊥) xs → Behind a b xs
 behind_none a b xs h p e = absurd (each_get (λ x. x ≡ b → ⊥) xs p b h e refl)
 
+-- what holds in two lists holds in both put together: the first one stands before the second
 pub behind_append : {X : Type 0} (a b : X) (xs ys : List X) → Behind a b xs → Behind a b ys → Behind a b (xs ++ ys)
 behind_append a b xs ys f g p e = elim (split_get xs ys p b e) [
   | inl u ↦ (let r = f p u.1 in (r.0, r.1, get_left xs ys r.0 a r.2))
   | inr u ↦ (let r = g (p - length xs) u.1 in (length xs + r.0, (let l = r.1 in let k = u.0 in omega arith), get_behind xs ys r.0 a r.2))
 ]
 
+-- what holds in each list holds in all put together: the first one stands before the second
 pub behind_flat : {A X : Type 0} (a b : X) (f : A → List X) (as_ : List A) → ((c : A) → In c as_ → Behind a b (f c)) → Behind a b (flat_map f as_)
 behind_flat a b f [] h p e = (let n : None ≡ Some b = e in cc)
 behind_flat a b f (c ∷ as_) h p e = behind_append a b (f c) (flat_map f as_) (h c (inl refl)) (behind_flat a b f as_ (λ x i. h x (inr i))) p e

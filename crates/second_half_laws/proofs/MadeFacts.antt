@@ -41,6 +41,7 @@ use Rattle.second_half_laws.proofs.Passing.{Later, later_same, passed_later, pas
 all_three : (k i p o t s : ℕ) → k ≡ i → p ≡ o → t ≡ s → (((k == i) && (p == o)) && (t == s)) ≡ true
 all_three k i p o t s x y z = and_from ((k == i) && (p == o)) (t == s) (and_from (k == i) (p == o) (eq-eqb k i x) (eq-eqb p o y)) (eq-eqb t s z)
 
+-- where a fetch of a block was given, the newest such fetch is among what was given
 pub given_block : (given : List Given) (i o s : ℕ) (block : Option (List ℕ)) → In (Fetched i o s block) given → In (Fetched i o s (block_given given o s i)) given
 given_block [] i o s block h = absurd h
 given_block (Fetched k p t c ∷ more) i o s block h = elim (cases_Bool (((k == i) && (p == o)) && (t == s))) [
@@ -63,6 +64,7 @@ given_block (Answered k p r c ∷ more) i o s block (inr h) = inr (given_block m
 given_block (Worked p t c ∷ more) i o s block (inl e) = absurd (let f : Fetched i o s block ≡ Worked p t c = e in cc)
 given_block (Worked p t c ∷ more) i o s block (inr h) = inr (given_block more i o s block h)
 
+-- where an answer was given, the newest such answer is among what was given
 pub given_answer : (given : List Given) (i o s : ℕ) (symbol : Option ℕ) → In (Answered i o s symbol) given → In (Answered i o s (answer_given given o s i)) given
 given_answer [] i o s symbol h = absurd h
 given_answer (Answered k p t c ∷ more) i o s symbol h = elim (cases_Bool (((k == i) && (p == o)) && (t == s))) [
@@ -85,6 +87,7 @@ given_answer (Fetched k p r c ∷ more) i o s symbol (inr h) = inr (given_answer
 given_answer (Worked p t c ∷ more) i o s symbol (inl e) = absurd (let f : Answered i o s symbol ≡ Worked p t c = e in cc)
 given_answer (Worked p t c ∷ more) i o s symbol (inr h) = inr (given_answer more i o s symbol h)
 
+-- where the symbols of a stripe were given, the newest such symbols are among what was given
 pub given_symbols : (given : List Given) (o s : ℕ) (symbols : List ℕ) → In (Worked o s symbols) given → In (Worked o s (symbols_given given o s)) given
 given_symbols [] o s symbols h = absurd h
 given_symbols (Worked p t c ∷ more) o s symbols h = elim (cases_Bool ((p == o) && (t == s))) [
@@ -173,6 +176,7 @@ earlier_on maker x j l e = record {
   place = (let p = e.place in let q = l.place in omega (arith, p, q));
 }
 
+-- what a job has made it has made also with one more event, and further on
 pub made_on : (start : State) (m : Moment) (ms : List Moment) (x j : Job) (action : Action) → Later x j → WasMade start ms x action → WasMade start (m ∷ ms) j action
 made_on start m ms x j action l c = record {
   later = m ∷ c.later;
@@ -272,6 +276,7 @@ CameBy start ms job (Fetched i o s block) = WasFetched start ms job i o s block
 CameBy start ms job (Answered i o r symbol) = WasAsked start ms job i o r symbol
 CameBy start ms job (Worked o s symbols) = WasOpened start ms job o s symbols
 
+-- what a job was given came of what it made also with one more event, and further on
 pub came_on : (start : State) (m : Moment) (ms : List Moment) (x j : Job) (gift : Given) → setup_in m.state ≡ setup_in (now start ms) → Later x j → CameBy start ms x gift → CameBy start (m ∷ ms) j gift
 came_on start m ms x j (Fetched i o s block) setup l c = fetched_on start m ms x j i o s block l c
 came_on start m ms x j (Answered i o r symbol) setup l c = asked_on start m ms x j i o r symbol setup l c
@@ -291,6 +296,7 @@ given_at start ms F k j p i o s h l at n =
     let r = F.made k j q.0 (Fetch i o s) h (let e = q.1 in omega (arith, e, l)) q.2 in
     given_block j.given i o s r.1.0 r.1.1)
 
+-- a job at the work on a stripe, or past it, was given each provider's block by a fetch
 pub fetched_at : (start : State) (ms : List Moment) → Facts start ms → (k : ℕ) (j : Job) (p i o s : ℕ) → job_of (now start ms).jobs k ≡ Some j → p ≤ j.place →
     slice_get (actions_of (setup_in (now start ms)) j) p ≡ Some (Work o s) → i < (setup_in (now start ms)).n → WasFetched start ms j i o s (block_given j.given o s i)
 fetched_at start ms F k j p i o s h l at n = F.came k j (Fetched i o s (block_given j.given o s i)) h (given_at start ms F k j p i o s h l at n)
@@ -414,9 +420,11 @@ module _ (limit : ℕ) (start : State) (m : Moment) (ms : List Moment) (A : All 
       by_passed x action g (Passed.drew act is rec) = carried x action g (subst (In gift) (ap (λ (y : Job). y.given) is) i)
       by_passed x action g (Passed.finished a act flight mine is rec) = carried x action g (subst (In gift) (ap (λ (y : Job). y.given) is) i)
 
+  -- an event keeps it that jobs made what is before their place, and that their gifts came of it
   pub step_facts : Facts start (m ∷ ms)
   step_facts = record { begun = begun_step; made = made_step; came = came_step }
 
+-- at a start no job runs, so it holds of all that they made and were given
 pub start_facts : (start : State) → IsStart start → Facts start []
 start_facts start clean = record {
   begun = λ k j h. absurd (found_none start.jobs k j clean.jobs h);
@@ -424,6 +432,7 @@ start_facts start clean = record {
   came = λ k j gift h i. absurd (found_none start.jobs k j clean.jobs h);
 }
 
+-- in every run jobs made what is before their place, and what they were given came of that
 pub facts : (limit : ℕ) (start : State) → IsStart start → (ms : List Moment) → IsRun limit start ms → Facts start ms
 facts limit start clean [] run = start_facts start clean
 facts limit start clean (m ∷ ms) run =
@@ -437,6 +446,7 @@ pub made_fetch_gave : (limit : ℕ) (start : State) → IsStart start → (ms : 
     HasMade (setup_in (now start ms)) j (Fetch i o s) → (block : Option (List ℕ)) × In (Fetched i o s block) j.given
 made_fetch_gave limit start clean ms run k j i o s h made = ((facts limit start clean ms run).made k j made.place (Fetch i o s) h made.made made.action).1
 
+-- work on a stripe that a running job has made gave it symbols
 pub made_work_gave : (limit : ℕ) (start : State) → IsStart start → (ms : List Moment) → IsRun limit start ms → (k : ℕ) (j : Job) (o s : ℕ) → job_of (now start ms).jobs k ≡ Some j →
     HasMade (setup_in (now start ms)) j (Work o s) → (symbols : List ℕ) × In (Worked o s symbols) j.given
 made_work_gave limit start clean ms run k j o s h made = ((facts limit start clean ms run).made k j made.place (Work o s) h made.made made.action).1

@@ -111,6 +111,7 @@ repair_list t flagged pinned =
 repair_list_is : (t : Setup) (job : Job) → actions_by t job RepairJob ≡ repair_list t job.flagged job.pinned
 repair_list_is t job = refl
 
+-- repairs with the same files and the same flags have the same actions
 pub same_actions : (t : Setup) (x j : Job) → x.kind ≡ RepairJob → j.kind ≡ RepairJob → j.pinned ≡ x.pinned → j.flagged ≡ x.flagged → actions_of t j ≡ actions_of t x
 same_actions t x j kx kj pinned flagged =
     actions_are t j RepairJob kj ∙ (repair_list_is t j ∙ (ap (λ g. repair_list t g j.pinned) flagged ∙ (ap (repair_list t x.flagged) pinned ∙ sym (actions_are t x RepairJob kx ∙ repair_list_is t x))))
@@ -164,6 +165,7 @@ not_idle w job AuditJob = refl
 not_idle w job RepairJob = refl
 not_idle w job UpgradeJob = refl
 
+-- behind a third move comes the fourth
 pub gate_next : (w : State) (job : Job) → next_action w job ≡ Some WriteGate → next_action w (advanced job) ≡ Some SyncGate
 gate_next w job h =
     (let here : slice_get (actions_by (setup_in w) job job.kind) job.place ≡ Some WriteGate = by_kind (setup_in w) job job.kind job.place WriteGate refl (next_stands w job WriteGate h (λ e. cc)) in
@@ -183,5 +185,6 @@ same_by v w job AuditJob place e = ap (λ t. slice_get (actions_by t job AuditJo
 same_by v w job RepairJob place e = ap (λ t. slice_get (actions_by t job RepairJob) place) (setup_same v w (ap setup_of e))
 same_by v w job UpgradeJob place e = refl
 
+-- a job has the same next action wherever the records are the same
 pub next_same : (v w : State) (job : Job) → v.records ≡ w.records → next_action v job ≡ next_action w job
 next_same v w job e = next_is_by v job ∙ (same_by v w job job.kind job.place e ∙ sym (next_is_by w job))

@@ -180,6 +180,7 @@ facts limit start (m ∷ ms) clean run =
     step_facts limit (length ms) (now start ms) m.event m.outcome m.state (facts limit start ms clean run.2)
     (changes limit (length ms) (now start ms) m.event m.outcome m.state (num.facts objects limit start clean ms run.2).idle run.1)
 
+-- a name under which a file is in effect is a name of the grammar
 pub stored_named : (limit : ℕ) (start : State) (ms : List Moment) (name : List ℕ) (file : File) → IsStart start → IsRun limit start ms → file_in (now start ms) name ≡ Some file → IsTrue (is_name name)
 stored_named limit start ms name file clean run h = file_named (now start ms).records name file (facts limit start ms clean run).records h
 
@@ -195,6 +196,7 @@ get_refusal limit w name file why named h e = go w.is_barred (is_busy limit (sig
     go false false true false a b c = absurd (false≢true b)
     go false false false there a b c = absurd (false≢true a)
 
+-- a get of a name in effect is refused for MustReopen, Busy or Memory alone
 pub begins_stored : (limit : ℕ) (start : State) (m : Moment) (ms : List Moment) (name : List ℕ) (file : File) (why : Refusal) → IsStart start → IsRun limit start (m ∷ ms) →
     m.event ≡ Begin (GetJob name) → m.outcome ≡ Refused why → file_in (now start ms) name ≡ Some file → IsGetRefusal why
 begins_stored limit start m ms name file why clean run event outcome h =

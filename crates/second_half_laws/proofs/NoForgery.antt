@@ -25,6 +25,7 @@ use Rattle.second_half_laws.proofs.EveryRun.{always}
 use Rattle.second_half_laws.proofs.Points.{Facts, begin_of, mark_of}
 use Rattle.second_half_laws.proofs.Readers.{few_there}
 
+-- no running get of a run that is calm by a mark has fetched a forgery against its file
 pub no_forgery : (limit : ℕ) (mark : Mark) (start : State) (ms : List Moment) → IsStart start → IsRun limit start ms → Facts mark start ms →
     ((k : ℕ) (j : Job) → job_of (now start ms).jobs k ≡ Some j → IsTrue (relies j.kind) → replaced_count (now start ms) (mark_of mark ms j) ms ≤ (setup_in (now start ms)).b) →
     (number : ℕ) (job : Job) (name : List ℕ) (file : File) → job_of (now start ms).jobs number ≡ Some job → job.kind ≡ GetJob name → file_in (begin_of start ms job) name ≡ Some file →

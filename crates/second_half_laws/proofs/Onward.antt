@@ -261,6 +261,7 @@ module _ (old : State) where
   continues Continued new is = quiet _ new is refl (omega arith)
   continues r new h = absurd h
 
+  -- by an event no count of a device falls, and providers that tell what they hold go on telling
   pub onward : (limit moment : ℕ) (e : Event) (r : Outcome) (new : State) → Happens limit moment old e r new → AllOnward old new
   onward limit moment (Init s) r new h = inits s old.is_open r new h
   onward limit moment (Begin kind) r new h = begins limit moment kind None r new h
@@ -277,9 +278,11 @@ module _ (old : State) where
   onward limit moment Names r new h = lists old.is_open r new h
   onward limit moment Continue r new h = continues r new h
 
+-- so it is of each event of a run: no count falls, and providers go on telling
 pub run_onward : (limit : ℕ) (start : State) (m : Moment) (ms : List Moment) → IsRun limit start (m ∷ ms) → AllOnward (now start ms) m.state
 run_onward limit start m ms run = onward (now start ms) limit (length ms) m.event m.outcome m.state run.1
 
+-- where all providers tell what they hold at the start, they do in the whole run
 pub all_tell : (limit : ℕ) (start : State) (ms : List Moment) → AllTell start → IsRun limit start ms → AllTell (now start ms)
 all_tell limit start [] tell run = tell
 all_tell limit start (m ∷ ms) tell run = λ j. ((run_onward limit start m ms run).provider j).tells (all_tell limit start ms tell run.2 j)

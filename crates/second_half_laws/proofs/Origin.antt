@@ -245,6 +245,7 @@ step_came start m ms early came given_now k job j o s block h i = by_gift (given
     by_gift (Gift_is.none given) = absurd (subst (In (Fetched j o s block)) given i)
     by_gift (Gift_is.one x gift runs given begun pinned found) = now_given x gift runs begun pinned found (subst (In (Fetched j o s block)) given i)
 
+-- in every run a block that a job was given is what its provider held at a fetch since the job's begin
 pub came_of : (limit : ℕ) (start : State) → IsStart start → (ms : List Moment) → IsRun limit start ms → CameAll start ms
 came_of limit start clean [] run = λ k job j o s block h i. absurd (found_none start.jobs k job clean.jobs h)
 came_of limit start clean (m ∷ ms) run =

@@ -30,12 +30,14 @@ pub record Later (x j : Job) : Type 0 where
   pub more : List Given
   pub given : j.given ≡ more ++ x.given
 
+-- each job is itself, at a later moment
 pub later_same : (x : Job) → Later x x
 later_same x = record { number = refl; kind = refl; profile = refl; begun = refl; pinned = refl; flagged = refl; subject = λ l. refl; place = omega arith; more = []; given = refl }
 
 on_to : (x y j : Job) → j ≡ y → Later x y → Later x j
 on_to x y j is h = subst (Later x) (sym is) h
 
+-- a job that has made an action is the same job, later
 pub passed_later : (old : State) (x : Job) (action : Action) (new : State) (j : Job) → Passed old x action new j → Later x j
 passed_later old x action new j (Passed.silent quiet is rec) =
     on_to x (advanced x) j is (record { number = refl; kind = refl; profile = refl; begun = refl; pinned = refl; flagged = refl; subject = λ l. refl; place = omega arith; more = []; given = refl })
@@ -57,6 +59,7 @@ passed_later old x action new j (Passed.drew act is rec) =
 passed_later old x action new j (Passed.finished a act flight mine is rec) =
     on_to x (record (advanced x) { older = taken_out old x x.kind }) j is (record { number = refl; kind = refl; profile = refl; begun = refl; pinned = refl; flagged = refl; subject = λ l. refl; place = omega arith; more = []; given = refl })
 
+-- a job that has made an action stands at the next place
 pub passed_place : (old : State) (x : Job) (action : Action) (new : State) (j : Job) → Passed old x action new j → j.place ≡ x.place + 1
 passed_place old x action new j (Passed.silent quiet is rec) = ap (λ (y : Job). y.place) is
 passed_place old x action new j (Passed.gave gift is_gift is rec) = ap (λ (y : Job). y.place) is
@@ -88,6 +91,7 @@ eight_same ss ys zs p l = same_front append_actions (ss ++ (append_actions ++ ys
 
 -- ---- the list of a job that went on
 
+-- what a job is given leaves its list of actions
 pub same_given : (s : Setup) (x : Job) (gift : Given) (kind : Kind) → actions_by s (advanced_with x gift) kind ≡ actions_by s x kind
 same_given s x gift (PutJob name bytes) = refl
 same_given s x gift (GetJob name) = refl
@@ -156,6 +160,7 @@ older_same w x l p AuditJob kind h k = refl
 older_same w x l p RepairJob kind h k = refl
 older_same w x l p UpgradeJob kind h k = refl
 
+-- the actions of a job are those of its kind
 pub list_is : (s : Setup) (x : Job) → actions_of s x ≡ actions_by s x x.kind
 list_is s x = actions_are s x x.kind refl
 

@@ -23,9 +23,11 @@ use Rattle.machine_defs.proofs.NextActions.{next_stands}
 use Rattle.second_half_laws.specs.Behind.{HasMade}
 use Rattle.second_half_laws.proofs.Lists.{only, Stands, stands_left, stands_right, stands_map, stands_flat, in_upto, upto_in, Behind, behind_none, behind_append, behind_flat, stands_before}
 
+-- what stands at a place of a job's list stands there in the list of its kind
 pub by_kind : (s : Setup) (job : Job) (kind : Kind) (p : ℕ) (action : Action) → job.kind ≡ kind → slice_get (actions_of s job) p ≡ Some action → slice_get (actions_by s job kind) p ≡ Some action
 by_kind s job kind p action is h = ap (λ l. slice_get l p) (sym (actions_are s job kind is)) ∙ h
 
+-- what stands at a place of the list of a job's kind stands there in the job's list
 pub of_kind : (s : Setup) (job : Job) (kind : Kind) (p : ℕ) (action : Action) → job.kind ≡ kind → slice_get (actions_by s job kind) p ≡ Some action → slice_get (actions_of s job) p ≡ Some action
 of_kind s job kind p action is h = ap (λ l. slice_get l p) (actions_are s job kind is) ∙ h
 
@@ -107,21 +109,26 @@ piece_stores t job id st i o s p h = elim (split_get (open_actions t id st) (rew
 no_work_moves : Each NoWork append_actions
 no_work_moves = (tt, (tt, (tt, (tt, tt))))
 
+-- what holds of every removal holds of those of a job
 pub removals : (t : Setup) (job : Job) (P : Action → Type 0) → ((j o : ℕ) → P (Remove j o)) → Each P (remove_actions t job)
 removals t job P h = each_flat P (λ object. on_each_provider t (λ j. Remove j object)) job.older (λ o. each_map P (λ j. Remove j o) (upto t.n) (λ j. h j o))
 
+-- what holds of every store under its number holds of those of a put
 pub stores_all : (t : Setup) (job : Job) (bytes : List ℕ) (P : Action → Type 0) → ((j s : ℕ) → P (Store j job.subject s)) → Each P (store_actions t job bytes)
 stores_all t job bytes P h = each_flat P (λ stripe. on_each_provider t (λ j. Store j job.subject stripe)) (upto (put_stripes t job bytes))
     (λ stripe. each_map P (λ j. Store j job.subject stripe) (upto t.n) (λ j. h j stripe))
 
+-- what holds of every ask holds of those of an audit
 pub asks_all : (t : Setup) (job : Job) (P : Action → Type 0) → ((j o r : ℕ) → P (Ask j o r)) → Each P (ask_actions t job)
 asks_all t job P h = each_flat P (λ (f : Pinned). flat_map (λ round. on_each_provider t (λ j. Ask j f.id round)) (rounds_of (profiled t f.profile) (length f.bytes))) job.pinned
     (λ f. each_flat P (λ round. on_each_provider t (λ j. Ask j f.id round)) (rounds_of (profiled t f.profile) (length f.bytes))
     (λ round. each_map P (λ j. Ask j f.id round) (upto t.n) (λ j. h j f.id round)))
 
+-- what holds of every removal and of the end holds of the last actions of a put or a drop
 pub tail_all : (t : Setup) (job : Job) (P : Action → Type 0) → ((j o : ℕ) → P (Remove j o)) → P End → Each P (remove_actions t job ++ End ∷ [])
 tail_all t job P h e = each_append P (remove_actions t job) (End ∷ []) (removals t job P h) (e, tt)
 
+-- what holds of an append and of what follows holds of both together
 pub moves_all : (P : Action → Type 0) (more : List Action) → Each P append_actions → Each P more → Each P (append_actions ++ more)
 moves_all P more a b = each_append P append_actions more a b
 
@@ -152,11 +159,13 @@ work_behind t job UpgradeJob i o s l = behind_none (Fetch i o s) (Work o s) (app
 pub fetch_before_work : (t : Setup) (job : Job) (p i o s : ℕ) → slice_get (actions_of t job) p ≡ Some (Work o s) → i < t.n → (q : ℕ) × (q < p) × (slice_get (actions_of t job) q ≡ Some (Fetch i o s))
 fetch_before_work t job p i o s h l = (let r = work_behind t job job.kind i o s l p (by_kind t job job.kind p (Work o s) refl h) in (r.0, r.1, of_kind t job job.kind r.0 (Fetch i o s) refl r.2))
 
+-- a job that comes to the work on a stripe has fetched it from each provider
 pub fetched_before_work : (w : State) (job : Job) (o s i : ℕ) → next_action w job ≡ Some (Work o s) → i < (setup_in w).n → HasMade (setup_in w) job (Fetch i o s)
 fetched_before_work w job o s i h l = (let r = fetch_before_work (setup_in w) job job.place i o s (next_stands w job (Work o s) h (λ e. cc)) l in record { place = r.0; made = r.1; action = r.2 })
 
 -- ---- what stands before the end of a get
 
+-- what holds of every fetch and of all work holds of what a get reads
 pub reads_all : (t : Setup) (pinned : List Pinned) (P : Action → Type 0) → ((j o st : ℕ) → P (Fetch j o st)) → ((o st : ℕ) → P (Work o st)) → Each P (read_actions t pinned)
 reads_all t pinned P f g = each_flat P (λ (f : Pinned). on_each_stripe (profiled t f.profile) (length f.bytes) (open_actions t f.id)) pinned
     (λ h. each_flat P (open_actions t h.id) (upto (pinned_stripes t h)) (λ st. opens_nothing t P h.id st (λ j. f j h.id st) (g h.id st)))
@@ -173,6 +182,7 @@ fetch_stands t job name f s i in_f l k = stands_flat (λ (g : Pinned). on_each_s
 get_stands : (w : State) (job : Job) (name : List ℕ) (action : Action) → job.kind ≡ GetJob name → next_action w job ≡ Some action → slice_get (actions_of (setup_in w) job) job.place ≡ Some action
 get_stands w job name action kind h = sym (cond_false (is_idle_drop w job job.kind) (Some End) (slice_get (actions_of (setup_in w) job) job.place) (ap (is_idle_drop w job) kind)) ∙ h
 
+-- a get that comes to its end has fetched each stripe of its file from each provider
 pub fetched_before_end : (w : State) (job : Job) (name : List ℕ) (f : Pinned) (s i : ℕ) → job.kind ≡ GetJob name → next_action w job ≡ Some End → In f job.pinned → s < pinned_stripes (setup_in w) f → i < (setup_in w).n →
     HasMade (setup_in w) job (Fetch i f.id s)
 fetched_before_end w job name f s i kind h in_f l k =
@@ -187,6 +197,7 @@ abbrev IsPinnedStore : Setup → Job → Action → Type 0
 IsPinnedStore t job (Store j o s) = (f : Pinned) × In f job.pinned × (f.id ≡ o) × (s < pinned_stripes t f)
 IsPinnedStore t job action = Unit {0}
 
+-- what holds of fetches, work and stores on stripes of its files holds of those of a repair
 pub repairs_all : (t : Setup) (job : Job) (P : Action → Type 0) → ((f : Pinned) (st : ℕ) → In f job.pinned → st < pinned_stripes t f → ((j : ℕ) → P (Fetch j f.id st)) × P (Work f.id st) × ((j : ℕ) → P (Store j f.id st))) → Each P (repair_actions t job)
 repairs_all t job P h = each_flat_in P (λ (f : Pinned). on_each_stripe (profiled t f.profile) (length f.bytes) (λ stripe. open_actions t f.id stripe ++ rewrite_actions t job f.id stripe)) job.pinned
     (λ f in_f. each_flat_in P (λ stripe. open_actions t f.id stripe ++ rewrite_actions t job f.id stripe) (upto (pinned_stripes t f))
@@ -208,6 +219,7 @@ stores_behind t job i o s = behind_append (Work o s) (Store i o s) (repair_actio
 work_before_store : (t : Setup) (job : Job) (p i o s : ℕ) → job.kind ≡ RepairJob → slice_get (actions_of t job) p ≡ Some (Store i o s) → (q : ℕ) × (q < p) × (slice_get (actions_of t job) q ≡ Some (Work o s))
 work_before_store t job p i o s kind h = (let r = stores_behind t job i o s p (by_kind t job RepairJob p (Store i o s) kind h) in (r.0, r.1, of_kind t job RepairJob r.0 (Work o s) kind r.2))
 
+-- a repair that comes to a store has worked on its stripe, which is one of its files'
 pub worked_before_store : (w : State) (job : Job) (i o s : ℕ) → job.kind ≡ RepairJob → next_action w job ≡ Some (Store i o s) →
     HasMade (setup_in w) job (Work o s) × ((f : Pinned) × In f job.pinned × (f.id ≡ o) × (s < pinned_stripes (setup_in w) f))
 worked_before_store w job i o s kind h =
@@ -218,6 +230,7 @@ worked_before_store w job i o s kind h =
 repair_calls : (t : Setup) (job : Job) → Each IsCall (repair_actions t job)
 repair_calls t job = repairs_all t job IsCall (λ f st in_f l. (λ j. tt, tt, λ j. tt))
 
+-- each store of its files on a flagged provider is among those of a repair
 pub store_in_repair : (t : Setup) (job : Job) (f : Pinned) (i s : ℕ) → In f job.pinned → job.flagged i ≡ true → i < t.n → s < pinned_stripes t f → Stands (Store i f.id s) (repair_actions t job)
 store_in_repair t job f i s in_f flag k l = stands_flat (λ (g : Pinned). on_each_stripe (profiled t g.profile) (length g.bytes) (λ stripe. open_actions t g.id stripe ++ rewrite_actions t job g.id stripe)) job.pinned f (Store i f.id s) in_f
     (stands_flat (λ stripe. open_actions t f.id stripe ++ rewrite_actions t job f.id stripe) (upto (pinned_stripes t f)) s (Store i f.id s) (in_upto (pinned_stripes t f) s l)
@@ -225,6 +238,7 @@ store_in_repair t job f i s in_f flag k l = stands_flat (λ (g : Pinned). on_eac
     (stands_flat (λ j. cond (job.flagged j) (Store j f.id s ∷ []) []) (upto t.n) i (Store i f.id s) (in_upto t.n i k)
     (0, ap (λ l. slice_get l 0) (cond_true (job.flagged i) (Store i f.id s ∷ []) [] flag)))))
 
+-- each store of its files on a flagged provider stands in a repair's list of actions
 pub store_stands : (t : Setup) (job : Job) (f : Pinned) (i s : ℕ) → job.kind ≡ RepairJob → In f job.pinned → job.flagged i ≡ true → i < t.n → s < pinned_stripes t f →
     (p : ℕ) × (slice_get (actions_of t job) p ≡ Some (Store i f.id s))
 store_stands t job f i s kind in_f flag k l = (let r = stands_left (repair_actions t job) (append_actions ++ End ∷ []) (Store i f.id s) (store_in_repair t job f i s in_f flag k l) in (r.0, of_kind t job RepairJob r.0 (Store i f.id s) kind r.1))
@@ -242,6 +256,7 @@ store_within t job p i o s kind h = elim (split_get (repair_actions t job) (appe
   | inr x ↦ absurd (each_get NoStore (append_actions ++ End ∷ []) (p - length (repair_actions t job)) (Store i o s) (tt, (tt, (tt, (tt, (tt, tt))))) x.1)
 ]
 
+-- a repair that comes to the third move of its append has made each of its stores
 pub gate_behind : (w : State) (job : Job) (p i o s : ℕ) → job.kind ≡ RepairJob → next_action w job ≡ Some WriteGate → slice_get (actions_of (setup_in w) job) p ≡ Some (Store i o s) → p < job.place
 gate_behind w job p i o s kind h at =
     (let late = move_behind (setup_in w) job job.place WriteGate kind (next_stands w job WriteGate h (λ e. cc)) (λ z. z) in
@@ -249,6 +264,7 @@ gate_behind w job p i o s kind h at =
 
 -- ---- the stores of a put
 
+-- each store of a put stands in its list, before its second append
 pub put_store_at : (t : Setup) (job : Job) (name bytes : List ℕ) (i s : ℕ) → job.kind ≡ PutJob name bytes → i < t.n → s < put_stripes t job bytes →
     (p : ℕ) × (p < 4 + length (store_actions t job bytes)) × (slice_get (actions_of t job) p ≡ Some (Store i job.subject s))
 put_store_at t job name bytes i s kind k l =
@@ -262,6 +278,7 @@ put_store_at t job name bytes i s kind k l =
           (get_left (store_actions t job bytes) (append_actions ++ (remove_actions t job ++ End ∷ [])) at.0 (Store i job.subject s) at.1)),
     ))
 
+-- a put that is past its stores has made each of them
 pub put_stores : (t : Setup) (job : Job) (name bytes : List ℕ) (i s : ℕ) → job.kind ≡ PutJob name bytes → 4 + length (store_actions t job bytes) ≤ job.place → i < t.n → s < put_stripes t job bytes → HasMadeStore t job i job.subject s
 put_stores t job name bytes i s kind late k l = (let at = put_store_at t job name bytes i s kind k l in let e = at.1 in record { place = at.0; made = omega (arith, e, late); action = at.2 })
 
@@ -279,15 +296,18 @@ put_late_at w job name bytes p action h late none = elim (put_at w job name byte
   | PutAt.after l is ↦ omega (arith, l)
 ]
 
+-- past its first append a put that comes to neither a store nor its end is past its stores
 pub put_late : (w : State) (job : Job) (name bytes : List ℕ) (action : Action) → job.kind ≡ PutJob name bytes → next_action w job ≡ Some action → 4 ≤ job.place → (IsStore action → ⊥) → (action ≡ End → ⊥) → 4 + stores_count w job bytes ≤ job.place
 put_late w job name bytes action kind h late none other = put_late_at w job name bytes job.place action (by_kind (setup_in w) job (PutJob name bytes) job.place action kind (next_stands w job action h other)) late none
 
+-- a put that comes to the third move of its second append has made each store
 pub stored_before_gate : (w : State) (job : Job) (name bytes : List ℕ) (i s : ℕ) → job.kind ≡ PutJob name bytes → next_action w job ≡ Some WriteGate → 4 ≤ job.place → i < (setup_in w).n → s < put_stripes (setup_in w) job bytes →
     HasMadeStore (setup_in w) job i job.subject s
 stored_before_gate w job name bytes i s kind h late k l = put_stores (setup_in w) job name bytes i s kind (put_late w job name bytes WriteGate kind h late (λ z. z) (λ e. cc)) k l
 
 -- ---- the asks of an audit
 
+-- each ask of an audit stands in its list, before its second append
 pub ask_at : (t : Setup) (job : Job) (f : Pinned) (i r : ℕ) → job.kind ≡ AuditJob → In f job.pinned → i < t.n → In r (rounds_of (profiled t f.profile) (length f.bytes)) →
     (p : ℕ) × (p < 4 + length (ask_actions t job)) × (slice_get (actions_of t job) p ≡ Some (Ask i f.id r))
 ask_at t job f i r kind in_f k in_r =

@@ -74,6 +74,7 @@ rows_right mark start ms F x o s symbols runs kind given = (F.rows x.number x o 
 
 module _ (limit : ℕ) (mark : Mark) (start : State) (m : Moment) (ms : List Moment) (clean : IsStart start) (run : IsRun limit start ms) (A : All start ms) (U : num.Facts audits start ms) (I : eff.Facts (now start ms))
     (E : Always start ms) (X : Changes limit (length ms) (now start ms) m.event m.outcome m.state) (T : Turns (now start ms) m.state) where
+  -- a block that is wrong after an event was so before, where setup and bytes are the same
   pub wrong_old : (p o i s : ℕ) (b : Option (List ℕ)) → setup_in m.state ≡ setup_in (now start ms) → m.state.bytes o ≡ (now start ms).bytes o → is_wrong_block (object_in m.state p o) (m.state.bytes o) i s b ≡ true →
       is_wrong_block (object_in (now start ms) p o) ((now start ms).bytes o) i s b ≡ true
   wrong_old p o i s b setup bytes h =
@@ -173,6 +174,7 @@ module _ (limit : ℕ) (mark : Mark) (start : State) (m : Moment) (ms : List Mom
         | inr (d, at, e) ↦ inl (since_earlier from (begun_of d.maker) i (m ∷ ms) (P.doubts d e.version f.id f.size f.profile at e.entry_is) (put_bad d f.id f.size f.profile i s at e setup l k bad))
       ])
 
+  -- an event keeps a mark: damage of files in effect is still new since then
   pub mark_on : RowsRight (now start ms) → ScrubsRight (now start ms) → (from : ℕ) → IsMark start ms from → IsMark start (m ∷ ms) from
   mark_on W R from P = record {
     before = ev.before_on limit start m ms A U I E X T from P.before;

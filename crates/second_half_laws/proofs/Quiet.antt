@@ -133,6 +133,7 @@ module _ (old : State) where
   continues Continued new is = ap (λ (w : State). w.providers) is
   continues r new h = absurd h
 
+  -- while no job can go on, an event leaves each block, or replaces one of its provider
   pub quiet_blocks : (limit moment : ℕ) (e : Event) (r : Outcome) (new : State) → IsAtRest old → Happens limit moment old e r new → Quiet e r new
   quiet_blocks limit moment (Init s) r new rest h = same (Init s) r new (inits s old.is_open r new h)
   quiet_blocks limit moment (Begin kind) r new rest h = begins (Begin kind) limit moment kind None r new h

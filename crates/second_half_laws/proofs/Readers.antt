@@ -122,12 +122,14 @@ module _ (limit : ℕ) (mark : Mark) (start : State) (m : Moment) (ms : List Mom
   first_new : (j : Job) → j.begun ≡ length ms → first_moments j.begun (m ∷ ms) ≡ ms
   first_new j begun = ap (λ n. first_moments n (m ∷ ms)) begun ∙ (first_more (length ms) m ms (omega arith) ∙ first_all ms)
 
+  -- after an event the mark at the begin of a running job is still not after now
   pub marked_step : (k : ℕ) (j : Job) → job_of m.state.jobs k ≡ Some j → mark_of mark (m ∷ ms) j ≤ suc (length ms)
   marked_step k j h = elim (pins_is limit start m ms A.numbers A.pins X k j h) [
     | Pins_is.had x runs pinned kind begun g ↦ (let e = ap mark (first_had j x begun (A.held.begun k x runs)) in let l = F.marked k x runs in omega arith)
     | Pins_is.new_one kd wish is k_is allowed rec ↦ (let e = ap mark (first_new j (ap (λ (x : Job). x.begun) is)) in let l = F.moment.before.early in omega arith)
   ]
 
+  -- after an event each provider with a bad block for a running job was replaced since the job's mark
   pub reads_step : (k : ℕ) (j : Job) (f : Pinned) (i s : ℕ) → job_of m.state.jobs k ≡ Some j → In f j.pinned → i < (setup_in m.state).n →
       s < stripes_of (profiled (setup_in m.state) f.profile) (length (m.state.bytes f.id)) → IsBad m.state f.profile f.id i s → IsReplaced (mark_of mark (m ∷ ms) j) i (m ∷ ms)
   reads_step k j f i s h in_f l b bad = elim (pins_is limit start m ms A.numbers A.pins X k j h) [
@@ -159,6 +161,7 @@ module _ (limit : ℕ) (mark : Mark) (start : State) (m : Moment) (ms : List Mom
       setup : setup_in m.state ≡ setup_in (now start ms)
       setup = setup_stays limit start m ms A.numbers A.pins X k j h
 
+  -- after an event no provider's count is below that at the begin of a running job
   pub counts_step : (k : ℕ) (j : Job) (i : ℕ) → job_of m.state.jobs k ≡ Some j → ((begin_of start (m ∷ ms) j).providers i).other_faults ≤ (m.state.providers i).other_faults
   counts_step k j i h = elim (pins_is limit start m ms A.numbers A.pins X k j h) [
     | Pins_is.had x runs pinned kind begun g ↦
@@ -202,6 +205,7 @@ module _ (limit : ℕ) (mark : Mark) (start : State) (m : Moment) (ms : List Mom
         sized_wrong (pinned_object (now start ms) f) ((now start ms).bytes f.id) i s (held f.id s) (subst (λ y. is_wrong_block (pinned_object (now start ms) f) ((now start ms).bytes f.id) i s y ≡ true) gives wrong),
       )))
 
+  -- a wrong block that a running job was given is of a provider replaced since its mark, or one failed
   pub gave_step : (k : ℕ) (j : Job) (f : Pinned) (i s : ℕ) (block : Option (List ℕ)) → job_of m.state.jobs k ≡ Some j → In f j.pinned → i < (setup_in m.state).n →
       s < stripes_of (profiled (setup_in m.state) f.profile) (length (m.state.bytes f.id)) → In (Fetched i f.id s block) j.given →
       is_wrong_block (pinned_object m.state f) (m.state.bytes f.id) i s block ≡ true → Excused (m ∷ ms) j i block
@@ -276,6 +280,7 @@ module _ (limit : ℕ) (mark : Mark) (start : State) (m : Moment) (ms : List Mom
                 ∙ ap (λ (ob : Object). symbols_in ob ((now start ms).bytes f.id) s) (sym object),
           ))
 
+  -- after an event the symbols that gets and repairs worked out are the files' own
   pub rows_step : (k : ℕ) (j : Job) (o s : ℕ) (symbols : List ℕ) → job_of m.state.jobs k ≡ Some j → relies j.kind ≡ true → In (Worked o s symbols) j.given →
       (o < next_id m.state.records) × (symbols ≡ symbols_in (worked_object m.state j o) (m.state.bytes o) s)
   rows_step k j o s symbols h kind given = elim (X.job k j h) [
@@ -336,6 +341,7 @@ module _ (limit : ℕ) (mark : Mark) (start : State) (m : Moment) (ms : List Mom
   objects_are x y o runs runs_y p q =
       ev.worked_is start ms E y o runs_y q ∙ (ap (λ n. object_in (now start ms) n o) (E.one_pin y.number x.number y x q.file p.file runs_y runs q.pinned p.pinned (q.id_is ∙ sym p.id_is)) ∙ sym (ev.worked_is start ms E x o runs p))
 
+  -- what a repair stored before an event is still the file's own after it, but for replacements
   pub carry : (k : ℕ) (x : Job) (i o s : ℕ) (b : Option (List ℕ)) → job_of (now start ms).jobs k ≡ Some x → x.kind ≡ RepairJob → HasMadeStore (setup_in (now start ms)) x i o s → is_replaced_since x.begun i (m ∷ ms) ≡ false →
       told_block m.state i o s ≡ Some b → b ≡ Some (columns (worked_object (now start ms) x o) ((now start ms).bytes o) i s)
   carry k x i o s b runs kind made none told = elim (X.block i o s) [
@@ -356,6 +362,7 @@ module _ (limit : ℕ) (mark : Mark) (start : State) (m : Moment) (ms : List Mom
         A.pins.older_free y.number k y x o p.file runs_y (remove_kinds y y.kind i o refl (is_fair (now start ms) y (Remove i o) next_y)) runs p.pinned p.id_is)
   ]
 
+  -- after an event what a running repair stored is the file's own, but for replacements
   pub rewrote_step : (k : ℕ) (j : Job) (i o s : ℕ) (b : Option (List ℕ)) → job_of m.state.jobs k ≡ Some j → j.kind ≡ RepairJob → HasMadeStore (setup_in m.state) j i o s → is_replaced_since j.begun i (m ∷ ms) ≡ false →
       told_block m.state i o s ≡ Some b → b ≡ Some (columns (worked_object m.state j o) (m.state.bytes o) i s)
   rewrote_step k j i o s b h kind made none told = elim (X.job k j h) [

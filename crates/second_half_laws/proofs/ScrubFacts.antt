@@ -116,6 +116,7 @@ module _ (mark : Mark) (start : State) (ms : List Moment) (A : All start ms) (sc
       let same = stands_once (now start ms) A.pins.sound head.0 (pinned_file (now start ms) f) (K.stands head.0 head.1) (record { name = q; file = f; in_effect = in_effect; is = refl }) head.2 in
       right (pinned_file (now start ms) f) rest i s (subst (λ (x : Pinned). In x scrub.files) same head.1) next_is)
 
+-- where what holds of the running scrub does, its next store is of the provider's own column
 pub scrubs_right : (mark : Mark) (start : State) (ms : List Moment) → All start ms → ((scrub : Scrub) → (now start ms).alone ≡ Some (Scrubbing scrub) → Scrubbed mark start ms scrub) → ScrubsRight (now start ms)
 scrubs_right mark start ms A K scrub rest i s q f at next_is in_effect = right_in_effect mark start ms A scrub (K scrub at) rest i s q f next_is in_effect
 
@@ -142,6 +143,7 @@ module _ (limit : ℕ) (mark : Mark) (start : State) (m : Moment) (ms : List Mom
     is = st.is ∙ ap (λ l. record { id = st.file.id; profile = st.file.profile; bytes = l }) (sym (bytes_are st.file.id));
   }
 
+  -- beside a scrub a block that is wrong after an event was so before
   pub wrong_old : (f : Pinned) (i s : ℕ) (block : Option (List ℕ)) → is_wrong_block (pinned_object m.state f) (m.state.bytes f.id) i s block ≡ true → is_wrong_block (pinned_object (now start ms) f) ((now start ms).bytes f.id) i s block ≡ true
   wrong_old f i s block h =
       subst (λ t. is_wrong_block (object_of (profiled t f.profile) f.id) ((now start ms).bytes f.id) i s block ≡ true) setup

@@ -311,6 +311,7 @@ module _ (moment : ℕ) (e : Event) (old : State) (lone : IsLone old) (opened : 
   by_event limit Names r new is h = lists old.is_open r new h
   by_event limit Continue r new is h = continues r new h
 
+-- a scrub that runs after an event has just begun, or ran before and stayed or made its next action
 pub scrub_is : (moment : ℕ) (old : State) → IsLone old → ((scrub : Scrub) → old.alone ≡ Some (Scrubbing scrub) → old.is_open ≡ true) → (limit : ℕ) (e : Event) (r : Outcome) (new : State) → Happens limit moment old e r new →
     (next : Scrub) → new.alone ≡ Some (Scrubbing next) → Scrub_is moment e old new next
 scrub_is moment old lone opened limit e r new h = by_event moment e old lone opened limit e r new refl h

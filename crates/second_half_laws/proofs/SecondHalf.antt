@@ -63,6 +63,7 @@ use Rattle.run_laws.proofs.FirstHalf.{got_right}
 
 -- ---- the facts, at each moment
 
+-- the start of a run is a mark
 pub start_moment : (start : State) → IsStart start → IsMark start [] 0
 start_moment start clean = record {
   before = record {
@@ -181,6 +182,7 @@ both_step limit start m ms clean tell run calm calm_scrubs missed B =
       scrubs = scrub_on limit (since start) start m ms clean tell run calm_scrubs B.facts.moment B.scrubs;
     })
 
+-- in a calm run in which no audit missed damage, what hangs on the mark and on audits holds
 pub both : (limit : ℕ) (start : State) → IsStart start → AllTell start → (ms : List Moment) → IsRun limit start ms → IsCalm relies (since start) ms → AreScrubsCalm (since start) ms → NoneMissed start ms → Both start ms
 both limit start clean tell [] run calm scrubs missed = record {
   facts = start_facts (since start) start clean (start_moment start clean);
@@ -314,6 +316,7 @@ module _ (limit : ℕ) (mark : Mark) (start : State) (m : Moment) (ms : List Mom
       (let H = have_files limit start clean ms run.2 job.number job name runs kind in
       gives job name runs kind H.file H.in_effect H.pinned (setup_same (now start ms) (begin_of start ms job) H.setup) how event outcome)
 
+  -- a get that a step ends gave the bytes in effect at its begin, or is lost and a provider's count rose
   pub get_sharply : (job : Job) (name : List ℕ) (how : Answer) → job_of (now start ms).jobs job.number ≡ Some job → job.kind ≡ GetJob name → m.event ≡ Step job.number → m.outcome ≡ Ended how → GivesOrIsLost (begin_of start ms job) m.state name how
   get_sharply job name how runs kind event outcome =
       (let H = have_files limit start clean ms run.2 job.number job name runs kind in
@@ -348,5 +351,6 @@ half_by_mark limit mark start clean tell (m ∷ ms) run calm marks = (
   half_by_mark limit mark start clean tell ms run.2 calm.1 marks.1,
 )
 
+-- the second half holds of every calm run in which no audit missed damage
 pub second_half : SecondHalfHolds
 second_half limit start ms clean tell run calm scrubs missed = half_by_mark limit (since start) start clean tell ms run calm (are_marks limit start clean tell ms run calm scrubs missed)

@@ -409,6 +409,7 @@ module _ (old : State) where
   continues Continued new is = gives_up new (ap (λ (w : State). w.doubt) is) (ap (λ (w : State). w.records) is) (ap (λ (w : State). w.append) is) (ap (λ (w : State). w.audits) is) (ap (λ (w : State). w.is_open) is)
   continues r new h = absurd h
 
+  -- what each event does to the record in doubt, to the begins of audits, and to jobs that run on
   pub turns : (limit moment : ℕ) (e : Event) (r : Outcome) (new : State) → Happens limit moment old e r new → Turns old new
   turns limit moment (Init s) r new h = inits s old.is_open r new refl h
   turns limit moment (Begin kind) r new h = begins limit moment kind None r new h

@@ -352,6 +352,7 @@ module _ (moment : ℕ) (old : State) where
   lose_not : (j object stripe : ℕ) (r : Outcome) (k : ℕ) → Lose j object stripe ≡ Step k → r ≡ More → ⊥
   lose_not j object stripe r k e m = cc
 
+  -- a job that runs after an event has just begun, stayed, or made an action; a doubt is old or just written
   pub walked : (limit : ℕ) (e : Event) (r : Outcome) (new : State) → IsLone old → Happens limit moment old e r new → Walked moment old e r new
   walked limit (Init s) r new lone h = inits s old.is_open r new h
   walked limit (Begin kind) r new lone h = begins (Begin kind) (begin_not kind) limit kind None r new h

@@ -189,6 +189,7 @@ on_top olds e r news is h =
 none_came : (olds news : List Record) (r : Record) → (length news ≡ suc (length olds) → ⊥) → came_by olds news ≡ Some r → ⊥
 none_came olds news r apart h = (let f : None ≡ Some r = sym (cond_false (length news == suc (length olds)) (newest news) None (ne_eqb (length news) (suc (length olds)) apart)) ∙ h in cc)
 
+-- a record that came into effect was in doubt, or is a setup, or a job made its fourth move
 pub came_is : (old new : State) (r : Record) → Records_is old new → came old new ≡ Some r → Came_is old r
 came_is old new r (Records_is.same rec) h = absurd (none_came old.records new.records r (λ e. (let f = ap length rec in omega (arith, e, f))) h)
 came_is old new r (Records_is.finished x a runs next_is flight mine moves rec) h = Came_is.by_step x a runs flight mine (on_top old.records a.entry r new.records rec h)
@@ -216,17 +217,20 @@ module _ (limit : ℕ) (start : State) (clean : IsStart start) (ms : List Moment
     bytes_are = (eff.facts limit start ms clean run).kept k job name bytes runs kind late;
   }
 
+  -- a running put that is past its stores has stored each stripe on each provider
   pub put_running : (k : ℕ) (job : Job) (name bytes : List ℕ) → job_of (now start ms).jobs k ≡ Some job → job.kind ≡ PutJob name bytes → 4 + length (store_actions (setup_in (now start ms)) job bytes) ≤ job.place →
       PutIsWhole start ms job job.subject (length bytes) job.profile
   put_running k job name bytes runs kind late = put_whole start ms job name bytes kind late (made_less start ms job job.place (4 + length (store_actions (setup_in (now start ms)) job bytes)) late (made_running k job runs))
       (own_stands k job name bytes runs kind (omega (arith, late)))
 
+  -- a running repair that is past its stores has rewritten each file on each flagged provider
   pub repair_running : (k : ℕ) (job : Job) → job_of (now start ms).jobs k ≡ Some job → job.kind ≡ RepairJob → length (repair_actions (setup_in (now start ms)) job) ≤ job.place → RepairIsWhole start ms job job.subject
   repair_running k job runs kind late = repair_whole limit start clean ms run job kind late (made_less start ms job job.place (length (repair_actions (setup_in (now start ms)) job)) late (made_running k job runs))
 
   final_of : (a : Append) (x : Job) (k : ℕ) (r : Record) → (now start ms).append ≡ Some a → job_of (now start ms).jobs k ≡ Some x → a.job ≡ k → a.entry ≡ r → Final (setup_in (now start ms)) x r x.kind
   final_of a x k r flight runs mine is = subst (λ e. Final (setup_in (now start ms)) x e x.kind) is (now_facts.flights a x flight (subst (λ n. job_of (now start ms).jobs n ≡ Some x) (sym mine) runs))
 
+  -- an audit whose last record is in flight has made each ask, and has these sums
   pub audit_running : (a : Append) (x : Job) (k id undecided : ℕ) (counts : List ℕ) → (now start ms).append ≡ Some a → job_of (now start ms).jobs k ≡ Some x → a.job ≡ k → a.entry ≡ AuditDone id undecided counts →
       AuditIsWhole start ms x id undecided counts
   audit_running a x k id undecided counts flight runs mine is =
@@ -247,6 +251,7 @@ module _ (limit : ℕ) (start : State) (clean : IsStart start) (ms : List Moment
     ))
   ]
 
+  -- the job of a repair's record in doubt has rewritten each file on each flagged provider
   pub doubt_repair : (d : Doubt) (id : ℕ) → (now start ms).doubt ≡ Some d → d.entry ≡ RepairDone id → (job : Job) × (d.maker ≡ Some job) × RepairIsWhole start ms job id
   doubt_repair d id h is = elim (now_facts.doubt d h) [
     | Standing.bare s entry maker none_ ↦ absurd (let e : SetUp s ≡ RepairDone id = sym entry ∙ is in cc)
@@ -258,6 +263,7 @@ module _ (limit : ℕ) (start : State) (clean : IsStart start) (ms : List Moment
     ))
   ]
 
+  -- the job of an audit's last record in doubt has made each ask, and has these sums
   pub doubt_audit : (d : Doubt) (id undecided : ℕ) (counts : List ℕ) → (now start ms).doubt ≡ Some d → d.entry ≡ AuditDone id undecided counts → (job : Job) × (d.maker ≡ Some job) × AuditIsWhole start ms job id undecided counts
   doubt_audit d id undecided counts h is = elim (now_facts.doubt d h) [
     | Standing.bare s entry maker none_ ↦ absurd (let e : SetUp s ≡ AuditDone id undecided counts = sym entry ∙ is in cc)
@@ -273,6 +279,7 @@ module _ (limit : ℕ) (start : State) (clean : IsStart start) (m : Moment) (ms 
   came_now : (r : Record) → came (now start ms) m.state ≡ Some r → Came_is (now start ms) r
   came_now r h = (let A = all limit start clean ms run.2 in came_is (now start ms) m.state r (changes limit (length ms) (now start ms) m.event m.outcome m.state A.numbers.idle run.1).records h)
 
+  -- where a put's last record comes into effect its job has stored each stripe on each provider
   pub came_put : (version id size profile : ℕ) → came (now start ms) m.state ≡ Some (done_record version id size profile) → ((version == 2) ≡ false → profile ≡ (setup_in (now start ms)).profile) →
       (job : Job) × PutIsWhole start ms job id size profile
   came_put version id size profile h own = elim (came_now (done_record version id size profile) h) [
@@ -291,6 +298,7 @@ module _ (limit : ℕ) (start : State) (clean : IsStart start) (m : Moment) (ms 
       (stands_later limit start clean id put.bytes later (m ∷ ms) whole_run
       (stands_on limit start clean id put.bytes m ms run (record { below = put.drawn; bytes_are = put.bytes_are }))).bytes_are
 
+  -- where a repair's record comes into effect its job has rewritten each file on each flagged provider
   pub came_repair : (id : ℕ) → came (now start ms) m.state ≡ Some (RepairDone id) → (job : Job) × RepairIsWhole start ms job id
   came_repair id h = elim (came_now (RepairDone id) h) [
     | Came_is.by_step x a runs flight mine is ↦ (let f = final_of limit start clean ms run.2 a x x.number (RepairDone id) flight runs mine is in (
@@ -301,6 +309,7 @@ module _ (limit : ℕ) (start : State) (clean : IsStart start) (m : Moment) (ms 
     | Came_is.set_up s is ↦ absurd (let e : RepairDone id ≡ SetUp s = is in cc)
   ]
 
+  -- where an audit's last record comes into effect its job has made each ask, and has these sums
   pub came_audit : (id undecided : ℕ) (counts : List ℕ) → came (now start ms) m.state ≡ Some (AuditDone id undecided counts) → (job : Job) × AuditIsWhole start ms job id undecided counts
   came_audit id undecided counts h = elim (came_now (AuditDone id undecided counts) h) [
     | Came_is.by_step x a runs flight mine is ↦ (x, audit_running limit start clean ms run.2 a x x.number id undecided counts flight runs mine is)
