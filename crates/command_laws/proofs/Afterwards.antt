@@ -35,6 +35,7 @@ reads-resynced : (old new : Cells) → IsResynced old new → reads new ≡ read
 reads-resynced old new (inl same) = ap reads same
 reads-resynced old new (inr after) = ap reads after ∙ reads-firm (reads old)
 
+-- a disk that was at most synced still tells, and reads the same records
 pub read-kept : (a b : Option Cells) (records : List Record) → Goes IsResynced a b → is_some a ≡ true → IsRead a records → (is_some b ≡ true) × IsRead b records
 read-kept None b records g tells R = absurd (false≢true tells)
 read-kept (Some a) None records g tells R = absurd g
@@ -49,6 +50,7 @@ read-kept (Some a) (Some b) records g tells R = (
   },
 )
 
+-- a store that is known is so after a refusal
 pub known-refused : (status at : ℕ) (records : List Record) (old new : Seen) (end : Ending) → IsRefused status at old new end → IsKnown old records → IsKnown new records
 known-refused status at records old new end r K = (let kept = read-kept old.disk new.disk records r.disk K.tells K.opened.read in record {
   tells = kept.0;
@@ -60,6 +62,7 @@ images-kept None b records kept tells stand = absurd (false≢true tells)
 images-kept (Some a) None records kept tells stand = tt
 images-kept (Some a) (Some b) records kept tells stand = λ image is. stand image (kept image is)
 
+-- a store that is sure is so after a refusal
 pub sure-refused : (status at : ℕ) (records : List Record) (old new : Seen) (end : Ending) → IsRefused status at old new end → IsSure old records → IsSure new records
 sure-refused status at records old new end r S = record {
   known = known-refused status at records old new end r S.known;
@@ -143,6 +146,7 @@ row-told n l b seen old new end (A, T) refuses = record {
     no-shape : IsShape n l b → ⊥
     no-shape shape = no-tale _ old new end (A.lost shape (λ p accepted. no-text _ old new end (A.held shape p accepted) refuses)) refuses
 
+-- a command that ends with a status of a refusal touched nothing: it was refused
 pub refusal-told : (command : Command) (old new : Seen) (end : Ending) → Answers command old new end → is_refusal end.status ≡ true → IsRefused end.status end.at old new end
 refusal-told (RowOf n l b seen) old new end A refuses = row-told n l b seen old new end A refuses
 refusal-told (InitWith numbers) old new end A refuses = init-told numbers old new end A refuses
@@ -161,6 +165,7 @@ known-sure s records cells told S is stands handed = (let R = S.known.opened.rea
     (record { some = R.some; accepted = R.accepted; room = R.room; setup = refl; stands = stands })
     (let e = S.known.opened.enough in omega (arith, e, handed)))
 
+-- a store that is sure is so where the next command finds it
 pub sure-next : (records : List Record) (new next : Seen) → IsSure new records → Follows new next → IsSure next records
 sure-next records new next S N = elim N.disk [
   | inl same ↦ (let c = is_some-at new.disk S.known.tells in record {
@@ -181,6 +186,7 @@ sure-next records new next S N = elim N.disk [
 
 -- ---- commands that leave the store alone
 
+-- a store that is sure is so where disk and providers are the same
 pub sure-same : (records : List Record) (old new : Seen) → new.disk ≡ old.disk → new.providers ≡ old.providers → IsSure old records → IsSure new records
 sure-same records old new same providers S = record {
   known = record {

@@ -159,11 +159,13 @@ module _ (x : Ran) (shape : IsShape (setup_at_begin x).n (setup_at_begin x).l (s
       ∙ (ap (λ (z : Object). Some (column_of_symbols z (W.symbols place) j stripe)) own ∙ ap (λ s. Some (column_of_symbols o s j stripe)) right-symbols)
   goes false j (Some before) (Some held) flagged h = absurd (false≢true flagged)
 
+  -- each flagged provider holds its own column of each stripe, where at most b providers are bad
   pub holds-right : (j : ℕ) → j < (setup_at_begin x).n → flags x due j ≡ true → IfSome (x.new j).held (λ held. held file.id stripe ≡ Some (columns o bytes j stripe))
   holds-right j below flagged = goes (flags x due j) j (x.old j).held (x.new j).held flagged (W.held j below)
 
 -- ---- the repair of a command
 
+-- a done repair wrote each file anew on each flagged provider, where at most b providers were bad
 pub repair-right : (name bytes : List ℕ) (records : List Record) (file : File) (due : Due) (j : ℕ) (old new : Seen) (end : Ending) → AnswersAlone RepairJob old new end → IsKnown old records → IsDone end →
     due_of records ≡ Some due → file_of records name ≡ Some file → length bytes ≡ file.size → bad_seen records old new file bytes ≤ (setup_in_effect records).b → j < (setup_in_effect records).n →
     is_flagged (setup_in_effect records).tolerance due.counts j ≡ true → HoldsFile records new bytes file j

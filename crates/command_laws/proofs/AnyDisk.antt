@@ -31,6 +31,7 @@ get-comes name records old new end (answer.Got bytes) left L sink by = inl (zero
 get-comes name records old new end (answer.Lost stripe row) left L sink by = inr by.status_is
 get-comes name records old new end how left L sink by = absurd L.gives
 
+-- a get with no fault of disk or sink ends in order, or found a row lost
 pub get-order : (name : List ℕ) (old new : Seen) (end : Ending) → AnswersAlone (GetJob name) old new end → (Rose old.disk_faults new.disk_faults → ⊥) → (Rose old.sink_faults new.sink_faults → ⊥) →
     EndsInOrder (GetOf name) old new end ⊎ LosesFile name old new end
 get-order name old new end (AnswersAlone.unstarted u) disk sink = inl (EndsInOrder.unstarted u)
@@ -41,6 +42,7 @@ get-order name old new end (AnswersAlone.begun records opened (AnswersJob.ended 
   | inr four ↦ inr (get-loses name old new end (AnswersAlone.begun records opened (AnswersJob.ended how none runs left by)) four)
 ]
 
+-- a list with no fault of the sink ends in order
 pub list-order : (old new : Seen) (end : Ending) → AnswersList old new end → (Rose old.sink_faults new.sink_faults → ⊥) → EndsInOrder ListAll old new end
 list-order old new end (AnswersList.unstarted u) sink = EndsInOrder.unstarted u
 list-order old new end (AnswersList.no_memory r) sink = EndsInOrder.no_memory r.status_is
@@ -57,6 +59,7 @@ module _ (records : List Record) (old new : Seen) (end : Ending) (disk : Rose ol
   repair-comes answer.Memory left L by = inl (inr by.status_is)
   repair-comes how left L by = absurd L
 
+-- a repair with no fault of disk, sink or a store ends in order, or found a row lost
 pub repair-order : (old new : Seen) (end : Ending) → AnswersAlone RepairJob old new end → (Rose old.disk_faults new.disk_faults → ⊥) →
     ((j : ℕ) → Rose (provider_at old.providers j).store_faults (provider_at new.providers j).store_faults → ⊥) → (Rose old.sink_faults new.sink_faults → ⊥) → EndsInOrder RepairDue old new end ⊎ LosesRepair old new end
 repair-order old new end (AnswersAlone.unstarted u) disk stores sink = inl (EndsInOrder.unstarted u)

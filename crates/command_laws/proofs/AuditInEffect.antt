@@ -138,6 +138,7 @@ module _ (records : List Record) (undecided : ℕ) (counts : List ℕ) (old new 
   by-job (AnswersJob.no_memory synced r) = by-refused 70 0 r
   by-job (AnswersJob.ended how none runs left by) = by-answer how left how left.leaves.by_kind.gives
 
+  -- the counts that the next command finds in effect are the verdicts on what the audit heard
   pub audit-in-effect : AnswersAlone AuditJob old new end → Counted
   audit-in-effect (AnswersAlone.unstarted u) = (let r = unstarted-refused old new end u in by-refused r.0 r.1 r.3)
   audit-in-effect (AnswersAlone.begun rs opened A) = by-job (subst (λ l. AnswersJob AuditJob l old new end) (known-once old records rs S.known opened.read) A)

@@ -147,6 +147,7 @@ audit-alone = record {
       (ran-formed w n (subst (AreHanded idle_providers) (sym (form-is w V)) V.handed));
 }
 
+-- an audit of the store with no file is done
 pub audit : Answers AuditAll (store set_up_records) audited_store (ends 0)
 audit = (
   AnswersAlone.begun set_up_records set_up-sure.known.opened (AnswersJob.ended (Audited 1 0 no_counts) refl audit-alone

@@ -155,6 +155,7 @@ stopped-at None b P tells h g = absurd (false≢true tells)
 stopped-at (Some a) None P tells h g = absurd g
 stopped-at (Some a) (Some b) P tells h (image, of, is) = (image, ap Some is, h image of)
 
+-- a run goes on through stops and replacements to what the next command finds
 pub later-on : (start : State) (ms : List Moment) (new next : Seen) → IsRun 8 start ms → IsStore (now start ms) new → IsLater new next → GoesBetween start ms next
 later-on start ms new next R S L = elim L.disk [
   | inl same ↦ replaced-on start L.events ms new next R S same L.faults L.replaced
@@ -184,6 +185,7 @@ later-on start ms new next R S L = elim L.disk [
 
 -- ---- commands one after the other
 
+-- a run goes on through a chain of commands, with stops and replacements between them
 pub chain-on : (start : State) (ms : List Moment) (first : Seen) (calls : List Call) → IsRun 8 start ms → IsStore (now start ms) first → IsChain first calls →
     (own : List Moment) × AreCalls (now start ms) calls own × IsRun 8 start (own ++ ms) × IsStore (now start (own ++ ms)) (last_seen first calls)
 chain-on start ms first [] R S C = ([], refl, R, S)
@@ -202,6 +204,7 @@ chain-on start ms first (c ∷ cs) R S (later, A, C) =
 
 -- ---- over each known store there is a state
 
+-- a sound state stands for each store that is sure
 pub sure-store : (s : Seen) (records : List Record) → IsSure s records → (w : State) × IsStore w s
 sure-store s records K =
     (let w : State = opened_state records s.disk_faults s.providers in

@@ -162,6 +162,7 @@ module _ (old new : Seen) (end : Ending) where
   list-causes (AnswersList.no_memory r) = none-rose 70 refl r.status_is
   list-causes (AnswersList.listed records opened L) = written-causes _ L.written
 
+  -- an init ends with a status of a fault only where the count of that device rose
   pub init-causes : (numbers : Numbers) → AnswersInit numbers old new end → FaultsHaveCauses old new end
   init-causes numbers (AnswersInit.bad_setup bad same r) = none-rose 20 refl r.status_is
   init-causes numbers (AnswersInit.too_few_providers good few same r) = none-rose 22 refl r.status_is
@@ -174,6 +175,7 @@ module _ (old new : Seen) (end : Ending) where
   init-causes numbers (AnswersInit.keyed bytes key good enough read form (InitsDisk.ready R)) = written-causes _ R.written
   init-causes numbers (AnswersInit.no_memory taken r) = none-rose 70 refl r.status_is
 
+  -- a command that looks at a store ends with a status of a fault only where that count rose
   pub store-causes : (command : Command) → Answers command old new end → opens_store command ≡ true → FaultsHaveCauses old new end
   store-causes (RowOf n l b seen) A opens = absurd (false≢true opens)
   store-causes (InitWith numbers) A opens = absurd (false≢true opens)

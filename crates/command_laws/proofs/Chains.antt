@@ -42,11 +42,13 @@ use Rattle.command_laws.proofs.FilesKept.{reads-have, repair-has}
 
 -- ---- gets
 
+-- a get with no fault gives the file's bytes where at most b providers are spoilt, or finds no memory
 pub get-complete : (name bytes : List ℕ) (records : List Record) (spoilt : ℕ → Bool) (old new : Seen) (end : Ending) → AnswersAlone (GetJob name) old new end → IsKnown old records → HasRightFile old records name bytes spoilt →
     IsSteady (setup_in_effect records).n spoilt old new → spoilt_below (setup_in_effect records).n spoilt ≤ (setup_in_effect records).b → (Rose old.disk_faults new.disk_faults → ⊥) → (Rose old.sink_faults new.sink_faults → ⊥) → GivesUnlessMemory bytes old new end
 get-complete name bytes records spoilt old new end A K H steady few disk sink =
     seen-complete name bytes records H.file old new end K H.in_effect H.are_bytes H.size A (let b = bad-few name bytes records spoilt old new H steady in omega (arith, b, few)) disk sink
 
+-- a get at status 0 gave the file's bytes where at most b + 1 providers are spoilt
 pub get-right : (name bytes : List ℕ) (records : List Record) (spoilt : ℕ → Bool) (old new : Seen) (end : Ending) → AnswersAlone (GetJob name) old new end → IsKnown old records → HasRightFile old records name bytes spoilt →
     IsSteady (setup_in_effect records).n spoilt old new → spoilt_below (setup_in_effect records).n spoilt ≤ (setup_in_effect records).b + 1 → end.status ≡ 0 → new.sink ≡ told_then old.sink bytes
 get-right name bytes records spoilt old new end A K H steady few zero =
@@ -55,6 +57,7 @@ get-right name bytes records spoilt old new end A K H steady few zero =
 get-refused : (name : List ℕ) (records : List Record) → is_name name ≡ true → file_of records name ≡ None → refusal_over records (GetJob name) ≡ Some refusal.NoSuchName
 get-refused name records named none = (λ i. cond (not (named i)) (Some refusal.BadName) (cond (not (is_some (none i))) (Some refusal.NoSuchName) None))
 
+-- a get of a name with no file says so, or finds no memory
 pub get-missing : (name : List ℕ) (records : List Record) (old new : Seen) (end : Ending) → AnswersAlone (GetJob name) old new end → IsKnown old records → is_name name ≡ true → file_of records name ≡ None →
     (Rose old.disk_faults new.disk_faults → ⊥) → (end.status ≡ 3) ⊎ (end.status ≡ 70)
 get-missing name records old new end A K named none disk = elim (known-always (GetJob name) records old new end refusal.NoSuchName A K disk (get-refused name records named none)) [
@@ -64,6 +67,7 @@ get-missing name records old new end A K named none disk = elim (known-always (G
 
 -- ---- a get after a put
 
+-- a get after a done put gives the bytes that were put, or finds no memory
 pub put-get : (name bytes : List ℕ) (records : List Record) (spoilt : ℕ → Bool) (c d e f : Seen) (second last : Ending) → AnswersPut name c d second → AnswersAlone (GetJob name) e f last → Follows d e → IsKnown c records →
     c.source ≡ Some bytes → IsDone second → ((j : ℕ) → j < (setup_in_effect records).n → spoilt j ≡ false → is_some (provider_at c.providers j).held ≡ true) → IsUntouched (setup_in_effect records).n spoilt d e → IsSteady (setup_in_effect records).n spoilt e f →
     spoilt_below (setup_in_effect records).n spoilt ≤ (setup_in_effect records).b → (Rose e.disk_faults f.disk_faults → ⊥) → (Rose e.sink_faults f.sink_faults → ⊥) → GivesUnlessMemory bytes e f last
@@ -73,6 +77,7 @@ put-get name bytes records spoilt c d e f second last P G N K source done tells 
     let file = next-has name bytes after spoilt d e (put-has name bytes records spoilt c d second P done K source tells) untouched in
     get-complete name bytes after spoilt e f last G sure.known file steady few disk sink)
 
+-- a get after a done init and a done put gives the bytes that were put, or finds no memory
 pub init-put-get : (numbers : Numbers) (key name bytes : List ℕ) (spoilt : ℕ → Bool) (a b c d e f : Seen) (first second last : Ending) → AnswersInit numbers a b first → AnswersPut name c d second → AnswersAlone (GetJob name) e f last →
     Follows b c → Follows d e → is_some a.disk ≡ true → ((text : List ℕ) × (a.source ≡ Some text) × IsKeyForm text key) → c.source ≡ Some bytes → IsDone first → IsDone second →
     ((j : ℕ) → j < numbers.n → spoilt j ≡ false → is_some (provider_at c.providers j).held ≡ true) → IsUntouched numbers.n spoilt d e → IsSteady numbers.n spoilt e f → spoilt_below numbers.n spoilt ≤ numbers.b →
@@ -96,6 +101,7 @@ put-begins s name bytes named short =
     let room : takes_too_much (SetUp s ∷ []) (PutJob name bytes) ≡ false = ap (nat_lt largest_journal) (omega arith) ∙ full in
     (λ i. cond (not (named i)) (Some refusal.BadName) (cond (long i) (Some refusal.TooLong) (cond (room i || false) (Some refusal.JournalFull) None))))
 
+-- an init, a put and a get with no fault and with memory are done, and give the bytes that were put
 pub all-whole : (numbers : Numbers) (key name bytes : List ℕ) (spoilt : ℕ → Bool) (cells : Cells) (a b c d e f : Seen) (first second last : Ending) → AnswersInit numbers a b first → AnswersPut name c d second →
     AnswersAlone (GetJob name) e f last → Follows b c → Follows d e → a.disk ≡ Some cells → IsFree cells → IsKeyed numbers key a → c.source ≡ Some bytes → is_name name ≡ true → length bytes ≤ largest_file →
     ((j : ℕ) → j < numbers.n → spoilt j ≡ false → is_some (provider_at c.providers j).held ≡ true) → IsUntouched numbers.n spoilt d e → IsSteady numbers.n spoilt e f → spoilt_below numbers.n spoilt ≤ numbers.b →
@@ -114,6 +120,7 @@ all-whole numbers key name bytes spoilt cells a b c d e f first second last I P 
 dropped-none : (records : List Record) (name : List ℕ) → file_of (after_drop records name) name ≡ None
 dropped-none records name = cond_true _ None (file_of records name) (same-refl name)
 
+-- a get after a done drop says that there is no such file, or finds no memory
 pub drop-get : (name : List ℕ) (records : List Record) (c d e f : Seen) (second last : Ending) → AnswersAlone (DropJob name) c d second → AnswersAlone (GetJob name) e f last → Follows d e → IsKnown c records → IsDone second →
     (Rose e.disk_faults f.disk_faults → ⊥) → (last.status ≡ 3) ⊎ (last.status ≡ 70)
 drop-get name records c d e f second last D G N K done disk =
@@ -133,6 +140,7 @@ fewer name bytes records s spoilt later H less = record {
   right = λ j below clean. H.right j below (less j clean);
 }
 
+-- a get after a done repair gives the file's bytes, and the repaired providers may be counted on
 pub repair-get : (name bytes : List ℕ) (records : List Record) (spoilt later : ℕ → Bool) (due : Due) (c d e f : Seen) (second last : Ending) → AnswersAlone RepairJob c d second → AnswersAlone (GetJob name) e f last → Follows d e →
     IsKnown c records → due_of records ≡ Some due → HasRightFile c records name bytes spoilt → IsDone second → IsSteady (setup_in_effect records).n spoilt c d → spoilt_below (setup_in_effect records).n spoilt ≤ (setup_in_effect records).b →
     ((j : ℕ) → j < (setup_in_effect records).n → is_flagged (setup_in_effect records).tolerance due.counts j ≡ true → is_some (provider_at c.providers j).held ≡ true) →
@@ -163,6 +171,7 @@ none-due rs number h = is_some-none (due_of rs) (grind (arith, nat_tests, h))
 audit-then : (records : List Record) (undecided : ℕ) (counts : List ℕ) (c d : Seen) → IsThen AuditAll records c d (after_audit records undecided counts)
 audit-then records undecided counts c d = inr (record { kind = AuditJob; of_command = refl; own = audit_records records undecided counts; are_own = (undecided, counts, refl); count = 2; after_is = refl })
 
+-- a get after a put, an audit and its repair, all done, gives the bytes that were put
 pub put-audit-repair-get : (name bytes : List ℕ) (records : List Record) (spoilt : ℕ → Bool) (a b c d e f g h : Seen) (first second third last : Ending) → AnswersPut name a b first → Answers AuditAll c d second →
     AnswersAlone RepairJob e f third → AnswersAlone (GetJob name) g h last → Follows b c → Follows d e → Follows f g → IsKnown a records → a.source ≡ Some bytes → IsDone first → IsDone second → IsDone third →
     ((j : ℕ) → j < (setup_in_effect records).n → spoilt j ≡ false → is_some (provider_at a.providers j).held ≡ true) →

@@ -75,6 +75,7 @@ over-refused why status is (inr (inr e)) = refused-not why 13 refl (λ k. omega 
 
 -- ---- a disk that told tells on
 
+-- a disk tells after a job where it told before, past what the job appended
 pub tells-past : (kind : Kind) (how : Answer) (before rs : List Record) (a b : Option Cells) → SamePast kind how before rs a b → is_some b ≡ is_some a
 tells-past kind answer.Put before rs a b h = sym (is_some-option_map (past rs) b) ∙ (ap is_some h ∙ is_some-option_map (past rs) a)
 tells-past kind (answer.Got bytes) before rs a b h = sym (is_some-option_map (past rs) b) ∙ (ap is_some h ∙ is_some-option_map (past rs) a)
@@ -124,6 +125,7 @@ sure-left records after old new K L has = (let c = is_some-at new.disk (L.1 ∙ 
 
 -- ---- what was read of a source that tells
 
+-- what was read of a source that is then at its end is all that it held
 pub whole-read : (most : ℕ) (old new : Option (List ℕ)) (bytes seen : List ℕ) → old ≡ Some bytes → ReadsUpTo most old new seen → IfSome new (λ left. left ≡ []) → seen ≡ bytes
 whole-read most old None bytes seen is R whole = absurd (let e : Some bytes ≡ None = sym is ∙ R.front in cc)
 whole-read most old (Some left) bytes seen is R whole =
@@ -133,6 +135,7 @@ whole-read most old (Some left) bytes seen is R whole =
 
 -- ---- each command that is done
 
+-- after a done put the store is sure, with the put's two records
 pub put-sure : (name bytes : List ℕ) (records : List Record) (old new : Seen) (end : Ending) → AnswersPut name old new end → IsDone end → IsKnown old records → old.source ≡ Some bytes → IsSure new (after_put records name (length bytes))
 put-sure name bytes records old new end A done K source =
     (let P = put-done name old new end A done in
@@ -141,12 +144,14 @@ put-sure name bytes records old new end A done K source =
     let has : DiskHas (after_put records name (length bytes)) new = subst (λ rs. DiskHas (after_put rs name (length bytes)) new) same (subst (λ bs. DiskHas (after_put P.records name (length bs)) new) read P.disk) in
     sure-left records (after_put records name (length bytes)) old new K (put-over name records old new end K A (inl done)) has)
 
+-- after a done drop the store is sure, with the drop's record
 pub drop-sure : (name : List ℕ) (records : List Record) (old new : Seen) (end : Ending) → AnswersAlone (DropJob name) old new end → IsDone end → IsKnown old records → IsSure new (after_drop records name)
 drop-sure name records old new end A done K =
     (let P = drop-done name old new end A done in
     let same = known-once old records P.records K P.opened.read in
     sure-left records (after_drop records name) old new K (alone-over (DropJob name) records old new end K tt A (inl done)) (subst (λ rs. DiskHas (after_drop rs name) new) same P.disk))
 
+-- after a done audit the store is sure, with the audit's two records, whose counts it told
 pub audit-sure : (records : List Record) (old new : Seen) (end : Ending) → AnswersAlone AuditJob old new end → IsDone end → IsKnown old records → (undecided : ℕ) × (counts : List ℕ) × IsSure new (after_audit records undecided counts)
     × IsTold (audit_lines (setup_in_effect records).tolerance (next_audit records) undecided counts) old new end
 audit-sure records old new end A done K =
@@ -158,6 +163,7 @@ audit-sure records old new end A done K =
       subst (λ rs. IsTold (audit_lines (setup_in_effect rs).tolerance (next_audit rs) P.undecided P.counts) old new end) same P.told,
     ))
 
+-- after a done repair the store is sure, with the repair's record
 pub repair-sure : (records : List Record) (due : Due) (old new : Seen) (end : Ending) → AnswersAlone RepairJob old new end → IsDone end → IsKnown old records → due_of records ≡ Some due → IsSure new (after_repair records due)
 repair-sure records due old new end A done K is_due =
     (let P = repair-done old new end A done in
@@ -174,6 +180,7 @@ get-has name records old new end R (AnswersJob.ended how none runs left by) over
     (let L : GetLeaves (ran_left records (GetJob name) how old new end.heard left) name how = left.leaves.by_kind in
     images-same new.disk left.after records left.doubt R.read.some L.records L.sure left.images)
 
+-- after a get that is over the store is sure, with the same records
 pub get-sure : (name : List ℕ) (records : List Record) (old new : Seen) (end : Ending) → AnswersAlone (GetJob name) old new end → IsOver end.status → IsKnown old records → IsSure new records
 get-sure name records old new end A over K = elim (alone-known (GetJob name) old new end records K A) [
   | inl (inl (rose, r)) ↦ absurd (over-twelve end.status r.status_is over)
@@ -183,12 +190,14 @@ get-sure name records old new end A over K = elim (alone-known (GetJob name) old
 
 -- ---- a store that failed, and a row that a repair lost
 
+-- after a put of which a store failed the store is sure, with the put's first record alone
 pub failed-put-sure : (name : List ℕ) (records : List Record) (old new : Seen) (end : Ending) → AnswersPut name old new end → end.status ≡ 13 → IsKnown old records → IsSure new (after_start records name)
 failed-put-sure name records old new end A failed K =
     (let P = put-fails name old new end A failed in
     let same = known-once old records P.records K P.opened.read in
     sure-left records (after_start records name) old new K (put-over name records old new end K A (inr (inr failed))) (subst (λ rs. DiskHas (after_start rs name) new) same P.disk))
 
+-- after a repair that failed at a store or a lost row the store is sure, with the same records
 pub failed-repair-sure : (records : List Record) (old new : Seen) (end : Ending) → AnswersAlone RepairJob old new end → (end.status ≡ 4) ⊎ (end.status ≡ 13) → IsKnown old records → IsSure new records
 failed-repair-sure records old new end A failed K = sure-left records records old new K (alone-over RepairJob records old new end K tt A (inr failed)) (has failed)
   where
@@ -211,6 +220,7 @@ synced-sure records old new K after same =
       images = subst (λ d. EachImage d (λ image. StandsFor image records)) (sym told) (λ image is. subst (λ bytes. StandsFor bytes records) (sym (image-firm (reads c.0) image is)) stands);
     })
 
+-- after a done list the store is sure, with the same records
 pub list-sure : (records : List Record) (old new : Seen) (end : Ending) → AnswersList old new end → IsDone end → IsKnown old records → IsSure new records
 list-sure records old new end A done K = (let P = list-done old new end A done in synced-sure records old new K P.disk P.providers)
 
@@ -247,6 +257,7 @@ set_up-at s None b tells g = absurd (false≢true tells)
 set_up-at s (Some a) None tells g = absurd g
 set_up-at s (Some a) (Some b) tells g = (_, ap Some g.reads_are)
 
+-- after a done init the store is sure, and its one record is the setup
 pub init-sure : (numbers : Numbers) (key : List ℕ) (old new : Seen) (end : Ending) → AnswersInit numbers old new end → IsDone end → is_some old.disk ≡ true →
     ((bytes : List ℕ) × (old.source ≡ Some bytes) × IsKeyForm bytes key) → IsSure new (SetUp (setup_with numbers key) ∷ [])
 init-sure numbers key old new end A done tells (bytes, source, form) =
@@ -332,6 +343,7 @@ next-image new next tells N = elim N.disk [
     stopped-at (Some a) None tells g = absurd g
     stopped-at (Some a) (Some b) tells (image, of, is) = (firm image, ap Some is, λ P h. subst P (sym (reads-firm image)) (h image of))
 
+-- after any command the next one finds the store known, with some of the records of its job
 pub known-always : (command : Command) (records : List Record) (old new next : Seen) (end : Ending) → Answers command old new end → opens_store command ≡ true → IsSure old records →
     Follows new next → (after : List Record) × IsKnown next after × IsThen command records old new after
 known-always command records old new next end A opens S N = elim (command-comes command records old new end S.known A opens) [

@@ -35,6 +35,7 @@ written-empty text old new end (inr (inr w)) none sink = not-fifteen end.status 
 
 -- ---- lists
 
+-- a list of no files does not end in a fault of the sink
 pub list-empty : (records : List Record) (old new : Seen) (end : Ending) → AnswersList old new end → IsKnown old records → files_of records ≡ [] → end.status ≡ 15 → ⊥
 list-empty records old new end (AnswersList.unstarted u) K none sink = elim (unstarted-known old new end records K u) [
   | inl (rose, r) ↦ not-fifteen end.status 12 r.status_is (λ e. omega (arith, e)) sink
@@ -62,6 +63,7 @@ module _ (name : List ℕ) (records : List Record) (file : File) (old new : Seen
   get-job (AnswersJob.no_memory synced r) sink = not-fifteen end.status 70 r.status_is (λ e. omega (arith, e)) sink
   get-job (AnswersJob.ended how none runs left by) sink = by-answer how left left.leaves.by_kind by sink
 
+  -- a get of an empty file does not end in a fault of the sink
   pub get-empty : IsKnown old records → AnswersAlone (GetJob name) old new end → end.status ≡ 15 → ⊥
   get-empty K A sink = elim (alone-known (GetJob name) old new end records K A) [
     | inl (inl (rose, r)) ↦ not-fifteen end.status 12 r.status_is (λ e. omega (arith, e)) sink

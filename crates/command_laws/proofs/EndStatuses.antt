@@ -121,15 +121,18 @@ module _ (n l b : ℕ) (seen : List (Option ℕ)) (old new : Seen) (end : Ending
   told-twice line (inr (inl w)) = inl w.0
   told-twice line (inr (inr w)) = inr w.0
 
+  -- a row that is told to be lost has no accepted polynomial
   pub row-none : IsShape n l b → end.status ≡ 4 → AcceptsNone (upto n) seen l b
   row-none shape is p accepted = written-not _ 4 (A.held shape p accepted) is (λ e. omega (arith, e)) (λ e. omega (arith, e)) (λ e. omega (arith, e))
 
+  -- numbers that are told to be no shape are none
   pub row-shapeless : end.status ≡ 20 → IsShape n l b → ⊥
   row-shapeless is shape = elim (told-twice _ (A.lost shape (λ p accepted. written-not _ 20 (A.held shape p accepted) is (λ e. omega (arith, e)) (λ e. omega (arith, e)) (λ e. omega (arith, e))))) [
     | inl four ↦ (let e : 20 ≡ 4 = sym is ∙ four in omega (arith, e))
     | inr memory ↦ (let e : 20 ≡ 70 = sym is ∙ memory in omega (arith, e))
   ]
 
+  -- a row whose numbers are no shape is told so, or finds no memory
   pub row-refused : (IsShape n l b → ⊥) → (end.status ≡ 20) ⊎ (end.status ≡ 70)
   row-refused none = (A.no_shape none).0
 
@@ -158,11 +161,13 @@ module _ (n l b : ℕ) (seen : List (Option ℕ)) (old new : Seen) (end : Ending
         | inr memory ↦ absurd (let e : 4 ≡ 70 = sym is ∙ memory in omega (arith, e))
       ]
 
+  -- a row of a shape with no accepted polynomial is told to be lost, or finds no memory
   pub row-lost : IsShape n l b → AcceptsNone (upto n) seen l b → (end.status ≡ 4) ⊎ (end.status ≡ 70)
   row-lost shape none = told-twice _ (A.lost shape none)
 
 -- ---- all commands
 
+-- every command ends with one of the statuses of a command whose words have a form
 pub command-ending : (command : Command) (old new : Seen) (end : Ending) → Answers command old new end → is_ending end.status ≡ true
 command-ending (RowOf n l b seen) old new end A = row-ending n l b seen old new end A.0
 command-ending (InitWith numbers) old new end A = init-ending numbers old new end A
@@ -173,5 +178,6 @@ command-ending ListAll old new end A = list-ending old new end A.0
 command-ending AuditAll old new end A = alone-ending AuditJob old new end A.0
 command-ending RepairDue old new end A = alone-ending RepairJob old new end A.0
 
+-- no command whose words have a form ends with status 2
 pub never-two : (command : Command) (old new : Seen) (end : Ending) → Answers command old new end → end.status ≢ 2
 never-two command old new end A two = false≢true (sym (ap is_ending two) ∙ command-ending command old new end A)

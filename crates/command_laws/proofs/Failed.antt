@@ -40,6 +40,7 @@ use Rattle.command_laws.proofs.JobEnds.{images-have, refused-same, unstarted-sam
 abbrev fetches_of : Provider → ℕ
 fetches_of p = p.fetches
 
+-- a put fetches nothing
 pub put-fetches : (name : List ℕ) (old new : Seen) (end : Ending) → AnswersPut name old new end → SameFetches old new
 put-fetches name old new end (AnswersPut.unstarted u same) = unstarted-same fetches_of old new end u
 put-fetches name old new end (AnswersPut.source_fault records opened rose after taken r) = refused-same fetches_of 14 0 old new end r
@@ -49,6 +50,7 @@ put-fetches name old new end (AnswersPut.begun records bytes opened read (Answer
 put-fetches name old new end (AnswersPut.begun records bytes opened read (AnswersJob.ended how none runs left by)) =
     left-same fetches_of records (PutJob name bytes) how old new end.heard left left.leaves.by_kind.1
 
+-- a drop fetches nothing
 pub drop-fetches : (name : List ℕ) (old new : Seen) (end : Ending) → AnswersAlone (DropJob name) old new end → SameFetches old new
 drop-fetches name old new end (AnswersAlone.unstarted u) = unstarted-same fetches_of old new end u
 drop-fetches name old new end (AnswersAlone.begun records opened (AnswersJob.refused why is after r)) = refused-same fetches_of _ 0 old new end r
@@ -56,6 +58,7 @@ drop-fetches name old new end (AnswersAlone.begun records opened (AnswersJob.no_
 drop-fetches name old new end (AnswersAlone.begun records opened (AnswersJob.ended how none runs left by)) =
     left-same fetches_of records (DropJob name) how old new end.heard left left.leaves.by_kind.1
 
+-- an audit fetches nothing
 pub audit-fetches : (old new : Seen) (end : Ending) → AnswersAlone AuditJob old new end → SameFetches old new
 audit-fetches old new end (AnswersAlone.unstarted u) = unstarted-same fetches_of old new end u
 audit-fetches old new end (AnswersAlone.begun records opened (AnswersJob.refused why is after r)) = refused-same fetches_of _ 0 old new end r
@@ -63,11 +66,13 @@ audit-fetches old new end (AnswersAlone.begun records opened (AnswersJob.no_memo
 audit-fetches old new end (AnswersAlone.begun records opened (AnswersJob.ended how none runs left by)) =
     left-same fetches_of records AuditJob how old new end.heard left left.leaves.by_kind.fetches
 
+-- a list fetches nothing
 pub list-fetches : (old new : Seen) (end : Ending) → AnswersList old new end → SameFetches old new
 list-fetches old new end (AnswersList.unstarted u) = unstarted-same fetches_of old new end u
 list-fetches old new end (AnswersList.no_memory r) = refused-same fetches_of 70 0 old new end r
 list-fetches old new end (AnswersList.listed records opened L) = λ j. ap (λ ps. (provider_at ps j).fetches) L.providers
 
+-- an init fetches nothing
 pub init-fetches : (numbers : Numbers) (old new : Seen) (end : Ending) → AnswersInit numbers old new end → SameFetches old new
 init-fetches numbers old new end (AnswersInit.bad_setup bad same r) = refused-same fetches_of 20 0 old new end r
 init-fetches numbers old new end (AnswersInit.too_few_providers good few same r) = refused-same fetches_of 22 0 old new end r
@@ -142,6 +147,7 @@ put-by name bytes records old new end opened read answer.DiskFault left L by is 
 put-by name bytes records old new end opened read answer.Memory left L by is = absurd (memory-own 13 end.status by.status_is is (inl refl))
 put-by name bytes records old new end opened read how left L by is = absurd L
 
+-- a put of which a store failed used its number, and changed neither the files nor what is due
 pub put-fails : (name : List ℕ) (old new : Seen) (end : Ending) → AnswersPut name old new end → end.status ≡ 13 → FailsToPut name old new end
 put-fails name old new end (AnswersPut.unstarted u same) is = absurd (unstarted-own 13 old new end u is (inl refl))
 put-fails name old new end (AnswersPut.source_fault records opened rose after taken r) is = absurd (not_two end.status 14 13 r.status_is is (λ e. omega (arith, e)))
@@ -175,6 +181,7 @@ get-by name records old new end opened (answer.Lost stripe row) left L by is =
 get-by name records old new end opened (answer.Got bytes) left L by is = absurd (written-own 4 _ old new end by.written is (inr refl))
 get-by name records old new end opened how left L by is = absurd L.gives
 
+-- a get that ends at a lost row found the lowest of the first stripe that has one, and gave nothing
 pub get-loses : (name : List ℕ) (old new : Seen) (end : Ending) → AnswersAlone (GetJob name) old new end → end.status ≡ 4 → LosesFile name old new end
 get-loses name old new end (AnswersAlone.unstarted u) is = absurd (unstarted-own 4 old new end u is (inr refl))
 get-loses name old new end (AnswersAlone.begun records opened (AnswersJob.refused why applies after r)) is = absurd (refused-own 4 why end.status r.status_is is (inr refl))
@@ -235,6 +242,7 @@ lost-by records old new end opened answer.DiskFault left due is_due L by is = ab
 lost-by records old new end opened answer.Memory left due is_due L by is = absurd (memory-own 4 end.status by.status_is is (inr refl))
 lost-by records old new end opened how left due is_due L by is = absurd L
 
+-- a repair of which a store failed stays due, and rewrote at most some of its blocks
 pub repair-fails : (old new : Seen) (end : Ending) → AnswersAlone RepairJob old new end → end.status ≡ 13 → FailsToRepair old new end
 repair-fails old new end (AnswersAlone.unstarted u) is = absurd (unstarted-own 13 old new end u is (inl refl))
 repair-fails old new end (AnswersAlone.begun records opened (AnswersJob.refused why applies after r)) is = absurd (refused-own 13 why end.status r.status_is is (inl refl))
@@ -242,6 +250,7 @@ repair-fails old new end (AnswersAlone.begun records opened (AnswersJob.no_memor
 repair-fails old new end (AnswersAlone.begun records opened (AnswersJob.ended how none runs left by)) is =
     (let L = left.leaves.by_kind.0 in repair-by records old new end opened how left L.due L.is_due L.gives by is)
 
+-- a repair that ends at a lost row stays due, and rewrote at most some blocks before that place
 pub repair-loses : (old new : Seen) (end : Ending) → AnswersAlone RepairJob old new end → end.status ≡ 4 → LosesRepair old new end
 repair-loses old new end (AnswersAlone.unstarted u) is = absurd (unstarted-own 4 old new end u is (inr refl))
 repair-loses old new end (AnswersAlone.begun records opened (AnswersJob.refused why applies after r)) is = absurd (refused-own 4 why end.status r.status_is is (inr refl))
@@ -350,6 +359,7 @@ init-own m numbers old new end (AnswersInit.keyed seen key good enough read form
 init-own m numbers old new end (AnswersInit.keyed seen key good enough read form (InitsDisk.bad_journal at cause r)) is own = not_two end.status 8 m r.status_is is (λ e. elim own [ inl k ↦ omega (arith, k, e) | inr k ↦ omega (arith, k, e) ])
 init-own m numbers old new end (AnswersInit.keyed seen key good enough read form (InitsDisk.already cause r)) is own = not_two end.status 10 m r.status_is is (λ e. elim own [ inl k ↦ omega (arith, k, e) | inr k ↦ omega (arith, k, e) ])
 
+-- only a put and a repair end in a failed store
 pub stores-only : (command : Command) (old new : Seen) (end : Ending) → Answers command old new end → end.status ≡ 13 → stores_blocks command ≡ true
 stores-only (RowOf n l b seen) old new end A is = absurd (none-at n l b seen old new end A.0 13 is (λ e. omega (arith, e)) (λ e. omega (arith, e)) (λ e. omega (arith, e)) (λ e. omega (arith, e)) (λ e. omega (arith, e)))
 stores-only (InitWith numbers) old new end A is = absurd (init-own 13 numbers old new end A is (inl refl))
@@ -360,6 +370,7 @@ stores-only ListAll old new end A is = absurd (list-own 13 old new end A.0 is (i
 stores-only AuditAll old new end A is = absurd (alone-13 AuditJob old new end A.0 is)
 stores-only RepairDue old new end A is = refl
 
+-- only a row, a get and a repair end at a lost row
 pub rows-only : (command : Command) (old new : Seen) (end : Ending) → Answers command old new end → end.status ≡ 4 → opens_rows command ≡ true
 rows-only (RowOf n l b seen) old new end A is = refl
 rows-only (InitWith numbers) old new end A is = absurd (init-own 4 numbers old new end A is (inr refl))

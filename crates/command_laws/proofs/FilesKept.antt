@@ -53,6 +53,7 @@ same-told id a b same = subst (SameAt id a) (sym same) (none a)
     none None = tt
     none (Some held) = λ stripe. refl
 
+-- a provider that is right for an object is so while it holds the object's blocks as before
 pub wrong-same : (o : Object) (bytes : List ℕ) (j : ℕ) (a b : Option Held) → SameAt o.id a b → is_wrong_or_untold o bytes j a ≡ false → is_wrong_or_untold o bytes j b ≡ false
 wrong-same o bytes j None None same right = right
 wrong-same o bytes j None (Some b) same right = absurd same
@@ -133,6 +134,7 @@ then-by command name records after old new grown (inr G) = grown G
 reads-by : (command : Command) (name bytes : List ℕ) (records after : List Record) (spoilt : ℕ → Bool) (old new : Seen) → SameHolds old new → HasRightFile old records name bytes spoilt → Stays name records after → HasRightFile new after name bytes spoilt
 reads-by command name bytes records after spoilt old new holds H S = has-same name bytes records after spoilt old new H S.0 S.1 (λ j below. same-told H.file.id (provider_at old.providers j).held (provider_at new.providers j).held (holds j))
 
+-- a file that is right stays so over a get, a list and an audit
 pub reads-have : (command : Command) (name bytes : List ℕ) (records after : List Record) (spoilt : ℕ → Bool) (old new : Seen) (end : Ending) → Answers command old new end → keeps_blocks command ≡ true →
     HasRightFile old records name bytes spoilt → IsThen command records old new after → HasRightFile new after name bytes spoilt
 reads-have (GetOf got) name bytes records after spoilt old new end A keeps H T = reads-by (GetOf got) name bytes records after spoilt old new (get-holds got old new end A.0) H (then-by (GetOf got) name records after old new (get-grown name records after got old new) T)
@@ -144,6 +146,7 @@ reads-have (PutUnder other) name bytes records after spoilt old new end A keeps 
 reads-have (DropOf other) name bytes records after spoilt old new end A keeps H T = absurd (false≢true keeps)
 reads-have RepairDue name bytes records after spoilt old new end A keeps H T = absurd (false≢true keeps)
 
+-- a file that is right stays so over a refusal
 pub refused-has : (status at : ℕ) (name bytes : List ℕ) (records : List Record) (spoilt : ℕ → Bool) (old new : Seen) (end : Ending) → IsRefused status at old new end → HasRightFile old records name bytes spoilt → HasRightFile new records name bytes spoilt
 refused-has status at name bytes records spoilt old new end r H = has-same name bytes records records spoilt old new H refl refl
     (λ j below. same-told H.file.id (provider_at old.providers j).held (provider_at new.providers j).held (ap (λ ps. (provider_at ps j).held) r.providers))
@@ -234,6 +237,7 @@ drop-command name other bytes records spoilt old new end differ K H (AnswersAlon
 drop-command name other bytes records spoilt old new end differ K H (AnswersAlone.begun rs opened A) =
     drop-job name other records H.file (sound-accepted records K.opened.read.accepted) H.in_effect differ old new end (subst (λ l. AnswersJob (DropJob other) l old new end) (known-once old records rs K opened.read) A)
 
+-- a file that is right stays so over a put or a drop of another name
 pub others-have : (command : Command) (name bytes : List ℕ) (records after : List Record) (spoilt : ℕ → Bool) (old new : Seen) (end : Ending) → Answers command old new end → IsOfAnother name command → IsKnown old records →
     HasRightFile old records name bytes spoilt → IsThen command records old new after → HasRightFile new after name bytes spoilt
 others-have (PutUnder other) name bytes records after spoilt old new end A differ K H T =
@@ -251,6 +255,7 @@ others-have RepairDue name bytes records after spoilt old new end A differ K H T
 
 -- ---- a repair that is done
 
+-- a provider that is not flagged holds an object as before
 pub flag-off : (id : ℕ) (flag : Bool) (change : Held → Held → Type 0) (a b : Option Held) → flag ≡ false → Goes (IfFlagged flag change) a b → SameAt id a b
 flag-off id false change None None off g = tt
 flag-off id false change (Some a) (Some b) off g = λ stripe. g id stripe
@@ -258,17 +263,20 @@ flag-off id false change None (Some b) off g = absurd g
 flag-off id false change (Some a) None off g = absurd g
 flag-off id true change a b off g = absurd (false≢true (sym off))
 
+-- a provider that told what it holds before a change tells it after
 pub goes-tells : (change : Held → Held → Type 0) (a b : Option Held) → is_some a ≡ true → Goes change a b → is_some b ≡ true
 goes-tells change None b tells g = absurd (false≢true tells)
 goes-tells change (Some a) None tells g = absurd g
 goes-tells change (Some a) (Some b) tells g = refl
 
+-- a provider that holds its own column of each stripe is right for the file
 pub columns-right : (s : Setup) (file : File) (bytes : List ℕ) (j : ℕ) (told : Option Held) → length bytes ≡ file.size → is_some told ≡ true →
     ((stripe : ℕ) → stripe < stripes_of (profiled s file.profile) file.size → IfSome told (λ held. held file.id stripe ≡ Some (columns (object_of (profiled s file.profile) file.id) bytes j stripe))) → is_wrong_or_untold (object_of (profiled s file.profile) file.id) bytes j told ≡ false
 columns-right s file bytes j None size tells h = absurd (false≢true tells)
 columns-right s file bytes j (Some held) size tells h =
     each-not-wrong (object_of (profiled s file.profile) file.id) bytes j (held file.id) (λ t l. ap (is_wrong_block (object_of (profiled s file.profile) file.id) bytes j t) (h t (subst (λ n. t < stripes_of (profiled s file.profile) n) size l)) ∙ column-right (object_of (profiled s file.profile) file.id) bytes j t)
 
+-- if `b and not c` is off, and c is off, b is off
 pub and-off : (b c : Bool) → (b && not c) ≡ false → c ≡ false → b ≡ false
 and-off true true h off = absurd (false≢true (sym off))
 and-off true false h off = absurd (false≢true (sym h))
@@ -286,6 +294,7 @@ repaired-goes id old new end P j below = (
   λ tells. goes-tells _ (provider_at old.providers j).held (provider_at new.providers j).held tells (P.rewritten.held j below),
 )
 
+-- after a done repair a right file is right also on the flagged providers, where few are spoilt
 pub repair-has : (name bytes : List ℕ) (records : List Record) (due : Due) (spoilt : ℕ → Bool) (old new : Seen) (end : Ending) → AnswersAlone RepairJob old new end → IsDone end → IsKnown old records → due_of records ≡ Some due →
     HasRightFile old records name bytes spoilt → IsSteady (setup_in_effect records).n spoilt old new → spoilt_below (setup_in_effect records).n spoilt ≤ (setup_in_effect records).b →
     ((j : ℕ) → j < (setup_in_effect records).n → is_flagged (setup_in_effect records).tolerance due.counts j ≡ true → is_some (provider_at old.providers j).held ≡ true) →

@@ -27,6 +27,7 @@ use Rattle.command_laws.proofs.DoneStores.{whole-read}
 
 -- ---- a provider's own blocks are not wrong
 
+-- a provider on which a file was stored is right for it
 pub stored-right : (o : Object) (bytes : List ℕ) (older : Option File) (rose : Type 0) (j : ℕ) (a b : Option Held) → is_some a ≡ true → Goes (StoredOn o bytes older rose j) a b → is_wrong_or_untold o bytes j b ≡ false
 stored-right o bytes older rose j None b tells g = absurd (false≢true tells)
 stored-right o bytes older rose j (Some a) None tells g = absurd g
@@ -53,6 +54,7 @@ put-file name spoilt old new end P tells = record {
       (stored-right (object_of (setup_in_effect P.records) (next_id P.records)) P.bytes (file_of P.records name) _ j (provider_at old.providers j).held (provider_at new.providers j).held (tells j below clean) (P.stored j below));
 }
 
+-- after a done put its file is in effect, and right on each provider that tells
 pub put-has : (name bytes : List ℕ) (records : List Record) (spoilt : ℕ → Bool) (old new : Seen) (end : Ending) → AnswersPut name old new end → IsDone end → IsKnown old records → old.source ≡ Some bytes →
     ((j : ℕ) → j < (setup_in_effect records).n → spoilt j ≡ false → is_some (provider_at old.providers j).held ≡ true) → HasRightFile new (after_put records name (length bytes)) name bytes spoilt
 put-has name bytes records spoilt old new end A done K source tells =
@@ -65,6 +67,7 @@ put-has name bytes records spoilt old new end A done K source tells =
 
 -- ---- between two commands
 
+-- a right file is right where the next command finds it
 pub next-has : (name bytes : List ℕ) (records : List Record) (spoilt : ℕ → Bool) (new next : Seen) → HasRightFile new records name bytes spoilt → IsUntouched (setup_in_effect records).n spoilt new next → HasRightFile next records name bytes spoilt
 next-has name bytes records spoilt new next H U = record {
   file = H.file;
@@ -98,6 +101,7 @@ bad-off : (o : Object) (bytes : List ℕ) (j : ℕ) (p q : Provider) (told : Opt
 bad-off o bytes j p q None right calm = absurd (false≢true (sym right))
 bad-off o bytes j p q (Some held) right calm = (λ i. right i || calm i)
 
+-- no more providers are bad for a right file than are spoilt
 pub bad-few : (name bytes : List ℕ) (records : List Record) (spoilt : ℕ → Bool) (old new : Seen) (H : HasRightFile old records name bytes spoilt) → IsSteady (setup_in_effect records).n spoilt old new →
     bad_seen records old new H.file bytes ≤ spoilt_below (setup_in_effect records).n spoilt
 bad-few name bytes records spoilt old new H steady =

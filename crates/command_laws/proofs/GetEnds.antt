@@ -98,6 +98,7 @@ module _ (name bytes : List ℕ) (records : List Record) (file : File) (old new 
       (λ got is. get-forged (ran_left records (GetJob name) how old new end.heard left) name bytes file shape in_effect fits size got (subst (λ h. GetLeaves (ran_left records (GetJob name) how old new end.heard left) name h) is left.leaves.by_kind))
       left.leaves.by_kind by
 
+  -- a get with no fault gives the file's bytes where at most b providers are bad, or finds no memory
   pub seen-complete : AnswersAlone (GetJob name) old new end → bad_seen records old new file bytes ≤ (setup_in_effect records).b → (Rose old.disk_faults new.disk_faults → ⊥) → (Rose old.sink_faults new.sink_faults → ⊥) →
       GivesUnlessMemory bytes old new end
   seen-complete A few disk sink = elim (alone-known (GetJob name) old new end records K A) [
@@ -106,6 +107,7 @@ module _ (name bytes : List ℕ) (records : List Record) (file : File) (old new 
     | inr job ↦ written-well bytes old new end (job-complete job few) sink
   ]
 
+  -- a get gives at most a front of the file's bytes, and all at status 0, where at most b + 1 are bad
   pub seen-right : AnswersAlone (GetJob name) old new end → bad_seen records old new file bytes ≤ (setup_in_effect records).b + 1 → TakesFront old.sink new.sink bytes × (end.status ≡ 0 → new.sink ≡ told_then old.sink bytes)
   seen-right A few = elim (alone-known (GetJob name) old new end records K A) [
     | inl (inl (rose, r)) ↦ refused-right 12 0 r (λ e. omega (arith, e))
@@ -113,6 +115,7 @@ module _ (name bytes : List ℕ) (records : List Record) (file : File) (old new 
     | inr job ↦ job-right job few
   ]
 
+  -- a get gives at most a front of the file's bytes, and all at status 0, or it heard a forgery
   pub seen-forged : AnswersAlone (GetJob name) old new end → (TakesFront old.sink new.sink bytes × (end.status ≡ 0 → new.sink ≡ told_then old.sink bytes)) ⊎ Forged
   seen-forged A = elim (alone-known (GetJob name) old new end records K A) [
     | inl (inl (rose, r)) ↦ inl (refused-right 12 0 r (λ e. omega (arith, e)))

@@ -57,10 +57,12 @@ use Rattle.job_laws.proofs.BeginRefusals.{refusal-of}
 
 -- ---- runs
 
+-- the state after more moments is that after them from the state before
 pub now-more : (start : State) (own base : List Moment) → now start (own ++ base) ≡ now (now start base) own
 now-more start [] base = refl
 now-more start (m ∷ own) base = refl
 
+-- a run from a sound state leaves a sound state
 pub run-sound : (start : State) (own base : List Moment) → IsSound 8 (now start base) → IsRun 8 start (own ++ base) → IsSound 8 (now start (own ++ base))
 run-sound start [] base S r = S
 run-sound start (m ∷ own) base S (spelled, happens, rest) =
@@ -129,6 +131,7 @@ whole-by w S up image (inr (inr X)) =
     let same : version_of (packed w.journal) ≡ version_of w.journal = like.version in
     omega (arith, second, first, same))
 
+-- the records that an image of a store stands for may be settled, and leave it good
 pub settled-by : (w : State) → IsSound 8 w → is_some (setup_of w.records) ≡ true → (image : List ℕ) → StandsInState w image → (rs : List Record) × Settled w image rs
 unfolding setup_in
 settled-by w S up image h = by_stand (stands-so w W up image h)
@@ -439,6 +442,7 @@ module _ (start : State) (ms : List Moment) (R : IsRun 8 start ms) (old : Seen) 
       job-on (PutUnder name) new end counts (enough-of (PutUnder name) new end counts other O) (PutJob name bytes) (bytes, read, refl) (spelled, read.are_bytes)
       (subst (λ l. AnswersJob (PutJob name bytes) l old new end) (once other O.read) A)
 
+  -- a command over a store that a run left goes on with that run
   pub command-on : (command : Command) (new : Seen) (end : Ending) (counts : NoCountFalls old new) → opens_store command ≡ true → IsSpelledCommand command → Answers command old new end → GoesOn command new end counts
   command-on (RowOf n l b seen) new end counts opens spelled A = absurd (false≢true opens)
   command-on (InitWith numbers) new end counts opens spelled A = absurd (false≢true opens)

@@ -55,10 +55,12 @@ keeps-synced : (old new : Option Cells) → new ≡ option_map synced old → Ke
 keeps-synced None new is = tt
 keeps-synced (Some old) new is = subst (λ (d : Option Cells). EachImage d (IsImage old)) (sym is) (image-synced old)
 
+-- a disk that is as before has only images that it had before
 pub keeps-same : (old new : Option Cells) → new ≡ old → Keeps old new
 keeps-same None new is = tt
 keeps-same (Some old) new is = subst (λ (d : Option Cells). EachImage d (IsImage old)) (sym is) (λ image of. of)
 
+-- after a refusal the disk has only images that it had before
 pub refused-keeps : (status at : ℕ) (old new : Seen) (end : Ending) → IsRefused status at old new end → KeepsImages old new
 refused-keeps status at old new end r = keeps-resynced old.disk new.disk r.disk
 
@@ -207,6 +209,7 @@ list-images old new end (AnswersList.unstarted u) = unstarted-keeps old new end 
 list-images old new end (AnswersList.no_memory r) = refused-keeps 70 0 old new end r
 list-images old new end (AnswersList.listed records opened L) = keeps-synced old.disk new.disk L.disk
 
+-- a command leaves images as before, or ones of the records read with some that its job wrote
 pub store-images : (command : Command) (old new : Seen) (end : Ending) → Answers command old new end → opens_store command ≡ true → LeavesImages command old new
 store-images (RowOf n l b seen) old new end A opens = absurd (false≢true opens)
 store-images (InitWith numbers) old new end A opens = absurd (false≢true opens)
@@ -232,6 +235,7 @@ ran-stand : (command : Command) (records : List Record) (kind : Kind) (old new :
 ran-stand command records kind old new is None h = tt
 ran-stand command records kind old new is (Some cells) h = λ image of. inr (kind, is, h image of)
 
+-- over known records each image stands for these after a command, or for these with some of its job's
 pub known-images : (command : Command) (records : List Record) (old new : Seen) (end : Ending) → Answers command old new end → opens_store command ≡ true → IsKnown old records →
     EachImage old.disk (λ image. StandsFor image records) → EachImage new.disk (StandsAfter command records old new)
 known-images command records old new end A opens K stand = go (store-images command old new end A opens)
@@ -262,6 +266,7 @@ kept-left numbers key (Some cells) (Some now) h = λ image is. inl (h image is)
 refused-init : (numbers : Numbers) (status at : ℕ) (old new : Seen) (end : Ending) → IsRefused status at old new end → InitImages numbers old new
 refused-init numbers status at old new end r = ([], inr (kept-left numbers [] old.disk new.disk (refused-keeps status at old new end r)))
 
+-- an init sets the store up, or leaves images that a failed init may leave
 pub init-images : (numbers : Numbers) (old new : Seen) (end : Ending) → AnswersInit numbers old new end → InitImages numbers old new
 init-images numbers old new end (AnswersInit.bad_setup bad same r) = refused-init numbers 20 0 old new end r
 init-images numbers old new end (AnswersInit.too_few_providers good few same r) = refused-init numbers 22 0 old new end r
@@ -274,6 +279,7 @@ init-images numbers old new end (AnswersInit.keyed bytes key good enough read fo
 init-images numbers old new end (AnswersInit.keyed bytes key good enough read form (InitsDisk.already is r)) = refused-init numbers 10 0 old new end r
 init-images numbers old new end (AnswersInit.keyed bytes key good enough read form (InitsDisk.ready R)) = (key, inl R.disk)
 
+-- over a store that is set up an init leaves only images that the disk had before
 pub init-kept : (numbers : Numbers) (records : List Record) (old new : Seen) (end : Ending) → AnswersInit numbers old new end → records ≢ [] → EachImage old.disk (λ image. StandsFor image records) → KeepsImages old new
 init-kept numbers records old new end A some stand = go old.disk new.disk stand (init-images numbers old new end A)
   where

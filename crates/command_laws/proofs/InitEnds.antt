@@ -52,6 +52,7 @@ seen-short old (Some left) bytes seen is short R =
 form-seen : (old new : Option (List ℕ)) (bytes seen key : List ℕ) → old ≡ Some bytes → ReadsUpTo longest_key old new seen → IsKeyForm bytes key → IsKeyForm seen key
 form-seen old new bytes seen key is R F = subst (λ b. IsKeyForm b key) (short-read old new bytes seen is (seen-short old new bytes seen is (form-length bytes key F) R) R) F
 
+-- where what was read of the source has the key's form, the whole source has it
 pub form-all : (old new : Option (List ℕ)) (bytes seen key : List ℕ) → old ≡ Some bytes → ReadsUpTo longest_key old new seen → IsKeyForm seen key → IsKeyForm bytes key
 form-all old new bytes seen key is R F = subst (λ b. IsKeyForm b key) (sym (short-read old new bytes seen is (form-length seen key F) R)) F
 
@@ -109,6 +110,7 @@ already-free cells long set_up (inr none) = subst BeginsWithSetup (one_meaning (
 
 -- ---- an init that is done
 
+-- a done init set the store up with the numbers and the key of its source
 pub init-done : (numbers : Numbers) (old new : Seen) (end : Ending) → AnswersInit numbers old new end → IsDone end → IsInit numbers old new end
 init-done numbers old new end (AnswersInit.bad_setup bad same r) done = absurd (not-done end.status 20 r.status_is (λ e. omega (arith, e)) (λ e. omega (arith, e)) done)
 init-done numbers old new end (AnswersInit.too_few_providers good few same r) done = absurd (not-done end.status 22 r.status_is (λ e. omega (arith, e)) (λ e. omega (arith, e)) done)
@@ -139,6 +141,7 @@ written-not text old new end m (inl w) is zero sink memory = zero (sym w.0 ∙ i
 written-not text old new end m (inr (inl w)) is zero sink memory = sink (sym w.1 ∙ is)
 written-not text old new end m (inr (inr w)) is zero sink memory = memory (sym w.0 ∙ is)
 
+-- an init ends with 20 only where its numbers are no setup
 pub setup-only : (numbers : Numbers) (old new : Seen) (end : Ending) → AnswersInit numbers old new end → end.status ≡ 20 → is_setup (setup_with numbers []) ≡ false
 setup-only numbers old new end (AnswersInit.bad_setup bad same r) is_20 = bad
 setup-only numbers old new end (AnswersInit.too_few_providers good few same r) is_20 = absurd (not_two end.status 22 20 r.status_is is_20 (λ e. omega (arith, e)))
@@ -151,6 +154,7 @@ setup-only numbers old new end (AnswersInit.keyed seen key good enough read form
 setup-only numbers old new end (AnswersInit.keyed seen key good enough read form (InitsDisk.no_memory F)) is_20 = absurd (not_two end.status 70 20 F.status_is is_20 (λ e. omega (arith, e)))
 setup-only numbers old new end (AnswersInit.keyed seen key good enough read form (InitsDisk.ready R)) is_20 = absurd (written-not ready_line old new end 20 R.written is_20 (λ e. omega (arith, e)) (λ e. omega (arith, e)) (λ e. omega (arith, e)))
 
+-- an init ends with 22 only where too few providers are handed in
 pub few-only : (numbers : Numbers) (old new : Seen) (end : Ending) → AnswersInit numbers old new end → end.status ≡ 22 → (is_setup (setup_with numbers []) ≡ true) × (length old.providers < numbers.n)
 few-only numbers old new end (AnswersInit.bad_setup bad same r) is_22 = absurd (not_two end.status 20 22 r.status_is is_22 (λ e. omega (arith, e)))
 few-only numbers old new end (AnswersInit.too_few_providers good few same r) is_22 = (good, few)
@@ -163,6 +167,7 @@ few-only numbers old new end (AnswersInit.keyed seen key good enough read form (
 few-only numbers old new end (AnswersInit.keyed seen key good enough read form (InitsDisk.no_memory F)) is_22 = absurd (not_two end.status 70 22 F.status_is is_22 (λ e. omega (arith, e)))
 few-only numbers old new end (AnswersInit.keyed seen key good enough read form (InitsDisk.ready R)) is_22 = absurd (written-not ready_line old new end 22 R.written is_22 (λ e. omega (arith, e)) (λ e. omega (arith, e)) (λ e. omega (arith, e)))
 
+-- an init whose source is a key does not end with 18
 pub key-only : (numbers : Numbers) (bytes spelled : List ℕ) (old new : Seen) (end : Ending) → old.source ≡ Some bytes → IsKeyForm bytes spelled → AnswersInit numbers old new end → end.status ≡ 18 → ⊥
 key-only numbers bytes spelled old new end told spells (AnswersInit.bad_setup bad same r) is_18 = absurd (not_two end.status 20 18 r.status_is is_18 (λ e. omega (arith, e)))
 key-only numbers bytes spelled old new end told spells (AnswersInit.too_few_providers good few same r) is_18 = absurd (not_two end.status 22 18 r.status_is is_18 (λ e. omega (arith, e)))
@@ -175,6 +180,7 @@ key-only numbers bytes spelled old new end told spells (AnswersInit.keyed seen k
 key-only numbers bytes spelled old new end told spells (AnswersInit.keyed seen key good enough read form (InitsDisk.no_memory F)) is_18 = absurd (not_two end.status 70 18 F.status_is is_18 (λ e. omega (arith, e)))
 key-only numbers bytes spelled old new end told spells (AnswersInit.keyed seen key good enough read form (InitsDisk.ready R)) is_18 = absurd (written-not ready_line old new end 18 R.written is_18 (λ e. omega (arith, e)) (λ e. omega (arith, e)) (λ e. omega (arith, e)))
 
+-- an init ends with 8 only where the disk holds a journal that is bad at this place
 pub journal-only : (numbers : Numbers) (cells : Cells) (old new : Seen) (end : Ending) → old.disk ≡ Some cells → AnswersInit numbers old new end → end.status ≡ 8 → (9 < length (journal_read cells)) × IsBadInit (journal_read cells) end.at
 journal-only numbers cells old new end tells (AnswersInit.bad_setup bad same r) is_8 = absurd (not_two end.status 20 8 r.status_is is_8 (λ e. omega (arith, e)))
 journal-only numbers cells old new end tells (AnswersInit.too_few_providers good few same r) is_8 = absurd (not_two end.status 22 8 r.status_is is_8 (λ e. omega (arith, e)))
@@ -187,6 +193,7 @@ journal-only numbers cells old new end tells (AnswersInit.keyed seen key good en
 journal-only numbers cells old new end tells (AnswersInit.keyed seen key good enough read form (InitsDisk.no_memory F)) is_8 = absurd (not_two end.status 70 8 F.status_is is_8 (λ e. omega (arith, e)))
 journal-only numbers cells old new end tells (AnswersInit.keyed seen key good enough read form (InitsDisk.ready R)) is_8 = absurd (written-not ready_line old new end 8 R.written is_8 (λ e. omega (arith, e)) (λ e. omega (arith, e)) (λ e. omega (arith, e)))
 
+-- an init ends with 10 only where the disk holds the journal of a store that is set up
 pub already-only : (numbers : Numbers) (cells : Cells) (old new : Seen) (end : Ending) → old.disk ≡ Some cells → AnswersInit numbers old new end → end.status ≡ 10 → (9 < length (journal_read cells)) × IsSetUpAlready (journal_read cells)
 already-only numbers cells old new end tells (AnswersInit.bad_setup bad same r) is_10 = absurd (not_two end.status 20 10 r.status_is is_10 (λ e. omega (arith, e)))
 already-only numbers cells old new end tells (AnswersInit.too_few_providers good few same r) is_10 = absurd (not_two end.status 22 10 r.status_is is_10 (λ e. omega (arith, e)))
@@ -201,6 +208,7 @@ already-only numbers cells old new end tells (AnswersInit.keyed seen key good en
 
 -- ---- and always with them
 
+-- an init whose numbers are no setup ends with 20, or finds no memory
 pub setup-always : (numbers : Numbers) (old new : Seen) (end : Ending) → AnswersInit numbers old new end → is_setup (setup_with numbers []) ≡ false → (end.status ≡ 20) ⊎ (end.status ≡ 70)
 setup-always numbers old new end (AnswersInit.bad_setup bad same r) is = inl r.status_is
 setup-always numbers old new end (AnswersInit.too_few_providers good few same r) is = absurd (false≢true (sym is ∙ good))
@@ -209,6 +217,7 @@ setup-always numbers old new end (AnswersInit.bad_key seen good enough read none
 setup-always numbers old new end (AnswersInit.keyed seen key good enough read form D) is = absurd (false≢true (sym is ∙ good))
 setup-always numbers old new end (AnswersInit.no_memory taken r) is = inr r.status_is
 
+-- an init with too few providers ends with 22, or finds no memory
 pub few-always : (numbers : Numbers) (old new : Seen) (end : Ending) → AnswersInit numbers old new end → is_setup (setup_with numbers []) ≡ true → length old.providers < numbers.n →
     (end.status ≡ 22) ⊎ (end.status ≡ 70)
 few-always numbers old new end (AnswersInit.bad_setup bad same r) good is = absurd (false≢true (sym bad ∙ good))
@@ -218,6 +227,7 @@ few-always numbers old new end (AnswersInit.bad_key seen fine enough read none r
 few-always numbers old new end (AnswersInit.keyed seen key fine enough read form D) good is = absurd (omega (arith, enough, is))
 few-always numbers old new end (AnswersInit.no_memory taken r) good is = inr r.status_is
 
+-- an init whose source is no key ends with 18, or finds no memory
 pub key-always : (numbers : Numbers) (bytes : List ℕ) (old new : Seen) (end : Ending) → AnswersInit numbers old new end → is_setup (setup_with numbers []) ≡ true → numbers.n ≤ length old.providers →
     old.source ≡ Some bytes → ((key : List ℕ) → IsKeyForm bytes key → ⊥) → (Rose old.source_faults new.source_faults → ⊥) → (end.status ≡ 18) ⊎ (end.status ≡ 70)
 key-always numbers bytes old new end (AnswersInit.bad_setup bad same r) good enough told none calm = absurd (false≢true (sym bad ∙ good))
@@ -272,6 +282,7 @@ module _ (s : Setup) (cells : Cells) (old new : Seen) (end : Ending) (tells : ol
   disk-free free sink (InitsDisk.no_memory F) = inr (F.status_is, none-written ready_line old.sink new.sink F.sink)
   disk-free free sink (InitsDisk.ready R) = written-well ready_line old new end R.written sink
 
+-- an init with a key over a bad journal ends with 8 and the bad place, or finds no memory
 pub journal-always : (numbers : Numbers) (key : List ℕ) (cells : Cells) (at : ℕ) (old new : Seen) (end : Ending) → AnswersInit numbers old new end → IsKeyed numbers key old → old.disk ≡ Some cells →
     9 < length (journal_read cells) → IsBadInit (journal_read cells) at → (Rose old.source_faults new.source_faults → ⊥) → (Rose old.disk_faults new.disk_faults → ⊥) →
     ((end.status ≡ 8) × (end.at ≡ at)) ⊎ (end.status ≡ 70)
@@ -280,6 +291,7 @@ journal-always numbers key cells at old new end A K tells long bad source disk =
   | inr r ↦ inr r.status_is
 ]
 
+-- an init with a key over a store that is set up ends with 10, or finds no memory
 pub already-always : (numbers : Numbers) (key : List ℕ) (cells : Cells) (old new : Seen) (end : Ending) → AnswersInit numbers old new end → IsKeyed numbers key old → old.disk ≡ Some cells →
     9 < length (journal_read cells) → IsSetUpAlready (journal_read cells) → (Rose old.source_faults new.source_faults → ⊥) → (Rose old.disk_faults new.disk_faults → ⊥) → (end.status ≡ 10) ⊎ (end.status ≡ 70)
 already-always numbers key cells old new end A K tells long set_up source disk = elim (keyed-disk numbers key old new end A K source) [
@@ -287,6 +299,7 @@ already-always numbers key cells old new end A K tells long set_up source disk =
   | inr r ↦ inr r.status_is
 ]
 
+-- an init with a key over a free disk and with no fault is done, or finds no memory
 pub init-well : (numbers : Numbers) (key : List ℕ) (cells : Cells) (old new : Seen) (end : Ending) → AnswersInit numbers old new end → IsKeyed numbers key old → old.disk ≡ Some cells → IsFree cells →
     (Rose old.source_faults new.source_faults → ⊥) → (Rose old.disk_faults new.disk_faults → ⊥) → (Rose old.sink_faults new.sink_faults → ⊥) → GivesUnlessMemory ready_line old new end
 init-well numbers key cells old new end A K tells free source disk sink = elim (keyed-disk numbers key old new end A K source) [
@@ -296,6 +309,7 @@ init-well numbers key cells old new end A K tells free source disk sink = elim (
 
 -- ---- lists
 
+-- a done list gave the lines of the files in effect
 pub list-done : (old new : Seen) (end : Ending) → AnswersList old new end → IsDone end → IsListed old new end
 list-done old new end (AnswersList.unstarted u) done = absurd (unstarted-done old new end u done)
 list-done old new end (AnswersList.no_memory r) done = absurd (not-done end.status 70 r.status_is (λ e. omega (arith, e)) (λ e. omega (arith, e)) done)
@@ -307,6 +321,7 @@ list-done old new end (AnswersList.listed records opened L) done = record {
   providers = L.providers;
 }
 
+-- a list over known records with no fault gives the lines of the files, or finds no memory
 pub list-well : (records : List Record) (old new : Seen) (end : Ending) → AnswersList old new end → IsKnown old records → (Rose old.disk_faults new.disk_faults → ⊥) → (Rose old.sink_faults new.sink_faults → ⊥) →
     GivesUnlessMemory (list_lines (files_of records)) old new end
 list-well records old new end (AnswersList.unstarted u) K disk sink = elim (unstarted-known old new end records K u) [

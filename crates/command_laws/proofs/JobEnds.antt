@@ -38,6 +38,7 @@ use Rattle.command_laws.proofs.GetEnds.{shape-at, ran_left}
 
 -- ---- what is common
 
+-- a command that did not start was refused, with a status of its own
 pub unstarted-refused : (old new : Seen) (end : Ending) → Unstarted old new end → (status : ℕ) × (at : ℕ) × ((status ≢ 0) × (status ≢ 15)) × IsRefused status at old new end
 unstarted-refused old new end (Unstarted.disk_fault rose r) = (12, 0, ((λ e. omega (arith, e)), (λ e. omega (arith, e))), r)
 unstarted-refused old new end (Unstarted.not_set_up is r) = (9, 0, ((λ e. omega (arith, e)), (λ e. omega (arith, e))), r)
@@ -45,6 +46,7 @@ unstarted-refused old new end (Unstarted.bad_journal at is r) = (8, at, ((λ e. 
 unstarted-refused old new end (Unstarted.too_few_providers records read few synced r) = (22, 0, ((λ e. omega (arith, e)), (λ e. omega (arith, e))), r)
 unstarted-refused old new end (Unstarted.no_memory r) = (70, 0, ((λ e. omega (arith, e)), (λ e. omega (arith, e))), r)
 
+-- a command that did not start is not done
 pub unstarted-done : (old new : Seen) (end : Ending) → Unstarted old new end → IsDone end → ⊥
 unstarted-done old new end u done = (let r = unstarted-refused old new end u in elim done [ inl zero ↦ r.2.0 (sym r.3.status_is ∙ zero) | inr sink ↦ r.2.1 (sym r.3.status_is ∙ sink) ])
 
@@ -55,6 +57,7 @@ image-has image after doubt first rest is sure (inl (inl stands)) = subst (Stand
 image-has image after doubt first rest is sure (inl (inr none)) = absurd (let e : first ∷ rest ≡ [] = sym is ∙ none.0 in cc)
 image-has image after doubt first rest is sure (inr entry) = absurd (subst (λ d. IsSomeAnd d (λ entry. StandsFor image (entry ∷ after))) sure entry)
 
+-- where nothing is in doubt each image of the disk stands for the records after the job
 pub images-have : (told : Option Cells) (after : List Record) (doubt : Option Record) (first : Record) (rest : List Record) → after ≡ first ∷ rest → doubt ≡ None →
     EachImage told (λ image. StandsOrIsEmpty image after ⊎ IsSomeAnd doubt (λ entry. StandsFor image (entry ∷ after))) → EachImage told (λ image. StandsFor image (first ∷ rest))
 images-have None after doubt first rest is sure h = tt
@@ -68,6 +71,7 @@ EndsWith records kind how old new end = EndsByAnswer (text_of (setup_in_effect r
 pub memory-well : (text : List ℕ) (old new : Seen) (end : Ending) → IsRefused 70 0 old new end → GivesUnlessMemory text old new end
 memory-well text old new end r = inr (r.status_is, none-written text old.sink new.sink r.sink)
 
+-- a status other than 0 and 15 is not done
 pub not-done : (status n : ℕ) → status ≡ n → n ≢ 0 → n ≢ 15 → (status ≡ 0) ⊎ (status ≡ 15) → ⊥
 not-done status n is zero sink (inl done) = zero (sym is ∙ done)
 not-done status n is zero sink (inr done) = sink (sym is ∙ done)
@@ -88,12 +92,14 @@ second-off true c x y rest h = absurd (let e : Some x ≡ None = h in cc)
 second-off false true x y rest h = absurd (let e : Some y ≡ None = h in cc)
 second-off false false x y rest h = refl
 
+-- a put that is not refused has a file that is not too long
 pub not-long : (records : List Record) (name bytes : List ℕ) → refusal_over records (PutJob name bytes) ≡ None → length bytes ≤ largest_file
 not-long records name bytes none = at-most largest_file (length bytes) (second-off _ (nat_lt largest_file (length bytes)) _ _ _ none)
   where
     at-most : (a b : ℕ) → nat_lt a b ≡ false → b ≤ a
     at-most a b e = grind (arith, e)
 
+-- after a put's two records its file is in effect under its name
 pub put-in_effect : (records : List Record) (name : List ℕ) (size : ℕ) →
     file_of (after_put records name size) name
     ≡ Some (file_as name (next_id records) size (profile_in (setup_of records)))
@@ -120,6 +126,7 @@ put-by name bytes records old new end opened read begins answer.DiskFault left L
 put-by name bytes records old new end opened read begins answer.Memory left L by done = absurd (not-done end.status 70 by.status_is (λ e. omega (arith, e)) (λ e. omega (arith, e)) done)
 put-by name bytes records old new end opened read begins how left L by done = absurd L
 
+-- a done put stored its whole source on every provider, and it is in effect
 pub put-done : (name : List ℕ) (old new : Seen) (end : Ending) → AnswersPut name old new end → IsDone end → IsWholePut name old new end
 put-done name old new end (AnswersPut.unstarted u same) done = absurd (unstarted-done old new end u done)
 put-done name old new end (AnswersPut.source_fault records opened rose synced taken r) done = absurd (not-done end.status 14 r.status_is (λ e. omega (arith, e)) (λ e. omega (arith, e)) done)
@@ -152,6 +159,7 @@ put-job-well name bytes records old new end begins disk stores sink (AnswersJob.
           inr (told.status_is, none-written (stored_line name (length bytes)) old.sink new.sink told.sink))
     ]
 
+-- a put that is not refused and meets no fault is done, or finds no memory
 pub put-well : (name bytes : List ℕ) (records : List Record) (old new : Seen) (end : Ending) → AnswersPut name old new end → IsKnown old records → old.source ≡ Some bytes →
     refusal_over records (PutJob name bytes) ≡ None → (Rose old.disk_faults new.disk_faults → ⊥) →
     ((j : ℕ) → j < (setup_in_effect records).n → Rose (provider_at old.providers j).store_faults (provider_at new.providers j).store_faults → ⊥) →
@@ -194,6 +202,7 @@ read-same records name old new bytes seen is R = elim (cases_lt largest_file (le
   | inr l ↦ ap (λ b. refusal_over records (PutJob name b)) (read-all old new bytes seen is l R)
 ]
 
+-- a put ends with the status of a refusal only where that one is the first that applies
 pub put-only : (name bytes : List ℕ) (records : List Record) (old new : Seen) (end : Ending) (why : Refusal) → AnswersPut name old new end → IsKnown old records → old.source ≡ Some bytes →
     status_of why ≢ 70 → end.status ≡ status_of why → refusal_over records (PutJob name bytes) ≡ Some why
 put-only name bytes records old new end why (AnswersPut.unstarted u same) K is own e = elim (unstarted-known old new end records K u) [
@@ -206,6 +215,7 @@ put-only name bytes records old new end why (AnswersPut.begun other seen opened 
     sym (read-same records name old.source new.source bytes seen is read)
     ∙ refused-only (PutJob name seen) records old new end why (subst (λ rs. AnswersJob (PutJob name seen) rs old new end) (known-once old records other K opened.read) A) own e
 
+-- a put for which a refusal is the first that applies is refused so, or finds no memory
 pub put-always : (name bytes : List ℕ) (records : List Record) (old new : Seen) (end : Ending) (why : Refusal) → AnswersPut name old new end → IsKnown old records → old.source ≡ Some bytes →
     (Rose old.disk_faults new.disk_faults → ⊥) → (Rose old.source_faults new.source_faults → ⊥) → refusal_over records (PutJob name bytes) ≡ Some why →
     IsRefused (status_of why) 0 old new end ⊎ IsRefused 70 0 old new end
@@ -237,6 +247,7 @@ drop-by name records old new end opened answer.DiskFault left L by done = absurd
 drop-by name records old new end opened answer.Memory left L by done = absurd (not-done end.status 70 by.status_is (λ e. omega (arith, e)) (λ e. omega (arith, e)) done)
 drop-by name records old new end opened how left L by done = absurd L
 
+-- a done drop took its file out of effect, and its blocks away but where a count rose
 pub drop-done : (name : List ℕ) (old new : Seen) (end : Ending) → AnswersAlone (DropJob name) old new end → IsDone end → IsDropped name old new end
 drop-done name old new end (AnswersAlone.unstarted u) done = absurd (unstarted-done old new end u done)
 drop-done name old new end (AnswersAlone.begun records opened (AnswersJob.refused why is synced r)) done = absurd (refused-done why end.status r.status_is done)
@@ -255,6 +266,7 @@ drop-job-well name records old new end begins disk sink (AnswersJob.ended how no
           inr (told.status_is, none-written (dropped_line name) old.sink new.sink told.sink))
     ]
 
+-- a drop that is not refused and meets no fault is done, or finds no memory
 pub drop-well : (name : List ℕ) (records : List Record) (old new : Seen) (end : Ending) → AnswersAlone (DropJob name) old new end → IsKnown old records →
     refusal_over records (DropJob name) ≡ None → (Rose old.disk_faults new.disk_faults → ⊥) → (Rose old.sink_faults new.sink_faults → ⊥) → GivesUnlessMemory (dropped_line name) old new end
 drop-well name records old new end A K begins disk sink = elim (alone-known (DropJob name) old new end records K A) [
@@ -282,6 +294,7 @@ audit-by records old new end opened answer.DiskFault left L by done = absurd (no
 audit-by records old new end opened answer.Memory left L by done = absurd (not-done end.status 70 by.status_is (λ e. omega (arith, e)) (λ e. omega (arith, e)) done)
 audit-by records old new end opened how left L by done = absurd L
 
+-- a done audit told counts that are the verdicts on what it heard
 pub audit-done : (old new : Seen) (end : Ending) → AnswersAlone AuditJob old new end → IsDone end → IsAudited old new end
 audit-done old new end (AnswersAlone.unstarted u) done = absurd (unstarted-done old new end u done)
 audit-done old new end (AnswersAlone.begun records opened (AnswersJob.refused why is synced r)) done = absurd (refused-done why end.status r.status_is done)
@@ -293,6 +306,7 @@ pub zero-or-memory : (text : List ℕ) (old new : Seen) (end : Ending) → Gives
 zero-or-memory text old new end (inl w) = inl w.0
 zero-or-memory text old new end (inr w) = inr w.0
 
+-- a command at status 0, or one that found no memory, ended in order
 pub in-order : (command : Command) (old new : Seen) (end : Ending) → (end.status ≡ 0) ⊎ (end.status ≡ 70) → EndsInOrder command old new end
 in-order command old new end (inl is) = EndsInOrder.done is
 in-order command old new end (inr is) = EndsInOrder.no_memory is
@@ -308,6 +322,7 @@ audit-job-well records old new end begins disk sink (AnswersJob.ended how none r
       | inr same ↦ (let told : EndsWith records AuditJob answer.Memory old new end = subst (λ h. EndsWith records AuditJob h old new end) same by in inr told.status_is)
     ]
 
+-- an audit that is not refused and meets no fault is done, or finds no memory
 pub audit-well : (records : List Record) (old new : Seen) (end : Ending) → AnswersAlone AuditJob old new end → IsKnown old records →
     refusal_over records AuditJob ≡ None → (Rose old.disk_faults new.disk_faults → ⊥) → (Rose old.sink_faults new.sink_faults → ⊥) → (end.status ≡ 0) ⊎ (end.status ≡ 70)
 audit-well records old new end A K begins disk sink = elim (alone-known AuditJob old new end records K A) [
@@ -335,6 +350,7 @@ repair-by records old new end opened answer.DiskFault left due is_due L by done 
 repair-by records old new end opened answer.Memory left due is_due L by done = absurd (not-done end.status 70 by.status_is (λ e. omega (arith, e)) (λ e. omega (arith, e)) done)
 repair-by records old new end opened how left due is_due L by done = absurd L
 
+-- after a done repair each flagged provider holds the columns of what was fetched, and none is due
 pub repair-done : (old new : Seen) (end : Ending) → AnswersAlone RepairJob old new end → IsDone end → IsRepaired old new end
 repair-done old new end (AnswersAlone.unstarted u) done = absurd (unstarted-done old new end u done)
 repair-done old new end (AnswersAlone.begun records opened (AnswersJob.refused why is synced r)) done = absurd (refused-done why end.status r.status_is done)
@@ -355,6 +371,7 @@ repair-job-well records old new end bytes opened begins disk stores sink safe (A
       | inr same ↦ (let told : EndsWith records RepairJob answer.Memory old new end = subst (λ h. EndsWith records RepairJob h old new end) same by in inr told.status_is)
     ]
 
+-- a repair with no refusal, no fault and at most b bad providers a file is done, or finds no memory
 pub repair-well : (records : List Record) (old new : Seen) (end : Ending) (bytes : ℕ → List ℕ) → AnswersAlone RepairJob old new end → IsKnown old records →
     refusal_over records RepairJob ≡ None → (Rose old.disk_faults new.disk_faults → ⊥) →
     ((j : ℕ) → j < (setup_in_effect records).n → Rose (provider_at old.providers j).store_faults (provider_at new.providers j).store_faults → ⊥) → (Rose old.sink_faults new.sink_faults → ⊥) →
@@ -368,6 +385,7 @@ repair-well records old new end bytes A K begins disk stores sink safe = elim (a
 
 -- ---- puts, drops and audits over any disk
 
+-- a put with no fault ends in order, over any disk
 pub put-order : (name : List ℕ) (old new : Seen) (end : Ending) → AnswersPut name old new end → (Rose old.disk_faults new.disk_faults → ⊥) →
     ((j : ℕ) → Rose (provider_at old.providers j).store_faults (provider_at new.providers j).store_faults → ⊥) →
     (Rose old.source_faults new.source_faults → ⊥) → (Rose old.sink_faults new.sink_faults → ⊥) → EndsInOrder (PutUnder name) old new end
@@ -380,6 +398,7 @@ put-order name old new end (AnswersPut.begun records bytes opened read (AnswersJ
 put-order name old new end (AnswersPut.begun records bytes opened read (AnswersJob.ended how none runs left by)) disk stores source sink =
     in-order (PutUnder name) old new end (zero-or-memory _ old new end (put-job-well name bytes records old new end none disk (λ j l. stores j) sink (AnswersJob.ended how none runs left by)))
 
+-- a drop with no fault ends in order, over any disk
 pub drop-order : (name : List ℕ) (old new : Seen) (end : Ending) → AnswersAlone (DropJob name) old new end → (Rose old.disk_faults new.disk_faults → ⊥) → (Rose old.sink_faults new.sink_faults → ⊥) →
     EndsInOrder (DropOf name) old new end
 drop-order name old new end (AnswersAlone.unstarted u) disk sink = EndsInOrder.unstarted u
@@ -388,6 +407,7 @@ drop-order name old new end (AnswersAlone.begun records opened (AnswersJob.no_me
 drop-order name old new end (AnswersAlone.begun records opened (AnswersJob.ended how none runs left by)) disk sink =
     in-order (DropOf name) old new end (zero-or-memory _ old new end (drop-job-well name records old new end none disk sink (AnswersJob.ended how none runs left by)))
 
+-- an audit with no fault ends in order, over any disk
 pub audit-order : (old new : Seen) (end : Ending) → AnswersAlone AuditJob old new end → (Rose old.disk_faults new.disk_faults → ⊥) → (Rose old.sink_faults new.sink_faults → ⊥) → EndsInOrder AuditAll old new end
 audit-order old new end (AnswersAlone.unstarted u) disk sink = EndsInOrder.unstarted u
 audit-order old new end (AnswersAlone.begun records opened (AnswersJob.refused why is synced r)) disk sink = EndsInOrder.refused records AuditJob why opened refl is r
@@ -419,6 +439,7 @@ left-same of records kind how old new heard left same j = elim (cases_lt j (setu
 abbrev held_by : Provider → Option Held
 held_by p = p.held
 
+-- a get leaves what providers hold
 pub get-holds : (name : List ℕ) (old new : Seen) (end : Ending) → AnswersAlone (GetJob name) old new end → SameHolds old new
 get-holds name old new end (AnswersAlone.unstarted u) = unstarted-same held_by old new end u
 get-holds name old new end (AnswersAlone.begun records opened (AnswersJob.refused why is synced r)) = refused-same held_by _ 0 old new end r
@@ -426,6 +447,7 @@ get-holds name old new end (AnswersAlone.begun records opened (AnswersJob.no_mem
 get-holds name old new end (AnswersAlone.begun records opened (AnswersJob.ended how none runs left by)) =
     left-same held_by records (GetJob name) how old new end.heard left left.leaves.by_kind.held
 
+-- an audit leaves what providers hold
 pub audit-holds : (old new : Seen) (end : Ending) → AnswersAlone AuditJob old new end → SameHolds old new
 audit-holds old new end (AnswersAlone.unstarted u) = unstarted-same held_by old new end u
 audit-holds old new end (AnswersAlone.begun records opened (AnswersJob.refused why is synced r)) = refused-same held_by _ 0 old new end r
@@ -433,6 +455,7 @@ audit-holds old new end (AnswersAlone.begun records opened (AnswersJob.no_memory
 audit-holds old new end (AnswersAlone.begun records opened (AnswersJob.ended how none runs left by)) =
     left-same held_by records AuditJob how old new end.heard left left.leaves.by_kind.held
 
+-- a list leaves what providers hold
 pub list-holds : (old new : Seen) (end : Ending) → AnswersList old new end → SameHolds old new
 list-holds old new end (AnswersList.unstarted u) = unstarted-same held_by old new end u
 list-holds old new end (AnswersList.no_memory r) = refused-same held_by 70 0 old new end r

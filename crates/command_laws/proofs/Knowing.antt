@@ -50,6 +50,7 @@ pub record IsGood (s : Setup) (image : List ℕ) (rs : List Record) : Type 0 whe
 abbrev pub AreGood : Setup → Option Cells → Type 0
 AreGood s told = EachImage told (λ image. (rs : List Record) × IsGood s image rs)
 
+-- a disk that reads a good image reads its records
 pub read-good : (s : Setup) (told : Option Cells) (cells : Cells) (rs : List Record) → told ≡ Some cells → IsGood s (reads cells) rs → IsRead told rs
 read-good s told cells rs is G = record {
   some = G.some;
@@ -60,6 +61,7 @@ read-good s told cells rs is G = record {
       (stands-long (reads cells) rs G.some G.stands, stands-take largest_journal (reads cells) rs G.stands G.room);
 }
 
+-- a store whose disk reads a good image is known, with its records
 pub known-good : (s : Setup) (d : Seen) (cells : Cells) (rs : List Record) → d.disk ≡ Some cells → IsGood s (reads cells) rs → s.n ≤ length d.providers → IsKnown d rs
 known-good s d cells rs is G enough = record {
   tells = ap is_some is;
@@ -70,6 +72,7 @@ known-good s d cells rs is G enough = record {
 same-good : (s : Setup) (image : List ℕ) (a b : List Record) → IsGood s image a → StandsFor image b → IsGood s image b
 same-good s image a b G stands = subst (IsGood s image) (one_meaning image a b G.stands stands) G
 
+-- a store whose images are all good, and stand for these records, is sure
 pub sure-good : (s : Setup) (d : Seen) (cells : Cells) (rs : List Record) → d.disk ≡ Some cells → AreGood s d.disk → s.n ≤ length d.providers → DiskHas rs d → IsSure d rs
 sure-good s d cells rs is good enough has = record { known = known-good s d cells rs is here enough; images = has }
   where
@@ -81,6 +84,7 @@ sure-good s d cells rs is good enough has = record { known = known-good s d cell
 
 -- ---- the last state of a job
 
+-- records with a setup are not empty
 pub none-up : (rs : List Record) → is_some (setup_of rs) ≡ true → rs ≢ []
 none-up rs up none = false≢true (let e : false ≡ true = sym (ap (λ l. is_some (setup_of l)) none) ∙ up in e)
 
@@ -153,6 +157,7 @@ abbrev pub HasBytes : Kind → Type 0
 HasBytes (PutJob name bytes) = AreBytes bytes
 HasBytes kind = Unit {0}
 
+-- a job that is not refused, and whose bytes are bytes, has words that are bytes
 pub spelled-kind : (records : List Record) (kind : Kind) → HasBytes kind → refusal_over records kind ≡ None → IsSpelledKind kind
 spelled-kind records (PutJob name bytes) are none = (name-bytes name (first-off (is_name name) _ _ none), are)
 spelled-kind records (GetJob name) are none = name-bytes name (first-off (is_name name) _ _ none)
@@ -167,6 +172,7 @@ spelled-kind records UpgradeJob are none = tt
 abbrev pub LeavesGood : List Record → Seen → Seen → Type 0
 LeavesGood records old new = AreGood (setup_in_effect records) new.disk × ((setup_in_effect records).n ≤ length new.providers)
 
+-- a job that ran alone leaves only good images, and as many providers
 pub ran-good : (records : List Record) (kind : Kind) (how : Answer) (old new : Seen) (heard : List Entry) → IsOpened old records → IsSpelledKind kind → RunsAlone records kind how old new heard → LeavesGood records old new
 unfolding setup_in
 ran-good records kind how old new heard R spelled A =

@@ -29,19 +29,23 @@ told-nothing : (o : Option (List ℕ)) → told_then o [] ≡ o
 told-nothing None = refl
 told-nothing (Some bytes) = ap Some (append-nil bytes)
 
+-- a sink as before took a front of any text: nothing of it
 pub none-written : (text : List ℕ) (old new : Option (List ℕ)) → new ≡ old → TakesFront old new text
 none-written text old new same = (0, omega arith, same ∙ sym (told-nothing old))
 
+-- a line with no fault of the sink is written, or no memory is found
 pub written-well : (text : List ℕ) (old new : Seen) (end : Ending) → WritesLine text end.status (sinking old new) → (Rose old.sink_faults new.sink_faults → ⊥) → GivesUnlessMemory text old new end
 written-well text old new end (inl done) calm = inl done
 written-well text old new end (inr (inl cut)) calm = absurd (calm cut.2)
 written-well text old new end (inr (inr cut)) calm = inr cut
 
+-- at status 0 the line stands behind what the sink held
 pub written-zero : (text : List ℕ) (old new : Seen) (end : Ending) → WritesLine text end.status (sinking old new) → end.status ≡ 0 → new.sink ≡ told_then old.sink text
 written-zero text old new end (inl done) zero = done.1
 written-zero text old new end (inr (inl cut)) zero = absurd (let e : 15 ≡ 0 = sym cut.1 ∙ zero in omega (arith, e))
 written-zero text old new end (inr (inr cut)) zero = absurd (let e : 70 ≡ 0 = sym cut.0 ∙ zero in omega (arith, e))
 
+-- at any status the sink took at most a front of the line
 pub written-front : (text : List ℕ) (old new : Seen) (end : Ending) → WritesLine text end.status (sinking old new) → TakesFront old.sink new.sink text
 written-front text old new end (inl done) = (length text, omega arith, done.1 ∙ ap (told_then old.sink) (sym (take-whole text)))
   where
@@ -53,6 +57,7 @@ written-front text old new end (inr (inr cut)) = cut.1
 
 -- ---- before the begin
 
+-- a known store has one list of records
 pub known-once : (old : Seen) (records other : List Record) → IsKnown old records → IsRead old.disk other → other ≡ records
 known-once old records other K R = (let c = is_some-at old.disk K.tells in read-once c.0 other records (subst (λ d. IsRead d other) c.1 R) (subst (λ d. IsRead d records) c.1 K.opened.read))
 
@@ -154,6 +159,7 @@ status-written text old new end (inl w) = EndStatus.by_done w.0
 status-written text old new end (inr (inl w)) = EndStatus.by_sink w.1
 status-written text old new end (inr (inr w)) = EndStatus.by_memory w.0
 
+-- a job that began ends with one of its own statuses
 pub status-ended : (text : List ℕ) (how : Answer) (old new : Seen) (end : Ending) → EndsByAnswer text how old new end → EndStatus end.status
 status-ended text (answer.Lost stripe row) old new end e = EndStatus.by_lost e.status_is
 status-ended text (answer.ProviderFault j) old new end e = EndStatus.by_provider e.status_is
@@ -184,6 +190,7 @@ at-some why end own e = ap refusal_at e ∙ status-back why own
 none-some : (n : ℕ) (why : Refusal) → refusal_at n ≡ None → refusal_at n ≡ Some why → ⊥
 none-some n why none some = (let e : None ≡ Some why = sym none ∙ some in cc)
 
+-- a job ends with the status of a refusal only where that one is the first that applies
 pub refused-only : (kind : Kind) (records : List Record) (old new : Seen) (end : Ending) (why : Refusal) → AnswersJob kind records old new end →
     status_of why ≢ 70 → end.status ≡ status_of why → refusal_over records kind ≡ Some why
 refused-only kind records old new end why (AnswersJob.refused other is synced r) own e = elim (refused-at other) [
@@ -194,6 +201,7 @@ refused-only kind records old new end why (AnswersJob.no_memory synced r) own e 
 refused-only kind records old new end why (AnswersJob.ended how none runs left by) own e =
     absurd (none-some end.status why (ended-none end.status (status-ended _ how old new end by)) (at-some why end own e))
 
+-- a job for which a refusal is the first that applies is refused so, or finds no memory
 pub refused-always : (kind : Kind) (records : List Record) (old new : Seen) (end : Ending) (why : Refusal) → AnswersJob kind records old new end →
     refusal_over records kind ≡ Some why → IsRefused (status_of why) 0 old new end ⊎ IsRefused 70 0 old new end
 refused-always kind records old new end why (AnswersJob.refused other is synced r) applies =
@@ -238,6 +246,7 @@ refused-opened refusal.OldVersion = refl
 refused-opened refusal.NewVersion = refl
 refused-opened refusal.PackTooLong = refl
 
+-- a job over records that were read does not end as a store that is not opened
 pub job-opened : (kind : Kind) (records : List Record) (old new : Seen) (end : Ending) → AnswersJob kind records old new end → is_unopened end.status ≡ false
 job-opened kind records old new end (AnswersJob.refused why is synced r) = ap is_unopened r.status_is ∙ refused-opened why
 job-opened kind records old new end (AnswersJob.no_memory synced r) = ap is_unopened r.status_is
@@ -245,6 +254,7 @@ job-opened kind records old new end (AnswersJob.ended how none runs left by) = e
 
 -- ---- and they are exact of a command over a disk that tells
 
+-- over a known store a command is refused only for the first cause that applies
 pub known-only : (kind : Kind) (records : List Record) (old new : Seen) (end : Ending) (why : Refusal) → AnswersAlone kind old new end → IsKnown old records →
     status_of why ≢ 70 → end.status ≡ status_of why → refusal_over records kind ≡ Some why
 known-only kind records old new end why A K own e = elim (alone-known kind old new end records K A) [
@@ -253,6 +263,7 @@ known-only kind records old new end why A K own e = elim (alone-known kind old n
   | inr job ↦ refused-only kind records old new end why job own e
 ]
 
+-- over a known store a command for which a cause applies is refused for it, or finds no memory
 pub known-always : (kind : Kind) (records : List Record) (old new : Seen) (end : Ending) (why : Refusal) → AnswersAlone kind old new end → IsKnown old records →
     (Rose old.disk_faults new.disk_faults → ⊥) → refusal_over records kind ≡ Some why → IsRefused (status_of why) 0 old new end ⊎ IsRefused 70 0 old new end
 known-always kind records old new end why A K disk applies = elim (alone-known kind old new end records K A) [

@@ -65,6 +65,7 @@ last-of start w kind job new W sound whole stay = record {
   whole = whole;
 }
 
+-- the state in which a job ended is sound, with the setup and the providers of its begin
 pub last-state : (start new : State) (moment : ℕ) (kind : Kind) (how : Answer) (heard : List Entry) → IsOpenAtRest start 1 → IsSpelledKind kind → RunsJob start moment kind how heard new → IsLast start new
 last-state start new moment kind how heard O spelled r =
     (let b = walk-begin moment r.job start r.begun kind O spelled r.begins in

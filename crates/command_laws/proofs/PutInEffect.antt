@@ -130,6 +130,7 @@ module _ (name bytes : List ℕ) (records : List Record) (spoilt : ℕ → Bool)
 
 -- ---- the command
 
+-- a put that the next command finds in effect has its file right on every provider that tells
 pub put-in-effect : (name bytes : List ℕ) (records : List Record) (spoilt : ℕ → Bool) (old new next : Seen) (end : Ending) → AnswersPut name old new end → IsSure old records → old.source ≡ Some bytes →
     Follows new next → IsKnown next (after_put records name (length bytes)) → ((j : ℕ) → j < (setup_in_effect records).n → spoilt j ≡ false → is_some (provider_at old.providers j).held ≡ true) → HasRightFile new (after_put records name (length bytes)) name bytes spoilt
 put-in-effect name bytes records spoilt old new next end (AnswersPut.unstarted u same) S source N F tells = absurd (let r = unstarted-refused old new end u in refused-not name bytes records spoilt old new next end S N F tells r.0 r.1 r.3)

@@ -29,6 +29,7 @@ use Rattle.command_laws.proofs.Samples.{set_up-sure, held-sure}
 abbrev pub formed : State → State
 formed w = record w { records = set_up_records; journal = set_up_records; area = A; is_switching = false; jobs = []; next_job = 1; alone = None; append = None; doubt = None; is_open = true; is_barred = false; disk_faults = 0 }
 
+-- a state that was just opened over the store that was set up is this one
 pub form-is : (w : State) → IsOpenedOver w set_up_records 0 idle_providers → formed w ≡ w
 form-is w V = sym (λ i. record w { records = V.records i; journal = (V.whole.journal ∙ V.records) i; area = V.whole.area i; is_switching = V.whole.unswitched i; jobs = V.jobs i; next_job = V.next_job i; alone = V.none_alone i; append = V.append i; doubt = V.doubt i; is_open = V.is_open i; is_barred = V.unbarred i; disk_faults = V.faults_are i })
 
@@ -151,6 +152,7 @@ put-alone = record {
       (ran-formed w n (subst (AreHanded idle_providers) (sym (form-is w V)) V.handed));
 }
 
+-- a put of the empty file is done
 pub put : Answers (PutUnder held_name) (store set_up_records) (with_sink (store held_records) (stored_line held_name 0)) (ends 0)
 put = AnswersPut.begun set_up_records [] set_up-sure.known.opened (record { are_bytes = refl; front = refl; few = omega arith; end = λ l. refl })
     (AnswersJob.ended Put begins-none put-alone

@@ -116,6 +116,7 @@ module _ (name bytes : List ℕ) (records : List Record) (due : Due) (spoilt : �
   by-job (AnswersJob.ended how none runs left by) = (let L = left.leaves.by_kind.0 in
       by-answer how left how (subst (λ (d : Due). RepairGives (ran_left records RepairJob how old new end.heard left) d how) (same_value (due_of records) L.due due L.is_due is_due) L.gives))
 
+  -- a repair that the next command finds in effect left a right file right on flagged providers too
   pub repair-in-effect : AnswersAlone RepairJob old new end → Mended
   repair-in-effect (AnswersAlone.unstarted u) = absurd (let r = unstarted-refused old new end u in refused-not r.0 r.1 r.3)
   repair-in-effect (AnswersAlone.begun rs opened A) = by-job (subst (λ l. AnswersJob RepairJob l old new end) (known-once old records rs S.known opened.read) A)

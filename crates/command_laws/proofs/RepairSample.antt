@@ -24,6 +24,7 @@ use Rattle.job_laws.proofs.Telling.{left-alone, jobs-leave}
 use Rattle.job_laws.proofs.BeginRefusals.{refusal-of}
 use Rattle.command_laws.proofs.Samples.{store-sure}
 
+-- the store of the sample with a repair due is sure
 pub due-sure : IsSure (store due_records) due_records
 due-sure = store-sure due_records (λ e. cc) refl (refl, (refl, (refl, tt))) (omega arith) (omega arith)
 
@@ -118,6 +119,7 @@ repair-alone = record {
       (ran-formed w n (subst (AreHanded idle_providers) (sym (form-is w V)) V.handed));
 }
 
+-- a repair of the store with no file is done
 pub repair : Answers RepairDue (store due_records) repaired_store (ends 0)
 repair = (
   AnswersAlone.begun due_records due-sure.known.opened (AnswersJob.ended (Repaired 1) refl repair-alone

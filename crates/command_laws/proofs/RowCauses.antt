@@ -26,6 +26,7 @@ module _ (n l b : ℕ) (seen : List (Option ℕ)) (old new : Seen) (end : Ending
       no-shape : IsShape n l b → ⊥
       no-shape shape = told _ (A.lost shape (λ p accepted. written _ (A.held shape p accepted)))
 
+  -- a row ends with no status but 0, 4, 15, 20 and 70
   pub none-at : (m : ℕ) → end.status ≡ m → m ≢ 0 → m ≢ 4 → m ≢ 20 → m ≢ 70 → m ≢ 15 → ⊥
   none-at m is zero four twenty memory other = none-else m is zero four twenty memory (λ e rose. other e)
 
@@ -36,6 +37,7 @@ module _ (n l b : ℕ) (seen : List (Option ℕ)) (old new : Seen) (end : Ending
         (λ e rose. let more = rose below in omega (arith, more, l)))
   ]
 
+  -- a row ends with a status of a fault only where the sink's count rose
   pub row-causes : FaultsHaveCauses old new end
   row-causes = record {
     disk = λ is. absurd (none-at 12 is (λ e. omega (arith, e)) (λ e. omega (arith, e)) (λ e. omega (arith, e)) (λ e. omega (arith, e)) (λ e. omega (arith, e)));

@@ -43,6 +43,7 @@ use Rattle.job_laws.proofs.BeginRefusals.{refusal-of}
 
 -- ---- the store
 
+-- a store whose disk reads accepted records that fit is sure
 pub store-sure : (rs : List Record) → rs ≢ [] → IsTrue (list_all is_in_grammar rs) → AreAccepted rs → text_size rs ≤ largest_journal → (setup_in_effect rs).n ≤ 4 → IsSure (store rs) rs
 store-sure rs some all accepted room few = record {
   known = known-good (setup_in_effect rs) (store rs) (firm (text rs)) rs refl
@@ -50,9 +51,11 @@ store-sure rs some all accepted room few = record {
   images = λ image is. stands-text rs all image (image-firm (text rs) image is);
 }
 
+-- the store that was set up is sure
 pub set_up-sure : IsSure (store set_up_records) set_up_records
 set_up-sure = store-sure set_up_records (λ e. cc) refl (refl, tt) (let e : text_size set_up_records ≡ 51 = refl in omega (arith, e)) (omega arith)
 
+-- the store with the empty file is sure
 pub held-sure : IsSure (store held_records) held_records
 held-sure = store-sure held_records (λ e. cc) refl (refl, (refl, (refl, tt))) (let e : text_size held_records ≡ 77 = refl in omega (arith, e)) (omega arith)
 
@@ -67,6 +70,7 @@ right-at (suc (suc zero)) l = each-not-wrong (object_of small_setup 1) [] 2 (λ 
 right-at (suc (suc (suc zero))) l = each-not-wrong (object_of small_setup 1) [] 3 (λ stripe. None) (λ t within. absurd (no-stripe t within))
 right-at (suc (suc (suc (suc j)))) l = absurd (omega (arith, l))
 
+-- the empty file is in effect and right on every provider
 pub held-file : HasRightFile (store held_records) held_records held_name [] (λ j. false)
 held-file = record {
   file = file_as held_name 1 0 0;
@@ -91,6 +95,7 @@ none-bad = (let b = bad-few held_name [] held_records (λ j. false) (store held_
     no-rise (suc (suc (suc zero))) l rose = (let r = rose (omega arith) in omega (arith, r))
     no-rise (suc (suc (suc (suc j)))) l rose = absurd (omega (arith, l))
 
+-- a count that stays, below its last value, did not rise
 pub never-rises : (n : ℕ) → n < last_count → Rose n n → ⊥
 never-rises n low rose = (let r = rose low in omega (arith, r))
 
@@ -161,12 +166,14 @@ got-alone = record {
 
 -- ---- commands over it
 
+-- syncing a disk with nothing loose leaves it
 pub same-disk : (rs : List Record) → Some (firm (text rs)) ≡ Some (synced (firm (text rs)))
 same-disk rs = ap (λ bytes. Some (firm bytes)) (sym (reads-firm (text rs)))
 
 opened : IsOpened (store held_records) held_records
 opened = held-sure.known.opened
 
+-- a get of the empty file is done
 pub got : Answers (GetOf held_name) (store held_records) (store held_records) (ends 0)
 got = (
   AnswersAlone.begun held_records opened (AnswersJob.ended (Got []) refl got-alone
@@ -178,21 +185,25 @@ got = (
 refused-so : (status : ℕ) → IsRefused status 0 (store held_records) (store held_records) (ends status)
 refused-so status = record { status_is = refl; place = refl; heard = refl; disk = inl refl; providers = refl; sink = refl }
 
+-- a get of another name says that there is no such file
 pub missed : Answers (GetOf other_name) (store held_records) (store held_records) (ends 3)
 missed = (AnswersAlone.begun held_records opened (AnswersJob.refused refusal.NoSuchName refl (same-disk held_records) (refused-so 3)), (refl, refl))
 
+-- a list of the store with the empty file is done
 pub listed : Answers ListAll (store held_records) (with_sink (store held_records) (list_lines (files_of held_records))) (ends 0)
 listed = (
   AnswersList.listed held_records opened (record { written = inl (refl, refl); place = refl; heard = refl; disk = same-disk held_records; providers = refl }),
   (refl, refl),
 )
 
+-- over the store no count falls
 pub none-fell : NoCountFalls (store held_records) (store held_records)
 none-fell = record { disk = omega arith; handed = refl; stores = λ j. omega arith; others = λ j. omega arith; source = omega arith; sink = omega arith }
 
 later : IsLater (store held_records) (store held_records)
 later = record { disk = inl refl; faults = refl; events = []; replaced = refl }
 
+-- the two gets are a chain of commands
 pub chained : IsChain (store held_records) (get_held ∷ get_other ∷ [])
 chained = (
   later,

@@ -140,6 +140,7 @@ module _ (name bytes : List ℕ) (records : List Record) (file : File) (old new 
   job-unforged (AnswersJob.no_memory synced r) F = silent r.heard F
   job-unforged (AnswersJob.ended how none runs left by) F = by-answer (ran_left records (GetJob name) how old new end.heard left) how few shape in_effect left.leaves.by_kind F
 
+  -- what a get heard holds no forgery, where at most b + 1 providers are bad
   pub seen-unforged : AnswersAlone (GetJob name) old new end → Forged → ⊥
   seen-unforged A F = elim (alone-known (GetJob name) old new end records K A) [
     | inl (inl (rose, r)) ↦ silent r.heard F

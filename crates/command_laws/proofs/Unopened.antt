@@ -127,25 +127,31 @@ module _ (cells : Cells) (old new : Seen) (end : Ending) (tells : old.disk ≡ S
       absurd (let same = read-once cells other records (told-read other opened.read) (told-read records read) in
       let enough = subst (λ rs. (setup_in_effect rs).n ≤ length old.providers) same opened.enough in omega (arith, few, enough))
 
+-- a command ends with 9 only where the disk holds no setup
 pub fresh-only : (command : Command) (cells : Cells) (old new : Seen) (end : Ending) → Answers command old new end → opens_store command ≡ true → old.disk ≡ Some cells → end.status ≡ 9 → HasNoSetup (journal_read cells)
 fresh-only command cells old new end A opens tells nine = unset-only cells old new end tells (opening-of command old new end A opens) nine
 
+-- a command over a disk with no setup ends with 9, or finds no memory
 pub fresh-always : (command : Command) (cells : Cells) (old new : Seen) (end : Ending) → Answers command old new end → opens_store command ≡ true → old.disk ≡ Some cells → HasNoSetup (journal_read cells) →
     (Rose old.disk_faults new.disk_faults → ⊥) → (end.status ≡ 9) ⊎ (end.status ≡ 70)
 fresh-always command cells old new end A opens tells fresh calm = unset-always cells old new end tells calm fresh (opening-of command old new end A opens)
 
+-- a command ends with 8 only where the disk holds a journal that is bad at this place
 pub broken-only : (command : Command) (cells : Cells) (old new : Seen) (end : Ending) → Answers command old new end → opens_store command ≡ true → old.disk ≡ Some cells → end.status ≡ 8 →
     (9 < length (journal_read cells)) × IsBadStart (journal_read cells) end.at
 broken-only command cells old new end A opens tells eight = bad-only cells old new end tells (opening-of command old new end A opens) eight
 
+-- a command over a bad journal ends with 8 and the bad place, or finds no memory
 pub broken-always : (command : Command) (cells : Cells) (old new : Seen) (end : Ending) (at : ℕ) → Answers command old new end → opens_store command ≡ true → old.disk ≡ Some cells → 9 < length (journal_read cells) →
     IsBadStart (journal_read cells) at → (Rose old.disk_faults new.disk_faults → ⊥) → ((end.status ≡ 8) × (end.at ≡ at)) ⊎ (end.status ≡ 70)
 broken-always command cells old new end at A opens tells long bad calm = bad-always cells old new end tells calm at long bad (opening-of command old new end A opens)
 
+-- a command ends with 22 only where too few providers are handed in
 pub lacking-only : (command : Command) (old new : Seen) (end : Ending) → Answers command old new end → opens_store command ≡ true → end.status ≡ 22 →
     (records : List Record) × IsRead old.disk records × (length old.providers < (setup_in_effect records).n)
 lacking-only command old new end A opens is = few-only old new end (opening-of command old new end A opens) is
 
+-- a command with too few providers ends with 22, or finds no memory
 pub lacking-always : (command : Command) (cells : Cells) (old new : Seen) (end : Ending) (records : List Record) → Answers command old new end → opens_store command ≡ true → old.disk ≡ Some cells → IsRead old.disk records →
     length old.providers < (setup_in_effect records).n → (Rose old.disk_faults new.disk_faults → ⊥) → (end.status ≡ 22) ⊎ (end.status ≡ 70)
 lacking-always command cells old new end records A opens tells read few calm = few-always cells old new end tells calm records read few (opening-of command old new end A opens)

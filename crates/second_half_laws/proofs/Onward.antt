@@ -278,7 +278,7 @@ module _ (old : State) where
   onward limit moment Names r new h = lists old.is_open r new h
   onward limit moment Continue r new h = continues r new h
 
--- so it is of each event of a run: no count falls, and providers go on telling
+-- in a run no event makes a count of a device fall, and providers go on telling
 pub run_onward : (limit : ℕ) (start : State) (m : Moment) (ms : List Moment) → IsRun limit start (m ∷ ms) → AllOnward (now start ms) m.state
 run_onward limit start m ms run = onward (now start ms) limit (length ms) m.event m.outcome m.state run.1
 
