@@ -277,6 +277,7 @@ module _ (w : State) (n : ℕ) (count : w.handed ≡ 4) where
     past_text = record { next = Some (AuditDone 1 0 counts); is_next = (0, counts, refl, record { done = AuditStart 1 ∷ []; rest = []; parts = refl; after_is = refl }); same = refl };
   }
 
+-- the audit's job runs to a fault of the disk from every state just opened over the damaged store
 pub alone : RunsAlone byte_records (AuditJob) (DiskFault) (damaged) (audit_cut) (answers_heard)
 alone = record {
   faults = 0;
@@ -287,6 +288,7 @@ alone = record {
       (ran-formed w n V.handed.count);
 }
 
+-- the audit ends with status 12, and has heard the answers
 pub answers : Answers (AuditAll) (damaged) (audit_cut) (ends_hearing 12 answers_heard)
 answers = (
   AnswersAlone.begun byte_records old-sure.known.opened (AnswersJob.ended (DiskFault) audit_begins alone

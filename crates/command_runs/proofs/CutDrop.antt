@@ -115,6 +115,7 @@ module _ (w : State) (n : ℕ) (count : w.handed ≡ 4) where
     past_text = record { next = Some (Drop named); is_next = record { done = []; rest = []; parts = refl; after_is = refl }; same = refl };
   }
 
+-- the drop's job runs to a fault of the disk from every state just opened over the store
 pub alone : RunsAlone byte_records (DropJob named) (DiskFault) (byte_kept) (drop_cut) ([])
 alone = record {
   faults = 0;
@@ -125,6 +126,7 @@ alone = record {
       (ran-formed w n V.handed.count);
 }
 
+-- the drop ends with status 12
 pub answers : Answers (DropOf named) (byte_kept) (drop_cut) (ends 12)
 answers = (
   AnswersAlone.begun byte_records old-sure.known.opened (AnswersJob.ended (DiskFault) drop_begins alone

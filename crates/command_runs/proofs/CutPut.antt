@@ -265,6 +265,7 @@ module _ (w : State) (n : ℕ) (count : w.handed ≡ 4) where
     past_text = record { next = Some (PutDone 1 1); is_next = record { done = PutStart 1 named ∷ []; rest = []; parts = refl; after_is = refl }; same = refl };
   }
 
+-- the put's job runs to a fault of the disk from every state just opened over the store
 pub alone : RunsAlone four_records (PutJob named byte) (DiskFault) (to_put) (put_cut) ([])
 alone = record {
   faults = 0;
@@ -274,6 +275,7 @@ alone = record {
       (ran-formed w n V.handed.count);
 }
 
+-- the put ends with status 12
 pub answers : Answers (PutUnder named) (to_put) (put_cut) (ends 12)
 answers = AnswersPut.begun four_records byte old-sure.known.opened (record { are_bytes = refl; front = refl; few = omega arith; end = λ l. refl })
     (AnswersJob.ended (DiskFault) put_begins alone

@@ -217,6 +217,7 @@ module _ (w : State) (n : ℕ) (count : w.handed ≡ 4) where
     past_text = record { next = Some (RepairDone 1); is_next = record { done = []; rest = []; parts = refl; after_is = refl }; same = refl };
   }
 
+-- the repair's job runs to a fault of the disk from every state just opened over the store
 pub alone : RunsAlone byte_audited_records (RepairJob) (DiskFault) (due) (repair_cut) ([])
 alone = record {
   faults = 0;
@@ -227,6 +228,7 @@ alone = record {
       (ran-formed w n V.handed.count);
 }
 
+-- the repair ends with status 12
 pub answers : Answers (RepairDue) (due) (repair_cut) (ends 12)
 answers = (
   AnswersAlone.begun byte_audited_records old-sure.known.opened (AnswersJob.ended (DiskFault) repair_begins alone

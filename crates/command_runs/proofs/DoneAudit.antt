@@ -291,6 +291,7 @@ module _ (w : State) (n : ℕ) (count : w.handed ≡ 4) where
     past_text = refl;
   }
 
+-- the audit's job runs to its counts from every state just opened over the damaged store
 pub alone : RunsAlone byte_records (AuditJob) (Audited 1 0 counts) (damaged) (byte_audited) (answers_heard)
 alone = record {
   faults = 0;
@@ -301,6 +302,7 @@ alone = record {
       (ran-formed w n V.handed.count);
 }
 
+-- the audit ends with status 0, and has heard the answers
 pub answers : Answers (AuditAll) (damaged) (byte_audited) (ends_hearing 0 answers_heard)
 answers = (
   AnswersAlone.begun byte_records old-sure.known.opened (AnswersJob.ended (Audited 1 0 counts) audit_begins alone

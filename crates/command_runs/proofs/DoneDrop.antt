@@ -204,6 +204,7 @@ module _ (w : State) (n : ℕ) (count : w.handed ≡ 4) where
     past_text = refl;
   }
 
+-- the drop's job runs to its end from every state just opened over the store
 pub alone : RunsAlone byte_records (DropJob named) (Dropped) (byte_kept) (dropped) ([])
 alone = record {
   faults = 0;
@@ -214,6 +215,7 @@ alone = record {
       (ran-formed w n V.handed.count);
 }
 
+-- the drop ends with status 0
 pub answers : Answers (DropOf named) (byte_kept) (dropped) (ends 0)
 answers = (
   AnswersAlone.begun byte_records old-sure.known.opened (AnswersJob.ended (Dropped) drop_begins alone

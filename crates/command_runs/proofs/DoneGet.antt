@@ -159,6 +159,7 @@ module _ (w : State) (n : ℕ) (count : w.handed ≡ 4) where
     past_text = refl;
   }
 
+-- the get's job runs to the byte from every state just opened over the mended store
 pub alone : RunsAlone byte_repaired_records (GetJob named) (Got byte) (mended) (got) (own_blocks_heard)
 alone = record {
   faults = 0;
@@ -169,6 +170,7 @@ alone = record {
       (ran-formed w n V.handed.count);
 }
 
+-- the get ends with status 0 and the byte, and has heard all own blocks
 pub answers : Answers (GetOf named) (mended) (got) (ends_hearing 0 own_blocks_heard)
 answers = (
   AnswersAlone.begun byte_repaired_records old-sure.known.opened (AnswersJob.ended (Got byte) begins-none alone

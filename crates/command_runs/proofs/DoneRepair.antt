@@ -232,6 +232,7 @@ module _ (w : State) (n : ℕ) (count : w.handed ≡ 4) where
     past_text = refl;
   }
 
+-- the repair's job runs to its end from every state just opened over the store
 pub alone : RunsAlone byte_audited_records (RepairJob) (Repaired 1) (due) (repaired) ([])
 alone = record {
   faults = 0;
@@ -242,6 +243,7 @@ alone = record {
       (ran-formed w n V.handed.count);
 }
 
+-- the repair ends with status 0
 pub answers : Answers (RepairDue) (due) (repaired) (ends 0)
 answers = (
   AnswersAlone.begun byte_audited_records old-sure.known.opened (AnswersJob.ended (Repaired 1) repair_begins alone

@@ -45,6 +45,7 @@ accepted = record { degree = omega arith; agrees = (let e : agree (7 ∷ []) (up
 row_shape : IsShape 4 1 1
 row_shape = (omega arith, omega arith, omega arith, omega arith, omega arith)
 
+-- a row of three sevens and a nine gives the value 7
 pub done-row : Answers (RowOf 4 1 1 sevens) byte_kept (with_sink byte_kept (values_line (7 ∷ []))) (ends 0)
 done-row = (
   record {

@@ -129,6 +129,7 @@ module _ (w : State) (n : ℕ) (count : w.handed ≡ 4) where
     past_text = refl;
   }
 
+-- the upgrade's job runs to its end from every state just opened over devices that tell nothing
 pub alone : RunsAlone four_records UpgradeJob (Upgraded) (all_hidden) (all_hidden) ([])
 alone = record {
   faults = 0;

@@ -152,6 +152,7 @@ module _ (w : State) (n : ℕ) (count : w.handed ≡ 4) where
     past_text = refl;
   }
 
+-- the put's job runs to a failed store of provider 0 from every state just opened over the store
 pub alone : RunsAlone four_records (PutJob named byte) (ProviderFault 0) (to_put) (put_failed) ([])
 alone = record {
   faults = 0;
@@ -161,6 +162,7 @@ alone = record {
       (ran-formed w n V.handed.count);
 }
 
+-- the put ends with status 13, at provider 0
 pub answers : Answers (PutUnder named) (to_put) (put_failed) (ends 13)
 answers = AnswersPut.begun four_records byte old-sure.known.opened (record { are_bytes = refl; front = refl; few = omega arith; end = λ l. refl })
     (AnswersJob.ended (ProviderFault 0) put_begins alone

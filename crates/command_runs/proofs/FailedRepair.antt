@@ -170,6 +170,7 @@ module _ (w : State) (n : ℕ) (count : w.handed ≡ 4) where
     past_text = refl;
   }
 
+-- the repair's job runs to a failed store of provider 2 from every state just opened over the store
 pub alone : RunsAlone byte_audited_records (RepairJob) (ProviderFault 2) (due) (repair_failed) ([])
 alone = record {
   faults = 0;
@@ -180,6 +181,7 @@ alone = record {
       (ran-formed w n V.handed.count);
 }
 
+-- the repair ends with status 13, at provider 2
 pub answers : Answers (RepairDue) (due) (repair_failed) (ends_at 13 2)
 answers = (
   AnswersAlone.begun byte_audited_records old-sure.known.opened (AnswersJob.ended (ProviderFault 2) repair_begins alone

@@ -144,6 +144,7 @@ module _ (w : State) (n : ℕ) (count : w.handed ≡ 4) where
     past_text = refl;
   }
 
+-- the get's job runs to a lost row from every state just opened over devices that tell nothing
 pub alone : RunsAlone byte_records (GetJob named) (Lost 0 0) (all_hidden) (hidden_fetched) (no_blocks)
 alone = record {
   faults = 0;
@@ -154,6 +155,7 @@ alone = record {
       (ran-formed w n V.handed.count);
 }
 
+-- the get ends with status 4, and has heard no block
 pub answers : Answers (GetOf named) (all_hidden) (hidden_fetched) (ends_hearing 4 no_blocks)
 answers = (
   AnswersAlone.begun byte_records hidden-opened (AnswersJob.ended (Lost 0 0) get_begins alone

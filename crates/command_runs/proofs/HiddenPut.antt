@@ -278,6 +278,7 @@ module _ (w : State) (n : ℕ) (count : w.handed ≡ 4) where
     past_text = refl;
   }
 
+-- the put's job runs to its end from every state just opened over devices that tell nothing
 pub alone : RunsAlone four_records (PutJob named byte) (Put) (all_hidden) (all_hidden) ([])
 alone = record {
   faults = 0;
@@ -287,6 +288,7 @@ alone = record {
       (ran-formed w n V.handed.count);
 }
 
+-- the put ends with status 0
 pub answers : Answers (PutUnder named) (all_hidden) (all_hidden) (ends 0)
 answers = AnswersPut.begun four_records byte hidden-fresh (record { are_bytes = refl; front = refl; few = omega arith; end = λ l. tt })
     (AnswersJob.ended (Put) put_begins alone

@@ -145,6 +145,7 @@ module _ (w : State) (n : ℕ) (count : w.handed ≡ 4) where
     past_text = refl;
   }
 
+-- the get's job runs to a lost row from every state just opened over the store
 pub alone : RunsAlone byte_records (GetJob named) (Lost 0 0) (all_lost) (found_lost) (no_blocks)
 alone = record {
   faults = 0;
@@ -155,6 +156,7 @@ alone = record {
       (ran-formed w n V.handed.count);
 }
 
+-- the get ends with status 4, and has heard no block
 pub answers : Answers (GetOf named) (all_lost) (found_lost) (ends_hearing 4 no_blocks)
 answers = (
   AnswersAlone.begun byte_records old-sure.known.opened (AnswersJob.ended (Lost 0 0) get_begins alone

@@ -146,6 +146,7 @@ module _ (w : State) (n : ℕ) (count : w.handed ≡ 4) where
     past_text = refl;
   }
 
+-- the repair's job runs to a lost row from every state just opened over the store
 pub alone : RunsAlone byte_audited_records (RepairJob) (Lost 0 0) (due_lost) (repair_lost) ([])
 alone = record {
   faults = 0;
@@ -156,6 +157,7 @@ alone = record {
       (ran-formed w n V.handed.count);
 }
 
+-- the repair ends with status 4
 pub answers : Answers (RepairDue) (due_lost) (repair_lost) (ends 4)
 answers = (
   AnswersAlone.begun byte_audited_records old-sure.known.opened (AnswersJob.ended (Lost 0 0) repair_begins alone

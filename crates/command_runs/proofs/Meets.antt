@@ -35,6 +35,7 @@ none-tell (suc (suc zero)) l = refl
 none-tell (suc (suc (suc zero))) l = refl
 none-tell (suc (suc (suc (suc j)))) l = absurd (omega (arith, l))
 
+-- each provider tells what it holds where one block is lost
 pub three-tell : (j : ℕ) → j < 4 → is_some (provider_at three_hold j).held ≡ true
 three-tell zero l = refl
 three-tell (suc zero) l = refl
@@ -66,6 +67,7 @@ right-at (suc (suc zero)) l s = (let e : true ≡ false = s in absurd (cc e))
 right-at (suc (suc (suc zero))) l s = right_held 3
 right-at (suc (suc (suc (suc j)))) l s = absurd (omega (arith, l))
 
+-- with a repair due the file is right but on the provider whose block is lost
 pub due-file : HasRightFile due byte_audited_records named byte second
 due-file = record {
   file = kept;
@@ -83,6 +85,7 @@ robbed-untouched (suc (suc zero)) l s = (let e : true ≡ false = s in absurd (c
 robbed-untouched (suc (suc (suc zero))) l s = refl
 robbed-untouched (suc (suc (suc (suc j)))) l s = absurd (omega (arith, l))
 
+-- the repair raises no count of failed calls
 pub repair-steady : (spoilt : ℕ → Bool) → IsSteady 4 spoilt due repaired
 repair-steady spoilt zero l s rose = never-rises 0 (omega arith) rose
 repair-steady spoilt (suc zero) l s rose = never-rises 0 (omega arith) rose
@@ -90,6 +93,7 @@ repair-steady spoilt (suc (suc zero)) l s rose = never-rises 0 (omega arith) ros
 repair-steady spoilt (suc (suc (suc zero))) l s rose = never-rises 0 (omega arith) rose
 repair-steady spoilt (suc (suc (suc (suc j)))) l s rose = absurd (omega (arith, l))
 
+-- the repair that is cut off raises no count of failed calls
 pub cut-steady : (spoilt : ℕ → Bool) → IsSteady 4 spoilt due repair_cut
 cut-steady spoilt zero l s rose = never-rises 0 (omega arith) rose
 cut-steady spoilt (suc zero) l s rose = never-rises 0 (omega arith) rose
@@ -97,6 +101,7 @@ cut-steady spoilt (suc (suc zero)) l s rose = never-rises 0 (omega arith) rose
 cut-steady spoilt (suc (suc (suc zero))) l s rose = never-rises 0 (omega arith) rose
 cut-steady spoilt (suc (suc (suc (suc j)))) l s rose = absurd (omega (arith, l))
 
+-- the get raises no count of failed calls
 pub get-steady : (spoilt : ℕ → Bool) → IsSteady 4 spoilt mended got
 get-steady spoilt zero l s rose = never-rises 0 (omega arith) rose
 get-steady spoilt (suc zero) l s rose = never-rises 0 (omega arith) rose
@@ -126,6 +131,7 @@ right-kept (suc (suc zero)) l = right_held 2
 right-kept (suc (suc (suc zero))) l = right_held 3
 right-kept (suc (suc (suc (suc j)))) l = absurd (omega (arith, l))
 
+-- before the put of another file the first one is right on every provider
 pub kept-file : HasRightFile to_put_other byte_records named byte (λ j. false)
 kept-file = record {
   file = kept;
@@ -142,6 +148,7 @@ right-mended (suc (suc zero)) l = right_held 2
 right-mended (suc (suc (suc zero))) l = right_held 3
 right-mended (suc (suc (suc (suc j)))) l = absurd (omega (arith, l))
 
+-- after the repair the file is right on every provider
 pub mended-file : HasRightFile mended byte_repaired_records named byte (λ j. false)
 mended-file = record {
   file = kept;
@@ -158,6 +165,7 @@ right-damaged (suc (suc zero)) l s = (let e : true ≡ false = s in absurd (cc e
 right-damaged (suc (suc (suc zero))) l s = right_held 3
 right-damaged (suc (suc (suc (suc j)))) l s = absurd (omega (arith, l))
 
+-- in the damaged store the file is right but on the provider whose block is lost
 pub damaged-file : HasRightFile damaged byte_records named byte second
 damaged-file = record {
   file = kept;

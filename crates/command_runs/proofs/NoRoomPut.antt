@@ -75,6 +75,7 @@ module _ (w : State) (n : ℕ) (count : w.handed ≡ 4) where
     past_text = record { next = None; is_next = tt; same = refl };
   }
 
+-- the put's job runs to its want of memory from every state just opened over the store
 pub alone : RunsAlone four_records (PutJob named byte) (Memory) (to_put) (put_unmade) ([])
 alone = record {
   faults = 0;
@@ -84,6 +85,7 @@ alone = record {
       (ran-formed w n V.handed.count);
 }
 
+-- the put ends with status 70
 pub answers : Answers (PutUnder named) (to_put) (put_unmade) (ends 70)
 answers = AnswersPut.begun four_records byte old-sure.known.opened (record { are_bytes = refl; front = refl; few = omega arith; end = λ l. refl })
     (AnswersJob.ended (Memory) put_begins alone

@@ -281,6 +281,7 @@ module _ (w : State) (n : ℕ) (count : w.handed ≡ 4) where
     past_text = refl;
   }
 
+-- the other put's job runs to its end from every state just opened over the store with the file
 pub alone : RunsAlone byte_records (PutJob other_name byte) (Put) (to_put_other) (stored_other) ([])
 alone = record {
   faults = 0;
@@ -290,6 +291,7 @@ alone = record {
       (ran-formed w n V.handed.count);
 }
 
+-- the other put ends with status 0
 pub answers : Answers (PutUnder other_name) (to_put_other) (stored_other) (ends 0)
 answers = AnswersPut.begun byte_records byte old-sure.known.opened (record { are_bytes = refl; front = refl; few = omega arith; end = λ l. refl })
     (AnswersJob.ended (Put) begins-none alone

@@ -55,6 +55,7 @@ one_long [] h = absurd (omega (arith, h))
 one_long (x ∷ []) h = refl
 one_long (x ∷ y ∷ ys) h = absurd (omega (arith, h))
 
+-- bytes whose object 1 has one byte are these
 pub one_byte-is : (bytes : ℕ → List ℕ) → length (bytes 1) ≡ 1 → one_byte bytes ≡ bytes
 one_byte-is bytes h = λ i id. (at id) i
   where
@@ -84,6 +85,7 @@ formed rs bytes p q r s w = record w {
   disk_faults = 0;
 }
 
+-- a state just opened over these records and providers is the one spelled out
 pub form-is : (rs : List Record) (bytes : ℕ → List ℕ) (p q r s : Provider) (w : State) → bytes ≡ w.bytes →
     IsOpenedOver w rs 0 (p ∷ q ∷ r ∷ s ∷ []) → formed rs bytes p q r s w ≡ w
 form-is rs bytes p q r s w same V =

@@ -20,6 +20,7 @@ Opened = (w : State) (old : Seen) (records : List Record) (faults : ℕ) → ope
 abbrev pub ThereIsOne : Type 0
 ThereIsOne = (records : List Record) (faults : ℕ) (providers : List Provider) → AreAccepted records → (w : State) × IsOpenedOver w records faults providers
 
+-- a job that runs alone over records that were opened runs from some state
 pub somewhere-opened : Opened → ThereIsOne → (records : List Record) (kind : Kind) (answer : Answer) (old new : Seen) (heard : List Entry) →
     opens.IsOpened old records → RunsAlone records kind answer old new heard → RunsSomewhere kind answer heard
 somewhere-opened opened one records kind answer old new heard R alone =

@@ -279,6 +279,7 @@ module _ (w : State) (n : ℕ) (count : w.handed ≡ 4) where
     past_text = refl;
   }
 
+-- the put's job runs to its end from every state just opened over the store
 pub alone : RunsAlone four_records (PutJob named byte) (Put) (to_put) (byte_stored) ([])
 alone = record {
   faults = 0;
@@ -288,6 +289,7 @@ alone = record {
       (ran-formed w n V.handed.count);
 }
 
+-- the put ends with status 0
 pub answers : Answers (PutUnder named) (to_put) (byte_stored) (ends 0)
 answers = AnswersPut.begun four_records byte old-sure.known.opened (record { are_bytes = refl; front = refl; few = omega arith; end = λ l. refl })
     (AnswersJob.ended (Put) put_begins alone

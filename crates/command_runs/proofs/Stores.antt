@@ -8,12 +8,15 @@ use Rattle.command_runs.proofs.Shape.{AreFit, sure}
 four-fit : AreFit four_records
 four-fit = record { some = λ e. cc; all = refl; accepted = (refl, tt); room = omega arith }
 
+-- a journal may hold the records after a put's first append
 pub started-fit : AreFit started_records
 started-fit = record { some = λ e. cc; all = refl; accepted = (refl, (refl, tt)); room = omega arith }
 
+-- a journal may hold the records with the file
 pub byte-fit : AreFit byte_records
 byte-fit = record { some = λ e. cc; all = refl; accepted = (refl, (refl, (refl, tt))); room = omega arith }
 
+-- a journal may hold the records after the drop of the file
 pub dropped-fit : AreFit dropped_records
 dropped-fit = record { some = λ e. cc; all = refl; accepted = (refl, (refl, (refl, (refl, tt)))); room = omega arith }
 
@@ -23,66 +26,86 @@ audited-fit = record { some = λ e. cc; all = refl; accepted = (refl, (refl, (re
 repaired-fit : AreFit byte_repaired_records
 repaired-fit = record { some = λ e. cc; all = refl; accepted = (refl, (refl, (refl, (refl, (refl, (refl, tt)))))); room = omega arith }
 
+-- the store before the put is sure
 pub put-old : IsSure to_put four_records
 put-old = sure to_put four_records four-fit refl (omega arith)
 
+-- the store after the put is sure, with the file
 pub put-new : IsSure byte_stored byte_records
 put-new = sure byte_stored byte_records byte-fit refl (omega arith)
 
+-- the store after the put that failed at a store is sure, with its first record
 pub failed-new : IsSure put_failed started_records
 failed-new = sure put_failed started_records started-fit refl (omega arith)
 
+-- the store after the put that was cut off is sure, with the file
 pub cut-new : IsSure put_cut byte_records
 cut-new = sure put_cut byte_records byte-fit refl (omega arith)
 
+-- the store after the put that found no memory is sure, with no new record
 pub no_room-new : IsSure put_unmade four_records
 no_room-new = sure put_unmade four_records four-fit refl (omega arith)
 
+-- the store with the file is sure
 pub stored-sure : IsSure byte_kept byte_records
 stored-sure = sure byte_kept byte_records byte-fit refl (omega arith)
 
+-- the store after the drop is sure
 pub dropped-new : IsSure dropped dropped_records
 dropped-new = sure dropped dropped_records dropped-fit refl (omega arith)
 
+-- the store whose blocks are all lost is sure
 pub robbed-old : IsSure all_lost byte_records
 robbed-old = sure all_lost byte_records byte-fit refl (omega arith)
 
+-- the store after the get that found a row lost is sure
 pub lost-new : IsSure found_lost byte_records
 lost-new = sure found_lost byte_records byte-fit refl (omega arith)
 
+-- the store whose blocks are all lost and that has a repair due is sure
 pub robbed_due-old : IsSure due_lost byte_audited_records
 robbed_due-old = sure due_lost byte_audited_records audited-fit refl (omega arith)
 
+-- the store after the repair that found a row lost is sure, and the repair is still due
 pub lost_due-new : IsSure repair_lost byte_audited_records
 lost_due-new = sure repair_lost byte_audited_records audited-fit refl (omega arith)
 
+-- the store of which one block is lost is sure
 pub damaged-sure : IsSure damaged byte_records
 damaged-sure = sure damaged byte_records byte-fit refl (omega arith)
 
+-- the store after the audit is sure
 pub audited-new : IsSure byte_audited byte_audited_records
 audited-new = sure byte_audited byte_audited_records audited-fit refl (omega arith)
 
+-- the store with a repair due is sure
 pub due-sure : IsSure due byte_audited_records
 due-sure = sure due byte_audited_records audited-fit refl (omega arith)
 
+-- the store after the repair is sure
 pub repaired-new : IsSure repaired byte_repaired_records
 repaired-new = sure repaired byte_repaired_records repaired-fit refl (omega arith)
 
+-- the store after the repair that failed at a store is sure, and the repair is still due
 pub failed_due-new : IsSure repair_failed byte_audited_records
 failed_due-new = sure repair_failed byte_audited_records audited-fit refl (omega arith)
 
+-- the mended store before the get is sure
 pub mended-sure : IsSure mended byte_repaired_records
 mended-sure = sure mended byte_repaired_records repaired-fit refl (omega arith)
 
+-- the mended store after the get is sure
 pub got-new : IsSure got byte_repaired_records
 got-new = sure got byte_repaired_records repaired-fit refl (omega arith)
 
 both-fit : AreFit both_records
 both-fit = record { some = λ e. cc; all = refl; accepted = (refl, (refl, (refl, (refl, (refl, tt))))); room = omega arith }
 
+-- the store before the put of another file is sure
 pub to_put_other-sure : IsSure to_put_other byte_records
 to_put_other-sure = sure to_put_other byte_records byte-fit refl (omega arith)
 
+-- the store with both files is sure
 pub stored_other-sure : IsSure stored_other both_records
 stored_other-sure = sure stored_other both_records both-fit refl (omega arith)
 
@@ -90,14 +113,18 @@ stored_other-sure = sure stored_other both_records both-fit refl (omega arith)
 pub hidden-opened : IsOpened all_hidden byte_records
 hidden-opened = record { read = record { some = byte-fit.some; in_grammar = byte-fit.all; accepted = byte-fit.accepted; room = byte-fit.room; reads_are = tt }; enough = omega arith }
 
+-- devices that tell nothing may be those of a store that was just set up
 pub hidden-fresh : IsOpened all_hidden four_records
 hidden-fresh = record { read = record { some = four-fit.some; in_grammar = four-fit.all; accepted = four-fit.accepted; room = four-fit.room; reads_are = tt }; enough = omega arith }
 
+-- the store after the drop that was cut off is sure, without the file
 pub drop_cut-new : IsSure drop_cut dropped_records
 drop_cut-new = sure drop_cut dropped_records dropped-fit refl (omega arith)
 
+-- the store after the audit that was cut off is sure, with its last record
 pub audit_cut-new : IsSure audit_cut byte_audited_records
 audit_cut-new = sure audit_cut byte_audited_records audited-fit refl (omega arith)
 
+-- the store after the repair that was cut off is sure, with its record
 pub repair_cut-new : IsSure repair_cut byte_repaired_records
 repair_cut-new = sure repair_cut byte_repaired_records repaired-fit refl (omega arith)

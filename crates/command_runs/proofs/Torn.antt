@@ -54,6 +54,7 @@ by_gate x image is = elim (cases_Bool (x == 1)) [
   })
 ]
 
+-- each image of the torn disk stands for the records with the put's last one or without it
 pub torn-image : (image : List ℕ) → IsImage (firm (before_gate started_records) ++ (1, true) ∷ firm behind) image → StandsFor image started_records ⊎ StandsFor image byte_records
 torn-image image is = (let r = any-gate (before_gate started_records) behind 1 image is in by_gate r.0 image r.1)
 
@@ -61,5 +62,6 @@ torn-image image is = (let r = any-gate (before_gate started_records) behind 1 i
 pub stopped-closed : Stopped (firm (before_gate started_records) ++ (1, true) ∷ firm behind) (firm (before_gate started_records ++ 0 ∷ behind))
 stopped-closed = (before_gate started_records ++ 0 ∷ behind, gate-image (before_gate started_records) behind 1 0, refl)
 
+-- a stop may leave the gate open: the disk then reads the put's last record
 pub stopped-open : Stopped (firm (before_gate started_records) ++ (1, true) ∷ firm behind) (firm (text byte_records))
 stopped-open = (text byte_records, subst (IsImage (firm (before_gate started_records) ++ (1, true) ∷ firm behind)) whole (gate-image (before_gate started_records) behind 1 1), refl)

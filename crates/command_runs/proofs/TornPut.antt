@@ -266,6 +266,7 @@ module _ (w : State) (n : ℕ) (count : w.handed ≡ 4) where
     past_text = record { next = Some (PutDone 1 1); is_next = record { done = PutStart 1 named ∷ []; rest = []; parts = refl; after_is = refl }; same = refl };
   }
 
+-- the put's job runs to a fault of the disk, and leaves its gate loose, from every state just opened
 pub alone : RunsAlone four_records (PutJob named byte) (DiskFault) (to_put) (put_torn) ([])
 alone = record {
   faults = 0;
@@ -275,6 +276,7 @@ alone = record {
       (ran-formed w n V.handed.count);
 }
 
+-- the put ends with status 12, and leaves its gate loose
 pub answers : Answers (PutUnder named) (to_put) (put_torn) (ends 12)
 answers = AnswersPut.begun four_records byte old-sure.known.opened (record { are_bytes = refl; front = refl; few = omega arith; end = λ l. refl })
     (AnswersJob.ended (DiskFault) put_begins alone
