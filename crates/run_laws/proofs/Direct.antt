@@ -327,6 +327,7 @@ module _ (old : State) where
   continues Continued new is = still _ new is refl refl (Jobs_are.gone refl) refl (inr refl) (inr refl)
   continues r new h = absurd h
 
+  -- what each event does to records, the record in doubt, kinds of jobs and bytes of object numbers
   pub direct : (limit moment : ℕ) (e : Event) (r : Outcome) (new : State) → IsSpelled e → Happens limit moment old e r new → Direct old new
   direct limit moment (Init s) r new spelled h = inits s old.is_open r new spelled.7 h
   direct limit moment (Begin kind) r new spelled h = begins limit moment kind None r new spelled h

@@ -74,6 +74,7 @@ module _ (o : Object) (bytes : List ℕ) where
           | inr (place, kept, forged) ↦ inr (place, forged)
         ]
 
+    -- what seen blocks open to is the file, or a stripe of them holds a forgery against it
     pub file_or_forged : (got : List ℕ) → AreBytes bytes → OpensFile o (length bytes) seen got → (got ≡ bytes) ⊎ ((stripe : ℕ) × (place : ℕ) × IsForgery o bytes seen stripe place)
     file_or_forged got fits opens =
         elim (all_or_one (λ stripe. opens.symbols stripe ≡ symbols_in o bytes stripe) (λ stripe. (place : ℕ) × IsForgery o bytes seen stripe place) (stripes o (length bytes))

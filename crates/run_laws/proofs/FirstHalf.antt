@@ -37,6 +37,7 @@ shape_in w valid up = go (setup_of w.records) valid up
     go None f h = absurd (false≢true h)
     go (Some s) f h = f s refl
 
+-- a get that ended with bytes gave those in effect at its begin, or its fetches hold a forgery
 pub got_right : (limit : ℕ) (start : State) (m : Moment) (ms : List Moment) (job : Job) (name bytes : List ℕ) → IsStart start → IsRun limit start (m ∷ ms) →
     EndsGet start m ms job name bytes → IsRightGet (now start (first_moments job.begun ms)) job name bytes
 got_right limit start m ms job name bytes clean run e =
@@ -77,5 +78,6 @@ halves : (limit : ℕ) (start : State) → IsStart start → (ms : List Moment) 
 halves limit start clean [] run = tt
 halves limit start clean (m ∷ ms) run = (keeps limit start m ms clean run m.event m.outcome refl refl, halves limit start clean ms run.2)
 
+-- the first half holds of every run
 pub first_half : FirstHalfHolds
 first_half limit start ms clean run = halves limit start clean ms run

@@ -356,6 +356,7 @@ start_facts start clean = record {
   files = first_files start start.records clean.records;
 }
 
+-- in every run setups are valid, and object numbers of puts and files stand for their bytes
 pub facts : (limit : ℕ) (start : State) (ms : List Moment) → IsStart start → IsRun limit start ms → Facts (now start ms)
 facts limit start [] clean run = start_facts start clean
 facts limit start (m ∷ ms) clean run =
@@ -364,11 +365,14 @@ facts limit start (m ∷ ms) clean run =
     (changes limit (length ms) (now start ms) m.event m.outcome m.state N.idle run.1)
     (direct (now start ms) limit (length ms) m.event m.outcome m.state run.0 run.1))
 
+-- a setup in effect is valid
 pub valid_setup : (limit : ℕ) (start : State) (ms : List Moment) (s : Setup) → IsStart start → IsRun limit start ms → setup_of (now start ms).records ≡ Some s → IsValid s
 valid_setup limit start ms s clean run h = (facts limit start ms clean run).setup s h
 
+-- a valid setup makes a shape
 pub valid_shape : (s : Setup) → IsValid s → IsShape s.n s.l s.b
 valid_shape s h = let good : is_setup s ≡ true = (and_parts (is_setup s) (is_master s.master) h).0 in grind (arith, good)
 
+-- a file in effect has a drawn number that stands for bytes, as many as its length
 pub held_file : (limit : ℕ) (start : State) (ms : List Moment) (name : List ℕ) (file : File) → IsStart start → IsRun limit start ms → file_in (now start ms) name ≡ Some file → Holds (now start ms) file.id file.size
 held_file limit start ms name file clean run h = (facts limit start ms clean run).files name file h

@@ -38,6 +38,7 @@ pub record Stands (w : State) (id : ℕ) (bytes : List ℕ) : Type 0 where
   pub below : id < next_id w.records
   pub bytes_are : w.bytes id ≡ bytes
 
+-- after an event a drawn number stands for the same bytes
 pub stands_by : (limit moment : ℕ) (old : State) (e : Event) (r : Outcome) (new : State) (id : ℕ) (bytes : List ℕ) → IsWritten old → Changes limit moment old e r new → Stands old id bytes → Stands new id bytes
 stands_by limit moment old e r new id bytes W X h = record {
   below = (let l = h.below in let g = next_of_records objects old new W X.records in omega arith);
@@ -45,15 +46,18 @@ stands_by limit moment old e r new id bytes W X h = record {
 }
 
 module _ (limit : ℕ) (start : State) (clean : IsStart start) (id : ℕ) (bytes : List ℕ) where
+  -- after one more moment of a run a drawn number stands for the same bytes
   pub stands_on : (m : Moment) (ms : List Moment) → IsRun limit start (m ∷ ms) → Stands (now start ms) id bytes → Stands m.state id bytes
   stands_on m ms run h =
       (let N = num.facts objects limit start clean ms run.2 in
       stands_by limit (length ms) (now start ms) m.event m.outcome m.state id bytes N.written (changes limit (length ms) (now start ms) m.event m.outcome m.state N.idle run.1) h)
 
+  -- after more moments of a run a drawn number stands for the same bytes
   pub stands_later : (later ms : List Moment) → IsRun limit start (later ++ ms) → Stands (now start ms) id bytes → Stands (now start (later ++ ms)) id bytes
   stands_later [] ms run h = h
   stands_later (m ∷ later) ms run h = stands_on m (later ++ ms) run (stands_later later ms run.2 h)
 
+-- from the end of a put on its number stands for its bytes
 pub put_bytes_stay : (limit : ℕ) (start : State) (later ms : List Moment) (m : Moment) (job : Job) (name bytes : List ℕ) → IsStart start → IsRun limit start (later ++ m ∷ ms) →
     EndsPut start m ms job name bytes → (now start (later ++ m ∷ ms)).bytes job.subject ≡ bytes
 put_bytes_stay limit start later ms m job name bytes clean run e =
@@ -68,6 +72,7 @@ put_bytes_stay limit start later ms m job name bytes clean run e =
     } in
     (stands_later limit start clean job.subject bytes later (m ∷ ms) run (stands_on limit start clean job.subject bytes m ms run_m here)).bytes_are)
 
+-- a get of a file that a put stored gives the put's bytes, or its fetches hold a forgery
 pub put_is_got : (limit : ℕ) (start : State) (m p : Moment) (ms later before : List Moment) (put get : Job) (name bytes got : List ℕ) (file : File) → IsStart start → IsRun limit start (m ∷ ms) →
     EndsGet start m ms get name got → first_moments get.begun ms ≡ later ++ p ∷ before → EndsPut start p before put name bytes →
     file_in (now start (first_moments get.begun ms)) name ≡ Some file → file.id ≡ put.subject →

@@ -116,6 +116,7 @@ rounded_up a w some =
     let small : (a + (w - 1)) % w < w = mod-lt (a + (w - 1)) some in
     omega (arith, split, small, some)
 
+-- the bytes of a file's symbols, cut to its length, are the file
 pub bytes_back : (o : Object) (bytes : List ℕ) → 1 ≤ o.shape.l → 1 ≤ o.profile.keep → AreBytes bytes →
     take (length bytes) (flat_map (λ stripe. bytes_of_symbols (symbols_in o bytes stripe)) (upto (stripes o (length bytes)))) ≡ bytes
 bytes_back o bytes primary kept all =
