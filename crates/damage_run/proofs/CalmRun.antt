@@ -37,6 +37,7 @@ abbrev pub is_calm : Mark → List Moment → Bool
 is_calm mark [] = true
 is_calm mark (m ∷ ms) = list_all (is_calm_for mark (m ∷ ms) m.state) m.state.jobs && is_calm mark ms
 
+-- a run that passes the test is calm by the mark
 pub calm_by_test : (mark : Mark) (ms : List Moment) → is_calm mark ms ≡ true → IsCalm relies mark ms
 calm_by_test mark [] h = tt
 calm_by_test mark (m ∷ ms) h = (let p = and_parts (list_all (is_calm_for mark (m ∷ ms) m.state) m.state.jobs) (is_calm mark ms) h in
@@ -51,11 +52,13 @@ abbrev pub runs_no_scrub : List Moment → Bool
 runs_no_scrub [] = true
 runs_no_scrub (m ∷ ms) = not (is_some m.state.alone) && runs_no_scrub ms
 
+-- a run in which no scrub runs, by the test, is calm for scrubs
 pub scrubs_by_test : (mark : Mark) (ms : List Moment) → runs_no_scrub ms ≡ true → AreScrubsCalm mark ms
 scrubs_by_test mark [] h = tt
 scrubs_by_test mark (m ∷ ms) h = (let p = and_parts (not (is_some m.state.alone)) (runs_no_scrub ms) h in
     (λ scrub at. absurd (false≢true (ap (λ x. not (is_some x)) (sym at) ∙ p.0)), scrubs_by_test mark ms p.1))
 
+-- the run is calm, counted from settled audits
 pub calm : IsCalm relies (since set_up) moments
 unfolding setup_in
 calm = calm_by_test (since set_up) moments refl
@@ -82,10 +85,12 @@ unmissed j low flagged name file at wrong = go j low flagged (subst (λ (f : Fil
     go (suc (suc (suc zero))) low flagged wrong = false≢true (sym (right_then 3) ∙ wrong)
     go (suc (suc (suc (suc j)))) low flagged wrong = omega (arith, low)
 
+-- no audit of the run missed damage
 pub found : NoneMissed set_up moments
 unfolding setup_in
 found = (tt, (tt, (tt, (tt, (tt, (tt, (tt, (tt, (tt, (tt, (tt, (tt, (tt, (tt, (tt, (tt, (tt, (tt, (tt, (tt, (tt, (λ j h. unmissed j h.provider h.unflagged h.name h.file h.in_effect h.wrong, (tt, (tt, (tt, (tt, (tt, (tt, (tt, (tt, (tt, (tt, (tt, (tt, (tt, (tt, (tt, (tt, (tt, (tt, (tt, (tt, (tt, (tt, (tt, (tt, (tt, (tt, (tt, (tt, (tt, (tt, (tt, (tt, (tt, (tt, (tt, tt)))))))))))))))))))))))))))))))))))))))))))))))))))))))))
 
+-- the run carries out the schedule, is calm, and its audit missed no damage
 pub outright : IsOutright moments
 outright = record {
   clean = record { records = inr (four, refl, refl); journal = refl; first_area = refl; unswitched = refl; none_alone = refl; jobs = refl; first_job = refl; append = refl; doubt = refl; closed = refl; unbarred = refl };

@@ -31,6 +31,7 @@ loses = (robbed ((at 47 moments).providers 2), ((λ x. refl, λ x. refl), refl),
 abbrev pub robbed_moments : List Moment
 robbed_moments = record { event = Lose 2 1 0; outcome = Replaced; state = after } ∷ first_moments 47 moments
 
+-- the run up to there, with one more loss, is calm, and its audit missed no damage
 pub calm_run : IsCalmRun 8 set_up robbed_moments
 unfolding setup_in
 calm_run = record {
@@ -42,9 +43,11 @@ calm_run = record {
   found = (tt, found.1.1.1.1.1.1.1.1.1.1);
 }
 
+-- the repair's record is in doubt after the loss
 pub in_doubt : InDoubt after (RepairDone 1)
 in_doubt = record { doubt = doubt_at after; in_doubt = refl; entry_is = refl; job = maker_of (doubt_at after); maker = refl }
 
+-- provider 2 is wrong for the file after the loss
 pub damaged : IsDamaged after 2
 unfolding setup_in is_wrong
 damaged = record { file = the_file; in_effect = refl; wrong = refl }

@@ -26,6 +26,7 @@ use Rattle.damage_run.proofs.InRepair.{robbed}
 
 -- two places of four agree at most
 module _ (p : List ℕ) (a b c d : ℕ) (s t : Option ℕ) where
+  -- of four places of which the first two are absent a polynomial agrees with at most two
   pub at_most_two : agree p (a ∷ b ∷ c ∷ d ∷ []) (None ∷ None ∷ s ∷ t ∷ []) ≤ 2
   unfolding agree_over is_seen_over
   at_most_two = by (is_seen (value p c) s) (is_seen (value p d) t)
@@ -36,6 +37,7 @@ module _ (p : List ℕ) (a b c d : ℕ) (s t : Option ℕ) where
       by false true = omega arith
       by false false = omega arith
 
+-- with the first two blocks absent row 0 is lost
 pub loses_row : LosesRow thing 0 (None ∷ None ∷ Some (block 2) ∷ Some (block 3) ∷ []) 0
 loses_row = record {
   opened = None ∷ None ∷ shown 2 ∷ shown 3 ∷ [];
@@ -115,8 +117,10 @@ lost_moments =
     record { event = Step 6; outcome = Ended (Lost 0 0); state = state_64 } ∷ stepped 6 state_63 ∷ stepped 6 state_62 ∷ stepped 6 state_61 ∷ stepped 6 state_60
     ∷ record { event = Begin (GetJob name); outcome = Begun 6; state = state_59 } ∷ record { event = Lose 1 1 0; outcome = Replaced; state = state_58 } ∷ moments
 
+-- the run with a second loss and a get is a run
 pub is_lost_run : IsRun 8 set_up lost_moments
 is_lost_run = (small_6, happens_63, (small_6, happens_62, (small_6, happens_61, (small_6, happens_60, (small_6, happens_59, (refl, happens_58, ((omega arith, omega arith, omega arith), happens_57, is_run)))))))
 
+-- its last event ends that get as lost
 pub get_is_lost : EndsBy lost_moments 63 6 (Lost 0 0)
 get_is_lost = record { moment = record { event = Step 6; outcome = Ended (Lost 0 0); state = state_64 }; is = refl; event = refl; outcome = refl }

@@ -37,6 +37,7 @@ last_of (m ∷ ms) = m
 abbrev pub the_file : File
 the_file = record { name = name; id = 1; size = 1; profile = 0 }
 
+-- at its places the run has what the premises of the laws ask for
 pub points : HasPoints moments
 unfolding setup_in is_wrong
 points = record {

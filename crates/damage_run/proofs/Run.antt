@@ -166,6 +166,7 @@ is_until_57 = (small_5, happens_56, (small_5, happens_55, (small_5, happens_54, 
 abbrev pub moments : List Moment
 moments = until_57
 
+-- the moments are a run, at limit 8
 pub is_run : IsRun 8 set_up moments
 is_run = is_until_57
 
@@ -281,5 +282,6 @@ writes_57 : CarriesOut (RunJob 5 ∷ Once (Begin (GetJob name)) ∷ Once (Lose 0
 unfolding digits
 writes_57 = (record { event = Step 5; outcome = Ended (Got byte); state = state_57 }, steps_56, until_51, lines_51, refl, record { step = refl; over = not_more (Got byte); before = (refl, refl, (refl, refl, (refl, refl, (refl, refl, (refl, refl, tt))))) }, writes_51, refl)
 
+-- the moments carry out the schedule and write its lines
 pub writes : CarriesOut schedule moments written_lines
 writes = writes_57

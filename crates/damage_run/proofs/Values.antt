@@ -35,12 +35,14 @@ shown j = Some (bare thing j 0 (block j))
 is_right : (j : ℕ) → is_wrong_block thing byte j 0 (Some (block j)) ≡ false
 is_right j = column-right thing byte j 0
 
+-- without the block of provider 2 the others open to the file's symbols
 pub without_two_give : GivesSymbols thing 0 (Some (block 0) ∷ Some (block 1) ∷ None ∷ Some (block 3) ∷ []) symbols
 without_two_give = given-right thing byte 0 0 (Some (block 0) ∷ Some (block 1) ∷ None ∷ Some (block 3) ∷ []) (shown 0 ∷ shown 1 ∷ None ∷ shown 3 ∷ []) refl
     (omega arith, omega arith, omega arith, omega arith, omega arith)
     (rw (is_right 0, is_right 1, is_right 3) (omega arith))
     (opens-own thing byte 0 0 (omega arith), (opens-own thing byte 1 0 (omega arith), (refl, (opens-own thing byte 3 0 (omega arith), tt))))
 
+-- without the block of provider 0 the others open to the file's symbols
 pub without_zero_give : GivesSymbols thing 0 (None ∷ Some (block 1) ∷ Some (block 2) ∷ Some (block 3) ∷ []) symbols
 without_zero_give = given-right thing byte 0 0 (None ∷ Some (block 1) ∷ Some (block 2) ∷ Some (block 3) ∷ []) (None ∷ shown 1 ∷ shown 2 ∷ shown 3 ∷ []) refl
     (omega arith, omega arith, omega arith, omega arith, omega arith)
@@ -81,6 +83,7 @@ same_first held other same = answer_by held ∙ (ap by_symbol at ∙ sym (answer
     at = (let a : held (picked_row asked.seed 6 0 / 6) ≡ other (picked_row asked.seed 6 0 / 6) = ap held first_block ∙ (same ∙ ap other (sym first_block)) in
         rw a refl)
 
+-- a provider without its block has no answer
 pub no_answer : (held : ℕ → Option (List ℕ)) → held 0 ≡ None → honest_answer asked held ≡ None
 no_answer held none = answer_by held ∙ ap by_symbol at
   where
@@ -92,6 +95,7 @@ no_answer held none = answer_by held ∙ ap by_symbol at
 abbrev pub heard : List (Option ℕ)
 heard = right 0 ∷ right 1 ∷ None ∷ right 3 ∷ []
 
+-- the row that the right answers are values of
 pub decider : List ℕ
 decider = right_row thing byte asked
 
@@ -109,6 +113,7 @@ module _ (p : List ℕ) (a b c d : ℕ) (r s t : Option ℕ) (at_a : is_seen (va
   unfolding is_seen_over
   one_counts = rw (at_a, at_b, at_d) refl
 
+-- the right answer of each provider is the value of that row at its point
 pub agrees_at : (j : ℕ) → is_seen (value decider (point thing j)) (bare_answer thing asked j (right j)) ≡ true
 unfolding decider
 agrees_at j = seen_there j (bare_answer thing asked j (right j)) ((IsRightRow-right_row thing byte asked (omega arith) refl).values j)
@@ -117,6 +122,7 @@ agrees_at j = seen_there j (bare_answer thing asked j (right j)) ((IsRightRow-ri
 abbrev pub sums : Sums
 sums = record { counts = 0 ∷ 0 ∷ 1 ∷ 0 ∷ []; undecided = 0 }
 
+-- the answers, of which provider 2 gave none, are judged: its count rises by one
 pub judged : Judges thing asked heard (record { counts = 0 ∷ 0 ∷ 0 ∷ 0 ∷ []; undecided = 0 }) sums
 unfolding decider
 judged = inl (
@@ -131,6 +137,7 @@ judged = inl (
 
 -- ---- the file, of blocks one of which is absent
 
+-- without the block of provider 2 the others open to the file
 pub opens_file : OpensFile thing 1 without_two byte
 opens_file = record { symbols = λ stripe. symbols_in thing byte stripe; given = given; cut = byte_back }
   where
@@ -138,5 +145,6 @@ opens_file = record { symbols = λ stripe. symbols_in thing byte stripe; given =
     given zero l = without_two_give
     given (suc stripe) l = absurd (omega (arith, l))
 
+-- without the block of provider 2 at most one block that is there is wrong
 pub few_seen : count_of (λ j. is_wrong_seen thing byte j 0 (block_at (without_two 0) j)) (upto 4) ≤ 1
 few_seen = rw (is_right 0, is_right 1, is_right 3) (omega arith)
