@@ -35,6 +35,7 @@ EndsSo = (limit : ℕ) (mark : Mark) (start : State) (m : Moment) (ms : List Mom
 by_faults : (begun ended : State) (stripe row : ℕ) → GivesOrIsLost begun ended name (Lost stripe row) → IsLostByFaults begun ended (Lost stripe row)
 by_faults begun ended stripe row g = elim g.gives [ inl e ↦ absurd (cc e) | inr r ↦ r ]
 
+-- the get that is lost is so by faults: the count of a provider rose since its begin
 pub lost_by : Marks → EndsSo → (ms : List Moment) → IsFaulty ms → HasFaults ms → (begun : State) × IsLostByFaults begun (at 21 ms) (Lost 0 0)
 lost_by marks law ms f h =
     (let q = h.get_missed in

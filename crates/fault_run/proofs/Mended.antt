@@ -25,10 +25,12 @@ scrubs_calm_by_test mark [] h = tt
 scrubs_calm_by_test mark (m ∷ ms) h = (let p = and_parts (is_scrub_calm_for mark (m ∷ ms) m.state m.state.alone) (are_scrubs_calm mark ms) h in
     (λ scrub at. leb-true _ _ (subst (λ x. is_scrub_calm_for mark (m ∷ ms) m.state x ≡ true) at p.0), scrubs_calm_by_test mark ms p.1))
 
+-- the run of the second version is calm, counted from finished scrubs
 pub scrub_calm : IsScrubCalm set_up moments
 unfolding setup_in
 scrub_calm = record { jobs = calm_by_test (scrubbed set_up) moments refl; scrubs = scrubs_calm_by_test (scrubbed set_up) moments refl }
 
+-- the mark after that run is event 22, the begin of its scrub
 pub mark_is : scrubbed set_up moments ≡ 22
 unfolding setup_in
 mark_is = refl

@@ -42,6 +42,7 @@ abbrev pub Counted : Type 0
 Counted = (limit : ℕ) (start : State) (later ms : List Moment) (count : Count) (n : ℕ) → IsRun limit start (later ++ ms) →
     HasFailures count (now start ms) later n → RoseBy (count_in count (now start ms)) (count_in count (now start (later ++ ms))) n
 
+-- a failed call raises its count by one, or the count stands at its last value
 pub counted : Counted → (ms : List Moment) (k : ℕ) (count : Count) → IsRun 8 set_up ms → (f : Fails ms k count) →
     RoseBy (count_in count (at k ms)) (count_in count (at (suc k) ms)) 1
 counted law ms k count run f =

@@ -46,6 +46,7 @@ unscrubbed_by_test [] h = tt
 unscrubbed_by_test (m ∷ ms) h = (let p = and_parts (not (begins_scrub m.event)) (scrubs_never ms) h in
     (λ e. false≢true (sym (not-true (begins_scrub m.event) p.0) ∙ ap begins_scrub e), unscrubbed_by_test ms p.1))
 
+-- the moments are the run: calm, with no scrub, and with the events of the schedule
 pub faulty : IsFaulty moments
 unfolding setup_in
 faulty = record {
@@ -146,6 +147,7 @@ left_by_test : (called : List ℕ) (rs : List Record) (doubt : Option Doubt) →
 left_by_test called rs None h d e = (let f : None ≡ Some d = e in cc)
 left_by_test called rs (Some c) h d e = (let f : c ≡ d = cc in subst (λ (x : Doubt). takes_out rs called x.entry ≡ false) f (not-true (takes_out rs called c.entry) h))
 
+-- a name that passes the test in all moments is never taken out
 pub never_by_test : (called : List ℕ) (ms : List Moment) → is_never_out called ms ≡ true → NeverTakenOut called ms
 never_by_test called [] h = tt
 never_by_test called (m ∷ ms) h = (let p = and_parts (is_left called m.state.records m.state.doubt) (is_never_out called ms) h in
@@ -174,6 +176,7 @@ after_first = take 49 (first_moments 63 moments)
 abbrev pub after_second : List Moment
 after_second = take 12 (first_moments 60 moments)
 
+-- at its places the run has the faults that the premises of the laws ask for
 pub faults : HasFaults moments
 unfolding setup_in actions_of
 faults = record {

@@ -485,5 +485,6 @@ is_until_75 = (small_1, happens_74, is_until_74)
 abbrev pub moments : List Moment
 moments = until_75
 
+-- the moments are a run, at limit 8
 pub is_run : IsRun 8 set_up moments
 is_run = is_until_75
