@@ -344,6 +344,7 @@ is_until_43 = (fits_5, happens_42, is_until_42)
 abbrev pub moments : List Moment
 moments = until_43
 
+-- all that the second version of the journal brings happens in the run
 pub outright : HasAll moments
 unfolding setup_in
 outright = record {

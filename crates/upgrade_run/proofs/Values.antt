@@ -33,6 +33,7 @@ byte_back = sym (bytes_back thing byte (omega arith) (omega arith) refl)
 abbrev pub block : ℕ → List ℕ
 block j = columns thing byte j 0
 
+-- a block has 16 bytes
 pub length-block : (j : ℕ) → length (block j) ≡ 16
 length-block j = length-column_of_symbols thing symbols j 0
 
@@ -68,6 +69,7 @@ one_differs b rest is = subst (λ c. differences (slice_set c 0 5) c ≡ 1) (sym
 same_size : (b : List ℕ) (rest : List ℕ) → b ≡ 111 ∷ rest → length (slice_set b 0 5) ≡ length b
 same_size b rest is = subst (λ c. length (slice_set c 0 5) ≡ length c) (sym is) refl
 
+-- the altered block has 16 bytes too
 pub length-altered : length altered ≡ 16
 length-altered = same_size (block 0) rest_of block_is ∙ length-block 0
 
@@ -75,6 +77,7 @@ length-altered = same_size (block 0) rest_of block_is ∙ length-block 0
 pub differs_0 : differences altered (block 0) ≡ 1
 differs_0 = one_differs (block 0) rest_of block_is
 
+-- a block differs in no symbol from itself
 pub differs_not : (j : ℕ) → differences (block j) (block j) ≡ 0
 differs_not j = differences-same (block j)
 
@@ -103,11 +106,14 @@ all_give = own_give thing byte 1 0 refl (omega arith, omega arith, omega arith, 
 -- ---- what the scrub then has to store, and what it has found
 
 module _ (off : ℕ → ℕ) (a : off 0 ≡ 1) (b : off 1 ≡ 0) (c : off 2 ≡ 0) (d : off 3 ≡ 0) where
+  -- where one symbol of provider 0 differs, the scrub has its store left, and its end
   pub one_store : flat_map (λ j. if off j == 0 then [] else Store j 1 0 ∷ []) (upto 4) ++ End ∷ [] ≡ Store 0 1 0 ∷ End ∷ []
   one_store = rw (a, b, c, d) refl
 
+  -- where one symbol of provider 0 differs, the scrub has found one symbol, of provider 0
   pub one_symbol : map (λ j. 0 + off j) (upto 4) ≡ 1 ∷ 0 ∷ 0 ∷ 0 ∷ []
   one_symbol = rw (a, b, c, d) refl
 
+  -- where one symbol of provider 0 differs, the scrub has found one block, of provider 0
   pub one_block : map (λ j. 0 + (if off j == 0 then 0 else 1)) (upto 4) ≡ 1 ∷ 0 ∷ 0 ∷ 0 ∷ []
   one_block = rw (a, b, c, d) refl
