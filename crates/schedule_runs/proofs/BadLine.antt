@@ -36,6 +36,7 @@ not-a-line : IsLine (codes "lose 2 1 0 2 1 0") → ⊥
 not-a-line (inl skipped) = omega (arith, skipped)
 not-a-line (inr (command, spells)) = spells-none command spells
 
+-- the second line of the text is the first one outside the grammar
 pub first-bad : IsFirstBadLine bad_text 2
 first-bad = record {
   before = codes "reopen" ∷ [];

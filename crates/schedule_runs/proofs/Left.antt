@@ -24,6 +24,7 @@ handed w = (let long = length-map-range_with_len w.providers 0 w.handed in recor
   each = λ j l. get_map_upto w.providers w.handed j (omega (arith, l, long));
 })
 
+-- the devices that a state leaves whose journal has its first version are devices of that state
 pub devices-of : (w : State) → IsSound 8 w → version_of w.records ≡ 1 → AreDevices (devices_left w) w
 devices-of w sound first =
     (let whole = sound.journal.whole first in

@@ -138,6 +138,7 @@ writes_66 : CarriesOut stopped_schedule stopped_moments stopped_written
 unfolding digits
 writes_66 = (record { event = Step 6; outcome = Ended (Got byte); state = state_66 }, steps, getting, lines_60, refl, record { step = refl; over = not_more (Got byte); before = (refl, refl, (refl, refl, (refl, refl, (refl, refl, (refl, refl, tt))))) }, writes_60, refl)
 
+-- the moments carry out the schedule with the stop, and the last of them gives the file
 pub is_stopped : IsStoppedRun stopped_moments
 is_stopped = record {
   clean = outright.clean;

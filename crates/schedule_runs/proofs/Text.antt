@@ -78,6 +78,7 @@ spells = all_spell
 named : IsName name
 named = (omega arith, (((λ e. omega (arith, e)), (λ e. omega (arith, e))), tt))
 
+-- each command of the schedule can be spelled
 pub fits : AllByRecursion CanBeSpelled (reverse stopped_schedule)
 fits =
     (tt, (((refl, refl), named), (omega arith, ((refl, named), (omega arith, (omega arith, (omega arith, (omega arith, ((omega arith, omega arith, omega arith), ((tt, tt), (omega arith, (omega arith, (omega arith, ((tt, tt), (omega arith, ((omega arith, omega arith, omega arith), ((refl, named), (omega arith, (refl, (tt, ((refl, named), (omega arith, tt))))))))))))))))))))))
