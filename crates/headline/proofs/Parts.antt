@@ -35,9 +35,11 @@ module _ (limit : ℕ) (start : State) (clean : IsStart start) where
       split : later ++ m ∷ before ≡ (later ++ m ∷ came.later) ++ came.moment ∷ came.before
       split = ap (λ l. later ++ m ∷ l) came.split ∙ sym (append_assoc later (m ∷ came.later) (came.moment ∷ came.before))
 
+  -- in every run acknowledged files survive
   pub survive : (ms : List Moment) → IsRun limit start ms → AcknowledgedFilesSurvive start ms
   survive ms run later before m job name bytes is ends = safe later m before job name bytes (subst (IsRun limit start) is run) ends
 
+-- all parts of the headline hold of every run
 pub headline : (limit : ℕ) (start : State) (ms : List Moment) → IsStart start → IsRun limit start ms → Headline start ms
 headline limit start ms clean run = record {
   gets_are_right = first_half limit start ms clean run;
