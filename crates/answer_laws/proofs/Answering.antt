@@ -71,6 +71,7 @@ module _ (command : Command) (cells : Cells) (old new : Seen) (end : Ending) (A 
   ]
   by-judged (Judged.set_up rs some accepted many is) = over-read rs (is-read cells old rs told some accepted many is)
 
+-- a command over a store ends by what the bytes of its disk come to, or finds no memory
 pub disk-answered : (command : Command) (cells : Cells) (old new : Seen) (end : Ending) → Answers command old new end → opens_store command ≡ true → old.disk ≡ Some cells →
     AreBytes (reads cells) → (Rose old.disk_faults new.disk_faults → ⊥) → AnsweredFor cells old end
 disk-answered command cells old new end A opens told all calm =

@@ -136,6 +136,7 @@ judged-stops bytes (breaks rs good at b same) many = Judged.broken at many (inr 
 judged-stops bytes (stopped rs good r rest all is why) many =
     Judged.broken (length (before_gate rs) + 1) many (inr (rs, good, inr (inr (record { entry = r; rest = rest; in_grammar = all; bytes_are = is; refused_is = why; place = refl }))))
 
+-- a start takes any bytes for no store, for one with a first bad place, or for accepted records
 pub bytes-judged : (bytes : List ℕ) → AreBytes bytes → Judged bytes
 bytes-judged bytes all = by-length bytes (λ many. elim (stops AreAccepted IsStopped next-accepted tt bytes all) [
   | inl s ↦ judged-stops bytes s many
@@ -190,6 +191,7 @@ init-stops bytes (ends rs good at e same) = JudgedByInit.broken at (inl (inr (in
 init-stops bytes (breaks rs good at b same) = JudgedByInit.broken at (inl (inr (inr b)))
 init-stops bytes (stopped rs good r rest all is why) = absurd why
 
+-- an init takes any bytes for a free disk, for a store already, or for one with a first bad place
 pub bytes-judged-by-init : (bytes : List ℕ) → AreBytes bytes → JudgedByInit bytes
 bytes-judged-by-init bytes all = elim (stops Any Never (λ rs r good. inl tt) tt bytes all) [
   | inl s ↦ init-stops bytes s
