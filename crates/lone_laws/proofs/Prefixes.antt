@@ -50,6 +50,7 @@ module _ (w : State) (job : Job) (older : List ℕ) (next : next_action w job �
       ∙ (take-append-add append_actions (drop_rest (setup_in w) (decided job older)) 0 ∙ (sym (take-append-add append_actions (drop_rest (setup_in w) job) 0)
       ∙ (ap (λ n. take n (append_actions ++ drop_rest (setup_in w) job)) (sym four) ∙ ap (take (job.place + 1)) (sym (drop-list (setup_in w) job name kind)))))))
 
+  -- a job's actions up to the fourth move at which it decides do not hang on what it takes away
   pub same-front : (kind : Kind) → job.kind ≡ kind → ((name : List ℕ) → kind ≡ GetJob name → ⊥) → ((name bytes : List ℕ) → kind ≡ PutJob name bytes → job.place < 4 → older ≡ job.older) → SameFront
   same-front (PutJob name bytes) kind n h = elim (cases_lt job.place 4) [
     | inl l ↦ put-first_front name bytes kind (h name bytes refl l)
@@ -68,6 +69,7 @@ pub upgrade-list : (s : Setup) (job : Job) → job.kind ≡ UpgradeJob → actio
 unfolding actions_of
 upgrade-list s job kind = ap (actions_by s job) kind
 
+-- a repair's actions are its fetches, works and stores, one append, and the end
 pub repair-list : (s : Setup) (job : Job) → job.kind ≡ RepairJob → actions_of s job ≡ repair_actions s job ++ (append_actions ++ End ∷ [])
 unfolding actions_of
 repair-list s job kind = ap (actions_by s job) kind

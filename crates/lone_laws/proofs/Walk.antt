@@ -49,6 +49,7 @@ use Rattle.lone_laws.proofs.Prefixes.{same-front, appends-whole, audit-over}
 
 -- ---- the begin
 
+-- a state just opened is sound
 pub opened-sound : (start : State) → IsOpenAtRest start 1 → IsSound 8 start
 opened-sound start O = rest-sound 8 start O.rest
 
@@ -94,6 +95,7 @@ walk-begin_at moment number start new kind wish named O spelled (opened, allowed
     older RepairJob = tt
     older UpgradeJob = tt
 
+-- a job that begins in a state just opened is job 1, and stands at its begin
 pub walk-begin : (moment number : ℕ) (start new : State) (kind : Kind) → IsOpenAtRest start 1 → IsSpelledKind kind → Begins 8 moment start kind (Begun number) new →
     (number ≡ 1) × Walked start kind new (new_job start moment kind)
 walk-begin moment number start new kind O spelled h = walk-begin_at moment number start new kind None (λ p e. absurd (let f : None ≡ Some p = e in cc)) O spelled h
@@ -101,9 +103,11 @@ walk-begin moment number start new kind O spelled h = walk-begin_at moment numbe
 -- ---- steps
 
 module _ (start : State) (O : IsOpenAtRest start 1) (kind : Kind) {profile : ℕ} (w : State) (job : Job) (W : WalkedAt start kind profile w job) where
+  -- the job runs
   pub runs : job_of w.jobs job.number ≡ Some job
   runs = ap (λ js. job_of js job.number) W.jobs ∙ cond_true (job.number == job.number) (Some job) None (eq-eqb job.number job.number refl)
 
+  -- the job is the one of number 1
   pub found : job_of w.jobs 1 ≡ Some job
   found = subst (λ n. job_of w.jobs n ≡ Some job) W.number runs
 
@@ -231,6 +235,7 @@ module _ (start : State) (O : IsOpenAtRest start 1) (kind : Kind) {profile : ℕ
 
   -- ---- the records of the job
 
+  -- by the setup of its begin the job has as many appends left as by that of now
   pub left-start : (left : ℕ) → appends_left (setup_in w) job ≡ left → appends_left (setup_in start) job ≡ left
   left-start left e = subst (λ (s : Setup). appends_left s job ≡ left) W.setup e
 
@@ -270,6 +275,7 @@ module _ (start : State) (O : IsOpenAtRest start 1) (kind : Kind) {profile : ℕ
   placed RepairJob e h l = (λ n b f. absurd (let g : RepairJob ≡ PutJob n b = f in cc), λ f. absurd (let g : RepairJob ≡ AuditJob = f in cc))
   placed UpgradeJob e h l = (λ n b f. absurd (let g : UpgradeJob ≡ PutJob n b = f in cc), λ f. absurd (let g : UpgradeJob ≡ AuditJob = f in cc))
 
+  -- the record that the job writes is its first one or its second one
   pub wrote : (entry : Record) → 0 < appends_left (setup_in w) job → Writes w job job.kind entry → Wrote entry
   wrote entry left h = by_kind kind refl (subst (λ kd. Writes w job kd entry) W.kind_is h)
     where
@@ -566,10 +572,12 @@ module _ (start : State) (O : IsOpenAtRest start 1) (kind : Kind) {profile : ℕ
   acts-walk (Remove j object) new next free (p, call, is) sound = called (Remove j object) job.given (with_provider w.providers j p) new next (λ e. cc) (λ e. cc) refl ((p, call, refl), refl) sound is
   acts-walk action new next free h sound = moves-walk action w.append new refl next free h sound
 
+  -- a step that goes on leaves the job further on its walk
   pub walk-step : (moment : ℕ) (new : State) → Happens 8 moment w (Step 1) More new → GoesOn new
   walk-step moment new h =
       (let a = step-acts More new (λ n e. absurd (let f : More ≡ Waiting n = e in cc)) h in
       acts-walk a.0 new a.1 a.2 a.3 (events-sound 8 moment w W.sound (omega arith, omega arith) (Step 1) More new (omega arith) h))
 
+  -- a step that ends the job made, or failed at, its next action
   pub walk-last : (moment : ℕ) (new : State) (how : answer.Answer) → Happens 8 moment w (Step 1) (Ended how) new → (action : Action) × (next_action w job ≡ Some action) × (holder_of w.append action ≡ None) × Acts w job action (Ended how) new
   walk-last moment new how h = (let a = step-acts (Ended how) new (λ n e. absurd (let f : Ended how ≡ Waiting n = e in cc)) h in (a.0, a.1, a.2, a.3))
