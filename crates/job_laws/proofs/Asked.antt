@@ -31,6 +31,7 @@ pin-map w f (g ∷ gs) = elim (cases_Bool (nat_lt f.id g.id)) [
       ∙ (ap (λ ps. pinned_file w g ∷ ps) (pin-map w f gs) ∙ sym (ap (map (pinned_file w)) (cond_false (nat_lt f.id g.id) (f ∷ g ∷ gs) (g ∷ with_number f gs) o)))
 ]
 
+-- all files as pins are these files by number, each as a pin
 pub pinned-by_number : (w : State) (fs : List File) → pin_all w fs ≡ map (pinned_file w) (files_by_number fs)
 pinned-by_number w [] = refl
 pinned-by_number w (f ∷ fs) = ap (pin_by machine_pins (pinned_file w f)) (pinned-by_number w fs) ∙ pin-map w f (files_by_number fs)
@@ -43,6 +44,7 @@ each-with_number P f (g ∷ gs) a h = elim (cases_Bool (nat_lt f.id g.id)) [
   | inr o ↦ subst (Each P) (sym (cond_false (nat_lt f.id g.id) (f ∷ g ∷ gs) (g ∷ with_number f gs) o)) (h.0, each-with_number P f gs a h.1)
 ]
 
+-- what holds of each file holds of each by number
 pub each-by_number : (P : File → Type 0) (fs : List File) → Each P fs → Each P (files_by_number fs)
 each-by_number P [] h = tt
 each-by_number P (f ∷ fs) h = each-with_number P f (files_by_number fs) h.0 (each-by_number P fs h.1)
@@ -118,6 +120,7 @@ above-low s low (f ∷ fs) h = each_append (λ x. low ≤ object_tag x) (flat_ma
     mono2 [] e = tt
     mono2 (x ∷ xs) e = ((let a = e.0 in let b = h.0 in omega (arith, a, b)), mono2 xs e.1)
 
+-- the asks of an audit are distinct, where its files ascend by number
 pub distinct-asks : (s : Setup) (low : ℕ) (pinned : List Pinned) → AreAscending low pinned → AreDistinct (flat_map (λ (f : Pinned). flat_map (λ round. map (λ j. Ask j f.id round) (upto s.n)) (rounds_of (profiled s f.profile) (length f.bytes))) pinned)
 distinct-asks s low [] h = tt
 distinct-asks s low (f ∷ fs) h = distinct-append (flat_map (λ round. map (λ j. Ask j f.id round) (upto s.n)) (rounds_of (profiled s f.profile) (length f.bytes))) (flat_map (λ (f : Pinned). flat_map (λ round. map (λ j. Ask j f.id round) (upto s.n)) (rounds_of (profiled s f.profile) (length f.bytes))) fs)
@@ -131,6 +134,7 @@ distinct-asks s low (f ∷ fs) h = distinct-append (flat_map (λ round. map (λ 
 
 -- ---- the entries of questions
 
+-- what a job heard of the asks of questions is an entry for each question and provider
 pub entries-questions : (n k : ℕ) (now : List Given) (qs : List Question) → flat_map (entry_for k now) (asks_of n qs)
     ≡ flat_map (λ (q : Question). map (λ j. record { job = k; given = Answered j q.file.id q.round (answer_given now q.file.id q.round j) }) (upto n)) qs
 entries-questions n k now [] = refl

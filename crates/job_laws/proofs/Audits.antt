@@ -496,6 +496,7 @@ module _ (start new : State) (how : Answer) (heard : List Entry) (O : IsOpenAtRe
   by-action (Work o t) at free h u = absurd (u (λ e. cc))
   by-action (Remove j o) at free h u = absurd (u (λ e. cc))
 
+  -- an audit gives what its answer says, and calls no provider in its last step
   pub gives : Gives how
   gives = by-action E.action refl E.free E.acts (λ n. auditing-next start O E.before E.job E.walked E.action E.next n)
 
@@ -507,6 +508,7 @@ module _ (start new : State) (how : Answer) (heard : List Entry) (O : IsOpenAtRe
     fetches = λ j l. ap (λ (g : ℕ → Provider). (g j).fetches) gives.1 ∙ fetches-kept start O E.before E.job E.walked j;
   }
 
+-- an audit leaves its records, what it heard and its counts, and providers hold what they held
 pub audits-leave : (start new : State) (moment : ℕ) (how : Answer) (heard : List Entry) → IsOpenAtRest start 1 → RunsJob start moment AuditJob how heard new → Leaves (ran_from start new heard) AuditJob how
 unfolding setup_in
 audits-leave start new moment how heard O r =

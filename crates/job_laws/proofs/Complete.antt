@@ -50,6 +50,7 @@ length-range : (a n : ℕ) → length (range_with_len a n) ≡ n
 length-range a zero = refl
 length-range a (suc n) = ap suc (length-range (a + 1) n)
 
+-- the block at a place of those that a function makes of providers 0 to n - 1 is that provider's
 pub block_at-map : (f : ℕ → SeenBlock) (n j : ℕ) → j < n → block_at (map f (upto n)) j ≡ f j
 block_at-map f n j l = ap (λ (o : Option SeenBlock). take_out o) (get-map_range f n 0 j l ∙ ap (λ k. Some (f k)) (let e : 0 + j ≡ j = omega arith in e))
   where
@@ -78,10 +79,12 @@ wrong-sized o bytes j t (Some block) = elim (cases_Bool (length block == o.profi
   | inr n ↦ ap (is_wrong_block o bytes j t) (cond_false (length block == o.profile.size) (Some block) None n) ∙ sym (ap (λ b. not b || nat_lt o.profile.fix (differences block (columns o bytes j t))) n)
 ]
 
+-- a provider that is not wrong for a file has no wrong block of a stripe of it
 pub not-wrong-each : (o : Object) (bytes : List ℕ) (j : ℕ) (held : ℕ → Option (List ℕ)) → is_wrong o bytes j held ≡ false → (t : ℕ) → t < stripes o (length bytes) → is_wrong_block o bytes j t (held t) ≡ false
 unfolding is_wrong
 not-wrong-each o bytes j held h t l = none-any (λ k. is_wrong_block o bytes j k (held k)) 0 (stripes o (length bytes)) h t (omega arith) (omega (arith, l))
 
+-- a provider with no wrong block of a file's stripes is not wrong for it
 pub each-not-wrong : (o : Object) (bytes : List ℕ) (j : ℕ) (held : ℕ → Option (List ℕ)) → ((t : ℕ) → t < stripes o (length bytes) → is_wrong_block o bytes j t (held t) ≡ false) → is_wrong o bytes j held ≡ false
 unfolding is_wrong
 each-not-wrong o bytes j held h = any-none (λ k. is_wrong_block o bytes j k (held k)) 0 (stripes o (length bytes)) (λ t l u. h t (omega (arith, u)))
@@ -95,6 +98,7 @@ missing-one given held a (suc n) t l u e = elim (cases_eq t a) [
   | inr m ↦ (let r = missing-one given held (a + 1) n t (omega (arith, l, m)) (omega (arith, u)) e in omega (arith, r))
 ]
 
+-- a count that has not risen is no higher than before, and below its last value
 pub not-risen : (before now : ℕ) → has_risen before now ≡ false → (now ≤ before) × (now < last_count)
 not-risen before now h = (let p = or_parts (nat_lt before now) (nat_le last_count now) h in (at-most before now p.0, less now p.1))
   where
@@ -182,6 +186,7 @@ module _ (x : Ran) (file : File) (bytes : List ℕ) where
 
 -- ---- the same of a run
 
+-- the setup of a state just opened makes a shape
 pub shape-of : (w new : State) (heard : List Entry) → IsOpenAtRest w 1 → IsShape (setup_at_begin (ran_from w new heard)).n (setup_at_begin (ran_from w new heard)).l (setup_at_begin (ran_from w new heard)).b
 unfolding setup_in
 shape-of w new heard O = valid-shape (setup_in w) (setup-valid 8 w (opened-sound w O) O.opened)
@@ -191,14 +196,17 @@ module _ (x : Ran) (name bytes : List ℕ) (file : File) (shape : IsShape (setup
   gives-file : (how : Answer) → GetLeaves x name how → GetGives x file how
   gives-file how L = subst (λ f. GetGives x f how) (same_value (file_of x.records name) L.file file L.in_effect in_effect) L.gives
 
+  -- a get gives the file's bytes where at most b providers are bad
   pub get-complete : (how : Answer) → GetLeaves x name how → bad_count x file bytes ≤ (setup_at_begin x).b → how ≡ answer.Got bytes
   get-complete (answer.Got got) L few = ap answer.Got (few-right x file bytes shape size got fits (gives-file (answer.Got got) L) (omega (arith, few)))
   get-complete (answer.Lost stripe row) L few = absurd (few-kept x file bytes shape size stripe row (gives-file (answer.Lost stripe row) L) few)
   get-complete how L few = absurd L.gives
 
+  -- a get that gave bytes gave the file's where at most b + 1 providers are bad
   pub get-right : (got : List ℕ) → GetLeaves x name (answer.Got got) → bad_count x file bytes ≤ (setup_at_begin x).b + 1 → got ≡ bytes
   get-right got L few = few-right x file bytes shape size got fits (gives-file (answer.Got got) L) few
 
+  -- a get that gave bytes gave the file's, or what it heard holds a forgery
   pub get-forged : (got : List ℕ) → GetLeaves x name (answer.Got got) → (got ≡ bytes) ⊎ HoldsForgery (object_at_begin x file) bytes job_number x.heard
   get-forged got L = elim (right-or-forged x file bytes shape size got fits (gives-file (answer.Got got) L)) [
     | inl same ↦ inl same
@@ -216,18 +224,21 @@ put-end x name bytes (answer.ProviderFault j) L disk stores = absurd (stores j L
 put-end x name bytes answer.DiskFault L disk stores = absurd (disk L.0)
 put-end x name bytes how L disk stores = absurd L
 
+-- a drop with no fault of the disk is done, or found no memory
 pub drop-end : (x : Ran) (name : List ℕ) (how : Answer) → DropLeaves x name how → (Rose x.disk_before x.disk_after → ⊥) → (how ≡ answer.Dropped) ⊎ (how ≡ answer.Memory)
 drop-end x name answer.Dropped L disk = inl refl
 drop-end x name answer.Memory L disk = inr refl
 drop-end x name answer.DiskFault L disk = absurd (disk L.0)
 drop-end x name how L disk = absurd L
 
+-- an audit with no fault of the disk is done, or found no memory
 pub audit-end : (x : Ran) (how : Answer) → AuditGives x how → (Rose x.disk_before x.disk_after → ⊥) → ((number : ℕ) × (undecided : ℕ) × (counts : List ℕ) × (how ≡ answer.Audited number undecided counts)) ⊎ (how ≡ answer.Memory)
 audit-end x (answer.Audited number undecided counts) L disk = inl (number, undecided, counts, refl)
 audit-end x answer.Memory L disk = inr refl
 audit-end x answer.DiskFault L disk = absurd (disk L.0)
 audit-end x how L disk = absurd L
 
+-- an upgrade with no fault of the disk is done, or found no memory
 pub upgrade-end : (x : Ran) (how : Answer) → UpgradeLeaves x how → (Rose x.disk_before x.disk_after → ⊥) → (how ≡ answer.Upgraded) ⊎ (how ≡ answer.Memory)
 upgrade-end x answer.Upgraded L disk = inl refl
 upgrade-end x answer.Memory L disk = inr refl

@@ -284,6 +284,7 @@ module _ (start new : State) (name : List ℕ) (how : Answer) (heard : List Entr
       ∙ writing-fetches drop_with (take E.job.place (actions_of (setup_in start) E.job)) start.providers E.before.providers [] E.job.given j
       (each_take IsWriting (actions_of (setup_in start) E.job) E.job.place (writing-drop (setup_in start) E.job name E.walked.kind_is)) E.walked.made
 
+  -- a drop leaves its record, and takes its file away from each provider; or it was cut off
   pub drop-leaves : Leaves ran (DropJob name) how
   unfolding setup_in
   drop-leaves = record {

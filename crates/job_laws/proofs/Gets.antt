@@ -55,6 +55,7 @@ use Rattle.job_laws.proofs.Leaving.{counts-rise, others-stay}
 
 -- ---- lists
 
+-- the first elements of two lists, where the first list has as many, are of the first list
 pub take-within : {X : Type 0} (xs ys : List X) (p : ℕ) → p ≤ length xs → take p (xs ++ ys) ≡ take p xs
 take-within [] ys zero l = refl
 take-within [] ys (suc p) l = absurd (omega (arith, l))
@@ -87,6 +88,7 @@ module _ (s : Setup) (id : ℕ) where
     at_work : (k : ℕ) → k < n → x ≡ Work id (a + k) → front ≡ reads a k ++ fetches (a + k) → Cut n a x front
     at_fetch : (j t : ℕ) → x ≡ Fetch j id t → Cut n a x front
 
+  -- what stands at a place of a get's list is its end, work or a fetch; and what stands before that
   pub cut : (n a p : ℕ) (x : Action) → slice_get (reads a n ++ End ∷ []) p ≡ Some x → Cut n a x (take p (reads a n ++ End ∷ []))
   cut zero a p x h = (let e = single-get End x p h in Cut.at_end e.1 (ap (λ q. take q (End ∷ [])) e.0))
   cut (suc n) a p x h = elim (split_get (open_actions s id a) (reads (a + 1) n ++ End ∷ []) p x (ap (λ xs. slice_get xs p) (sym whole) ∙ h)) [
@@ -680,6 +682,7 @@ module _ (start new : State) (name : List ℕ) (how : Answer) (heard : List Entr
       by_file None e = no-file e
       by_file (Some file) e = leaves-file file e
 
+  -- a get leaves records and providers as they were, and gives what its fetches open to
   pub all-leaves : Leaves ran (GetJob name) how
   unfolding setup_in
   all-leaves = record {

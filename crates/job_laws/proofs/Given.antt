@@ -15,6 +15,7 @@ block-heard n (Fetched k o s block ∷ more) object stripe j =
 block-heard n (Answered k o r symbol ∷ more) object stripe j =
     ap (λ gs. block_given gs object stripe j) (given_to-more n (entries_of n more) (Answered k o r symbol)) ∙ block-heard n more object stripe j
 
+-- an answer looked up in what a job heard is that which it was given
 pub answer-heard : (n : ℕ) (given : List Given) (object round j : ℕ) → answer_given (given_to n (entries_of n given)) object round j ≡ answer_given given object round j
 answer-heard n [] object round j = refl
 answer-heard n (Worked o s symbols ∷ more) object round j = answer-heard n more object round j

@@ -70,6 +70,7 @@ distinct-take xs zero d = tt
 distinct-take [] (suc p) d = tt
 distinct-take (x ∷ xs) (suc p) d = (over-take x xs p d.0, distinct-take xs p d.1)
 
+-- two lists of distinct actions are distinct together, where the first ones do not come again
 pub distinct-append : (xs ys : List Action) → AreDistinct xs → AreDistinct ys → Each (λ x. IsOver x ys) xs → AreDistinct (xs ++ ys)
 distinct-append [] ys a b h = b
 distinct-append (x ∷ xs) ys a b h = (over-append x xs ys a.0 h.0, distinct-append xs ys a.1 b h.1)
@@ -185,6 +186,7 @@ pub answer-newest : (j object round : ℕ) (symbol : Option ℕ) (given : List G
 answer-newest j object round symbol given = cond_true ((j == j) && (object == object) && (round == round)) symbol (answer_given given object round j)
     (and_from ((j == j) && (object == object)) (round == round) (and_from (j == j) (object == object) (eq-eqb j j refl) (eq-eqb object object refl)) (eq-eqb round round refl))
 
+-- a block that was just fetched is the one that is looked up
 pub block-newest : (j object stripe : ℕ) (block : Option (List ℕ)) (given : List Given) → block_given (Fetched j object stripe block ∷ given) object stripe j ≡ block
 block-newest j object stripe block given = cond_true ((j == j) && (object == object) && (stripe == stripe)) block (block_given given object stripe j)
     (and_from ((j == j) && (object == object)) (stripe == stripe) (and_from (j == j) (object == object) (eq-eqb j j refl) (eq-eqb object object refl)) (eq-eqb stripe stripe refl))
@@ -197,6 +199,7 @@ entry_for n now (Fetch j object stripe) = record { job = n; given = Fetched j ob
 entry_for n now (Ask j object round) = record { job = n; given = Answered j object round (answer_given now object round j) } ∷ []
 entry_for n now action = []
 
+-- what a job heard of distinct actions that were made is an entry for each fetch and ask, in order
 pub entries-made : (n : ℕ) (x : With) (actions : List Action) (old new : ℕ → Provider) (given now : List Given) → AreDistinct actions → Made x actions old new given now →
     entries_of n now ≡ entries_of n given ++ flat_map (entry_for n now) actions
 entries-made n x [] old new given now d m = ap (entries_of n) m.1 ∙ sym (append-nil (entries_of n given))

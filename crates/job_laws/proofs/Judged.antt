@@ -58,6 +58,7 @@ module _ (s : Setup) (job : Job) (shape : IsShape s.n s.l s.b) where
   files-one (f ∷ fs) old a b (ma, ja, ra) (mb, jb, rb) =
       (let same : ma ≡ mb = rounds-one f (rounds_of (profiled s f.profile) (length f.bytes)) old ma mb ja jb in files-one fs mb a b (subst (λ m. JudgesFiles s job fs m a) same ra) rb)
 
+  -- an audit has one verdict on what it heard
   pub sums-one : (a b : Sums) → HasSums s job a → HasSums s job b → a ≡ b
   sums-one a b ha hb = files-one job.pinned (record { counts = replicate s.n 0; undecided = 0 }) a b ha hb
 
@@ -75,6 +76,7 @@ module _ (x : Ran) (s : Setup) (w : State) (job : Job) where
   round-question judged f (round ∷ more) old new size (mid, one, rest) =
       (mid, judged (record { file = f; round = round }) old mid (subst (λ n. Judges (object_of (profiled s f.profile) f.id) (challenge_in (profiled s f.profile) job f.id n round) (answers_given job.given s.n f.id round) old mid) size one), round-question judged f more mid new size rest)
 
+  -- what judges the files of an audit judges their questions, one after the other
   pub files-questions : (judged : (q : Question) (old new : Sums) → Judges (object_of (profiled s q.file.profile) q.file.id) (challenge_in (profiled s q.file.profile) job q.file.id q.file.size q.round) (answers_given job.given s.n q.file.id q.round) old new → JudgesOne x job.subject q old new) →
       (fs : List File) (old new : Sums) → Each (λ (f : File). length (w.bytes f.id) ≡ f.size) fs → JudgesFiles s job (map (pinned_file w) fs) old new → JudgesAll x job.subject (questions_in s fs) old new
   files-questions judged [] old new sizes h = h

@@ -70,6 +70,7 @@ module _ (start : State) (O : IsOpenAtRest start 1) (kind : Kind) (w : State) (j
     pub doubt : InDoubt new.doubt
     pub left : 0 < appends_left (setup_in w) job
 
+  -- a move that a fault of the disk ended leaves records and providers, and at most its record in doubt
   pub move-faults : (action : Action) (flight : Option Append) (new : State) → w.append ≡ flight → next_action w job ≡ Some action → Moves w job action flight (Ended answer.DiskFault) new → Faults new
   move-faults WriteBody flight new e next (faults, low, rose, is) = subst Faults (sym is) (record { rose = rose; low = low; records = refl; providers = refl; doubt = doubt-before; left = body-left 8 w W.sound job.number job (runs start O kind w job W) next })
   move-faults SyncBody (Some a) new e next (at, (faults, low, rose, is)) = subst Faults (sym is) (record { rose = rose; low = low; records = refl; providers = refl; doubt = doubt-before; left = mid-left a e })
@@ -93,6 +94,7 @@ module _ (start : State) (O : IsOpenAtRest start 1) (kind : Kind) (w : State) (j
       by_flight None e early h = h
       by_flight (Some a) e early h = subst (λ b. IsGatedDoubt a b w.doubt) (early a refl) h
 
+  -- a move that found no memory leaves records and providers, and nothing in doubt
   pub move-memory : (action : Action) (flight : Option Append) (new : State) → w.append ≡ flight → holder_of flight action ≡ None → next_action w job ≡ Some action → Moves w job action flight (Ended answer.Memory) new → NoRoom new
   move-memory WriteBody None new e free next (faults, low, is) = subst NoRoom (sym is) (record { low = low; records = refl; providers = refl; doubt = none-doubted None e (λ a h. absurd (let f : None ≡ Some a = h in cc)); left = body-left 8 w W.sound job.number job (runs start O kind w job W) next })
   move-memory WriteBody (Some a) new e free next h = absurd (some-not-none (Some a.job) a.job refl free)

@@ -90,6 +90,7 @@ below-by s job RepairJob = each_append (IsBelow s.n) (repair_actions s job) (app
     (tt, (tt, (tt, (tt, (tt, tt)))))
 below-by s job UpgradeJob = (tt, (tt, (tt, (tt, (tt, tt)))))
 
+-- each call of a job's actions is of a provider of the setup
 pub below : (s : Setup) (job : Job) → Each (IsBelow s.n) (actions_of s job)
 unfolding actions_of
 below s job = below-by s job job.kind
@@ -118,6 +119,7 @@ module _ (w : State) (job : Job) (new : State) where
   quiet-end : (action : Action) → (faults : ℕ) → new.providers ≡ w.providers → new.disk_faults ≡ w.disk_faults → LastCall action w new × (w.disk_faults ≤ new.disk_faults)
   quiet-end action faults p d = (LastCall.none p, omega (arith, d))
 
+  -- a last step leaves providers, or is a failed store of one; the disk's count does not fall
   pub last-call : (action : Action) (how : Answer) → Acts w job action (Ended how) new → LastCall action w new × (w.disk_faults ≤ new.disk_faults)
   last-call (Store j o s) (answer.ProviderFault k) (same, (p, made, is)) =
       (LastCall.store j o s refl (p, (made.held, made.counts), ap (λ (v : State). v.providers) is), (let e = ap (λ (v : State). v.disk_faults) is in omega (arith, e)))
@@ -150,6 +152,7 @@ module _ (start new : State) (kind : Kind) (how : Answer) (heard : List Entry) (
   rises j = rises-more (start.providers j) (E.before.providers j) (new.providers j)
       (made-rises (with_job_of start kind E.job) (take E.job.place (actions_of (setup_in start) E.job)) start.providers E.before.providers [] E.job.given j made-all) (rises-last j L.0)
 
+  -- in the run of a job no count of faults falls
   pub counts-rise : CountsRise (ran_from start new heard)
   counts-rise = record {
     disk = (let a = E.walked.disk in let b = L.1 in omega (arith, a, b));
@@ -171,5 +174,6 @@ module _ (start new : State) (kind : Kind) (how : Answer) (heard : List Entry) (
         let f = c.0 in omega (arith, b, f, l))
   ]
 
+  -- the run of a job leaves providers beyond the setup's
   pub others-stay : (j : ℕ) → (setup_in start).n ≤ j → new.providers j ≡ start.providers j
   others-stay j l = others-last j l L.0 ∙ others-before j l

@@ -134,6 +134,7 @@ module _ (x : Ran) (accepted : AreAccepted x.records) (shape : IsShape (setup_at
       (subst (λ (z : Object). L.place.stripe < stripes z (length (bytes file.id))) at (subst (λ n. L.place.stripe < stripes_of (profiled (setup_at_begin x) file.profile) n) (sym fits.1.0.0) fits.3))
       (subst (λ (z : Object). count_of (λ j. is_bad_for z (bytes file.id) j (x.old j) (x.new j)) (upto (setup_at_begin x).n) ≤ (setup_at_begin x).b) at fits.1.0.1))
 
+  -- a repair with no fault and at most b bad providers a file is done, or found no memory
   pub repair-end : (how : Answer) → RepairLeaves x how → (Rose x.disk_before x.disk_after → ⊥) → ((j : ℕ) → j < (setup_at_begin x).n → Rose (x.old j).store_faults (x.new j).store_faults → ⊥) →
       ((name : List ℕ) (file : File) → file_of x.records name ≡ Some file → IsSafe file) → ((number : ℕ) × (how ≡ answer.Repaired number)) ⊎ (how ≡ answer.Memory)
   repair-end (answer.Repaired number) L disk stores safe = inl (number, refl)

@@ -38,15 +38,18 @@ abbrev pub OpensAll : Setup → List Place → List Action → Type 0
 OpensAll s [] acts = Unit {0}
 OpensAll s (p ∷ ps) acts = (stores : List Action) × (rest : List Action) × (acts ≡ (open_actions s p.object p.stripe ++ stores) ++ rest) × OpensAll s ps rest
 
+-- actions that open places fetch them
 pub opens-fetches : (s : Setup) (ps : List Place) (acts : List Action) → OpensAll s ps acts → FetchesAll s ps acts
 opens-fetches s [] acts h = tt
 opens-fetches s (p ∷ ps) acts (stores, rest, is, more) =
     (Work p.object p.stripe ∷ stores, rest, is ∙ ap (λ l. l ++ rest) (append_assoc (fetches_at s p) (Work p.object p.stripe ∷ []) stores), opens-fetches s ps rest more)
 
+-- actions that open places do so with the actions of other places before them
 pub opens-done : (s : Setup) (job : Job) (done ps : List Place) (acts : List Action) → OpensAll s ps acts → OpensAll s (done ++ ps) (flat_map (actions_at s job) done ++ acts)
 opens-done s job [] ps acts h = h
 opens-done s job (p ∷ done) ps acts h = (rewrite_actions s job p.object p.stripe, flat_map (actions_at s job) done ++ acts, append_assoc (actions_at s job p) (flat_map (actions_at s job) done) acts, opens-done s job done ps acts h)
 
+-- actions that fetch places do so with the actions of other places before them
 pub fetches-done : (s : Setup) (job : Job) (done ps : List Place) (acts : List Action) → FetchesAll s ps acts → FetchesAll s (done ++ ps) (flat_map (actions_at s job) done ++ acts)
 fetches-done s job [] ps acts h = h
 fetches-done s job (p ∷ done) ps acts h = (
@@ -66,6 +69,7 @@ module _ (x : With) (repairs : x.kind ≡ RepairJob) (last : List Given) (j : �
   abbrev had : Place → SeenBlock
   had p = sized (object_made x p.object).profile.size (held p.object p.stripe)
 
+  -- a provider that tells gave of each place that was fetched what it held, or nothing
   pub told-places : (ps : List Place) (acts : List Action) → FetchesAll x.setup ps acts → Each (IsToldBlock x repairs last j held) acts → Each (λ p. (gave p ≡ had p) ⊎ (gave p ≡ None)) ps
   told-places [] acts h t = tt
   told-places (p ∷ ps) acts (more, rest, is, r) t =
@@ -73,6 +77,7 @@ module _ (x : With) (repairs : x.kind ≡ RepairJob) (last : List Given) (j : �
       let b = each-parts (IsToldBlock x repairs last j held) (fetches_at x.setup p) more a.0 in
       (each-at (IsToldBlock x repairs last j held) (λ k. Fetch k p.object p.stripe) 0 x.setup.n j b.0 (omega arith) (omega (arith, below)) refl, told-places ps rest r a.1))
 
+  -- of these places it gave nothing, though it held a block, at most as often as of their fetches
   pub lacks-places : (ps : List Place) (acts : List Action) → FetchesAll x.setup ps acts → missing gave had ps ≤ sum_by (lack_block x repairs last j held) acts
   lacks-places [] acts h = omega arith
   lacks-places (p ∷ ps) acts (more, rest, is, r) =
@@ -82,6 +87,7 @@ module _ (x : With) (repairs : x.kind ≡ RepairJob) (last : List Given) (j : �
       let d : lack_block x repairs last j held (Fetch j p.object p.stripe) ≡ lacks (gave p) (had p) = cond_true (j == j) (lacks (gave p) (had p)) 0 (eq-eqb j j refl) in
       let e = lacks-places ps rest r in omega (arith, a, b, c, d, e))
 
+-- the blocks given of each place that was opened open to the symbols given of it
 pub gives-places : (x : With) (last : List Given) (ps : List Place) (acts : List Action) → OpensAll x.setup ps acts → Each (HasOpened x last) acts →
     Each (λ (p : Place). GivesSymbols (object_made x p.object) p.stripe (blocks_given last x.setup.n p.object p.stripe) (symbols_given last p.object p.stripe)) ps
 gives-places x last [] acts h t = tt
@@ -110,6 +116,7 @@ module _ (s : Setup) (job : Job) (p : Place) where
   split-place : actions_at s job p ≡ fetches_at s p ++ (Work p.object p.stripe ∷ rewrite_actions s job p.object p.stripe)
   split-place = append_assoc (fetches_at s p) (Work p.object p.stripe ∷ []) (rewrite_actions s job p.object p.stripe)
 
+  -- before the work on a place stand its fetches alone
   pub work-cut : (q o t : ℕ) → slice_get (actions_at s job p) q ≡ Some (Work o t) → (take q (actions_at s job p) ≡ fetches_at s p) × (o ≡ p.object) × (t ≡ p.stripe)
   work-cut q o t h = elim (split_get (fetches_at s p) (Work p.object p.stripe ∷ rewrite_actions s job p.object p.stripe) q (Work o t) (ap (λ xs. slice_get xs q) (sym split-place) ∙ h)) [
     | inl a ↦ absurd (each_get IsFetch (fetches_at s p) q (Work o t) fetches-only a.1)
@@ -126,6 +133,7 @@ module _ (s : Setup) (job : Job) (p : Place) where
       )
       at (suc r) e is g = absurd (each_get IsStoreAt (rewrite_actions s job p.object p.stripe) r (Work o t) (stores-only s job p.object p.stripe) g)
 
+  -- before a store of a place stand its fetches, its work and the stores of providers before
   pub store-cut : (q j o t : ℕ) → slice_get (actions_at s job p) q ≡ Some (Store j o t) →
       (r : ℕ) × (take q (actions_at s job p) ≡ open_actions s p.object p.stripe ++ take r (rewrite_actions s job p.object p.stripe)) × (slice_get (rewrite_actions s job p.object p.stripe) r ≡ Some (Store j o t))
   store-cut q j o t h = elim (split_get (open_actions s p.object p.stripe) (rewrite_actions s job p.object p.stripe) q (Store j o t) h) [
@@ -165,17 +173,20 @@ stores-range job n p a (suc m) l = each_append (IsStoreOf job n (p ∷ [])) (con
     one true e = ((omega (arith, l), e, inl refl), tt)
     one false e = tt
 
+-- the stores among the actions of a place are of flagged providers, at this place
 pub stores-of : (s : Setup) (job : Job) (p : Place) → Each (IsStoreOf job s.n (p ∷ [])) (actions_at s job p)
 stores-of s job p = each_append (IsStoreOf job s.n (p ∷ [])) (open_actions s p.object p.stripe) (rewrite_actions s job p.object p.stripe)
     (each_append (IsStoreOf job s.n (p ∷ [])) (fetches_at s p) (Work p.object p.stripe ∷ []) (each_map (IsStoreOf job s.n (p ∷ [])) (λ j. Fetch j p.object p.stripe) (upto s.n) (λ j. tt)) (tt, tt))
     (stores-range job s.n p 0 s.n (omega arith))
 
+-- the stores among the actions of places are of flagged providers, at these places
 pub stores-all : (s : Setup) (job : Job) (ps : List Place) → Each (IsStoreOf job s.n ps) (flat_map (actions_at s job) ps)
 stores-all s job [] = tt
 stores-all s job (p ∷ ps) = each_append (IsStoreOf job s.n (p ∷ ps)) (actions_at s job p) (flat_map (actions_at s job) ps)
     (each_mono (IsStoreOf job s.n (p ∷ [])) (IsStoreOf job s.n (p ∷ ps)) (actions_at s job p) (λ a h. store-wider job s.n (p ∷ []) (p ∷ ps) (λ q i. in_left (p ∷ []) ps q i) a h) (stores-of s job p))
     (each_mono (IsStoreOf job s.n ps) (IsStoreOf job s.n (p ∷ ps)) (flat_map (actions_at s job) ps) (λ a h. store-wider job s.n ps (p ∷ ps) (λ q i. inr i) a h) (stores-all s job ps))
 
+-- stores at places are stores at any places that have these among them
 pub stores-wider : (job : Job) (n : ℕ) (ps qs : List Place) (acts : List Action) → ((p : Place) → In p ps → In p qs) → Each (IsStoreOf job n ps) acts → Each (IsStoreOf job n qs) acts
 stores-wider job n ps qs acts f h = each_mono (IsStoreOf job n ps) (IsStoreOf job n qs) acts (λ a u. store-wider job n ps qs f a u) h
 
@@ -208,5 +219,6 @@ no-store job n ps j o t none WriteGate h e = cc
 no-store job n ps j o t none SyncGate h e = cc
 no-store job n ps j o t none End h e = cc
 
+-- a provider that is not flagged, or a place that is none of these, has no store among theirs
 pub no-stores : (job : Job) (n : ℕ) (ps : List Place) (j o t : ℕ) (acts : List Action) → ((job.flagged j ≡ true) × In (record { object = o; stripe = t }) ps → ⊥) → Each (IsStoreOf job n ps) acts → Each (IsNot (Store j o t)) acts
 no-stores job n ps j o t acts none h = each_mono (IsStoreOf job n ps) (IsNot (Store j o t)) acts (λ a u. no-store job n ps j o t none a u) h

@@ -48,6 +48,7 @@ files-places s w job (f ∷ fs) h =
     ap (λ n. flat_map (λ stripe. open_actions s f.id stripe ++ rewrite_actions s job f.id stripe) (upto (stripes_of (profiled s f.profile) n))) h.0 ∙ stripes-places s job f.id (upto (stripes_of (profiled s f.profile) f.size)) in
     (λ i. one i ++ files-places s w job fs h.1 i) ∙ sym (flat_map-append (actions_at s job) (map (λ stripe. record { object = f.id; stripe = stripe }) (upto (stripes_of (profiled s f.profile) f.size))) (places_in s fs)))
 
+-- the actions of a repair are those of its places, in order
 pub repairs-places : (s : Setup) (w : State) (job : Job) (files : List File) → job.pinned ≡ pin_all w files → Each (λ (f : File). length (w.bytes f.id) ≡ f.size) files →
     repair_actions s job ≡ flat_map (actions_at s job) (places s files)
 repairs-places s w job files pinned h =
@@ -87,6 +88,7 @@ places-apart s w low (f ∷ fs) h = apart-append (map (λ stripe. record { objec
     (each_map (λ p. Each (IsElse p) (places_in s fs)) (λ stripe. record { object = f.id; stripe = stripe }) (upto (stripes_of (profiled s f.profile) f.size))
     (λ t. each_mono (λ (p : Place). f.id + 1 ≤ p.object) (IsElse (record { object = f.id; stripe = t })) (places_in s fs) (λ p l e. (let a = e.0 in omega (arith, l, a))) (places-above s w (f.id + 1) fs h.1)))
 
+-- no place of files comes twice, where they ascend by number
 pub all-apart : (s : Setup) (w : State) (files : List File) → AreAscending 0 (pin_all w files) → AreApart (places s files)
 all-apart s w files h = places-apart s w 0 (files_by_number files) (subst (AreAscending 0) (pinned-by_number w files) h)
 
@@ -103,6 +105,7 @@ at-cond : (p : Place) (j : ℕ) (b : Bool) → Each (IsAt p) (cond b (Store j p.
 at-cond p j true = ((refl, refl), tt)
 at-cond p j false = tt
 
+-- all actions of a place are at it
 pub at-place : (s : Setup) (job : Job) (p : Place) → Each (IsAt p) (actions_at s job p)
 at-place s job p = each_append (IsAt p) (open_actions s p.object p.stripe) (rewrite_actions s job p.object p.stripe)
     (each_append (IsAt p) (fetches_at s p) (Work p.object p.stripe ∷ []) (each_map (IsAt p) (λ j. Fetch j p.object p.stripe) (upto s.n) (λ j. (refl, refl))) ((refl, refl), tt))
@@ -163,6 +166,7 @@ stores-cond : (j o s : ℕ) (b : Bool) → Each IsStoreAt (cond b (Store j o s �
 stores-cond j o s true = (tt, tt)
 stores-cond j o s false = tt
 
+-- what a repair rewrites of a stripe are stores alone
 pub stores-only : (s : Setup) (job : Job) (o t : ℕ) → Each IsStoreAt (rewrite_actions s job o t)
 stores-only s job o t = each_flat IsStoreAt (λ j. cond (job.flagged j) (Store j o t ∷ []) []) (upto s.n) (λ j. stores-cond j o t (job.flagged j))
 
@@ -208,6 +212,7 @@ ordered-place s job p = ordered-append (open_actions s p.object p.stripe) (rewri
     (λ x a. before-none p x (rewrite_actions s job p.object p.stripe) a (each_mono IsStoreAt (IsNoneOf p.object p.stripe) (rewrite_actions s job p.object p.stripe) (λ y u. stores-none p.object p.stripe y u) (stores-only s job p.object p.stripe)))
     (each_append (IsAt p) (fetches_at s p) (Work p.object p.stripe ∷ []) (each_map (IsAt p) (λ j. Fetch j p.object p.stripe) (upto s.n) (λ j. (refl, refl))) ((refl, refl), tt)))
 
+-- the actions of places that are apart, with what may follow, are in the order of a repair
 pub ordered-places : (s : Setup) (job : Job) (ps : List Place) (tail : List Action) → AreApart ps → AreOrdered tail → Each (λ y. (o t : ℕ) → IsNoneOf o t y) tail → AreOrdered (flat_map (actions_at s job) ps ++ tail)
 ordered-places s job [] tail a o n = o
 ordered-places s job (p ∷ ps) tail a o n = subst AreOrdered (sym (append_assoc (actions_at s job p) (flat_map (actions_at s job) ps) tail))
@@ -223,6 +228,7 @@ pub data Cut (A : Place → List Action) (ps : List Place) (tail : List Action) 
   inside : (done : List Place) (place : Place) (rest : List Place) (q : ℕ) → ps ≡ done ++ place ∷ rest → slice_get (A place) q ≡ Some a → take p (flat_map A ps ++ tail) ≡ flat_map A done ++ take q (A place) → Cut A ps tail p a
   behind : (q : ℕ) → slice_get tail q ≡ Some a → take p (flat_map A ps ++ tail) ≡ flat_map A ps ++ take q tail → Cut A ps tail p a
 
+-- what stands at a place of such a list stands in one part or behind all; and what stands before that
 pub cut-at : (A : Place → List Action) (ps : List Place) (tail : List Action) (p : ℕ) (a : Action) → slice_get (flat_map A ps ++ tail) p ≡ Some a → Cut A ps tail p a
 cut-at A [] tail p a h = Cut.behind p h refl
 cut-at A (x ∷ ps) tail p a h =

@@ -23,6 +23,7 @@ use Rattle.job_laws.proofs.Questions.{each-in}
 
 -- ---- files of one profile
 
+-- a setup with its own profile is itself
 pub profiled-same : (s : Setup) (p : ℕ) → p ≡ s.profile → profiled s p ≡ s
 profiled-same s p e = ap (profiled s) e
 
@@ -53,6 +54,7 @@ among-found q p (g ∷ gs) id all f i e = elim (cases_Bool (g.id == id)) [
     later (inl same) o = absurd (let a : (g.id == id) ≡ true = eq-eqb g.id id (ap (λ (z : File). z.id) (sym same) ∙ e) in let b : true ≡ false = sym a ∙ o in cc)
     later (inr j) o = j
 
+-- the object of a file in effect is that of its number
 pub numbered-file : (x : Ran) → AreAccepted x.records → (file : File) → In file (files_of x.records) → object_numbered x file.id ≡ object_at_begin x file
 numbered-file x accepted file i = ap (λ p. object_of (profiled (setup_at_begin x) p) file.id) (among-found (setup_at_begin x).profile file.profile (files_of x.records) file.id one file i refl)
   where
@@ -69,6 +71,7 @@ module _ (start : State) (O : IsOpenAtRest start 1) where
   version-one : version_of start.records ≡ 1
   version-one = version-first start.records O.rest.in_grammar
 
+  -- in a state just opened a file in effect has the setup's profile
   pub plain-file : (name : List ℕ) (file : File) → file_in start name ≡ Some file → file.profile ≡ (setup_in start).profile
   unfolding setup_in
   plain-file name file in_effect = file-plain start.records name file O.rest.accepted version-one in_effect ∙ by_setup (setup_of start.records)
@@ -77,6 +80,7 @@ module _ (start : State) (O : IsOpenAtRest start 1) where
       by_setup None = refl
       by_setup (Some s) = refl
 
+  -- in a state just opened all files in effect have the setup's profile
   pub plain-files : Each (λ (f : File). f.profile ≡ (setup_in start).profile) (files_of start.records)
   plain-files = each-in (λ (f : File). f.profile ≡ (setup_in start).profile) (files_of start.records) (λ f i. plain-file f.name f (listed_file start.records f i))
 

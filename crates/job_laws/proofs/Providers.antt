@@ -21,6 +21,7 @@ Called x (Ask j object round) given now i p q =
 Called x (Remove j object) given now i p q = (i ≡ j) × Removes object p q × (now ≡ given)
 Called x action given now i p q = ⊥
 
+-- a call of one provider leaves another one, or is the call of it
 pub calls-at : (old : ℕ → Provider) (j : ℕ) (call : Provider → Provider → Type 0) (new : ℕ → Provider) (i : ℕ) → CallsOne old j call new → (new i ≡ old i) ⊎ ((i ≡ j) × call (old i) (new i))
 calls-at old j call new i (p, made, is) = elim (cases_Bool (i == j)) [
   | inl t ↦ (let e = eqb-true i j t in let q : new i ≡ p = ap (λ f. f i) is ∙ cond_true (i == j) p (old i) t in
@@ -55,12 +56,15 @@ made-keeps x i R P same more step (a ∷ actions) old new given now e (mid, so_f
 abbrev pub Rises : Provider → Provider → Type 0
 Rises p q = (p.store_faults ≤ q.store_faults) × (p.other_faults ≤ q.other_faults)
 
+-- counts that stay do not fall
 pub rises-same : (p : Provider) → Rises p p
 rises-same p = (omega arith, omega arith)
 
+-- counts that do not fall twice do not fall in both together
 pub rises-more : (p q r : Provider) → Rises p q → Rises q r → Rises p r
 rises-more p q r a b = ((let c = a.0 in let d = b.0 in omega (arith, c, d)), (let c = a.1 in let d = b.1 in omega (arith, c, d)))
 
+-- no count of a provider falls by a call of it
 pub called-rises : (x : With) (a : Action) (given now : List Given) (i : ℕ) (p q : Provider) → Called x a given now i p q → Rises p q
 called-rises x (Store j o s) given now i p q (e, c, is) = (c.counts.store_faults, (let f = c.counts.other_faults in omega (arith, f)))
 called-rises x (Fetch j o s) given now i p q (e, (block, c, is)) = ((let f = c.counts.store_faults in omega (arith, f)), c.counts.other_faults)
@@ -82,6 +86,7 @@ IsBelow n (Ask j object round) = j < n
 IsBelow n (Remove j object) = j < n
 IsBelow n action = Unit {0}
 
+-- an action on providers below n calls none from n on
 pub called-below : (x : With) (n : ℕ) (a : Action) (given now : List Given) (i : ℕ) (p q : Provider) → IsBelow n a → n ≤ i → Called x a given now i p q → ⊥
 called-below x n (Store j o s) given now i p q b l (e, c, is) = omega (arith, b, l, e)
 called-below x n (Fetch j o s) given now i p q b l (e, c) = omega (arith, b, l, e)
@@ -96,6 +101,7 @@ called-below x n End given now i p q b l h = h
 
 -- ---- parts of lists
 
+-- what holds of an action for each number of a range holds of all of them
 pub each-upto : (P : Action → Type 0) (f : ℕ → Action) (a n : ℕ) → ((k : ℕ) → k < a + n → P (f k)) → Each P (map f (range_with_len a n))
 each-upto P f a zero h = tt
 each-upto P f a (suc n) h = (h a (omega arith), each-upto P f (a + 1) n (λ k l. h k (omega (arith, l))))

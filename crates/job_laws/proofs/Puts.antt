@@ -619,6 +619,7 @@ module _ (start new : State) (name bytes : List ℕ) (how : Answer) (heard : Lis
       ∙ writing-fetches put_with (take E.job.place (actions_of (setup_in start) E.job)) start.providers E.before.providers [] E.job.given j
       (each_take IsWriting (actions_of (setup_in start) E.job) E.job.place (writing-put (setup_in start) E.job name bytes E.walked.kind_is)) E.walked.made
 
+  -- a put leaves its records and stores its file on each provider; or it failed or was cut off
   pub put-leaves : Leaves ran (PutJob name bytes) how
   unfolding setup_in
   put-leaves = record {

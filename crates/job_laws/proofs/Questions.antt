@@ -25,18 +25,22 @@ use Rattle.job_laws.proofs.Truth.{lacks, IsTold, lack_at, range-hit}
 
 -- ---- facts of elements
 
+-- what holds of all elements of a list holds of each
 pub each-in : {X : Type 0} (P : X → Type 0) (xs : List X) → ((x : X) → In x xs → P x) → Each P xs
 each-in P [] h = tt
 each-in P (x ∷ xs) h = (h x (inl refl), each-in P xs (λ y i. h y (inr i)))
 
+-- two facts of each element are one of both
 pub each-both : {X : Type 0} (P Q : X → Type 0) (xs : List X) → Each P xs → Each Q xs → Each (λ x. P x × Q x) xs
 each-both P Q [] a b = tt
 each-both P Q (x ∷ xs) a b = ((a.0, b.0), each-both P Q xs a.1 b.1)
 
+-- what holds of each element, one after the other, holds of the element at each place
 pub all-each : {X : Type 0} (P : X → Type 0) (xs : List X) → Each P xs → All P xs
 all-each P [] h = λ k d l. absurd (omega (arith, l))
 all-each P (x ∷ xs) h = All-cons P x xs h.0 (all-each P xs h.1)
 
+-- what holds of each action of a range holds of that of one number
 pub each-at : (P : Action → Type 0) (f : ℕ → Action) (a n j : ℕ) → Each P (map f (range_with_len a n)) → a ≤ j → j < a + n → P (f j)
 each-at P f a zero j h l u = absurd (omega (arith, l, u))
 each-at P f a (suc n) j h l u = elim (cases_eq a j) [
@@ -44,6 +48,7 @@ each-at P f a (suc n) j h l u = elim (cases_eq a j) [
   | inr m ↦ each-at P f (a + 1) n j h.1 (omega (arith, l, m)) (omega (arith, u))
 ]
 
+-- what holds of each element of two lists together holds of each of both
 pub each-parts : {X : Type 0} (P : X → Type 0) (xs ys : List X) → Each P (xs ++ ys) → Each P xs × Each P ys
 each-parts P [] ys h = (tt, h)
 each-parts P (x ∷ xs) ys h = (let r = each-parts P xs ys h.1 in ((h.0, r.0), r.1))
@@ -67,6 +72,7 @@ size-found w (f ∷ fs) g i = elim (cases_Bool (f.id == g.id)) [
     later (inl e) o = absurd (let a : (f.id == g.id) ≡ true = eq-eqb f.id g.id (ap (λ (z : File). z.id) (sym e)) in let b : true ≡ false = sym a ∙ o in cc)
     later (inr k) o = k
 
+-- the length that is looked up of a pinned file is its size
 pub sizes-pinned : (w : State) (fs : List File) → Each (λ (f : File). length (w.bytes f.id) ≡ f.size) fs → Each (λ (f : File). pinned_size (map (pinned_file w) fs) f.id ≡ f.size) fs
 sizes-pinned w fs h = each-in (λ (f : File). pinned_size (map (pinned_file w) fs) f.id ≡ f.size) fs (λ g i. size-found w fs g i ∙ at fs g i h)
   where
@@ -82,6 +88,7 @@ module _ (x : With) (now : List Given) (held : Held) (j n : ℕ) (below : j < n)
   abbrev pub Fits : Question → Type 0
   Fits q = (gave q ≡ answer_given now q.file.id q.round j) × (honest q ≡ honest_answer (challenge_made x q.file.id q.round) (held q.file.id))
 
+  -- a provider that tells gave each question its honest answer, or none
   pub told-questions : (qs : List Question) → Each Fits qs → Each (IsTold x now held j) (asks_of n qs) → Each (λ q. (gave q ≡ honest q) ⊎ (gave q ≡ None)) qs
   told-questions [] fits h = tt
   told-questions (q ∷ qs) fits h =
@@ -89,6 +96,7 @@ module _ (x : With) (now : List Given) (held : Held) (j n : ℕ) (below : j < n)
       let one = each-at (IsTold x now held j) (λ k. Ask k q.file.id q.round) 0 n j p.0 (omega arith) (omega (arith, below)) refl in
       (elim one [ inl e ↦ inl (fits.0.0 ∙ (e ∙ sym fits.0.1)) | inr e ↦ inr (fits.0.0 ∙ e) ], told-questions qs fits.1 p.1))
 
+  -- how often a provider gave no answer though it had one is the same by asks and by questions
   pub lacks-questions : (qs : List Question) → Each Fits qs → sum_by (lack_at x now held j) (asks_of n qs) ≡ missing gave honest qs
   lacks-questions [] fits = refl
   lacks-questions (q ∷ qs) fits =

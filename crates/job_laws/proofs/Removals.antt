@@ -69,10 +69,12 @@ goes-some R None new p g e = absurd (let f : None ≡ Some p = e in cc)
 goes-some R (Some r) None p g e = absurd g
 goes-some R (Some r) (Some q) p g e = (q, refl, subst (λ z. R z q) (let f : Some r ≡ Some p = e in let h : r ≡ p = cc in h) g)
 
+-- what is told and stays goes by a relation of each to itself
 pub goes-same : (R : Held → Held → Type 0) → ((p : Held) → R p p) → (h : Option Held) → Goes R h h
 goes-same R same None = tt
 goes-same R same (Some p) = same p
 
+-- what is told and goes by one relation and then by another goes by both together
 pub goes-more : (R S T : Held → Held → Type 0) → ((p q r : Held) → R p q → S q r → T p r) → (a b c : Option Held) → Goes R a b → Goes S b c → Goes T a c
 goes-more R S T more None None None g h = tt
 goes-more R S T more None None (Some r) g h = absurd h
@@ -81,10 +83,12 @@ goes-more R S T more (Some p) None c g h = absurd g
 goes-more R S T more (Some p) (Some q) None g h = absurd h
 goes-more R S T more (Some p) (Some q) (Some r) g h = more p q r g h
 
+-- what is told and is changed by a function goes by a relation of each to what it is changed to
 pub goes-map : (R : Held → Held → Type 0) (f : Held → Held) → ((p : Held) → R p (f p)) → (old new : Option Held) → new ≡ option_map f old → Goes R old new
 goes-map R f h None new e = subst (Goes R None) (sym e) tt
 goes-map R f h (Some p) new e = subst (Goes R (Some p)) (sym e) (h p)
 
+-- what is told and goes by a relation goes by a wider one
 pub goes-mono : (R S : Held → Held → Type 0) → ((p q : Held) → R p q → S p q) → (a b : Option Held) → Goes R a b → Goes S a b
 goes-mono R S f None None g = tt
 goes-mono R S f None (Some q) g = absurd g
@@ -129,6 +133,7 @@ IsWriting (Ask j o r) = ⊥
 IsWriting (Work o t) = ⊥
 IsWriting action = Unit {0}
 
+-- actions that only write leave the count of fetches
 pub writing-fetches : (x : With) (xs : List Action) (old new : ℕ → Provider) (given now : List Given) (i : ℕ) → Each IsWriting xs → Made x xs old new given now → (new i).fetches ≡ (old i).fetches
 writing-fetches x xs old new given now i e m = made-keeps x i (λ p q. q.fetches ≡ p.fetches) IsWriting (λ p. refl) (λ p q r a b. b ∙ a) step xs old new given now e m
   where
@@ -169,6 +174,7 @@ abbrev pub OlderGoes : Option File → Provider → Provider → Type 0
 OlderGoes None p q = q.held ≡ p.held
 OlderGoes (Some f) p q = Goes (DroppedFrom f.id (Rose p.other_faults q.other_faults)) p.held q.held
 
+-- a put's or a drop's removals take the older object away from each provider, or a count rose
 pub older-goes : (x : With) (start : State) (s : Setup) (job : Job) (older : Option File) (old new : ℕ → Provider) (given now : List Given) (j : ℕ) → start.jobs ≡ [] → job.older ≡ removable start older → j < s.n →
     Made x (remove_actions s job) old new given now → OlderGoes older (old j) (new j)
 older-goes x start s job older old new given now j idle is below m = by_file older is

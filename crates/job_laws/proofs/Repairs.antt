@@ -548,6 +548,7 @@ module _ (start new : State) (how : Answer) (heard : List Entry) (O : IsOpenAtRe
   repair-silent : heard ≡ []
   repair-silent = E.heard_is ∙ ap (heard_by_kind E.job) E.walked.kind_is
 
+-- a repair leaves flagged providers rewritten in all places, or in some where it failed or was cut
 pub repairs-leave : (start new : State) (moment : ℕ) (how : Answer) (heard : List Entry) → IsOpenAtRest start 1 → RunsJob start moment RepairJob how heard new → Leaves (ran_from start new heard) RepairJob how
 unfolding setup_in
 repairs-leave start new moment how heard O r =

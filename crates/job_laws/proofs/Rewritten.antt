@@ -45,6 +45,7 @@ IsRepairing (Ask j o r) = ⊥
 IsRepairing (Remove j o) = ⊥
 IsRepairing action = Unit {0}
 
+-- an action that is none of a place is no fetch of it
 pub none-fetch : (j o s : ℕ) (y : Action) → IsNoneOf o s y → IsNot (Fetch j o s) y
 none-fetch j o s (Fetch k p t) h e = h ((let f = e in cc), (let f = e in cc))
 none-fetch j o s (Work p t) h e = cc
@@ -93,6 +94,7 @@ module _ (x : With) (last : List Given) where
     ]
   ]
 
+  -- after stores a block is as it was, or the column that is stored there
   pub after-either : (j : ℕ) (actions : List Action) (held : Held) (o s : ℕ) → (after j actions held o s ≡ held o s) ⊎ (after j actions held o s ≡ Some (column_at j o s))
   after-either j [] held o s = inl refl
   after-either j (Store k p t ∷ actions) held o s = elim (after-either j actions (cond (k == j) (with_block p t (column_at j p t) held) held) o s) [
@@ -122,6 +124,7 @@ module _ (x : With) (last : List Given) where
       same : k ≡ j → ((o == p) ≡ true) × ((s == t) ≡ true) → Store j o s ≡ Store k p t
       same a b = (let c = eqb-true o p b.0 in let d = eqb-true s t b.1 in cc)
 
+  -- after stores a block that none of them is of is as it was
   pub after-none : (j : ℕ) (actions : List Action) (held : Held) (o s : ℕ) → Each (IsNot (Store j o s)) actions → after j actions held o s ≡ held o s
   after-none j [] held o s n = refl
   after-none j (Store k p t ∷ actions) held o s n = after-none j actions (cond (k == j) (with_block p t (column_at j p t) held) held) o s n.1 ∙ store-other j k p t held o s n.0
@@ -140,6 +143,7 @@ module _ (x : With) (last : List Given) where
   store-own j o s held = ap (λ (h : Held). h o s) (cond_true (j == j) (with_block o s (column_at j o s) held) held (eq-eqb j j refl))
       ∙ cond_true ((o == o) && (s == s)) (Some (column_at j o s)) (held o s) (and_from (o == o) (s == s) (eq-eqb o o refl) (eq-eqb s s refl))
 
+  -- after stores a block that one of them is of is its column
   pub after-some : (j : ℕ) (actions : List Action) (held : Held) (o s : ℕ) → In (Store j o s) actions → after j actions held o s ≡ Some (column_at j o s)
   after-some j [] held o s i = absurd i
   after-some j (a ∷ actions) held o s (inl e) = subst (λ b. after j (b ∷ actions) held o s ≡ Some (column_at j o s)) e
@@ -302,6 +306,7 @@ module _ (x : With) (repairs : x.kind ≡ RepairJob) (last : List Given) (j : �
         count = λ l. (let c = s.count (omega (arith, up, l)) in let e = r.count l in let f = sum_by-cons (lack_block begin) a actions in omega (arith, c, e, f));
       })
 
+  -- of a repair's actions a provider that tells gave what it held, or nothing, and holds what was stored
   pub made-told : (held : Held) (actions : List Action) (old new : ℕ → Provider) → Each IsRepairing actions → AreOrdered actions → Made x actions old new [] last → (old j).held ≡ Some held → Told held held actions (old j) (new j)
   made-told held actions old new fit order m h = told-on held held actions old new [] fit order (all actions) m h
     where
@@ -328,6 +333,7 @@ abbrev pub HasOpened : With → List Given → Action → Type 0
 HasOpened x last (Work o s) = GivesSymbols (object_made x o) s (blocks_given last x.setup.n o s) (symbols_given last o s)
 HasOpened x last action = Unit {0}
 
+-- for all works that were made the blocks that were given open to the symbols that were given
 pub works-opened : (x : With) (actions : List Action) (old new : ℕ → Provider) (given last : List Given) → AreOrdered actions → Made x actions old new given last → Each (HasOpened x last) actions
 works-opened x [] old new given last order m = tt
 works-opened x (a ∷ actions) old new given last order (mid, so_far, did, rest) = (one a order.0 did, works-opened x actions mid new so_far last order.1 rest)

@@ -33,11 +33,13 @@ pub record Ends (start : State) (kind : Kind) (answer : Answer) (heard : List En
   pub free : holder_of before.append action ≡ None
   pub acts : Acts before job action (Ended answer) new
 
+-- steps that all go on leave a job on its walk
 pub walk-steps : (start w : State) (kind : Kind) (job : Job) (moment : ℕ) (ms : List Moment) → IsOpenAtRest start 1 → Walked start kind w job → AreSteps w moment 1 ms → (next : Job) × Walked start kind (now w ms) next
 walk-steps start w kind job moment [] O W h = (job, W)
 walk-steps start w kind job moment (m ∷ ms) O W (event, outcome, happens, rest) =
     (let r = walk-steps start w kind job moment ms O W rest in walk-step start O kind (now w ms) r.0 r.1 (moment + length ms) m.state happens)
 
+-- a job that runs alone walks to its last step, which ends it
 pub job-ends : (start new : State) (moment : ℕ) (kind : Kind) (answer : Answer) (heard : List Entry) → IsOpenAtRest start 1 → IsSpelledKind kind → RunsJob start moment kind answer heard new → Ends start kind answer heard new
 job-ends start new moment kind answer heard O spelled r =
     (let b = walk-begin moment r.job start r.begun kind O spelled r.begins in

@@ -36,6 +36,7 @@ use Rattle.job_laws.proofs.Refused.{drop-has}
 
 -- ---- a state that was opened over records that a start read
 
+-- a state opened over records that a start read is one just opened
 pub over-opened : (w : State) (old : Seen) (records : List Record) (faults : ℕ) → opens.IsOpened old records → IsOpenedOver w records faults old.providers → IsOpenAtRest w 1
 over-opened w old records faults R V = opened-over w records faults old.providers V R.read.accepted R.read.in_grammar R.read.room (has-setup records R.read.accepted R.read.some) R.enough
 
@@ -55,6 +56,7 @@ get-none [] j l = refl
 get-none (p ∷ ps) zero l = absurd (omega (arith, l))
 get-none (p ∷ ps) (suc j) l = get-none ps j (omega (arith, l))
 
+-- over accepted records there is a state that was opened over them
 pub state-over : (records : List Record) (faults : ℕ) (providers : List Provider) → AreAccepted records → IsOpenedOver (opened_state records faults providers) records faults providers
 state-over records faults providers accepted = opened-with records faults providers (provider_at providers) accepted (get-provider providers)
 
@@ -102,6 +104,7 @@ module _ (records : List Record) (kind : Kind) (answer : Answer) (old new : Seen
   images-stand None h = tt
   images-stand (Some cells) h = λ image is. image-stands image (h image is)
 
+  -- what a command tells of its job's run leaves what a job of its kind leaves
   pub left-alone : LeftAlone records kind answer old new heard
   left-alone = record {
     faults = A.faults;
@@ -116,6 +119,7 @@ module _ (records : List Record) (kind : Kind) (answer : Answer) (old new : Seen
 
 -- ---- each kind of job
 
+-- a job of each kind that runs alone leaves what its kind says
 pub jobs-leave : (kind : Kind) (w last : State) (moment : ℕ) (answer : Answer) (heard : List Entry) → IsSpelledKind kind → IsOpenAtRest w 1 → RunsJob w moment kind answer heard last → Leaves (ran_from w last heard) kind answer
 jobs-leave (PutJob name bytes) w last moment answer heard spelled O r = put-leaves w last name bytes answer heard O (job-ends w last moment (PutJob name bytes) answer heard O spelled r)
 jobs-leave (GetJob name) w last moment answer heard spelled O r = all-leaves w last name answer heard O (job-ends w last moment (GetJob name) answer heard O spelled r)

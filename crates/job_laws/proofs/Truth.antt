@@ -22,6 +22,7 @@ use Rattle.job_laws.proofs.Heard.{IsOver, AreDistinct, answer-later, answer-newe
 pub call-hit : (old : ℕ → Provider) (j : ℕ) (call : Provider → Provider → Type 0) (new : ℕ → Provider) → CallsOne old j call new → call (old j) (new j)
 call-hit old j call new (p, made, is) = subst (λ q. call (old j) q) (sym (ap (λ f. f j) is ∙ cond_true (j == j) p (old j) (eq-eqb j j refl))) made
 
+-- a call of one provider leaves each other one
 pub call-miss : (old : ℕ → Provider) (k : ℕ) (call : Provider → Provider → Type 0) (new : ℕ → Provider) (j : ℕ) → (k ≡ j → ⊥) → CallsOne old k call new → new j ≡ old j
 call-miss old k call new j n (p, made, is) = ap (λ f. f j) is ∙ cond_false (j == k) p (old j) (ne_eqb j k (λ e. n (sym e)))
 
@@ -43,9 +44,11 @@ lacks-itself : {B : Type 0} (h : Option B) → lacks h h ≡ 0
 lacks-itself None = refl
 lacks-itself (Some b) = refl
 
+-- where what is held was given nothing is lacking
 pub lacks-same : {B : Type 0} (given held : Option B) → given ≡ held → lacks given held ≡ 0
 lacks-same given held e = ap (λ g. lacks g held) e ∙ lacks-itself held
 
+-- of one question at most one answer is lacking
 pub lacks-few : {B : Type 0} (given held : Option B) → lacks given held ≤ 1
 lacks-few given held = by_test (is_none given && is_some held)
   where
@@ -137,6 +140,7 @@ range-miss : (j v : ℕ) (f : Action → ℕ) (g : ℕ → Action) (a n : ℕ) �
 range-miss j v f g a zero h l = refl
 range-miss j v f g a (suc n) h l = sum_by-cons f (g a) (map g (range_with_len (a + 1) n)) ∙ (let e = h a (λ e. omega (arith, e, l)) in let r = range-miss j v f g (a + 1) n h (omega (arith, l)) in omega (arith, e, r))
 
+-- of a range of which one number counts the sum is that number's
 pub range-hit : (j : ℕ) (f : Action → ℕ) (g : ℕ → Action) (a n : ℕ) → ((k : ℕ) → (k ≡ j → ⊥) → f (g k) ≡ 0) → a ≤ j → j < a + n → sum_by f (map g (range_with_len a n)) ≡ f (g j)
 range-hit j f g a zero h l u = absurd (omega (arith, l, u))
 range-hit j f g a (suc n) h l u = sum_by-cons f (g a) (map g (range_with_len (a + 1) n)) ∙ elim (cases_eq a j) [

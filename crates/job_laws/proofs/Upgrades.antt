@@ -183,6 +183,7 @@ module _ (start new : State) (how : Answer) (heard : List Entry) (O : IsOpenAtRe
   by-action (Store k o t) at h = absurd (each_get IsStill (actions_of (setup_in start) E.job) E.job.place (Store k o t) still-list (listed (Store k o t) at (λ e. cc)))
   by-action (Work o t) at h = absurd (each_get IsStill (actions_of (setup_in start) E.job) E.job.place (Work o t) still-list (listed (Work o t) at (λ e. cc)))
 
+  -- an upgrade leaves its record, and providers as they were; or it was cut off
   pub upgrade-leaves : Leaves ran UpgradeJob how
   unfolding setup_in
   upgrade-leaves = record {

@@ -64,6 +64,7 @@ module _ (start : State) (O : IsOpenAtRest start 1) (kind : Kind) where
       let a = step-acts start O kind (now w ms) r.0 r.1 More m.state (λ n e. absurd (let f : More ≡ Waiting n = e in cc)) happens in
       acts-whole (now w ms) r.0 m.state a.0 More a.3 (steps-whole w job moment ms W rest whole))
 
+  -- a job that runs alone leaves the disk with the whole history
   pub runs-whole : (new : State) (moment : ℕ) (how : Answer) (heard : List Entry) → IsSpelledKind kind → RunsJob start moment kind how heard new → IsWholeJournal new
   runs-whole new moment how heard spelled r =
       (let b = walk-begin moment r.job start r.begun kind O spelled r.begins in
