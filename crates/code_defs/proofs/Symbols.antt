@@ -26,7 +26,7 @@ abbrev AreSymbols : List ℕ → Type 0
 AreSymbols p = Each is_symbol p
 
 -- the two forms of each
-pub each_from_all : (p : List ℕ) → All is_symbol p → Each is_symbol p
+each_from_all : (p : List ℕ) → All is_symbol p → Each is_symbol p
 each_from_all [] h = tt
 each_from_all (a ∷ p) h = (All-head is_symbol a p h, each_from_all p (All-tail is_symbol a p h))
 

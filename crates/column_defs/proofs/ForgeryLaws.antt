@@ -9,7 +9,7 @@ use Rattle.column_defs.specs.Opened.{block_at}
 use Rattle.column_defs.specs.Forgeries.{IsForgery, IsStripeForgery, is_agreeing, count_of}
 
 -- where each number that passes one test passes another, at least as many pass that one
-pub count_of-mono : (p q : ℕ → Bool) → ((j : ℕ) → p j ≡ true → q j ≡ true) → (js : List ℕ) → count_of p js ≤ count_of q js
+count_of-mono : (p q : ℕ → Bool) → ((j : ℕ) → p j ≡ true → q j ≡ true) → (js : List ℕ) → count_of p js ≤ count_of q js
 count_of-mono p q all [] = omega arith
 count_of-mono p q all (j ∷ js) = grind (arith, count_of-mono p q all js, all j)
 

@@ -30,7 +30,7 @@ use Rattle.column_defs.proofs.PointLaws.{point-low}
 use Rattle.column_defs.proofs.ColumnLaws.{value-interpolate_upto}
 
 -- the sum of each coefficient times the polynomial at its place
-pub combine : List ℕ → List (List ℕ) → List ℕ
+combine : List ℕ → List (List ℕ) → List ℕ
 combine [] ps = []
 combine (w ∷ ws) [] = []
 combine (w ∷ ws) (p ∷ ps) = plus (scale w p) (combine ws ps)

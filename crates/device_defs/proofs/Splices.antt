@@ -7,7 +7,7 @@ use Rattle.std.proofs.Math.Seq.{take-append-add}
 use Rattle.std.proofs.Common.{take-append-drop}
 use Rattle.device_defs.specs.Disks.{spliced}
 
-pub drop_grown : {X : Type 0} (end : ℕ) (old : List X) (v : X) → drop end (old ++ replicate (end - length old) v) ≡ drop end old
+drop_grown : {X : Type 0} (end : ℕ) (old : List X) (v : X) → drop end (old ++ replicate (end - length old) v) ≡ drop end old
 drop_grown end old v = elim (cases_lt (length old) end) [
   | inl past ↦ drop_all end _ (omega (arith, length-append old (replicate (end - length old) v), length-replicate (end - length old) v)) ∙ sym (drop_all end old (omega arith))
   | inr within ↦
@@ -15,7 +15,7 @@ drop_grown end old v = elim (cases_lt (length old) end) [
       ap (λ (k : ℕ). drop end (old ++ replicate k v)) none ∙ ap (λ (l : List _). drop end l) (append-nil old)
 ]
 
-pub take_grown : {X : Type 0} (at end : ℕ) (old : List X) (v : X) → at ≤ end → take at (old ++ replicate (end - length old) v) ≡ take (min at (length old)) old ++ replicate (at - length old) v
+take_grown : {X : Type 0} (at end : ℕ) (old : List X) (v : X) → at ≤ end → take at (old ++ replicate (end - length old) v) ≡ take (min at (length old)) old ++ replicate (at - length old) v
 take_grown at end old v le = elim (cases_lt (length old) at) [
   | inl past ↦
       let m : min at (length old) ≡ length old = omega arith in

@@ -24,7 +24,7 @@ module _ (at n : ℕ) (old : Cells) where
   pub length-marked : length (marked at n old) ≡ length old
   length-marked = length-spliced from (loose kept) old (omega arith) ∙ omega (arith, length-map {B = ℕ × Bool} kept (λ b. (b, true)), size)
 
-  pub Torn-written : (half : List ℕ) → length half ≤ n → Torn at n old (written at half (marked at n old))
+  Torn-written : (half : List ℕ) → length half ≤ n → Torn at n old (written at half (marked at n old))
   Torn-written half le =
       let payload = replicate (at - length old) 0 ++ half in
       let long : length payload ≡ at - length old + length half = omega (arith, length-append (replicate {A = ℕ} (at - length old) 0) half, length-replicate {A = ℕ} (at - length old) 0) in

@@ -67,13 +67,13 @@ module _ (at : ℕ) (bytes : List ℕ) (cells : Cells) (within : at ≤ length c
   front : length (take at cells) ≡ at
   front = omega (arith, length-take at cells)
 
-  pub loose_inside : (k : ℕ) → at ≤ k → k < at + length bytes → is_loose_at (spliced at (loose bytes) cells) k ≡ true
+  loose_inside : (k : ℕ) → at ≤ k → k < at + length bytes → is_loose_at (spliced at (loose bytes) cells) k ≡ true
   loose_inside k ge lt =
       loose_behind (take at cells) (loose bytes ++ drop (at + length (loose bytes)) cells) k (k - at) (omega (arith, front))
       ∙ loose_before (loose bytes) (drop (at + length (loose bytes)) cells) (k - at) (omega (arith, long bytes))
       ∙ all_loose bytes (k - at) (omega arith)
 
-  pub loose_outside : (k : ℕ) → (k < at) ⊎ (at + length bytes ≤ k) → is_loose_at (spliced at (loose bytes) cells) k ≡ is_loose_at cells k
+  loose_outside : (k : ℕ) → (k < at) ⊎ (at + length bytes ≤ k) → is_loose_at (spliced at (loose bytes) cells) k ≡ is_loose_at cells k
   loose_outside k (inl lt) =
       loose_before (take at cells) (loose bytes ++ drop (at + length (loose bytes)) cells) k (omega (arith, front)) ∙ loose_in_front at cells k lt
   loose_outside k (inr ge) =

@@ -67,7 +67,7 @@ module _ (points values : List ℕ) (even : length points ≡ length values) (ap
   length-chosen : length chosen ≡ keep
   length-chosen = omega (arith, length-take keep (sound_points nim f points), many)
 
-  pub even_chosen : length chosen ≡ length taken
+  even_chosen : length chosen ≡ length taken
   even_chosen = omega (
     arith,
     length-take keep (sound_points nim f points),

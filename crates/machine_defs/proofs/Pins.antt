@@ -21,7 +21,7 @@ use Rattle.algebra_laws.specs.Lists.{In}
 
 -- ---- what begins pin
 
-pub in_pin : (p : Pinned) (ps : List Pinned) (f : Pinned) → In f (pin_by machine_pins p ps) → (f ≡ p) ⊎ In f ps
+in_pin : (p : Pinned) (ps : List Pinned) (f : Pinned) → In f (pin_by machine_pins p ps) → (f ≡ p) ⊎ In f ps
 in_pin p [] f (inl e) = inl e
 in_pin p [] f (inr i) = absurd i
 in_pin p (q ∷ qs) f h = elim (cases_Bool (nat_lt p.id q.id)) [

@@ -76,7 +76,7 @@ store_call w job j stripe = (
 )
 
 -- a disk call that fails in no way
-pub disk_call : (w : State) → DiskCall w w w
+disk_call : (w : State) → DiskCall w w w
 disk_call w = (w.disk_faults, omega arith, refl)
 
 -- an answer that ends a job is not `more`

@@ -13,7 +13,7 @@ pub before_gate-entries : (rs : List Record) → before_gate rs ≡ magic ++ ent
 before_gate-entries [] = refl
 before_gate-entries (r ∷ rs) = ap (λ l. l ++ 1 ∷ spelling r) (before_gate-entries rs) ∙ append_assoc magic (entries rs) (1 ∷ spelling r)
 
-pub length-entries : (rs : List Record) → IsTrue (list_all is_in_grammar rs) → length (entries rs) ≡ entries_size rs
+length-entries : (rs : List Record) → IsTrue (list_all is_in_grammar rs) → length (entries rs) ≡ entries_size rs
 length-entries [] p = refl
 length-entries (r ∷ rs) p =
     let first : IsTrue (is_in_grammar r) = grind (arith, p) in

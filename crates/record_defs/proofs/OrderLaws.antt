@@ -19,7 +19,7 @@ before-trans [] (y ∷ b) (z ∷ c) p q = refl
 before-trans (x ∷ a) (y ∷ b) (z ∷ c) p q = grind (arith, nat_tests, p, q, before-trans a b c)
 
 -- of two names that are not the same one comes first
-pub before-other : (a b : List ℕ) → is_same_name a b ≡ false → is_name_before a b ≡ false → is_name_before b a ≡ true
+before-other : (a b : List ℕ) → is_same_name a b ≡ false → is_name_before a b ≡ false → is_name_before b a ≡ true
 before-other [] [] p q = absurd cc
 before-other [] (y ∷ b) p q = absurd cc
 before-other (x ∷ a) [] p q = refl
@@ -32,7 +32,7 @@ pub below-trans : (m n : List ℕ) (fs : List File) → is_name_before m n ≡ t
 below-trans m n [] p q = refl
 below-trans m n (f ∷ fs) p q = grind (arith, p, q, below-trans m n fs p, before-trans m n f.name p)
 
-pub below-without : (n : List ℕ) (fs : List File) (x : List ℕ) → is_below n fs ≡ true → is_below n (without_file fs x) ≡ true
+below-without : (n : List ℕ) (fs : List File) (x : List ℕ) → is_below n fs ≡ true → is_below n (without_file fs x) ≡ true
 below-without n [] x p = refl
 below-without n (f ∷ fs) x p = grind (arith, p, below-without n fs x)
 
@@ -40,7 +40,7 @@ pub ordered-without : (fs : List File) (x : List ℕ) → are_ordered fs ≡ tru
 ordered-without [] x p = refl
 ordered-without (f ∷ fs) x p = grind (arith, p, ordered-without fs x, below-without f.name fs x)
 
-pub below-with : (n : List ℕ) (fs : List File) (f : File) → is_below n fs ≡ true → is_name_before n f.name ≡ true → is_below n (with_file fs f) ≡ true
+below-with : (n : List ℕ) (fs : List File) (f : File) → is_below n fs ≡ true → is_name_before n f.name ≡ true → is_below n (with_file fs f) ≡ true
 below-with n [] f p q = grind (arith, q)
 below-with n (g ∷ fs) f p q = grind (arith, p, q, below-with n fs f)
 
@@ -73,7 +73,7 @@ ordered-files_of (RepairDue number counts ∷ rs) = ordered-files_of rs
 
 -- ---- how many files there are
 
-pub length-with_file : (fs : List File) (f : File) → length (with_file fs f) ≡ length fs + 1
+length-with_file : (fs : List File) (f : File) → length (with_file fs f) ≡ length fs + 1
 length-with_file [] f = refl
 length-with_file (g ∷ fs) f = grind (arith, length-with_file fs f)
 
@@ -81,7 +81,7 @@ pub length-without_le : (fs : List File) (n : List ℕ) → length (without_file
 length-without_le [] n = omega arith
 length-without_le (f ∷ fs) n = grind (arith, length-without_le fs n)
 
-pub length-without_found : (fs : List File) (n : List ℕ) → is_some (find_file fs n) ≡ true → length (without_file fs n) + 1 ≤ length fs
+length-without_found : (fs : List File) (n : List ℕ) → is_some (find_file fs n) ≡ true → length (without_file fs n) + 1 ≤ length fs
 length-without_found [] n p = absurd cc
 length-without_found (f ∷ fs) n p = grind (arith, p, length-without_found fs n, length-without_le fs n)
 

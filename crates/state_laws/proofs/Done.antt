@@ -274,10 +274,10 @@ module _ (limit : ℕ) (old : State) (S : IsSound limit old) (job : Job) (runs :
   pub gate-order : IsInOrder 3 (actions_left s job)
   gate-order = subst (λ m. IsInOrder m (actions_left s job)) (ap (λ f. moves_made f job.number) flight ∙ (mine a job.number own ∙ three)) (S.jobs job.number job runs).order
 
-  pub older-is : (kind : Kind) → job.kind ≡ kind → older_now ≡ taken_out old job kind
+  older-is : (kind : Kind) → job.kind ≡ kind → older_now ≡ taken_out old job kind
   older-is kind e = ap (taken_out old job) e
 
-  pub first-older : (name bytes : List ℕ) → job.kind ≡ PutJob name bytes → job.place < 4 → older_now ≡ []
+  first-older : (name bytes : List ℕ) → job.kind ≡ PutJob name bytes → job.place < 4 → older_now ≡ []
   first-older name bytes kind l = older-is (PutJob name bytes) kind ∙ cond_true (is_first_append job) [] (removable old (file_in old name)) (first_below job l)
 
   pub goes : GoesOn old job older_now next gate-order

@@ -25,7 +25,7 @@ unfolding actions_of
 actions-onward s job given = refl
 
 -- what is left of the job, where the action is not the End
-pub left-onward : (w : State) (job : Job) (given : List Given) (action : Action) → next_action w job ≡ Some action → (action ≡ End → ⊥) →
+left-onward : (w : State) (job : Job) (given : List Given) (action : Action) → next_action w job ≡ Some action → (action ≡ End → ⊥) →
     actions_left (setup_in w) job ≡ action ∷ actions_left (setup_in w) (onward job job.subject given)
 left-onward w job given action next n =
     next-left w job action next n ∙ ap (λ xs. action ∷ drop (job.place + 1) xs) (sym (actions-onward (setup_in w) job given))

@@ -62,7 +62,7 @@ module _ (limit : ℕ) (old : State) (S : IsSound limit old) (job : Job) (runs :
   abbrev pub drawn_number : ℕ
   drawn_number = subject_drawn old job job.kind
 
-  pub later-same : 4 ≤ job.place → drawn_number ≡ job.subject
+  later-same : 4 ≤ job.place → drawn_number ≡ job.subject
   later-same l = drawn_later old job job.kind (first_above job l)
 
   repair-same : job.kind ≡ RepairJob → drawn_number ≡ job.subject
@@ -89,7 +89,7 @@ module _ (limit : ℕ) (old : State) (S : IsSound limit old) (job : Job) (runs :
       by_kind RepairJob kind = same (ap (subject_drawn old job) kind)
       by_kind UpgradeJob kind = same (ap (subject_drawn old job) kind)
 
-  pub begun-follows : (entry : Record) → next_action old job ≡ Some WriteBody → Writes old job job.kind entry → MayFollow old.records old.journal (journal_end old) (bytes_drawn old job job.kind) entry
+  begun-follows : (entry : Record) → next_action old job ≡ Some WriteBody → Writes old job job.kind entry → MayFollow old.records old.journal (journal_end old) (bytes_drawn old job job.kind) entry
   begun-follows entry next writes = follows-on old.records old.journal (journal_end old) old.bytes (bytes_drawn old job job.kind) entry S.accepted (drawn_bytes old job job.kind) (written-follows limit old S job.number job runs entry next writes)
 
   abbrev first_flight : Record → Append

@@ -62,7 +62,7 @@ once-with_name names name o = elim (cases_Bool (is_name_among names name)) [
   | inr f ↦ subst AreOnce (sym (cond_false (is_name_among names name) names (name ∷ names) f)) (f, o)
 ]
 
-pub once-with_puts : (names : List (List ℕ)) (aims : List Aim) → AreOnce names
+once-with_puts : (names : List (List ℕ)) (aims : List Aim) → AreOnce names
     → AreOnce (with_puts names aims)
 once-with_puts names [] o = o
 once-with_puts names (ToPut name size ∷ aims) o =

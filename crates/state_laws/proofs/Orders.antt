@@ -28,7 +28,7 @@ IsOther SyncGate = ⊥
 IsOther End = ⊥
 IsOther action = Unit {0}
 
-pub in_order-others : (xs ys : List Action) → Each IsOther xs → IsInOrder 0 ys → IsInOrder 0 (xs ++ ys)
+in_order-others : (xs ys : List Action) → Each IsOther xs → IsInOrder 0 ys → IsInOrder 0 (xs ++ ys)
 in_order-others [] ys h o = o
 in_order-others (Store j object stripe ∷ xs) ys h o = (refl, in_order-others xs ys h.1 o)
 in_order-others (Fetch j object stripe ∷ xs) ys h o = (refl, in_order-others xs ys h.1 o)
@@ -89,14 +89,14 @@ get-drop (x ∷ xs) (suc p) = get-drop xs p
 pub others-removals : (s : Setup) (job : Job) → Each IsOther (remove_actions s job)
 others-removals s job = each_flat IsOther (λ object. on_each_provider s (λ j. Remove j object)) job.older (λ object. each_map IsOther (λ j. Remove j object) (upto s.n) (λ j. tt))
 
-pub others-stores : (s : Setup) (job : Job) (bytes : List ℕ) → Each IsOther (store_actions s job bytes)
+others-stores : (s : Setup) (job : Job) (bytes : List ℕ) → Each IsOther (store_actions s job bytes)
 others-stores s job bytes = each_flat IsOther (λ stripe. on_each_provider s (λ j. Store j job.subject stripe)) (upto (stripes_of (profiled s job.profile) (length bytes)))
     (λ stripe. each_map IsOther (λ j. Store j job.subject stripe) (upto s.n) (λ j. tt))
 
-pub others-open : (s : Setup) (object stripe : ℕ) → Each IsOther (open_actions s object stripe)
+others-open : (s : Setup) (object stripe : ℕ) → Each IsOther (open_actions s object stripe)
 others-open s object stripe = each_append IsOther (on_each_provider s (λ j. Fetch j object stripe)) (Work object stripe ∷ []) (each_map IsOther (λ j. Fetch j object stripe) (upto s.n) (λ j. tt)) (tt, tt)
 
-pub others-reads : (s : Setup) (pinned : List Pinned) → Each IsOther (read_actions s pinned)
+others-reads : (s : Setup) (pinned : List Pinned) → Each IsOther (read_actions s pinned)
 others-reads s pinned = each_flat IsOther (λ (f : Pinned). on_each_stripe (profiled s f.profile) (length f.bytes) (open_actions s f.id)) pinned
     (λ f. each_flat IsOther (open_actions s f.id) (upto (stripes_of (profiled s f.profile) (length f.bytes))) (λ stripe. others-open s f.id stripe))
 
@@ -115,7 +115,7 @@ pub each-ask : (P : Action → Type 0) → ((j object round : ℕ) → P (Ask j 
 each-ask P h s job = each_flat P (λ (f : Pinned). flat_map (λ round. on_each_provider s (λ j. Ask j f.id round)) (rounds_of (profiled s f.profile) (length f.bytes))) job.pinned
     (λ f. each_flat P (λ round. on_each_provider s (λ j. Ask j f.id round)) (rounds_of (profiled s f.profile) (length f.bytes)) (λ round. each_map P (λ j. Ask j f.id round) (upto s.n) (λ j. h j f.id round)))
 
-pub others-asks : (s : Setup) (job : Job) → Each IsOther (ask_actions s job)
+others-asks : (s : Setup) (job : Job) → Each IsOther (ask_actions s job)
 others-asks s job = each-ask IsOther (λ j object round. tt) s job
 
 -- what comes behind the first append of a put, a drop and an audit
@@ -190,7 +190,7 @@ appends-order moves (End ∷ actions) l o = absurd (let e = o.0 in omega (arith,
 pub appends-append : (xs ys : List Action) → appends_in (xs ++ ys) ≡ appends_in xs + appends_in ys
 appends-append xs ys = sum_by-append gates xs ys
 
-pub appends-drop : (xs : List Action) (p : ℕ) → appends_in (drop p xs) ≤ appends_in xs
+appends-drop : (xs : List Action) (p : ℕ) → appends_in (drop p xs) ≤ appends_in xs
 appends-drop xs p = (let e = sum_by-take-drop gates xs p in omega (arith, e))
 
 pub appends-move : (ys : List Action) → appends_in (append_actions ++ ys) ≡ 1 + appends_in ys
@@ -199,12 +199,12 @@ appends-move ys = appends-append append_actions ys
 pub appends-removals : (s : Setup) (job : Job) → appends_in (drop_rest s job) ≡ 0
 appends-removals s job = appends-append (remove_actions s job) (End ∷ []) ∙ (let e = appends-others (remove_actions s job) (others-removals s job) in omega (arith, e))
 
-pub appends-put_rest : (s : Setup) (job : Job) (bytes : List ℕ) → appends_in (put_rest s job bytes) ≡ 1
+appends-put_rest : (s : Setup) (job : Job) (bytes : List ℕ) → appends_in (put_rest s job bytes) ≡ 1
 appends-put_rest s job bytes =
     appends-append (store_actions s job bytes) (append_actions ++ drop_rest s job)
     ∙ (let e = appends-others (store_actions s job bytes) (others-stores s job bytes) in let f = appends-move (drop_rest s job) in let g = appends-removals s job in omega (arith, e, f, g))
 
-pub appends-audit_rest : (s : Setup) (job : Job) → appends_in (audit_rest s job) ≡ 1
+appends-audit_rest : (s : Setup) (job : Job) → appends_in (audit_rest s job) ≡ 1
 appends-audit_rest s job =
     appends-append (ask_actions s job) (append_actions ++ End ∷ [])
     ∙ (let e = appends-others (ask_actions s job) (others-asks s job) in let f = appends-move (End ∷ []) in omega (arith, e, f))
@@ -228,7 +228,7 @@ appends-behind ys (suc (suc (suc (suc p)))) l = appends-drop ys p
 abbrev pub appends_by : Setup → Job → Kind → ℕ
 appends_by s job kind = appends_in (drop job.place (actions_by s job kind))
 
-pub appends_left-by : (s : Setup) (job : Job) → appends_left s job ≡ appends_by s job job.kind
+appends_left-by : (s : Setup) (job : Job) → appends_left s job ≡ appends_by s job job.kind
 unfolding actions_of
 appends_left-by s job = refl
 

@@ -53,7 +53,7 @@ module _ (rs : List Record) (a : AreAccepted rs) (g : AreSpelled rs) where
       set_up None e = refl
       set_up (Some s) e = spelled-more (SetUp s) [] (setup-spelled rs s g e) refl
 
-  pub packed-spelled : AreSpelled (packed rs)
+  packed-spelled : AreSpelled (packed rs)
   packed-spelled = on_top (due_of rs) refl
     where
       files : AreSpelled (with_files (files_of rs) base)
@@ -96,7 +96,7 @@ module _ (rs : List Record) (a : AreAccepted rs) (g : AreSpelled rs) where
       on_top (Some d) e = (let f = files in let c = few d (due-spelled rs d g e) in omega (arith, f, c))
 
   -- a packed journal fits in either area
-  pub packed-room : (area : Area) → end_in area (packed rs) ≤ largest_journal
+  packed-room : (area : Area) → end_in area (packed rs) ≤ largest_journal
   packed-room A = (let s = packed-size in omega (arith, s))
   packed-room B = (let s = packed-size in omega (arith, s))
 

@@ -24,7 +24,7 @@ use Rattle.state_laws.specs.SoundJobs.{HasPins, IsPin}
 use Rattle.state_laws.proofs.NamesTaken.{AreOnce, once-files}
 use Rattle.state_laws.proofs.Records.{is_some-at, AreSpelled, sound-accepted, file-spelled, file-plain}
 
-pub length-pin : (p : Pinned) (qs : List Pinned) → length (pin_by machine_pins p qs) ≡ suc (length qs)
+length-pin : (p : Pinned) (qs : List Pinned) → length (pin_by machine_pins p qs) ≡ suc (length qs)
 length-pin p [] = refl
 length-pin p (q ∷ qs) = elim (cases_Bool (nat_lt p.id q.id)) [
   | inl t ↦ ap length (cond_true (nat_lt p.id q.id) (p ∷ q ∷ qs) (q ∷ pin_by machine_pins p qs) t)

@@ -27,10 +27,10 @@ is_some-at (Some x) h = (x, refl)
 abbrev pub AreSpelled : List Record → Type 0
 AreSpelled rs = IsTrue (list_all is_spelled rs)
 
-pub spelled-first : (r : Record) (rs : List Record) → AreSpelled (r ∷ rs) → IsTrue (is_spelled r)
+spelled-first : (r : Record) (rs : List Record) → AreSpelled (r ∷ rs) → IsTrue (is_spelled r)
 spelled-first r rs h = (and_parts (is_spelled r) (list_all is_spelled rs) h).0
 
-pub spelled-rest : (r : Record) (rs : List Record) → AreSpelled (r ∷ rs) → AreSpelled rs
+spelled-rest : (r : Record) (rs : List Record) → AreSpelled (r ∷ rs) → AreSpelled rs
 spelled-rest r rs h = (and_parts (is_spelled r) (list_all is_spelled rs) h).1
 
 pub spelled-more : (r : Record) (rs : List Record) → IsTrue (is_spelled r) → AreSpelled rs → AreSpelled (r ∷ rs)
@@ -39,7 +39,7 @@ spelled-more r rs g h = and_from (is_spelled r) (list_all is_spelled rs) g h
 abbrev pub AreInGrammar : List Record → Type 0
 AreInGrammar rs = IsTrue (list_all is_in_grammar rs)
 
-pub grammar-first : (r : Record) (rs : List Record) → AreInGrammar (r ∷ rs) → IsTrue (is_in_grammar r)
+grammar-first : (r : Record) (rs : List Record) → AreInGrammar (r ∷ rs) → IsTrue (is_in_grammar r)
 grammar-first r rs h = (and_parts (is_in_grammar r) (list_all is_in_grammar rs) h).0
 
 pub grammar-rest : (r : Record) (rs : List Record) → AreInGrammar (r ∷ rs) → AreInGrammar rs
@@ -267,7 +267,7 @@ setup-spelled (RepairDue number counts ∷ rs) s g h =
     setup-spelled rs s (spelled-rest (RepairDue number counts) rs g) h
 
 -- a name that a put was started under is a name
-pub started-spelled : (rs : List Record) (id : ℕ) (name : List ℕ) → AreSpelled rs → started_as rs id ≡ Some name → is_name name ≡ true
+started-spelled : (rs : List Record) (id : ℕ) (name : List ℕ) → AreSpelled rs → started_as rs id ≡ Some name → is_name name ≡ true
 started-spelled [] id name g h = absurd (some-not-none _ name h refl)
 started-spelled (SetUp s ∷ rs) id name g h = started-spelled rs id name (spelled-rest (SetUp s) rs g) h
 started-spelled (PutStart k n ∷ rs) id name g h = elim (cases_Bool (k == id)) [
@@ -296,7 +296,7 @@ started-spelled (RepairDue number counts ∷ rs) id name g h =
     started-spelled rs id name (spelled-rest (RepairDue number counts) rs g) h
 
 -- the start that a put's end is of
-pub start-named : (q : List ℕ) (o : Option (List ℕ)) → is_start_of q o ≡ true → o ≡ Some q
+start-named : (q : List ℕ) (o : Option (List ℕ)) → is_start_of q o ≡ true → o ≡ Some q
 start-named q None h = absurd (false≢true h)
 start-named q (Some name) h = ap Some (same-eq name q h)
 

@@ -64,7 +64,7 @@ not-switching : (w : State) → IsKept w → is_some (setup_of w.records) ≡ fa
 not-switching w K none e = false≢true (sym none ∙ second-set_up w.records K.accepted (K.switching e).version)
 
 module _ (limit : ℕ) where
-  pub idle-sound : (w : State) → IsIdle w → IsKept w → (w.is_open ≡ true → IsSetUp w) → (w.is_open ≡ true → (setup_in w).n ≤ w.handed) → (w.is_open ≡ true → w.doubt ≡ None) → IsSound limit w
+  idle-sound : (w : State) → IsIdle w → IsKept w → (w.is_open ≡ true → IsSetUp w) → (w.is_open ≡ true → (setup_in w).n ≤ w.handed) → (w.is_open ≡ true → w.doubt ≡ None) → IsSound limit w
   idle-sound w idle K set_up handed undoubted = record {
     accepted = K.accepted;
     spelled = K.spelled;

@@ -225,7 +225,7 @@ module _ (limit : ℕ) (old : State) (S : IsSound limit old) (job : Job) (runs :
       ]
 
   -- another job's append in flight
-  pub append-other : (next : Job) (flight : Option Append) (doubt : Option Doubt) (began : ℕ → ℕ) (a : Append) → next.number ≡ job.number → (a.job ≡ job.number → ⊥) → IsSoundAppend old a →
+  append-other : (next : Job) (flight : Option Append) (doubt : Option Doubt) (began : ℕ → ℕ) (a : Append) → next.number ≡ job.number → (a.job ≡ job.number → ⊥) → IsSoundAppend old a →
       IsSoundAppend (gone_on old next flight doubt old.bytes began) a
   unfolding setup_in
   append-other next flight doubt began a number apart A = record {

@@ -101,7 +101,7 @@ spelled-audit_done : (number undecided : ℕ) (counts : List ℕ) → number < 2
     IsTrue (is_spelled (AuditDone number undecided counts))
 spelled-audit_done number undecided counts a b c d e = grind (arith, nat_tests, a, b, c, d, spelled-counts counts e)
 
-pub up-in : (o : Option Setup) → is_some o ≡ true → o ≡ Some (setup_or_none o)
+up-in : (o : Option Setup) → is_some o ≡ true → o ≡ Some (setup_or_none o)
 up-in None h = absurd (false≢true h)
 up-in (Some s) h = refl
 
@@ -217,7 +217,7 @@ module _ (limit : ℕ) (w : State) (S : IsSound limit w) where
     sizes sums has = (small-sums number job sums runs has).size
 
     -- the journal has room for the record
-    pub written-room : (entry : Record) → 0 < appends_left (setup_in w) job → Writes w job job.kind entry → journal_end w + (1 + record_size entry) ≤ largest_journal
+    written-room : (entry : Record) → 0 < appends_left (setup_in w) job → Writes w job job.kind entry → journal_end w + (1 + record_size entry) ≤ largest_journal
     written-room entry left h =
         (let k = appends_left (setup_in w) job - 1 in
         let is : appends_left (setup_in w) job ≡ k + 1 = omega (arith, left) in
