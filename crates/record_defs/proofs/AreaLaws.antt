@@ -9,6 +9,7 @@ use Rattle.record_defs.specs.Journal.{magic, before_gate, text_size, StandsFor}
 use Rattle.record_defs.specs.Areas.{Area, A, B, other_area, base_of, magic_front, area_of, entries, entries_size, end_in, HoldsIn, StandsActive}
 use Rattle.record_defs.proofs.Sizes.{length-spelling}
 
+-- what stands before the closing gate is the magic and then the entries
 pub before_gate-entries : (rs : List Record) → before_gate rs ≡ magic ++ entries rs
 before_gate-entries [] = refl
 before_gate-entries (r ∷ rs) = ap (λ l. l ++ 1 ∷ spelling r) (before_gate-entries rs) ∙ append_assoc magic (entries rs) (1 ∷ spelling r)

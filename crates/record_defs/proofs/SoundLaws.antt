@@ -259,6 +259,7 @@ sound-more rs r a S = record {
     one q p f g (Came_from.packed named free above below un) (Came_from.put st gone) same = absurd (none_some p (started_as rs g.id) (ap (started_as rs) (sym same) ∙ un) st)
     one q p f g (Came_from.packed named free above below un) (Came_from.packed named2 free2 above2 below2 un2) same = same_some q p (kept_name r) named named2
 
+-- a journal without a record is sound
 pub sound-none : AreSound []
 sound-none = record {
   ids = omega arith;
