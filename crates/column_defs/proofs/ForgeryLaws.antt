@@ -30,6 +30,7 @@ and-both : (a b c : Bool) → (b ≡ true → c ≡ true) → a && b ≡ true �
 and-both false b c f e = e
 and-both true b c f e = f e
 
+-- blocks that hold a forgery in one stripe hold one against the file
 pub forgery-of_stripe : (o : Object) (bytes : List ℕ) (seen : ℕ → List (Option (List ℕ))) (stripe place : ℕ) →
     IsStripeForgery o bytes seen stripe place → IsForgery o bytes seen stripe place
 forgery-of_stripe o bytes seen stripe place f =
