@@ -106,6 +106,7 @@ module _ (rs : List Record) (a : AreAccepted rs) (g : AreSpelled rs) where
 pub file-alike : (rs qs : List Record) (name : List ℕ) → AreAlike rs qs → file_of rs name ≡ file_of qs name
 file-alike rs qs name a = sym (find-files_of rs name) ∙ (ap (λ fs. find_file fs name) a.files ∙ find-files_of qs name)
 
+-- where tables are alike, a name is one file too many in both or in neither
 pub crowded-alike : (rs qs : List Record) (name : List ℕ) → AreAlike rs qs → is_crowded rs name ≡ is_crowded qs name
 crowded-alike rs qs name a = ap (λ fs. nat_le most_files (length fs) && not (is_some (file_of rs name))) a.files ∙ ap (λ o. nat_le most_files (length (files_of qs)) && not (is_some o)) (file-alike rs qs name a)
 
@@ -188,6 +189,7 @@ journal-kept old new er ej ea es J = record {
   whole = λ v. (let W = J.whole (sym (ap version_of er) ∙ v) in record { journal = ej ∙ (W.journal ∙ sym er); area = ea ∙ W.area; unswitched = es W.unswitched });
 }
 
+-- a state with the same records, journal, area and byte that names it has a sound journal too
 pub journal-same : (old new : State) → new.records ≡ old.records → new.journal ≡ old.journal → new.area ≡ old.area → new.is_switching ≡ old.is_switching → IsSoundJournal old → IsSoundJournal new
 journal-same old new er ej ea es J = journal-kept old new er ej ea (λ f. es ∙ f) J
 
