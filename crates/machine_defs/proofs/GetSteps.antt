@@ -34,7 +34,7 @@ happens_1 = (refl, refl, refl, refl)
 abbrev pub state_3 : State
 state_3 = begun_append state_2 (job_at state_2 1) (PutStart 1 (97 ∷ []))
 
--- it writes the record of its start
+-- the put writes the record of its start
 pub happens_2 : Happens 1 2 state_2 (Step 1) (More) state_3
 unfolding setup_in actions_of
 happens_2 = (PutStart 1 (97 ∷ []), refl, (state_2.disk_faults, omega arith, refl))
@@ -43,7 +43,7 @@ happens_2 = (PutStart 1 (97 ∷ []), refl, (state_2.disk_faults, omega arith, re
 abbrev pub state_4 : State
 state_4 = synced state_3 1
 
--- it syncs it
+-- it syncs that record
 pub happens_3 : Happens 1 3 state_3 (Step 1) (More) state_4
 unfolding setup_in actions_of
 happens_3 = ((refl, refl), (state_3.disk_faults, omega arith, refl))
@@ -52,7 +52,7 @@ happens_3 = ((refl, refl), (state_3.disk_faults, omega arith, refl))
 abbrev pub state_5 : State
 state_5 = gated state_4 1
 
--- it opens its gate
+-- it opens the gate of that record
 pub happens_4 : Happens 1 4 state_4 (Step 1) (More) state_5
 unfolding setup_in actions_of
 happens_4 = ((refl, refl), (state_4.disk_faults, omega arith, refl))
@@ -70,7 +70,7 @@ happens_5 = ((refl, refl), (state_5.disk_faults, omega arith, refl))
 abbrev pub state_7 : State
 state_7 = begun_append state_6 (job_at state_6 1) (PutDone 1 0)
 
--- with no stripe to store, it writes the record of its end
+-- with no stripe to store, the put writes the record of its end
 pub happens_6 : Happens 1 6 state_6 (Step 1) (More) state_7
 unfolding setup_in actions_of
 happens_6 = (PutDone 1 0, refl, (state_6.disk_faults, omega arith, refl))
@@ -79,7 +79,7 @@ happens_6 = (PutDone 1 0, refl, (state_6.disk_faults, omega arith, refl))
 abbrev pub state_8 : State
 state_8 = synced state_7 1
 
--- it syncs it
+-- it syncs that record
 pub happens_7 : Happens 1 7 state_7 (Step 1) (More) state_8
 unfolding setup_in actions_of
 happens_7 = ((refl, refl), (state_7.disk_faults, omega arith, refl))
@@ -88,7 +88,7 @@ happens_7 = ((refl, refl), (state_7.disk_faults, omega arith, refl))
 abbrev pub state_9 : State
 state_9 = gated state_8 1
 
--- it opens its gate
+-- it opens the gate of that record
 pub happens_8 : Happens 1 8 state_8 (Step 1) (More) state_9
 unfolding setup_in actions_of
 happens_8 = ((refl, refl), (state_8.disk_faults, omega arith, refl))
@@ -124,7 +124,7 @@ happens_11 = (refl, refl, refl, refl)
 abbrev pub state_13 : State
 state_13 = ended state_12 (job_at state_12 2)
 
--- with no stripe to fetch, it ends with no bytes
+-- with no stripe to fetch, the get ends with no bytes
 pub happens_12 : Happens 1 12 state_12 (Step 2) (Ended (Got [])) state_13
 unfolding setup_in actions_of
 happens_12 = (refl, refl)

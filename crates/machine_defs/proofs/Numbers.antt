@@ -155,7 +155,7 @@ writes_first audits w job UpgradeJob entry d first h = absurd d
 pub first_below : (job : Job) → job.place < 4 → is_first_append job ≡ true
 first_below job l = lt-ltb job.place 4 l
 
--- a job behind its fourth action is not
+-- a job behind its fourth action is past its first append
 pub first_above : (job : Job) → 4 ≤ job.place → is_first_append job ≡ false
 first_above job l = elim (cases_Bool (nat_lt job.place 4)) [ inl t ↦ absurd (let e = ltb-true job.place 4 t in omega arith) | inr f ↦ f ]
 
@@ -345,7 +345,7 @@ start_facts series start clean = record {
   used_once = λ b c n u v. absurd u;
 }
 
--- and so at each moment of a run
+-- these facts hold at each moment of a run
 pub facts : (series : Series) (limit : ℕ) (start : State) → IsStart start → (ms : List Moment) → IsRun limit start ms → Facts series start ms
 facts series limit start clean [] run = start_facts series start clean
 facts series limit start clean (m ∷ ms) run =

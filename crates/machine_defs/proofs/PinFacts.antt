@@ -404,7 +404,7 @@ start_sound : (rs : List Record) → AreFirst rs → AreSound rs
 start_sound rs (inl e) = subst AreSound (sym e) sound-none
 start_sound rs (inr h) = subst AreSound (sym h.2) (sound-more [] (SetUp h.0) tt sound-none)
 
--- they hold before the first event
+-- these facts hold before the first event
 pub start_facts : (start : State) → IsStart start → Facts start []
 start_facts start clean = record {
   sound = start_sound start.records clean.records;

@@ -173,7 +173,7 @@ module _ (limit : ℕ) (start : State) (m : Moment) (ms : List Moment) (N : num.
   pub step_facts : Facts start (m ∷ ms)
   step_facts = record { plain = plain_step; ended = ended_step }
 
--- and so at each moment of a run
+-- these facts hold at each moment of a run
 pub facts : (limit : ℕ) (start : State) → IsStart start → (ms : List Moment) → IsRun limit start ms → Facts start ms
 facts limit start clean [] run = record {
   plain = λ k j name bytes h kind first. absurd (found_none start.jobs k j clean.jobs h);

@@ -22,11 +22,11 @@ steps = stepped 1 state_14 ∷ stepped 1 state_13 ∷ stepped 1 state_12 ∷ ste
 abbrev pub moments : List Moment
 moments = record { event = Step 1; outcome = Ended (Put); state = state_15 } ∷ (steps ++ begun)
 
--- they are a run
+-- the put is a run of the machine
 pub is_run : IsRun 1 set_up moments
 is_run = (fits, happens_14, (fits, happens_13, (fits, happens_12, (fits, happens_11, (fits, happens_10, (fits, happens_9, (fits, happens_8, (fits, happens_7, (fits, happens_6, (fits, happens_5, (fits, happens_4, (fits, happens_3, (fits, happens_2, ((refl, refl), happens_1, (tt, happens_0, tt)))))))))))))))
 
--- a program that carries out the schedule writes these three lines
+-- the put, carried out as commands, writes these three lines
 pub transcript : CarriesOut (RunJob 1 ∷ Once (Begin (PutJob (97 ∷ []) (111 ∷ []))) ∷ Once Reopen ∷ []) moments
     (((codes "opened" ++ 10 ∷ []) ++ (codes "job 1" ++ 10 ∷ [])) ++ (codes "put" ++ 10 ∷ []))
 unfolding digits

@@ -34,7 +34,7 @@ happens_1 = (refl, refl, refl, refl)
 abbrev pub state_3 : State
 state_3 = begun_append state_2 (job_at state_2 1) (PutStart 1 (97 ∷ []))
 
--- it writes the record of its start
+-- the put writes the record of its start
 pub happens_2 : Happens 1 2 state_2 (Step 1) (More) state_3
 unfolding setup_in actions_of
 happens_2 = (PutStart 1 (97 ∷ []), refl, (state_2.disk_faults, omega arith, refl))
@@ -43,7 +43,7 @@ happens_2 = (PutStart 1 (97 ∷ []), refl, (state_2.disk_faults, omega arith, re
 abbrev pub state_4 : State
 state_4 = synced state_3 1
 
--- it syncs it
+-- it syncs that record
 pub happens_3 : Happens 1 3 state_3 (Step 1) (More) state_4
 unfolding setup_in actions_of
 happens_3 = ((refl, refl), (state_3.disk_faults, omega arith, refl))
@@ -52,7 +52,7 @@ happens_3 = ((refl, refl), (state_3.disk_faults, omega arith, refl))
 abbrev pub state_5 : State
 state_5 = gated state_4 1
 
--- it opens its gate
+-- it opens the gate of that record
 pub happens_4 : Happens 1 4 state_4 (Step 1) (More) state_5
 unfolding setup_in actions_of
 happens_4 = ((refl, refl), (state_4.disk_faults, omega arith, refl))
@@ -70,34 +70,34 @@ happens_5 = ((refl, refl), (state_5.disk_faults, omega arith, refl))
 abbrev pub state_7 : State
 state_7 = with_store state_6 (job_at state_6 1) 0 0
 
--- it stores on the first provider
+-- the put stores on the first provider
 pub happens_6 : Happens 1 6 state_6 (Step 1) (More) state_7
 unfolding setup_in actions_of
 happens_6 = store_call state_6 (job_at state_6 1) 0 0
 
--- the second has its block
+-- the second provider has its block
 abbrev pub state_8 : State
 state_8 = with_store state_7 (job_at state_7 1) 1 0
 
--- on the second
+-- it stores on the second
 pub happens_7 : Happens 1 7 state_7 (Step 1) (More) state_8
 unfolding setup_in actions_of
 happens_7 = store_call state_7 (job_at state_7 1) 1 0
 
--- the third has its block
+-- the third provider has its block
 abbrev pub state_9 : State
 state_9 = with_store state_8 (job_at state_8 1) 2 0
 
--- on the third
+-- it stores on the third
 pub happens_8 : Happens 1 8 state_8 (Step 1) (More) state_9
 unfolding setup_in actions_of
 happens_8 = store_call state_8 (job_at state_8 1) 2 0
 
--- the fourth has its block
+-- the fourth provider has its block
 abbrev pub state_10 : State
 state_10 = with_store state_9 (job_at state_9 1) 3 0
 
--- on the fourth
+-- it stores on the fourth
 pub happens_9 : Happens 1 9 state_9 (Step 1) (More) state_10
 unfolding setup_in actions_of
 happens_9 = store_call state_9 (job_at state_9 1) 3 0
@@ -106,7 +106,7 @@ happens_9 = store_call state_9 (job_at state_9 1) 3 0
 abbrev pub state_11 : State
 state_11 = begun_append state_10 (job_at state_10 1) (PutDone 1 1)
 
--- it writes the record of its end
+-- the put writes the record of its end
 pub happens_10 : Happens 1 10 state_10 (Step 1) (More) state_11
 unfolding setup_in actions_of
 happens_10 = (PutDone 1 1, refl, (state_10.disk_faults, omega arith, refl))
@@ -115,7 +115,7 @@ happens_10 = (PutDone 1 1, refl, (state_10.disk_faults, omega arith, refl))
 abbrev pub state_12 : State
 state_12 = synced state_11 1
 
--- it syncs it
+-- it syncs that record
 pub happens_11 : Happens 1 11 state_11 (Step 1) (More) state_12
 unfolding setup_in actions_of
 happens_11 = ((refl, refl), (state_11.disk_faults, omega arith, refl))
@@ -124,7 +124,7 @@ happens_11 = ((refl, refl), (state_11.disk_faults, omega arith, refl))
 abbrev pub state_13 : State
 state_13 = gated state_12 1
 
--- it opens its gate
+-- it opens the gate of that record
 pub happens_12 : Happens 1 12 state_12 (Step 1) (More) state_13
 unfolding setup_in actions_of
 happens_12 = ((refl, refl), (state_12.disk_faults, omega arith, refl))

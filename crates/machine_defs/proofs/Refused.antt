@@ -24,7 +24,7 @@ pub right_false : (a b : Bool) → (a || b) ≡ false → b ≡ false
 right_false true b h = absurd (false≢true (sym h))
 right_false false b h = h
 
--- and the first does not
+-- where neither of two tests holds, the first does not
 pub left_false : (a b : Bool) → (a || b) ≡ false → a ≡ false
 left_false true b h = absurd (false≢true (sym h))
 left_false false b h = refl

@@ -97,6 +97,6 @@ stepped number w = record { event = Step number; outcome = More; state = w }
 pub fits : 1 < 2 ^ 32
 fits = omega arith
 
--- and so does two
+-- two fits 32 bits
 pub fits_two : 2 < 2 ^ 32
 fits_two = omega arith
