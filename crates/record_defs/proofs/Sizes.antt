@@ -29,7 +29,7 @@ spelled-length (Resume id audit) p = omega arith
 spelled-length (InEffect id size profile name) p = omega arith
 spelled-length (RepairDue number counts) p = omega (arith, length-counts counts)
 
--- the same for a record in the grammar
+-- a record in the grammar is spelled with as many bytes as it is said to take
 pub length-spelling : (r : Record) → IsTrue (is_in_grammar r) → length (spelling r) ≡ record_size r
 length-spelling r p = spelled-length r (grammar-spelled r p)
 
