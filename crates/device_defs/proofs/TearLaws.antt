@@ -46,7 +46,7 @@ module _ (at n : ℕ) (old : Cells) where
 pub Torn-halved : (at : ℕ) (bytes : List ℕ) (old : Cells) → Torn at (length bytes) old (halved at bytes old)
 Torn-halved at bytes old = Torn-written at (length bytes) old (take (length bytes / 2) bytes) (omega (arith, length-take (length bytes / 2) bytes))
 
--- a failing write may go either of these two ways
+-- a failing write may write the first half of its bytes, or only make those in its range loose
 pub Torn-either : (at : ℕ) (bytes : List ℕ) (old new : Cells) → (new ≡ halved at bytes old) ⊎ (new ≡ marked at (length bytes) old) → Torn at (length bytes) old new
 Torn-either at bytes old new (inl is) = subst (Torn at (length bytes) old) (sym is) (Torn-halved at bytes old)
 Torn-either at bytes old new (inr is) = subst (Torn at (length bytes) old) (sym is) (Torn-marked at (length bytes) old)
