@@ -194,7 +194,7 @@ each_seen : (ss : List (Option ℕ)) → All SeenSymbol ss → Each SeenSymbol s
 each_seen [] h = tt
 each_seen (s ∷ ss) h = (All-head SeenSymbol s ss h, each_seen ss (All-tail SeenSymbol s ss h))
 
--- the same for a list in which symbols may be absent
+-- the same of symbols that may be absent: each that is there is a symbol
 pub all_from_seen : (ss : List (Option ℕ)) → Each SeenSymbol ss → All SeenSymbol ss
 all_from_seen [] h = All-nil SeenSymbol
 all_from_seen (s ∷ ss) h = All-cons SeenSymbol s ss h.0 (all_from_seen ss h.1)
