@@ -24,6 +24,7 @@ all_held-later c held k (suc more) e =
     subst (λ (n : ℕ). all_held c held n ≡ false) same
     (ap (λ (b : Bool). b && is_some (held_symbol c.size held (picked_row c.seed c.rows (more + k)))) (all_held-later c held k more e))
 
+-- who lacks the symbol in a picked row has no honest answer
 pub honest_answer-absent : (c : Challenge) (held : ℕ → Option (List ℕ)) (k : ℕ) → k < c.picks →
     held_symbol c.size held (picked_row c.seed c.rows k) ≡ None → honest_answer c held ≡ None
 honest_answer-absent c held k below e =

@@ -182,6 +182,7 @@ right-values o bytes c j some e = go (is_primary o j) refl
         ∙ taken_off (combined c (λ row. value (row_at o bytes row) (point o j))) (mask_sum o j c)
         ∙ sym (value-right_row o bytes c (point o j)))
 
+-- all right answers to a challenge, without masks, are values of this one polynomial
 pub IsRightRow-right_row : (o : Object) (bytes : List ℕ) (c : Challenge) → 1 ≤ c.size → c.size ≡ o.profile.size → IsRightRow o bytes c (right_row o bytes c)
 unfolding right_row
 IsRightRow-right_row o bytes c some e = record {

@@ -33,7 +33,7 @@ module _ {A : Type 0} (F : FieldOf A) (laws : IsField F) where
       go false h = omega arith
 
   -- agreements of both are at least the sum of the agreements less the symbols present
-  pub count_common : (p q : List A) (xs : List A) (ss : List (Option A)) →
+  count_common : (p q : List A) (xs : List A) (ss : List (Option A)) →
       agree F p xs ss + agree F q xs ss ≤ present ss + length (common F p q xs ss)
   unfolding agree present common
   count_common p q [] ss = omega arith

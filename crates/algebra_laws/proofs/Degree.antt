@@ -36,7 +36,7 @@ module _ {A : Type 0} (F : FieldOf A) (laws : IsField F) where
   get_or-zero (suc k) = refl
 
   -- the last coefficient of a product is the product of the last coefficients
-  pub get_or-times : (p q : List A) (m n k : ℕ) → length p ≡ suc m → length q ≡ suc n → k ≡ m + n →
+  get_or-times : (p q : List A) (m n k : ℕ) → length p ≡ suc m → length q ≡ suc n → k ≡ m + n →
       get_or (times F p q) k 𝟘 ≡ get_or p m 𝟘 ⊗ get_or q n 𝟘
   unfolding times
   get_or-times [] q m n k hp hq e = absurd (omega arith)

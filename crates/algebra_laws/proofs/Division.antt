@@ -15,7 +15,7 @@ module _ {A : Type 0} (F : FieldOf A) (laws : IsField F) where
   infixl 60 ◌⊕◌
   infixl 70 ◌⊗◌
   -- a last coefficient that is zero may go
-  pub value-take : (p : List A) (m : ℕ) (x : A) → length p ≤ suc m → get_or p m 𝟘 ≡ 𝟘 → value F (take m p) x ≡ value F p x
+  value-take : (p : List A) (m : ℕ) (x : A) → length p ≤ suc m → get_or p m 𝟘 ≡ 𝟘 → value F (take m p) x ≡ value F p x
   unfolding value
   value-take [] zero x h e = refl
   value-take [] (suc m) x h e = refl
@@ -47,7 +47,7 @@ module _ {A : Type 0} (F : FieldOf A) (laws : IsField F) where
       omega (arith, length-take m (plus F (a ∷ remainder F d m w p) (scale F c d)))
 
   -- the quotient has as many coefficients as the dividend
-  pub length-quotient : (d : List A) (m : ℕ) (w : A) (p : List A) → length (quotient F d m w p) ≡ length p
+  length-quotient : (d : List A) (m : ℕ) (w : A) (p : List A) → length (quotient F d m w p) ≡ length p
   unfolding quotient
   length-quotient d m w [] = refl
   length-quotient d m w (a ∷ p) = let h : length (quotient F d m w p) ≡ length p = length-quotient d m w p in omega arith

@@ -9,7 +9,7 @@ use Rattle.algebra_laws.proofs.Values.{value-times}
 use Rattle.algebra_laws.proofs.Interpolate.{length-times}
 
 -- the points at which the value is seen
-pub right_at : {A : Type 0} → FieldOf A → List A → List A → List A → List A
+right_at : {A : Type 0} → FieldOf A → List A → List A → List A → List A
 right_at F p [] ys = []
 right_at F p (x ∷ xs) [] = []
 right_at F p (x ∷ xs) (y ∷ ys) = cond (is_seen F (value F p x) (Some y)) (x ∷ right_at F p xs ys) (right_at F p xs ys)

@@ -86,6 +86,7 @@ map-range_same f g a zero h = refl
 map-range_same f g a (suc n) h =
     (λ i. h a (omega arith) i ∷ map-range_same f g (a + 1) n (λ j below. h j (omega (arith, below))) i)
 
+-- the lists that two functions give at some numbers, one behind the other, are the same if each is
 pub flat_map-range_same : (f g : ℕ → List ℕ) (a n : ℕ) → ((k : ℕ) → k < a + n → f k ≡ g k) →
     flat_map f (range_with_len a n) ≡ flat_map g (range_with_len a n)
 flat_map-range_same f g a zero h = refl

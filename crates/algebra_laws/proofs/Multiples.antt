@@ -16,7 +16,7 @@ module _ {A : Type 0} (F : FieldOf A) (laws : IsField F) where
   infixl 60 ◌⊕◌
   infixl 70 ◌⊗◌
   -- a polynomial that is zero at points that are apart, as a multiple
-  pub multiple_of_vanish : (points p : List A) → Apart points → Each (λ x. value F p x ≡ 𝟘) points →
+  multiple_of_vanish : (points p : List A) → Apart points → Each (λ x. value F p x ≡ 𝟘) points →
       (m : List A) × ((x : A) → value F p x ≡ value F m x ⊗ value F (vanish F points) x)
   unfolding value vanish
   multiple_of_vanish [] p d z = (p, λ x. solve laws.ring (value F p x ∷ x ∷ []) (v 0) (v 0 ⊡ (i ⊞ (v 1 ⊡ o))) refl)

@@ -11,7 +11,7 @@ pub last_or_before : (b n : ℕ) → b < suc n → (b ≡ n) ⊎ (b < n)
 last_or_before b n h = grind arith
 
 -- sums of the same parts
-pub sum_through-same : (f g : ℕ → ℕ) (k : ℕ) → ((i : ℕ) → i ≤ k → f i ≡ g i) → sum_through f k ≡ sum_through g k
+sum_through-same : (f g : ℕ → ℕ) (k : ℕ) → ((i : ℕ) → i ≤ k → f i ≡ g i) → sum_through f k ≡ sum_through g k
 sum_through-same f g zero same = same 0 (omega arith)
 sum_through-same f g (suc k) same =
     (λ i. sum_through-same f g k (λ j below. same j (omega (arith, below))) i + same (suc k) (omega arith) i)

@@ -19,7 +19,7 @@ module _ {A : Type 0} (F : FieldOf A) (laws : IsField F) where
   infixl 60 ◌⊕◌
   infixl 70 ◌⊗◌
   -- the quotient has as many coefficients
-  pub length-quotient_at : (r : A) (p : List A) → length (quotient_at F r p) ≡ length p
+  length-quotient_at : (r : A) (p : List A) → length (quotient_at F r p) ≡ length p
   unfolding quotient_at
   length-quotient_at r [] = refl
   length-quotient_at r (b ∷ p) = let h = length-quotient_at r p in omega arith
@@ -37,7 +37,7 @@ module _ {A : Type 0} (F : FieldOf A) (laws : IsField F) where
       ((v 0 ⊞ (v 2 ⊡ v 3)) ⊞ ((v 1 ⊞ v 2) ⊡ (v 3 ⊞ (v 1 ⊡ v 4)))) refl
 
   -- a further root is a root of the quotient
-  pub root_below : (a : A) (p : List A) (r s : A) → r ≢ s → value F (a ∷ p) r ≡ 𝟘 → value F (a ∷ p) s ≡ 𝟘 →
+  root_below : (a : A) (p : List A) (r s : A) → r ≢ s → value F (a ∷ p) r ≡ 𝟘 → value F (a ∷ p) s ≡ 𝟘 →
       value F (quotient_at F r p) s ≡ 𝟘
   root_below a p r s ne hr hs =
       factor_zero F laws (s ⊕ r) (value F (quotient_at F r p) s)

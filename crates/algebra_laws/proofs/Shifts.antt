@@ -37,7 +37,7 @@ module _ {A : Type 0} (F : FieldOf A) (laws : IsField F) where
       (v 0 ⊞ (v 1 ⊡ (v 2 ⊞ (v 3 ⊡ v 4)))) ((v 0 ⊞ (v 1 ⊡ v 2)) ⊞ ((o ⊞ (v 1 ⊡ v 3)) ⊡ v 4)) refl
 
   -- what is added to the front leaves the rest
-  pub plus-front : (u w e : List A) → length e ≤ length u → plus F (u ++ w) e ≡ plus F u e ++ w
+  plus-front : (u w e : List A) → length e ≤ length u → plus F (u ++ w) e ≡ plus F u e ++ w
   unfolding plus
   plus-front [] [] [] h = refl
   plus-front [] (b ∷ w) [] h = refl

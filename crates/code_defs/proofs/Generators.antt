@@ -17,7 +17,7 @@ use Rattle.code_defs.proofs.Points.{one_not_zero, Apart-range, Each-outside, ran
 use Rattle.code_defs.proofs.Lagrange.{nim_inv-mul, others_product-not_zero, dot-scaled, part, value-interpolate}
 
 -- a polynomial's value at a place, where it takes all values
-pub Takes-at : (p xs ys : List ℕ) (k : ℕ) → k < length xs → TakesSymbols p xs ys → value p (get_or xs k 0) ≡ get_or ys k 0
+Takes-at : (p xs ys : List ℕ) (k : ℕ) → k < length xs → TakesSymbols p xs ys → value p (get_or xs k 0) ≡ get_or ys k 0
 Takes-at p [] ys k h t = absurd (omega arith)
 Takes-at p (x ∷ xs) [] k h t = absurd t
 Takes-at p (x ∷ xs) (y ∷ ys) zero h t = t.0

@@ -49,7 +49,7 @@ dot-scaled u w c (p ∷ ps) (y ∷ ys) is =
     cc (is.0, dot-scaled u w c ps ys is.1, nim_ring.mul_assoc c (u p) y, nim_ring.mul_add c (nim_mul (u p) y) (dot (map u ps) ys))
 
 -- the sum by coefficients that are sums
-pub dot-added : (u t w : ℕ → ℕ) (ps ys : List ℕ) → Each (λ p. w p ≡ nim_add (u p) (t p)) ps →
+dot-added : (u t w : ℕ → ℕ) (ps ys : List ℕ) → Each (λ p. w p ≡ nim_add (u p) (t p)) ps →
     dot (map w ps) ys ≡ nim_add (dot (map u ps) ys) (dot (map t ps) ys)
 unfolding dot
 dot-added u t w [] ys is = sym (nim_ring.add_zero 0)

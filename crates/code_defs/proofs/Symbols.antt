@@ -26,10 +26,11 @@ abbrev AreSymbols : List ℕ → Type 0
 AreSymbols p = Each is_symbol p
 
 -- the two forms of each
-pub each_from_all : (p : List ℕ) → All is_symbol p → Each is_symbol p
+each_from_all : (p : List ℕ) → All is_symbol p → Each is_symbol p
 each_from_all [] h = tt
 each_from_all (a ∷ p) h = (All-head is_symbol a p h, each_from_all p (All-tail is_symbol a p h))
 
+-- that each item of a list is a symbol, in the form that contracts have (`All`)
 pub all_from_each : (p : List ℕ) → Each is_symbol p → All is_symbol p
 all_from_each [] h = All-nil is_symbol
 all_from_each (a ∷ p) h = All-cons is_symbol a p h.0 (all_from_each p h.1)
@@ -193,6 +194,7 @@ each_seen : (ss : List (Option ℕ)) → All SeenSymbol ss → Each SeenSymbol s
 each_seen [] h = tt
 each_seen (s ∷ ss) h = (All-head SeenSymbol s ss h, each_seen ss (All-tail SeenSymbol s ss h))
 
+-- the same of symbols that may be absent: each that is there is a symbol
 pub all_from_seen : (ss : List (Option ℕ)) → Each SeenSymbol ss → All SeenSymbol ss
 all_from_seen [] h = All-nil SeenSymbol
 all_from_seen (s ∷ ss) h = All-cons SeenSymbol s ss h.0 (all_from_seen ss h.1)

@@ -9,7 +9,7 @@ use Rattle.column_defs.specs.Opened.{block_at}
 use Rattle.column_defs.specs.Forgeries.{IsForgery, IsStripeForgery, is_agreeing, count_of}
 
 -- where each number that passes one test passes another, at least as many pass that one
-pub count_of-mono : (p q : ℕ → Bool) → ((j : ℕ) → p j ≡ true → q j ≡ true) → (js : List ℕ) → count_of p js ≤ count_of q js
+count_of-mono : (p q : ℕ → Bool) → ((j : ℕ) → p j ≡ true → q j ≡ true) → (js : List ℕ) → count_of p js ≤ count_of q js
 count_of-mono p q all [] = omega arith
 count_of-mono p q all (j ∷ js) = grind (arith, count_of-mono p q all js, all j)
 
@@ -30,6 +30,7 @@ and-both : (a b c : Bool) → (b ≡ true → c ≡ true) → a && b ≡ true �
 and-both false b c f e = e
 and-both true b c f e = f e
 
+-- blocks that hold a forgery in one stripe hold one against the file
 pub forgery-of_stripe : (o : Object) (bytes : List ℕ) (seen : ℕ → List (Option (List ℕ))) (stripe place : ℕ) →
     IsStripeForgery o bytes seen stripe place → IsForgery o bytes seen stripe place
 forgery-of_stripe o bytes seen stripe place f =

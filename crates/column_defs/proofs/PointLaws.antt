@@ -30,6 +30,7 @@ secret-low master id j below =
     let low = low-byte (slice_set (take 16 key) 0 j) in
     low ∙ ap (λ n. n % 256) e ∙ omega (arith, below)
 
+-- the lowest byte of a provider's point is its number
 pub point-low : (o : Object) (j : ℕ) → j < 256 → point o j % 256 ≡ j
 point-low o j below =
     elim (is_primary o j) as (λ b. (if b then j else secret_point o.master o.id j) % 256 ≡ j) [
@@ -49,5 +50,6 @@ Apart-range : (o : Object) (from n : ℕ) → from + n ≤ 256 → Apart (map (p
 Apart-range o from zero within = tt
 Apart-range o from (suc n) within = (Each-after o from (from + 1) n (omega arith) (omega arith), Apart-range o (from + 1) n (omega arith))
 
+-- no two providers of an object have the same point
 pub Apart-points : (o : Object) → o.shape.n ≤ 256 → Apart (points o)
 Apart-points o within = Apart-range o 0 o.shape.n (omega (arith, within))

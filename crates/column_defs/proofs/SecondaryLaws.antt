@@ -30,7 +30,7 @@ use Rattle.column_defs.proofs.PointLaws.{point-low}
 use Rattle.column_defs.proofs.ColumnLaws.{value-interpolate_upto}
 
 -- the sum of each coefficient times the polynomial at its place
-pub combine : List ℕ → List (List ℕ) → List ℕ
+combine : List ℕ → List (List ℕ) → List ℕ
 combine [] ps = []
 combine (w ∷ ws) [] = []
 combine (w ∷ ws) (p ∷ ps) = plus (scale w p) (combine ws ps)
@@ -54,6 +54,7 @@ map-values : (f g : ℕ → ℕ) (xs : List ℕ) → ((x : ℕ) → f x ≡ g x)
 map-values f g [] h = refl
 map-values f g (x ∷ xs) h = (λ i. h x i ∷ map-values f g xs h i)
 
+-- the codeword of a short polynomial's first values is all its values
 pub codeword-values : (profile : Profile) (q : List ℕ) → length q ≤ profile.keep →
     codeword profile (values_at (upto profile.keep) q) ≡ values_at (upto profile.size) q
 codeword-values profile q short =
@@ -98,6 +99,7 @@ module _ (o : Object) (symbols : List ℕ) where
       (λ i. get_or-map-range_with_len (value (interpolate (upto o.profile.keep) (kept_by o symbols a))) 0 o.profile.size place place 0 below (omega arith) i
       ∷ primary_row-values place (a + 1) n below i)
 
+  -- the polynomial of a row at a point has the value of that point's column polynomial at the row's place
   pub value-column_polynomial : (place x : ℕ) → place < o.profile.size → Each (λ p. x ≢ p) (upto o.shape.l) →
       value (row_polynomial o symbols place) x ≡ value (column_polynomial x) place
   unfolding column_polynomial
@@ -124,6 +126,7 @@ module _ (o : Object) (symbols : List ℕ) where
   kept-short a (suc n) long within =
       (codeword-short o.profile (kept_by o symbols a) (length-kept_by a long (omega (arith, within))), kept-short (a + 1) n long (omega (arith, within)))
 
+  -- the column polynomial of a point has no more coefficients than a block has kept symbols
   pub length-column_polynomial : (x : ℕ) → length symbols ≡ stripe_symbols o → length (column_polynomial x) ≤ o.profile.keep
   unfolding column_polynomial
   length-column_polynomial x long =
@@ -181,6 +184,7 @@ bare-primary o symbols j stripe is =
     ap (λ b. if b then column_of_symbols o symbols j stripe else masked o j (row_number o stripe 0) (column_of_symbols o symbols j stripe)) is
     ∙ ap (λ b. if b then codeword o.profile (kept_by o symbols j) else map (secondary_symbol o symbols j stripe) (upto o.profile.size)) is
 
+-- each provider's block, without its masks, is a codeword of the server code
 pub IsCodeword-bare_column : (o : Object) (symbols : List ℕ) (j stripe : ℕ) → length symbols ≡ stripe_symbols o → j < 256 →
     IsCodeword o.profile (bare o j stripe (column_of_symbols o symbols j stripe))
 IsCodeword-bare_column o symbols j stripe long below = go (is_primary o j) refl

@@ -36,7 +36,10 @@ counts_after p xs heard counts = counts
 abbrev pub Judges : Object → Challenge → List (Option ℕ) → Sums → Sums → Type 0
 Judges o c heard old new =
     ((p : List ℕ) × Decides o c heard p
-    × (new ≡ record { counts = counts_after p (points o) (bare_answers o c 0 heard) old.counts; undecided = old.undecided }))
+    × (new ≡ record {
+      counts = counts_after p (points o) (bare_answers o c 0 heard) old.counts;
+      undecided = old.undecided;
+    }))
     ⊎ (DecidesNone o c heard × (new ≡ record old { undecided = old.undecided + 1 }))
 
 -- a provider is flagged by its count

@@ -12,7 +12,7 @@ use Rattle.column_laws.proofs.UniqueLaws.{opens-unique, profile-room}
 use Rattle.column_laws.proofs.RightRows.{row-right}
 
 -- blocks open to one list
-pub all-unique : (o : Object) (number stripe j : ℕ) (seen a b : List SeenBlock) → o.profile ≡ profile_of number →
+all-unique : (o : Object) (number stripe j : ℕ) (seen a b : List SeenBlock) → o.profile ≡ profile_of number →
     AllOpen o stripe j seen a → AllOpen o stripe j seen b → a ≡ b
 all-unique o number stripe j [] [] [] is x y = refl
 all-unique o number stripe j [] [] (b ∷ bs) is x y = absurd y

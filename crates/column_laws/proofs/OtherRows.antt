@@ -65,6 +65,7 @@ and-right : (a b : Bool) → a && b ≡ true → b ≡ true
 and-right true b e = e
 and-right false b e = absurd (cc e)
 
+-- a row accepted with other primary symbols than the file's own is a forgery
 pub forgery-of_other : (o : Object) (bytes : List ℕ) (number : ℕ) (seen : ℕ → List SeenBlock) (stripe place : ℕ) (opened : List SeenBlock) (p : List ℕ) →
     o.profile ≡ profile_of number → IsShape o.shape.n o.shape.l o.shape.b → IsRow o bytes stripe place →
     AllOpen o stripe 0 (seen stripe) opened → AcceptsRow o opened place p →

@@ -55,6 +55,7 @@ long-enough n size fix d e = grind (arith, e)
 few-differences : (n size fix d : ℕ) → not (n == size) || nat_lt fix d ≡ false → d ≤ fix
 few-differences n size fix d e = grind (arith, e)
 
+-- a block that is not wrong opens to its provider's own block without masks
 pub opens-right : (o : Object) (bytes : List ℕ) (j stripe : ℕ) (seen : SeenBlock) → j < 256 →
     is_wrong_block o bytes j stripe seen ≡ false → OpensTo o j stripe seen (Some (bare o j stripe (columns o bytes j stripe)))
 opens-right o bytes j stripe None below right = absurd (cc right)
@@ -98,6 +99,7 @@ bare-symbol o symbols j stripe place below within = go (is_primary o j) refl
         ∙ slice_get-upto (value (column_polynomial o symbols (point o j))) o.profile.size place within
         ∙ ap Some (sym (value-column_polynomial o symbols place (point o j) within (point-outside o j (grind (arith, is)) below)))
 
+-- each symbol of a block that is not wrong opens to its row's polynomial at the provider's point
 pub symbol-right : (o : Object) (bytes : List ℕ) (number j stripe place : ℕ) (seen opened : SeenBlock) → o.profile ≡ profile_of number →
     j < 256 → is_wrong_block o bytes j stripe seen ≡ false → OpensTo o j stripe seen opened → place < o.profile.size →
     symbol_in place opened ≡ Some (value (row_polynomial o (symbols_in o bytes stripe) place) (point o j))

@@ -35,6 +35,7 @@ symbol-at o bytes number stripe place j seen opened is all within below right =
     symbol-right o bytes number j stripe place (block_at seen j) (block_at opened j) is below right
     (subst (λ i. OpensTo o i stripe (block_at seen j) (block_at opened j)) (let e : 0 + j ≡ j = omega arith in e) (opens-at o stripe 0 j seen opened all)) within
 
+-- where at most b blocks of a stripe are wrong, each row is accepted with the file's own polynomial
 pub row-right : (o : Object) (bytes : List ℕ) (number stripe place : ℕ) (seen opened : List SeenBlock) → o.profile ≡ profile_of number →
     IsShape o.shape.n o.shape.l o.shape.b → count_of (λ j. is_wrong_block o bytes j stripe (block_at seen j)) (upto o.shape.n) ≤ o.shape.b →
     AllOpen o stripe 0 seen opened → place < o.profile.size → AcceptsRow o opened place (row_polynomial o (symbols_in o bytes stripe) place)
@@ -74,6 +75,7 @@ pub row-symbol : (o : Object) (bytes : List ℕ) (stripe place j : ℕ) → plac
 row-symbol o bytes stripe place j kept within below =
     value-row_polynomial o (symbols_in o bytes stripe) place j below ∙ kept-symbol o bytes stripe place j kept within below
 
+-- where at most b blocks of a stripe are wrong, the symbols that it opens to are the file's own
 pub symbols-right : (o : Object) (bytes : List ℕ) (number stripe : ℕ) (seen : List SeenBlock) (symbols : List ℕ) → o.profile ≡ profile_of number →
     IsShape o.shape.n o.shape.l o.shape.b → count_of (λ j. is_wrong_block o bytes j stripe (block_at seen j)) (upto o.shape.n) ≤ o.shape.b →
     GivesSymbols o stripe seen symbols → symbols ≡ symbols_in o bytes stripe

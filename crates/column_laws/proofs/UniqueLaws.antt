@@ -57,6 +57,7 @@ values_same p q (x ∷ xs) h = (λ i. h x i ∷ values_same p q xs h i)
 pub profile-room : (o : Object) (number : ℕ) → o.profile ≡ profile_of number → o.profile.keep + 2 * o.profile.fix ≤ o.profile.size
 profile-room o number is = omega (arith, ap (λ p. p.size) is, ap (λ p. p.keep) is, ap (λ p. p.fix) is, size_is number)
 
+-- a seen block opens to at most one thing
 pub opens-unique : (o : Object) (number j stripe : ℕ) (seen a b : SeenBlock) → o.profile ≡ profile_of number →
     OpensTo o j stripe seen a → OpensTo o j stripe seen b → a ≡ b
 opens-unique o number j stripe None a b is ha hb = ha ∙ sym hb
@@ -71,6 +72,7 @@ opens-unique o number j stripe (Some block) (Some xs) (Some ys) is ha hb =
     ha.near.decodes.short ha.near.decodes.near hb.near.decodes.short hb.near.decodes.near)
     ∙ sym hb.opened_is)
 
+-- two polynomials that are accepted for a row have the same value everywhere
 pub accepted-unique : (o : Object) (opened : List SeenBlock) (place : ℕ) (p q : List ℕ) → IsShape o.shape.n o.shape.l o.shape.b →
     AcceptsRow o opened place p → AcceptsRow o opened place q → (x : ℕ) → value p x ≡ value q x
 accepted-unique o opened place p q shape hp hq =

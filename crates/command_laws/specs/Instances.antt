@@ -107,9 +107,11 @@ with_sink s bytes = record s { sink = Some bytes }
 abbrev pub small_numbers : Numbers
 small_numbers = record { n = 4; l = 1; b = 1; profile = 0; rounds = 2; picks = 2; tolerance = 0 }
 
+-- the spelling of a key of zeros
 abbrev pub key_text : List ℕ
 key_text = replicate 64 48
 
+-- an empty disk, and a source that spells that key
 abbrev pub key_devices : Seen
 key_devices = record empty_devices { source = Some key_text }
 
@@ -121,9 +123,11 @@ ready_store = with_sink (store set_up_records) ready_line
 abbrev pub put_store : Seen
 put_store = with_sink (store held_records) (stored_line held_name 0)
 
+-- what is seen after the audit
 abbrev pub audited_store : Seen
 audited_store = with_sink (store audited_records) (audit_lines 0 1 0 no_counts)
 
+-- what is seen after the repair
 abbrev pub repaired_store : Seen
 repaired_store = with_sink (store repaired_records) (repaired_line 1)
 

@@ -126,12 +126,15 @@ ends_at status place = record { status = status; at = place; heard = [] }
 
 -- ---- a put of the file: before it, done, with a store that failed, cut off by the disk, and not made
 
+-- before the put: a store without files, and the byte in the source
 abbrev pub to_put : Seen
 to_put = with_source (reading_devices four_records none_hold) byte
 
+-- the put is done
 abbrev pub byte_stored : Seen
 byte_stored = with_sink (reading_devices byte_records all_hold) (stored_line named 1)
 
+-- its first store failed
 abbrev pub put_failed : Seen
 put_failed =
     reading_devices started_records (failed_store empty_provider ∷ empty_provider ∷ empty_provider
@@ -156,19 +159,23 @@ put_gone =
           ++ 0 ∷ (spelling (PutDone 1 1) ++ 0 ∷ [])));
     }
 
+-- the put is not made, and the store is as it was
 abbrev pub put_unmade : Seen
 put_unmade = reading_devices four_records none_hold
 
 -- ---- a drop of it
 
+-- before the drop: the file is in effect, and each provider holds its block
 abbrev pub byte_kept : Seen
 byte_kept = reading_devices byte_records all_hold
 
+-- the drop is done
 abbrev pub dropped : Seen
 dropped =
     with_sink (reading_devices dropped_records
     (robbed (holds 0) ∷ robbed (holds 1) ∷ robbed (holds 2) ∷ robbed (holds 3) ∷ [])) (dropped_line named)
 
+-- the disk wrote the drop's record, and told that it failed
 abbrev pub drop_cut : Seen
 drop_cut = record (reading_devices dropped_records all_hold) { disk_faults = 1 }
 
@@ -180,19 +187,24 @@ seen_after_drop =
 
 -- ---- a get and a repair where all blocks are lost
 
+-- the file is in effect, and no provider holds a block of it
 abbrev pub all_lost : Seen
 all_lost = reading_devices byte_records none_hold
 
+-- these providers, once fetched from
 abbrev pub none_fetched : List Provider
 none_fetched =
     fetched empty_provider ∷ fetched empty_provider ∷ fetched empty_provider ∷ fetched empty_provider ∷ []
 
+-- what a get leaves that found nothing
 abbrev pub found_lost : Seen
 found_lost = reading_devices byte_records none_fetched
 
+-- the audit is in effect, a repair is due, and no provider holds a block
 abbrev pub due_lost : Seen
 due_lost = reading_devices byte_audited_records none_hold
 
+-- what a repair leaves that found nothing
 abbrev pub repair_lost : Seen
 repair_lost = reading_devices byte_audited_records none_fetched
 
@@ -204,36 +216,46 @@ no_blocks =
 
 -- ---- one block is lost: an audit finds it, a repair writes it anew or fails to, and a get gives the file
 
+-- the file is in effect, and provider 2 has lost its block
 abbrev pub damaged : Seen
 damaged = reading_devices byte_records three_hold
 
+-- the audit is done
 abbrev pub byte_audited : Seen
 byte_audited = with_sink (reading_devices byte_audited_records three_hold) (audit_lines 0 1 0 counts)
 
+-- the disk wrote the audit's last record, and told that it failed
 abbrev pub audit_cut : Seen
 audit_cut = record (reading_devices byte_audited_records three_hold) { disk_faults = 1 }
 
+-- before the repair: it is due
 abbrev pub due : Seen
 due = reading_devices byte_audited_records three_hold
 
+-- the providers after it: all were fetched from, and provider 2 has its block again
 abbrev pub mended_hold : List Provider
 mended_hold =
     fetched (holds 0) ∷ fetched (holds 1) ∷ given_block 2 (fetched empty_provider) ∷ fetched (holds 3) ∷ []
 
+-- the repair is done
 abbrev pub repaired : Seen
 repaired = with_sink (reading_devices byte_repaired_records mended_hold) (repaired_line 1)
 
+-- the disk wrote the repair's record, and told that it failed
 abbrev pub repair_cut : Seen
 repair_cut = record (reading_devices byte_repaired_records mended_hold) { disk_faults = 1 }
 
+-- its store on provider 2 failed, and no record was written
 abbrev pub repair_failed : Seen
 repair_failed =
     reading_devices byte_audited_records
     (fetched (holds 0) ∷ fetched (holds 1) ∷ failed_store (fetched empty_provider) ∷ fetched (holds 3) ∷ [])
 
+-- before the get: the file is whole again
 abbrev pub mended : Seen
 mended = reading_devices byte_repaired_records mended_hold
 
+-- the get is done, and the byte is in the sink
 abbrev pub got : Seen
 got = with_sink (reading_devices byte_repaired_records
     (fetched (fetched (holds 0)) ∷ fetched (fetched (holds 1))
@@ -243,11 +265,13 @@ got = with_sink (reading_devices byte_repaired_records
 abbrev pub right_reply : ℕ → Option ℕ
 right_reply j = right_answer (object_of four 1) byte j (challenge_of (object_of four 1) 1 1 1 0)
 
+-- the audit heard the right answers, but for that of provider 2, which gave none
 abbrev pub answers_heard : List Entry
 answers_heard =
     heard (Answered 0 1 0 (right_reply 0)) ∷ heard (Answered 1 1 0 (right_reply 1))
     ∷ heard (Answered 2 1 0 None) ∷ heard (Answered 3 1 0 (right_reply 3)) ∷ []
 
+-- the get heard each provider's own block
 abbrev pub own_blocks_heard : List Entry
 own_blocks_heard =
     heard (Fetched 0 1 0 (Some (own_block 0))) ∷ heard (Fetched 1 1 0 (Some (own_block 1)))
@@ -272,6 +296,7 @@ scrambled = record byte_kept { disk = Some (firm (replicate 12 0)) }
 abbrev pub silent : Provider
 silent = record { held = None; store_faults = 0; other_faults = 0; fetches = 0 }
 
+-- before the command
 abbrev pub all_hidden : Seen
 all_hidden = record {
   disk = None;
@@ -283,6 +308,7 @@ all_hidden = record {
   sink_faults = 0;
 }
 
+-- after it: each provider was fetched from
 abbrev pub hidden_fetched : Seen
 hidden_fetched =
     record all_hidden { providers = fetched silent ∷ fetched silent ∷ fetched silent ∷ fetched silent ∷ [] }
@@ -291,14 +317,17 @@ hidden_fetched =
 abbrev pub good_numbers : Numbers
 good_numbers = record { n = 4; l = 1; b = 1; profile = 0; rounds = 1; picks = 1; tolerance = 0 }
 
+-- of no setup: all four providers would be primary
 abbrev pub bad_numbers : Numbers
 bad_numbers = record { n = 4; l = 4; b = 1; profile = 0; rounds = 1; picks = 1; tolerance = 0 }
 
 -- ---- a put of another file beside the first
 
+-- the other put's start is in effect
 abbrev pub begun_records : List Record
 begun_records = PutStart 2 other_name ∷ byte_records
 
+-- and its end
 abbrev pub both_records : List Record
 both_records = PutDone 2 1 ∷ begun_records
 
@@ -306,13 +335,16 @@ both_records = PutDone 2 1 ∷ begun_records
 abbrev pub given_other : ℕ → Provider → Provider
 given_other j p = record p { held = option_map (with_block 2 0 (columns (object_of four 2) byte j 0)) p.held }
 
+-- each provider holds its blocks of both files
 abbrev pub both_hold : List Provider
 both_hold =
     given_other 0 (holds 0) ∷ given_other 1 (holds 1) ∷ given_other 2 (holds 2) ∷ given_other 3 (holds 3)
     ∷ []
 
+-- before the other put
 abbrev pub to_put_other : Seen
 to_put_other = with_source byte_kept byte
 
+-- the other put is done
 abbrev pub stored_other : Seen
 stored_other = with_sink (reading_devices both_records both_hold) (stored_line other_name 1)

@@ -23,6 +23,7 @@ use Rattle.machine_defs.specs.Examples.{set_up}
 abbrev pub name : List ℕ
 name = 97 ∷ []
 
+-- its one byte
 abbrev pub byte : List ℕ
 byte = 111 ∷ []
 

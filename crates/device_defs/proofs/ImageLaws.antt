@@ -28,9 +28,11 @@ listed_from ((b, true) ∷ cells) at (suc k) j is =
     let lt : at < j = omega arith in
     ap (λ (x : Bool). x || is_among (loose_from (suc at) cells) j) (apart_up at j lt) ∙ listed_from cells (suc at) k j (omega arith)
 
+-- an offset is among the loose ones exactly if the byte there is loose
 pub listed : (cells : Cells) (k : ℕ) → is_among (loose_offsets cells) k ≡ is_loose_at cells k
 listed cells k = listed_from cells 0 k k (omega arith)
 
+-- the loose offsets ascend, from any number on that is not above the first offset
 pub ascends_from : (cells : Cells) (at low : ℕ) → low ≤ at → Ascends low (loose_from at cells)
 ascends_from [] at low le = tt
 ascends_from ((b, false) ∷ cells) at low le = ascends_from cells (suc at) low (omega arith)
@@ -62,12 +64,14 @@ from_each (c ∷ cells) [] size each = absurd (omega (arith, size))
 from_each (c ∷ cells) (b ∷ image) size each =
     (λ firm. inside b c.0 (each 0 (omega arith) firm), from_each cells image (omega (arith, size)) (λ k lt firm. each (suc k) (omega (arith, lt)) firm))
 
+-- an image told cell by cell is one told by offsets
 pub by_offset : (cells : Cells) (image : List ℕ) → IsImage cells image → IsImageOf (reads cells) (loose_offsets cells) image
 by_offset cells image is =
     let each = at_each cells image is in
     let long : length (reads cells) ≡ length cells = length-map cells (λ c. c.0) in
     record { size = each.0 ∙ sym long; same = λ k lt firm. each.1 k (omega (arith, lt, long)) (sym (listed cells k) ∙ firm) }
 
+-- an image told by offsets is one told cell by cell
 pub from_offset : (cells : Cells) (image : List ℕ) → IsImageOf (reads cells) (loose_offsets cells) image → IsImage cells image
 from_offset cells image of =
     let long : length (reads cells) ≡ length cells = length-map cells (λ c. c.0) in

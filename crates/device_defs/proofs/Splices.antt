@@ -7,7 +7,7 @@ use Rattle.std.proofs.Math.Seq.{take-append-add}
 use Rattle.std.proofs.Common.{take-append-drop}
 use Rattle.device_defs.specs.Disks.{spliced}
 
-pub drop_grown : {X : Type 0} (end : ℕ) (old : List X) (v : X) → drop end (old ++ replicate (end - length old) v) ≡ drop end old
+drop_grown : {X : Type 0} (end : ℕ) (old : List X) (v : X) → drop end (old ++ replicate (end - length old) v) ≡ drop end old
 drop_grown end old v = elim (cases_lt (length old) end) [
   | inl past ↦ drop_all end _ (omega (arith, length-append old (replicate (end - length old) v), length-replicate (end - length old) v)) ∙ sym (drop_all end old (omega arith))
   | inr within ↦
@@ -15,7 +15,7 @@ drop_grown end old v = elim (cases_lt (length old) end) [
       ap (λ (k : ℕ). drop end (old ++ replicate k v)) none ∙ ap (λ (l : List _). drop end l) (append-nil old)
 ]
 
-pub take_grown : {X : Type 0} (at end : ℕ) (old : List X) (v : X) → at ≤ end → take at (old ++ replicate (end - length old) v) ≡ take (min at (length old)) old ++ replicate (at - length old) v
+take_grown : {X : Type 0} (at end : ℕ) (old : List X) (v : X) → at ≤ end → take at (old ++ replicate (end - length old) v) ≡ take (min at (length old)) old ++ replicate (at - length old) v
 take_grown at end old v le = elim (cases_lt (length old) at) [
   | inl past ↦
       let m : min at (length old) ≡ length old = omega arith in
@@ -53,6 +53,7 @@ spliced_grown at new old grown v is =
     ∙ ap (λ (l : List _). take (min at (length old)) old ++ l) (sym (append_assoc zeros new (drop end old)))
     ∙ ap (λ (l : List _). take (min at (length old)) old ++ ((zeros ++ new) ++ l)) (sym rest)
 
+-- the length of a list in which a part was replaced
 pub length-spliced : {X : Type 0} (at : ℕ) (new old : List X) → at ≤ length old → length (spliced at new old) ≡ at + length new + (length old - (at + length new))
 length-spliced at new old le = omega (arith, length-append (take at old) (new ++ drop (at + length new) old), length-append new (drop (at + length new) old), length-take at old, length-drop (at + length new) old)
 
@@ -69,6 +70,7 @@ read_part bytes out part at n fits n_is is =
 abbrev nothing : List ℕ
 nothing = []
 
+-- what is taken from no bytes is none
 pub take-nil : (n : ℕ) → nothing ≡ take n nothing
 take-nil zero = refl
 take-nil (suc n) = refl
@@ -80,6 +82,7 @@ drop-append zero (x ∷ xs) ys = let none : 0 - suc (length xs) ≡ 0 = omega ar
 drop-append (suc n) [] ys = let all : suc n - 0 ≡ suc n = omega arith in ap (λ (k : ℕ). drop k ys) (sym all)
 drop-append (suc n) (x ∷ xs) ys = let less : suc n - length (x ∷ xs) ≡ n - length xs = omega arith in drop-append n xs ys ∙ ap (λ (k : ℕ). drop n xs ++ drop k ys) (sym less)
 
+-- a write over another at the same place is one write, of the new and what it left of the other
 pub spliced-spliced : {X : Type 0} (at : ℕ) (new mid old : List X) → at ≤ length old → spliced at new (spliced at mid old) ≡ spliced at (new ++ drop (length new) mid) old
 spliced-spliced at new mid old le =
     let behind = drop (at + length mid) old in
@@ -94,6 +97,7 @@ spliced-spliced at new mid old le =
     ∙ ap (λ (l : List _). take at old ++ l) (sym (append_assoc new (drop (length new) mid) (drop (length new - length mid) behind)))
     ∙ ap (λ (l : List _). take at old ++ ((new ++ drop (length new) mid) ++ l)) far
 
+-- a part in place of itself changes nothing
 pub spliced_itself : {X : Type 0} (at n : ℕ) (old : List X) → at + n ≤ length old → spliced at (take n (drop at old)) old ≡ old
 spliced_itself at n old le =
     let size : length (take n (drop at old)) ≡ n = omega (arith, length-take n (drop at old), length-drop at old) in

@@ -14,6 +14,7 @@ reads-drop zero cells = refl
 reads-drop (suc n) [] = refl
 reads-drop (suc n) (c ∷ cells) = reads-drop n cells
 
+-- loose bytes read as what was written
 pub reads-loose : (bytes : List ℕ) → reads (loose bytes) ≡ bytes
 reads-loose [] = refl
 reads-loose (b ∷ bytes) = ap (λ (l : List ℕ). b ∷ l) (reads-loose bytes)
@@ -30,6 +31,7 @@ reads-spliced at bytes cells =
     ∙ (λ i. reads-loose bytes i ++ reads-drop (at + length (loose bytes)) cells i)
     ∙ ap (λ (k : ℕ). bytes ++ drop (at + k) (reads cells)) (long bytes))
 
+-- after a write these bytes are read in their place, zeros in a gap, and the rest as before
 pub reads-written : (at : ℕ) (bytes : List ℕ) (cells : Cells)
     → reads (written at bytes cells) ≡ spliced (min at (length (reads cells))) (replicate (at - length (reads cells)) 0 ++ bytes) (reads cells)
 reads-written at bytes cells =
@@ -67,13 +69,13 @@ module _ (at : ℕ) (bytes : List ℕ) (cells : Cells) (within : at ≤ length c
   front : length (take at cells) ≡ at
   front = omega (arith, length-take at cells)
 
-  pub loose_inside : (k : ℕ) → at ≤ k → k < at + length bytes → is_loose_at (spliced at (loose bytes) cells) k ≡ true
+  loose_inside : (k : ℕ) → at ≤ k → k < at + length bytes → is_loose_at (spliced at (loose bytes) cells) k ≡ true
   loose_inside k ge lt =
       loose_behind (take at cells) (loose bytes ++ drop (at + length (loose bytes)) cells) k (k - at) (omega (arith, front))
       ∙ loose_before (loose bytes) (drop (at + length (loose bytes)) cells) (k - at) (omega (arith, long bytes))
       ∙ all_loose bytes (k - at) (omega arith)
 
-  pub loose_outside : (k : ℕ) → (k < at) ⊎ (at + length bytes ≤ k) → is_loose_at (spliced at (loose bytes) cells) k ≡ is_loose_at cells k
+  loose_outside : (k : ℕ) → (k < at) ⊎ (at + length bytes ≤ k) → is_loose_at (spliced at (loose bytes) cells) k ≡ is_loose_at cells k
   loose_outside k (inl lt) =
       loose_before (take at cells) (loose bytes ++ drop (at + length (loose bytes)) cells) k (omega (arith, front)) ∙ loose_in_front at cells k lt
   loose_outside k (inr ge) =
@@ -88,9 +90,11 @@ module _ (at : ℕ) (bytes : List ℕ) (cells : Cells) where
   size : length payload ≡ at - length cells + length bytes
   size = omega (arith, length-append (replicate {A = ℕ} (at - length cells) 0) bytes, length-replicate {A = ℕ} (at - length cells) 0)
 
+  -- all that a write has touched is loose after it
   pub loose_written : (k : ℕ) → min at (length cells) ≤ k → k < at + length bytes → is_loose_at (written at bytes cells) k ≡ true
   loose_written k ge lt = loose_inside (min at (length cells)) payload cells (omega arith) k ge (omega (arith, size))
 
+  -- at all other offsets a write leaves bytes as loose or firm as they were
   pub loose_as_before : (k : ℕ) → (k < min at (length cells)) ⊎ (at + length bytes ≤ k) → is_loose_at (written at bytes cells) k ≡ is_loose_at cells k
   loose_as_before k (inl lt) = loose_outside (min at (length cells)) payload cells (omega arith) k (inl lt)
   loose_as_before k (inr ge) = loose_outside (min at (length cells)) payload cells (omega arith) k (inr (omega (arith, size)))

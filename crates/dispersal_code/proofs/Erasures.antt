@@ -49,7 +49,7 @@ Apart-present (x ∷ xs) (None ∷ ss) h = Apart-present xs ss h.1
 Apart-present (x ∷ xs) (Some s ∷ ss) h = (Each-present (λ y. x ≢ y) xs ss h.0, Apart-present xs ss h.1)
 
 -- a polynomial agrees with a row where it takes the present symbols
-pub agree-present : (p xs : List ℕ) (ss : List (Option ℕ)) → length xs ≡ length ss → agree p xs ss ≡ matches p (present_points xs ss) (present_symbols ss)
+agree-present : (p xs : List ℕ) (ss : List (Option ℕ)) → length xs ≡ length ss → agree p xs ss ≡ matches p (present_points xs ss) (present_symbols ss)
 unfolding agree_over present_points present_symbols
 agree-present p [] [] e = refl
 agree-present p [] (s ∷ ss) e = absurd (omega arith)
@@ -92,15 +92,15 @@ module _ (n l b : ℕ) (points : List ℕ) (seen : List (Option ℕ)) (shape : I
   }
 
   -- where a decoder finds one, it is accepted
-  pub decoded_accepts : (p : List ℕ) → IsDecoded (present_points points seen) (present_symbols seen) l fix p → Accepts points seen l b p
+  decoded_accepts : (p : List ℕ) → IsDecoded (present_points points seen) (present_symbols seen) l fix p → Accepts points seen l b p
   decoded_accepts p is = present_accepts p is.decodes
 
   -- and no other is
-  pub decoded_only : (p : List ℕ) → IsDecoded (present_points points seen) (present_symbols seen) l fix p → IsOnlyAccepted points seen l b p
+  decoded_only : (p : List ℕ) → IsDecoded (present_points points seen) (present_symbols seen) l fix p → IsOnlyAccepted points seen l b p
   decoded_only p is q accepts = is.only q (decodes_present q accepts)
 
   -- where it finds none, none is accepted
-  pub none_accepts : NoneDecodes (present_points points seen) (present_symbols seen) l fix → AcceptsNone points seen l b
+  none_accepts : NoneDecodes (present_points points seen) (present_symbols seen) l fix → AcceptsNone points seen l b
   none_accepts is q accepts = is.none q (decodes_present q accepts)
 
 -- the polynomial through the first present symbols is accepted where it agrees often enough
@@ -118,6 +118,7 @@ pub none_opens : (n l b : ℕ) (points : List ℕ) (seen : List (Option ℕ)) (x
 none_opens n l b points seen xs ys keep fix shape even whole many is_x is_y is_keep is_fix none =
     none_accepts n l b points seen shape even whole (rw is_y at many) (rw (is_fix, is_keep, is_x, is_y) at none)
 
+-- what the decoder finds in the present symbols is accepted, and nothing else is
 pub some_opens : (n l b : ℕ) (points : List ℕ) (seen : List (Option ℕ)) (xs ys p : List ℕ) (keep fix : ℕ) → IsShape n l b → length points ≡ length seen → length seen ≡ n →
     n ≤ length ys + b → xs ≡ present_points points seen → ys ≡ present_symbols seen → keep ≡ l → fix ≡ room_for n b (length ys) →
     IsDecoded xs ys keep fix p → Accepts points seen l b p × IsOnlyAccepted points seen l b p

@@ -46,6 +46,7 @@ pub points_passed : (xs start total : List ℕ) (ss : List (Option ℕ)) (k : �
 points_passed xs start total ss k d h even is sum =
     ap (λ t. start ++ t) (rw add-one (sym (points-none xs ss k h (omega arith) (get_or_default ss k None d (omega arith) ∙ is)))) ∙ sum
 
+-- at an absent symbol no symbol is added either
 pub symbols_passed : (start total : List ℕ) (ss : List (Option ℕ)) (k : ℕ) (d : Option ℕ) → k < length ss → get_or ss k d ≡ None →
     start ++ present_symbols (drop k ss) ≡ total → start ++ present_symbols (drop (k + 1) ss) ≡ total
 symbols_passed start total ss k d h is sum = ap (λ t. start ++ t) (rw add-one (sym (symbols-none ss k h (get_or_default ss k None d h ∙ is)))) ∙ sum
@@ -80,6 +81,7 @@ symbols-past ss e = rw e refl
 pub points_end : (xs start total : List ℕ) (ss : List (Option ℕ)) (k : ℕ) → length xs ≤ k → start ++ present_points (drop k xs) (drop k ss) ≡ total → start ≡ total
 points_end xs start total ss k h sum = sym (append-none start (present_points (drop k xs) (drop k ss)) (points-past (drop k xs) (drop k ss) (drop_all k xs h))) ∙ sum
 
+-- after all places no symbol is left to add
 pub symbols_end : (start total : List ℕ) (ss : List (Option ℕ)) (k : ℕ) → length ss ≤ k → start ++ present_symbols (drop k ss) ≡ total → start ≡ total
 symbols_end start total ss k h sum = sym (append-none start (present_symbols (drop k ss)) (symbols-past (drop k ss) (drop_all k ss h))) ∙ sum
 

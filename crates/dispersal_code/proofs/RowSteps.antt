@@ -9,7 +9,7 @@ use Rattle.code_defs.specs.Points.{values_at}
 use Rattle.code_defs.specs.DispersalCode.{row_of}
 
 -- one value more
-pub values_more : (p points : List ℕ) (k x : ℕ) → k < length points → x ≡ get_or points k x →
+values_more : (p points : List ℕ) (k x : ℕ) → k < length points → x ≡ get_or points k x →
     values_at (take (k + 1) points) p ≡ values_at (take k points) p ++ value p x ∷ []
 values_more p points k x lt read =
     let is_x : get_or points k 0 ≡ x = sym (get_or_read points k x lt read 0) in
@@ -17,7 +17,7 @@ values_more p points k x lt read =
     rw more (map-append (value p) (take k points) (x ∷ []))
 
 -- the values of a polynomial without zeros at its end
-pub values-trim : (p points : List ℕ) → values_at points (trim p) ≡ values_at points p
+values-trim : (p points : List ℕ) → values_at points (trim p) ≡ values_at points p
 values-trim p [] = refl
 values-trim p (x ∷ points) = cc (value-trim nim nim_laws p x, values-trim p points)
 

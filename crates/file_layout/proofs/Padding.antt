@@ -41,6 +41,7 @@ padded-at bytes n i is below = go (nat_lt i n) refl
         get_or-append_right (take n bytes) (drop n (replicate 16 0)) i 0 (omega (arith, after, long))
         ∙ drop-zeros n 16 (i - length (take n bytes)) ∙ sym (get_or-past bytes i (omega (arith, is, after, below)))
 
+-- the first 16 bytes, zeros in place of absent ones, make the same number as the bytes themselves
 pub padded-value : (xs bytes : List ℕ) (n : ℕ) → n ≡ min (length bytes) 16 → xs ≡ take n bytes →
     from_le_bytes w128 (xs ++ drop n (replicate 16 0)) ≡ from_le_bytes w128 bytes
 padded-value xs bytes n is e =
@@ -54,6 +55,7 @@ take-rest zero (x ∷ xs) h = absurd (omega (arith, h))
 take-rest (suc n) [] h = refl
 take-rest (suc n) (x ∷ xs) h = ap (λ (l : List ℕ). x ∷ l) (take-rest n xs (omega (arith, h)))
 
+-- a symbol is the number of the bytes from its first one on, as far as there are any
 pub rest-value : (bytes : List ℕ) (from number start : ℕ) → from ≡ number → start ≡ min (16 * from) (length bytes) →
     from_le_bytes w128 (take (length bytes - start) (drop start bytes)) ≡ from_le_bytes w128 (drop (16 * number) bytes)
 rest-value bytes from number start e is =

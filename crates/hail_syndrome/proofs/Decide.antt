@@ -67,7 +67,7 @@ module _ (points values : List ℕ) (even : length points ≡ length values) (ap
   length-chosen : length chosen ≡ keep
   length-chosen = omega (arith, length-take keep (sound_points nim f points), many)
 
-  pub even_chosen : length chosen ≡ length taken
+  even_chosen : length chosen ≡ length taken
   even_chosen = omega (
     arith,
     length-take keep (sound_points nim f points),
@@ -75,6 +75,7 @@ module _ (points values : List ℕ) (even : length points ≡ length values) (ap
     length-sound_values nim nim_laws f points values even,
   )
 
+  -- no two of the chosen points are the same
   pub apart_chosen : Apart chosen
   apart_chosen = Apart-front (sound_points nim f points) keep (Apart-sound nim nim_laws f points apart)
 

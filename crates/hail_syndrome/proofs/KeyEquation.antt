@@ -26,7 +26,7 @@ weighted m (x ∷ xs) [] = []
 weighted m (x ∷ xs) (y ∷ ys) = nim_mul (nim_pow x m) y ∷ weighted m xs ys
 
 -- one for each point
-pub length-weighted : (m : ℕ) (xs ys : List ℕ) → length xs ≡ length ys → length (weighted m xs ys) ≡ length xs
+length-weighted : (m : ℕ) (xs ys : List ℕ) → length xs ≡ length ys → length (weighted m xs ys) ≡ length xs
 unfolding weighted
 length-weighted m [] ys e = refl
 length-weighted m (x ∷ xs) [] e = absurd (omega arith)

@@ -60,7 +60,7 @@ module _ {A : Type 0} (F : FieldOf A) (laws : IsField F) (endless : IsEndless A)
         (omega (arith, length-vanish F laws (replicate m 𝟘), length-replicate m 𝟘))
 
     -- its remainder is short
-    pub rest_short : length r ≤ below
+    rest_short : length r ≤ below
     rest_short = key.short
 
     -- its cofactor is short

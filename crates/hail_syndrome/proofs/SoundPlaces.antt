@@ -123,6 +123,7 @@ module _ {A : Type 0} (F : FieldOf A) (laws : IsField F) (f : List A) where
   Takes-front p (x ∷ xs) [] (suc n) t = absurd t
   Takes-front p (x ∷ xs) (y ∷ ys) (suc n) t = (t.0, Takes-front p xs ys n t.1)
 
+-- the first of some things that differ from each other differ from each other too
 pub Apart-front : {A : Type 0} (xs : List A) (n : ℕ) → Apart xs → Apart (take n xs)
 Apart-front xs zero h = tt
 Apart-front [] (suc n) h = tt

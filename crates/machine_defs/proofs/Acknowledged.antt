@@ -127,6 +127,7 @@ facts limit start clean (m ∷ ms) run =
     step_facts limit start m ms A.numbers A.pins (prof.facts limit start clean ms run.2) (facts limit start clean ms run.2)
     (changes limit (length ms) (now start ms) m.event m.outcome m.state A.numbers.idle run.1))
 
+-- a put that ended well had brought its file in
 pub acknowledged : IsAcknowledged
 acknowledged limit start m ms job name bytes clean run e =
     facts limit start clean ms run.2 job.number job name bytes e.runs e.kind

@@ -47,6 +47,7 @@ module _ (old : State) where
   packs pack (suc (suc (suc (suc zero)))) (Ended (answer.Packed before after)) new (b, a, is) = subst (λ (w : State). IsAside old w) (sym is) (record { jobs = refl; append = refl; records = refl; doubt = refl; bytes = refl; audits = refl; is_open = refl; handed = refl; next_job = refl })
   packs pack moves r new h = absurd h
 
+  -- a step of what runs alone leaves jobs, records, doubt, numbers and bytes as they were
   pub steps_aside : (x : Alone) (r : Outcome) (new : State) → StepsAlone old x r new → IsAside old new
   steps_aside (Scrubbing scrub) r new h = steps_scrub scrub scrub.todo r new h
   steps_aside (Packing pack) r new h = packs pack pack.moves r new h

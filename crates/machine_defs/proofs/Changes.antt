@@ -160,6 +160,7 @@ module _ (limit moment : ℕ) (old : State) (e : Event) (r : Outcome) where
     block = block;
   }
 
+  -- an event may leave the state as it was
   pub unchanged : (new : State) → new ≡ old → Changes limit moment old e r new
   unchanged new is = subst (λ (w : State). Changes limit moment old e r w) (sym is)
       (only_devices old (λ g. g) refl refl refl (record { next = refl; is_open = refl; bytes = refl; alone = refl; doubt = λ d h. inl h }) (λ i o s. Block_is.same refl))

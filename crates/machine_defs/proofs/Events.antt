@@ -97,6 +97,7 @@ IsNoStore action = Unit {0}
 not_stored : (action : Action) (i o s : ℕ) → IsNoStore action → action ≡ Store i o s → ⊥
 not_stored action i o s h e = subst IsNoStore e h
 
+-- a provider that tells has the block that was stored
 pub some_told : (block : List ℕ) (held : Option Held) (b : Option (List ℕ)) → option_map (λ (h : Held). Some block) held ≡ Some b → b ≡ Some block
 some_told block None b h = (let e : None ≡ Some b = h in cc)
 some_told block (Some g) b h = (let e : Some (Some block) ≡ Some b = h in sym (let f : Some block ≡ b = cc in f))
@@ -597,6 +598,7 @@ module _ (limit moment : ℕ) (old : State) where
   continues Continued new is = subst (λ (w : State). Changes limit moment old Continue Continued w) (sym is) (gives_up limit moment old Continue Continued (continued old) refl refl (Records_is.same refl) refl refl (λ d h. Doubt_is.kept h refl))
   continues r new h = absurd h
 
+  -- each event that happens makes such changes and no others
   pub changes : (e : Event) (r : Outcome) (new : State) → IsQuietState old → Happens limit moment old e r new → Changes limit moment old e r new
   changes (Init s) r new quiet h = inits s old.is_open r new refl quiet.idle h
   changes (Begin kind) r new quiet h = begins (Begin kind) kind None r new h

@@ -38,6 +38,7 @@ fair_cond : (job : Job) (kind : Kind) (b : Bool) (a : Action) → IsFair job kin
 fair_cond job kind true a h = (h, tt)
 fair_cond job kind false a h = tt
 
+-- all actions of a job are fair, whatever its kind
 pub fair : (s : Setup) (job : Job) (kind : Kind) → Each (IsFair job kind) (actions_by s job kind)
 fair s job (PutJob name bytes) = (
   tt,
@@ -100,6 +101,7 @@ fair_by w job AuditJob place action h = each_get (IsFair job AuditJob) (actions_
 fair_by w job RepairJob place action h = each_get (IsFair job RepairJob) (actions_by (setup_in w) job RepairJob) place action (fair (setup_in w) job RepairJob) h
 fair_by w job UpgradeJob place action h = each_get (IsFair job UpgradeJob) (actions_by (setup_in w) job UpgradeJob) place action (fair (setup_in w) job UpgradeJob) h
 
+-- the next action of a job is fair
 pub is_fair : (w : State) (job : Job) (action : Action) → next_action w job ≡ Some action → IsFair job job.kind action
 is_fair w job action h = fair_by w job job.kind job.place action (sym (next_is_by w job) ∙ h)
 
@@ -139,6 +141,7 @@ pub data PutAt (w : State) (job : Job) (bytes : List ℕ) (p : ℕ) (action : Ac
   second : (q : ℕ) → p ≡ 4 + stores_count w job bytes + q → q < 4 → slice_get append_actions q ≡ Some action → PutAt w job bytes p action
   after : 8 + stores_count w job bytes ≤ p → IsRest action → PutAt w job bytes p action
 
+-- each action of a put stands in one of these four parts
 pub put_at : (w : State) (job : Job) (name bytes : List ℕ) (p : ℕ) (action : Action) → slice_get (actions_by (setup_in w) job (PutJob name bytes)) p ≡ Some action → PutAt w job bytes p action
 put_at w job name bytes p action h = elim (split_get append_actions (store_actions (setup_in w) job bytes ++ (append_actions ++ (remove_actions (setup_in w) job ++ End ∷ []))) p action h) [
   | inl a ↦ PutAt.first a.0 a.1
@@ -151,6 +154,7 @@ put_at w job name bytes p action h = elim (split_get append_actions (store_actio
   ]
 ]
 
+-- the next action of a put stands where its place says
 pub put_next : (w : State) (job : Job) (name bytes : List ℕ) (action : Action) → job.kind ≡ PutJob name bytes → next_action w job ≡ Some action → PutAt w job bytes job.place action
 put_next w job name bytes action kind h = put_at w job name bytes job.place action (let e = sym (next_is_by w job) ∙ h in let f = rw kind at e in f)
 

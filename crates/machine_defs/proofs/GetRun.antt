@@ -27,12 +27,15 @@ stored = record { event = Step 1; outcome = Ended (Put); state = state_11 } ∷ 
 abbrev got : List Moment
 got = record { event = Begin (GetJob (97 ∷ [])); outcome = Begun 2; state = state_12 } ∷ stored
 
+-- the put, and then the get of its file
 abbrev pub moments : List Moment
 moments = record { event = Step 2; outcome = Ended (Got []); state = state_13 } ∷ got
 
+-- the put and the get are a run of the machine
 pub is_run : IsRun 1 set_up moments
 is_run = (fits_two, happens_12, (refl, happens_11, (fits, happens_10, (fits, happens_9, (fits, happens_8, (fits, happens_7, (fits, happens_6, (fits, happens_5, (fits, happens_4, (fits, happens_3, (fits, happens_2, ((refl, refl), happens_1, (tt, happens_0, tt)))))))))))))
 
+-- the put and the get, carried out as commands, write these five lines
 pub transcript : CarriesOut (RunJob 2 ∷ Once (Begin (GetJob (97 ∷ []))) ∷ RunJob 1 ∷ Once (Begin (PutJob (97 ∷ []) [])) ∷ Once Reopen ∷ []) moments
     (((((codes "opened" ++ 10 ∷ []) ++ (codes "job 1" ++ 10 ∷ [])) ++ (codes "put" ++ 10 ∷ [])) ++ (codes "job 2" ++ 10 ∷ [])) ++ (codes "got -" ++ 10 ∷ []))
 unfolding digits
@@ -68,6 +71,7 @@ transcript = (
 abbrev pub doubted_moments : List Moment
 doubted_moments = stepped 1 state_9 ∷ stepped 1 state_8 ∷ stepped 1 state_7 ∷ stepped 1 state_6 ∷ stepped 1 state_5 ∷ stepped 1 state_4 ∷ stepped 1 state_3 ∷ begun
 
+-- the moments up to that third move are a run
 pub doubted_run : IsRun 1 set_up doubted_moments
 doubted_run = (fits, happens_8, (fits, happens_7, (fits, happens_6, (fits, happens_5, (fits, happens_4, (fits, happens_3, (fits, happens_2, ((refl, refl), happens_1, (tt, happens_0, tt)))))))))
 
@@ -75,11 +79,14 @@ doubted_run = (fits, happens_8, (fits, happens_7, (fits, happens_6, (fits, happe
 abbrev pub stopped_with : State
 stopped_with = record (brought (given_up state_9) (PutDone 1 0)) { doubt = None }
 
+-- the state without it
 abbrev pub stopped_without : State
 stopped_without = record (given_up state_9) { doubt = None }
 
+-- a stop at that third move may leave the record in doubt in effect
 pub stops_with : Happens 1 9 state_9 (Stop []) Stopped stopped_with
 stops_with = (state_9.journal, state_9.area, inl (refl, refl), inr (record { entry = PutDone 1 0; maker = maker_at state_9 }, refl, refl))
 
+-- a stop at that third move may leave no trace of the record
 pub stops_without : Happens 1 9 state_9 (Stop []) Stopped stopped_without
 stops_without = (state_9.journal, state_9.area, inl (refl, refl), inl refl)

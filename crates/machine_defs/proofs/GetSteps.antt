@@ -12,93 +12,119 @@ use Rattle.machine_defs.specs.Machine.{Happens}
 use Rattle.machine_defs.specs.Examples.{set_up}
 use Rattle.machine_defs.proofs.RunParts.{reopened, begun, job_at, append_at, synced, gated}
 
+-- a vault has opened
 abbrev pub state_1 : State
 state_1 = reopened set_up
 
+-- the vault opens
 pub happens_0 : Happens 1 0 set_up (Reopen) (Opened) state_1
 unfolding setup_in actions_of
 happens_0 = (record (given_up set_up) { doubt = None }, (set_up.journal, set_up.area, inl (refl, refl), inl refl), refl, omega arith, (set_up.disk_faults, omega arith, refl))
 
+-- a put of no bytes has begun
 abbrev pub state_2 : State
 state_2 = begun state_1 1 (PutJob (97 ∷ []) [])
 
+-- the put begins
 pub happens_1 : Happens 1 1 state_1 (Begin (PutJob (97 ∷ []) [])) (Begun 1) state_2
 unfolding setup_in actions_of
 happens_1 = (refl, refl, refl, refl)
 
+-- the record of its start is written
 abbrev pub state_3 : State
 state_3 = begun_append state_2 (job_at state_2 1) (PutStart 1 (97 ∷ []))
 
+-- the put writes the record of its start
 pub happens_2 : Happens 1 2 state_2 (Step 1) (More) state_3
 unfolding setup_in actions_of
 happens_2 = (PutStart 1 (97 ∷ []), refl, (state_2.disk_faults, omega arith, refl))
 
+-- that record is synced
 abbrev pub state_4 : State
 state_4 = synced state_3 1
 
+-- it syncs that record
 pub happens_3 : Happens 1 3 state_3 (Step 1) (More) state_4
 unfolding setup_in actions_of
 happens_3 = ((refl, refl), (state_3.disk_faults, omega arith, refl))
 
+-- the gate of that record is open, so that the record is in doubt
 abbrev pub state_5 : State
 state_5 = gated state_4 1
 
+-- it opens the gate of that record
 pub happens_4 : Happens 1 4 state_4 (Step 1) (More) state_5
 unfolding setup_in actions_of
 happens_4 = ((refl, refl), (state_4.disk_faults, omega arith, refl))
 
+-- the start is in effect
 abbrev pub state_6 : State
 state_6 = done_append state_5 (job_at state_5 1) (append_at state_5)
 
+-- it syncs the gate, and the start is in effect
 pub happens_5 : Happens 1 5 state_5 (Step 1) (More) state_6
 unfolding setup_in actions_of
 happens_5 = ((refl, refl), (state_5.disk_faults, omega arith, refl))
 
+-- the record of its end is written
 abbrev pub state_7 : State
 state_7 = begun_append state_6 (job_at state_6 1) (PutDone 1 0)
 
+-- with no stripe to store, the put writes the record of its end
 pub happens_6 : Happens 1 6 state_6 (Step 1) (More) state_7
 unfolding setup_in actions_of
 happens_6 = (PutDone 1 0, refl, (state_6.disk_faults, omega arith, refl))
 
+-- that record is synced
 abbrev pub state_8 : State
 state_8 = synced state_7 1
 
+-- it syncs that record
 pub happens_7 : Happens 1 7 state_7 (Step 1) (More) state_8
 unfolding setup_in actions_of
 happens_7 = ((refl, refl), (state_7.disk_faults, omega arith, refl))
 
+-- the gate of that record is open, so that the record is in doubt
 abbrev pub state_9 : State
 state_9 = gated state_8 1
 
+-- it opens the gate of that record
 pub happens_8 : Happens 1 8 state_8 (Step 1) (More) state_9
 unfolding setup_in actions_of
 happens_8 = ((refl, refl), (state_8.disk_faults, omega arith, refl))
 
+-- the file is in effect
 abbrev pub state_10 : State
 state_10 = done_append state_9 (job_at state_9 1) (append_at state_9)
 
+-- it syncs the gate, and the file is in effect
 pub happens_9 : Happens 1 9 state_9 (Step 1) (More) state_10
 unfolding setup_in actions_of
 happens_9 = ((refl, refl), (state_9.disk_faults, omega arith, refl))
 
+-- the put has ended
 abbrev pub state_11 : State
 state_11 = ended state_10 (job_at state_10 1)
 
+-- the put ends
 pub happens_10 : Happens 1 10 state_10 (Step 1) (Ended (Put)) state_11
 unfolding setup_in actions_of
 happens_10 = (tt, refl)
 
+-- a get of the file has begun
 abbrev pub state_12 : State
 state_12 = begun state_11 11 (GetJob (97 ∷ []))
 
+-- a get of the file begins
 pub happens_11 : Happens 1 11 state_11 (Begin (GetJob (97 ∷ []))) (Begun 2) state_12
 unfolding setup_in actions_of
 happens_11 = (refl, refl, refl, refl)
 
+-- the get has ended
 abbrev pub state_13 : State
 state_13 = ended state_12 (job_at state_12 2)
 
+-- with no stripe to fetch, the get ends with no bytes
 pub happens_12 : Happens 1 12 state_12 (Step 2) (Ended (Got [])) state_13
 unfolding setup_in actions_of
 happens_12 = (refl, refl)

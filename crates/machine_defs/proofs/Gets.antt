@@ -34,6 +34,7 @@ use Rattle.machine_defs.proofs.Given.{given_to-more, symbols_given-newest}
 
 -- ---- a get that begins has a file
 
+-- a get that is not refused has a file in effect under its name
 pub get_file : (limit : ℕ) (w : State) (name : List ℕ) (profile : Option ℕ) (o : Option File) → file_in w name ≡ o → refusal_of_begin limit w (GetJob name) profile ≡ None → (f : File) × (file_in w name ≡ Some f)
 get_file limit w name profile (Some f) is h = (f, is)
 get_file limit w name profile None is h = absurd (let none = stored-file w name ∙ ap is_some is in elim (cases_Bool w.is_barred) [
@@ -94,12 +95,14 @@ in_flat t job name f q x kind pinned other h =
 abbrev begin_of : State → List Moment → Job → State
 begin_of start ms job = now start (first_moments job.begun ms)
 
+-- a get works on the one file that was in effect under its name at its begin, and the setup is still that one
 pub record HasFile (b w : State) (job : Job) (name : List ℕ) : Type 0 where
   pub file : File
   pub in_effect : file_in b name ≡ Some file
   pub pinned : job.pinned ≡ pinned_file b file ∷ []
   pub setup : setup_of w.records ≡ setup_of b.records
 
+-- what holds at each moment of the gets that run: their files, and what they have opened
 pub record Facts (start : State) (ms : List Moment) : Type 0 where
   pub file : (k : ℕ) (j : Job) (name : List ℕ) → job_of (now start ms).jobs k ≡ Some j → j.kind ≡ GetJob name → HasFile (begin_of start ms j) (now start ms) j name
   pub opened : (k : ℕ) (j : Job) (name : List ℕ) (f : Pinned) (q o s : ℕ) → job_of (now start ms).jobs k ≡ Some j → j.kind ≡ GetJob name → j.pinned ≡ f ∷ [] → q < j.place →
@@ -246,6 +249,7 @@ bare_block (Worked o t symbols ∷ more) object s j = bare_block more object s j
 bare_block (Fetched i o t block ∷ more) object s j = ap (cond (((i == j) && (o == object)) && (t == s)) block) (bare_block more object s j)
 bare_block (Answered i o r symbol ∷ more) object s j = bare_block more object s j
 
+-- the blocks that a report has of a get are those that the get was given
 pub heard_blocks : (job : Job) (name : List ℕ) (n object s : ℕ) → job.kind ≡ GetJob name → blocks_given (given_to job.number (heard_by (Some job))) n object s ≡ blocks_given job.given n object s
 heard_blocks job name n object s kind =
     ap (λ es. blocks_given (given_to job.number es) n object s) (ap (heard_by_kind job) kind)
@@ -254,6 +258,7 @@ heard_blocks job name n object s kind =
 got_by : (w : State) (job : Job) (f : Pinned) (bytes : List ℕ) → job.pinned ≡ f ∷ [] → GotBytes w job job.pinned bytes → bytes ≡ file_given (setup_in w) job.given f
 got_by w job f bytes pinned h = subst (λ (p : List Pinned). GotBytes w job p bytes) pinned h
 
+-- every get that ended with bytes gave what its fetches open to
 pub got_is_opened : GotIsOpened
 got_is_opened limit start m ms job name bytes clean run e =
     (let r = event_end limit (length ms) (now start ms) m.event m.outcome m.state job (answer.Got bytes) (λ x. x) e.event e.outcome e.runs run.1 in

@@ -29,6 +29,7 @@ use Rattle.machine_defs.proofs.PinFacts.{Pins_is, pins_is, stands_quiet, setup_s
 use Rattle.machine_defs.proofs.Numbers as num
 use Rattle.machine_defs.proofs.PinFacts as pin
 
+-- what a list contains at some place is in it
 pub contains_in : {X : Type 0} (xs : List X) (x : X) → Contains xs x → In x xs
 contains_in xs x h = go xs x h.0 h.1 h.2
   where
@@ -37,9 +38,11 @@ contains_in xs x h = go xs x h.0 h.1 h.2
     go (y ∷ ys) x zero l e = inl (sym e)
     go (y ∷ ys) x (suc k) l e = inr (go ys x k (omega arith) e)
 
+-- one moment more does not change the first ones
 pub first_more : (k : ℕ) (m : Moment) (ms : List Moment) → k ≤ length ms → first_moments k (m ∷ ms) ≡ first_moments k ms
 first_more k m ms l = (let short : k < suc (length ms) = omega arith in rw (lt-leb (suc (length ms)) k short) refl)
 
+-- of all moments, as many as there are, are all
 pub first_all : (ms : List Moment) → first_moments (length ms) ms ≡ ms
 first_all [] = refl
 first_all (m ∷ ms) = rw (le-leb (suc (length ms)) (suc (length ms)) (omega arith)) refl
@@ -48,6 +51,7 @@ replaced_now : (from j : ℕ) (m : Moment) (ms : List Moment) → from ≤ lengt
 replaced_now from j m ms l h none =
     false≢true (sym (or_parts (is_replacement m.event m.outcome j && nat_le from (length ms)) (is_replaced_since from j ms) none).0 ∙ and_from _ _ h (le-leb from (length ms) l))
 
+-- a provider that is not replaced up to an event was not replaced before it
 pub replaced_before : (from j : ℕ) (m : Moment) (ms : List Moment) → is_replaced_since from j (m ∷ ms) ≡ false → is_replaced_since from j ms ≡ false
 replaced_before from j m ms none = (or_parts (is_replacement m.event m.outcome j && nat_le from (length ms)) (is_replaced_since from j ms) none).1
 
@@ -61,6 +65,7 @@ store_kinds job (GetJob name) i o s is h = absurd h
 store_kinds job (DropJob name) i o s is h = absurd h
 store_kinds job AuditJob i o s is h = absurd h
 
+-- a job of any kind removes only the object that it takes away
 pub remove_kinds : (job : Job) (kind : Kind) (i o : ℕ) → job.kind ≡ kind → IsFair job kind (Remove i o) → In o job.older
 remove_kinds job (PutJob name bytes) i o is h = h
 remove_kinds job (GetJob name) i o is h = h
@@ -71,6 +76,7 @@ remove_kinds job UpgradeJob i o is h = h
 
 -- ---- the actions of a put
 
+-- the actions of a job, by its kind
 pub actions_are : (s : Setup) (job : Job) (kind : Kind) → job.kind ≡ kind → actions_of s job ≡ actions_by s job kind
 unfolding actions_of
 actions_are s job kind is = ap (actions_by s job) is
@@ -110,6 +116,7 @@ put_actions s i j name bytes ki kj subject profile older =
 
 -- ---- facts
 
+-- what holds at each moment: begins lie behind, audited blocks stay, and stored ones are the columns
 pub record Facts (start : State) (ms : List Moment) : Type 0 where
   pub begun : (k : ℕ) (j : Job) → job_of (now start ms).jobs k ≡ Some j → j.begun ≤ length ms
   pub audited : (k : ℕ) (j : Job) (f : Pinned) (i s : ℕ) → job_of (now start ms).jobs k ≡ Some j → j.kind ≡ AuditJob → In f j.pinned → is_replaced_since j.begun i ms ≡ false →
@@ -270,6 +277,7 @@ module _ (limit : ℕ) (start : State) (m : Moment) (ms : List Moment) (N : num.
           ∙ done-started w.1.0 x.subject (length bytes) x.profile (now start ms).records j.subject ∙ cond_true (x.subject == j.subject) None (started_as (now start ms).records j.subject) (eq-eqb x.subject j.subject (sym subject)) in
           let z : None ≡ Some name = sym none_now ∙ st in cc)
 
+  -- these facts hold after one more event
   pub step_facts : Facts start (m ∷ ms)
   step_facts = record { begun = begun_step; audited = audited_step; stored = stored_step }
 
@@ -286,6 +294,7 @@ pub record All (start : State) (ms : List Moment) : Type 0 where
   pub pins : pin.Facts start ms
   pub held : Facts start ms
 
+-- at each moment of a run all facts hold
 pub all : (limit : ℕ) (start : State) → IsStart start → (ms : List Moment) → IsRun limit start ms → All start ms
 all limit start clean [] run = record { numbers = num.facts objects limit start clean [] run; pins = pin.start_facts start clean; held = start_facts start clean }
 all limit start clean (m ∷ ms) run =

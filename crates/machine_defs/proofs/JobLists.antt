@@ -8,10 +8,12 @@ pub cond_true : {X : Type 0} (b : Bool) (x y : X) → b ≡ true → cond b x y 
 cond_true true x y h = refl
 cond_true false x y h = absurd (false≢true h)
 
+-- a choice whose test fails is its second
 pub cond_false : {X : Type 0} (b : Bool) (x y : X) → b ≡ false → cond b x y ≡ y
 cond_false true x y h = absurd (false≢true (sym h))
 cond_false false x y h = refl
 
+-- an option has one value
 pub same_value : {X : Type 0} (o : Option X) (x y : X) → o ≡ Some x → o ≡ Some y → x ≡ y
 same_value o x y a b = let e : Some x ≡ Some y = sym a ∙ b in cc
 
@@ -101,6 +103,7 @@ found_more (y ∷ js) x k j h = elim (cases_Bool (y.number == k)) [
   ]
 ]
 
+-- among no jobs none is found
 pub found_none : (js : List Job) (k : ℕ) (j : Job) → js ≡ [] → job_of js k ≡ Some j → ⊥
 found_none js k j e h = let f : None ≡ Some j = ap (λ (l : List Job). job_of l k) (sym e) ∙ h in cc
 

@@ -49,7 +49,7 @@ alike-more rs qs (Resume id audit) appended starts a = absurd appended
 alike-more rs qs (InEffect id size profile name) appended starts a = absurd appended
 alike-more rs qs (RepairDue number counts) appended starts a = absurd appended
 
-pub alike-trans : (rs qs ps : List Record) → AreAlike rs qs → AreAlike qs ps → AreAlike rs ps
+alike-trans : (rs qs ps : List Record) → AreAlike rs qs → AreAlike qs ps → AreAlike rs ps
 alike-trans rs qs ps a b = record { setup = a.setup ∙ b.setup; version = a.version ∙ b.version; id = a.id ∙ b.id; audit = a.audit ∙ b.audit; files = a.files ∙ b.files; due = a.due ∙ b.due }
 
 -- a packed journal is alike to the history that its journal was alike to

@@ -20,6 +20,7 @@ pub data Series : Type 0 where
   objects : Series
   audits : Series
 
+-- the next number of a series
 abbrev pub next : Series → List Record → ℕ
 next objects rs = next_id rs
 next audits rs = next_audit rs
@@ -63,6 +64,7 @@ next_grows audits (RepairDue number counts) rs good = absurd good
 on_top : (series : Series) (rs more : List Record) → more ≡ rs → next series rs ≤ next series more
 on_top series rs more is = (let e : next series more ≡ next series rs = ap (next series) is in omega arith)
 
+-- the next number never falls while records come as events bring them
 pub next_of_records : (series : Series) (old new : State) → IsWritten old → Records_is old new → next series old.records ≤ next series new.records
 next_of_records series old new W (Records_is.same is) = on_top series old.records new.records is
 next_of_records series old new W (Records_is.finished before a runs next_is flight mine moves is) =
@@ -79,6 +81,7 @@ next_of_records series old new W (Records_is.settled_set_up s d in_doubt none is
 abbrev pub next_by : State → Job → Kind → ℕ → Option Action
 next_by w job kind place = cond (is_idle_drop w job kind) (Some End) (slice_get (actions_by (setup_in w) job kind) place)
 
+-- the next action of a job, by its kind and its place
 pub next_is_by : (w : State) (job : Job) → next_action w job ≡ next_by w job job.kind job.place
 unfolding actions_of
 next_is_by w job = refl
@@ -110,6 +113,7 @@ drawn_later w job AuditJob h = cond_false _ _ _ h
 drawn_later w job RepairJob h = refl
 drawn_later w job UpgradeJob h = refl
 
+-- with its first append a job draws the next number
 pub drawn_first : (series : Series) (w : State) (job : Job) (kind : Kind) → Draws series kind → is_first_append job ≡ true → subject_drawn w job kind ≡ next series w.records
 drawn_first objects w job (PutJob name bytes) d h = cond_true _ _ _ h
 drawn_first audits w job AuditJob d h = cond_true _ _ _ h
@@ -147,9 +151,11 @@ writes_first audits w job (DropJob name) entry d first h = absurd d
 writes_first audits w job RepairJob entry d first h = absurd d
 writes_first audits w job UpgradeJob entry d first h = absurd d
 
+-- a job before its fifth action is in its first append
 pub first_below : (job : Job) → job.place < 4 → is_first_append job ≡ true
 first_below job l = lt-ltb job.place 4 l
 
+-- a job behind its fourth action is past its first append
 pub first_above : (job : Job) → 4 ≤ job.place → is_first_append job ≡ false
 first_above job l = elim (cases_Bool (nat_lt job.place 4)) [ inl t ↦ absurd (let e = ltb-true job.place 4 t in omega arith) | inr f ↦ f ]
 
@@ -161,10 +167,12 @@ pub record Uses (series : Series) (old : State) (begun number : ℕ) : Type 0 wh
   pub begun_is : job.begun ≡ begun
   pub number_is : job.subject ≡ number
 
+-- at one of these moments a job that began then made a step under this number
 abbrev pub HasUsed : Series → State → List Moment → ℕ → ℕ → Type 0
 HasUsed series start [] begun number = ⊥
 HasUsed series start (m ∷ ms) begun number = Uses series (now start ms) begun number ⊎ HasUsed series start ms begun number
 
+-- what holds at each moment of the numbers of a series: each is of one job, and lies below the next one
 pub record Facts (series : Series) (start : State) (ms : List Moment) : Type 0 where
   pub below : (k : ℕ) (j : Job) → job_of (now start ms).jobs k ≡ Some j → HasNumber series j → j.subject < next series (now start ms).records
   pub apart : (k l : ℕ) (i j : Job) → job_of (now start ms).jobs k ≡ Some i → job_of (now start ms).jobs l ≡ Some j →
@@ -308,6 +316,7 @@ module _ (series : Series) (limit : ℕ) (start : State) (m : Moment) (ms : List
   used_once_step b c n (inr u) (inl v) = F.used_mine b n v.job.number v.job u v.runs v.has v.number_is ∙ v.begun_is
   used_once_step b c n (inr u) (inr v) = F.used_once b c n u v
 
+  -- these facts hold after one more event
   pub step_facts : Facts series start (m ∷ ms)
   step_facts = record {
     below = below_step;
@@ -336,6 +345,7 @@ start_facts series start clean = record {
   used_once = λ b c n u v. absurd u;
 }
 
+-- these facts hold at each moment of a run
 pub facts : (series : Series) (limit : ℕ) (start : State) → IsStart start → (ms : List Moment) → IsRun limit start ms → Facts series start ms
 facts series limit start clean [] run = start_facts series start clean
 facts series limit start clean (m ∷ ms) run =

@@ -25,6 +25,7 @@ use Rattle.machine_defs.proofs.Numbers as num
 
 -- ---- setups and counts of stores
 
+-- records with the same setup have the same setup in effect
 pub setup_same : (v w : State) → setup_of v.records ≡ setup_of w.records → setup_in v ≡ setup_in w
 unfolding setup_in
 setup_same v w h = ap setup_or_none h
@@ -36,10 +37,12 @@ count_is : (w : State) (job : Job) (bytes : List ℕ) → stores_count w job byt
 unfolding count_by
 count_is w job bytes = refl
 
+-- puts with one number and one profile, under one setup, make equally many stores
 pub count_same : (v w : State) (i j : Job) (bytes : List ℕ) → setup_of v.records ≡ setup_of w.records → i.subject ≡ j.subject → i.profile ≡ j.profile → stores_count v i bytes ≡ stores_count w j bytes
 count_same v w i j bytes s e p = count_is v i bytes ∙ (ap (λ x. count_by x i.profile i.subject bytes) (setup_same v w s)
     ∙ (ap (λ n. count_by (setup_in w) i.profile n bytes) e ∙ (ap (λ n. count_by (setup_in w) n j.subject bytes) p ∙ sym (count_is w j bytes))))
 
+-- no append of a job changes the setup
 pub wrote_setup : (job : Job) (kind : Kind) (entry : Record) (rs : List Record) → Wrote job kind entry → setup_of (entry ∷ rs) ≡ setup_of rs
 wrote_setup job (PutJob name bytes) entry rs (inl h) = ap (λ (r : Record). setup_of (r ∷ rs)) h.1
 wrote_setup job (PutJob name bytes) entry rs (inr h) = ap (λ (r : Record). setup_of (r ∷ rs)) h.1.1 ∙ done-setup h.1.0 job.subject (length bytes) job.profile rs
@@ -211,6 +214,7 @@ module _ (limit : ℕ) (start : State) (m : Moment) (ms : List Moment) (N : num.
         ap setup_of rec ∙ wrote_setup x x.kind a.entry (now start ms).records (F.wrote a x flight (subst (λ n. job_of (now start ms).jobs n ≡ Some x) (sym mine) runs))
   ]
 
+  -- while a job runs, the setup in effect stays
   pub setup_stays : (k : ℕ) (j : Job) → job_of m.state.jobs k ≡ Some j → setup_in m.state ≡ setup_in (now start ms)
   setup_stays k j h = setup_same m.state (now start ms) (setup_kept k j h)
 
@@ -264,6 +268,7 @@ module _ (limit : ℕ) (start : State) (m : Moment) (ms : List Moment) (N : num.
     new_one : (kind : Kind) (wish : Option ℕ) → j ≡ beginning (now start ms) (length ms) kind wish → k ≡ (now start ms).next_job → refusal_of_begin limit (now start ms) kind wish ≡ None →
         m.state.records ≡ (now start ms).records → Pins_is k j
 
+  -- each running job came by its files in one of these two ways
   pub pins_is : (k : ℕ) (j : Job) → job_of m.state.jobs k ≡ Some j → Pins_is k j
   pins_is k j h = elim (X.job k j h) [
     | Job_is.kept r grown ↦ had j r refl refl refl (growth k grown)
@@ -277,6 +282,7 @@ module _ (limit : ℕ) (start : State) (m : Moment) (ms : List Moment) (N : num.
   new_pin : (j : Job) (kind : Kind) (wish : Option ℕ) (f : Pinned) → j ≡ beginning (now start ms) (length ms) kind wish → In f j.pinned → Stands (now start ms) f
   new_pin j kind wish f is i = pinned_stands (now start ms) kind f (subst (λ (x : Job). In f x.pinned) is i)
 
+  -- the number of a file in effect is drawn, and its put is done
   pub stands_quiet : (f : Pinned) → Stands (now start ms) f → (f.id < next_id (now start ms).records) × (started_as (now start ms).records f.id ≡ None)
   stands_quiet f s = (let p = F.sound.file s.name s.file s.in_effect in let e : f.id ≡ s.file.id = ap (λ (x : Pinned). x.id) s.is in ((let l = p.0 in omega arith), ap (started_as (now start ms).records) e ∙ p.1))
 
@@ -286,6 +292,7 @@ module _ (limit : ℕ) (start : State) (m : Moment) (ms : List Moment) (N : num.
     | new_one kind wish is k_is allowed rec ↦ quiet (none rec) f.id (stands_quiet f (new_pin j kind wish f is i))
   ]
 
+  -- a job had the object that it takes away before the event, or its append has now decided on it
   pub data Older_is (k : ℕ) (j : Job) (o : ℕ) : Type 0 where
     had : (i : Job) → job_of (now start ms).jobs k ≡ Some i → In o i.older → Growth → Older_is k j o
     decided : (i : Job) (a : Append) (name : List ℕ) → job_of (now start ms).jobs k ≡ Some i → next_action (now start ms) i ≡ Some SyncGate → (now start ms).append ≡ Some a → a.job ≡ k →
@@ -378,6 +385,7 @@ module _ (limit : ℕ) (start : State) (m : Moment) (ms : List Moment) (N : num.
     ]
   ]
 
+  -- these facts hold after one more event
   pub step_facts : Facts start (m ∷ ms)
   step_facts = record {
     sound = sound_step;
@@ -396,6 +404,7 @@ start_sound : (rs : List Record) → AreFirst rs → AreSound rs
 start_sound rs (inl e) = subst AreSound (sym e) sound-none
 start_sound rs (inr h) = subst AreSound (sym h.2) (sound-more [] (SetUp h.0) tt sound-none)
 
+-- these facts hold before the first event
 pub start_facts : (start : State) → IsStart start → Facts start []
 start_facts start clean = record {
   sound = start_sound start.records clean.records;

@@ -21,7 +21,7 @@ use Rattle.algebra_laws.specs.Lists.{In}
 
 -- ---- what begins pin
 
-pub in_pin : (p : Pinned) (ps : List Pinned) (f : Pinned) → In f (pin_by machine_pins p ps) → (f ≡ p) ⊎ In f ps
+in_pin : (p : Pinned) (ps : List Pinned) (f : Pinned) → In f (pin_by machine_pins p ps) → (f ≡ p) ⊎ In f ps
 in_pin p [] f (inl e) = inl e
 in_pin p [] f (inr i) = absurd i
 in_pin p (q ∷ qs) f h = elim (cases_Bool (nat_lt p.id q.id)) [
@@ -44,6 +44,7 @@ pub record Stands (w : State) (f : Pinned) : Type 0 where
   pub in_effect : file_in w name ≡ Some file
   pub is : f ≡ pinned_file w file
 
+-- each pin of some files is that of one of them
 pub in_all : (w : State) (fs : List File) (f : Pinned) → In f (pin_all w fs) → (g : File) × In g fs × (f ≡ pinned_file w g)
 in_all w [] f h = absurd h
 in_all w (g ∷ gs) f h = elim (in_pin (pinned_file w g) (pin_all w gs) f h) [
@@ -51,6 +52,7 @@ in_all w (g ∷ gs) f h = elim (in_pin (pinned_file w g) (pin_all w gs) f h) [
   | inr i ↦ (let r = in_all w gs f i in (r.0, inr r.1, r.2))
 ]
 
+-- each pin of all files in effect stands for one in effect
 pub in_effect_all : (w : State) (f : Pinned) → In f (pin_all w (files_of w.records)) → Stands w f
 in_effect_all w f h = (let r = in_all w (files_of w.records) f h in record { name = r.0.name; file = r.0; in_effect = listed_file w.records r.0 r.1; is = r.2 })
 
@@ -59,6 +61,7 @@ in_effect_one w name None f is h = absurd h
 in_effect_one w name (Some g) f is (inl e) = record { name = name; file = g; in_effect = is; is = e }
 in_effect_one w name (Some g) f is (inr i) = absurd i
 
+-- each file that a job begins with is in effect
 pub pinned_stands : (w : State) (kind : Kind) (f : Pinned) → In f (pinned_for w kind) → Stands w f
 pinned_stands w (PutJob name bytes) f h = absurd h
 pinned_stands w (GetJob name) f h = in_effect_one w name (file_in w name) f refl h
@@ -77,6 +80,7 @@ any_pinned (p ∷ ps) id f (inl i) e = elim (cases_Bool (p.id == id)) [
 ]
 any_pinned (p ∷ ps) id f (inr i) e = (let r = any_pinned ps id f i e in elim (cases_Bool (p.id == id)) [ inl t ↦ rw t refl | inr o ↦ rw o r ])
 
+-- where no job passes a test, the job of a number does not
 pub any_job : (test : Job → Bool) (js : List Job) (k : ℕ) (j : Job) → job_of js k ≡ Some j → list_any test js ≡ false → test j ≡ false
 any_job test [] k j h none = (let e : None ≡ Some j = h in cc)
 any_job test (x ∷ js) k j h none = elim (cases_Bool (test x)) [
@@ -93,6 +97,7 @@ pub any_aim : (test : Aim → Bool) (js : List Job) (k : ℕ) (j : Job) → job_
 any_aim test js k j h none =
     any_job (λ (x : Job). test (aim_of x.kind)) js k j h (sym (any-aims test js) ∙ none)
 
+-- no running job works on a file whose number is not pinned
 pub not_pinned : (w : State) (k : ℕ) (j : Job) (f : Pinned) (id : ℕ) → is_pinned w id ≡ false → job_of w.jobs k ≡ Some j → In f j.pinned → f.id ≡ id → ⊥
 not_pinned w k j f id none runs i e = false≢true (sym (any_job (λ (x : Job). list_any (λ (p : Pinned). p.id == id) x.pinned) w.jobs k j runs none) ∙ any_pinned j.pinned id f i e)
 
@@ -120,6 +125,7 @@ Takes job (PutJob n bytes) name = (4 ≤ job.place) × (n ≡ name)
 Takes job (DropJob n) name = n ≡ name
 Takes job kind name = ⊥
 
+-- what a job takes away is the file in effect under its name, and no job works on it
 pub taken : (w : State) (job : Job) (kind : Kind) (o : ℕ) → In o (taken_out w job kind) → (name : List ℕ) × Takes job kind name × Taken w job name o
 taken w job (PutJob n bytes) o h = elim (cases_lt job.place 4) [
   | inl l ↦ absurd (subst (λ x. In o x) (cond_true (is_first_append job) [] (removable w (file_in w n)) (first_below job l)) h)
@@ -133,6 +139,7 @@ taken w job UpgradeJob o h = absurd h
 
 -- ---- begins of audits and repairs
 
+-- an audit or a repair that may begin finds no other one running
 pub check_alone : (limit : ℕ) (w : State) (kind : Kind) (profile : Option ℕ)
     → refusal_of_begin limit w kind profile ≡ None → is_check (aim_of kind) ≡ true
     → (k : ℕ) (j : Job) → job_of w.jobs k ≡ Some j → is_check (aim_of j.kind) ≡ false
@@ -171,6 +178,7 @@ Wrote job (GetJob name) entry = ⊥
 done_proper : (v id size profile : ℕ) (rs : List Record) → IsProper rs (done_record v id size profile)
 done_proper v id size profile rs = by_version v id size profile (IsProper rs) tt tt
 
+-- a put's start is written with the next number, and no append writes what only a packed journal has
 pub writes_proper : (w : State) (job : Job) (kind : Kind) (entry : Record) → Writes w job kind entry → IsProper w.records entry
 writes_proper w job (PutJob name bytes) entry h = elim (cases_Bool (is_first_append job)) [
   | inl t ↦ subst (IsProper w.records) (sym (h ∙ cond_true (is_first_append job) (PutStart (next_id w.records) name) (done_record (version_of w.records) job.subject (length bytes) job.profile) t)) refl

@@ -17,7 +17,7 @@ through g q = record { id = λ f. q.id (g f); profile = λ f. q.profile (g f); s
 abbrev pub mapped : {P Q : Type 0} → (P → Q) → Plan P → Plan Q
 mapped g plan = record { aim = plan.aim; profile = plan.profile; subject = plan.subject; older = plan.older; flagged = plan.flagged; pins = map g plan.pins }
 
-pub plan-mapped : {P Q : Type 0} (g : P → Q) (q : PinsOf Q) (s : Setup) (plan : Plan P) (aim : Aim) → plan_actions q s (mapped g plan) aim ≡ plan_actions (through g q) s plan aim
+plan-mapped : {P Q : Type 0} (g : P → Q) (q : PinsOf Q) (s : Setup) (plan : Plan P) (aim : Aim) → plan_actions q s (mapped g plan) aim ≡ plan_actions (through g q) s plan aim
 plan-mapped g q s plan (ToPut name size) = refl
 plan-mapped g q s plan (ToGet name) = ap (λ l. l ++ End ∷ []) (flat_map-map _ g plan.pins)
 plan-mapped g q s plan (ToDrop name) = refl

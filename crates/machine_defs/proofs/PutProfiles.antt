@@ -80,6 +80,7 @@ none_named limit w name bytes (Some p) h first = absurd (by w.is_barred (is_busy
       ]
     ]
 
+-- the profile of the setup in effect
 pub setup_profile : (w : State) → (setup_in w).profile ≡ profile_in (setup_of w.records)
 unfolding setup_in
 setup_profile w = by (setup_of w.records)
@@ -94,6 +95,7 @@ pub record Ended (rs : List Record) (job : Job) (bytes : List ℕ) (entry : Reco
   pub entry_is : entry ≡ done_record version job.subject (length bytes) job.profile
   pub profiled : (version == 2) ≡ false → job.profile ≡ profile_in (setup_of rs)
 
+-- what holds at each moment: the profiles of the puts that run, and of the ends that they write
 pub record Facts (start : State) (ms : List Moment) : Type 0 where
   pub plain : (k : ℕ) (j : Job) (name bytes : List ℕ) → job_of (now start ms).jobs k ≡ Some j → j.kind ≡ PutJob name bytes → (version_of (now start ms).records == 2) ≡ false → j.profile ≡ profile_in (setup_of (now start ms).records)
   pub ended : (a : Append) (j : Job) (name bytes : List ℕ) → (now start ms).append ≡ Some a → job_of (now start ms).jobs a.job ≡ Some j → j.kind ≡ PutJob name bytes → 4 ≤ j.place → Ended (now start ms).records j bytes a.entry
@@ -167,9 +169,11 @@ module _ (limit : ℕ) (start : State) (m : Moment) (ms : List Moment) (N : num.
         profiled = λ first. profile ∙ (plain first ∙ ap (λ rs. profile_in (setup_of rs)) (sym rec));
       }
 
+  -- these facts hold after one more event
   pub step_facts : Facts start (m ∷ ms)
   step_facts = record { plain = plain_step; ended = ended_step }
 
+-- these facts hold at each moment of a run
 pub facts : (limit : ℕ) (start : State) → IsStart start → (ms : List Moment) → IsRun limit start ms → Facts start ms
 facts limit start clean [] run = record {
   plain = λ k j name bytes h kind first. absurd (found_none start.jobs k j clean.jobs h);

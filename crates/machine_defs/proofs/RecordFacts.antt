@@ -16,6 +16,7 @@ IsProper rs (InEffect id size profile name) = ⊥
 IsProper rs (RepairDue number counts) = ⊥
 IsProper rs r = Unit {0}
 
+-- names that differ are not taken for the same
 pub other_name : (xs ys : List ℕ) → (xs ≡ ys → ⊥) → is_same_name xs ys ≡ false
 other_name xs ys h = elim (cases_Bool (is_same_name xs ys)) [ inl t ↦ absurd (h (same-eq xs ys t)) | inr f ↦ f ]
 
@@ -195,6 +196,7 @@ sound-more rs r proper S = record { file = file_is; one_name = one; started = st
       ]
     ]
 
+-- a journal without a record is sound
 pub sound-none : AreSound []
 sound-none = record {
   file = λ q f h. absurd (let e : None ≡ Some f = h in cc);

@@ -9,6 +9,7 @@ use Rattle.machine_defs.specs.States.{State, Alone}
 use Rattle.machine_defs.specs.Begins.{refusal_of_begin}
 use Rattle.machine_defs.specs.Sights.{sight_of, aims_of, is_busy, are_jobs_in_the_way, is_shut, is_upgrade}
 
+-- a begin that is not refused finds nothing in its way
 pub not_busy : (limit : ℕ) (w : State) (kind : Kind) (profile : Option ℕ) → refusal_of_begin limit w kind profile ≡ None → is_busy limit (sight_of w) (aim_of kind) ≡ false
 not_busy limit w kind profile h = elim (cases_Bool w.is_barred) [
   | inl t ↦ absurd (let e = rw t at h in let f : Some refusal.MustReopen ≡ None = e in cc)
@@ -18,14 +19,17 @@ not_busy limit w kind profile h = elim (cases_Bool w.is_barred) [
   ]
 ]
 
+-- where neither of two tests holds, the second does not
 pub right_false : (a b : Bool) → (a || b) ≡ false → b ≡ false
 right_false true b h = absurd (false≢true (sym h))
 right_false false b h = h
 
+-- where neither of two tests holds, the first does not
 pub left_false : (a b : Bool) → (a || b) ≡ false → a ≡ false
 left_false true b h = absurd (false≢true (sym h))
 left_false false b h = refl
 
+-- nothing runs alone where no such thing is there
 pub none-is : (o : Option Alone) → is_some o ≡ false → o ≡ None
 none-is None h = refl
 none-is (Some x) h = absurd (false≢true (sym h))

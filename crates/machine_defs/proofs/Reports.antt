@@ -332,6 +332,7 @@ module _ (limit : ℕ) (start : State) (clean : IsStart start) where
         ∙ (ap (λ l. given_to job.number (heard_by (Some job)) ++ l) ((fresh ms run.2).running job.number job e.runs)
         ∙ append-nil (given_to job.number (heard_by (Some job)))))))
 
+    -- a job that has ended is over, and a report keeps what it heard, until a later call of the program
     pub stays : (later : List Moment) (m : Moment) (ms : List Moment) → Run (later ++ m ∷ ms) → EndsJob start m ms job → NoneContinues later →
         Over (later ++ m ∷ ms) job.number × (given_to job.number (heard_in start (later ++ m ∷ ms)) ≡ given_to job.number (heard_by (Some job)))
     stays [] m ms run e none = (over_at m ms run e, value_at m ms run e)

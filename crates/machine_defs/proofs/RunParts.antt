@@ -51,6 +51,7 @@ maker_at w = of w.doubt
 abbrev pub synced : State → ℕ → State
 synced w number = moved (going_on w (advanced (job_at w number))) (append_at w)
 
+-- an append has made its third move, and its record is in doubt
 abbrev pub gated : State → ℕ → State
 gated w number = doubted (moved (going_on w (advanced (job_at w number))) (append_at w)) (append_at w) (job_at w number)
 
@@ -76,7 +77,7 @@ store_call w job j stripe = (
 )
 
 -- a disk call that fails in no way
-pub disk_call : (w : State) → DiskCall w w w
+disk_call : (w : State) → DiskCall w w w
 disk_call w = (w.disk_faults, omega arith, refl)
 
 -- an answer that ends a job is not `more`
@@ -84,6 +85,7 @@ abbrev pub is_ended : Outcome → Type 0
 is_ended (Ended how) = Unit {0}
 is_ended outcome = ⊥
 
+-- so an outcome that ends a job is never `more`
 pub not_more : (how : Answer) → Ended how ≢ More
 not_more how e = subst is_ended e tt
 
@@ -95,5 +97,6 @@ stepped number w = record { event = Step number; outcome = More; state = w }
 pub fits : 1 < 2 ^ 32
 fits = omega arith
 
+-- two fits 32 bits
 pub fits_two : 2 < 2 ^ 32
 fits_two = omega arith

@@ -7,11 +7,13 @@ use Rattle.machine_defs.specs.Jobs.{Aim, aim_of, Job}
 use Rattle.machine_defs.specs.States.{State, file_in}
 use Rattle.machine_defs.specs.Sights.{aims_of, sight_of, is_stored}
 
+-- a test of the aims of running jobs is one of the jobs
 pub any-aims : (test : Aim → Bool) (js : List Job)
     → list_any test (aims_of js) ≡ list_any (λ (j : Job). test (aim_of j.kind)) js
 any-aims test [] = refl
 any-aims test (j ∷ js) = ap (λ b. test (aim_of j.kind) || b) (any-aims test js)
 
+-- there is one aim for each running job
 pub length-aims : (js : List Job) → length (aims_of js) ≡ length js
 length-aims [] = refl
 length-aims (j ∷ js) = ap suc (length-aims js)

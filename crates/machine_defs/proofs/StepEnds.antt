@@ -92,7 +92,7 @@ module _ (old : State) (job : Job) (new : State) where
     open_end true runs h = absurd h
     open_end false runs h = one_end old.alone runs h
 
-    pub step_end : (is_open : Bool) → job_of old.jobs job.number ≡ Some job → Steps old job.number is_open (Ended how) new → IsItsEnd old job how
+    step_end : (is_open : Bool) → job_of old.jobs job.number ≡ Some job → Steps old job.number is_open (Ended how) new → IsItsEnd old job how
     step_end true runs h = open_end old.is_barred runs h
     step_end false runs h = absurd h
 

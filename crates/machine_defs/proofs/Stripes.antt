@@ -13,6 +13,7 @@ use Rattle.record_defs.specs.Records.{Setup}
 use Rattle.machine_defs.specs.Actions.{Action, WriteBody, SyncBody, WriteGate, SyncGate, Store, Fetch, Ask, Work, Remove, End, on_each_provider, open_actions}
 use Rattle.machine_defs.proofs.ActionLists.{split_get}
 
+-- what stands in the first of two lists stands there in both together
 pub get_left : {X : Type 0} (xs ys : List X) (k : ℕ) (x : X) → slice_get xs k ≡ Some x → slice_get (xs ++ ys) k ≡ Some x
 get_left [] ys k x h = (let e : None ≡ Some x = h in cc)
 get_left (z ∷ xs) ys zero x h = h
@@ -23,6 +24,7 @@ single w x zero h = (refl, (let e : Some w ≡ Some x = h in let f : w ≡ x = c
 single w x (suc k) h = (let e : None ≡ Some x = h in cc)
 
 module _ (s : Setup) (id : ℕ) where
+  -- the fetches from each provider and the work, of each of these stripes
   abbrev pub flat : List ℕ → List Action
   flat stripes = flat_map (open_actions s id) stripes
 
@@ -45,6 +47,7 @@ module _ (s : Setup) (id : ℕ) where
   lower low (Ask i o t) h = h
   lower low (Remove i o) h = h
 
+  -- all of these are of this object and on these stripes
   pub from : (n a : ℕ) → Each (From a) (flat (range_with_len a n))
   from zero a = tt
   from (suc n) a = each_append (From a) (open_actions s id a) (flat (range_with_len (a + 1) n))
@@ -131,6 +134,7 @@ module _ (s : Setup) (id : ℕ) where
     | inr p ↦ inr (sym (single End x _ p.1).1, (let l = p.0 in let e = length-append (flat stripes) [] in omega arith))
   ]
 
+  -- what is to be done on the stripes is an action of the get, at the same place
   pub from_flat : (stripes : List ℕ) (q : ℕ) (x : Action) → slice_get (flat stripes) q ≡ Some x → slice_get ((flat stripes ++ []) ++ End ∷ []) q ≡ Some x
   from_flat stripes q x h = get_left (flat stripes ++ []) (End ∷ []) q x (get_left (flat stripes) [] q x h)
 

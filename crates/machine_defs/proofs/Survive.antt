@@ -121,6 +121,7 @@ module _ (limit : ℕ) (start : State) (m : Moment) (ms : List Moment) (G : IsGa
         | Doubt_is.set_up s entry ↦ ap (λ (r : Record). file_of (r ∷ m.state.records) name) entry ∙ at
       ]
 
+-- a file that came in stays at every later moment until a record that takes it out is in doubt
 pub survives : Survives
 survives limit start [] ms m name file clean run c never =
     comes limit start m ms (gated limit start clean ms run.2) (changes limit (length ms) (now start ms) m.event m.outcome m.state (num.facts objects limit start clean ms run.2).idle run.1) name file c

@@ -83,14 +83,18 @@ asked_uses start (m ∷ ms) begun number object round (inl u) = inl (ask_uses (n
 asked_uses start (m ∷ ms) begun number object round (inr h) = inr (asked_uses start ms begun number object round h)
 
 module _ (limit : ℕ) (start : State) (ms : List Moment) (clean : IsStart start) (run : IsRun limit start ms) where
+  -- under one object number only one put stores
   pub stored_once : (b c o : ℕ) → HasStored start ms b o → HasStored start ms c o → b ≡ c
   stored_once b c o g h = (facts objects limit start clean ms run).used_once b c o (stored_uses start ms b o g) (stored_uses start ms c o h)
 
+  -- under one audit number only one audit asks
   pub asked_once : (b c n o p r s : ℕ) → HasAsked start ms b n o r → HasAsked start ms c n p s → b ≡ c
   asked_once b c n o p r s g h = (facts audits limit start clean ms run).used_once b c n (asked_uses start ms b n o r g) (asked_uses start ms c n p s h)
 
+  -- what was stored under is below the next object number
   pub stored_below : (b o : ℕ) → HasStored start ms b o → o < next_id (now start ms).records
   stored_below b o h = (facts objects limit start clean ms run).used_below b o (stored_uses start ms b o h)
 
+  -- what was asked under is below the next audit number
   pub asked_below : (b n o r : ℕ) → HasAsked start ms b n o r → n < next_audit (now start ms).records
   asked_below b n o r h = (facts audits limit start clean ms run).used_below b n (asked_uses start ms b n o r h)

@@ -28,6 +28,7 @@ done_appended version id size profile = by (version == 2)
     by true = tt
     by false = tt
 
+-- each record that a job writes is such a record
 pub writes_appended : (w : State) (job : Job) (kind : Kind) (entry : Record) → Writes w job kind entry → IsAppended entry
 writes_appended w job (PutJob name bytes) entry h = subst IsAppended (sym h) (by (is_first_append job))
   where
@@ -43,6 +44,7 @@ writes_appended w job AuditJob entry h = elim (cases_Bool (is_first_append job))
 writes_appended w job RepairJob entry h = subst IsAppended (sym h) tt
 writes_appended w job UpgradeJob entry h = subst IsAppended (sym h) tt
 
+-- after an event, what is in flight or in doubt still is such a record
 pub written_on : (limit moment : ℕ) (old : State) (e : Event) (r : Outcome) (new : State) → Changes limit moment old e r new → IsWritten old → IsWritten new
 written_on limit moment old e r new X W = (
   λ a h. elim (X.append a h) [

@@ -150,6 +150,7 @@ stops-once bytes rs older at other accepted before (inl (E, e)) (inr (inr F)) =
 stops-once bytes rs older at other accepted before (inr (inl (B, b))) (inr (inr F)) =
     absurd (refused-none bytes B.records (1 ∷ B.rest) older other B.in_grammar (subst AreAccepted (sym b) accepted) (gap-none B.rest B.none) B.bytes_are F)
 
+-- a start stops at one place at most
 pub bad-once : (bytes : List ℕ) (at other : ℕ) → IsBadStart bytes at → IsBadStart bytes other → at ≡ other
 bad-once bytes at other (inl a) (inl b) = a.1 ∙ sym b.1
 bad-once bytes at other (inl a) (inr (rs, accepted, stops)) = absurd (a.0 (stops-begins bytes rs other stops))
@@ -166,13 +167,16 @@ bad-none bytes at rs accepted S (inr (older, before, inr (inr F))) =
 
 -- ---- what a disk reads that tells
 
+-- a disk that tells its bytes reads at most one list of records
 pub read-once : (cells : Cells) (a b : List Record) → IsRead (Some cells) a → IsRead (Some cells) b → a ≡ b
 read-once cells a b A B = one_meaning (journal_read cells) a b A.reads_are.1 B.reads_are.1
 
+-- a disk that reads records has a setup
 pub read-set_up : (cells : Cells) (rs : List Record) → IsRead (Some cells) rs → HasNoSetup (journal_read cells) → ⊥
 read-set_up cells rs R (inl short) = (let long = R.reads_are.0 in let size = length-take largest_journal (reads cells) in omega (arith, long, size, short))
 read-set_up cells rs R (inr none) = R.some (one_meaning (journal_read cells) rs [] R.reads_are.1 none)
 
+-- a disk that reads records has no bad place
 pub read-good : (cells : Cells) (at : ℕ) (rs : List Record) → IsRead (Some cells) rs → IsBadStart (journal_read cells) at → ⊥
 read-good cells at rs R bad = bad-none (journal_read cells) at rs R.accepted R.reads_are.1 bad
 

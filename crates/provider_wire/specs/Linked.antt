@@ -58,12 +58,15 @@ seen_behind (Some b) stores others fetches = provider_behind b
 abbrev pub held_over : Option Behind → Option Held
 held_over behind = (seen_behind behind 0 0 0).held
 
+-- its count of failed stores: that behind the link where it tells, or else this one
 abbrev pub store_faults_over : Option Behind → ℕ → ℕ
 store_faults_over behind stores = (seen_behind behind stores 0 0).store_faults
 
+-- its count of other failed calls, in the same way
 abbrev pub other_faults_over : Option Behind → ℕ → ℕ
 other_faults_over behind others = (seen_behind behind 0 others 0).other_faults
 
+-- its count of fetches, in the same way
 abbrev pub fetches_over : Option Behind → ℕ → ℕ
 fetches_over behind fetches = (seen_behind behind 0 0 fetches).fetches
 

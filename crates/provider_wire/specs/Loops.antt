@@ -12,7 +12,13 @@ use Rattle.provider_wire.specs.declared.loop_link.LoopLink.{LoopLink}
 abbrev pub behind_loop : {X : Type 0} → (X → Option Held) → (X → ℕ) → (X → ℕ) → (X → ℕ) → LoopLink X
     → Option Behind
 behind_loop held stores others fetches link =
-    option_map (λ blocks. record { held = blocks; store_faults = stores link.provider; other_faults = others link.provider; fetches = fetches link.provider; due = drop link.given link.due }) (held link.provider)
+    option_map (λ blocks. record {
+      held = blocks;
+      store_faults = stores link.provider;
+      other_faults = others link.provider;
+      fetches = fetches link.provider;
+      due = drop link.given link.due;
+    }) (held link.provider)
 
 -- a provider that holds this, with nothing due
 abbrev pub idle : ℕ → ℕ → ℕ → Held → Behind

@@ -23,7 +23,8 @@ kept name = record { bytes = name ++ replicate (64 - length name) 0; len = lengt
 -- a name that is kept gives its parts back
 pub kept-bytes_of : (a : Inside) → IsNameKept a → kept (bytes_of a) ≡ a
 kept-bytes_of a is =
-    let len : length (take a.len a.bytes) ≡ a.len = length-take-le a.len a.bytes (subst (λ (n : ℕ). a.len ≤ n) (sym is.room) is.within) in
+    let len : length (take a.len a.bytes) ≡ a.len =
+    length-take-le a.len a.bytes (subst (λ (n : ℕ). a.len ≤ n) (sym is.room) is.within) in
     let all : take a.len a.bytes ++ replicate (64 - length (take a.len a.bytes)) 0 ≡ a.bytes =
     ap (λ (k : ℕ). take a.len a.bytes ++ replicate (64 - k) 0) len ∙ ap
     (λ (l : List ℕ). take a.len a.bytes ++ l) (sym is.zeros) ∙ take-append-drop a.len a.bytes in

@@ -33,7 +33,16 @@ keyed_at s rest =
 -- a setup with its master key
 unfoldable pub setup_at : List ℕ → Option (Record × List ℕ)
 setup_at (n ∷ l ∷ b ∷ profile ∷ rounds ∷ picks ∷ low ∷ high ∷ rest) =
-    keyed_at (record { n = n; l = l; b = b; profile = profile; rounds = rounds; picks = picks; tolerance = from_le_bytes w16 (low ∷ high ∷ []); master = [] }) rest
+    keyed_at (record {
+      n = n;
+      l = l;
+      b = b;
+      profile = profile;
+      rounds = rounds;
+      picks = picks;
+      tolerance = from_le_bytes w16 (low ∷ high ∷ []);
+      master = [];
+    }) rest
 setup_at bytes = None
 
 -- the start of a put: its object number and its name

@@ -9,11 +9,12 @@ use Rattle.record_defs.specs.Journal.{magic, before_gate, text_size, StandsFor}
 use Rattle.record_defs.specs.Areas.{Area, A, B, other_area, base_of, magic_front, area_of, entries, entries_size, end_in, HoldsIn, StandsActive}
 use Rattle.record_defs.proofs.Sizes.{length-spelling}
 
+-- what stands before the closing gate is the magic and then the entries
 pub before_gate-entries : (rs : List Record) → before_gate rs ≡ magic ++ entries rs
 before_gate-entries [] = refl
 before_gate-entries (r ∷ rs) = ap (λ l. l ++ 1 ∷ spelling r) (before_gate-entries rs) ∙ append_assoc magic (entries rs) (1 ∷ spelling r)
 
-pub length-entries : (rs : List Record) → IsTrue (list_all is_in_grammar rs) → length (entries rs) ≡ entries_size rs
+length-entries : (rs : List Record) → IsTrue (list_all is_in_grammar rs) → length (entries rs) ≡ entries_size rs
 length-entries [] p = refl
 length-entries (r ∷ rs) p =
     let first : IsTrue (is_in_grammar r) = grind (arith, p) in

@@ -23,13 +23,13 @@ find-without [] n m = grind (arith)
 find-without (f ∷ fs) n m = grind (arith, find-without fs n m, same-eq f.name n, same-eq f.name m, same-refl m, same-eq n m, same-refl f.name)
 
 -- finding a name after a file was put in whose name was not there
-pub find-with : (fs : List File) (f : File) (m : List ℕ) → find_file fs f.name ≡ None →
+find-with : (fs : List File) (f : File) (m : List ℕ) → find_file fs f.name ≡ None →
     find_file (with_file fs f) m ≡ (if is_same_name f.name m then Some f else find_file fs m)
 find-with [] f m none = refl
 find-with (g ∷ fs) f m none = grind (arith, find-with fs f m, none, same-eq g.name m, same-eq f.name m, same-refl m, same-refl f.name, same-eq g.name f.name)
 
 -- finding a name after a put came in
-pub find-put : (fs : List File) (started : Option (List ℕ)) (id size profile : ℕ) (m : List ℕ) →
+find-put : (fs : List File) (started : Option (List ℕ)) (id size profile : ℕ) (m : List ℕ) →
     find_file (with_put fs started id size profile) m
     ≡ (if is_start_of m started then Some (file_as m id size profile) else find_file fs m)
 find-put fs None id size profile m = refl

@@ -20,6 +20,7 @@ fits-le number p = grind (arith, nat_tests, p)
 abbrev pub are_before : List File → List ℕ → Bool
 are_before gs name = list_all (λ g. is_name_before g.name name) gs
 
+-- a name that comes before another is not equal to it
 pub before-not_same : (a b : List ℕ) → is_name_before a b ≡ true → is_same_name a b ≡ false
 before-not_same [] [] p = absurd cc
 before-not_same [] (y ∷ b) p = refl

@@ -46,7 +46,7 @@ next_id-more rs (Resume next audit) S a = grind (arith, nat_tests, a, S.ids)
 next_id-more rs (InEffect k size profile name) S a = omega arith
 next_id-more rs (RepairDue number counts) S a = omega arith
 
-pub next_audit-more : (rs : List Record) (r : Record) → AreSound rs → refused rs r ≡ None → next_audit rs ≤ next_audit (r ∷ rs)
+next_audit-more : (rs : List Record) (r : Record) → AreSound rs → refused rs r ≡ None → next_audit rs ≤ next_audit (r ∷ rs)
 next_audit-more rs (SetUp s) S a = omega arith
 next_audit-more rs (PutStart k name) S a = omega arith
 next_audit-more rs (PutDone k size) S a = omega arith
@@ -79,7 +79,7 @@ pub data Came_from (rs : List Record) (r : Record) (q : List ℕ) (f : File) : T
 id_of : (a b : File) → Some a ≡ Some b → a.id ≡ b.id
 id_of a b e = cc
 
-pub came_from : (rs : List Record) (r : Record) (q : List ℕ) (f : File) → refused rs r ≡ None → file_of (r ∷ rs) q ≡ Some f → Came_from rs r q f
+came_from : (rs : List Record) (r : Record) (q : List ℕ) (f : File) → refused rs r ≡ None → file_of (r ∷ rs) q ≡ Some f → Came_from rs r q f
 came_from rs (SetUp s) q f a h = Came_from.before h
 came_from rs (PutStart k name) q f a h = Came_from.before h
 came_from rs (PutDone k size) q f a h = put_came (cases_Bool (is_start_of q (started_as rs k)))
@@ -118,7 +118,7 @@ came_from rs (InEffect k size profile name) q f a h = kept_came (cases_Bool (is_
 came_from rs (RepairDue number counts) q f a h = Came_from.before h
 
 -- a number below the next one that is not started stays so
-pub unstarted-more : (rs : List Record) (r : Record) (id : ℕ) → refused rs r ≡ None → id < next_id rs → started_as rs id ≡ None → started_as (r ∷ rs) id ≡ None
+unstarted-more : (rs : List Record) (r : Record) (id : ℕ) → refused rs r ≡ None → id < next_id rs → started_as rs id ≡ None → started_as (r ∷ rs) id ≡ None
 unstarted-more rs (SetUp s) id a l h = h
 unstarted-more rs (PutStart k name) id a l h = grind (arith, nat_tests, a, l, h)
 unstarted-more rs (PutDone k size) id a l h = grind (arith, nat_tests, a, l, h)
@@ -259,6 +259,7 @@ sound-more rs r a S = record {
     one q p f g (Came_from.packed named free above below un) (Came_from.put st gone) same = absurd (none_some p (started_as rs g.id) (ap (started_as rs) (sym same) ∙ un) st)
     one q p f g (Came_from.packed named free above below un) (Came_from.packed named2 free2 above2 below2 un2) same = same_some q p (kept_name r) named named2
 
+-- a journal without a record is sound
 pub sound-none : AreSound []
 sound-none = record {
   ids = omega arith;

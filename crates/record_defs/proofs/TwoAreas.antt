@@ -27,12 +27,15 @@ text-is = ap (λ (l : List ℕ). l ++ 0 ∷ []) (before_gate-entries four_set_up
 text-size : length (text four_set_up) ≡ 51
 text-size = length-text four_set_up refl
 
+-- the text of the store that was set up stands for its one record
 pub first-stands : StandsFor (text four_set_up) four_set_up
 first-stands = record { in_grammar = refl; gate = 0; rest = []; closed = open-not; bytes_are = refl }
 
+-- area A of that text holds the record
 pub first-holds : HoldsIn (text four_set_up) A four_set_up
 first-holds = record { in_grammar = refl; gate = 0; rest = []; closed = open-not; bytes_are = refl }
 
+-- with a filling behind it, area A still holds that record
 pub filled-first : (filling : List ℕ) → HoldsIn (two_areas filling) A four_set_up
 filled-first filling = record {
   in_grammar = refl;
@@ -42,6 +45,7 @@ filled-first filling = record {
   bytes_are = ap (λ (l : List ℕ). drop 8 (l ++ (filling ++ 0 ∷ []))) text-is ∙ append_assoc (entries four_set_up) (0 ∷ []) (filling ++ 0 ∷ []);
 }
 
+-- where the filling ends at the middle of the disk, area B holds the text of no record
 pub filled-other : (filling : List ℕ) → length filling ≡ 2 ^ 23 - 51 → HoldsIn (two_areas filling) B []
 filled-other filling l = record {
   in_grammar = refl;

@@ -18,6 +18,7 @@ abbrev pub FailsToRead : {Y : Type 0} → LineFault → Option Y → Type 0
 FailsToRead faults.Memory read = Unit {0}
 FailsToRead faults.Bad read = read ≡ None
 
+-- what a reader answers is what was read, seen in this way, or why there is none
 abbrev pub Gives : {X Y : Type 0} → (X → Y) → Result X LineFault → Option Y → Type 0
 Gives view (Ok x) read = read ≡ Some (view x)
 Gives view (Err fault) read = FailsToRead fault read
@@ -97,25 +98,41 @@ setup_words_at ws = do
   rounds ← number_word_at 8 profile.1
   picks ← number_word_at 8 rounds.1
   tolerance ← number_word_at 16 picks.1
-  Some (record { n = n.0; l = l.0; b = b.0; profile = profile.0; rounds = rounds.0; picks = picks.0; tolerance = tolerance.0; master = [] }, tolerance.1)
+  Some (
+    record {
+      n = n.0;
+      l = l.0;
+      b = b.0;
+      profile = profile.0;
+      rounds = rounds.0;
+      picks = picks.0;
+      tolerance = tolerance.0;
+      master = [];
+    },
+    tolerance.1,
+  )
 
+-- the words behind `init`: a setup and its key
 unfoldable pub init_at : List Word → Option Instruction
 init_at ws = do
   setup ← setup_words_at ws
   key ← key_at setup.1
   only_command (Once (Init (record setup.0 { master = key.0 }))) key.1
 
+-- the words behind `put`: a name and the bytes of a file
 unfoldable pub put_at : List Word → Option Instruction
 put_at ws = do
   name ← word_at ws
   bytes ← bytes_at name.1
   only_command (Once (Begin (PutJob name.0 bytes.0))) bytes.1
 
+-- the words behind `get`: a name
 unfoldable pub get_at : List Word → Option Instruction
 get_at ws = do
   name ← word_at ws
   only_command (Once (Begin (GetJob name.0))) name.1
 
+-- the words behind `drop`: a name
 unfoldable pub drop_words_at : List Word → Option Instruction
 drop_words_at ws = do
   name ← word_at ws
@@ -131,21 +148,25 @@ begun_at kind ws =
     else if bytes_eq kind (codes "repair") then only_command (Once (Begin RepairJob)) ws
     else None
 
+-- the words behind `begin`: what is begun, and its words
 unfoldable pub begin_at : List Word → Option Instruction
 begin_at ws = do
   kind ← word_at ws
   begun_at kind.0 kind.1
 
+-- the words behind `step`: the number of a job
 unfoldable pub step_at : List Word → Option Instruction
 step_at ws = do
   job ← number_word_at 32 ws
   only_command (Once (Step job.0)) job.1
 
+-- the words behind `run`: the number of a job
 unfoldable pub run_at : List Word → Option Instruction
 run_at ws = do
   job ← number_word_at 32 ws
   only_command (RunJob job.0) job.1
 
+-- the words behind `alter`: where a symbol is replaced, and by which
 unfoldable pub alter_at : List Word → Option Instruction
 alter_at ws = do
   provider ← number_word_at 32 ws
@@ -155,6 +176,7 @@ alter_at ws = do
   symbol ← numeral_at place.1
   only_command (Once (Alter provider.0 object.0 stripe.0 place.0 symbol.0)) symbol.1
 
+-- the words behind `lose`: which block is lost
 unfoldable pub lose_at : List Word → Option Instruction
 lose_at ws = do
   provider ← number_word_at 32 ws
@@ -162,6 +184,7 @@ lose_at ws = do
   stripe ← number_word_at 32 object.1
   only_command (Once (Lose provider.0 object.0 stripe.0)) stripe.1
 
+-- the words behind `stop`: the bytes that are picked
 unfoldable pub stop_at : List Word → Option Instruction
 stop_at ws = do
   picks ← bytes_at ws

@@ -6,8 +6,8 @@
 --   IsFlaggedBy w counts j id stripe   == the counts flag provider j
 --   Remains w job j id stripe     == a repair that flags provider j has still to make its store of this block
 --   Never j id stripe             == nothing is exempt
---   IsEndOfPut rs entry id size profile  == over these records, a record ends the put of a file of this number,
---                                    length and profile
+--   IsEndOfPut rs entry id size profile  == over these records, a record ends the put of a file of this
+--                                    number, length and profile
 --   PrecedesPuts start ms from    == a moment not after now: no put that runs, or whose record is in doubt,
 --                                    began before it
 --   IsClear start ms from IsExempt  == each provider with a bad block of a file in effect was replaced

@@ -223,9 +223,11 @@ module _ (limit : ℕ) (old : State) (S : IsSound limit old) where
       (λ p e. packing allowed p (same_value (Some x) x (Packing p) refl e))))
   begins more x r new packing h = absurd h
 
+  -- a begin of a scrub, refused or not, leaves a sound state
   pub scrub-begins : (moment : ℕ) (r : Outcome) (new : State) → BeginsScrub moment old r new → IsSound limit new
   scrub-begins moment r new h = begins [] (Scrubbing (new_scrub old moment)) r new (λ a p e. absurd (let f : Some (Scrubbing (new_scrub old moment)) ≡ Some (Packing p) = ap Some e in cc)) h
 
+  -- a begin of a pack, refused or not, leaves a sound state
   pub pack-begins : (r : Outcome) (new : State) → BeginsPack old r new → IsSound limit new
   pack-begins r new h = begins (causes_pack old) (Packing (new_pack old)) r new (λ a p e. second (none-applies (causes_alone old (causes_pack old)) a).1.1.0) h
     where

@@ -37,6 +37,7 @@ use Rattle.state_laws.proofs.Pinning.{pins-ascend, pins-few, pins-stored, pins-p
 
 -- ---- no cause of a refusal applies
 
+-- where nothing is refused, none of the causes applies
 pub none-applies : (cs : List Cause) → first_refusal cs ≡ None → Each (λ (c : Cause). c.applies ≡ false) cs
 none-applies [] h = tt
 none-applies (c ∷ cs) h = elim (cases_Bool c.applies) [
@@ -149,6 +150,7 @@ module _ (limit : ℕ) (old : State) (kind : Kind) (wish : Option ℕ) (allowed 
       none None h = refl
       none (Some d) h = absurd (false≢true (sym h))
 
+  -- a repair begins only where one is due
   pub begun-repair : kind ≡ RepairJob → is_some (due_of old.records) ≡ true
   begun-repair e = not-false (is_some (due_of old.records)) (none-of RepairJob e).1.1.0
 
@@ -391,6 +393,7 @@ module _ (limit moment : ℕ) (old : State) (S : IsSound limit old) (kind : Kind
   no-puts RepairJob l = l
   no-puts UpgradeJob l = l
 
+  -- a sound state stays sound when a job begins
   pub begun-job : IsLimit limit → IsSound limit begun_state
   unfolding setup_in
   begun-job fits = record {

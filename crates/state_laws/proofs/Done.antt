@@ -238,12 +238,15 @@ taken-older w job UpgradeJob h = inl refl
 
 module _ (limit : ℕ) (old : State) (S : IsSound limit old) (job : Job) (runs : job_of old.jobs job.number ≡ Some job) (next : next_action old job ≡ Some SyncGate)
     (a : Append) (flight : old.append ≡ Some a) (own : a.job ≡ job.number) (three : a.moves ≡ 3) where
+  -- the setup in effect
   abbrev pub s : Setup
   s = setup_in old
 
+  -- the object that the job takes away from now on, if there is one
   abbrev pub older_now : List ℕ
   older_now = taken_out old job job.kind
 
+  -- the job after its fourth move
   abbrev pub after : Job
   after = decided job older_now
 
@@ -259,6 +262,7 @@ module _ (limit : ℕ) (old : State) (S : IsSound limit old) (job : Job) (runs :
   is_job : (S.append a flight).job ≡ job
   is_job = same_value (job_of old.jobs job.number) (S.append a flight).job job (subst (λ n. job_of old.jobs n ≡ Some (S.append a flight).job) own (S.append a flight).runs) runs
 
+  -- the record in flight is the one that the job writes
   pub done-writes : Writes old job job.kind a.entry
   done-writes = subst (λ (x : Job). Writes old x x.kind a.entry) is_job (S.append a flight).writes
 
@@ -271,15 +275,17 @@ module _ (limit : ℕ) (old : State) (S : IsSound limit old) (job : Job) (runs :
   accepted : AreAccepted rs_now
   accepted = ((S.append a flight).follows.accepted, S.accepted)
 
+  -- three moves of the job's append are made, and the rest is in order
   pub gate-order : IsInOrder 3 (actions_left s job)
   gate-order = subst (λ m. IsInOrder m (actions_left s job)) (ap (λ f. moves_made f job.number) flight ∙ (mine a job.number own ∙ three)) (S.jobs job.number job runs).order
 
-  pub older-is : (kind : Kind) → job.kind ≡ kind → older_now ≡ taken_out old job kind
+  older-is : (kind : Kind) → job.kind ≡ kind → older_now ≡ taken_out old job kind
   older-is kind e = ap (taken_out old job) e
 
-  pub first-older : (name bytes : List ℕ) → job.kind ≡ PutJob name bytes → job.place < 4 → older_now ≡ []
+  first-older : (name bytes : List ℕ) → job.kind ≡ PutJob name bytes → job.place < 4 → older_now ≡ []
   first-older name bytes kind l = older-is (PutJob name bytes) kind ∙ cond_true (is_first_append job) [] (removable old (file_in old name)) (first_below job l)
 
+  -- what the job has left goes on in order, with one append less
   pub goes : GoesOn old job older_now next gate-order
   goes = by_kind job.kind refl done-writes
     where
@@ -295,6 +301,7 @@ module _ (limit : ℕ) (old : State) (S : IsSound limit old) (job : Job) (runs :
       by_kind RepairJob kind h = repair-gate old job older_now next gate-order kind
       by_kind UpgradeJob kind h = upgrade-gate old job older_now next gate-order kind
 
+  -- the job has one append less to finish
   pub one-less : appends_left s job ≡ 1 + appends_left s after
   one-less = goes.1
 
@@ -533,6 +540,7 @@ module _ (limit : ℕ) (old : State) (S : IsSound limit old) (job : Job) (runs :
         | inr e ↦ absurd (let b = under-below l j r u in omega (arith, b, e, same))
       ]
 
+  -- the state is sound when the record has come into effect
   pub done-sound : IsSound limit new
   done-sound = record {
     accepted = accepted;

@@ -25,7 +25,7 @@ or-left true b c f h = ap (λ x. x || b) (f refl)
 or-left false b true f h = refl
 or-left false b false f h = h
 
-pub put-without : (n : List ℕ) (js : List Job) (m : ℕ) → are_put n (without_job js m) ≡ true → are_put n js ≡ true
+put-without : (n : List ℕ) (js : List Job) (m : ℕ) → are_put n (without_job js m) ≡ true → are_put n js ≡ true
 put-without n [] m h = h
 put-without n (x ∷ js) m h = elim (cases_Bool (x.number == m)) [
   | inl t ↦ later (puts_name n (aim_of x.kind)) (put-without n js m (ap (are_put n) (sym (cond_true (x.number == m) (without_job js m) (x ∷ without_job js m) t)) ∙ h))
@@ -41,7 +41,7 @@ abbrev pub left_by : State → Job → Option Append → Option Doubt → Bool �
 left_by old job flight doubt barred = record (ended old job) { append = flight; doubt = doubt; is_barred = barred }
 
 module _ (limit : ℕ) (old : State) (S : IsSound limit old) (job : Job) (runs : job_of old.jobs job.number ≡ Some job) where
-  pub ended-sound : (flight : Option Append) (doubt : Option Doubt) (barred : Bool) →
+  ended-sound : (flight : Option Append) (doubt : Option Doubt) (barred : Bool) →
       ((k : ℕ) → (k ≡ job.number → ⊥) → moves_made flight k ≡ moves_made old.append k) →
       ((a : Append) → flight ≡ Some a → IsSoundAppend old a × (a.job ≡ job.number → ⊥)) →
       (barred ≡ true → flight ≡ None) →

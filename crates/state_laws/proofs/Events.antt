@@ -234,6 +234,7 @@ module _ (limit moment : ℕ) (old : State) (S : IsSound limit old) where
   lists true r new h = absurd h
   lists false r new h = absurd h
 
+  -- whatever event happens, a sound state stays sound
   pub events-sound : IsLimit limit → (event : Event) (outcome : Outcome) (new : State) → IsSpelled event → Happens limit moment old event outcome new → IsSound limit new
   events-sound fits (Init s) r new spelled h = inits-sound limit old S s old.is_open r new refl spelled.7 h
   events-sound fits (Begin kind) r new spelled h = begins kind None (λ p e. absurd (let f : None ≡ Some p = e in cc)) fits r new spelled h

@@ -19,6 +19,7 @@ use Rattle.state_laws.proofs.Orders.{IsOther, others-removals, put_rest, drop_re
 abbrev pub decided : Job → List ℕ → Job
 decided job older = record (advanced job) { older = older }
 
+-- a drop makes an append and then its removals
 pub drop-list : (s : Setup) (job : Job) (name : List ℕ) → job.kind ≡ DropJob name → actions_of s job ≡ append_actions ++ drop_rest s job
 unfolding actions_of
 drop-list s job name kind = ap (actions_by s job) kind
@@ -28,10 +29,12 @@ pub audit-same : (s : Setup) (job : Job) (older : List ℕ) → job.kind ≡ Aud
 unfolding actions_of
 audit-same s job older kind = ap (actions_by s (decided job older)) kind ∙ ap (actions_by s job) (sym kind)
 
+-- an upgrade has the same actions, whatever it takes away
 pub upgrade-same : (s : Setup) (job : Job) (older : List ℕ) → job.kind ≡ UpgradeJob → actions_of s (decided job older) ≡ actions_of s job
 unfolding actions_of
 upgrade-same s job older kind = ap (actions_by s (decided job older)) kind ∙ ap (actions_by s job) (sym kind)
 
+-- a repair has the same actions, whatever it takes away
 pub repair-same : (s : Setup) (job : Job) (older : List ℕ) → job.kind ≡ RepairJob → actions_of s (decided job older) ≡ actions_of s job
 unfolding actions_of
 repair-same s job older kind = ap (actions_by s (decided job older)) kind ∙ ap (actions_by s job) (sym kind)
@@ -101,9 +104,11 @@ module _ (w : State) (job : Job) (older : List ℕ) (next : next_action w job �
     ap appends_in left ∙ (appends-cons SyncGate rest ∙ (let a = ap appends_in behind ∙ appends-removals (setup_in w) (decided job older) in omega (arith, a, none))),
   )
 
+  -- a put goes on in order at the end of its first append
   pub put-first_gate : (name bytes : List ℕ) → job.kind ≡ PutJob name bytes → older ≡ job.older → GoesOn
   put-first_gate name bytes kind e = same-list (put-list (setup_in w) (decided job older) name bytes kind ∙ (ap (λ o. append_actions ++ put_rest (setup_in w) (decided job o) bytes) e ∙ sym (put-list (setup_in w) job name bytes kind)))
 
+  -- a put goes on in order at the end of its second append
   pub put-later_gate : (name bytes : List ℕ) → job.kind ≡ PutJob name bytes → 4 ≤ job.place → GoesOn
   put-later_gate name bytes kind l =
       (let at = gate_place w job name bytes kind next l in
@@ -113,6 +118,7 @@ module _ (w : State) (job : Job) (older : List ℕ) (next : next_action w job �
       ap (drop (job.place + 1)) (put-list (setup_in w) job name bytes kind) ∙ put-behind (setup_in w) job bytes (job.place + 1) (omega (arith, at)) in
       removals-left (drop_rest (setup_in w) job) (next-left w job SyncGate next not-end ∙ ap (λ xs. SyncGate ∷ xs) before) (appends-removals (setup_in w) job) behind)
 
+  -- a drop goes on in order at the end of its append
   pub drop-first_gate : (name : List ℕ) → job.kind ≡ DropJob name → GoesOn
   drop-first_gate name kind =
       (let at = drop-gate (setup_in w) job job.place (ap (λ xs. slice_get xs job.place) (sym (drop-list (setup_in w) job name kind)) ∙ next_stands w job SyncGate next not-end) in
@@ -123,11 +129,14 @@ module _ (w : State) (job : Job) (older : List ℕ) (next : next_action w job �
       ap (drop (job.place + 1)) (drop-list (setup_in w) job name kind) ∙ (ap (λ n. drop n (append_actions ++ drop_rest (setup_in w) job)) four ∙ drop-append-add append_actions (drop_rest (setup_in w) job) 0) in
       removals-left (drop_rest (setup_in w) job) (next-left w job SyncGate next not-end ∙ ap (λ xs. SyncGate ∷ xs) before) (appends-removals (setup_in w) job) behind)
 
+  -- an audit goes on in order at the end of each append
   pub audit-gate : job.kind ≡ AuditJob → GoesOn
   audit-gate kind = same-list (audit-same (setup_in w) job older kind)
 
+  -- a repair goes on in order at the end of its append
   pub repair-gate : job.kind ≡ RepairJob → GoesOn
   repair-gate kind = same-list (repair-same (setup_in w) job older kind)
 
+  -- an upgrade goes on in order at the end of its append
   pub upgrade-gate : job.kind ≡ UpgradeJob → GoesOn
   upgrade-gate kind = same-list (upgrade-same (setup_in w) job older kind)

@@ -20,21 +20,24 @@ use Rattle.state_laws.proofs.Orders.{in_order-step, next-left, appends-cons, app
 abbrev pub onward : Job → ℕ → List Given → Job
 onward job n given = record job { subject = n; place = job.place + 1; given = given }
 
+-- one action further, a job has the same list of actions
 pub actions-onward : (s : Setup) (job : Job) (given : List Given) → actions_of s (onward job job.subject given) ≡ actions_of s job
 unfolding actions_of
 actions-onward s job given = refl
 
 -- what is left of the job, where the action is not the End
-pub left-onward : (w : State) (job : Job) (given : List Given) (action : Action) → next_action w job ≡ Some action → (action ≡ End → ⊥) →
+left-onward : (w : State) (job : Job) (given : List Given) (action : Action) → next_action w job ≡ Some action → (action ≡ End → ⊥) →
     actions_left (setup_in w) job ≡ action ∷ actions_left (setup_in w) (onward job job.subject given)
 left-onward w job given action next n =
     next-left w job action next n ∙ ap (λ xs. action ∷ drop (job.place + 1) xs) (sym (actions-onward (setup_in w) job given))
 
+-- one action further, what a job has left is in order, with the moves made that its action leaves
 pub order-onward : (w : State) (job : Job) (given : List Given) (moves : ℕ) (action : Action) → next_action w job ≡ Some action → (action ≡ End → ⊥) →
     IsInOrder moves (actions_left (setup_in w) job) → (moves ≡ moves_before action) × IsInOrder (moves_after action) (actions_left (setup_in w) (onward job job.subject given))
 order-onward w job given moves action next n o =
     in_order-step moves action (actions_left (setup_in w) (onward job job.subject given)) n (subst (IsInOrder moves) (left-onward w job given action next n) o)
 
+-- one action further, a job has an append less exactly if its action was a fourth move
 pub count-onward : (w : State) (job : Job) (given : List Given) (action : Action) → next_action w job ≡ Some action → (action ≡ End → ⊥) →
     appends_left (setup_in w) job ≡ gates action + appends_left (setup_in w) (onward job job.subject given)
 count-onward w job given action next n =

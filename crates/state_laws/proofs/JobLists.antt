@@ -29,6 +29,7 @@ without-later x js n f = cond_false (x.number == n) (without_job js n) (x ∷ wi
 
 -- ---- jobs that are found still
 
+-- another job is still found when one goes on
 pub still-with : (js : List Job) (job : Job) (k : ℕ) (j : Job) → (k ≡ job.number → ⊥) → job_of js k ≡ Some j → job_of (with_job js job) k ≡ Some j
 still-with [] job k j n h = h
 still-with (x ∷ js) job k j n h = elim (cases_Bool (x.number == job.number)) [
@@ -42,6 +43,7 @@ still-with (x ∷ js) job k j n h = elim (cases_Bool (x.number == job.number)) [
   ]
 ]
 
+-- another job is still found when one is taken out
 pub still-without : (js : List Job) (n k : ℕ) (j : Job) → (k ≡ n → ⊥) → job_of js k ≡ Some j → job_of (without_job js n) k ≡ Some j
 still-without [] n k j apart h = h
 still-without (x ∷ js) n k j apart h = elim (cases_Bool (x.number == n)) [
@@ -93,6 +95,7 @@ only-number js i one k l x y hx hy = sym (at k x hx) ∙ at l y hy
 
 -- ---- sums
 
+-- a sum over jobs of which one goes on: its new part in place of its old one
 pub sum-with : (f : Job → ℕ) (js : List Job) (job before : Job) → job_of js job.number ≡ Some before → sum_by f (with_job js job) + f before ≡ sum_by f js + f job
 sum-with f [] job before h = absurd (let e : None ≡ Some before = h in cc)
 sum-with f (x ∷ js) job before h = elim (at_first x js job.number before h) [
@@ -107,6 +110,7 @@ sum-without_le f (x ∷ js) n = elim (cases_Bool (x.number == n)) [
   | inr o ↦ (let a = ap (sum_by f) (without-later x js n o) ∙ sum_by-cons f x (without_job js n) in let b = sum_by-cons f x js in let c = sum-without_le f js n in omega (arith, a, b, c))
 ]
 
+-- a sum over jobs is less by at least the part of one that is taken out
 pub sum-without : (f : Job → ℕ) (js : List Job) (n : ℕ) (j : Job) → job_of js n ≡ Some j → sum_by f (without_job js n) + f j ≤ sum_by f js
 sum-without f [] n j h = absurd (let e : None ≡ Some j = h in cc)
 sum-without f (x ∷ js) n j h = elim (at_first x js n j h) [
@@ -114,14 +118,17 @@ sum-without f (x ∷ js) n j h = elim (at_first x js n j h) [
   | inr q ↦ (let a = ap (sum_by f) (without-later x js n q.0) ∙ sum_by-cons f x (without_job js n) in let b = sum_by-cons f x js in let c = sum-without f js n j q.1 in omega (arith, a, b, c))
 ]
 
+-- the part of one job is no more than the sum
 pub sum-member : (f : Job → ℕ) (js : List Job) (n : ℕ) (j : Job) → job_of js n ≡ Some j → f j ≤ sum_by f js
 sum-member f js n j h = (let a = sum-without f js n j h in omega (arith, a))
 
+-- a sum over jobs and one more job
 pub sum-more : (f : Job → ℕ) (js : List Job) (x : Job) → sum_by f (js ++ x ∷ []) ≡ sum_by f js + f x
 sum-more f js x = sum_by_push f js x
 
 -- ---- lengths
 
+-- when a job goes on there are as many jobs
 pub length-with : (js : List Job) (job : Job) → length (with_job js job) ≡ length js
 length-with [] job = refl
 length-with (x ∷ js) job = elim (cases_Bool (x.number == job.number)) [
@@ -129,6 +136,7 @@ length-with (x ∷ js) job = elim (cases_Bool (x.number == job.number)) [
   | inr f ↦ ap length (with-later x js job f) ∙ (let e = length-with js job in omega (arith, e))
 ]
 
+-- when a job is taken out there are no more jobs than before
 pub length-without : (js : List Job) (n : ℕ) → length (without_job js n) ≤ length js
 length-without [] n = omega arith
 length-without (x ∷ js) n = elim (cases_Bool (x.number == n)) [
@@ -142,6 +150,7 @@ numbered-lower : (low high : ℕ) (js : List Job) (next : ℕ) → low ≤ high 
 numbered-lower low high [] next l h = omega (arith, l, h)
 numbered-lower low high (x ∷ js) next l h = ((let a = h.0 in omega (arith, l, a)), h.1)
 
+-- numbers stay in order when a job goes on
 pub numbered-with : (low : ℕ) (js : List Job) (next : ℕ) (job : Job) → AreNumbered low js next → AreNumbered low (with_job js job) next
 numbered-with low [] next job h = h
 numbered-with low (x ∷ js) next job h = elim (cases_Bool (x.number == job.number)) [
@@ -149,6 +158,7 @@ numbered-with low (x ∷ js) next job h = elim (cases_Bool (x.number == job.numb
   | inr f ↦ subst (λ l. AreNumbered low l next) (sym (with-later x js job f)) (h.0, numbered-with (x.number + 1) js next job h.1)
 ]
 
+-- numbers stay in order when a job is taken out
 pub numbered-without : (low : ℕ) (js : List Job) (next n : ℕ) → AreNumbered low js next → AreNumbered low (without_job js n) next
 numbered-without low [] next n h = h
 numbered-without low (x ∷ js) next n h = elim (cases_Bool (x.number == n)) [
@@ -156,6 +166,7 @@ numbered-without low (x ∷ js) next n h = elim (cases_Bool (x.number == n)) [
   | inr f ↦ subst (λ l. AreNumbered low l next) (sym (without-later x js n f)) (h.0, numbered-without (x.number + 1) js next n h.1)
 ]
 
+-- numbers stay in order with one more job, which has the next one
 pub numbered-more : (low : ℕ) (js : List Job) (next : ℕ) (x : Job) → x.number ≡ next → AreNumbered low js next → AreNumbered low (js ++ x ∷ []) (next + 1)
 numbered-more low [] next x e h = ((omega (arith, e, h)), omega (arith, e))
 numbered-more low (y ∷ js) next x e h = (h.0, numbered-more (y.number + 1) js next x e h.1)
@@ -164,6 +175,7 @@ numbered-low : (low : ℕ) (js : List Job) (next : ℕ) → AreNumbered low js n
 numbered-low low [] next h = h
 numbered-low low (x ∷ js) next h = (let a = numbered-low (x.number + 1) js next h.1 in let b = h.0 in omega (arith, a, b))
 
+-- the number of a job that runs is below the next one
 pub numbered-below : (low : ℕ) (js : List Job) (next k : ℕ) (j : Job) → AreNumbered low js next → job_of js k ≡ Some j → k < next
 numbered-below low [] next k j h f = absurd (let e : None ≡ Some j = f in cc)
 numbered-below low (x ∷ js) next k j h f = elim (at_first x js k j f) [
@@ -173,9 +185,11 @@ numbered-below low (x ∷ js) next k j h f = elim (at_first x js k j f) [
 
 -- ---- the append in flight
 
+-- the job of the append in flight has made the moves of that append
 pub mine : (a : Append) (number : ℕ) → a.job ≡ number → moves_made (Some a) number ≡ a.moves
 mine a number e = cond_true (a.job == number) a.moves 0 (eq-eqb a.job number e)
 
+-- any job but that of the append in flight has made no move
 pub other : (a : Append) (number : ℕ) → (a.job ≡ number → ⊥) → moves_made (Some a) number ≡ 0
 other a number n = cond_false (a.job == number) a.moves 0 (ne_eqb a.job number n)
 

@@ -59,15 +59,17 @@ module _ (limit : ℕ) (old : State) (S : IsSound limit old) (job : Job) (runs :
 
   -- ---- the first move
 
+  -- the number that the job has with its first move
   abbrev pub drawn_number : ℕ
   drawn_number = subject_drawn old job job.kind
 
-  pub later-same : 4 ≤ job.place → drawn_number ≡ job.subject
+  later-same : 4 ≤ job.place → drawn_number ≡ job.subject
   later-same l = drawn_later old job job.kind (first_above job l)
 
   repair-same : job.kind ≡ RepairJob → drawn_number ≡ job.subject
   repair-same kind = ap (subject_drawn old job) kind
 
+  -- after its first move what is left of the job is in order, with as many appends to finish
   pub body-order : next_action old job ≡ Some WriteBody → IsInOrder 1 (actions_left (setup_in old) (onward job drawn_number job.given)) × (appends_left (setup_in old) (onward job drawn_number job.given) ≡ appends_left (setup_in old) job)
   body-order next = by_kind job.kind refl
     where
@@ -89,7 +91,7 @@ module _ (limit : ℕ) (old : State) (S : IsSound limit old) (job : Job) (runs :
       by_kind RepairJob kind = same (ap (subject_drawn old job) kind)
       by_kind UpgradeJob kind = same (ap (subject_drawn old job) kind)
 
-  pub begun-follows : (entry : Record) → next_action old job ≡ Some WriteBody → Writes old job job.kind entry → MayFollow old.records old.journal (journal_end old) (bytes_drawn old job job.kind) entry
+  begun-follows : (entry : Record) → next_action old job ≡ Some WriteBody → Writes old job job.kind entry → MayFollow old.records old.journal (journal_end old) (bytes_drawn old job job.kind) entry
   begun-follows entry next writes = follows-on old.records old.journal (journal_end old) old.bytes (bytes_drawn old job job.kind) entry S.accepted (drawn_bytes old job job.kind) (written-follows limit old S job.number job runs entry next writes)
 
   abbrev first_flight : Record → Append
@@ -109,6 +111,7 @@ module _ (limit : ℕ) (old : State) (S : IsSound limit old) (job : Job) (runs :
     follows = begun-follows entry next writes;
   }
 
+  -- the state is sound after the first move of an append
   pub begun-sound : (entry : Record) → old.is_open ≡ true → old.is_barred ≡ false → old.append ≡ None → next_action old job ≡ Some WriteBody → Writes old job job.kind entry →
       IsSound limit (gone_on old (onward job drawn_number job.given) (Some (first_flight entry)) old.doubt (bytes_drawn old job job.kind) (audits_drawn old job job.kind))
   begun-sound entry opened unbarred free next writes =
@@ -163,6 +166,7 @@ module _ (limit : ℕ) (old : State) (S : IsSound limit old) (job : Job) (runs :
         drawn_job : subject_drawn old job job.kind ≡ job.subject
         drawn_job = subst (λ (x : Job). subject_drawn old x x.kind ≡ x.subject) is_job (S.append a flight).drawn
 
+    -- the state is sound after the second move and after the third, with the record then in doubt
     pub moved-sound : (action : Action) (doubt : Option Doubt) → next_action old job ≡ Some action → (action ≡ End → ⊥) → ends_append action ≡ false → a.moves ≤ 2 → moves_after action ≡ a.moves + 1 → old.is_barred ≡ false →
         IsGatedDoubt moved_flight (a.moves + 1 == 3) doubt → ((d : Doubt) → doubt ≡ Some d → MayFollowIn old d.entry) →
         IsSound limit (gone_on old next_job (Some moved_flight) doubt old.bytes old.audits)

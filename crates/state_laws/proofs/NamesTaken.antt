@@ -62,7 +62,7 @@ once-with_name names name o = elim (cases_Bool (is_name_among names name)) [
   | inr f ↦ subst AreOnce (sym (cond_false (is_name_among names name) names (name ∷ names) f)) (f, o)
 ]
 
-pub once-with_puts : (names : List (List ℕ)) (aims : List Aim) → AreOnce names
+once-with_puts : (names : List (List ℕ)) (aims : List Aim) → AreOnce names
     → AreOnce (with_puts names aims)
 once-with_puts names [] o = o
 once-with_puts names (ToPut name size ∷ aims) o =
@@ -73,6 +73,7 @@ once-with_puts names (ToAudit ∷ aims) o = once-with_puts names aims o
 once-with_puts names (ToRepair ∷ aims) o = once-with_puts names aims o
 once-with_puts names (ToUpgrade ∷ aims) o = once-with_puts names aims o
 
+-- a name is listed with those of puts exactly if a put has it or it was listed
 pub listed-with_puts : (names : List (List ℕ)) (aims : List Aim) (n : List ℕ)
     → is_name_among (with_puts names aims) n ≡ (list_any (puts_name n) aims || is_name_among names n)
 listed-with_puts names [] n = refl
@@ -103,28 +104,35 @@ once-ordered : (fs : List File) → are_ordered fs ≡ true → AreOnce (names_i
 once-ordered [] h = tt
 once-ordered (f ∷ fs) h = (below-listed fs f.name (grind (arith, h)), once-ordered fs (grind (arith, h)))
 
+-- the names of the files in effect differ from each other
 pub once-files : (rs : List Record) → AreOnce (names_in (files_of rs))
 once-files rs = once-ordered (files_of rs) (ordered-files_of rs)
 
+-- a name is listed exactly if a file of it is found
 pub listed-files : (fs : List File) (n : List ℕ) → is_name_among (names_in fs) n ≡ is_some (find_file fs n)
 listed-files [] n = refl
 listed-files (f ∷ fs) n = grind (arith, listed-files fs n, same-sym n f.name)
 
+-- a name is listed exactly if a file of it is in effect
 pub listed-files_of : (rs : List Record) (n : List ℕ) → is_name_among (names_in (files_of rs)) n ≡ is_some (file_of rs n)
 listed-files_of rs n = listed-files (files_of rs) n ∙ ap is_some (find-files_of rs n)
 
+-- there are as many names as files
 pub length-names_in : (fs : List File) → length (names_in fs) ≡ length fs
 length-names_in [] = refl
 length-names_in (f ∷ fs) = ap suc (length-names_in fs)
 
 -- ---- the names that are taken
 
+-- the names of the files in effect and of the puts that run
 abbrev pub taken_by : List Record → List Job → List (List ℕ)
 taken_by rs js = with_puts (names_in (files_of rs)) (aims_of js)
 
+-- the names that are taken stand once each
 pub once-taken : (rs : List Record) (js : List Job) → AreOnce (taken_by rs js)
 once-taken rs js = once-with_puts (names_in (files_of rs)) (aims_of js) (once-files rs)
 
+-- a name is taken exactly if a put has it or a file of it is in effect
 pub listed-taken : (rs : List Record) (js : List Job) (n : List ℕ) → is_name_among (taken_by rs js) n ≡ (are_put n js || is_some (file_of rs n))
 listed-taken rs js n = listed-with_puts (names_in (files_of rs)) (aims_of js) n
     ∙ (ap (λ b. b || is_name_among (names_in (files_of rs)) n) (any-aims (puts_name n) js)

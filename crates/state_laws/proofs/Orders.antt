@@ -28,7 +28,7 @@ IsOther SyncGate = ⊥
 IsOther End = ⊥
 IsOther action = Unit {0}
 
-pub in_order-others : (xs ys : List Action) → Each IsOther xs → IsInOrder 0 ys → IsInOrder 0 (xs ++ ys)
+in_order-others : (xs ys : List Action) → Each IsOther xs → IsInOrder 0 ys → IsInOrder 0 (xs ++ ys)
 in_order-others [] ys h o = o
 in_order-others (Store j object stripe ∷ xs) ys h o = (refl, in_order-others xs ys h.1 o)
 in_order-others (Fetch j object stripe ∷ xs) ys h o = (refl, in_order-others xs ys h.1 o)
@@ -61,6 +61,7 @@ in_order-step moves (Work object stripe) actions n o = o
 in_order-step moves (Remove j object) actions n o = o
 in_order-step moves End actions n o = absurd (n refl)
 
+-- in a list in order, the moves made are those before its first action
 pub moves-first : (moves : ℕ) (action : Action) (actions : List Action) → IsInOrder moves (action ∷ actions) → moves ≡ moves_before action
 moves-first moves WriteBody actions o = o.0
 moves-first moves SyncBody actions o = o.0
@@ -78,6 +79,7 @@ pub in_order-first : (moves : ℕ) (actions : List Action) → IsInOrder moves a
 in_order-first moves [] o = absurd o
 in_order-first moves (action ∷ actions) o = (action, refl)
 
+-- what stands at a place is first when all before it is dropped
 pub get-drop : {X : Type 0} (xs : List X) (p : ℕ) → slice_get (drop p xs) 0 ≡ slice_get xs p
 get-drop [] zero = refl
 get-drop [] (suc p) = refl
@@ -86,17 +88,18 @@ get-drop (x ∷ xs) (suc p) = get-drop xs p
 
 -- ---- the lists of jobs
 
+-- no removal is a move of an append or an End
 pub others-removals : (s : Setup) (job : Job) → Each IsOther (remove_actions s job)
 others-removals s job = each_flat IsOther (λ object. on_each_provider s (λ j. Remove j object)) job.older (λ object. each_map IsOther (λ j. Remove j object) (upto s.n) (λ j. tt))
 
-pub others-stores : (s : Setup) (job : Job) (bytes : List ℕ) → Each IsOther (store_actions s job bytes)
+others-stores : (s : Setup) (job : Job) (bytes : List ℕ) → Each IsOther (store_actions s job bytes)
 others-stores s job bytes = each_flat IsOther (λ stripe. on_each_provider s (λ j. Store j job.subject stripe)) (upto (stripes_of (profiled s job.profile) (length bytes)))
     (λ stripe. each_map IsOther (λ j. Store j job.subject stripe) (upto s.n) (λ j. tt))
 
-pub others-open : (s : Setup) (object stripe : ℕ) → Each IsOther (open_actions s object stripe)
+others-open : (s : Setup) (object stripe : ℕ) → Each IsOther (open_actions s object stripe)
 others-open s object stripe = each_append IsOther (on_each_provider s (λ j. Fetch j object stripe)) (Work object stripe ∷ []) (each_map IsOther (λ j. Fetch j object stripe) (upto s.n) (λ j. tt)) (tt, tt)
 
-pub others-reads : (s : Setup) (pinned : List Pinned) → Each IsOther (read_actions s pinned)
+others-reads : (s : Setup) (pinned : List Pinned) → Each IsOther (read_actions s pinned)
 others-reads s pinned = each_flat IsOther (λ (f : Pinned). on_each_stripe (profiled s f.profile) (length f.bytes) (open_actions s f.id)) pinned
     (λ f. each_flat IsOther (open_actions s f.id) (upto (stripes_of (profiled s f.profile) (length f.bytes))) (λ stripe. others-open s f.id stripe))
 
@@ -104,6 +107,7 @@ others-cond : (b : _) (action : Action) → IsOther action → Each IsOther (con
 others-cond true action h = (h, tt)
 others-cond false action h = tt
 
+-- nothing that a repair does on its files is a move of an append or an End
 pub others-repairs : (s : Setup) (job : Job) → Each IsOther (repair_actions s job)
 others-repairs s job = each_flat IsOther (λ (f : Pinned). on_each_stripe (profiled s f.profile) (length f.bytes) (λ stripe. open_actions s f.id stripe ++ rewrite_actions s job f.id stripe)) job.pinned
     (λ f. each_flat IsOther (λ stripe. open_actions s f.id stripe ++ rewrite_actions s job f.id stripe) (upto (stripes_of (profiled s f.profile) (length f.bytes)))
@@ -115,19 +119,22 @@ pub each-ask : (P : Action → Type 0) → ((j object round : ℕ) → P (Ask j 
 each-ask P h s job = each_flat P (λ (f : Pinned). flat_map (λ round. on_each_provider s (λ j. Ask j f.id round)) (rounds_of (profiled s f.profile) (length f.bytes))) job.pinned
     (λ f. each_flat P (λ round. on_each_provider s (λ j. Ask j f.id round)) (rounds_of (profiled s f.profile) (length f.bytes)) (λ round. each_map P (λ j. Ask j f.id round) (upto s.n) (λ j. h j f.id round)))
 
-pub others-asks : (s : Setup) (job : Job) → Each IsOther (ask_actions s job)
+others-asks : (s : Setup) (job : Job) → Each IsOther (ask_actions s job)
 others-asks s job = each-ask IsOther (λ j object round. tt) s job
 
 -- what comes behind the first append of a put, a drop and an audit
 abbrev pub put_rest : Setup → Job → List ℕ → List Action
 put_rest s job bytes = store_actions s job bytes ++ (append_actions ++ (remove_actions s job ++ End ∷ []))
 
+-- what comes behind the append of a drop: its removals and the end
 abbrev pub drop_rest : Setup → Job → List Action
 drop_rest s job = remove_actions s job ++ End ∷ []
 
+-- what comes behind the first append of an audit: its asks, the second append and the end
 abbrev pub audit_rest : Setup → Job → List Action
 audit_rest s job = ask_actions s job ++ (append_actions ++ End ∷ [])
 
+-- removals and an end are in order
 pub in_order-removals : (s : Setup) (job : Job) → IsInOrder 0 (drop_rest s job)
 in_order-removals s job = in_order-others (remove_actions s job) (End ∷ []) (others-removals s job) in_order-end
 
@@ -151,9 +158,11 @@ in_order s job = in_order-by s job job.kind
 abbrev pub gates : Action → ℕ
 gates action = cond (ends_append action) 1 0
 
+-- how many appends end in a list of actions
 abbrev pub appends_in : List Action → ℕ
 appends_in actions = count_by ends_append actions
 
+-- where no action is a move of an append, no append ends
 pub appends-others : (xs : List Action) → Each IsOther xs → appends_in xs ≡ 0
 appends-others [] h = refl
 appends-others (x ∷ xs) h = sum_by-cons gates x xs ∙ (let e = first x h.0 in let r = appends-others xs h.1 in omega (arith, e, r))
@@ -170,6 +179,7 @@ appends-others (x ∷ xs) h = sum_by-cons gates x xs ∙ (let e = first x h.0 in
     first SyncGate i = absurd i
     first End i = absurd i
 
+-- one action more in front adds an append exactly if it is a fourth move
 pub appends-cons : (action : Action) (actions : List Action) → appends_in (action ∷ actions) ≡ gates action + appends_in actions
 appends-cons action actions = sum_by-cons gates action actions
 
@@ -187,24 +197,27 @@ appends-order moves (Work object stripe ∷ actions) l o = absurd (let e = o.0 i
 appends-order moves (Remove j object ∷ actions) l o = absurd (let e = o.0 in omega (arith, l, e))
 appends-order moves (End ∷ actions) l o = absurd (let e = o.0 in omega (arith, l, e))
 
+-- the appends of two lists, one behind the other, add up
 pub appends-append : (xs ys : List Action) → appends_in (xs ++ ys) ≡ appends_in xs + appends_in ys
 appends-append xs ys = sum_by-append gates xs ys
 
-pub appends-drop : (xs : List Action) (p : ℕ) → appends_in (drop p xs) ≤ appends_in xs
+appends-drop : (xs : List Action) (p : ℕ) → appends_in (drop p xs) ≤ appends_in xs
 appends-drop xs p = (let e = sum_by-take-drop gates xs p in omega (arith, e))
 
+-- four moves in front are one append more
 pub appends-move : (ys : List Action) → appends_in (append_actions ++ ys) ≡ 1 + appends_in ys
 appends-move ys = appends-append append_actions ys
 
+-- among removals and an end no append ends
 pub appends-removals : (s : Setup) (job : Job) → appends_in (drop_rest s job) ≡ 0
 appends-removals s job = appends-append (remove_actions s job) (End ∷ []) ∙ (let e = appends-others (remove_actions s job) (others-removals s job) in omega (arith, e))
 
-pub appends-put_rest : (s : Setup) (job : Job) (bytes : List ℕ) → appends_in (put_rest s job bytes) ≡ 1
+appends-put_rest : (s : Setup) (job : Job) (bytes : List ℕ) → appends_in (put_rest s job bytes) ≡ 1
 appends-put_rest s job bytes =
     appends-append (store_actions s job bytes) (append_actions ++ drop_rest s job)
     ∙ (let e = appends-others (store_actions s job bytes) (others-stores s job bytes) in let f = appends-move (drop_rest s job) in let g = appends-removals s job in omega (arith, e, f, g))
 
-pub appends-audit_rest : (s : Setup) (job : Job) → appends_in (audit_rest s job) ≡ 1
+appends-audit_rest : (s : Setup) (job : Job) → appends_in (audit_rest s job) ≡ 1
 appends-audit_rest s job =
     appends-append (ask_actions s job) (append_actions ++ End ∷ [])
     ∙ (let e = appends-others (ask_actions s job) (others-asks s job) in let f = appends-move (End ∷ []) in omega (arith, e, f))
@@ -228,35 +241,43 @@ appends-behind ys (suc (suc (suc (suc p)))) l = appends-drop ys p
 abbrev pub appends_by : Setup → Job → Kind → ℕ
 appends_by s job kind = appends_in (drop job.place (actions_by s job kind))
 
-pub appends_left-by : (s : Setup) (job : Job) → appends_left s job ≡ appends_by s job job.kind
+appends_left-by : (s : Setup) (job : Job) → appends_left s job ≡ appends_by s job job.kind
 unfolding actions_of
 appends_left-by s job = refl
 
 module _ (s : Setup) (job : Job) where
+  -- a put has two appends left until its first one is done
   pub put-first : (name bytes : List ℕ) → job.kind ≡ PutJob name bytes → job.place < 4 → appends_left s job ≡ 2
   put-first name bytes kind l = appends_left-by s job ∙ (ap (appends_by s job) kind ∙ (appends-within (put_rest s job bytes) job.place l ∙ ap (λ n. 1 + n) (appends-put_rest s job bytes)))
 
+  -- a put has at most one append left once its first one is done
   pub put-later : (name bytes : List ℕ) → job.kind ≡ PutJob name bytes → 4 ≤ job.place → appends_left s job ≤ 1
   put-later name bytes kind l = (let e = appends_left-by s job ∙ ap (appends_by s job) kind in let b = appends-behind (put_rest s job bytes) job.place l in let r = appends-put_rest s job bytes in omega (arith, e, b, r))
 
+  -- an audit has two appends left until its first one is done
   pub audit-first : job.kind ≡ AuditJob → job.place < 4 → appends_left s job ≡ 2
   audit-first kind l = appends_left-by s job ∙ (ap (appends_by s job) kind ∙ (appends-within (audit_rest s job) job.place l ∙ ap (λ n. 1 + n) (appends-audit_rest s job)))
 
+  -- an audit has at most one append left once its first one is done
   pub audit-later : job.kind ≡ AuditJob → 4 ≤ job.place → appends_left s job ≤ 1
   audit-later kind l = (let e = appends_left-by s job ∙ ap (appends_by s job) kind in let b = appends-behind (audit_rest s job) job.place l in let r = appends-audit_rest s job in omega (arith, e, b, r))
 
+  -- a drop has at most one append left
   pub drop-first : (name : List ℕ) → job.kind ≡ DropJob name → appends_left s job ≤ 1
   drop-first name kind = (let e = appends_left-by s job ∙ ap (appends_by s job) kind in let b = appends-drop (append_actions ++ drop_rest s job) job.place in
       let m = appends-move (drop_rest s job) in let r = appends-removals s job in omega (arith, e, b, m, r))
 
+  -- a repair has at most one append left
   pub repair-first : job.kind ≡ RepairJob → appends_left s job ≤ 1
   repair-first kind = (let e = appends_left-by s job ∙ ap (appends_by s job) kind in let b = appends-drop (repair_actions s job ++ (append_actions ++ End ∷ [])) job.place in
       let m = appends-append (repair_actions s job) (append_actions ++ End ∷ []) in let o = appends-others (repair_actions s job) (others-repairs s job) in let f = appends-move (End ∷ []) in omega (arith, e, b, m, o, f))
 
+  -- an upgrade has at most one append left
   pub upgrade-first : job.kind ≡ UpgradeJob → appends_left s job ≤ 1
   upgrade-first kind = (let e = appends_left-by s job ∙ ap (appends_by s job) kind in let b = appends-drop (append_actions ++ End ∷ []) job.place in
       let f = appends-move (End ∷ []) in omega (arith, e, b, f))
 
+  -- a get has no append
   pub get-none : (name : List ℕ) → job.kind ≡ GetJob name → appends_left s job ≡ 0
   get-none name kind = (let e = appends_left-by s job ∙ ap (appends_by s job) kind in let b = appends-drop (read_actions s job.pinned ++ End ∷ []) job.place in
       let m = appends-append (read_actions s job.pinned) (End ∷ []) in let o = appends-others (read_actions s job.pinned) (others-reads s job.pinned) in omega (arith, e, b, m, o))
@@ -317,6 +338,7 @@ pub put-list : (s : Setup) (job : Job) (name bytes : List ℕ) → job.kind ≡ 
 unfolding actions_of
 put-list s job name bytes kind = ap (actions_by s job) kind
 
+-- an audit makes an append, and then its asks, its second append and the end
 pub audit-list : (s : Setup) (job : Job) → job.kind ≡ AuditJob → actions_of s job ≡ append_actions ++ audit_rest s job
 unfolding actions_of
 audit-list s job kind = ap (actions_by s job) kind
@@ -338,6 +360,7 @@ put-second w job next name bytes kind is l same place =
       put-first (setup_in w) next name bytes (same ∙ kind) (omega (arith, one)) ∙ sym (put-first (setup_in w) job name bytes kind l),
     ))
 
+-- the first move of an audit's first append leaves the same, whatever number it draws
 pub audit-second : (w : State) (job next : Job) → job.kind ≡ AuditJob → next_action w job ≡ Some WriteBody → job.place < 4 → next.kind ≡ job.kind → next.place ≡ job.place + 1 →
     IsInOrder 1 (actions_left (setup_in w) next) × (appends_left (setup_in w) next ≡ appends_left (setup_in w) job)
 audit-second w job next kind is l same place =

@@ -106,6 +106,7 @@ happens_11 : Happens 8 11 state_11 (Step 2) More state_12
 unfolding setup_in actions_of
 happens_11 = (state_11.disk_faults, omega arith, refl)
 
+-- the pack has ended
 abbrev pub state_13 : State
 state_13 = unalone state_12
 
@@ -118,12 +119,14 @@ happens_12 = (refl, refl, refl)
 abbrev moment : Event → Outcome → State → Moment
 moment event outcome state = record { event = event; outcome = outcome; state = state }
 
+-- the opening of the vault, the upgrade and the pack
 abbrev pub moments : List Moment
 moments =
     moment (Step 2) (Ended (Packed 54 64)) state_13 ∷ moment (Step 2) More state_12 ∷ moment (Step 2) More state_11 ∷ moment (Step 2) More state_10 ∷ moment (Step 2) More state_9 ∷ moment BeginPack (Begun 2) state_8
     ∷ moment (Step 1) (Ended Upgraded) state_7 ∷ moment (Step 1) More state_6 ∷ moment (Step 1) More state_5 ∷ moment (Step 1) More state_4 ∷ moment (Step 1) More state_3
     ∷ moment (Begin UpgradeJob) (Begun 1) state_2 ∷ moment Reopen Opened state_1 ∷ []
 
+-- the upgrade and the pack are a run
 pub is_run : IsRun 8 set_up moments
 is_run = (
   omega arith,
@@ -163,6 +166,7 @@ is_run = (
   ),
 )
 
+-- the store that was set up is a start of a run
 pub starts : IsStart set_up
 starts = record {
   records = inr (four, refl, refl);

@@ -53,7 +53,7 @@ module _ (rs : List Record) (a : AreAccepted rs) (g : AreSpelled rs) where
       set_up None e = refl
       set_up (Some s) e = spelled-more (SetUp s) [] (setup-spelled rs s g e) refl
 
-  pub packed-spelled : AreSpelled (packed rs)
+  packed-spelled : AreSpelled (packed rs)
   packed-spelled = on_top (due_of rs) refl
     where
       files : AreSpelled (with_files (files_of rs) base)
@@ -96,7 +96,7 @@ module _ (rs : List Record) (a : AreAccepted rs) (g : AreSpelled rs) where
       on_top (Some d) e = (let f = files in let c = few d (due-spelled rs d g e) in omega (arith, f, c))
 
   -- a packed journal fits in either area
-  pub packed-room : (area : Area) → end_in area (packed rs) ≤ largest_journal
+  packed-room : (area : Area) → end_in area (packed rs) ≤ largest_journal
   packed-room A = (let s = packed-size in omega (arith, s))
   packed-room B = (let s = packed-size in omega (arith, s))
 
@@ -106,6 +106,7 @@ module _ (rs : List Record) (a : AreAccepted rs) (g : AreSpelled rs) where
 pub file-alike : (rs qs : List Record) (name : List ℕ) → AreAlike rs qs → file_of rs name ≡ file_of qs name
 file-alike rs qs name a = sym (find-files_of rs name) ∙ (ap (λ fs. find_file fs name) a.files ∙ find-files_of qs name)
 
+-- where tables are alike, a name is one file too many in both or in neither
 pub crowded-alike : (rs qs : List Record) (name : List ℕ) → AreAlike rs qs → is_crowded rs name ≡ is_crowded qs name
 crowded-alike rs qs name a = ap (λ fs. nat_le most_files (length fs) && not (is_some (file_of rs name))) a.files ∙ ap (λ o. nat_le most_files (length (files_of qs)) && not (is_some o)) (file-alike rs qs name a)
 
@@ -188,6 +189,7 @@ journal-kept old new er ej ea es J = record {
   whole = λ v. (let W = J.whole (sym (ap version_of er) ∙ v) in record { journal = ej ∙ (W.journal ∙ sym er); area = ea ∙ W.area; unswitched = es W.unswitched });
 }
 
+-- a state with the same records, journal, area and byte that names it has a sound journal too
 pub journal-same : (old new : State) → new.records ≡ old.records → new.journal ≡ old.journal → new.area ≡ old.area → new.is_switching ≡ old.is_switching → IsSoundJournal old → IsSoundJournal new
 journal-same old new er ej ea es J = journal-kept old new er ej ea (λ f. es ∙ f) J
 

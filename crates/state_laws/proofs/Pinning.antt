@@ -24,13 +24,14 @@ use Rattle.state_laws.specs.SoundJobs.{HasPins, IsPin}
 use Rattle.state_laws.proofs.NamesTaken.{AreOnce, once-files}
 use Rattle.state_laws.proofs.Records.{is_some-at, AreSpelled, sound-accepted, file-spelled, file-plain}
 
-pub length-pin : (p : Pinned) (qs : List Pinned) → length (pin_by machine_pins p qs) ≡ suc (length qs)
+length-pin : (p : Pinned) (qs : List Pinned) → length (pin_by machine_pins p qs) ≡ suc (length qs)
 length-pin p [] = refl
 length-pin p (q ∷ qs) = elim (cases_Bool (nat_lt p.id q.id)) [
   | inl t ↦ ap length (cond_true (nat_lt p.id q.id) (p ∷ q ∷ qs) (q ∷ pin_by machine_pins p qs) t)
   | inr f ↦ ap length (cond_false (nat_lt p.id q.id) (p ∷ q ∷ qs) (q ∷ pin_by machine_pins p qs) f) ∙ ap suc (length-pin p qs)
 ]
 
+-- there are as many pins as files
 pub length-pin_all : (w : State) (fs : List File) → length (pin_all w fs) ≡ length fs
 length-pin_all w [] = refl
 length-pin_all w (f ∷ fs) = length-pin (pinned_file w f) (pin_all w fs) ∙ ap suc (length-pin_all w fs)
@@ -73,6 +74,7 @@ module _ (w : State) (accepted : AreAccepted w.records) (spelled : AreSpelled w.
   all-few : length (pin_all w (files_of w.records)) ≤ most_files
   all-few = (let a = length-pin_all w (files_of w.records) in let b = few-files_of w.records accepted in omega (arith, a, b))
 
+  -- the files that a job begins with ascend by their numbers
   pub pins-ascend : (kind : Kind) → AreAscending 0 (pinned_for w kind)
   pins-ascend (PutJob name bytes) = tt
   pins-ascend (GetJob name) = one (file_in w name)
@@ -85,6 +87,7 @@ module _ (w : State) (accepted : AreAccepted w.records) (spelled : AreSpelled w.
   pins-ascend RepairJob = all-ascending
   pins-ascend UpgradeJob = tt
 
+  -- a job begins with no more files than may be in effect
   pub pins-few : (kind : Kind) → length (pinned_for w kind) ≤ most_files
   pins-few (PutJob name bytes) = omega arith
   pins-few (GetJob name) = one (file_in w name)
@@ -97,6 +100,7 @@ module _ (w : State) (accepted : AreAccepted w.records) (spelled : AreSpelled w.
   pins-few RepairJob = all-few
   pins-few UpgradeJob = omega arith
 
+  -- each file that a job begins with was stored
   pub pins-stored : (kind : Kind) (f : Pinned) → Contains (pinned_for w kind) f → IsPin w.records w.bytes f
   pins-stored kind f i = stored (pinned_stands w kind f (contains_in (pinned_for w kind) f i))
     where
@@ -113,6 +117,7 @@ module _ (w : State) (accepted : AreAccepted w.records) (spelled : AreSpelled w.
   pins-plain first kind f i = (let st = pinned_stands w kind f (contains_in (pinned_for w kind) f i) in
       ap (λ (x : Pinned). x.profile) st.is ∙ file-plain w.records st.name st.file accepted first st.in_effect)
 
+-- a get begins with one file, and a put and a drop with none
 pub has-pins : (w : State) (kind : Kind) → ((name : List ℕ) → kind ≡ GetJob name → is_some (file_in w name) ≡ true) → HasPins kind (pinned_for w kind)
 has-pins w (PutJob name bytes) h = refl
 has-pins w (GetJob name) h = (let f = is_some-at (file_in w name) (h name refl) in (pinned_file w f.0, ap (pin_found (pinned_file w)) f.1))

@@ -18,30 +18,35 @@ use Rattle.machine_defs.proofs.JobLists.{cond_true, cond_false, same_value}
 use Rattle.machine_defs.proofs.RecordFacts.{AreSound}
 use Rattle.state_laws.specs.Follows.{IsHeld, BringsHeld, AreHeld}
 
+-- an option that is not none has a value
 pub is_some-at : {X : Type 0} (o : Option X) → is_some o ≡ true → (x : X) × (o ≡ Some x)
 is_some-at None h = absurd (false≢true h)
 is_some-at (Some x) h = (x, refl)
 
 -- ---- spellings and grammar
 
+-- each record has a spelling
 abbrev pub AreSpelled : List Record → Type 0
 AreSpelled rs = IsTrue (list_all is_spelled rs)
 
-pub spelled-first : (r : Record) (rs : List Record) → AreSpelled (r ∷ rs) → IsTrue (is_spelled r)
+spelled-first : (r : Record) (rs : List Record) → AreSpelled (r ∷ rs) → IsTrue (is_spelled r)
 spelled-first r rs h = (and_parts (is_spelled r) (list_all is_spelled rs) h).0
 
-pub spelled-rest : (r : Record) (rs : List Record) → AreSpelled (r ∷ rs) → AreSpelled rs
+spelled-rest : (r : Record) (rs : List Record) → AreSpelled (r ∷ rs) → AreSpelled rs
 spelled-rest r rs h = (and_parts (is_spelled r) (list_all is_spelled rs) h).1
 
+-- records with a spelling, and one more with one, have spellings
 pub spelled-more : (r : Record) (rs : List Record) → IsTrue (is_spelled r) → AreSpelled rs → AreSpelled (r ∷ rs)
 spelled-more r rs g h = and_from (is_spelled r) (list_all is_spelled rs) g h
 
+-- each record is in the grammar
 abbrev pub AreInGrammar : List Record → Type 0
 AreInGrammar rs = IsTrue (list_all is_in_grammar rs)
 
-pub grammar-first : (r : Record) (rs : List Record) → AreInGrammar (r ∷ rs) → IsTrue (is_in_grammar r)
+grammar-first : (r : Record) (rs : List Record) → AreInGrammar (r ∷ rs) → IsTrue (is_in_grammar r)
 grammar-first r rs h = (and_parts (is_in_grammar r) (list_all is_in_grammar rs) h).0
 
+-- of records in the grammar those before the newest are in it too
 pub grammar-rest : (r : Record) (rs : List Record) → AreInGrammar (r ∷ rs) → AreInGrammar rs
 grammar-rest r rs h = (and_parts (is_in_grammar r) (list_all is_in_grammar rs) h).1
 
@@ -65,6 +70,7 @@ version-more (Resume next audit) rs g = refl
 version-more (InEffect id size profile kept) rs g = refl
 version-more (RepairDue number counts) rs g = refl
 
+-- a journal in the grammar of today has its first version
 pub version-first : (rs : List Record) → AreInGrammar rs → version_of rs ≡ 1
 version-first [] g = refl
 version-first (r ∷ rs) g = version-more r rs (grammar-first r rs g) ∙ version-first rs (grammar-rest r rs g)
@@ -116,6 +122,7 @@ next_id-one (Resume next audit) rs g = absurd (false≢true g)
 next_id-one (InEffect id size profile kept) rs g = omega arith
 next_id-one (RepairDue number counts) rs g = omega arith
 
+-- the next object number is at most the length of the text
 pub next_id-le : (rs : List Record) → AreInGrammar rs → next_id rs ≤ text_size rs
 next_id-le [] g = omega arith
 next_id-le (r ∷ rs) g =
@@ -137,6 +144,7 @@ next_audit-one (Resume next audit) rs g = absurd (false≢true g)
 next_audit-one (InEffect id size profile kept) rs g = omega arith
 next_audit-one (RepairDue number counts) rs g = omega arith
 
+-- the next audit number is at most the length of the text
 pub next_audit-le : (rs : List Record) → AreInGrammar rs → next_audit rs ≤ text_size rs
 next_audit-le [] g = omega arith
 next_audit-le (r ∷ rs) g =
@@ -144,6 +152,7 @@ next_audit-le (r ∷ rs) g =
     let one = next_audit-one r rs (grammar-first r rs g) in
     omega (arith, l, one)
 
+-- no accepted record makes the next object number smaller
 pub next_id-grows : (r : Record) (rs : List Record) → AreAccepted (r ∷ rs) → next_id rs ≤ next_id (r ∷ rs)
 next_id-grows r rs a = next_id-more rs r (are_sound rs a.1) a.0
 
@@ -170,6 +179,7 @@ first-is (Resume next audit) h = absurd (some-not-none _ no.NoSetup refl h)
 first-is (InEffect id size profile kept) h = absurd (some-not-none _ no.NoSetup refl h)
 first-is (RepairDue number counts) h = absurd (some-not-none _ no.NoSetup refl h)
 
+-- a store that is set up stays so with any record more
 pub up-more : (r : Record) (rs : List Record) → is_some (setup_of rs) ≡ true → is_some (setup_of (r ∷ rs)) ≡ true
 up-more (SetUp s) rs h = refl
 up-more (PutStart id name) rs h = h
@@ -207,6 +217,7 @@ setup-more (Resume next audit) rs up h = refl
 setup-more (InEffect id size profile kept) rs up h = refl
 setup-more (RepairDue number counts) rs up h = refl
 
+-- accepted records are sound
 pub sound-accepted : (rs : List Record) → AreAccepted rs → AreSound rs
 sound-accepted rs a =
     let S = are_sound rs a in
@@ -248,6 +259,7 @@ second-set_up rs a v = elim (cases_Bool (is_some (setup_of rs))) [
 
 -- ---- setups, names, sizes and numbers of records that have a spelling
 
+-- the setup in effect is in the grammar
 pub setup-spelled : (rs : List Record) (s : Setup) → AreSpelled rs → setup_of rs ≡ Some s → IsTrue (is_in_grammar (SetUp s))
 setup-spelled [] s g h = absurd (some-not-none _ s h refl)
 setup-spelled (SetUp t ∷ rs) s g h = (let e : t ≡ s = cc in subst (λ x. IsTrue (is_in_grammar (SetUp x))) e (spelled-first (SetUp t) rs g))
@@ -267,7 +279,7 @@ setup-spelled (RepairDue number counts ∷ rs) s g h =
     setup-spelled rs s (spelled-rest (RepairDue number counts) rs g) h
 
 -- a name that a put was started under is a name
-pub started-spelled : (rs : List Record) (id : ℕ) (name : List ℕ) → AreSpelled rs → started_as rs id ≡ Some name → is_name name ≡ true
+started-spelled : (rs : List Record) (id : ℕ) (name : List ℕ) → AreSpelled rs → started_as rs id ≡ Some name → is_name name ≡ true
 started-spelled [] id name g h = absurd (some-not-none _ name h refl)
 started-spelled (SetUp s ∷ rs) id name g h = started-spelled rs id name (spelled-rest (SetUp s) rs g) h
 started-spelled (PutStart k n ∷ rs) id name g h = elim (cases_Bool (k == id)) [
@@ -296,7 +308,7 @@ started-spelled (RepairDue number counts ∷ rs) id name g h =
     started-spelled rs id name (spelled-rest (RepairDue number counts) rs g) h
 
 -- the start that a put's end is of
-pub start-named : (q : List ℕ) (o : Option (List ℕ)) → is_start_of q o ≡ true → o ≡ Some q
+start-named : (q : List ℕ) (o : Option (List ℕ)) → is_start_of q o ≡ true → o ≡ Some q
 start-named q None h = absurd (false≢true h)
 start-named q (Some name) h = ap Some (same-eq name q h)
 
@@ -363,6 +375,7 @@ profile-fits rs g = by (setup_of rs) refl
 abbrev pub IsFit : List ℕ → File → Type 0
 IsFit name file = (is_name name ≡ true) × (file.size ≤ largest_file) × (file.profile < all_profiles)
 
+-- each file in effect is within the limits
 pub file-spelled : (rs : List Record) (name : List ℕ) (file : File) → AreSpelled rs → file_of rs name ≡ Some file → IsFit name file
 file-spelled [] name file g h = absurd (some-not-none _ file h refl)
 file-spelled (r ∷ rs) name file g h = elim (file-came r rs name file h) [
@@ -431,11 +444,13 @@ due-spelled (RepairDue number counts ∷ rs) due g h =
     (let same : record { number = number; counts = counts } ≡ due = same_value (Some (record { number = number; counts = counts })) (record { number = number; counts = counts }) due refl h in
     subst (λ (d : Due). IsTrue (is_spelled (RepairDue d.number d.counts))) same (spelled-first (RepairDue number counts) rs g))
 
+-- the number of a due audit fits 64 bits
 pub due-number : (due : Due) → IsTrue (is_spelled (RepairDue due.number due.counts)) → due.number < 2 ^ 64
 due-number due h = grind (arith, nat_tests, h)
 
 -- ---- files and their bytes
 
+-- files in effect have their bytes with one record more, whose file has its own
 pub held-more : (bytes : ℕ → List ℕ) (r : Record) (rs : List Record) → BringsHeld bytes r → AreHeld bytes rs → AreHeld bytes (r ∷ rs)
 held-more bytes r rs brings held name file h = elim (file-came r rs name file h) [
   | inl was ↦ held name file was
@@ -450,5 +465,6 @@ held-more bytes r rs brings held name file h = elim (file-came r rs name file h)
 pub held-same : (bytes now : ℕ → List ℕ) (id size : ℕ) → now id ≡ bytes id → IsHeld bytes id size → IsHeld now id size
 held-same bytes now id size e h = (subst AreBytes (sym e) h.0, ap length e ∙ h.1)
 
+-- files in effect keep their bytes where those of all drawn numbers stay
 pub held-on : (bytes now : ℕ → List ℕ) (rs : List Record) → AreAccepted rs → ((id : ℕ) → id < next_id rs → now id ≡ bytes id) → AreHeld bytes rs → AreHeld now rs
 held-on bytes now rs a stay held name file h = held-same bytes now file.id file.size (stay file.id ((sound-accepted rs a).file name file h).0) (held name file h)

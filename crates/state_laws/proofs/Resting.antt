@@ -64,7 +64,7 @@ not-switching : (w : State) → IsKept w → is_some (setup_of w.records) ≡ fa
 not-switching w K none e = false≢true (sym none ∙ second-set_up w.records K.accepted (K.switching e).version)
 
 module _ (limit : ℕ) where
-  pub idle-sound : (w : State) → IsIdle w → IsKept w → (w.is_open ≡ true → IsSetUp w) → (w.is_open ≡ true → (setup_in w).n ≤ w.handed) → (w.is_open ≡ true → w.doubt ≡ None) → IsSound limit w
+  idle-sound : (w : State) → IsIdle w → IsKept w → (w.is_open ≡ true → IsSetUp w) → (w.is_open ≡ true → (setup_in w).n ≤ w.handed) → (w.is_open ≡ true → w.doubt ≡ None) → IsSound limit w
   idle-sound w idle K set_up handed undoubted = record {
     accepted = K.accepted;
     spelled = K.spelled;
@@ -105,6 +105,7 @@ module _ (limit : ℕ) where
     doubt = λ d h. absurd (some-not-none w.doubt d h none);
   }
 
+  -- a state at rest is sound
   pub rest-sound : (w : State) → IsAtRest w → IsSound limit w
   rest-sound w r = idle-sound w r.idle (whole-kept w r.whole r.accepted (all-spelled w.records r.in_grammar) r.room r.files r.undoubted) r.set_up r.handed (λ o. r.undoubted)
 
@@ -127,6 +128,7 @@ module _ (limit : ℕ) where
       held (inl e) = subst (AreHeld w.bytes) (sym e) (λ name file h. absurd (some-not-none _ file h refl))
       held (inr (s, valid, e)) = subst (AreHeld w.bytes) (sym e) (λ name file h. absurd (some-not-none _ file h refl))
 
+  -- a start is sound
   pub start-sound : (w : State) → IsStart w → IsSound limit w
   start-sound w r = idle-sound w (r.jobs, r.append, r.unbarred, r.none_alone) (first-kept w r)
       (λ o. absurd (false≢true (sym r.closed ∙ o))) (λ o. absurd (false≢true (sym r.closed ∙ o))) (λ o. r.doubt)
@@ -237,11 +239,13 @@ module _ (limit : ℕ) where
     again : (mid : State) → Rereads old mid → (left : State) × (IsSettled left mid × (left.jobs ≡ []) × (left.append ≡ None) × (left.is_barred ≡ false) × (left.is_open ≡ false) × (left.alone ≡ None))
     again mid (journal, area, holds, h) = (reread old journal area, (settled (reread old journal area) mid (reread-kept journal area holds) h, refl, refl, refl, refl, refl))
 
+    -- a stop leaves a sound state
     pub stops-sound : (r : Outcome) (new : State) → Stops old r new → IsSound limit new
     stops-sound Stopped new h = (let g = again new h in let s = g.1.0 in
         shut new (s.jobs ∙ g.1.1, s.append ∙ g.1.2, s.barred ∙ g.1.3, s.alone ∙ g.1.5) s.kept (s.is_open ∙ g.1.4))
     stops-sound r new h = absurd h
 
+    -- a later call of the program begins with a sound state
     pub continues-sound : (r : Outcome) (new : State) → Continues old r new → IsSound limit new
     continues-sound Continued new is = subst (IsSound limit) (sym is) (shut (continued old) (refl, refl, refl, refl) (kept-closed (continued old) refl refl refl refl refl refl refl refl) refl)
     continues-sound r new h = absurd h
@@ -262,6 +266,7 @@ module _ (limit : ℕ) where
     still-mid mid (journal, area, holds, inl is) = ap (λ (w : State). w.is_switching) is
     still-mid mid (journal, area, holds, inr (d, in_doubt, is)) = ap (λ (w : State). w.is_switching) is
 
+    -- a reopening, refused or not, leaves a sound state
     pub reopens-sound : (r : Outcome) (new : State) → Reopens old r new → IsSound limit new
     reopens-sound Opened new (mid, h, up, enough, (faults, low, is)) =
         (let g = again mid h in
@@ -323,6 +328,7 @@ module _ (limit : ℕ) where
     inits-by s true r new e master idle closed h = inits-closed s r new idle closed (and_from (is_setup s) (is_master s.master) e master) h
     inits-by s false r new e master idle closed h = absurd h
 
+    -- an init, refused or not, leaves a sound state
     pub inits-sound : (s : Setup) (is_open : Bool) (r : Outcome) (new : State) → old.is_open ≡ is_open → IsTrue (is_master s.master) → Inits old s is_open r new → IsSound limit new
     inits-sound s true (Refused refusal.Already) new e master is = subst (IsSound limit) (sym is) S
     inits-sound s false r new e master h = inits-by s (is_setup s) r new refl master (S.closed e) e h

@@ -18,6 +18,7 @@ use Rattle.state_laws.proofs.Orders.{put-first, put-later, audit-first, audit-la
 abbrev pub room_of : ℕ → Setup → Kind → ℕ → ℕ
 room_of version s kind k = room_left version s (aim_of kind) k
 
+-- jobs of one kind with equally many appends left need the same room
 pub room-same : (version : ℕ) (s : Setup) (i j : Job) → j.kind ≡ i.kind → appends_left s j ≡ appends_left s i → reserved version s j ≡ reserved version s i
 room-same version s i j kind left = ap (λ kd. room_of version s kd (appends_left s j)) kind ∙ ap (room_of version s i.kind) left
 
@@ -32,12 +33,15 @@ size-done version id size profile = elim (cases_Bool (version == 2)) [
 pub put-writes_first : (w : State) (job : Job) (name bytes : List ℕ) (entry : Record) → job.place < 4 → Writes w job (PutJob name bytes) entry → entry ≡ PutStart (next_id w.records) name
 put-writes_first w job name bytes entry l h = h ∙ cond_true (is_first_append job) (PutStart (next_id w.records) name) (done_record (version_of w.records) job.subject (length bytes) job.profile) (first_below job l)
 
+-- a put writes its end from its second append on
 pub put-writes_later : (w : State) (job : Job) (name bytes : List ℕ) (entry : Record) → 4 ≤ job.place → Writes w job (PutJob name bytes) entry → entry ≡ done_record (version_of w.records) job.subject (length bytes) job.profile
 put-writes_later w job name bytes entry l h = h ∙ cond_false (is_first_append job) (PutStart (next_id w.records) name) (done_record (version_of w.records) job.subject (length bytes) job.profile) (first_above job l)
 
+-- an audit writes its start with its first append
 pub audit-writes_first : (w : State) (job : Job) (entry : Record) → job.place < 4 → Writes w job AuditJob entry → entry ≡ AuditStart (next_audit w.records)
 audit-writes_first w job entry l h = (let g = rw (first_below job l) at h in g)
 
+-- an audit writes its end from its second append on, with its sums
 pub audit-writes_later : (w : State) (job : Job) (entry : Record) → 4 ≤ job.place → Writes w job AuditJob entry →
     (sums : Sums) × HasSums (setup_in w) job sums × (entry ≡ AuditDone job.subject sums.undecided sums.counts)
 audit-writes_later w job entry l h = (let g = rw (first_above job l) at h in g)

@@ -67,6 +67,7 @@ pub record AreSmall (n : ℕ) (sums : Sums) : Type 0 where
   pub counts : Each (λ count. count ≤ 2 ^ 16) sums.counts
   pub undecided : sums.undecided ≤ 2 ^ 16
 
+-- an audit over no more files than may be in effect has such small sums
 pub sums-small : (s : Setup) (job : Job) (sums : Sums) → length job.pinned ≤ most_files → s.rounds ≤ 64 → HasSums s job sums → AreSmall s.n sums
 sums-small s job sums few rounds h =
     (let start : Within s.n 0 (record { counts = replicate s.n 0; undecided = 0 }) = record { size = length-replicate s.n 0; counts = each_zero s.n; undecided = omega arith } in
@@ -75,6 +76,7 @@ sums-small s job sums few rounds h =
     let l : 0 + length job.pinned * s.rounds ≤ 2 ^ 16 = omega (arith, a, rounds) in
     record { size = w.size; counts = each_at_most (0 + length job.pinned * s.rounds) (2 ^ 16) sums.counts l w.counts; undecided = (let u = w.undecided in omega (arith, u, l)) })
 
+-- what holds of each item holds of all, in the form that contracts have
 pub each-all : (P : ℕ → Type 0) (xs : List ℕ) → Each P xs → All P xs
 each-all P [] h k d l = absurd (omega (arith, l))
 each-all P (x ∷ xs) h zero d l = h.0

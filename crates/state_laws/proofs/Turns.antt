@@ -37,6 +37,7 @@ use Rattle.state_laws.proofs.Going.{onward, order-onward, count-onward, not-thre
 done-drawn : (rs : List Record) (id : ℕ) → AreAccepted rs → put_done_refused rs (started_as rs id) ≡ None → id < next_id rs
 done-drawn rs id a g = (let t = started-in rs (started_as rs id) g in (sound-accepted rs a).started id t.0 t.1)
 
+-- a record that may follow may still follow where the bytes of drawn numbers stay
 pub follows-on : (rs journal : List Record) (end : ℕ) (bytes now : ℕ → List ℕ) (entry : Record) → AreAccepted rs → ((id : ℕ) → id < next_id rs → now id ≡ bytes id) → MayFollow rs journal end bytes entry → MayFollow rs journal end now entry
 follows-on rs journal end bytes now entry a stay m = record {
   spelled = m.spelled;
@@ -62,6 +63,7 @@ follows-on rs journal end bytes now entry a stay m = record {
 
 -- ---- lists of jobs in which one goes on
 
+-- the names of puts stay when a job goes on
 pub put-with : (n : List ℕ) (js : List Job) (job before : Job) → job_of js job.number ≡ Some before → job.kind ≡ before.kind → are_put n (with_job js job) ≡ are_put n js
 put-with n [] job before h kind = refl
 put-with n (x ∷ js) job before h kind = elim (cases_Bool (x.number == job.number)) [
@@ -84,6 +86,7 @@ first-on series w job n given action d next plain = elim (cases_lt job.place 4) 
   | inr l ↦ first_above (onward job n given) (omega (arith, l)) ∙ sym (first_above job l)
 ]
 
+-- a job whose append is not at its last move still writes the record that it wrote
 pub writes-on : (w : State) (job : Job) (n : ℕ) (action : Action) (kind : Kind) (entry : Record) → job.kind ≡ kind → next_action w job ≡ Some action → ends_append action ≡ false →
     (4 ≤ job.place → n ≡ job.subject) → (job.kind ≡ RepairJob → n ≡ job.subject) → Writes w job kind entry → Writes w (onward job n job.given) kind entry
 writes-on w job n action (PutJob name bytes) entry kind next plain later repairs h =
@@ -130,6 +133,7 @@ drawn-on w job action (DropJob name) kind next plain = refl
 drawn-on w job action RepairJob kind next plain = refl
 drawn-on w job action UpgradeJob kind next plain = refl
 
+-- once a put has drawn its number, the bytes of each number stay
 pub bytes-on : (w : State) (job : Job) (n : ℕ) (now : ℕ → List ℕ) (action : Action) (kind : Kind) (id : ℕ) → job.kind ≡ kind → next_action w job ≡ Some action → ends_append action ≡ false →
     now id ≡ bytes_drawn w job kind id → bytes_drawn (record w { bytes = now }) (onward job n job.given) kind id ≡ now id
 bytes-on w job n now action (PutJob name bytes) id kind next plain e = again (is_first_append job) (is_first_append (onward job n job.given)) (id == next_id w.records) (first-on objects w job n job.given action (subst (Draws objects) (sym kind) tt) next plain) e
@@ -151,6 +155,7 @@ abbrev pub gone_on : State → Job → Option Append → Option Doubt → (ℕ �
 gone_on old next flight doubt now began = record (going_on old next) { append = flight; doubt = doubt; bytes = now; audits = began }
 
 module _ (limit : ℕ) (old : State) (S : IsSound limit old) (job : Job) (runs : job_of old.jobs job.number ≡ Some job) where
+  -- a state is sound when a job has gone on, if what it left is in order and the rest stays
   pub going-sound : (next : Job) (flight : Option Append) (doubt : Option Doubt) (now : ℕ → List ℕ) (began : ℕ → ℕ) → next.number ≡ job.number → next.kind ≡ job.kind → job.place ≤ next.place →
       ((id : ℕ) → id < next_id old.records → now id ≡ old.bytes id) →
       ((k : ℕ) → (k ≡ job.number → ⊥) → moves_made flight k ≡ moves_made old.append k) →
@@ -225,7 +230,7 @@ module _ (limit : ℕ) (old : State) (S : IsSound limit old) (job : Job) (runs :
       ]
 
   -- another job's append in flight
-  pub append-other : (next : Job) (flight : Option Append) (doubt : Option Doubt) (began : ℕ → ℕ) (a : Append) → next.number ≡ job.number → (a.job ≡ job.number → ⊥) → IsSoundAppend old a →
+  append-other : (next : Job) (flight : Option Append) (doubt : Option Doubt) (began : ℕ → ℕ) (a : Append) → next.number ≡ job.number → (a.job ≡ job.number → ⊥) → IsSoundAppend old a →
       IsSoundAppend (gone_on old next flight doubt old.bytes began) a
   unfolding setup_in
   append-other next flight doubt began a number apart A = record {
@@ -239,10 +244,12 @@ module _ (limit : ℕ) (old : State) (S : IsSound limit old) (job : Job) (runs :
     follows = A.follows;
   }
 
+  -- the job has made the moves before its action, and what it has left is in order
   pub order-now : (action : Action) (given : List Given) → next_action old job ≡ Some action → (action ≡ End → ⊥) →
       (moves_made old.append job.number ≡ moves_before action) × IsInOrder (moves_after action) (actions_left (setup_in old) (onward job job.subject given))
   order-now action given next n = order-onward old job given (moves_made old.append job.number) action next n (S.jobs job.number job runs).order
 
+  -- an action that is no fourth move leaves as many appends to finish
   pub count-now : (action : Action) (given : List Given) → next_action old job ≡ Some action → (action ≡ End → ⊥) → ends_append action ≡ false →
       appends_left (setup_in old) (onward job job.subject given) ≡ appends_left (setup_in old) job
   count-now action given next n plain = (let a = count-onward old job given action next n in let b : gates action ≡ 0 = cond_false (ends_append action) 1 0 plain in omega (arith, a, b))

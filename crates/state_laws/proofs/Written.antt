@@ -101,7 +101,7 @@ spelled-audit_done : (number undecided : ℕ) (counts : List ℕ) → number < 2
     IsTrue (is_spelled (AuditDone number undecided counts))
 spelled-audit_done number undecided counts a b c d e = grind (arith, nat_tests, a, b, c, d, spelled-counts counts e)
 
-pub up-in : (o : Option Setup) → is_some o ≡ true → o ≡ Some (setup_or_none o)
+up-in : (o : Option Setup) → is_some o ≡ true → o ≡ Some (setup_or_none o)
 up-in None h = absurd (false≢true h)
 up-in (Some s) h = refl
 
@@ -151,19 +151,23 @@ module _ (limit : ℕ) (w : State) (S : IsSound limit w) where
     | inr f ↦ absurd (found_none w.jobs number job (S.closed f).0 runs)
   ]
 
+  -- the setup of an open vault is that of its records
   pub set_up-in : w.is_open ≡ true → setup_of w.records ≡ Some (setup_in w)
   unfolding setup_in
   set_up-in h = up-in (setup_of w.records) (S.set_up h)
 
+  -- the setup of an open vault is in the grammar
   pub setup-valid : w.is_open ≡ true → IsTrue (is_in_grammar (SetUp (setup_in w)))
   setup-valid h = setup-spelled w.records (setup_in w) S.spelled (set_up-in h)
 
+  -- the setup of an open vault has at most 64 rounds
   pub setup-rounds : w.is_open ≡ true → (setup_in w).rounds ≤ 64
   setup-rounds h = of_setup (setup_in w) (setup-valid h)
     where
       of_setup : (s : Setup) → IsTrue (is_in_grammar (SetUp s)) → s.rounds ≤ 64
       of_setup s g = grind (arith, nat_tests, g)
 
+  -- the setup of an open vault has 4 to 16 providers
   pub setup-providers : w.is_open ≡ true → (4 ≤ (setup_in w).n) × ((setup_in w).n ≤ 16)
   setup-providers h = (low (setup_in w) (setup-valid h), high (setup_in w) (setup-valid h))
     where
@@ -173,12 +177,15 @@ module _ (limit : ℕ) (w : State) (S : IsSound limit w) where
       high : (s : Setup) → IsTrue (is_in_grammar (SetUp s)) → s.n ≤ 16
       high s g = grind (arith, nat_tests, g)
 
+  -- the next object number fits 64 bits
   pub ids-fit : next_id w.records < 2 ^ 64
   ids-fit = next_id-fits w.records S.accepted
 
+  -- the next audit number fits 64 bits
   pub audits-fit : next_audit w.records < 2 ^ 64
   audits-fit = next_audit-fits w.records S.accepted
 
+  -- the sums of an audit that runs are small
   pub small-sums : (number : ℕ) (job : Job) (sums : Sums) → job_of w.jobs number ≡ Some job → HasSums (setup_in w) job sums → AreSmall (setup_in w).n sums
   small-sums number job sums runs has = sums-small (setup_in w) job sums (S.jobs number job runs).few (setup-rounds (runs-open number job runs)) has
 
@@ -213,11 +220,12 @@ module _ (limit : ℕ) (w : State) (S : IsSound limit w) where
         let e : appends_left (setup_in w) job ≡ appends_in (WriteBody ∷ rest) = ap appends_in left in
         omega (arith, c, d, e))
 
+    -- the sums of an audit that runs have a count for each provider
     pub sizes : (sums : Sums) → HasSums (setup_in w) job sums → length sums.counts ≡ (setup_in w).n
     sizes sums has = (small-sums number job sums runs has).size
 
     -- the journal has room for the record
-    pub written-room : (entry : Record) → 0 < appends_left (setup_in w) job → Writes w job job.kind entry → journal_end w + (1 + record_size entry) ≤ largest_journal
+    written-room : (entry : Record) → 0 < appends_left (setup_in w) job → Writes w job job.kind entry → journal_end w + (1 + record_size entry) ≤ largest_journal
     written-room entry left h =
         (let k = appends_left (setup_in w) job - 1 in
         let is : appends_left (setup_in w) job ≡ k + 1 = omega (arith, left) in
@@ -352,6 +360,7 @@ module _ (limit : ℕ) (w : State) (S : IsSound limit w) where
           tt,
         ))
 
+    -- the record that the job writes with its next action may come into effect next
     pub written-follows : (entry : Record) → next_action w job ≡ Some WriteBody → Writes w job job.kind entry → MayFollowIn w entry
     written-follows entry next h =
         (let left = body-left next in
@@ -361,21 +370,27 @@ module _ (limit : ℕ) (w : State) (S : IsSound limit w) where
   -- ---- until the journal has its second version
 
   module _ (first : version_of w.records ≡ 1) where
+    -- until the second version the disk holds the whole history
     pub whole-first : IsWholeJournal w
     whole-first = S.journal.whole first
 
+    -- until the second version each record is in the grammar of today
     pub grammar-now : AreInGrammar w.records
     grammar-now = first-grammar w.records S.accepted S.spelled first
 
+    -- until the second version the journal ends where the text of the history does
     pub end-first : journal_end w ≡ text_size w.records
     end-first = whole-end w whole-first
 
+    -- until the second version the journal has room for all that running jobs have still to write
     pub room-first : text_size w.records + sum_by (reserved 1 (setup_in w)) w.jobs ≤ largest_journal
     room-first = (let r = S.room in let e = end-first in let v = ap (λ n. sum_by (reserved n (setup_in w)) w.jobs) first in omega (arith, r, e, v))
 
+    -- until the second version the next object number is at most the largest length of a journal
     pub ids-small : next_id w.records ≤ largest_journal
     ids-small = (let a = next_id-le w.records grammar-now in let b = room-first in omega (arith, a, b))
 
+    -- until the second version the next audit number is at most the largest length of a journal
     pub audits-small : next_audit w.records ≤ largest_journal
     audits-small = (let a = next_audit-le w.records grammar-now in let b = room-first in omega (arith, a, b))
 

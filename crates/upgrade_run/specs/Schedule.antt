@@ -44,9 +44,9 @@ pub record IsInThirdMove (w : State) : Type 0 where
   pub area : w.area ≡ A
   pub journal : w.journal ≡ stored_records
 
--- a run in which all that the second version brings happens: an upgrade; a put of a file with a profile of its
--- own; damage below the correction limit; a scrub that finds and mends it; a pack; a stop in the pack's third
--- move, which leaves the packed journal in effect; and a get
+-- a run in which all that the second version brings happens: an upgrade; a put of a file with a profile of
+-- its own; damage below the correction limit; a scrub that finds and mends it; a pack; a stop in the pack's
+-- third move, which leaves the packed journal in effect; and a get
 pub record HasAll (ms : List Moment) : Type 0 where
   pub clean : IsStart set_up
   pub run : IsRun 8 set_up ms

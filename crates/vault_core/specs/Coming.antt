@@ -166,8 +166,8 @@ abbrev pub is_last_ask_of : Option CoreJob → Bool
 is_last_ask_of None = false
 is_last_ask_of (Some j) = is_last_ask j.rest
 
--- A reply is one that an action of a job has; the last ask of an audit has a verdict. A sync may be told Memory,
--- though none takes any: so one function makes all moves of an append.
+-- A reply is one that an action of a job has; the last ask of an audit has a verdict. A sync may be told
+-- Memory, though none takes any: so one function makes all moves of an append.
 abbrev pub HasReply : CoreView → ℕ → Coming → Reply → Type 0
 HasReply c number (Acts WriteBody) reply.Done = Unit {0}
 HasReply c number (Acts WriteBody) reply.Failed = Unit {0}

@@ -1,7 +1,7 @@
 -- The names of started puts, kept one behind the other, each with a byte for its size.
 --
---   Starts                   == what is kept of started puts: in the order of their ids the name of each, None
---                               once it is done; and for how many more there is room
+--   Starts                   == what is kept of started puts: in the order of their ids the name of each,
+--                               None once it is done; and for how many more there is room
 --   begins_at sizes k        == where among the letters the name of a place begins
 --   kept_names sizes letters   == the names; a size of 128 or more is that of a put that is done
 --   started_puts, IsStarts      == how it is kept: of each 64th name a mark tells where it begins
