@@ -16,7 +16,8 @@ splits_end c at =
     solve nim_ring (sum_over c at c.picks ∷ nim_pow (alpha c.seed) c.picks ∷ []) (v 0 ⊞ (v 1 ⊡ o)) (v 0) refl
 
 -- one pick more by Horner's rule
-pub splits_more : (c : Challenge) (at : ℕ → ℕ) (k m x sum new : ℕ) → k ≡ suc m → at (picked_row c.seed c.rows m) ≡ x
+pub splits_more : (c : Challenge) (at : ℕ → ℕ) (k m x sum new : ℕ) →
+    k ≡ suc m → at (picked_row c.seed c.rows m) ≡ x
     → new ≡ nim_mul (alpha c.seed) (nim_add x sum) → Splits c at k sum → Splits c at m new
 unfolding sum_over nim_pow
 splits_more c at k m x sum new next here made before =
@@ -24,7 +25,8 @@ splits_more c at k m x sum new next here made before =
     let s = sum_over c at m in
     let p = nim_pow a m in
     ap (λ (y : ℕ). nim_add s (nim_mul p y)) made
-    ∙ solve nim_ring (s ∷ p ∷ a ∷ x ∷ sum ∷ []) (v 0 ⊞ (v 1 ⊡ (v 2 ⊡ (v 3 ⊞ v 4)))) ((v 0 ⊞ ((v 2 ⊡ v 1) ⊡ v 3)) ⊞ ((v 2 ⊡ v 1) ⊡ v 4)) refl
+    ∙ solve nim_ring (s ∷ p ∷ a ∷ x ∷ sum ∷ []) (v 0 ⊞ (v 1 ⊡ (v 2 ⊡ (v 3 ⊞ v 4))))
+    ((v 0 ⊞ ((v 2 ⊡ v 1) ⊡ v 3)) ⊞ ((v 2 ⊡ v 1) ⊡ v 4)) refl
     ∙ ap (λ (y : ℕ). nim_add (nim_add s (nim_mul (nim_mul a p) y)) (nim_mul (nim_mul a p) sum)) (sym here)
     ∙ subst (λ (j : ℕ). Splits c at j sum) next before
 
@@ -46,7 +48,8 @@ from_more P n k m next here later j above below = go (nat_eq j m) refl
 
 -- there is a symbol in the row of each pick
 all_held-picks : (c : Challenge) (held : ℕ → Option (List ℕ)) (n : ℕ)
-    → ((k : ℕ) → k < n → is_some (held_symbol c.size held (picked_row c.seed c.rows k)) ≡ true) → all_held c held n ≡ true
+    → ((k : ℕ) → k < n → is_some (held_symbol c.size held (picked_row c.seed c.rows k)) ≡ true) →
+    all_held c held n ≡ true
 unfolding all_held
 all_held-picks c held zero each = refl
 all_held-picks c held (suc n) each =

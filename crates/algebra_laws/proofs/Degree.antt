@@ -42,7 +42,13 @@ module _ {A : Type 0} (F : FieldOf A) (laws : IsField F) where
   get_or-times [] q m n k hp hq e = absurd (omega arith)
   get_or-times (a ∷ []) q zero n k hp hq e =
       let same : k ≡ n = omega arith in
-      cc (get_or-plus F laws (scale F a q) (𝟘 ∷ []) k, get_or-scale F laws a q k, same, get_or-zero k, laws.ring.add_zero (a ⊗ get_or q k 𝟘))
+      cc (
+        get_or-plus F laws (scale F a q) (𝟘 ∷ []) k,
+        get_or-scale F laws a q k,
+        same,
+        get_or-zero k,
+        laws.ring.add_zero (a ⊗ get_or q k 𝟘),
+      )
   get_or-times (a ∷ []) q (suc m) n k hp hq e = absurd (omega arith)
   get_or-times (a ∷ b ∷ p) q zero n k hp hq e = absurd (omega arith)
   get_or-times (a ∷ b ∷ p) q (suc m) n zero hp hq e = absurd (omega arith)
@@ -57,11 +63,13 @@ module _ {A : Type 0} (F : FieldOf A) (laws : IsField F) where
       )
 
   -- a product of two polynomials that are not zero is no shorter than its first factor
-  pub product_not_shorter : (f w r : List A) → 0 < length f → 0 < length w → get_or f (length f - 1) 𝟘 ≢ 𝟘 → get_or w (length w - 1) 𝟘 ≢ 𝟘 →
+  pub product_not_shorter : (f w r : List A) → 0 < length f → 0 < length w → get_or f (length f - 1) 𝟘 ≢ 𝟘 →
+      get_or w (length w - 1) 𝟘 ≢ 𝟘 →
       r ≡ trim F (times F f w) → length r < length f → ⊥
   product_not_shorter f w r some_f some_w last_f last_w is less =
       last_w (factor_zero F laws (get_or f m 𝟘) (get_or w n 𝟘)
-      (sym (get_or-times f w m n (m + n) (omega arith) (omega arith) refl) ∙ sym (get_or-trim (times F f w) (m + n)) ∙
+      (sym (get_or-times f w m n (m + n) (omega arith) (omega arith) refl)
+      ∙ sym (get_or-trim (times F f w) (m + n)) ∙
       ap (λ p. get_or p (m + n) 𝟘) (sym is) ∙ get_or_past r (m + n) 𝟘 (omega arith)) last_f)
     where
       m : ℕ

@@ -15,7 +15,8 @@ module _ {A : Type 0} (F : FieldOf A) (laws : IsField F) where
   infixl 60 ◌⊕◌
   infixl 70 ◌⊗◌
   -- a last coefficient that is zero may go
-  value-take : (p : List A) (m : ℕ) (x : A) → length p ≤ suc m → get_or p m 𝟘 ≡ 𝟘 → value F (take m p) x ≡ value F p x
+  value-take : (p : List A) (m : ℕ) (x : A) → length p ≤ suc m → get_or p m 𝟘 ≡ 𝟘 →
+      value F (take m p) x ≡ value F p x
   unfolding value
   value-take [] zero x h e = refl
   value-take [] (suc m) x h e = refl
@@ -50,13 +51,16 @@ module _ {A : Type 0} (F : FieldOf A) (laws : IsField F) where
   length-quotient : (d : List A) (m : ℕ) (w : A) (p : List A) → length (quotient F d m w p) ≡ length p
   unfolding quotient
   length-quotient d m w [] = refl
-  length-quotient d m w (a ∷ p) = let h : length (quotient F d m w p) ≡ length p = length-quotient d m w p in omega arith
+  length-quotient d m w (a ∷ p) =
+      let h : length (quotient F d m w p) ≡ length p = length-quotient d m w p in omega arith
 
   -- the dividend is the quotient times the divisor, plus the remainder
-  pub value-divided : (d : List A) (m : ℕ) (w : A) → length d ≡ suc m → w ⊗ get_or d m 𝟘 ≡ 𝟙 → (p : List A) (x : A) →
+  pub value-divided : (d : List A) (m : ℕ) (w : A) → length d ≡ suc m → w ⊗ get_or d m 𝟘 ≡ 𝟙 →
+      (p : List A) (x : A) →
       value F p x ≡ (value F (quotient F d m w p) x ⊗ value F d x) ⊕ value F (remainder F d m w p) x
   unfolding remainder quotient value
-  value-divided d m w fits lead [] x = cc (laws.ring.mul_comm 𝟘 (value F d x), laws.ring.mul_zero (value F d x), laws.ring.add_zero 𝟘)
+  value-divided d m w fits lead [] x =
+      cc (laws.ring.mul_comm 𝟘 (value F d x), laws.ring.mul_zero (value F d x), laws.ring.add_zero 𝟘)
   value-divided d m w fits lead (a ∷ p) x =
       ap (λ t. a ⊕ (x ⊗ t)) (value-divided d m w fits lead p x) ∙
       solve laws.ring (a ∷ x ∷ Q ∷ D ∷ R ∷ c ∷ [])
@@ -92,5 +96,10 @@ module _ {A : Type 0} (F : FieldOf A) (laws : IsField F) where
       rest : value F (take m (plus F r (scale F c d))) x ≡ (a ⊕ (x ⊗ R)) ⊕ (c ⊗ D)
       rest =
           value-take (plus F r (scale F c d)) m x
-          (omega (arith, length-plus F laws r (scale F c d), length-scale F laws c d, length-remainder d m w p)) top ∙
+          (omega (
+            arith,
+            length-plus F laws r (scale F c d),
+            length-scale F laws c d,
+            length-remainder d m w p,
+          )) top ∙
           value-plus F laws r (scale F c d) x ∙ ap (λ t. (a ⊕ (x ⊗ R)) ⊕ t) (value-scale F laws c d x)

@@ -25,7 +25,8 @@ module _ {A : Type 0} (t : A → Bool) where
   length-split (x ∷ xs) = go (t x) (length-split xs)
     where
       go : (b : Bool) → length (where_is t xs) + length (where_not t xs) ≡ length xs →
-          length (cond b (x ∷ where_is t xs) (where_is t xs)) + length (cond b (where_not t xs) (x ∷ where_not t xs)) ≡ suc (length xs)
+          length (cond b (x ∷ where_is t xs) (where_is t xs)) + length
+          (cond b (where_not t xs) (x ∷ where_not t xs)) ≡ suc (length xs)
       go true h = omega arith
       go false h = omega arith
 
@@ -75,7 +76,8 @@ module _ {A : Type 0} (t : A → Bool) where
   passes P h [] = tt
   passes P h (x ∷ xs) = go (t x) (h x) (passes P h xs)
     where
-      go : (b : Bool) → (b ≡ true → P x) → Each P (where_is t xs) → Each P (cond b (x ∷ where_is t xs) (where_is t xs))
+      go : (b : Bool) → (b ≡ true → P x) → Each P (where_is t xs) →
+          Each P (cond b (x ∷ where_is t xs) (where_is t xs))
       go true f k = (f refl, k)
       go false f k = k
 
@@ -85,7 +87,8 @@ module _ {A : Type 0} (t : A → Bool) where
   fails P h [] = tt
   fails P h (x ∷ xs) = go (t x) (h x) (fails P h xs)
     where
-      go : (b : Bool) → (b ≡ false → P x) → Each P (where_not t xs) → Each P (cond b (where_not t xs) (x ∷ where_not t xs))
+      go : (b : Bool) → (b ≡ false → P x) → Each P (where_not t xs) →
+          Each P (cond b (where_not t xs) (x ∷ where_not t xs))
       go true f k = k
       go false f k = (f refl, k)
 
@@ -104,7 +107,8 @@ module _ {A : Type 0} (F : FieldOf A) (laws : IsField F) (endless : IsEndless A)
   same_from_values p q h =
       let n : ℕ = length p + length q in
       trim_same F laws p q
-      (plus_zero F laws (endless.some n) p q (endless.Apart-some n) (Each-all (λ x. value F p x ≡ value F q x) h (endless.some n))
+      (plus_zero F laws (endless.some n) p q (endless.Apart-some n)
+      (Each-all (λ x. value F p x ≡ value F q x) h (endless.some n))
       (omega (arith, endless.length-some n)) (omega (arith, endless.length-some n)))
 
   -- what the test finds other than zero is not zero
@@ -112,7 +116,8 @@ module _ {A : Type 0} (F : FieldOf A) (laws : IsField F) (endless : IsEndless A)
   nonzero x h e = let k : F.eq x 𝟘 ≡ true = rw e (laws.eq_refl 𝟘) in cc
 
   -- a product that is zero everywhere has a factor that is zero
-  pub cancel : (f w : List A) → (Each (λ a. a ≡ 𝟘) f → ⊥) → ((x : A) → value F f x ⊗ value F w x ≡ 𝟘) → Each (λ a. a ≡ 𝟘) w
+  pub cancel : (f w : List A) → (Each (λ a. a ≡ 𝟘) f → ⊥) → ((x : A) → value F f x ⊗ value F w x ≡ 𝟘) →
+      Each (λ a. a ≡ 𝟘) w
   cancel f w some h = go (dec (length f) (length (where_is t S)))
     where
       n : ℕ
@@ -128,8 +133,10 @@ module _ {A : Type 0} (F : FieldOf A) (laws : IsField F) (endless : IsEndless A)
       dec a b = grind arith
 
       go : (length f ≤ length (where_is t S)) ⊎ (suc (length (where_is t S)) ≤ length f) → Each (λ a. a ≡ 𝟘) w
-      go (inl le) = absurd (some (zero_from_roots F laws (where_is t S) f (Apart-is t S (endless.Apart-some n))
+      go (inl le) = absurd (some
+          (zero_from_roots F laws (where_is t S) f (Apart-is t S (endless.Apart-some n))
           (passes t (λ x. value F f x ≡ 𝟘) (λ x e. laws.eq_true (value F f x) 𝟘 e) S) le))
       go (inr lt) = zero_from_roots F laws (where_not t S) w (Apart-not t S (endless.Apart-some n))
-          (fails t (λ x. value F w x ≡ 𝟘) (λ x e. factor_zero F laws (value F f x) (value F w x) (h x) (nonzero (value F f x) e)) S)
+          (fails t (λ x. value F w x ≡ 𝟘)
+          (λ x e. factor_zero F laws (value F f x) (value F w x) (h x) (nonzero (value F f x) e)) S)
           (omega (arith, length-split t S, endless.length-some n))

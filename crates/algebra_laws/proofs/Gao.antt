@@ -12,7 +12,8 @@ use Rattle.algebra_laws.proofs.Interpolate.{length-times}
 right_at : {A : Type 0} → FieldOf A → List A → List A → List A → List A
 right_at F p [] ys = []
 right_at F p (x ∷ xs) [] = []
-right_at F p (x ∷ xs) (y ∷ ys) = cond (is_seen F (value F p x) (Some y)) (x ∷ right_at F p xs ys) (right_at F p xs ys)
+right_at F p (x ∷ xs) (y ∷ ys) =
+    cond (is_seen F (value F p x) (Some y)) (x ∷ right_at F p xs ys) (right_at F p xs ys)
 
 module _ {A : Type 0} (F : FieldOf A) (laws : IsField F) where
   open F use {zero as 𝟘, one as 𝟙, add as ◌⊕◌, mul as ◌⊗◌}
@@ -27,7 +28,8 @@ module _ {A : Type 0} (F : FieldOf A) (laws : IsField F) where
   length-right_at p (x ∷ xs) (y ∷ ys) = go (is_seen F (value F p x) (Some y)) (length-right_at p xs ys)
     where
       go : (b : Bool) → length (right_at F p xs ys) ≡ agree F p xs (map Some ys) →
-          length (cond b (x ∷ right_at F p xs ys) (right_at F p xs ys)) ≡ cond b 1 0 + agree F p xs (map Some ys)
+          length (cond b (x ∷ right_at F p xs ys) (right_at F p xs ys))
+          ≡ cond b 1 0 + agree F p xs (map Some ys)
       go true h = omega arith
       go false h = omega arith
 
@@ -38,7 +40,8 @@ module _ {A : Type 0} (F : FieldOf A) (laws : IsField F) where
   Each-right_at P p (x ∷ xs) [] h = tt
   Each-right_at P p (x ∷ xs) (y ∷ ys) h = go (is_seen F (value F p x) (Some y)) (Each-right_at P p xs ys h.1)
     where
-      go : (b : Bool) → Each P (right_at F p xs ys) → Each P (cond b (x ∷ right_at F p xs ys) (right_at F p xs ys))
+      go : (b : Bool) → Each P (right_at F p xs ys) →
+          Each P (cond b (x ∷ right_at F p xs ys) (right_at F p xs ys))
       go true t = (h.0, t)
       go false t = t
 
@@ -49,7 +52,8 @@ module _ {A : Type 0} (F : FieldOf A) (laws : IsField F) where
   Apart-right_at p (x ∷ xs) [] d = tt
   Apart-right_at p (x ∷ xs) (y ∷ ys) d = go (is_seen F (value F p x) (Some y)) (Apart-right_at p xs ys d.1)
     where
-      go : (b : Bool) → Apart (right_at F p xs ys) → Apart (cond b (x ∷ right_at F p xs ys) (right_at F p xs ys))
+      go : (b : Bool) → Apart (right_at F p xs ys) →
+          Apart (cond b (x ∷ right_at F p xs ys) (right_at F p xs ys))
       go true t = (Each-right_at (λ y. x ≢ y) p xs ys d.0, t)
       go false t = t
 
@@ -59,14 +63,18 @@ module _ {A : Type 0} (F : FieldOf A) (laws : IsField F) where
   seen_is z y h = laws.eq_true y z h
 
   -- at these points the row is its cofactor times the polynomial
-  solved : (r f p xs ys : List A) → Solves F r f xs ys → Each (λ x. value F r x ≡ value F (times F f p) x) (right_at F p xs ys)
+  solved : (r f p xs ys : List A) → Solves F r f xs ys →
+      Each (λ x. value F r x ≡ value F (times F f p) x) (right_at F p xs ys)
   unfolding right_at
   solved r f p [] ys h = tt
   solved r f p (x ∷ xs) [] h = tt
-  solved r f p (x ∷ xs) (y ∷ ys) h = go (is_seen F (value F p x) (Some y)) (seen_is (value F p x) y) (solved r f p xs ys h.1)
+  solved r f p (x ∷ xs) (y ∷ ys) h =
+      go (is_seen F (value F p x) (Some y)) (seen_is (value F p x) y) (solved r f p xs ys h.1)
     where
-      go : (b : Bool) → (b ≡ true → y ≡ value F p x) → Each (λ x. value F r x ≡ value F (times F f p) x) (right_at F p xs ys) →
-          Each (λ x. value F r x ≡ value F (times F f p) x) (cond b (x ∷ right_at F p xs ys) (right_at F p xs ys))
+      go : (b : Bool) → (b ≡ true → y ≡ value F p x) →
+          Each (λ x. value F r x ≡ value F (times F f p) x) (right_at F p xs ys) →
+          Each (λ x. value F r x ≡ value F (times F f p) x)
+          (cond b (x ∷ right_at F p xs ys) (right_at F p xs ys))
       go true e t = (cc (value-times F laws f p x, h.0, e refl), t)
       go false e t = t
 

@@ -15,27 +15,36 @@ module _ {A : Type 0} (F : FieldOf A) (laws : IsField F) where
   infixl 60 ◌⊕◌
   infixl 70 ◌⊗◌
   -- the value of the product over one point more
-  pub value-vanish : (r : A) (rs : List A) (x : A) → value F (vanish F (r ∷ rs)) x ≡ (r ⊕ x) ⊗ value F (vanish F rs) x
+  pub value-vanish : (r : A) (rs : List A) (x : A) →
+      value F (vanish F (r ∷ rs)) x ≡ (r ⊕ x) ⊗ value F (vanish F rs) x
   unfolding vanish value
   value-vanish r rs x =
       value-times F laws (r ∷ 𝟙 ∷ []) (vanish F rs) x ∙
-      solve laws.ring (r ∷ x ∷ value F (vanish F rs) x ∷ []) ((v 0 ⊞ (v 1 ⊡ (i ⊞ (v 1 ⊡ o)))) ⊡ v 2) ((v 0 ⊞ v 1) ⊡ v 2) refl
+      solve laws.ring (r ∷ x ∷ value F (vanish F rs) x ∷ []) ((v 0 ⊞ (v 1 ⊡ (i ⊞ (v 1 ⊡ o)))) ⊡ v 2)
+      ((v 0 ⊞ v 1) ⊡ v 2) refl
 
   -- it is zero at each point
   pub vanish_roots : (rs : List A) → Each (λ x. value F (vanish F rs) x ≡ 𝟘) rs
   vanish_roots [] = tt
   vanish_roots (r ∷ rs) = (
-    cc (value-vanish r rs r, laws.ring.add_self r, laws.ring.mul_comm 𝟘 (value F (vanish F rs) r), laws.ring.mul_zero (value F (vanish F rs) r)),
+    cc (
+      value-vanish r rs r,
+      laws.ring.add_self r,
+      laws.ring.mul_comm 𝟘 (value F (vanish F rs) r),
+      laws.ring.mul_zero (value F (vanish F rs) r),
+    ),
     go rs (vanish_roots rs),
   )
     where
-      go : (xs : List A) → Each (λ x. value F (vanish F rs) x ≡ 𝟘) xs → Each (λ x. value F (vanish F (r ∷ rs)) x ≡ 𝟘) xs
+      go : (xs : List A) → Each (λ x. value F (vanish F rs) x ≡ 𝟘) xs →
+          Each (λ x. value F (vanish F (r ∷ rs)) x ≡ 𝟘) xs
       go [] h = tt
       go (x ∷ xs) h = (cc (value-vanish r rs x, h.0, laws.ring.mul_zero (r ⊕ x)), go xs h.1)
 
   -- where two elements differ, one is not zero
   one_not_zero : (x y : A) → x ≢ y → 𝟙 ≢ 𝟘
-  one_not_zero x y h e = h (cc (laws.ring.mul_one x, laws.ring.mul_one y, laws.ring.mul_zero x, laws.ring.mul_zero y, e))
+  one_not_zero x y h e =
+      h (cc (laws.ring.mul_one x, laws.ring.mul_one y, laws.ring.mul_zero x, laws.ring.mul_zero y, e))
 
   -- and nowhere else
   pub vanish_else : (rs : List A) (x : A) → 𝟙 ≢ 𝟘 → Each (λ y. x ≢ y) rs → value F (vanish F rs) x ≢ 𝟘
@@ -82,10 +91,16 @@ module _ {A : Type 0} (F : FieldOf A) (laws : IsField F) where
   length-interpolate (x ∷ xs) (y ∷ ys) e =
       let h : length (interpolate F xs ys) ≡ length xs = length-interpolate xs ys (omega arith) in
       let c : A = (y ⊕ value F (interpolate F xs ys) x) ⊗ F.inv (value F (vanish F xs) x) in
-      omega (arith, length-plus F laws (interpolate F xs ys) (scale F c (vanish F xs)), length-scale c (vanish F xs), length-vanish xs)
+      omega (
+        arith,
+        length-plus F laws (interpolate F xs ys) (scale F c (vanish F xs)),
+        length-scale c (vanish F xs),
+        length-vanish xs,
+      )
 
   -- it takes the values
-  pub interpolate_takes : (xs ys : List A) → 𝟙 ≢ 𝟘 → length xs ≡ length ys → Apart xs → Takes F (interpolate F xs ys) xs ys
+  pub interpolate_takes : (xs ys : List A) → 𝟙 ≢ 𝟘 → length xs ≡ length ys → Apart xs →
+      Takes F (interpolate F xs ys) xs ys
   unfolding interpolate
   interpolate_takes [] ys one e d = tt
   interpolate_takes (x ∷ xs) [] one e d = absurd (omega arith)
@@ -101,7 +116,8 @@ module _ {A : Type 0} (F : FieldOf A) (laws : IsField F) where
       c : A
       c = (y ⊕ value F P x) ⊗ F.inv V
 
-      at_any : (z : A) → value F (plus F P (scale F c (vanish F xs))) z ≡ value F P z ⊕ (c ⊗ value F (vanish F xs) z)
+      at_any : (z : A) → value F (plus F P (scale F c (vanish F xs))) z
+          ≡ value F P z ⊕ (c ⊗ value F (vanish F xs) z)
       at_any z = cc (value-plus F laws P (scale F c (vanish F xs)) z, value-scale F laws c (vanish F xs) z)
 
       at_point : value F (plus F P (scale F c (vanish F xs))) x ≡ y
@@ -119,4 +135,7 @@ module _ {A : Type 0} (F : FieldOf A) (laws : IsField F) where
           Takes F (plus F P (scale F c (vanish F xs))) us ws
       keep [] ws z t = tt
       keep (u ∷ us) [] z t = t
-      keep (u ∷ us) (w ∷ ws) z t = (cc (at_any u, z.0, laws.ring.mul_zero c, laws.ring.add_zero (value F P u), t.0), keep us ws z.1 t.1)
+      keep (u ∷ us) (w ∷ ws) z t = (
+        cc (at_any u, z.0, laws.ring.mul_zero c, laws.ring.add_zero (value F P u), t.0),
+        keep us ws z.1 t.1,
+      )

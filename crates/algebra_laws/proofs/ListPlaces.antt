@@ -21,7 +21,19 @@ place-of (suc l) keep i below = go (nat_lt i (l * keep)) refl (place-of l keep i
     go : (b : Bool) → nat_lt i (l * keep) ≡ b → (i < l * keep → IsPlace l keep i) → IsPlace (suc l) keep i
     go true is before =
         let h = before (grind (arith, is)) in
-        record { block = h.block; place = h.place; block_in = omega (arith, h.block_in); place_in = h.place_in; sum = h.sum }
+        record {
+          block = h.block;
+          place = h.place;
+          block_in = omega (arith, h.block_in);
+          place_in = h.place_in;
+          sum = h.sum;
+        }
     go false is before =
         let out : l * keep ≤ i = grind (arith, is) in
-        record { block = l; place = i - l * keep; block_in = omega arith; place_in = omega (arith, out, below, split); sum = omega (arith, out) }
+        record {
+          block = l;
+          place = i - l * keep;
+          block_in = omega arith;
+          place_in = omega (arith, out, below, split);
+          sum = omega (arith, out);
+        }

@@ -15,7 +15,8 @@ pub get_behind : {X : Type 0} (xs ys : List X) (k : ℕ) (x : X) → slice_get y
     slice_get (xs ++ ys) (length xs + k) ≡ Some x
 get_behind [] ys k x h = subst (λ n. slice_get ys n ≡ Some x) (let e : k ≡ 0 + k = omega arith in e) h
 get_behind (z ∷ xs) ys k x h =
-    subst (λ n. slice_get (z ∷ xs ++ ys) n ≡ Some x) (let e : suc (length xs + k) ≡ suc (length xs) + k = omega arith in e)
+    subst (λ n. slice_get (z ∷ xs ++ ys) n ≡ Some x)
+    (let e : suc (length xs + k) ≡ suc (length xs) + k = omega arith in e)
     (get_behind xs ys k x h)
 
 -- at a place of a list something stands
@@ -25,26 +26,30 @@ get_within (x ∷ xs) zero l e = let h : None ≡ Some x = e in cc
 get_within (x ∷ xs) (suc k) l e = get_within xs k (omega arith) e
 
 -- from an element on
-pub drop-get : {X : Type 0} (xs : List X) (p : ℕ) (x : X) → slice_get xs p ≡ Some x → drop p xs ≡ x ∷ drop (p + 1) xs
+pub drop-get : {X : Type 0} (xs : List X) (p : ℕ) (x : X) → slice_get xs p ≡ Some x →
+    drop p xs ≡ x ∷ drop (p + 1) xs
 drop-get [] p x h = absurd (let e : None ≡ Some x = h in cc)
 drop-get (y ∷ ys) zero x h = (let e : Some y ≡ Some x = h in let f : y ≡ x = cc in ap (λ z. z ∷ ys) f)
 drop-get (y ∷ ys) (suc p) x h =
     drop-get ys p x h ∙ ap (λ n. x ∷ drop n (y ∷ ys)) (let e : suc (p + 1) ≡ suc p + 1 = omega arith in e)
 
 -- what was set at a place stands there
-pub get-set_same : {X : Type 0} (xs : List X) (j : ℕ) (x : X) → j < length xs → slice_get (slice_set xs j x) j ≡ Some x
+pub get-set_same : {X : Type 0} (xs : List X) (j : ℕ) (x : X) → j < length xs →
+    slice_get (slice_set xs j x) j ≡ Some x
 get-set_same [] j x l = absurd (omega (arith, l))
 get-set_same (y ∷ xs) zero x l = refl
 get-set_same (y ∷ xs) (suc j) x l = get-set_same xs j x (omega (arith, l))
 
 -- the same, where something stood before
-pub get-set_there : {X : Type 0} (xs : List X) (j : ℕ) (x y : X) → slice_get xs j ≡ Some x → slice_get (slice_set xs j y) j ≡ Some y
+pub get-set_there : {X : Type 0} (xs : List X) (j : ℕ) (x y : X) → slice_get xs j ≡ Some x →
+    slice_get (slice_set xs j y) j ≡ Some y
 get-set_there [] j x y h = absurd (let e : None ≡ Some x = h in cc)
 get-set_there (z ∷ xs) zero x y h = refl
 get-set_there (z ∷ xs) (suc j) x y h = get-set_there xs j x y h
 
 -- and the rest stands as before
-pub get-set_other : {X : Type 0} (xs : List X) (j k : ℕ) (x : X) → k ≢ j → slice_get (slice_set xs j x) k ≡ slice_get xs k
+pub get-set_other : {X : Type 0} (xs : List X) (j k : ℕ) (x : X) → k ≢ j →
+    slice_get (slice_set xs j x) k ≡ slice_get xs k
 get-set_other [] j k x differ = refl
 get-set_other (y ∷ xs) zero zero x differ = absurd (differ refl)
 get-set_other (y ∷ xs) zero (suc k) x differ = refl
@@ -107,11 +112,13 @@ map-range_at f g a (suc n) e j low high =
     ]
 
 -- what stands at a place of the list
-pub get-map_range : {X : Type 0} (f : ℕ → X) (n a i : ℕ) → i < n → slice_get (map f (range_with_len a n)) i ≡ Some (f (a + i))
+pub get-map_range : {X : Type 0} (f : ℕ → X) (n a i : ℕ) → i < n →
+    slice_get (map f (range_with_len a n)) i ≡ Some (f (a + i))
 get-map_range f zero a i l = absurd (omega (arith, l))
 get-map_range f (suc n) a zero l = ap (λ k. Some (f k)) (let e : a ≡ a + 0 = omega arith in e)
 get-map_range f (suc n) a (suc i) l =
-    get-map_range f n (a + 1) i (omega (arith, l)) ∙ ap (λ k. Some (f k)) (let e : a + 1 + i ≡ a + suc i = omega arith in e)
+    get-map_range f n (a + 1) i (omega (arith, l))
+    ∙ ap (λ k. Some (f k)) (let e : a + 1 + i ≡ a + suc i = omega arith in e)
 
 -- ---- one list or another
 

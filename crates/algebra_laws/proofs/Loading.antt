@@ -50,10 +50,16 @@ module _ {A : Type 0} (F : FieldOf A) (laws : IsField F) where
   -- one more value
   pub interpolate_step : (x y : A) (xs ys : List A) → length xs ≡ length ys →
       plus F (interpolate F xs ys ++ F.zero ∷ [])
-      (scale F (F.mul (F.add y (value F (interpolate F xs ys) x)) (F.inv (value F (vanish F xs) x))) (vanish F xs)) ≡
+      (scale F (F.mul (F.add y (value F (interpolate F xs ys) x)) (F.inv (value F (vanish F xs) x)))
+      (vanish F xs)) ≡
       interpolate F (x ∷ xs) (y ∷ ys)
   unfolding interpolate
   interpolate_step x y xs ys e =
       let c : A = F.mul (F.add y (value F (interpolate F xs ys) x)) (F.inv (value F (vanish F xs) x)) in
       plus-pad (interpolate F xs ys) (scale F c (vanish F xs))
-      (omega (arith, length-scale F laws c (vanish F xs), length-vanish F laws xs, length-interpolate F laws xs ys e))
+      (omega (
+        arith,
+        length-scale F laws c (vanish F xs),
+        length-vanish F laws xs,
+        length-interpolate F laws xs ys e,
+      ))

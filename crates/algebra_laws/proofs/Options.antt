@@ -18,6 +18,7 @@ is_some-option_map f None = refl
 is_some-option_map f (Some x) = refl
 
 -- which way a test went
-pub cond-cases : {A : Type 0} (b : Bool) (x y z : A) → cond b x y ≡ z → ((b ≡ true) × (x ≡ z)) ⊎ ((b ≡ false) × (y ≡ z))
+pub cond-cases : {A : Type 0} (b : Bool) (x y z : A) → cond b x y ≡ z →
+    ((b ≡ true) × (x ≡ z)) ⊎ ((b ≡ false) × (y ≡ z))
 cond-cases true x y z e = inl (refl, e)
 cond-cases false x y z e = inr (refl, e)

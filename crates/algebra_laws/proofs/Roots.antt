@@ -45,7 +45,8 @@ module _ {A : Type 0} (F : FieldOf A) (laws : IsField F) where
       (λ e. ne (sym (sum_zero laws.ring s r e)))
 
   -- further roots are roots of the quotient
-  pub roots_below : (a : A) (p : List A) (r : A) (rs : List A) → Each (λ s. r ≢ s) rs → value F (a ∷ p) r ≡ 𝟘 →
+  pub roots_below : (a : A) (p : List A) (r : A) (rs : List A) → Each (λ s. r ≢ s) rs →
+      value F (a ∷ p) r ≡ 𝟘 →
       Each (λ s. value F (a ∷ p) s ≡ 𝟘) rs → Each (λ s. value F (quotient_at F r p) s ≡ 𝟘) rs
   roots_below a p r [] ne hr hs = tt
   roots_below a p r (s ∷ rs) ne hr hs = (root_below a p r s ne.0 hr hs.0, roots_below a p r rs ne.1 hr hs.1)
@@ -89,10 +90,12 @@ module _ {A : Type 0} (F : FieldOf A) (laws : IsField F) where
   plus_zero points p q d e hp hq =
       zero_from_roots points (plus F p q) d (meet points e) (omega (arith, length-plus p q))
     where
-      meet : (xs : List A) → Each (λ x. value F p x ≡ value F q x) xs → Each (λ x. value F (plus F p q) x ≡ 𝟘) xs
+      meet : (xs : List A) → Each (λ x. value F p x ≡ value F q x) xs →
+          Each (λ x. value F (plus F p q) x ≡ 𝟘) xs
       meet [] e = tt
       meet (x ∷ xs) e = (cc (value-plus F laws p q x, e.0, laws.ring.add_self (value F q x)), meet xs e.1)
 
   -- polynomials whose sum is zero have one value
   pub same_values : (p q : List A) → Each (λ a. a ≡ 𝟘) (plus F p q) → (x : A) → value F p x ≡ value F q x
-  same_values p q z x = sum_zero laws.ring (value F p x) (value F q x) (sym (value-plus F laws p q x) ∙ value-zero (plus F p q) x z)
+  same_values p q z x = sum_zero laws.ring (value F p x) (value F q x)
+      (sym (value-plus F laws p q x) ∙ value-zero (plus F p q) x z)

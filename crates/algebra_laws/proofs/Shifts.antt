@@ -25,11 +25,13 @@ module _ {A : Type 0} (F : FieldOf A) (laws : IsField F) where
 
   -- the value after c times d is added at place s
   pub value-added : (r d : List A) (s : ℕ) (c x : A) → s ≤ length r →
-      value F (take s r ++ plus F (drop s r) (scale F c d)) x ≡ value F r x ⊕ (value F (shifted F s c) x ⊗ value F d x)
+      value F (take s r ++ plus F (drop s r) (scale F c d)) x
+      ≡ value F r x ⊕ (value F (shifted F s c) x ⊗ value F d x)
   unfolding shifted value
   value-added r d zero c x h =
       value-plus F laws r (scale F c d) x ∙ ap (λ t. value F r x ⊕ t) (value-scale F laws c d x) ∙
-      solve laws.ring (value F r x ∷ c ∷ value F d x ∷ x ∷ []) (v 0 ⊞ (v 1 ⊡ v 2)) (v 0 ⊞ ((v 1 ⊞ (v 3 ⊡ o)) ⊡ v 2)) refl
+      solve laws.ring (value F r x ∷ c ∷ value F d x ∷ x ∷ []) (v 0 ⊞ (v 1 ⊡ v 2))
+      (v 0 ⊞ ((v 1 ⊞ (v 3 ⊡ o)) ⊡ v 2)) refl
   value-added [] d (suc s) c x h = absurd (omega arith)
   value-added (a ∷ r) d (suc s) c x h =
       ap (λ t. a ⊕ (x ⊗ t)) (value-added r d s c x (omega arith)) ∙
@@ -59,7 +61,8 @@ module _ {A : Type 0} (F : FieldOf A) (laws : IsField F) where
   take-added (a ∷ r) [] zero zero h k = refl
   take-added (a ∷ r) (b ∷ e) zero zero h k = absurd (omega arith)
   take-added (a ∷ r) [] zero (suc n) h k = absurd (omega arith)
-  take-added (a ∷ r) (b ∷ e) zero (suc n) h k = ap (λ t. F.add a b ∷ t) (take-added r e zero n (omega arith) (omega arith))
+  take-added (a ∷ r) (b ∷ e) zero (suc n) h k =
+      ap (λ t. F.add a b ∷ t) (take-added r e zero n (omega arith) (omega arith))
   take-added (a ∷ r) e (suc s) zero h k = absurd (omega arith)
   take-added (a ∷ r) e (suc s) (suc n) h k = ap (λ t. a ∷ t) (take-added r e s n (omega arith) (omega arith))
 
@@ -73,5 +76,6 @@ module _ {A : Type 0} (F : FieldOf A) (laws : IsField F) where
   -- one multiple more taken from a row
   pub reduce_rest : (Q V D R N W : A) → R ≡ (Q ⊗ D) ⊕ N → W ≡ N ⊕ (V ⊗ D) → R ≡ ((Q ⊕ V) ⊗ D) ⊕ W
   reduce_rest Q V D R N W h k =
-      h ∙ solve laws.ring (Q ∷ V ∷ D ∷ N ∷ []) ((v 0 ⊡ v 2) ⊞ v 3) (((v 0 ⊞ v 1) ⊡ v 2) ⊞ (v 3 ⊞ (v 1 ⊡ v 2))) refl ∙
+      h ∙ solve laws.ring (Q ∷ V ∷ D ∷ N ∷ []) ((v 0 ⊡ v 2) ⊞ v 3)
+      (((v 0 ⊞ v 1) ⊡ v 2) ⊞ (v 3 ⊞ (v 1 ⊡ v 2))) refl ∙
       ap (λ t. ((Q ⊕ V) ⊗ D) ⊕ t) (sym k)

@@ -1,4 +1,5 @@
--- A solver for identities in a commutative ring of characteristic two: both sides are brought to sums of products in order.
+-- A solver for identities in a commutative ring of characteristic two: both sides are brought to sums of
+-- products in order.
 use Rattle.std.proofs.Common.{◌≡◌, ℕ, Bool, true, false, cond, eqb, ltb, sym, ap, refl, get_or, List, [], ◌∷◌}
 use Rattle.std.proofs.lemmas.Bool.{eqb-true}
 use Rattle.algebra_laws.specs.Field.{IsRing}

@@ -30,12 +30,14 @@ module _ {A : Type 0} (F : FieldOf A) where
   pub add_scaled_step : (into from : List A) (c : A) (k : ℕ) → k < length into → k < length from →
       take k into ++ plus F (drop k into) (scale F c (drop k from)) ≡
       take (suc k) (set into k (F.add (get_or into k F.zero) (F.mul c (get_or from k F.zero)))) ++
-      plus F (drop (suc k) (set into k (F.add (get_or into k F.zero) (F.mul c (get_or from k F.zero))))) (scale F c (drop (suc k) from))
+      plus F (drop (suc k) (set into k (F.add (get_or into k F.zero) (F.mul c (get_or from k F.zero)))))
+      (scale F c (drop (suc k) from))
   unfolding plus scale
   add_scaled_step [] from c k h e = absurd (omega arith)
   add_scaled_step (a ∷ p) [] c k h e = absurd (omega arith)
   add_scaled_step (a ∷ p) (b ∷ q) c zero h e = refl
-  add_scaled_step (a ∷ p) (b ∷ q) c (suc k) h e = ap (λ t. a ∷ t) (add_scaled_step p q c k (omega arith) (omega arith))
+  add_scaled_step (a ∷ p) (b ∷ q) c (suc k) h e =
+      ap (λ t. a ∷ t) (add_scaled_step p q c k (omega arith) (omega arith))
 
   -- nothing added
   plus-nil : (p : List A) → plus F p [] ≡ p
@@ -51,8 +53,10 @@ module _ {A : Type 0} (F : FieldOf A) where
   add_scaled_end into (b ∷ q) c zero h e = absurd (omega arith)
   add_scaled_end [] [] c (suc k) h e = plus-nil []
   add_scaled_end [] (b ∷ q) c (suc k) h e = absurd (omega arith)
-  add_scaled_end (a ∷ p) [] c (suc k) h e = ap (λ t. a ∷ t) (rw (drop-none k) at (add_scaled_end p [] c k (omega arith) (omega arith)))
-  add_scaled_end (a ∷ p) (b ∷ q) c (suc k) h e = ap (λ t. a ∷ t) (add_scaled_end p q c k (omega arith) (omega arith))
+  add_scaled_end (a ∷ p) [] c (suc k) h e =
+      ap (λ t. a ∷ t) (rw (drop-none k) at (add_scaled_end p [] c k (omega arith) (omega arith)))
+  add_scaled_end (a ∷ p) (b ∷ q) c (suc k) h e =
+      ap (λ t. a ∷ t) (add_scaled_end p q c k (omega arith) (omega arith))
 
   -- a step of a loop that multiplies by x + r in place
   pub root_times_step : (p : List A) (r carry : A) (k : ℕ) → k < length p →
@@ -74,16 +78,20 @@ module _ {A : Type 0} (F : FieldOf A) where
   root_times_end (a ∷ p) r carry (suc k) h = ap (λ t. a ∷ t) (root_times_end p r carry k (omega arith))
 
   -- one point more in the agreements
-  pub agree_drop : (p xs : List A) (ss : List (Option A)) (k : ℕ) (s : Option A) → k < length xs → k < length ss → s ≡ get_or ss k s →
-      agree F p (drop k xs) (drop k ss) ≡ cond (is_seen F (value F p (get_or xs k F.zero)) s) 1 0 + agree F p (drop (suc k) xs) (drop (suc k) ss)
+  pub agree_drop : (p xs : List A) (ss : List (Option A)) (k : ℕ) (s : Option A) → k < length xs →
+      k < length ss → s ≡ get_or ss k s →
+      agree F p (drop k xs) (drop k ss) ≡ cond (is_seen F (value F p (get_or xs k F.zero)) s) 1 0 + agree F p
+      (drop (suc k) xs) (drop (suc k) ss)
   unfolding agree
   agree_drop p [] ss k s h e r = absurd (omega arith)
   agree_drop p (x ∷ xs) [] k s h e r = absurd (omega arith)
-  agree_drop p (x ∷ xs) (t ∷ ss) zero s h e r = ap (λ (u : Option A). cond (is_seen F (value F p x) u) 1 0 + agree F p xs ss) (sym r)
+  agree_drop p (x ∷ xs) (t ∷ ss) zero s h e r =
+      ap (λ (u : Option A). cond (is_seen F (value F p x) u) 1 0 + agree F p xs ss) (sym r)
   agree_drop p (x ∷ xs) (t ∷ ss) (suc k) s h e r = agree_drop p xs ss k s (omega arith) (omega arith) r
 
   -- no agreement past the end
-  pub agree_past : (p xs : List A) (ss : List (Option A)) (k : ℕ) → length xs ≤ k → agree F p (drop k xs) (drop k ss) ≡ 0
+  pub agree_past : (p xs : List A) (ss : List (Option A)) (k : ℕ) → length xs ≤ k →
+      agree F p (drop k xs) (drop k ss) ≡ 0
   unfolding agree
   agree_past p xs ss k h = rw (drop_all k xs h) refl
 

@@ -46,7 +46,8 @@ module _ {A : Type 0} (F : FieldOf A) (laws : IsField F) where
   term_first a p x = sym (laws.ring.mul_one a)
 
   -- the value is the sum of the terms
-  pub value_as_sum : (p : List A) (x : A) → value F p x ≡ sum_below F (λ i. get_or p i 𝟘 ⊗ power F x i) (length p)
+  pub value_as_sum : (p : List A) (x : A) → value F p x
+      ≡ sum_below F (λ i. get_or p i 𝟘 ⊗ power F x i) (length p)
   unfolding value sum_below
   value_as_sum [] x = refl
   value_as_sum (a ∷ p) x =

@@ -26,7 +26,11 @@ module _ {A : Type 0} (F : FieldOf A) (laws : IsField F) where
   unfolding value scale
   value-scale c [] x = sym (laws.ring.mul_zero c)
   value-scale c (a ∷ p) x =
-      cc (value-scale c p x, laws.ring.mul_add c a (x ⊗ value F p x), mul_left_comm laws.ring c x (value F p x))
+      cc (
+        value-scale c p x,
+        laws.ring.mul_add c a (x ⊗ value F p x),
+        mul_left_comm laws.ring c x (value F p x),
+      )
 
   -- the value of a product
   pub value-times : (p q : List A) (x : A) → value F (times F p q) x ≡ value F p x ⊗ value F q x

@@ -37,19 +37,23 @@ text-fits bytes rs is =
     let size = length-text rs is.in_grammar in
     let e = ap length is.bytes_are in omega (arith, sum, one, size, e))
 
-is-read : (cells : Cells) (old : Seen) (rs : List Record) → old.disk ≡ Some cells → rs ≢ [] → AreAccepted rs → 9 < length (journal_read cells) → StandsFor (journal_read cells) rs → IsRead old.disk rs
+is-read : (cells : Cells) (old : Seen) (rs : List Record) → old.disk ≡ Some cells → rs ≢ [] → AreAccepted rs →
+    9 < length (journal_read cells) → StandsFor (journal_read cells) rs → IsRead old.disk rs
 is-read cells old rs told some accepted many is = record {
   some = some;
   in_grammar = is.in_grammar;
   accepted = accepted;
-  room = (let fits = text-fits (journal_read cells) rs is in omega (arith, fits, length-take largest_journal (reads cells)));
-  reads_are = subst (λ d. IfSome d (λ c. (9 < length (reads c)) × StandsFor (journal_read c) rs)) (sym told) (longer, is);
+  room = (let fits = text-fits (journal_read cells) rs is in
+      omega (arith, fits, length-take largest_journal (reads cells)));
+  reads_are = subst (λ d. IfSome d (λ c. (9 < length (reads c)) × StandsFor (journal_read c) rs)) (sym told)
+      (longer, is);
 }
   where
     longer : 9 < length (reads cells)
     longer = omega (arith, many, length-take largest_journal (reads cells))
 
-module _ (command : Command) (cells : Cells) (old new : Seen) (end : Ending) (A : Answers command old new end) (opens : opens_store command ≡ true) (told : old.disk ≡ Some cells)
+module _ (command : Command) (cells : Cells) (old new : Seen) (end : Ending) (A : Answers command old new end)
+    (opens : opens_store command ≡ true) (told : old.disk ≡ Some cells)
     (calm : Rose old.disk_faults new.disk_faults → ⊥) where
   over-read : (rs : List Record) → IsRead old.disk rs → AnsweredFor cells old end
   over-read rs read = elim (cases_lt (length old.providers) (setup_in_effect rs).n) [
@@ -65,14 +69,18 @@ module _ (command : Command) (cells : Cells) (old new : Seen) (end : Ending) (A 
     | inl nine ↦ AnsweredFor.not_set_up is nine
     | inr none ↦ AnsweredFor.no_memory none
   ]
-  by-judged (Judged.broken at many bad) = elim (broken-always command cells old new end at A opens told many bad calm) [
-    | inl eight ↦ AnsweredFor.bad_journal at bad eight.0 eight.1
-    | inr none ↦ AnsweredFor.no_memory none
-  ]
-  by-judged (Judged.set_up rs some accepted many is) = over-read rs (is-read cells old rs told some accepted many is)
+  by-judged (Judged.broken at many bad) =
+      elim (broken-always command cells old new end at A opens told many bad calm) [
+        | inl eight ↦ AnsweredFor.bad_journal at bad eight.0 eight.1
+        | inr none ↦ AnsweredFor.no_memory none
+      ]
+  by-judged (Judged.set_up rs some accepted many is) =
+      over-read rs (is-read cells old rs told some accepted many is)
 
 -- a command over a store ends by what the bytes of its disk come to, or finds no memory
-pub disk-answered : (command : Command) (cells : Cells) (old new : Seen) (end : Ending) → Answers command old new end → opens_store command ≡ true → old.disk ≡ Some cells →
+pub disk-answered : (command : Command) (cells : Cells) (old new : Seen) (end : Ending) →
+    Answers command old new end → opens_store command ≡ true → old.disk ≡ Some cells →
     AreBytes (reads cells) → (Rose old.disk_faults new.disk_faults → ⊥) → AnsweredFor cells old end
 disk-answered command cells old new end A opens told all calm =
-    by-judged command cells old new end A opens told calm (bytes-judged (journal_read cells) (take-all largest_journal (reads cells) all))
+    by-judged command cells old new end A opens told calm
+    (bytes-judged (journal_read cells) (take-all largest_journal (reads cells) all))

@@ -13,10 +13,12 @@ pub draw_more : (g : ChaCha) (rows i x : ℕ) (out : List ℕ) → i < length ou
     → ((k : ℕ) → k < i → get_or out k 0 ≡ next_rows g rows k)
     → (k : ℕ) → k < i + 1 → get_or (set out i x) k 0 ≡ next_rows g rows k
 draw_more g rows i x out below e each k within =
-    subst (λ (y : ℕ). get_or (set out i y) k 0 ≡ next_rows g rows k) (sym e) (fill_by_more (next_rows g rows) out i 0 below each k within)
+    subst (λ (y : ℕ). get_or (set out i y) k 0 ≡ next_rows g rows k) (sym e)
+    (fill_by_more (next_rows g rows) out i 0 below each k within)
 
 -- the generator stands at the next row
-pub next_place : (g h r : ChaCha) (k : ℕ) → h ≡ moved_on g (2 * k) → r ≡ moved_on h 2 → r ≡ moved_on g (2 * (k + 1))
+pub next_place : (g h r : ChaCha) (k : ℕ) → h ≡ moved_on g (2 * k) → r ≡ moved_on h 2 →
+    r ≡ moved_on g (2 * (k + 1))
 next_place g h r k e f =
     let n : g.word_pos + 2 * k + 2 ≡ g.word_pos + 2 * (k + 1) = omega arith in
     f ∙ ap (λ (x : ChaCha). moved_on x 2) e ∙ ap (λ (w : ℕ). record g { word_pos = w }) n

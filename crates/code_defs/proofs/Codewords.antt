@@ -22,21 +22,30 @@ differences-same [] = refl
 differences-same (x ∷ xs) = rw (nim_laws.eq_refl x) (differences-same xs)
 
 -- the values of a polynomial of few coefficients are near it
-pub near_itself : (profile : Profile) (p : List ℕ) → length p ≤ profile.keep → IsNear profile (values_at (upto profile.size) p) p
+pub near_itself : (profile : Profile) (p : List ℕ) → length p ≤ profile.keep →
+    IsNear profile (values_at (upto profile.size) p) p
 near_itself profile p short = record {
   whole = length-map-range_with_len (value p) 0 profile.size;
   decodes = record { short = short; near = omega (arith, agree-values p (upto profile.size)) };
 }
 
 -- the interpolating polynomial of the kept symbols has few coefficients
-pub codeword-short : (profile : Profile) (kept : List ℕ) → length kept ≡ profile.keep → length (interpolate (upto profile.keep) kept) ≤ profile.keep
+pub codeword-short : (profile : Profile) (kept : List ℕ) → length kept ≡ profile.keep →
+    length (interpolate (upto profile.keep) kept) ≤ profile.keep
 codeword-short profile kept long =
-    omega (arith, length-interpolate nim nim_laws (upto profile.keep) kept (length-range_with_len 0 profile.keep ∙ sym long), length-range_with_len 0 profile.keep)
+    omega (
+      arith,
+      length-interpolate nim nim_laws (upto profile.keep) kept
+          (length-range_with_len 0 profile.keep ∙ sym long),
+      length-range_with_len 0 profile.keep,
+    )
 
 -- a codeword opens to itself
-pub opens_itself : (profile : Profile) (kept block : List ℕ) → length kept ≡ profile.keep → block ≡ codeword profile kept → Opens profile block block
+pub opens_itself : (profile : Profile) (kept block : List ℕ) → length kept ≡ profile.keep →
+    block ≡ codeword profile kept → Opens profile block block
 opens_itself profile kept block long is = record {
   polynomial = interpolate (upto profile.keep) kept;
-  near = rw is (near_itself profile (interpolate (upto profile.keep) kept) (codeword-short profile kept long));
+  near = rw is (near_itself profile (interpolate (upto profile.keep) kept)
+      (codeword-short profile kept long));
   opened_is = is;
 }

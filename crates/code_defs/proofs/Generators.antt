@@ -17,14 +17,16 @@ use Rattle.code_defs.proofs.Points.{one_not_zero, Apart-range, Each-outside, ran
 use Rattle.code_defs.proofs.Lagrange.{nim_inv-mul, others_product-not_zero, dot-scaled, part, value-interpolate}
 
 -- a polynomial's value at a place, where it takes all values
-Takes-at : (p xs ys : List ℕ) (k : ℕ) → k < length xs → TakesSymbols p xs ys → value p (get_or xs k 0) ≡ get_or ys k 0
+Takes-at : (p xs ys : List ℕ) (k : ℕ) → k < length xs → TakesSymbols p xs ys →
+    value p (get_or xs k 0) ≡ get_or ys k 0
 Takes-at p [] ys k h t = absurd (omega arith)
 Takes-at p (x ∷ xs) [] k h t = absurd t
 Takes-at p (x ∷ xs) (y ∷ ys) zero h t = t.0
 Takes-at p (x ∷ xs) (y ∷ ys) (suc k) h t = Takes-at p xs ys k (omega arith) t.1
 
 -- the interpolating polynomial's value at one of the points 0 to n - 1
-pub value-kept : (n : ℕ) (ys : List ℕ) (k : ℕ) → length ys ≡ n → k < n → value (interpolate (upto n) ys) k ≡ get_or ys k 0
+pub value-kept : (n : ℕ) (ys : List ℕ) (k : ℕ) → length ys ≡ n → k < n →
+    value (interpolate (upto n) ys) k ≡ get_or ys k 0
 value-kept n ys k long h =
     let even : length (upto n) ≡ length ys = length-range_with_len 0 n ∙ sym long in
     ap (value (interpolate (upto n) ys)) (sym (get_or-range_with_len 0 n k 0 h ∙ zero-add k)) ∙
@@ -33,12 +35,14 @@ value-kept n ys k long h =
 
 -- a codeword has a symbol at each place
 pub length-codeword : (profile : Profile) (kept : List ℕ) → length (codeword profile kept) ≡ profile.size
-length-codeword profile kept = length-map-range_with_len (value (interpolate (upto profile.keep) kept)) 0 profile.size
+length-codeword profile kept =
+    length-map-range_with_len (value (interpolate (upto profile.keep) kept)) 0 profile.size
 
 -- the symbol at a place of a codeword
 pub get_or-codeword : (profile : Profile) (kept : List ℕ) (k : ℕ) → k < profile.size →
     get_or (codeword profile kept) k 0 ≡ value (interpolate (upto profile.keep) kept) k
-get_or-codeword profile kept k h = get_or-map-range_with_len (value (interpolate (upto profile.keep) kept)) 0 profile.size k k 0 h (zero-add k)
+get_or-codeword profile kept k h = get_or-map-range_with_len
+    (value (interpolate (upto profile.keep) kept)) 0 profile.size k k 0 h (zero-add k)
 
 -- the sum by zeros
 dot-zeros : (n : ℕ) (ys : List ℕ) → dot (replicate n 0) ys ≡ 0
@@ -53,10 +57,12 @@ unfolding dot
 dot-unit zero k ys h long = absurd (omega arith)
 dot-unit (suc n) k [] h long = absurd (omega arith)
 dot-unit (suc n) zero (y ∷ ys) h long = cc (one_mul nim_ring y, dot-zeros n ys, nim_ring.add_zero y)
-dot-unit (suc n) (suc k) (y ∷ ys) h long = cc (zero_mul nim_ring y, dot-unit n k ys (omega arith) (omega arith), zero_add nim_ring (get_or ys k 0))
+dot-unit (suc n) (suc k) (y ∷ ys) h long =
+    cc (zero_mul nim_ring y, dot-unit n k ys (omega arith) (omega arith), zero_add nim_ring (get_or ys k 0))
 
 -- the row of a kept place
-pub kept_row : (profile : Profile) (place n : ℕ) → n ≡ profile.keep → place < profile.keep → place < profile.size → IsGeneratorRow profile place (set (replicate n 0) place 1)
+pub kept_row : (profile : Profile) (place n : ℕ) → n ≡ profile.keep → place < profile.keep →
+    place < profile.size → IsGeneratorRow profile place (set (replicate n 0) place 1)
 kept_row profile place n is h within = record {
   full = length-set (replicate n 0) place 1 ∙ length-replicate n 0 ∙ is;
   gives = λ kept long.
@@ -66,7 +72,8 @@ kept_row profile place n is h within = record {
 
 -- the multiplier of a kept point among the kept ones
 pub kept_multiplier : (keep size place : ℕ) → keep ≤ size → place < keep →
-    nim_mul (multiplier place (upto size)) (value (vanish (range_with_len keep (size - keep))) place) ≡ multiplier place (upto keep)
+    nim_mul (multiplier place (upto size)) (value (vanish (range_with_len keep (size - keep))) place)
+    ≡ multiplier place (upto keep)
 kept_multiplier keep size place le h =
     ap (λ t. nim_mul (nim_inv t) V) split ∙
     ap (λ t. nim_mul t V) (nim_inv-mul A V (others_product-not_zero place (upto keep)) some) ∙
@@ -95,14 +102,17 @@ kept_multiplier keep size place le h =
     whole : upto size ≡ upto keep ++ rest
     whole =
         let e : size ≡ keep + (size - keep) = omega arith in
-        ap upto e ∙ range_with_len-append 0 keep (size - keep) ∙ ap (λ a. upto keep ++ range_with_len a (size - keep)) (zero-add keep)
+        ap upto e ∙ range_with_len-append 0 keep (size - keep)
+        ∙ ap (λ a. upto keep ++ range_with_len a (size - keep)) (zero-add keep)
 
     split : others_product place (upto size) ≡ nim_mul A V
-    split = ap (others_product place) whole ∙ others_product-append place (upto keep) rest ∙ ap (nim_mul A) (others_product-outside place rest outside)
+    split = ap (others_product place) whole ∙ others_product-append place (upto keep) rest
+        ∙ ap (nim_mul A) (others_product-outside place rest outside)
 
 -- a coefficient of a place behind the kept ones
 abbrev pub coefficient : ℕ → ℕ → ℕ → ℕ
-coefficient keep place k = nim_mul (nim_mul (value (vanish (upto keep)) place) (nim_inv (nim_add place k))) (multiplier k (upto keep))
+coefficient keep place k = nim_mul (nim_mul (value (vanish (upto keep)) place) (nim_inv (nim_add place k)))
+    (multiplier k (upto keep))
 
 -- the row of a place behind the kept ones
 pub parity_row : (profile : Profile) (place : ℕ) → profile.keep ≤ place → place < profile.size →
@@ -111,14 +121,20 @@ parity_row profile place behind within = record {
   full = length-map-range_with_len (coefficient profile.keep place) 0 profile.keep;
   gives = λ kept long.
       get_or-codeword profile kept place within ∙
-      value-interpolate (upto profile.keep) kept place (length-range_with_len 0 profile.keep ∙ sym long) (Apart-range 0 profile.keep)
+      value-interpolate (upto profile.keep) kept place (length-range_with_len 0 profile.keep ∙ sym long)
+      (Apart-range 0 profile.keep)
       (Each-outside place 0 profile.keep (inr (omega arith))) ∙
-      sym (dot-scaled (part (upto profile.keep) place) (coefficient profile.keep place) V (upto profile.keep) kept (each (upto profile.keep)));
+      sym (dot-scaled (part (upto profile.keep) place) (coefficient profile.keep place) V
+      (upto profile.keep) kept (each (upto profile.keep)));
 }
   where
     V : ℕ
     V = value (vanish (upto profile.keep)) place
 
-    each : (ps : List ℕ) → Each (λ k. coefficient profile.keep place k ≡ nim_mul V (part (upto profile.keep) place k)) ps
+    each : (ps : List ℕ) →
+        Each (λ k. coefficient profile.keep place k ≡ nim_mul V (part (upto profile.keep) place k)) ps
     each [] = tt
-    each (k ∷ ps) = (nim_ring.mul_assoc V (nim_inv (nim_add place k)) (multiplier k (upto profile.keep)), each ps)
+    each (k ∷ ps) = (
+      nim_ring.mul_assoc V (nim_inv (nim_add place k)) (multiplier k (upto profile.keep)),
+      each ps,
+    )

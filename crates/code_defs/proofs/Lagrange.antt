@@ -37,16 +37,23 @@ gap_not_zero x p differ e = differ (sum_zero nim_ring x p e)
 split_gap : (x y p a b : ℕ) → nim_mul (nim_add x p) a ≡ 1 → nim_mul (nim_add y p) b ≡ 1 →
     nim_mul (nim_add x y) (nim_mul a b) ≡ nim_add a b
 split_gap x y p a b ea eb =
-    solve nim_ring (x ∷ y ∷ p ∷ a ∷ b ∷ []) ((v 0 ⊞ v 1) ⊡ (v 3 ⊡ v 4)) ((((v 0 ⊞ v 2) ⊡ v 3) ⊡ v 4) ⊞ (((v 1 ⊞ v 2) ⊡ v 4) ⊡ v 3)) refl ∙
+    solve nim_ring (x ∷ y ∷ p ∷ a ∷ b ∷ []) ((v 0 ⊞ v 1) ⊡ (v 3 ⊡ v 4))
+    ((((v 0 ⊞ v 2) ⊡ v 3) ⊡ v 4) ⊞ (((v 1 ⊞ v 2) ⊡ v 4) ⊡ v 3)) refl ∙
     cc (ea, eb, one_mul nim_ring a, one_mul nim_ring b, nim_ring.add_comm a b)
 
 -- the sum by coefficients that are a multiple
-pub dot-scaled : (u w : ℕ → ℕ) (c : ℕ) (ps ys : List ℕ) → Each (λ p. w p ≡ nim_mul c (u p)) ps → dot (map w ps) ys ≡ nim_mul c (dot (map u ps) ys)
+pub dot-scaled : (u w : ℕ → ℕ) (c : ℕ) (ps ys : List ℕ) → Each (λ p. w p ≡ nim_mul c (u p)) ps →
+    dot (map w ps) ys ≡ nim_mul c (dot (map u ps) ys)
 unfolding dot
 dot-scaled u w c [] ys is = sym (nim_ring.mul_zero c)
 dot-scaled u w c (p ∷ ps) [] is = sym (nim_ring.mul_zero c)
 dot-scaled u w c (p ∷ ps) (y ∷ ys) is =
-    cc (is.0, dot-scaled u w c ps ys is.1, nim_ring.mul_assoc c (u p) y, nim_ring.mul_add c (nim_mul (u p) y) (dot (map u ps) ys))
+    cc (
+      is.0,
+      dot-scaled u w c ps ys is.1,
+      nim_ring.mul_assoc c (u p) y,
+      nim_ring.mul_add c (nim_mul (u p) y) (dot (map u ps) ys),
+    )
 
 -- the sum by coefficients that are sums
 dot-added : (u t w : ℕ → ℕ) (ps ys : List ℕ) → Each (λ p. w p ≡ nim_add (u p) (t p)) ps →
@@ -55,7 +62,12 @@ unfolding dot
 dot-added u t w [] ys is = sym (nim_ring.add_zero 0)
 dot-added u t w (p ∷ ps) [] is = sym (nim_ring.add_zero 0)
 dot-added u t w (p ∷ ps) (y ∷ ys) is =
-    cc (is.0, dot-added u t w ps ys is.1, add_mul nim_ring (u p) (t p) y, add_swap nim_ring (nim_mul (u p) y) (nim_mul (t p) y) (dot (map u ps) ys) (dot (map t ps) ys))
+    cc (
+      is.0,
+      dot-added u t w ps ys is.1,
+      add_mul nim_ring (u p) (t p) y,
+      add_swap nim_ring (nim_mul (u p) y) (nim_mul (t p) y) (dot (map u ps) ys) (dot (map t ps) ys),
+    )
 
 -- a number is equal to itself
 nat_eq-same : (p : ℕ) → nat_eq p p ≡ true
@@ -67,12 +79,14 @@ part xs z p = nim_mul (nim_inv (nim_add z p)) (multiplier p xs)
 
 module _ (xs : List ℕ) (x y : ℕ) where
   -- over points other than x and y, at which the products are not zero
-  parts : (ps : List ℕ) → Each (λ p. x ≢ p) ps → Each (λ p. y ≢ p) ps → Each (λ p. others_product p xs ≢ 0) ps →
+  parts : (ps : List ℕ) → Each (λ p. x ≢ p) ps → Each (λ p. y ≢ p) ps →
+      Each (λ p. others_product p xs ≢ 0) ps →
       Each (λ p. nim_mul (nim_add x y) (part (y ∷ xs) x p) ≡ nim_add (part xs x p) (part xs y p)) ps
   parts [] hx hy some = tt
   parts (p ∷ ps) hx hy some = (one hx.0 hy.0 some.0, parts ps hx.1 hy.1 some.1)
     where
-      one : x ≢ p → y ≢ p → others_product p xs ≢ 0 → nim_mul (nim_add x y) (part (y ∷ xs) x p) ≡ nim_add (part xs x p) (part xs y p)
+      one : x ≢ p → y ≢ p → others_product p xs ≢ 0 →
+          nim_mul (nim_add x y) (part (y ∷ xs) x p) ≡ nim_add (part xs x p) (part xs y p)
       one differ_x differ_y some_p =
           let a = nim_inv (nim_add x p) in
           let b = nim_inv (nim_add y p) in
@@ -83,7 +97,8 @@ module _ (xs : List ℕ) (x y : ℕ) where
             nim_ring.add_comm p y,
             nim_ring.mul_assoc a b m,
             nim_ring.mul_assoc (nim_add x y) (nim_mul a b) m,
-            split_gap x y p a b (nim_mul_inv (nim_add x p) (gap_not_zero x p differ_x)) (nim_mul_inv (nim_add y p) (gap_not_zero y p differ_y)),
+            split_gap x y p a b (nim_mul_inv (nim_add x p) (gap_not_zero x p differ_x))
+                (nim_mul_inv (nim_add y p) (gap_not_zero y p differ_y)),
             add_mul nim_ring a b m,
           )
 
@@ -106,13 +121,17 @@ others_product-not_zero x (p ∷ points) e = go (nat_eq p x) refl (others_produc
     differ : nat_eq p x ≡ false → x ≢ p
     differ is same = let t : true ≡ false = sym (ap (λ n. nat_eq p n) same ∙ nat_eq-same p) ∙ is in cc
 
-    go : (b : Bool) → nat_eq p x ≡ b → (others_product x points ≢ 0) → cond b (others_product x points) (nim_mul (nim_add x p) (others_product x points)) ≡ 0 → ⊥
+    go : (b : Bool) → nat_eq p x ≡ b → (others_product x points ≢ 0) →
+        cond b (others_product x points) (nim_mul (nim_add x p) (others_product x points)) ≡ 0 → ⊥
     go true is some none = some none
-    go false is some none = some (factor_zero nim nim_laws (nim_add x p) (others_product x points) none (gap_not_zero x p (differ is)))
+    go false is some none =
+        some (factor_zero nim nim_laws (nim_add x p) (others_product x points) none
+        (gap_not_zero x p (differ is)))
 
 -- the formula with one point more, over plain numbers
 one_more : (V V0 w g h y0 S1 S0 S : ℕ) → nim_mul V0 w ≡ 1 → nim_mul g h ≡ 1 → nim_mul g S ≡ nim_add S1 S0 →
-    nim_add (nim_mul V S1) (nim_mul (nim_mul (nim_add y0 (nim_mul V0 S0)) w) V) ≡ nim_mul (nim_mul g V) (nim_add (nim_mul (nim_mul h w) y0) S)
+    nim_add (nim_mul V S1) (nim_mul (nim_mul (nim_add y0 (nim_mul V0 S0)) w) V)
+    ≡ nim_mul (nim_mul g V) (nim_add (nim_mul (nim_mul h w) y0) S)
 one_more V V0 w g h y0 S1 S0 S ew eg es =
     solve nim_ring env
     ((v 0 ⊡ v 6) ⊞ (((v 5 ⊞ (v 1 ⊡ v 7)) ⊡ v 2) ⊡ v 0))
@@ -146,15 +165,21 @@ value-interpolate [] ys x even apart out = sym (nim_ring.mul_zero (value (vanish
 value-interpolate (x0 ∷ xs) [] x even apart out = absurd (omega arith)
 value-interpolate (x0 ∷ xs) (y0 ∷ ys) x even apart out =
     value-plus nim nim_laws I (scale (nim_mul (nim_add y0 (value I x0)) w) (vanish xs)) x ∙
-    ap (λ t. nim_add (value I x) t) (value-scale nim nim_laws (nim_mul (nim_add y0 (value I x0)) w) (vanish xs) x) ∙
-    ap (λ t. nim_add t (nim_mul (nim_mul (nim_add y0 (value I x0)) w) V)) (value-interpolate xs ys x (omega arith) apart.1 out.1) ∙
-    ap (λ t. nim_add (nim_mul V S1) (nim_mul (nim_mul (nim_add y0 t) w) V)) (value-interpolate xs ys x0 (omega arith) apart.1 apart.0) ∙
+    ap (λ t. nim_add (value I x) t)
+    (value-scale nim nim_laws (nim_mul (nim_add y0 (value I x0)) w) (vanish xs) x) ∙
+    ap (λ t. nim_add t (nim_mul (nim_mul (nim_add y0 (value I x0)) w) V))
+    (value-interpolate xs ys x (omega arith) apart.1 out.1) ∙
+    ap (λ t. nim_add (nim_mul V S1) (nim_mul (nim_mul (nim_add y0 t) w) V))
+    (value-interpolate xs ys x0 (omega arith) apart.1 apart.0) ∙
     one_more V V0 w (nim_add x x0) (nim_inv (nim_add x x0)) y0 S1 S0 S
     (nim_mul_inv V0 (vanish_else nim nim_laws xs x0 one_not_zero apart.0))
     (nim_mul_inv (nim_add x x0) (gap_not_zero x x0 out.0))
-    (sym (dot-scaled (part (x0 ∷ xs) x) (λ p. nim_mul (nim_add x x0) (part (x0 ∷ xs) x p)) (nim_add x x0) xs ys
-    (Each-same (λ p. nim_mul (nim_add x x0) (part (x0 ∷ xs) x p)) (λ p. nim_mul (nim_add x x0) (part (x0 ∷ xs) x p)) xs (λ p. refl))) ∙
-    dot-added (part xs x) (part xs x0) (λ p. nim_mul (nim_add x x0) (part (x0 ∷ xs) x p)) xs ys (parts xs x x0 xs out.1 apart.0 (Each-some xs xs))) ∙
+    (sym (dot-scaled (part (x0 ∷ xs) x) (λ p. nim_mul (nim_add x x0) (part (x0 ∷ xs) x p))
+    (nim_add x x0) xs ys
+    (Each-same (λ p. nim_mul (nim_add x x0) (part (x0 ∷ xs) x p))
+    (λ p. nim_mul (nim_add x x0) (part (x0 ∷ xs) x p)) xs (λ p. refl))) ∙
+    dot-added (part xs x) (part xs x0) (λ p. nim_mul (nim_add x x0) (part (x0 ∷ xs) x p)) xs ys
+    (parts xs x x0 xs out.1 apart.0 (Each-some xs xs))) ∙
     cc (
       nim_ring.add_comm x x0,
       value-vanish nim nim_laws x0 xs x,

@@ -65,19 +65,22 @@ times-symbols : (p q : List ℕ) → AreSymbols p → AreSymbols q → AreSymbol
 unfolding times_over
 times-symbols [] q hp hq = tt
 times-symbols (a ∷ p) q hp hq =
-    plus-symbols (scale a q) (0 ∷ times p q) (scale-symbols a q hp.0 hq) (zero-symbol, times-symbols p q hp.1 hq)
+    plus-symbols (scale a q) (0 ∷ times p q) (scale-symbols a q hp.0 hq)
+    (zero-symbol, times-symbols p q hp.1 hq)
 
 -- of values
 value-symbol : (p : List ℕ) (x : ℕ) → AreSymbols p → is_symbol x → is_symbol (value p x)
 unfolding value_over
 value-symbol [] x hp hx = zero-symbol
-value-symbol (a ∷ p) x hp hx = add-symbol a (nim_mul x (value p x)) hp.0 (mul-symbol x (value p x) hx (value-symbol p x hp.1 hx))
+value-symbol (a ∷ p) x hp hx =
+    add-symbol a (nim_mul x (value p x)) hp.0 (mul-symbol x (value p x) hx (value-symbol p x hp.1 hx))
 
 -- of the product of all x + point
 vanish-symbols : (points : List ℕ) → AreSymbols points → AreSymbols (vanish points)
 unfolding vanish_over
 vanish-symbols [] h = (omega arith, tt)
-vanish-symbols (r ∷ rs) h = times-symbols (r ∷ 1 ∷ []) (vanish rs) (h.0, (omega arith, tt)) (vanish-symbols rs h.1)
+vanish-symbols (r ∷ rs) h =
+    times-symbols (r ∷ 1 ∷ []) (vanish rs) (h.0, (omega arith, tt)) (vanish-symbols rs h.1)
 
 -- of the interpolating polynomial
 interpolate-symbols : (xs ys : List ℕ) → AreSymbols xs → AreSymbols ys → AreSymbols (interpolate xs ys)
@@ -89,10 +92,14 @@ interpolate-symbols (x ∷ xs) (y ∷ ys) hx hy =
     let product : AreSymbols (vanish xs) = vanish-symbols xs hx.1 in
     let down : is_symbol (nim_inv (value (vanish xs) x)) =
     nim_inv-lt 7 (value (vanish xs) x) (value-symbol (vanish xs) x product hx.0) in
-    plus-symbols (interpolate xs ys) (scale (nim_mul (nim_add y (value (interpolate xs ys) x)) (nim_inv (value (vanish xs) x))) (vanish xs)) before
-    (scale-symbols (nim_mul (nim_add y (value (interpolate xs ys) x)) (nim_inv (value (vanish xs) x))) (vanish xs)
+    plus-symbols (interpolate xs ys)
+    (scale (nim_mul (nim_add y (value (interpolate xs ys) x)) (nim_inv (value (vanish xs) x))) (vanish xs))
+    before
+    (scale-symbols (nim_mul (nim_add y (value (interpolate xs ys) x)) (nim_inv (value (vanish xs) x)))
+    (vanish xs)
     (mul-symbol (nim_add y (value (interpolate xs ys) x)) (nim_inv (value (vanish xs) x))
-    (add-symbol y (value (interpolate xs ys) x) hy.0 (value-symbol (interpolate xs ys) x before hx.0)) down) product)
+    (add-symbol y (value (interpolate xs ys) x) hy.0 (value-symbol (interpolate xs ys) x before hx.0)) down)
+    product)
 
 -- what differs nowhere from symbols are symbols
 same-symbols : (p q : List ℕ) → Each (λ a. a ≡ 0) (plus p q) → AreSymbols q → AreSymbols p
@@ -125,13 +132,15 @@ length-seen_points p (x ∷ xs) (s ∷ ss) = go (is_seen (value p x) s) (length-
     go false h = omega (arith, h)
 
 -- what holds of each point holds of these
-Each-seen_points : (P : ℕ → Type 0) (p xs : List ℕ) (ss : List (Option ℕ)) → Each P xs → Each P (seen_points p xs ss)
+Each-seen_points : (P : ℕ → Type 0) (p xs : List ℕ) (ss : List (Option ℕ)) → Each P xs →
+    Each P (seen_points p xs ss)
 unfolding seen_points
 Each-seen_points P p [] ss h = tt
 Each-seen_points P p (x ∷ xs) [] h = tt
 Each-seen_points P p (x ∷ xs) (s ∷ ss) h = go (is_seen (value p x) s) (Each-seen_points P p xs ss h.1)
   where
-    go : (b : Bool) → Each P (seen_points p xs ss) → Each P (cond b (x ∷ seen_points p xs ss) (seen_points p xs ss))
+    go : (b : Bool) → Each P (seen_points p xs ss) →
+        Each P (cond b (x ∷ seen_points p xs ss) (seen_points p xs ss))
     go true t = (h.0, t)
     go false t = t
 
@@ -142,7 +151,8 @@ Apart-seen_points p [] ss d = tt
 Apart-seen_points p (x ∷ xs) [] d = tt
 Apart-seen_points p (x ∷ xs) (s ∷ ss) d = go (is_seen (value p x) s) (Apart-seen_points p xs ss d.1)
   where
-    go : (b : Bool) → Apart (seen_points p xs ss) → Apart (cond b (x ∷ seen_points p xs ss) (seen_points p xs ss))
+    go : (b : Bool) → Apart (seen_points p xs ss) →
+        Apart (cond b (x ∷ seen_points p xs ss) (seen_points p xs ss))
     go true t = (Each-seen_points (λ y. x ≡ y → ⊥) p xs ss d.0, t)
     go false t = t
 
@@ -157,13 +167,16 @@ seen-symbol y None e h = absurd (cc e)
 seen-symbol y (Some s) e h = subst (λ c. is_symbol c) (nim_laws.eq_true s y e) h
 
 -- the values there are symbols
-values-symbols : (p xs : List ℕ) (ss : List (Option ℕ)) → Each SeenSymbol ss → AreSymbols (values_at (seen_points p xs ss) p)
+values-symbols : (p xs : List ℕ) (ss : List (Option ℕ)) → Each SeenSymbol ss →
+    AreSymbols (values_at (seen_points p xs ss) p)
 unfolding seen_points
 values-symbols p [] ss h = tt
 values-symbols p (x ∷ xs) [] h = tt
-values-symbols p (x ∷ xs) (s ∷ ss) h = go (is_seen (value p x) s) (seen-symbol (value p x) s) (values-symbols p xs ss h.1)
+values-symbols p (x ∷ xs) (s ∷ ss) h =
+    go (is_seen (value p x) s) (seen-symbol (value p x) s) (values-symbols p xs ss h.1)
   where
-    go : (b : Bool) → (b ≡ true → SeenSymbol s → is_symbol (value p x)) → AreSymbols (values_at (seen_points p xs ss) p) →
+    go : (b : Bool) → (b ≡ true → SeenSymbol s → is_symbol (value p x)) →
+        AreSymbols (values_at (seen_points p xs ss) p) →
         AreSymbols (values_at (cond b (x ∷ seen_points p xs ss) (seen_points p xs ss)) p)
     go true f t = (f refl h.0, t)
     go false f t = t
@@ -174,18 +187,26 @@ length-values p [] = refl
 length-values p (x ∷ xs) = ap suc (length-values p xs)
 
 -- a polynomial of few coefficients that agrees with symbols at as many points has symbols as coefficients
-pub coefficients_are_symbols : (p xs : List ℕ) (ss : List (Option ℕ)) → Apart xs → AreSymbols xs → Each SeenSymbol ss →
+pub coefficients_are_symbols : (p xs : List ℕ) (ss : List (Option ℕ)) → Apart xs → AreSymbols xs →
+    Each SeenSymbol ss →
     length p ≤ agree p xs ss → AreSymbols p
 coefficients_are_symbols p xs ss apart points seen short =
     let d : Apart (seen_points p xs ss) = Apart-seen_points p xs ss apart in
     let even = length-values p (seen_points p xs ss) in
     let n = length-seen_points p xs ss in
     same-symbols p (interpolate (seen_points p xs ss) (values_at (seen_points p xs ss) p))
-    (plus_zero nim nim_laws (seen_points p xs ss) p (interpolate (seen_points p xs ss) (values_at (seen_points p xs ss) p)) d
-    (takes_same p (interpolate (seen_points p xs ss) (values_at (seen_points p xs ss) p)) (seen_points p xs ss)
-    (interpolate_takes nim nim_laws (seen_points p xs ss) (values_at (seen_points p xs ss) p) one_not_zero even d))
+    (plus_zero nim nim_laws (seen_points p xs ss) p
+    (interpolate (seen_points p xs ss) (values_at (seen_points p xs ss) p)) d
+    (takes_same p (interpolate (seen_points p xs ss) (values_at (seen_points p xs ss) p))
+    (seen_points p xs ss)
+    (interpolate_takes nim nim_laws (seen_points p xs ss)
+    (values_at (seen_points p xs ss) p) one_not_zero even d))
     (omega (arith, n, short))
-    (omega (arith, length-interpolate nim nim_laws (seen_points p xs ss) (values_at (seen_points p xs ss) p) even)))
+    (omega (
+      arith,
+      length-interpolate nim nim_laws (seen_points p xs ss)
+          (values_at (seen_points p xs ss) p) even,
+    )))
     (interpolate-symbols (seen_points p xs ss) (values_at (seen_points p xs ss) p)
     (Each-seen_points is_symbol p xs ss points) (values-symbols p xs ss seen))
 
@@ -210,15 +231,26 @@ upto-symbols a zero h = tt
 upto-symbols a (suc n) h = (omega (arith, h), upto-symbols (a + 1) n (omega (arith, h)))
 
 -- near a block
-pub near_symbols : (number : ℕ) (block p : List ℕ) → All is_symbol block → IsNear (profile_of number) block p → All is_symbol p
+pub near_symbols : (number : ℕ) (block p : List ℕ) → All is_symbol block →
+    IsNear (profile_of number) block p → All is_symbol p
 near_symbols number block p symbols near =
-    all_from_each p (coefficients_are_symbols p (upto (profile_of number).size) (map Some block) (Apart-range 0 (profile_of number).size)
-    (upto-symbols 0 (profile_of number).size (omega (arith, size-bound number))) (each_present block (each_from_all block symbols))
-    (omega (arith, near.decodes.short, near.decodes.near, size_is number, length-range_with_len 0 (profile_of number).size)))
+    all_from_each p (coefficients_are_symbols p (upto (profile_of number).size) (map Some block)
+    (Apart-range 0 (profile_of number).size)
+    (upto-symbols 0 (profile_of number).size (omega (arith, size-bound number)))
+    (each_present block (each_from_all block symbols))
+    (omega (
+      arith,
+      near.decodes.short,
+      near.decodes.near,
+      size_is number,
+      length-range_with_len 0 (profile_of number).size,
+    )))
 
 -- accepted for a row
-pub accepted_symbols : (points : List ℕ) (seen : List (Option ℕ)) (l b : ℕ) (p : List ℕ) → Apart points → All is_symbol points →
+pub accepted_symbols : (points : List ℕ) (seen : List (Option ℕ)) (l b : ℕ) (p : List ℕ) → Apart points →
+    All is_symbol points →
     All (λ s. IfSome s is_symbol) seen → l + b ≤ length points → Accepts points seen l b p → All is_symbol p
 accepted_symbols points seen l b p apart at symbols room accepted =
-    all_from_each p (coefficients_are_symbols p points seen apart (each_from_all points at) (each_seen seen symbols)
+    all_from_each p (coefficients_are_symbols p points seen apart (each_from_all points at)
+    (each_seen seen symbols)
     (omega (arith, room, accepted.degree, accepted.agrees)))

@@ -40,7 +40,8 @@ unfolding times_over plus_over scale_over nim_mul nim_add product
 divided_whole = refl
 
 -- as values
-step : (x : ℕ) → value (0 ∷ 1 ∷ 0 ∷ 0 ∷ 1 ∷ []) x ≡ nim_add (nim_mul (value (1 ∷ 2 ∷ []) x) (value (1 ∷ 1 ∷ 2 ∷ 3 ∷ []) x)) (value (1 ∷ 2 ∷ []) x)
+step : (x : ℕ) → value (0 ∷ 1 ∷ 0 ∷ 0 ∷ 1 ∷ []) x
+    ≡ nim_add (nim_mul (value (1 ∷ 2 ∷ []) x) (value (1 ∷ 1 ∷ 2 ∷ 3 ∷ []) x)) (value (1 ∷ 2 ∷ []) x)
 step x =
     ap (λ p. value p x) (sym divided_whole) ∙
     value-plus nim nim_laws (times (1 ∷ 2 ∷ []) (1 ∷ 1 ∷ 2 ∷ 3 ∷ [])) (1 ∷ 2 ∷ []) x ∙
@@ -52,7 +53,8 @@ unfolding times_over plus_over scale_over trim_over front nim_mul nim_add produc
 cofactor = refl
 
 -- the row
-pub worked_row : FirstRow nim 2 (vanish four) [] (trim (interpolate four word)) (1 ∷ []) (1 ∷ 2 ∷ []) (1 ∷ 2 ∷ [])
+pub worked_row : FirstRow nim 2 (vanish four) [] (trim (interpolate four word)) (1 ∷ []) (1 ∷ 2 ∷ [])
+    (1 ∷ 2 ∷ [])
 worked_row =
     rw (whole, through)
     (next {r1 = 1 ∷ 1 ∷ 2 ∷ 3 ∷ []} (1 ∷ 2 ∷ []) (1 ∷ 2 ∷ []) (1 ∷ 2 ∷ [])
@@ -128,7 +130,8 @@ word_symbols =
 pub ones_near : IsNear (profile_of 0) (1 ∷ 1 ∷ 1 ∷ 1 ∷ 1 ∷ 1 ∷ []) (1 ∷ [])
 ones_near =
     let same : values_at (upto 6) (1 ∷ []) ≡ 1 ∷ 1 ∷ 1 ∷ 1 ∷ 1 ∷ 1 ∷ [] = simp (value-constant 1) refl in
-    subst (λ block. IsNear (profile_of 0) block (1 ∷ [])) same (near_itself (profile_of 0) (1 ∷ []) (omega arith))
+    subst (λ block. IsNear (profile_of 0) block (1 ∷ [])) same
+    (near_itself (profile_of 0) (1 ∷ []) (omega arith))
 
 -- 1 is accepted
 pub ones_accepted : Accepts four (Some 1 ∷ Some 1 ∷ Some 1 ∷ Some 2 ∷ []) 1 1 (1 ∷ [])

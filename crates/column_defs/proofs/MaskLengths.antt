@@ -12,7 +12,8 @@ length-masked o j row (x ∷ xs) = ap suc (length-masked o j (row + 1) xs)
 -- and without
 pub length-bare : (o : Object) (j stripe : ℕ) (xs : List ℕ) → length (bare o j stripe xs) ≡ length xs
 length-bare o j stripe xs =
-    elim (is_primary o j) as (λ b. length (if b then xs else masked o j (row_number o stripe 0) xs) ≡ length xs) [
+    elim (is_primary o j) as
+    (λ b. length (if b then xs else masked o j (row_number o stripe 0) xs) ≡ length xs) [
       | true ↦ refl
       | false ↦ length-masked o j (row_number o stripe 0) xs
     ]

@@ -26,7 +26,8 @@ secret-low : (master : List ℕ) (id j : ℕ) → j < 256 → secret_point maste
 unfolding secret_point file_key
 secret-low master id j below =
     let key = file_key master 80 id j in
-    let e : slice_index (slice_set (take 16 key) 0 j) 0 ≡ j = first-set (take 16 key) j (take-not_empty key (length-sha256 _)) in
+    let e : slice_index (slice_set (take 16 key) 0 j) 0 ≡ j =
+    first-set (take 16 key) j (take-not_empty key (length-sha256 _)) in
     let low = low-byte (slice_set (take 16 key) 0 j) in
     low ∙ ap (λ n. n % 256) e ∙ omega (arith, below)
 
@@ -39,16 +40,22 @@ point-low o j below =
     ]
 
 -- the point of a provider is none of those of the providers after it
-Each-after : (o : Object) (j from n : ℕ) → j < from → from + n ≤ 256 → Each (λ y. point o j ≢ y) (map (point o) (range_with_len from n))
+Each-after : (o : Object) (j from n : ℕ) → j < from → from + n ≤ 256 →
+    Each (λ y. point o j ≢ y) (map (point o) (range_with_len from n))
 Each-after o j from zero before within = tt
 Each-after o j from (suc n) before within = (
-  λ e. absurd (omega (arith, sym (point-low o j (omega arith)) ∙ ap (λ x. x % 256) e ∙ point-low o from (omega arith))),
+  λ e. absurd (omega (
+    arith,
+    sym (point-low o j (omega arith)) ∙ ap (λ x. x % 256) e
+        ∙ point-low o from (omega arith),
+  )),
   Each-after o j (from + 1) n (omega arith) (omega arith),
 )
 
 Apart-range : (o : Object) (from n : ℕ) → from + n ≤ 256 → Apart (map (point o) (range_with_len from n))
 Apart-range o from zero within = tt
-Apart-range o from (suc n) within = (Each-after o from (from + 1) n (omega arith) (omega arith), Apart-range o (from + 1) n (omega arith))
+Apart-range o from (suc n) within =
+    (Each-after o from (from + 1) n (omega arith) (omega arith), Apart-range o (from + 1) n (omega arith))
 
 -- no two providers of an object have the same point
 pub Apart-points : (o : Object) → o.shape.n ≤ 256 → Apart (points o)

@@ -18,11 +18,14 @@ use Rattle.column_laws.proofs.RightRows.{row-right, row-symbol, given-right}
 use Rattle.column_laws.proofs.OtherRows.{values-row}
 
 -- a provider's own block is not wrong
-pub column-right : (o : Object) (bytes : List ℕ) (j stripe : ℕ) → is_wrong_block o bytes j stripe (Some (columns o bytes j stripe)) ≡ false
+pub column-right : (o : Object) (bytes : List ℕ) (j stripe : ℕ) →
+    is_wrong_block o bytes j stripe (Some (columns o bytes j stripe)) ≡ false
 column-right o bytes j stripe =
-    ap (λ n. not (n == o.profile.size) || nat_lt o.profile.fix (differences (columns o bytes j stripe) (columns o bytes j stripe)))
+    ap (λ n. not (n == o.profile.size) || nat_lt o.profile.fix
+    (differences (columns o bytes j stripe) (columns o bytes j stripe)))
     (length-column_of_symbols o (symbols_in o bytes stripe) j stripe)
-    ∙ ap (λ d. not (o.profile.size == o.profile.size) || nat_lt o.profile.fix d) (differences-same (columns o bytes j stripe))
+    ∙ ap (λ d. not (o.profile.size == o.profile.size) || nat_lt o.profile.fix d)
+    (differences-same (columns o bytes j stripe))
     ∙ go o.profile.size o.profile.fix
   where
     go : (size fix : ℕ) → not (size == size) || nat_lt fix 0 ≡ false
@@ -31,7 +34,8 @@ column-right o bytes j stripe =
 -- and opens to itself without its masks
 pub opens-own : (o : Object) (bytes : List ℕ) (j stripe : ℕ) → j < 256 →
     OpensTo o j stripe (Some (columns o bytes j stripe)) (Some (bare o j stripe (columns o bytes j stripe)))
-opens-own o bytes j stripe below = opens-right o bytes j stripe (Some (columns o bytes j stripe)) below (column-right o bytes j stripe)
+opens-own o bytes j stripe below =
+    opens-right o bytes j stripe (Some (columns o bytes j stripe)) below (column-right o bytes j stripe)
 
 -- one of the four blocks is wrong
 pub one-wrong : (o : Object) (bytes : List ℕ) →
@@ -40,24 +44,30 @@ one-wrong o bytes = simp (column-right o bytes 0 0, column-right o bytes 1 0, co
 
 -- they open
 pub three-open : (o : Object) (bytes : List ℕ) → AllOpen o 0 0 (three_seen o bytes) (three_opened o bytes)
-three-open o bytes = (opens-own o bytes 0 0 (omega arith), (opens-own o bytes 1 0 (omega arith), (opens-own o bytes 2 0 (omega arith), (refl, tt))))
+three-open o bytes = (
+  opens-own o bytes 0 0 (omega arith),
+  (opens-own o bytes 1 0 (omega arith), (opens-own o bytes 2 0 (omega arith), (refl, tt))),
+)
 
 -- the shape
 pub example-shape : IsShape 4 1 1
 example-shape = (omega arith, omega arith, omega arith, omega arith, omega arith)
 
 -- each row of the blocks is accepted
-pub three-accepted : (master bytes : List ℕ) → AcceptsRow (example master) (three_opened (example master) bytes) 0
+pub three-accepted : (master bytes : List ℕ) →
+    AcceptsRow (example master) (three_opened (example master) bytes) 0
     (row_polynomial (example master) (symbols_in (example master) bytes 0) 0)
 three-accepted master bytes =
-    row-right (example master) bytes 0 0 0 (three_seen (example master) bytes) (three_opened (example master) bytes) refl example-shape
+    row-right (example master) bytes 0 0 0 (three_seen (example master) bytes)
+    (three_opened (example master) bytes) refl example-shape
     (omega (arith, one-wrong (example master) bytes)) (three-open (example master) bytes) (omega arith)
 
 -- they give the symbols
 pub three-give : (master bytes : List ℕ) →
     GivesSymbols (example master) 0 (three_seen (example master) bytes) (symbols_in (example master) bytes 0)
 three-give master bytes =
-    given-right (example master) bytes 0 0 (three_seen (example master) bytes) (three_opened (example master) bytes) refl example-shape
+    given-right (example master) bytes 0 0 (three_seen (example master) bytes)
+    (three_opened (example master) bytes) refl example-shape
     (omega (arith, one-wrong (example master) bytes)) (three-open (example master) bytes)
 
 -- no block, and no symbol that agrees
@@ -78,7 +88,12 @@ none-lose master = record {
 }
   where
     never : (p : List ℕ) → AcceptsRow (example master) (None ∷ None ∷ None ∷ None ∷ []) 0 p → ⊥
-    never p a = omega (arith, a.agrees, agree-absent p 0 (point (example master) 1) (point (example master) 2) (point (example master) 3))
+    never p a = omega (
+      arith,
+      a.agrees,
+      agree-absent p 0 (point (example master) 1) (point (example master) 2)
+          (point (example master) 3),
+    )
 
 -- the first symbols of two files
 first_7 : symbol_of (7 ∷ []) 0 ≡ 7
@@ -103,7 +118,8 @@ rows-differ master e =
     let same : value (row_polynomial (example master) (symbols_in (example master) (8 ∷ []) 0) 0) 0 ∷ []
     ≡ value (row_polynomial (example master) (symbols_in (example master) (7 ∷ []) 0) 0) 0 ∷ [] =
     e ∙ sym (values-row (example master) (symbols_in (example master) (7 ∷ []) 0) 0) in
-    let eight : ◌≡◌ {A = ℕ} 8 7 = cc (same, row-first master (7 ∷ []), row-first master (8 ∷ []), first_7, first_8) in
+    let eight : ◌≡◌ {A = ℕ} 8 7 =
+    cc (same, row-first master (7 ∷ []), row-first master (8 ∷ []), first_7, first_8) in
     omega (arith, eight)
 
 -- row 0 is a row of a file of one byte

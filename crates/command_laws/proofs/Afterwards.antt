@@ -36,7 +36,8 @@ reads-resynced old new (inl same) = ap reads same
 reads-resynced old new (inr after) = ap reads after ∙ reads-firm (reads old)
 
 -- a disk that was at most synced still tells, and reads the same records
-pub read-kept : (a b : Option Cells) (records : List Record) → Goes IsResynced a b → is_some a ≡ true → IsRead a records → (is_some b ≡ true) × IsRead b records
+pub read-kept : (a b : Option Cells) (records : List Record) → Goes IsResynced a b → is_some a ≡ true →
+    IsRead a records → (is_some b ≡ true) × IsRead b records
 read-kept None b records g tells R = absurd (false≢true tells)
 read-kept (Some a) None records g tells R = absurd g
 read-kept (Some a) (Some b) records g tells R = (
@@ -46,36 +47,56 @@ read-kept (Some a) (Some b) records g tells R = (
     in_grammar = R.in_grammar;
     accepted = R.accepted;
     room = R.room;
-    reads_are = subst (λ bytes. (9 < length bytes) × StandsFor (take largest_journal bytes) records) (sym (reads-resynced a b g)) R.reads_are;
+    reads_are = subst (λ bytes. (9 < length bytes) × StandsFor (take largest_journal bytes) records)
+        (sym (reads-resynced a b g)) R.reads_are;
   },
 )
 
 -- a store that is known is so after a refusal
-pub known-refused : (status at : ℕ) (records : List Record) (old new : Seen) (end : Ending) → IsRefused status at old new end → IsKnown old records → IsKnown new records
-known-refused status at records old new end r K = (let kept = read-kept old.disk new.disk records r.disk K.tells K.opened.read in record {
-  tells = kept.0;
-  opened = record { read = kept.1; enough = subst (λ ps. (setup_in_effect records).n ≤ length ps) (sym r.providers) K.opened.enough };
-})
+pub known-refused : (status at : ℕ) (records : List Record) (old new : Seen) (end : Ending) →
+    IsRefused status at old new end → IsKnown old records → IsKnown new records
+known-refused status at records old new end r K =
+    (let kept = read-kept old.disk new.disk records r.disk K.tells K.opened.read in record {
+      tells = kept.0;
+      opened = record {
+        read = kept.1;
+        enough = subst (λ ps. (setup_in_effect records).n ≤ length ps) (sym r.providers) K.opened.enough;
+      };
+    })
 
-images-kept : (a b : Option Cells) (records : List Record) → IfSome a (λ cells. EachImage b (IsImage cells)) → is_some a ≡ true → EachImage a (λ image. StandsFor image records) → EachImage b (λ image. StandsFor image records)
+images-kept : (a b : Option Cells) (records : List Record) → IfSome a (λ cells. EachImage b (IsImage cells)) →
+    is_some a ≡ true → EachImage a (λ image. StandsFor image records) →
+    EachImage b (λ image. StandsFor image records)
 images-kept None b records kept tells stand = absurd (false≢true tells)
 images-kept (Some a) None records kept tells stand = tt
 images-kept (Some a) (Some b) records kept tells stand = λ image is. stand image (kept image is)
 
 -- a store that is sure is so after a refusal
-pub sure-refused : (status at : ℕ) (records : List Record) (old new : Seen) (end : Ending) → IsRefused status at old new end → IsSure old records → IsSure new records
+pub sure-refused : (status at : ℕ) (records : List Record) (old new : Seen) (end : Ending) →
+    IsRefused status at old new end → IsSure old records → IsSure new records
 sure-refused status at records old new end r S = record {
   known = known-refused status at records old new end r S.known;
-  images = images-kept old.disk new.disk records (refused-keeps status at old new end r) S.known.tells S.images;
+  images = images-kept old.disk new.disk records (refused-keeps status at old new end r) S.known.tells
+      S.images;
 }
 
 -- ---- which statuses are of refusals
 
-as-told : (status at : ℕ) (old new : Seen) (end : Ending) → IsRefused status at old new end → IsRefused end.status end.at old new end
-as-told status at old new end r = record { status_is = refl; place = refl; heard = r.heard; disk = r.disk; providers = r.providers; sink = r.sink }
+as-told : (status at : ℕ) (old new : Seen) (end : Ending) → IsRefused status at old new end →
+    IsRefused end.status end.at old new end
+as-told status at old new end r =
+    record {
+      status_is = refl;
+      place = refl;
+      heard = r.heard;
+      disk = r.disk;
+      providers = r.providers;
+      sink = r.sink;
+    }
 
 other-status : (status m : ℕ) → status ≡ m → is_refusal m ≡ false → is_refusal status ≡ true → ⊥
-other-status status m is none refuses = false≢true (let e : false ≡ true = sym none ∙ (ap is_refusal (sym is) ∙ refuses) in e)
+other-status status m is none refuses =
+    false≢true (let e : false ≡ true = sym none ∙ (ap is_refusal (sym is) ∙ refuses) in e)
 
 no-end : (status : ℕ) → EndStatus status → is_refusal status ≡ true → ⊥
 no-end status (EndStatus.by_done e) refuses = other-status status 0 e refl refuses
@@ -85,55 +106,78 @@ no-end status (EndStatus.by_provider e) refuses = other-status status 13 e refl 
 no-end status (EndStatus.by_sink e) refuses = other-status status 15 e refl refuses
 no-end status (EndStatus.by_memory e) refuses = other-status status 70 e refl refuses
 
-no-text : (line : List ℕ) (old new : Seen) (end : Ending) → WritesLine line end.status (sinking old new) → is_refusal end.status ≡ true → ⊥
+no-text : (line : List ℕ) (old new : Seen) (end : Ending) → WritesLine line end.status (sinking old new) →
+    is_refusal end.status ≡ true → ⊥
 no-text line old new end (inl w) refuses = other-status end.status 0 w.0 refl refuses
 no-text line old new end (inr (inl w)) refuses = other-status end.status 15 w.1 refl refuses
 no-text line old new end (inr (inr w)) refuses = other-status end.status 70 w.0 refl refuses
 
-no-tale : (line : List ℕ) (old new : Seen) (end : Ending) → TellsLine 4 line end.status (sinking old new) → is_refusal end.status ≡ true → ⊥
+no-tale : (line : List ℕ) (old new : Seen) (end : Ending) → TellsLine 4 line end.status (sinking old new) →
+    is_refusal end.status ≡ true → ⊥
 no-tale line old new end (inl w) refuses = other-status end.status 4 w.0 refl refuses
 no-tale line old new end (inr (inl w)) refuses = other-status end.status 4 w.0 refl refuses
 no-tale line old new end (inr (inr w)) refuses = other-status end.status 70 w.0 refl refuses
 
-unstarted-told : (old new : Seen) (end : Ending) → Unstarted old new end → IsRefused end.status end.at old new end
+unstarted-told : (old new : Seen) (end : Ending) → Unstarted old new end →
+    IsRefused end.status end.at old new end
 unstarted-told old new end u = (let r = unstarted-refused old new end u in as-told r.0 r.1 old new end r.3)
 
-job-told : (kind : Kind) (records : List Record) (old new : Seen) (end : Ending) → AnswersJob kind records old new end → is_refusal end.status ≡ true → IsRefused end.status end.at old new end
+job-told : (kind : Kind) (records : List Record) (old new : Seen) (end : Ending) →
+    AnswersJob kind records old new end → is_refusal end.status ≡ true →
+    IsRefused end.status end.at old new end
 job-told kind records old new end (AnswersJob.refused why is synced r) refuses = as-told _ 0 old new end r
 job-told kind records old new end (AnswersJob.no_memory synced r) refuses = as-told 70 0 old new end r
-job-told kind records old new end (AnswersJob.ended how none runs left by) refuses = absurd (no-end end.status (status-ended _ how old new end by) refuses)
+job-told kind records old new end (AnswersJob.ended how none runs left by) refuses =
+    absurd (no-end end.status (status-ended _ how old new end by) refuses)
 
-put-told : (name : List ℕ) (old new : Seen) (end : Ending) → AnswersPut name old new end → is_refusal end.status ≡ true → IsRefused end.status end.at old new end
+put-told : (name : List ℕ) (old new : Seen) (end : Ending) → AnswersPut name old new end →
+    is_refusal end.status ≡ true → IsRefused end.status end.at old new end
 put-told name old new end (AnswersPut.unstarted u same) refuses = unstarted-told old new end u
-put-told name old new end (AnswersPut.source_fault records opened rose synced taken r) refuses = as-told 14 0 old new end r
+put-told name old new end (AnswersPut.source_fault records opened rose synced taken r) refuses =
+    as-told 14 0 old new end r
 put-told name old new end (AnswersPut.no_memory taken r) refuses = as-told 70 0 old new end r
-put-told name old new end (AnswersPut.begun records bytes opened read A) refuses = job-told (PutJob name bytes) records old new end A refuses
+put-told name old new end (AnswersPut.begun records bytes opened read A) refuses =
+    job-told (PutJob name bytes) records old new end A refuses
 
-alone-told : (kind : Kind) (old new : Seen) (end : Ending) → AnswersAlone kind old new end → is_refusal end.status ≡ true → IsRefused end.status end.at old new end
+alone-told : (kind : Kind) (old new : Seen) (end : Ending) → AnswersAlone kind old new end →
+    is_refusal end.status ≡ true → IsRefused end.status end.at old new end
 alone-told kind old new end (AnswersAlone.unstarted u) refuses = unstarted-told old new end u
-alone-told kind old new end (AnswersAlone.begun records opened A) refuses = job-told kind records old new end A refuses
+alone-told kind old new end (AnswersAlone.begun records opened A) refuses =
+    job-told kind records old new end A refuses
 
-list-told : (old new : Seen) (end : Ending) → AnswersList old new end → is_refusal end.status ≡ true → IsRefused end.status end.at old new end
+list-told : (old new : Seen) (end : Ending) → AnswersList old new end → is_refusal end.status ≡ true →
+    IsRefused end.status end.at old new end
 list-told old new end (AnswersList.unstarted u) refuses = unstarted-told old new end u
 list-told old new end (AnswersList.no_memory r) refuses = as-told 70 0 old new end r
-list-told old new end (AnswersList.listed records opened L) refuses = absurd (no-text _ old new end L.written refuses)
+list-told old new end (AnswersList.listed records opened L) refuses =
+    absurd (no-text _ old new end L.written refuses)
 
-disk-told : (s : Setup) (old new : Seen) (end : Ending) → InitsDisk s old new end → is_refusal end.status ≡ true → IsRefused end.status end.at old new end
-disk-told s old new end (InitsDisk.disk_fault rose F) refuses = absurd (other-status end.status 12 F.status_is refl refuses)
+disk-told : (s : Setup) (old new : Seen) (end : Ending) → InitsDisk s old new end →
+    is_refusal end.status ≡ true → IsRefused end.status end.at old new end
+disk-told s old new end (InitsDisk.disk_fault rose F) refuses =
+    absurd (other-status end.status 12 F.status_is refl refuses)
 disk-told s old new end (InitsDisk.bad_journal at is r) refuses = as-told 8 at old new end r
 disk-told s old new end (InitsDisk.already is r) refuses = as-told 10 0 old new end r
-disk-told s old new end (InitsDisk.no_memory F) refuses = absurd (other-status end.status 70 F.status_is refl refuses)
+disk-told s old new end (InitsDisk.no_memory F) refuses =
+    absurd (other-status end.status 70 F.status_is refl refuses)
 disk-told s old new end (InitsDisk.ready R) refuses = absurd (no-text _ old new end R.written refuses)
 
-init-told : (numbers : Numbers) (old new : Seen) (end : Ending) → AnswersInit numbers old new end → is_refusal end.status ≡ true → IsRefused end.status end.at old new end
+init-told : (numbers : Numbers) (old new : Seen) (end : Ending) → AnswersInit numbers old new end →
+    is_refusal end.status ≡ true → IsRefused end.status end.at old new end
 init-told numbers old new end (AnswersInit.bad_setup bad same r) refuses = as-told 20 0 old new end r
-init-told numbers old new end (AnswersInit.too_few_providers good few same r) refuses = as-told 22 0 old new end r
-init-told numbers old new end (AnswersInit.source_fault good enough rose taken r) refuses = as-told 14 0 old new end r
-init-told numbers old new end (AnswersInit.bad_key bytes good enough read bad r) refuses = as-told 18 0 old new end r
+init-told numbers old new end (AnswersInit.too_few_providers good few same r) refuses =
+    as-told 22 0 old new end r
+init-told numbers old new end (AnswersInit.source_fault good enough rose taken r) refuses =
+    as-told 14 0 old new end r
+init-told numbers old new end (AnswersInit.bad_key bytes good enough read bad r) refuses =
+    as-told 18 0 old new end r
 init-told numbers old new end (AnswersInit.no_memory taken r) refuses = as-told 70 0 old new end r
-init-told numbers old new end (AnswersInit.keyed bytes key good enough read form D) refuses = disk-told (setup_with numbers key) old new end D refuses
+init-told numbers old new end (AnswersInit.keyed bytes key good enough read form D) refuses =
+    disk-told (setup_with numbers key) old new end D refuses
 
-row-told : (n l b : ℕ) (seen : List (Option ℕ)) (old new : Seen) (end : Ending) → Answers (RowOf n l b seen) old new end → is_refusal end.status ≡ true → IsRefused end.status end.at old new end
+row-told : (n l b : ℕ) (seen : List (Option ℕ)) (old new : Seen) (end : Ending) →
+    Answers (RowOf n l b seen) old new end → is_refusal end.status ≡ true →
+    IsRefused end.status end.at old new end
 row-told n l b seen old new end (A, T) refuses = record {
   status_is = refl;
   place = refl;
@@ -144,10 +188,12 @@ row-told n l b seen old new end (A, T) refuses = record {
 }
   where
     no-shape : IsShape n l b → ⊥
-    no-shape shape = no-tale _ old new end (A.lost shape (λ p accepted. no-text _ old new end (A.held shape p accepted) refuses)) refuses
+    no-shape shape = no-tale _ old new end
+        (A.lost shape (λ p accepted. no-text _ old new end (A.held shape p accepted) refuses)) refuses
 
 -- a command that ends with a status of a refusal touched nothing: it was refused
-pub refusal-told : (command : Command) (old new : Seen) (end : Ending) → Answers command old new end → is_refusal end.status ≡ true → IsRefused end.status end.at old new end
+pub refusal-told : (command : Command) (old new : Seen) (end : Ending) → Answers command old new end →
+    is_refusal end.status ≡ true → IsRefused end.status end.at old new end
 refusal-told (RowOf n l b seen) old new end A refuses = row-told n l b seen old new end A refuses
 refusal-told (InitWith numbers) old new end A refuses = init-told numbers old new end A refuses
 refusal-told (PutUnder name) old new end A refuses = put-told name old new end A refuses
@@ -159,27 +205,34 @@ refusal-told RepairDue old new end A refuses = alone-told RepairJob old new end 
 
 -- ---- a stop, and the next command
 
-known-sure : (s : Seen) (records : List Record) (cells : Cells) (told : Seen) → IsSure s records → told.disk ≡ Some cells → StandsFor (reads cells) records → length told.providers ≡ length s.providers → IsKnown told records
+known-sure : (s : Seen) (records : List Record) (cells : Cells) (told : Seen) → IsSure s records →
+    told.disk ≡ Some cells → StandsFor (reads cells) records → length told.providers ≡ length s.providers →
+    IsKnown told records
 known-sure s records cells told S is stands handed = (let R = S.known.opened.read in
     known-good (setup_in_effect records) told cells records is
     (record { some = R.some; accepted = R.accepted; room = R.room; setup = refl; stands = stands })
     (let e = S.known.opened.enough in omega (arith, e, handed)))
 
 -- a store that is sure is so where the next command finds it
-pub sure-next : (records : List Record) (new next : Seen) → IsSure new records → Follows new next → IsSure next records
+pub sure-next : (records : List Record) (new next : Seen) → IsSure new records → Follows new next →
+    IsSure next records
 sure-next records new next S N = elim N.disk [
   | inl same ↦ (let c = is_some-at new.disk S.known.tells in record {
     known = known-sure new records c.0 next S (same ∙ c.1)
-        (subst (λ d. EachImage d (λ image. StandsFor image records)) c.1 S.images (reads c.0) (IsImage-reads c.0)) N.handed;
+        (subst (λ d. EachImage d (λ image. StandsFor image records)) c.1 S.images (reads c.0)
+        (IsImage-reads c.0)) N.handed;
     images = subst (λ d. EachImage d (λ image. StandsFor image records)) (sym same) S.images;
   })
   | inr stopped ↦ (let c = stopped-at new.disk next.disk S.known.tells S.images stopped in record {
-    known = known-sure new records (firm c.0) next S c.1 (subst (λ bytes. StandsFor bytes records) (sym (reads-firm c.0)) c.2) N.handed;
-    images = subst (λ d. EachImage d (λ image. StandsFor image records)) (sym c.1) (λ image is. subst (λ bytes. StandsFor bytes records) (sym (image-firm c.0 image is)) c.2);
+    known = known-sure new records (firm c.0) next S c.1
+        (subst (λ bytes. StandsFor bytes records) (sym (reads-firm c.0)) c.2) N.handed;
+    images = subst (λ d. EachImage d (λ image. StandsFor image records)) (sym c.1)
+        (λ image is. subst (λ bytes. StandsFor bytes records) (sym (image-firm c.0 image is)) c.2);
   })
 ]
   where
-    stopped-at : (a b : Option Cells) → is_some a ≡ true → EachImage a (λ image. StandsFor image records) → Goes Stopped a b → (image : List ℕ) × (b ≡ Some (firm image)) × StandsFor image records
+    stopped-at : (a b : Option Cells) → is_some a ≡ true → EachImage a (λ image. StandsFor image records) →
+        Goes Stopped a b → (image : List ℕ) × (b ≡ Some (firm image)) × StandsFor image records
     stopped-at None b tells stand g = absurd (false≢true tells)
     stopped-at (Some a) None tells stand g = absurd g
     stopped-at (Some a) (Some b) tells stand (image, of, is) = (image, ap Some is, stand image of)
@@ -187,31 +240,50 @@ sure-next records new next S N = elim N.disk [
 -- ---- commands that leave the store alone
 
 -- a store that is sure is so where disk and providers are the same
-pub sure-same : (records : List Record) (old new : Seen) → new.disk ≡ old.disk → new.providers ≡ old.providers → IsSure old records → IsSure new records
+pub sure-same : (records : List Record) (old new : Seen) → new.disk ≡ old.disk →
+    new.providers ≡ old.providers → IsSure old records → IsSure new records
 sure-same records old new same providers S = record {
   known = record {
     tells = ap is_some same ∙ S.known.tells;
-    opened = record { read = subst (λ d. IsRead d records) (sym same) S.known.opened.read; enough = subst (λ ps. (setup_in_effect records).n ≤ length ps) (sym providers) S.known.opened.enough };
+    opened = record {
+      read = subst (λ d. IsRead d records) (sym same) S.known.opened.read;
+      enough = subst (λ ps. (setup_in_effect records).n ≤ length ps)
+          (sym providers) S.known.opened.enough;
+    };
   };
   images = subst (λ d. EachImage d (λ image. StandsFor image records)) (sym same) S.images;
 }
 
-init-providers : (numbers : Numbers) (old new : Seen) (end : Ending) → AnswersInit numbers old new end → new.providers ≡ old.providers
+init-providers : (numbers : Numbers) (old new : Seen) (end : Ending) → AnswersInit numbers old new end →
+    new.providers ≡ old.providers
 init-providers numbers old new end (AnswersInit.bad_setup bad same r) = r.providers
 init-providers numbers old new end (AnswersInit.too_few_providers good few same r) = r.providers
 init-providers numbers old new end (AnswersInit.source_fault good enough rose taken r) = r.providers
 init-providers numbers old new end (AnswersInit.bad_key bytes good enough read bad r) = r.providers
 init-providers numbers old new end (AnswersInit.no_memory taken r) = r.providers
-init-providers numbers old new end (AnswersInit.keyed bytes key good enough read form (InitsDisk.disk_fault rose F)) = F.providers
-init-providers numbers old new end (AnswersInit.keyed bytes key good enough read form (InitsDisk.no_memory F)) = F.providers
-init-providers numbers old new end (AnswersInit.keyed bytes key good enough read form (InitsDisk.bad_journal at is r)) = r.providers
-init-providers numbers old new end (AnswersInit.keyed bytes key good enough read form (InitsDisk.already is r)) = r.providers
-init-providers numbers old new end (AnswersInit.keyed bytes key good enough read form (InitsDisk.ready R)) = R.providers
+init-providers numbers old new end (AnswersInit.keyed bytes key good enough read form (InitsDisk.disk_fault rose F)) =
+    F.providers
+init-providers numbers old new end (AnswersInit.keyed bytes key good enough read form (InitsDisk.no_memory F)) =
+    F.providers
+init-providers numbers old new end (AnswersInit.keyed bytes key good enough read form (InitsDisk.bad_journal at is r)) =
+    r.providers
+init-providers numbers old new end (AnswersInit.keyed bytes key good enough read form (InitsDisk.already is r)) =
+    r.providers
+init-providers numbers old new end (AnswersInit.keyed bytes key good enough read form (InitsDisk.ready R)) =
+    R.providers
 
 -- an init leaves a store that is set up
-pub sure-init : (numbers : Numbers) (records : List Record) (old new : Seen) (end : Ending) → AnswersInit numbers old new end → IsSure old records → is_some new.disk ≡ is_some old.disk → IsSure new records
+pub sure-init : (numbers : Numbers) (records : List Record) (old new : Seen) (end : Ending) →
+    AnswersInit numbers old new end → IsSure old records → is_some new.disk ≡ is_some old.disk →
+    IsSure new records
 sure-init numbers records old new end A S tells =
-    (let images = images-kept old.disk new.disk records (init-kept numbers records old new end A S.known.opened.read.some S.images) S.known.tells S.images in
+    (let images = images-kept old.disk new.disk records
+    (init-kept numbers records old new end A S.known.opened.read.some S.images) S.known.tells S.images in
     let c = is_some-at new.disk (tells ∙ S.known.tells) in
-    let stands : StandsFor (reads c.0) records = subst (λ d. EachImage d (λ image. StandsFor image records)) c.1 images (reads c.0) (IsImage-reads c.0) in
-    record { known = known-sure old records c.0 new S c.1 stands (ap length (init-providers numbers old new end A)); images = images })
+    let stands : StandsFor (reads c.0) records = subst
+    (λ d. EachImage d (λ image. StandsFor image records)) c.1 images (reads c.0) (IsImage-reads c.0) in
+    record {
+      known = known-sure old records c.0 new S c.1 stands
+          (ap length (init-providers numbers old new end A));
+      images = images;
+    })

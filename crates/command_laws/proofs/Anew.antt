@@ -50,16 +50,22 @@ in-number : (f : File) (fs : List File) (z : File) → (z ≡ f) ⊎ In z fs →
 in-number f [] z (inl e) = inl e
 in-number f [] z (inr i) = absurd i
 in-number f (g ∷ gs) z (inl e) = elim (cases_Bool (nat_lt f.id g.id)) [
-  | inl t ↦ subst (λ l. In z l) (sym (cond_true (nat_lt f.id g.id) (f ∷ g ∷ gs) (g ∷ with_number f gs) t)) (inl e)
-  | inr o ↦ subst (λ l. In z l) (sym (cond_false (nat_lt f.id g.id) (f ∷ g ∷ gs) (g ∷ with_number f gs) o)) (inr (in-number f gs z (inl e)))
+  | inl t ↦ subst (λ l. In z l) (sym (cond_true (nat_lt f.id g.id) (f ∷ g ∷ gs) (g ∷ with_number f gs) t))
+      (inl e)
+  | inr o ↦ subst (λ l. In z l) (sym (cond_false (nat_lt f.id g.id) (f ∷ g ∷ gs) (g ∷ with_number f gs) o))
+      (inr (in-number f gs z (inl e)))
 ]
 in-number f (g ∷ gs) z (inr (inl e)) = elim (cases_Bool (nat_lt f.id g.id)) [
-  | inl t ↦ subst (λ l. In z l) (sym (cond_true (nat_lt f.id g.id) (f ∷ g ∷ gs) (g ∷ with_number f gs) t)) (inr (inl e))
-  | inr o ↦ subst (λ l. In z l) (sym (cond_false (nat_lt f.id g.id) (f ∷ g ∷ gs) (g ∷ with_number f gs) o)) (inl e)
+  | inl t ↦ subst (λ l. In z l) (sym (cond_true (nat_lt f.id g.id) (f ∷ g ∷ gs) (g ∷ with_number f gs) t))
+      (inr (inl e))
+  | inr o ↦ subst (λ l. In z l) (sym (cond_false (nat_lt f.id g.id) (f ∷ g ∷ gs) (g ∷ with_number f gs) o))
+      (inl e)
 ]
 in-number f (g ∷ gs) z (inr (inr i)) = elim (cases_Bool (nat_lt f.id g.id)) [
-  | inl t ↦ subst (λ l. In z l) (sym (cond_true (nat_lt f.id g.id) (f ∷ g ∷ gs) (g ∷ with_number f gs) t)) (inr (inr i))
-  | inr o ↦ subst (λ l. In z l) (sym (cond_false (nat_lt f.id g.id) (f ∷ g ∷ gs) (g ∷ with_number f gs) o)) (inr (in-number f gs z (inr i)))
+  | inl t ↦ subst (λ l. In z l) (sym (cond_true (nat_lt f.id g.id) (f ∷ g ∷ gs) (g ∷ with_number f gs) t))
+      (inr (inr i))
+  | inr o ↦ subst (λ l. In z l) (sym (cond_false (nat_lt f.id g.id) (f ∷ g ∷ gs) (g ∷ with_number f gs) o))
+      (inr (in-number f gs z (inr i)))
 ]
 
 in-by_number : (fs : List File) (z : File) → In z fs → In z (files_by_number fs)
@@ -70,41 +76,56 @@ in-by_number (f ∷ fs) z (inr i) = in-number f (files_by_number fs) z (inr (in-
 find-in : (fs : List File) (name : List ℕ) (z : File) → find_file fs name ≡ Some z → In z fs
 find-in [] name z h = absurd (let e : None ≡ Some z = h in cc)
 find-in (f ∷ fs) name z h = elim (cases_Bool (is_same_name f.name name)) [
-  | inl t ↦ (let e : Some z ≡ Some f = sym h ∙ cond_true (is_same_name f.name name) (Some f) (find_file fs name) t in inl (let g : z ≡ f = cc in g))
-  | inr o ↦ inr (find-in fs name z (sym (cond_false (is_same_name f.name name) (Some f) (find_file fs name) o) ∙ h))
+  | inl t ↦ (let e : Some z ≡ Some f = sym h
+      ∙ cond_true (is_same_name f.name name) (Some f) (find_file fs name) t in inl (let g : z ≡ f = cc in g))
+  | inr o ↦ inr (find-in fs name z (sym (cond_false (is_same_name f.name name) (Some f) (find_file fs name) o)
+      ∙ h))
 ]
 
-in-index : {X : Type 0} (xs : List X) (z : X) → In z xs → (k : ℕ) × (k < length xs) × ((d : X) → get_or xs k d ≡ z)
+in-index : {X : Type 0} (xs : List X) (z : X) → In z xs →
+    (k : ℕ) × (k < length xs) × ((d : X) → get_or xs k d ≡ z)
 in-index [] z i = absurd i
 in-index (x ∷ xs) z (inl e) = (0, omega arith, λ d. sym e)
-in-index (x ∷ xs) z (inr i) = (let h = in-index xs z i in (suc h.0, (let l = h.1 in omega (arith, l)), λ d. h.2 d))
+in-index (x ∷ xs) z (inr i) =
+    (let h = in-index xs z i in (suc h.0, (let l = h.1 in omega (arith, l)), λ d. h.2 d))
 
 all-in : {X : Type 0} (P : X → Type 0) (xs : List X) (z : X) → All P xs → In z xs → P z
 all-in P xs z all i = (let h = in-index xs z i in subst P (h.2 z) (all h.0 z h.1))
 
 -- ---- what was given where no count rose
 
-missing-in : {A B : Type 0} (given held : A → Option B) (xs : List A) (z : A) → In z xs → (is_none (given z) && is_some (held z)) ≡ true → 1 ≤ missing given held xs
+missing-in : {A B : Type 0} (given held : A → Option B) (xs : List A) (z : A) → In z xs →
+    (is_none (given z) && is_some (held z)) ≡ true → 1 ≤ missing given held xs
 missing-in given held [] z i e = absurd i
 missing-in given held (x ∷ xs) z (inl same) e =
-    (let c : ◌≡◌ {A = ℕ} (cond (is_none (given x) && is_some (held x)) 1 0) 1 = cond_true (is_none (given x) && is_some (held x)) 1 0 (subst (λ y. (is_none (given y) && is_some (held y)) ≡ true) same e) in omega (arith, c))
+    (let c : ◌≡◌ {A = ℕ} (cond (is_none (given x) && is_some (held x)) 1 0) 1 =
+    cond_true (is_none (given x) && is_some (held x)) 1 0
+    (subst (λ y. (is_none (given y) && is_some (held y)) ≡ true) same e) in omega (arith, c))
 missing-in given held (x ∷ xs) z (inr i) e = (let r = missing-in given held xs z i e in omega (arith, r))
 
-held-in : {A B : Type 0} (given held : A → Option B) (xs : List A) (z : A) (before now : ℕ) → IsTruthful given held xs before now → has_risen before now ≡ false → In z xs → given z ≡ held z
+held-in : {A B : Type 0} (given held : A → Option B) (xs : List A) (z : A) (before now : ℕ) →
+    IsTruthful given held xs before now → has_risen before now ≡ false → In z xs → given z ≡ held z
 held-in given held xs z before now T calm i =
     (let c = not-risen before now calm in
     let few : before + missing given held xs ≤ now = T.few c.1 in
-    elim (all-in (λ y. (given y ≡ held y) ⊎ (given y ≡ None)) xs z T.each i) [ inl same ↦ same | inr none ↦ by_held (held z) refl none few c.0 ])
+    elim (all-in (λ y. (given y ≡ held y) ⊎ (given y ≡ None)) xs z T.each i)
+    [ inl same ↦ same | inr none ↦ by_held (held z) refl none few c.0 ])
   where
-    by_held : (h : Option _) → held z ≡ h → given z ≡ None → before + missing given held xs ≤ now → now ≤ before → given z ≡ held z
+    by_held : (h : Option _) → held z ≡ h → given z ≡ None → before + missing given held xs ≤ now →
+        now ≤ before → given z ≡ held z
     by_held None e none few low = none ∙ sym e
-    by_held (Some b) e none few low = absurd (let both : (is_none (given z) && is_some (held z)) ≡ true = (λ k. is_none (none k) && is_some (e k)) in
+    by_held (Some b) e none few low =
+        absurd (let both : (is_none (given z) && is_some (held z)) ≡ true =
+        (λ k. is_none (none k) && is_some (e k)) in
         let r = missing-in given held xs z i both in omega (arith, r, few, low))
 
 -- ---- a place of a file
 
-module _ (x : Ran) (shape : IsShape (setup_at_begin x).n (setup_at_begin x).l (setup_at_begin x).b) (due : Due) (W : RewritesAll x due) (name : List ℕ) (file : File) (bytes : List ℕ)
-    (in_effect : file_of x.records name ≡ Some file) (size : length bytes ≡ file.size) (few : bad_count x file bytes ≤ (setup_at_begin x).b) (accepted : AreAccepted x.records) (stripe : ℕ) (within : stripe < stripes_at_begin x file) where
+module _ (x : Ran) (shape : IsShape (setup_at_begin x).n (setup_at_begin x).l (setup_at_begin x).b)
+    (due : Due) (W : RewritesAll x due) (name : List ℕ) (file : File) (bytes : List ℕ)
+    (in_effect : file_of x.records name ≡ Some file) (size : length bytes ≡ file.size)
+    (few : bad_count x file bytes ≤ (setup_at_begin x).b) (accepted : AreAccepted x.records) (stripe : ℕ)
+    (within : stripe < stripes_at_begin x file) where
   abbrev o : Object
   o = object_at_begin x file
 
@@ -112,9 +133,13 @@ module _ (x : Ran) (shape : IsShape (setup_at_begin x).n (setup_at_begin x).l (s
   place = record { object = file.id; stripe = stripe }
 
   asked : In place (places_of x)
-  asked = in_flat (λ (f : File). map (λ t. record { object = f.id; stripe = t }) (upto (stripes_of (profiled (setup_at_begin x) f.profile) f.size))) (files_by_number (files_of x.records)) file place
-      (in-by_number (files_of x.records) file (find-in (files_of x.records) name file (find-files_of x.records name ∙ in_effect)))
-      (in-range (λ t. record { object = file.id; stripe = t }) 0 (stripes_at_begin x file) stripe (omega arith) (omega (arith, within)))
+  asked = in_flat (λ (f : File). map (λ t. record { object = f.id; stripe = t })
+      (upto (stripes_of (profiled (setup_at_begin x) f.profile) f.size)))
+      (files_by_number (files_of x.records)) file place
+      (in-by_number (files_of x.records) file
+      (find-in (files_of x.records) name file (find-files_of x.records name ∙ in_effect)))
+      (in-range (λ t. record { object = file.id; stripe = t }) 0 (stripes_at_begin x file) stripe
+      (omega arith) (omega (arith, within)))
 
   inside : stripe < stripes o (length bytes)
   inside = subst (λ n. stripe < stripes_of (profiled (setup_at_begin x) file.profile) n) (sym size) within
@@ -126,20 +151,29 @@ module _ (x : Ran) (shape : IsShape (setup_at_begin x).n (setup_at_begin x).l (s
   own : object_numbered x file.id ≡ o
   own = numbered-file x accepted file listed
 
-  good-given : (j : ℕ) → j < (setup_at_begin x).n → is_bad x file bytes j ≡ false → is_wrong_block o bytes j stripe (block_at (blocks_at x W.gave place) j) ≡ false
+  good-given : (j : ℕ) → j < (setup_at_begin x).n → is_bad x file bytes j ≡ false →
+      is_wrong_block o bytes j stripe (block_at (blocks_at x W.gave place) j) ≡ false
   good-given j below good = by_held (x.old j).held good (W.truth j below)
     where
       by_held : (h : Option Held) → is_bad_with o bytes j (x.old j) (x.new j) h ≡ false →
-          IfSome h (λ held. IsTruthful (W.gave j) (held_at x held) (places_of x) (x.old j).other_faults (x.new j).other_faults) →
+          IfSome h (λ held. IsTruthful (W.gave j) (held_at x held) (places_of x) (x.old j).other_faults
+          (x.new j).other_faults) →
           is_wrong_block o bytes j stripe (block_at (blocks_at x W.gave place) j) ≡ false
       by_held None g T = absurd (false≢true (sym g))
       by_held (Some held) g T =
-          (let p = or_parts (is_wrong o bytes j (held file.id)) (has_risen (x.old j).other_faults (x.new j).other_faults) g in
-          let same = held-in (W.gave j) (held_at x held) (places_of x) place (x.old j).other_faults (x.new j).other_faults T p.1 asked in
-          ap (is_wrong_block o bytes j stripe) (block_at-map (λ i. W.gave i place) (setup_at_begin x).n j below ∙ (same ∙ ap (λ (z : Object). sized z.profile.size (held file.id stripe)) own))
-          ∙ (wrong-sized o bytes j stripe (held file.id stripe) ∙ not-wrong-each o bytes j (held file.id) p.0 stripe inside))
+          (let p = or_parts (is_wrong o bytes j (held file.id))
+          (has_risen (x.old j).other_faults (x.new j).other_faults) g in
+          let same = held-in (W.gave j) (held_at x held) (places_of x) place (x.old j).other_faults
+          (x.new j).other_faults T p.1 asked in
+          ap (is_wrong_block o bytes j stripe)
+          (block_at-map (λ i. W.gave i place) (setup_at_begin x).n j below
+          ∙ (same ∙ ap (λ (z : Object). sized z.profile.size (held file.id stripe)) own))
+          ∙ (wrong-sized o bytes j stripe (held file.id stripe)
+          ∙ not-wrong-each o bytes j (held file.id) p.0 stripe inside))
 
-  bad-given : (j : ℕ) → j < 0 + (setup_at_begin x).n → is_wrong_block o bytes j stripe (block_at (blocks_at x W.gave place) j) ≡ true → is_bad x file bytes j ≡ true
+  bad-given : (j : ℕ) → j < 0 + (setup_at_begin x).n →
+      is_wrong_block o bytes j stripe (block_at (blocks_at x W.gave place) j) ≡ true →
+      is_bad x file bytes j ≡ true
   bad-given j below wrong = elim (cases_Bool (is_bad x file bytes j)) [
     | inl y ↦ y
     | inr n ↦ absurd (false≢true (sym (good-given j (omega (arith, below)) n) ∙ wrong))
@@ -147,37 +181,58 @@ module _ (x : Ran) (shape : IsShape (setup_at_begin x).n (setup_at_begin x).l (s
 
   right-symbols : W.symbols place ≡ symbols_in o bytes stripe
   right-symbols =
-      (let fewer = count_of-within (λ j. is_wrong_block o bytes j stripe (block_at (blocks_at x W.gave place) j)) (is_bad x file bytes) 0 (setup_at_begin x).n bad-given in
-      symbols-right o bytes file.profile stripe (blocks_at x W.gave place) (W.symbols place) refl shape (omega (arith, fewer, few))
-      (subst (λ (z : Object). GivesSymbols z stripe (blocks_at x W.gave place) (W.symbols place)) own (all-in (GivesPlace x W.gave W.symbols) (places_of x) place W.gives asked)))
+      (let fewer = count_of-within
+      (λ j. is_wrong_block o bytes j stripe (block_at (blocks_at x W.gave place) j))
+      (is_bad x file bytes) 0 (setup_at_begin x).n bad-given in
+      symbols-right o bytes file.profile stripe (blocks_at x W.gave place) (W.symbols place) refl shape
+      (omega (arith, fewer, few))
+      (subst (λ (z : Object). GivesSymbols z stripe (blocks_at x W.gave place) (W.symbols place)) own
+      (all-in (GivesPlace x W.gave W.symbols) (places_of x) place W.gives asked)))
 
-  goes : (flag : Bool) (j : ℕ) (old new : Option Held) → flag ≡ true → Goes (IfFlagged flag (RewrittenOn (object_numbered x) W.symbols (places_of x) j)) old new →
+  goes : (flag : Bool) (j : ℕ) (old new : Option Held) → flag ≡ true →
+      Goes (IfFlagged flag (RewrittenOn (object_numbered x) W.symbols (places_of x) j)) old new →
       IfSome new (λ held. held file.id stripe ≡ Some (columns o bytes j stripe))
   goes flag j old None flagged h = tt
   goes flag j None (Some held) flagged h = absurd h
-  goes true j (Some before) (Some held) flagged h = all-in (λ p. held p.object p.stripe ≡ Some (column_of_symbols (object_numbered x p.object) (W.symbols p) j p.stripe)) (places_of x) place h.stored asked
-      ∙ (ap (λ (z : Object). Some (column_of_symbols z (W.symbols place) j stripe)) own ∙ ap (λ s. Some (column_of_symbols o s j stripe)) right-symbols)
+  goes true j (Some before) (Some held) flagged h =
+      all-in (λ p. held p.object p.stripe
+      ≡ Some (column_of_symbols (object_numbered x p.object) (W.symbols p) j p.stripe))
+      (places_of x) place h.stored asked
+      ∙ (ap (λ (z : Object). Some (column_of_symbols z (W.symbols place) j stripe)) own
+      ∙ ap (λ s. Some (column_of_symbols o s j stripe)) right-symbols)
   goes false j (Some before) (Some held) flagged h = absurd (false≢true flagged)
 
   -- each flagged provider holds its own column of each stripe, where at most b providers are bad
-  pub holds-right : (j : ℕ) → j < (setup_at_begin x).n → flags x due j ≡ true → IfSome (x.new j).held (λ held. held file.id stripe ≡ Some (columns o bytes j stripe))
+  pub holds-right : (j : ℕ) → j < (setup_at_begin x).n → flags x due j ≡ true →
+      IfSome (x.new j).held (λ held. held file.id stripe ≡ Some (columns o bytes j stripe))
   holds-right j below flagged = goes (flags x due j) j (x.old j).held (x.new j).held flagged (W.held j below)
 
 -- ---- the repair of a command
 
 -- a done repair wrote each file anew on each flagged provider, where at most b providers were bad
-pub repair-right : (name bytes : List ℕ) (records : List Record) (file : File) (due : Due) (j : ℕ) (old new : Seen) (end : Ending) → AnswersAlone RepairJob old new end → IsKnown old records → IsDone end →
-    due_of records ≡ Some due → file_of records name ≡ Some file → length bytes ≡ file.size → bad_seen records old new file bytes ≤ (setup_in_effect records).b → j < (setup_in_effect records).n →
+pub repair-right : (name bytes : List ℕ) (records : List Record) (file : File) (due : Due) (j : ℕ)
+    (old new : Seen) (end : Ending) → AnswersAlone RepairJob old new end → IsKnown old records → IsDone end →
+    due_of records ≡ Some due → file_of records name ≡ Some file → length bytes ≡ file.size →
+    bad_seen records old new file bytes ≤ (setup_in_effect records).b → j < (setup_in_effect records).n →
     is_flagged (setup_in_effect records).tolerance due.counts j ≡ true → HoldsFile records new bytes file j
 repair-right name bytes records file due j old new end A K done is_due in_effect size few below flagged =
     (let R = repair-done old new end A done in
     let same : R.records ≡ records = known-once old records R.records K R.opened.read in
-    subst (λ rs. due_of rs ≡ Some due → file_of rs name ≡ Some file → bad_seen rs old new file bytes ≤ (setup_in_effect rs).b → j < (setup_in_effect rs).n →
-    is_flagged (setup_in_effect rs).tolerance due.counts j ≡ true → HoldsFile rs new bytes file j) same (by-records R) is_due in_effect few below flagged)
+    subst (λ rs. due_of rs ≡ Some due → file_of rs name ≡ Some file →
+    bad_seen rs old new file bytes ≤ (setup_in_effect rs).b → j < (setup_in_effect rs).n →
+    is_flagged (setup_in_effect rs).tolerance due.counts j ≡ true → HoldsFile rs new bytes file j) same
+    (by-records R) is_due in_effect few below flagged)
   where
-    by-records : (R : IsRepaired old new end) → due_of R.records ≡ Some due → file_of R.records name ≡ Some file → bad_seen R.records old new file bytes ≤ (setup_in_effect R.records).b → j < (setup_in_effect R.records).n →
-        is_flagged (setup_in_effect R.records).tolerance due.counts j ≡ true → HoldsFile R.records new bytes file j
+    by-records : (R : IsRepaired old new end) → due_of R.records ≡ Some due →
+        file_of R.records name ≡ Some file →
+        bad_seen R.records old new file bytes ≤ (setup_in_effect R.records).b →
+        j < (setup_in_effect R.records).n →
+        is_flagged (setup_in_effect R.records).tolerance due.counts j ≡ true →
+        HoldsFile R.records new bytes file j
     by-records R is in_effect few below flagged stripe within =
         (let due_is : R.due ≡ due = same_value (due_of R.records) R.due due R.is_due is in
-        holds-right (ran_to (after_repair R.records R.due) R.records old new end.heard) (shape-at old R.records R.opened) R.due R.rewritten name file bytes in_effect size few R.opened.read.accepted stripe within j below
-        (subst (λ (d : Due). is_flagged (setup_in_effect R.records).tolerance d.counts j ≡ true) (sym due_is) flagged))
+        holds-right (ran_to (after_repair R.records R.due) R.records old new end.heard)
+        (shape-at old R.records R.opened) R.due R.rewritten name file bytes in_effect size few
+        R.opened.read.accepted stripe within j below
+        (subst (λ (d : Due). is_flagged (setup_in_effect R.records).tolerance d.counts j ≡ true)
+        (sym due_is) flagged))

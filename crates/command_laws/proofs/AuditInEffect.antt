@@ -1,4 +1,5 @@
--- However an audit ended: where the next command finds its end in effect, its counts are the verdicts on what it heard.
+-- However an audit ended: where the next command finds its end in effect, its counts are the verdicts on what
+-- it heard.
 use Rattle.std.proofs.Common.{◌≡◌, ◌≢◌, ℕ, ◌+◌, ◌<◌, ◌≤◌, ◌⊎◌, List, [], ◌∷◌, length, reverse, Option, None, Some, refl, ap, sym, subst, ◌∙◌, inl, inr, arith, length-append}
 use Rattle.std.specs.Prelude.{IfSome, IsSomeAnd}
 use Rattle.std.proofs.lemmas.List.{length-reverse}
@@ -37,7 +38,9 @@ abbrev counts_in : List Record → List ℕ
 counts_in (AuditDone number undecided counts ∷ rs) = counts
 counts_in rs = []
 
-module _ (records : List Record) (undecided : ℕ) (counts : List ℕ) (old new next : Seen) (end : Ending) (S : IsSure old records) (N : Follows new next) (F : IsKnown next (after_audit records undecided counts)) where
+module _ (records : List Record) (undecided : ℕ) (counts : List ℕ) (old new next : Seen) (end : Ending)
+    (S : IsSure old records) (N : Follows new next)
+    (F : IsKnown next (after_audit records undecided counts)) where
   -- what was heard, and the verdicts on it
   abbrev Heard : ℕ → List ℕ → Type 0
   Heard u c = HearsRounds (ran_to (after_audit records u c) records old new end.heard) (next_audit records)
@@ -48,42 +51,60 @@ module _ (records : List Record) (undecided : ℕ) (counts : List ℕ) (old new 
 
   -- if an image stands for the audit's records, its counts are so
   abbrev Judged : List ℕ → Type 0
-  Judged image = (rs : List Record) × StandsFor image rs × (rs ≡ after_audit records undecided counts → Counted)
+  Judged image = (rs : List Record) × StandsFor image rs ×
+      (rs ≡ after_audit records undecided counts → Counted)
 
   judged : EachImage new.disk Judged → Counted
   judged h =
       (let c = next-image new next (tells-back new next N F.tells) N in
       let g : Judged (reads c.0) = c.2 Judged h in
-      let looked : (9 < length (reads c.0)) × StandsFor (journal_read c.0) (after_audit records undecided counts) =
-      subst (λ d. IfSome d (λ cells. (9 < length (reads cells)) × StandsFor (journal_read cells) (after_audit records undecided counts))) c.1 F.opened.read.reads_are in
-      g.2 (one_meaning (reads c.0) g.0 (after_audit records undecided counts) g.1 (stands-front largest_journal (reads c.0) (after_audit records undecided counts) looked.1)))
+      let looked : (9 < length (reads c.0)) × StandsFor (journal_read c.0)
+      (after_audit records undecided counts) =
+      subst (λ d. IfSome d (λ cells. (9 < length (reads cells)) ×
+      StandsFor (journal_read cells) (after_audit records undecided counts))) c.1
+      F.opened.read.reads_are in
+      g.2 (one_meaning (reads c.0) g.0 (after_audit records undecided counts) g.1
+      (stands-front largest_journal (reads c.0) (after_audit records undecided counts) looked.1)))
 
-  too-few : (rs : List Record) → length rs ≤ length records + 1 → rs ≡ after_audit records undecided counts → ⊥
+  too-few : (rs : List Record) → length rs ≤ length records + 1 → rs ≡ after_audit records undecided counts →
+      ⊥
   too-few rs few same = (let size = ap length same in omega (arith, few, size))
 
-  of-records : (told : Option Cells) → EachImage told (λ image. StandsFor image records) → EachImage told Judged
+  of-records : (told : Option Cells) → EachImage told (λ image. StandsFor image records) →
+      EachImage told Judged
   of-records None h = tt
-  of-records (Some cells) h = λ image is. (records, h image is, λ same. absurd (too-few records (omega arith) same))
+  of-records (Some cells) h =
+      λ image is. (records, h image is, λ same. absurd (too-few records (omega arith) same))
 
   by-refused : (status at : ℕ) → IsRefused status at old new end → Counted
-  by-refused status at r = judged (of-records new.disk (sure-refused status at records old new end r S).images)
+  by-refused status at r =
+      judged (of-records new.disk (sure-refused status at records old new end r S).images)
 
-  image-judged : (image : List ℕ) (after : List Record) (doubt : Option Record) → after ≢ [] → (after ≡ after_audit records undecided counts → Counted) →
-      ((entry : Record) → doubt ≡ Some entry → entry ∷ after ≡ after_audit records undecided counts → Counted) → StandsOrIsEmpty image after ⊎ IsSomeAnd doubt (λ entry. StandsFor image (entry ∷ after)) → Judged image
+  image-judged : (image : List ℕ) (after : List Record) (doubt : Option Record) → after ≢ [] →
+      (after ≡ after_audit records undecided counts → Counted) →
+      ((entry : Record) → doubt ≡ Some entry → entry ∷ after ≡ after_audit records undecided counts →
+      Counted) → StandsOrIsEmpty image after ⊎ IsSomeAnd doubt
+      (λ entry. StandsFor image (entry ∷ after)) → Judged image
   image-judged image after doubt some one two (inl (inl stands)) = (after, stands, one)
   image-judged image after doubt some one two (inl (inr empty)) = absurd (some empty.0)
   image-judged image after None some one two (inr h) = absurd h
   image-judged image after (Some entry) some one two (inr h) = (entry ∷ after, h, two entry refl)
 
-  images-judged : (told : Option Cells) (after : List Record) (doubt : Option Record) → after ≢ [] → (after ≡ after_audit records undecided counts → Counted) →
-      ((entry : Record) → doubt ≡ Some entry → entry ∷ after ≡ after_audit records undecided counts → Counted) →
-      EachImage told (λ image. StandsOrIsEmpty image after ⊎ IsSomeAnd doubt (λ entry. StandsFor image (entry ∷ after))) → EachImage told Judged
+  images-judged : (told : Option Cells) (after : List Record) (doubt : Option Record) → after ≢ [] →
+      (after ≡ after_audit records undecided counts → Counted) →
+      ((entry : Record) → doubt ≡ Some entry → entry ∷ after ≡ after_audit records undecided counts →
+      Counted) →
+      EachImage told (λ image. StandsOrIsEmpty image after ⊎
+      IsSomeAnd doubt (λ entry. StandsFor image (entry ∷ after))) → EachImage told Judged
   images-judged None after doubt some one two h = tt
-  images-judged (Some cells) after doubt some one two h = λ image is. image-judged image after doubt some one two (h image is)
+  images-judged (Some cells) after doubt some one two h =
+      λ image is. image-judged image after doubt some one two (h image is)
 
   -- the same audit's end has the same counts
-  same-counts : (u : ℕ) (c : List ℕ) → Heard u c → after_audit records u c ≡ after_audit records undecided counts → Counted
-  same-counts u c H same = subst (λ k. Heard undecided k) (ap counts_in same) (subst (λ n. Heard n c) (ap undecided_in same) H)
+  same-counts : (u : ℕ) (c : List ℕ) → Heard u c →
+      after_audit records u c ≡ after_audit records undecided counts → Counted
+  same-counts u c H same =
+      subst (λ k. Heard undecided k) (ap counts_in same) (subst (λ n. Heard n c) (ap undecided_in same) H)
 
   module _ (how : Answer) (left : LeftAlone records AuditJob how old new end.heard) where
     abbrev x : Ran
@@ -93,27 +114,36 @@ module _ (records : List Record) (undecided : ℕ) (counts : List ℕ) (old new 
     sure-off entry sure is = absurd (let e : None ≡ Some entry = sym sure ∙ is in cc)
 
     -- what the images of the disk say, by what stands for sure and what is in doubt
-    by-images : (length x.after ≤ length records + 1) ⊎ (x.after ≡ after_audit records undecided counts → Counted) → length records ≤ length x.after →
-        ((entry : Record) → x.doubt ≡ Some entry → entry ∷ x.after ≡ after_audit records undecided counts → Counted) → Counted
-    by-images one long two = judged (images-judged new.disk x.after x.doubt (λ none. let e = ap length none in let some = first-record records S.known.opened.read.some in omega (arith, e, some, long)) (known one) two left.images)
+    by-images : (length x.after ≤ length records + 1) ⊎
+        (x.after ≡ after_audit records undecided counts → Counted) → length records ≤ length x.after →
+        ((entry : Record) → x.doubt ≡ Some entry → entry ∷ x.after ≡ after_audit records undecided counts →
+        Counted) → Counted
+    by-images one long two =
+        judged (images-judged new.disk x.after x.doubt
+        (λ none. let e = ap length none in let some = first-record records S.known.opened.read.some in
+        omega (arith, e, some, long)) (known one) two left.images)
       where
         first-record : (rs : List Record) → rs ≢ [] → 1 ≤ length rs
         first-record [] some = absurd (some refl)
         first-record (r ∷ rs) some = omega arith
 
-        known : (length x.after ≤ length records + 1) ⊎ (x.after ≡ after_audit records undecided counts → Counted) → x.after ≡ after_audit records undecided counts → Counted
+        known : (length x.after ≤ length records + 1) ⊎
+            (x.after ≡ after_audit records undecided counts → Counted) →
+            x.after ≡ after_audit records undecided counts → Counted
         known (inl few) same = absurd (too-few x.after few same)
         known (inr h) same = h same
 
     by-cut : AuditIsCut x → Counted
     by-cut (AuditIsCut.at_start after doubt none) = (let size = ap length after in
-        by-images (inl (omega (arith, size))) (omega (arith, size)) (λ entry is same. absurd (too-few (entry ∷ x.after) (omega (arith, size)) same)))
+        by-images (inl (omega (arith, size))) (omega (arith, size))
+        (λ entry is same. absurd (too-few (entry ∷ x.after) (omega (arith, size)) same)))
     by-cut (AuditIsCut.before_done after sure hears) = (let size = ap length after in
         by-images (inl (omega (arith, size))) (omega (arith, size)) (λ entry is same. sure-off entry sure is))
     by-cut (AuditIsCut.at_done u c after doubt hears counted) = (let size = ap length after in
         by-images (inl (omega (arith, size))) (omega (arith, size))
         (λ entry is same. same-counts u c (record { heard = hears.heard; truthful = hears.truthful }, counted)
-        ((λ i. same_value x.doubt (AuditDone (next_audit records) u c) entry doubt is i ∷ sym after i) ∙ same)))
+        ((λ i. same_value x.doubt (AuditDone (next_audit records) u c) entry doubt is i ∷ sym after i)
+        ∙ same)))
 
     by-answer : (h : Answer) → AuditGives x h → Counted
     by-answer (answer.Audited number u c) L =
@@ -121,7 +151,9 @@ module _ (records : List Record) (undecided : ℕ) (counts : List ℕ) (old new 
         let hears = subst (λ n. HearsRounds x n) L.0 L.2 in
         let counted = subst (λ n. CountsHeard x n u c) L.0 L.3 in
         let size = ap length W.after in
-        by-images (inr (λ same. same-counts u c (record { heard = hears.heard; truthful = hears.truthful }, counted) (sym W.after ∙ same))) (omega (arith, size)) (λ entry is same. sure-off entry W.sure is))
+        by-images (inr (λ same. same-counts u c
+        (record { heard = hears.heard; truthful = hears.truthful }, counted) (sym W.after ∙ same)))
+        (omega (arith, size)) (λ entry is same. sure-off entry W.sure is))
     by-answer answer.DiskFault L = by-cut L.1
     by-answer answer.Memory L =
         (let C = L.2 in
@@ -130,7 +162,8 @@ module _ (records : List Record) (undecided : ℕ) (counts : List ℕ) (old new 
         let after = ap length C.after in
         let more = length-append (reverse C.done) records in
         let back = length-reverse C.done in
-        by-images (inl (omega (arith, parts, sum, after, more, back))) (omega (arith, after, more, back)) (λ entry is same. sure-off entry C.sure is))
+        by-images (inl (omega (arith, parts, sum, after, more, back))) (omega (arith, after, more, back))
+        (λ entry is same. sure-off entry C.sure is))
     by-answer h L = absurd L
 
   by-job : AnswersJob AuditJob records old new end → Counted
@@ -140,5 +173,8 @@ module _ (records : List Record) (undecided : ℕ) (counts : List ℕ) (old new 
 
   -- the counts that the next command finds in effect are the verdicts on what the audit heard
   pub audit-in-effect : AnswersAlone AuditJob old new end → Counted
-  audit-in-effect (AnswersAlone.unstarted u) = (let r = unstarted-refused old new end u in by-refused r.0 r.1 r.3)
-  audit-in-effect (AnswersAlone.begun rs opened A) = by-job (subst (λ l. AnswersJob AuditJob l old new end) (known-once old records rs S.known opened.read) A)
+  audit-in-effect (AnswersAlone.unstarted u) =
+      (let r = unstarted-refused old new end u in by-refused r.0 r.1 r.3)
+  audit-in-effect (AnswersAlone.begun rs opened A) =
+      by-job (subst (λ l. AnswersJob AuditJob l old new end)
+      (known-once old records rs S.known opened.read) A)

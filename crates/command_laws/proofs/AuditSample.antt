@@ -1,4 +1,5 @@
--- An audit of a store with no file, from every state that was just opened: four moves, four moves, and its end.
+-- An audit of a store with no file, from every state that was just opened: four moves, four moves, and its
+-- end.
 use Rattle.std.proofs.Common.{ℕ, ◌+◌, List, [], ◌∷◌, refl, sym, subst, inl, arith}
 use Rattle.record_defs.specs.Records.{AuditStart, AuditDone}
 use Rattle.record_defs.specs.Spellings.{spelling}
@@ -26,7 +27,8 @@ use Rattle.command_laws.proofs.Samples.{store-sure, set_up-sure}
 use Rattle.command_laws.proofs.PutSample.{formed, form-is}
 
 audited-sure : IsSure (store audited_records) audited_records
-audited-sure = store-sure audited_records (λ e. cc) refl (refl, (refl, (refl, tt))) (omega arith) (omega arith)
+audited-sure = store-sure audited_records (λ e. cc) refl (refl, (refl, (refl, tt))) (omega arith)
+    (omega arith)
 
 module _ (w : State) (n : ℕ) (H : AreHanded idle_providers (formed w)) where
   abbrev v : State
@@ -121,16 +123,43 @@ module _ (w : State) (n : ℕ) (H : AreHanded idle_providers (formed w)) where
 
   steps-are : AreSteps s0 (n + 1) 1 steps
   unfolding steps
-  steps-are = (refl, refl, eight 0, (refl, refl, seven 0, (refl, refl, six 0, (refl, refl, five 0, (refl, refl, four 0, (refl, refl, three 0, (refl, refl, two 0, (refl, refl, one 0, tt))))))))
+  steps-are = (
+    refl,
+    refl,
+    eight 0,
+    (
+      refl,
+      refl,
+      seven 0,
+      (
+        refl,
+        refl,
+        six 0,
+        (
+          refl,
+          refl,
+          five 0,
+          (refl, refl, four 0, (refl, refl, three 0, (refl, refl, two 0, (refl, refl, one 0, tt)))),
+        ),
+      ),
+    ),
+  )
 
-  ran-formed : RanAlone set_up_records AuditJob (Audited 1 0 no_counts) (store set_up_records) audited_store [] 0 v n
+  ran-formed : RanAlone set_up_records AuditJob (Audited 1 0 no_counts) (store set_up_records) audited_store
+      [] 0 v n
   unfolding steps spelling
   ran-formed = record {
     last = s9;
     runs = record {
       begun = s0;
       job = 1;
-      begins = (refl, refusal-of v AuditJob refl refl refl (record { journal = refl; area = refl; unswitched = refl }), refl, refl);
+      begins = (
+        refl,
+        refusal-of v AuditJob refl refl refl
+            (record { journal = refl; area = refl; unswitched = refl }),
+        refl,
+        refl,
+      );
       goes_on = record { steps = steps; are_steps = steps-are; ends = nine 0; heard_is = refl };
     };
     images = λ image is. inl (inl (refl, audited-sure.images image is));
@@ -139,20 +168,24 @@ module _ (w : State) (n : ℕ) (H : AreHanded idle_providers (formed w)) where
     past_text = refl;
   }
 
-audit-alone : RunsAlone set_up_records AuditJob (Audited 1 0 no_counts) (store set_up_records) audited_store []
+audit-alone : RunsAlone set_up_records AuditJob (Audited 1 0 no_counts) (store set_up_records) audited_store
+    []
 audit-alone = record {
   faults = 0;
   before = omega arith;
-  ran = λ w n V. subst (λ u. RanAlone set_up_records AuditJob (Audited 1 0 no_counts) (store set_up_records) audited_store [] 0 u n) (form-is w V)
+  ran = λ w n V. subst (λ u. RanAlone set_up_records AuditJob (Audited 1 0 no_counts)
+      (store set_up_records) audited_store [] 0 u n) (form-is w V)
       (ran-formed w n (subst (AreHanded idle_providers) (sym (form-is w V)) V.handed));
 }
 
 -- an audit of the store with no file is done
 pub audit : Answers AuditAll (store set_up_records) audited_store (ends 0)
 audit = (
-  AnswersAlone.begun set_up_records set_up-sure.known.opened (AnswersJob.ended (Audited 1 0 no_counts) refl audit-alone
+  AnswersAlone.begun set_up_records set_up-sure.known.opened
+      (AnswersJob.ended (Audited 1 0 no_counts) refl audit-alone
       (left-alone set_up_records AuditJob (Audited 1 0 no_counts) (store set_up_records) audited_store []
-      tt (λ w last n O r. jobs-leave AuditJob w last n (Audited 1 0 no_counts) [] tt O r) set_up-sure.known.opened refl audit-alone)
+      tt (λ w last n O r. jobs-leave AuditJob w last n (Audited 1 0 no_counts) [] tt O r)
+      set_up-sure.known.opened refl audit-alone)
       (record { written = inl (refl, refl); place = refl })),
   (refl, refl),
 )

@@ -43,23 +43,31 @@ abbrev outcome_for : Bool → Outcome
 outcome_for true = Replaced
 outcome_for false = NothingHeld
 
-replaces-at : (w : State) (j : ℕ) (IsThere : Held → Type 0) (change : Held → Held) (b : Bool) → b ≡ true → (found : Bool) (q : Provider) → Replaces IsThere change found (w.providers j) q →
+replaces-at : (w : State) (j : ℕ) (IsThere : Held → Type 0) (change : Held → Held) (b : Bool) → b ≡ true →
+    (found : Bool) (q : Provider) → Replaces IsThere change found (w.providers j) q →
     ReplacesIf b w j IsThere change (outcome_for found) (replaced_in w j q)
 replaces-at w j IsThere change false e found q h = absurd (false≢true e)
 replaces-at w j IsThere change true e true q h = (q, h, refl)
 replaces-at w j IsThere change true e false q h = (q, h, refl)
 
-handed-set : (w : State) (ps : List Provider) (j : ℕ) (q : Provider) → AreHanded ps w → j < length ps → AreHanded (slice_set ps j q) (replaced_in w j q)
+handed-set : (w : State) (ps : List Provider) (j : ℕ) (q : Provider) → AreHanded ps w → j < length ps →
+    AreHanded (slice_set ps j q) (replaced_in w j q)
 handed-set w ps j q H below = record { count = H.count ∙ sym (length-set ps j q); each = each }
   where
-    each : (k : ℕ) → k < length (slice_set ps j q) → slice_get (slice_set ps j q) k ≡ Some (with_provider w.providers j q k)
+    each : (k : ℕ) → k < length (slice_set ps j q) →
+        slice_get (slice_set ps j q) k ≡ Some (with_provider w.providers j q k)
     each k l = elim (cases_Bool (k == j)) [
-      | inl t ↦ (let e : k ≡ j = eqb-true k j t in ap (slice_get (slice_set ps j q)) e ∙ (get-set_same ps j q below ∙ ap Some (sym (cond_true (k == j) q (w.providers k) t))))
-      | inr f ↦ get-set_other ps j k q (λ e. false≢true (sym f ∙ eq-eqb k j e)) ∙ (H.each k (let m = length-set ps j q in omega (arith, m, l)) ∙ ap Some (sym (cond_false (k == j) q (w.providers k) f)))
+      | inl t ↦ (let e : k ≡ j = eqb-true k j t in ap (slice_get (slice_set ps j q)) e
+          ∙ (get-set_same ps j q below ∙ ap Some (sym (cond_true (k == j) q (w.providers k) t))))
+      | inr f ↦ get-set_other ps j k q (λ e. false≢true (sym f ∙ eq-eqb k j e))
+          ∙ (H.each k (let m = length-set ps j q in omega (arith, m, l))
+          ∙ ap Some (sym (cond_false (k == j) q (w.providers k) f)))
     ]
 
-given-at : (w : State) (ps : List Provider) (j : ℕ) (p : Provider) → AreHanded ps w → j < length ps → slice_get ps j ≡ Some p → p ≡ w.providers j
-given-at w ps j p H below at = (let e : Some p ≡ Some (w.providers j) = sym at ∙ H.each j below in let f : p ≡ w.providers j = cc in f)
+given-at : (w : State) (ps : List Provider) (j : ℕ) (p : Provider) → AreHanded ps w → j < length ps →
+    slice_get ps j ≡ Some p → p ≡ w.providers j
+given-at w ps j p H below at =
+    (let e : Some p ≡ Some (w.providers j) = sym at ∙ H.each j below in let f : p ≡ w.providers j = cc in f)
 
 -- an event that leaves this state but for its providers
 record Goes-so (w : State) (event : Event) (ps : List Provider) : Type 0 where
@@ -70,14 +78,18 @@ record Goes-so (w : State) (event : Event) (ps : List Provider) : Type 0 where
   happens : (n : ℕ) → Happens 8 n w event outcome (replaced_in w j q)
   handed : AreHanded ps (replaced_in w j q)
 
-one-goes : (w : State) (event : Event) (ps next : List Provider) → AreHanded ps w → ReplacesHeld event ps next → Goes-so w event next
+one-goes : (w : State) (event : Event) (ps next : List Provider) → AreHanded ps w →
+    ReplacesHeld event ps next → Goes-so w event next
 one-goes w (Alter j object stripe place symbol) ps next H (p, q, below, at, (found, call), is) = record {
   j = j;
   q = q;
   outcome = outcome_for found;
   between = (tt, tt);
-  happens = λ n. replaces-at w j (λ held. HasPlace (held object stripe) place) (with_symbol object stripe place symbol) (nat_lt j w.handed) (lt-ltb j w.handed (let c = H.count in omega (arith, c, below))) found q
-      (subst (λ o. Replaces (λ held. HasPlace (held object stripe) place) (with_symbol object stripe place symbol) found o q) (given-at w ps j p H below at) call);
+  happens = λ n. replaces-at w j (λ held. HasPlace (held object stripe) place)
+      (with_symbol object stripe place symbol) (nat_lt j w.handed)
+      (lt-ltb j w.handed (let c = H.count in omega (arith, c, below))) found q
+      (subst (λ o. Replaces (λ held. HasPlace (held object stripe) place)
+      (with_symbol object stripe place symbol) found o q) (given-at w ps j p H below at) call);
   handed = subst (λ l. AreHanded l (replaced_in w j q)) (sym is) (handed-set w ps j q H below);
 }
 one-goes w (Lose j object stripe) ps next H (p, q, below, at, (found, call), is) = record {
@@ -85,8 +97,10 @@ one-goes w (Lose j object stripe) ps next H (p, q, below, at, (found, call), is)
   q = q;
   outcome = outcome_for found;
   between = (tt, tt);
-  happens = λ n. replaces-at w j (λ held. IsSome (held object stripe)) (without_block object stripe) (nat_lt j w.handed) (lt-ltb j w.handed (let c = H.count in omega (arith, c, below))) found q
-      (subst (λ o. Replaces (λ held. IsSome (held object stripe)) (without_block object stripe) found o q) (given-at w ps j p H below at) call);
+  happens = λ n. replaces-at w j (λ held. IsSome (held object stripe)) (without_block object stripe)
+      (nat_lt j w.handed) (lt-ltb j w.handed (let c = H.count in omega (arith, c, below))) found q
+      (subst (λ o. Replaces (λ held. IsSome (held object stripe)) (without_block object stripe) found o q)
+      (given-at w ps j p H below at) call);
   handed = subst (λ l. AreHanded l (replaced_in w j q)) (sym is) (handed-set w ps j q H below);
 }
 one-goes w event ps next H h = absurd h
@@ -95,30 +109,36 @@ one-goes w event ps next H h = absurd h
 
 -- moments between commands go on with a run to a store that stands for what the next one finds
 abbrev GoesBetween : State → List Moment → Seen → Type 0
-GoesBetween start ms next = (own : List Moment) × AreBetween own × IsRun 8 start (own ++ ms) × IsStore (now start (own ++ ms)) next
+GoesBetween start ms next =
+    (own : List Moment) × AreBetween own × IsRun 8 start (own ++ ms) × IsStore (now start (own ++ ms)) next
 
 both-between : (own more : List Moment) → AreBetween own → AreBetween more → AreBetween (own ++ more)
 both-between [] more a b = b
 both-between (m ∷ own) more (here, a) b = (here, both-between own more a b)
 
 -- the store with other providers
-store-replaced : (w : State) (s next : Seen) (j : ℕ) (q : Provider) → IsStore w s → IsSound 8 (replaced_in w j q) → next.disk ≡ s.disk → next.disk_faults ≡ s.disk_faults → AreHanded next.providers (replaced_in w j q) →
+store-replaced : (w : State) (s next : Seen) (j : ℕ) (q : Provider) → IsStore w s →
+    IsSound 8 (replaced_in w j q) → next.disk ≡ s.disk → next.disk_faults ≡ s.disk_faults →
+    AreHanded next.providers (replaced_in w j q) →
     IsStore (replaced_in w j q) next
 store-replaced w s next j q S sound disk faults handed = record {
   sound = sound;
   set_up = S.set_up;
   tells = ap is_some disk ∙ S.tells;
-  images = subst (λ d. StandsForState d (replaced_in w j q)) (sym disk) (each_image-mono s.disk _ _ again S.images);
+  images = subst (λ d. StandsForState d (replaced_in w j q)) (sym disk)
+      (each_image-mono s.disk _ _ again S.images);
   faults_are = S.faults_are ∙ sym faults;
   handed = handed;
 }
   where
     again : (image : List ℕ) → StandsInState w image → StandsInState (replaced_in w j q) image
     again image (inl h) = inl h
-    again image (inr (inl D)) = inr (inl (record { doubt = D.doubt; in_doubt = D.in_doubt; stands = D.stands }))
+    again image (inr (inl D)) =
+        inr (inl (record { doubt = D.doubt; in_doubt = D.in_doubt; stands = D.stands }))
     again image (inr (inr X)) = inr (inr (record { switching = X.switching; stands = X.stands }))
 
-store-same : (w : State) (s next : Seen) → IsStore w s → next.disk ≡ s.disk → next.disk_faults ≡ s.disk_faults → next.providers ≡ s.providers → IsStore w next
+store-same : (w : State) (s next : Seen) → IsStore w s → next.disk ≡ s.disk →
+    next.disk_faults ≡ s.disk_faults → next.providers ≡ s.providers → IsStore w next
 store-same w s next S disk faults providers = record {
   sound = S.sound;
   set_up = S.set_up;
@@ -132,16 +152,19 @@ store-same w s next S disk faults providers = record {
 abbrev with_providers : Seen → List Provider → Seen
 with_providers s ps = record s { providers = ps }
 
-replaced-on : (start : State) (events : List Event) (ms : List Moment) (s next : Seen) → IsRun 8 start ms → IsStore (now start ms) s → next.disk ≡ s.disk → next.disk_faults ≡ s.disk_faults →
+replaced-on : (start : State) (events : List Event) (ms : List Moment) (s next : Seen) → IsRun 8 start ms →
+    IsStore (now start ms) s → next.disk ≡ s.disk → next.disk_faults ≡ s.disk_faults →
     AreReplaced events s.providers next.providers → GoesBetween start ms next
-replaced-on start [] ms s next R S disk faults same = ([], tt, R, store-same (now start ms) s next S disk faults same)
+replaced-on start [] ms s next R S disk faults same =
+    ([], tt, R, store-same (now start ms) s next S disk faults same)
 replaced-on start (event ∷ events) ms s next R S disk faults (spelled, (mid, here, rest)) =
     (let w : State = now start ms in
     let G = one-goes w event s.providers mid S.handed here in
     let v : State = replaced_in w G.j G.q in
     let m : Moment = moment event G.outcome v in
     let run : IsRun 8 start (m ∷ ms) = (spelled, G.happens (length ms), R) in
-    let stood : IsStore v (with_providers s mid) = store-replaced w s (with_providers s mid) G.j G.q S (run-sound start (m ∷ []) ms S.sound run) refl refl G.handed in
+    let stood : IsStore v (with_providers s mid) = store-replaced w s (with_providers s mid) G.j G.q S
+    (run-sound start (m ∷ []) ms S.sound run) refl refl G.handed in
     let more = replaced-on start events (m ∷ ms) (with_providers s mid) next run stood disk faults rest in
     let same : more.0 ++ (m ∷ ms) ≡ (more.0 ++ m ∷ []) ++ ms = sym (append_assoc more.0 (m ∷ []) ms) in (
       more.0 ++ m ∷ [],
@@ -150,13 +173,15 @@ replaced-on start (event ∷ events) ms s next R S disk faults (spelled, (mid, h
       subst (λ l. IsStore (now start l) next) same more.3,
     ))
 
-stopped-at : (a b : Option Cells) (P : List ℕ → Type 0) → is_some a ≡ true → EachImage a P → Goes Stopped a b → (image : List ℕ) × (b ≡ Some (firm image)) × P image
+stopped-at : (a b : Option Cells) (P : List ℕ → Type 0) → is_some a ≡ true → EachImage a P →
+    Goes Stopped a b → (image : List ℕ) × (b ≡ Some (firm image)) × P image
 stopped-at None b P tells h g = absurd (false≢true tells)
 stopped-at (Some a) None P tells h g = absurd g
 stopped-at (Some a) (Some b) P tells h (image, of, is) = (image, ap Some is, h image of)
 
 -- a run goes on through stops and replacements to what the next command finds
-pub later-on : (start : State) (ms : List Moment) (new next : Seen) → IsRun 8 start ms → IsStore (now start ms) new → IsLater new next → GoesBetween start ms next
+pub later-on : (start : State) (ms : List Moment) (new next : Seen) → IsRun 8 start ms →
+    IsStore (now start ms) new → IsLater new next → GoesBetween start ms next
 later-on start ms new next R S L = elim L.disk [
   | inl same ↦ replaced-on start L.events ms new next R S same L.faults L.replaced
   | inr stopped ↦ (let w : State = now start ms in
@@ -170,7 +195,12 @@ later-on start ms new next R S L = elim L.disk [
         sound = run-sound start (m ∷ []) ms S.sound run;
         set_up = f.1.up;
         tells = ap is_some c.1;
-        images = subst (λ d. StandsForState d v) (sym c.1) (λ image of. inl (inl (refl, subst (λ bytes. StandsFor bytes f.0) (sym (image-firm c.0 image of)) f.1.good.stands)));
+        images = subst (λ d. StandsForState d v) (sym c.1)
+            (λ image of. inl (inl (
+              refl,
+              subst (λ bytes. StandsFor bytes f.0)
+                  (sym (image-firm c.0 image of)) f.1.good.stands,
+            )));
         faults_are = S.faults_are;
         handed = record { count = S.handed.count; each = S.handed.each };
       } in
@@ -186,18 +216,32 @@ later-on start ms new next R S L = elim L.disk [
 -- ---- commands one after the other
 
 -- a run goes on through a chain of commands, with stops and replacements between them
-pub chain-on : (start : State) (ms : List Moment) (first : Seen) (calls : List Call) → IsRun 8 start ms → IsStore (now start ms) first → IsChain first calls →
-    (own : List Moment) × AreCalls (now start ms) calls own × IsRun 8 start (own ++ ms) × IsStore (now start (own ++ ms)) (last_seen first calls)
+pub chain-on : (start : State) (ms : List Moment) (first : Seen) (calls : List Call) → IsRun 8 start ms →
+    IsStore (now start ms) first → IsChain first calls →
+    (own : List Moment) × AreCalls (now start ms) calls own × IsRun 8 start (own ++ ms) ×
+    IsStore (now start (own ++ ms)) (last_seen first calls)
 chain-on start ms first [] R S C = ([], refl, R, S)
 chain-on start ms first (c ∷ cs) R S (later, A, C) =
     (let before = chain-on start ms first cs R S C in
     let between = later-on start (before.0 ++ ms) (last_seen first cs) c.old before.2 before.3 later in
-    let call = command-on start (between.0 ++ (before.0 ++ ms)) between.2 c.old between.3 c.command c.new c.end A.counts A.opens A.spelled A.answers in
-    let inner : between.0 ++ (before.0 ++ ms) ≡ (between.0 ++ before.0) ++ ms = sym (append_assoc between.0 before.0 ms) in
-    let all : call.0 ++ (between.0 ++ (before.0 ++ ms)) ≡ (call.0 ++ (between.0 ++ before.0)) ++ ms = ap (λ l. call.0 ++ l) inner ∙ sym (append_assoc call.0 (between.0 ++ before.0) ms) in
-    let at : now start (between.0 ++ (before.0 ++ ms)) ≡ now (now start ms) (between.0 ++ before.0) = ap (now start) inner ∙ now-more start (between.0 ++ before.0) ms in (
+    let call = command-on start (between.0 ++ (before.0 ++ ms)) between.2 c.old between.3 c.command c.new
+    c.end A.counts A.opens A.spelled A.answers in
+    let inner : between.0 ++ (before.0 ++ ms) ≡ (between.0 ++ before.0) ++ ms =
+    sym (append_assoc between.0 before.0 ms) in
+    let all : call.0 ++ (between.0 ++ (before.0 ++ ms)) ≡ (call.0 ++ (between.0 ++ before.0)) ++ ms =
+    ap (λ l. call.0 ++ l) inner ∙ sym (append_assoc call.0 (between.0 ++ before.0) ms) in
+    let at : now start (between.0 ++ (before.0 ++ ms)) ≡ now (now start ms) (between.0 ++ before.0) =
+    ap (now start) inner ∙ now-more start (between.0 ++ before.0) ms in (
       call.0 ++ (between.0 ++ before.0),
-      (call.0, between.0, before.0, refl, subst (λ w. IsCall c.command c.old c.new c.end w call.0) at call.1, between.1, before.1),
+      (
+        call.0,
+        between.0,
+        before.0,
+        refl,
+        subst (λ w. IsCall c.command c.old c.new c.end w call.0) at call.1,
+        between.1,
+        before.1,
+      ),
       subst (λ l. IsRun 8 start l) all call.2,
       subst (λ l. IsStore (now start l) c.new) all call.3,
     ))

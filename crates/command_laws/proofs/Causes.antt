@@ -49,7 +49,9 @@ module _ (old new : Seen) (end : Ending) where
     sink = λ e. absurd (differ 12 15 (λ k. omega (arith, k)) is e);
   }
 
-  provider-rose : end.status ≡ 13 → Rose (provider_at old.providers end.at).store_faults (provider_at new.providers end.at).store_faults → FaultsHaveCauses old new end
+  provider-rose : end.status ≡ 13 →
+      Rose (provider_at old.providers end.at).store_faults (provider_at new.providers end.at).store_faults →
+      FaultsHaveCauses old new end
   provider-rose is rose = record {
     disk = λ e. absurd (differ 13 12 (λ k. omega (arith, k)) is e);
     provider = λ e. rose;
@@ -73,7 +75,8 @@ module _ (old new : Seen) (end : Ending) where
     sink = λ e. rose;
   }
 
-  written-causes : (text : List ℕ) → WritesLine text end.status (sinking old new) → FaultsHaveCauses old new end
+  written-causes : (text : List ℕ) → WritesLine text end.status (sinking old new) →
+      FaultsHaveCauses old new end
   written-causes text (inl w) = none-rose 0 refl w.0
   written-causes text (inr (inl w)) = sink-rose w.1 w.2
   written-causes text (inr (inr w)) = none-rose 70 refl w.0
@@ -117,7 +120,8 @@ module _ (old new : Seen) (end : Ending) where
   disk-by x RepairJob L = L.0.gives.0
   disk-by x UpgradeJob L = L.0.0
 
-  provider-by : (x : Ran) (kind : Kind) (j : ℕ) → LeavesBy x kind (answer.ProviderFault j) → Rose (x.old j).store_faults (x.new j).store_faults
+  provider-by : (x : Ran) (kind : Kind) (j : ℕ) → LeavesBy x kind (answer.ProviderFault j) →
+      Rose (x.old j).store_faults (x.new j).store_faults
   provider-by x (PutJob name bytes) j L = L.0.1
   provider-by x (GetJob name) j L = absurd L.gives
   provider-by x (DropJob name) j L = absurd L.0
@@ -125,25 +129,36 @@ module _ (old new : Seen) (end : Ending) where
   provider-by x RepairJob j L = L.0.gives.2
   provider-by x UpgradeJob j L = absurd L.0
 
-  ended-causes : (kind : Kind) (records : List Record) (text : List ℕ) (how : Answer) → LeftAlone records kind how old new end.heard → EndsByAnswer text how old new end → FaultsHaveCauses old new end
+  ended-causes : (kind : Kind) (records : List Record) (text : List ℕ) (how : Answer) →
+      LeftAlone records kind how old new end.heard → EndsByAnswer text how old new end →
+      FaultsHaveCauses old new end
   ended-causes kind records text (answer.Lost stripe row) left by = none-rose 4 refl by.status_is
   ended-causes kind records text (answer.ProviderFault j) left by =
-      provider-rose by.status_is (subst (λ k. Rose (provider_at old.providers k).store_faults (provider_at new.providers k).store_faults) (sym by.place)
-      (provider-by (ran_left records kind (answer.ProviderFault j) old new end.heard left) kind j left.leaves.by_kind))
+      provider-rose by.status_is
+      (subst (λ k. Rose (provider_at old.providers k).store_faults (provider_at new.providers k).store_faults)
+      (sym by.place)
+      (provider-by (ran_left records kind (answer.ProviderFault j) old new end.heard left) kind j
+      left.leaves.by_kind))
   ended-causes kind records text answer.DiskFault left by =
-      disk-rose by.status_is (rose-before old.disk_faults left.faults new.disk_faults left.before left.leaves.counts.disk (disk-by (ran_left records kind answer.DiskFault old new end.heard left) kind left.leaves.by_kind))
+      disk-rose by.status_is
+      (rose-before old.disk_faults left.faults new.disk_faults left.before left.leaves.counts.disk
+      (disk-by (ran_left records kind answer.DiskFault old new end.heard left) kind left.leaves.by_kind))
   ended-causes kind records text answer.Memory left by = none-rose 70 refl by.status_is
   ended-causes kind records text answer.Put left by = written-causes text by.written
   ended-causes kind records text (answer.Got bytes) left by = written-causes text by.written
   ended-causes kind records text answer.Dropped left by = written-causes text by.written
-  ended-causes kind records text (answer.Audited number undecided counts) left by = written-causes text by.written
+  ended-causes kind records text (answer.Audited number undecided counts) left by =
+      written-causes text by.written
   ended-causes kind records text (answer.Repaired number) left by = written-causes text by.written
   ended-causes kind records text answer.Upgraded left by = written-causes text by.written
-  ended-causes kind records text (answer.Scrubbed stripes symbols blocks) left by = written-causes text by.written
+  ended-causes kind records text (answer.Scrubbed stripes symbols blocks) left by =
+      written-causes text by.written
   ended-causes kind records text (answer.Packed before after) left by = written-causes text by.written
 
-  job-causes : (kind : Kind) (records : List Record) → AnswersJob kind records old new end → FaultsHaveCauses old new end
-  job-causes kind records (AnswersJob.refused why is synced r) = none-rose (status_of why) (refused-none why) r.status_is
+  job-causes : (kind : Kind) (records : List Record) → AnswersJob kind records old new end →
+      FaultsHaveCauses old new end
+  job-causes kind records (AnswersJob.refused why is synced r) =
+      none-rose (status_of why) (refused-none why) r.status_is
   job-causes kind records (AnswersJob.no_memory synced r) = none-rose 70 refl r.status_is
   job-causes kind records (AnswersJob.ended how none runs left by) = ended-causes kind records _ how left by
 
@@ -168,15 +183,21 @@ module _ (old new : Seen) (end : Ending) where
   init-causes numbers (AnswersInit.too_few_providers good few same r) = none-rose 22 refl r.status_is
   init-causes numbers (AnswersInit.source_fault good enough rose taken r) = source-rose r.status_is rose
   init-causes numbers (AnswersInit.bad_key bytes good enough read bad r) = none-rose 18 refl r.status_is
-  init-causes numbers (AnswersInit.keyed bytes key good enough read form (InitsDisk.disk_fault rose F)) = disk-rose F.status_is rose
-  init-causes numbers (AnswersInit.keyed bytes key good enough read form (InitsDisk.bad_journal at is r)) = none-rose 8 refl r.status_is
-  init-causes numbers (AnswersInit.keyed bytes key good enough read form (InitsDisk.already is r)) = none-rose 10 refl r.status_is
-  init-causes numbers (AnswersInit.keyed bytes key good enough read form (InitsDisk.no_memory F)) = none-rose 70 refl F.status_is
-  init-causes numbers (AnswersInit.keyed bytes key good enough read form (InitsDisk.ready R)) = written-causes _ R.written
+  init-causes numbers (AnswersInit.keyed bytes key good enough read form (InitsDisk.disk_fault rose F)) =
+      disk-rose F.status_is rose
+  init-causes numbers (AnswersInit.keyed bytes key good enough read form (InitsDisk.bad_journal at is r)) =
+      none-rose 8 refl r.status_is
+  init-causes numbers (AnswersInit.keyed bytes key good enough read form (InitsDisk.already is r)) =
+      none-rose 10 refl r.status_is
+  init-causes numbers (AnswersInit.keyed bytes key good enough read form (InitsDisk.no_memory F)) =
+      none-rose 70 refl F.status_is
+  init-causes numbers (AnswersInit.keyed bytes key good enough read form (InitsDisk.ready R)) =
+      written-causes _ R.written
   init-causes numbers (AnswersInit.no_memory taken r) = none-rose 70 refl r.status_is
 
   -- a command that looks at a store ends with a status of a fault only where that count rose
-  pub store-causes : (command : Command) → Answers command old new end → opens_store command ≡ true → FaultsHaveCauses old new end
+  pub store-causes : (command : Command) → Answers command old new end → opens_store command ≡ true →
+      FaultsHaveCauses old new end
   store-causes (RowOf n l b seen) A opens = absurd (false≢true opens)
   store-causes (InitWith numbers) A opens = absurd (false≢true opens)
   store-causes (PutUnder name) A opens = put-causes name A

@@ -62,10 +62,12 @@ over-not status m is zero sink lost store (inr (inl e)) = lost (sym is ∙ e)
 over-not status m is zero sink lost store (inr (inr e)) = store (sym is ∙ e)
 
 over-twelve : (status : ℕ) → status ≡ 12 → IsOver status → ⊥
-over-twelve status is = over-not status 12 is (λ e. omega (arith, e)) (λ e. omega (arith, e)) (λ e. omega (arith, e)) (λ e. omega (arith, e))
+over-twelve status is = over-not status 12 is (λ e. omega (arith, e)) (λ e. omega (arith, e))
+    (λ e. omega (arith, e)) (λ e. omega (arith, e))
 
 over-memory : (status : ℕ) → status ≡ 70 → IsOver status → ⊥
-over-memory status is = over-not status 70 is (λ e. omega (arith, e)) (λ e. omega (arith, e)) (λ e. omega (arith, e)) (λ e. omega (arith, e))
+over-memory status is = over-not status 70 is (λ e. omega (arith, e)) (λ e. omega (arith, e))
+    (λ e. omega (arith, e)) (λ e. omega (arith, e))
 
 over-refused : (why : Refusal) (status : ℕ) → status ≡ status_of why → IsOver status → ⊥
 over-refused why status is (inl (inl e)) = refused-not why 0 refl (λ k. omega (arith, k)) (sym is ∙ e)
@@ -76,19 +78,34 @@ over-refused why status is (inr (inr e)) = refused-not why 13 refl (λ k. omega 
 -- ---- a disk that told tells on
 
 -- a disk tells after a job where it told before, past what the job appended
-pub tells-past : (kind : Kind) (how : Answer) (before rs : List Record) (a b : Option Cells) → SamePast kind how before rs a b → is_some b ≡ is_some a
-tells-past kind answer.Put before rs a b h = sym (is_some-option_map (past rs) b) ∙ (ap is_some h ∙ is_some-option_map (past rs) a)
-tells-past kind (answer.Got bytes) before rs a b h = sym (is_some-option_map (past rs) b) ∙ (ap is_some h ∙ is_some-option_map (past rs) a)
-tells-past kind answer.Dropped before rs a b h = sym (is_some-option_map (past rs) b) ∙ (ap is_some h ∙ is_some-option_map (past rs) a)
-tells-past kind (answer.Audited number undecided counts) before rs a b h = sym (is_some-option_map (past rs) b) ∙ (ap is_some h ∙ is_some-option_map (past rs) a)
-tells-past kind (answer.Repaired number) before rs a b h = sym (is_some-option_map (past rs) b) ∙ (ap is_some h ∙ is_some-option_map (past rs) a)
-tells-past kind answer.Upgraded before rs a b h = sym (is_some-option_map (past rs) b) ∙ (ap is_some h ∙ is_some-option_map (past rs) a)
-tells-past kind (answer.Scrubbed stripes symbols blocks) before rs a b h = sym (is_some-option_map (past rs) b) ∙ (ap is_some h ∙ is_some-option_map (past rs) a)
-tells-past kind (answer.Packed shorter longer) before rs a b h = sym (is_some-option_map (past rs) b) ∙ (ap is_some h ∙ is_some-option_map (past rs) a)
-tells-past kind (answer.Lost stripe row) before rs a b h = sym (is_some-option_map (past rs) b) ∙ (ap is_some h ∙ is_some-option_map (past rs) a)
-tells-past kind (answer.ProviderFault j) before rs a b h = sym (is_some-option_map (past rs) b) ∙ (ap is_some h ∙ is_some-option_map (past rs) a)
-tells-past kind answer.DiskFault before rs a b h = (let all = with_next h.next rs in sym (is_some-option_map (past all) b) ∙ (ap is_some h.same ∙ is_some-option_map (past all) a))
-tells-past kind answer.Memory before rs a b h = (let all = with_next h.next rs in sym (is_some-option_map (past all) b) ∙ (ap is_some h.same ∙ is_some-option_map (past all) a))
+pub tells-past : (kind : Kind) (how : Answer) (before rs : List Record) (a b : Option Cells) →
+    SamePast kind how before rs a b → is_some b ≡ is_some a
+tells-past kind answer.Put before rs a b h =
+    sym (is_some-option_map (past rs) b) ∙ (ap is_some h ∙ is_some-option_map (past rs) a)
+tells-past kind (answer.Got bytes) before rs a b h =
+    sym (is_some-option_map (past rs) b) ∙ (ap is_some h ∙ is_some-option_map (past rs) a)
+tells-past kind answer.Dropped before rs a b h =
+    sym (is_some-option_map (past rs) b) ∙ (ap is_some h ∙ is_some-option_map (past rs) a)
+tells-past kind (answer.Audited number undecided counts) before rs a b h =
+    sym (is_some-option_map (past rs) b) ∙ (ap is_some h ∙ is_some-option_map (past rs) a)
+tells-past kind (answer.Repaired number) before rs a b h =
+    sym (is_some-option_map (past rs) b) ∙ (ap is_some h ∙ is_some-option_map (past rs) a)
+tells-past kind answer.Upgraded before rs a b h =
+    sym (is_some-option_map (past rs) b) ∙ (ap is_some h ∙ is_some-option_map (past rs) a)
+tells-past kind (answer.Scrubbed stripes symbols blocks) before rs a b h =
+    sym (is_some-option_map (past rs) b) ∙ (ap is_some h ∙ is_some-option_map (past rs) a)
+tells-past kind (answer.Packed shorter longer) before rs a b h =
+    sym (is_some-option_map (past rs) b) ∙ (ap is_some h ∙ is_some-option_map (past rs) a)
+tells-past kind (answer.Lost stripe row) before rs a b h =
+    sym (is_some-option_map (past rs) b) ∙ (ap is_some h ∙ is_some-option_map (past rs) a)
+tells-past kind (answer.ProviderFault j) before rs a b h =
+    sym (is_some-option_map (past rs) b) ∙ (ap is_some h ∙ is_some-option_map (past rs) a)
+tells-past kind answer.DiskFault before rs a b h =
+    (let all = with_next h.next rs in sym (is_some-option_map (past all) b)
+    ∙ (ap is_some h.same ∙ is_some-option_map (past all) a))
+tells-past kind answer.Memory before rs a b h =
+    (let all = with_next h.next rs in sym (is_some-option_map (past all) b)
+    ∙ (ap is_some h.same ∙ is_some-option_map (past all) a))
 
 -- ---- what a job leaves that came to its end
 
@@ -96,37 +113,52 @@ tells-past kind answer.Memory before rs a b h = (let all = with_next h.next rs i
 abbrev Left : List Record → Seen → Seen → Type 0
 Left records old new = LeavesGood records old new × (is_some new.disk ≡ is_some old.disk)
 
-left-over : (kind : Kind) (records : List Record) (old new : Seen) (end : Ending) → IsOpened old records → HasBytes kind → AnswersJob kind records old new end → IsOver end.status → Left records old new
-left-over kind records old new end R are (AnswersJob.refused why is synced r) over = absurd (over-refused why end.status r.status_is over)
-left-over kind records old new end R are (AnswersJob.no_memory synced r) over = absurd (over-memory end.status r.status_is over)
-left-over kind records old new end R are (AnswersJob.ended how none runs left by) over =
-    (ran-good records kind how old new end.heard R (spelled-kind records kind are none) runs, tells-past kind how records left.after old.disk new.disk left.past_text)
+left-over : (kind : Kind) (records : List Record) (old new : Seen) (end : Ending) → IsOpened old records →
+    HasBytes kind → AnswersJob kind records old new end → IsOver end.status → Left records old new
+left-over kind records old new end R are (AnswersJob.refused why is synced r) over =
+    absurd (over-refused why end.status r.status_is over)
+left-over kind records old new end R are (AnswersJob.no_memory synced r) over =
+    absurd (over-memory end.status r.status_is over)
+left-over kind records old new end R are (AnswersJob.ended how none runs left by) over = (
+  ran-good records kind how old new end.heard R (spelled-kind records kind are none) runs,
+  tells-past kind how records left.after old.disk new.disk left.past_text,
+)
 
-alone-over : (kind : Kind) (records : List Record) (old new : Seen) (end : Ending) → IsKnown old records → HasBytes kind → AnswersAlone kind old new end → IsOver end.status → Left records old new
+alone-over : (kind : Kind) (records : List Record) (old new : Seen) (end : Ending) → IsKnown old records →
+    HasBytes kind → AnswersAlone kind old new end → IsOver end.status → Left records old new
 alone-over kind records old new end K are A over = elim (alone-known kind old new end records K A) [
   | inl (inl (rose, r)) ↦ absurd (over-twelve end.status r.status_is over)
   | inl (inr r) ↦ absurd (over-memory end.status r.status_is over)
   | inr job ↦ left-over kind records old new end K.opened are job over
 ]
 
-put-over : (name : List ℕ) (records : List Record) (old new : Seen) (end : Ending) → IsKnown old records → AnswersPut name old new end → IsOver end.status → Left records old new
-put-over name records old new end K (AnswersPut.unstarted u same) over = elim (unstarted-known old new end records K u) [
-  | inl (rose, r) ↦ absurd (over-twelve end.status r.status_is over)
-  | inr r ↦ absurd (over-memory end.status r.status_is over)
-]
+put-over : (name : List ℕ) (records : List Record) (old new : Seen) (end : Ending) → IsKnown old records →
+    AnswersPut name old new end → IsOver end.status → Left records old new
+put-over name records old new end K (AnswersPut.unstarted u same) over =
+    elim (unstarted-known old new end records K u) [
+      | inl (rose, r) ↦ absurd (over-twelve end.status r.status_is over)
+      | inr r ↦ absurd (over-memory end.status r.status_is over)
+    ]
 put-over name records old new end K (AnswersPut.source_fault other opened rose synced taken r) over =
-    absurd (over-not end.status 14 r.status_is (λ e. omega (arith, e)) (λ e. omega (arith, e)) (λ e. omega (arith, e)) (λ e. omega (arith, e)) over)
-put-over name records old new end K (AnswersPut.no_memory taken r) over = absurd (over-memory end.status r.status_is over)
+    absurd (over-not end.status 14 r.status_is (λ e. omega (arith, e)) (λ e. omega (arith, e))
+    (λ e. omega (arith, e)) (λ e. omega (arith, e)) over)
+put-over name records old new end K (AnswersPut.no_memory taken r) over =
+    absurd (over-memory end.status r.status_is over)
 put-over name records old new end K (AnswersPut.begun other bytes opened read A) over =
-    subst (λ rs. Left rs old new) (known-once old records other K opened.read) (left-over (PutJob name bytes) other old new end opened read.are_bytes A over)
+    subst (λ rs. Left rs old new) (known-once old records other K opened.read)
+    (left-over (PutJob name bytes) other old new end opened read.are_bytes A over)
 
-sure-left : (records after : List Record) (old new : Seen) → IsKnown old records → Left records old new → DiskHas after new → IsSure new after
-sure-left records after old new K L has = (let c = is_some-at new.disk (L.1 ∙ K.tells) in sure-good (setup_in_effect records) new c.0 after c.1 L.0.0 L.0.1 has)
+sure-left : (records after : List Record) (old new : Seen) → IsKnown old records → Left records old new →
+    DiskHas after new → IsSure new after
+sure-left records after old new K L has =
+    (let c = is_some-at new.disk (L.1 ∙ K.tells) in
+    sure-good (setup_in_effect records) new c.0 after c.1 L.0.0 L.0.1 has)
 
 -- ---- what was read of a source that tells
 
 -- what was read of a source that is then at its end is all that it held
-pub whole-read : (most : ℕ) (old new : Option (List ℕ)) (bytes seen : List ℕ) → old ≡ Some bytes → ReadsUpTo most old new seen → IfSome new (λ left. left ≡ []) → seen ≡ bytes
+pub whole-read : (most : ℕ) (old new : Option (List ℕ)) (bytes seen : List ℕ) → old ≡ Some bytes →
+    ReadsUpTo most old new seen → IfSome new (λ left. left ≡ []) → seen ≡ bytes
 whole-read most old None bytes seen is R whole = absurd (let e : Some bytes ≡ None = sym is ∙ R.front in cc)
 whole-read most old (Some left) bytes seen is R whole =
     (let e : Some bytes ≡ Some (seen ++ left) = sym is ∙ R.front in
@@ -136,93 +168,144 @@ whole-read most old (Some left) bytes seen is R whole =
 -- ---- each command that is done
 
 -- after a done put the store is sure, with the put's two records
-pub put-sure : (name bytes : List ℕ) (records : List Record) (old new : Seen) (end : Ending) → AnswersPut name old new end → IsDone end → IsKnown old records → old.source ≡ Some bytes → IsSure new (after_put records name (length bytes))
+pub put-sure : (name bytes : List ℕ) (records : List Record) (old new : Seen) (end : Ending) →
+    AnswersPut name old new end → IsDone end → IsKnown old records → old.source ≡ Some bytes →
+    IsSure new (after_put records name (length bytes))
 put-sure name bytes records old new end A done K source =
     (let P = put-done name old new end A done in
     let same = known-once old records P.records K P.opened.read in
     let read = whole-read (largest_file + 1) old.source new.source bytes P.bytes source P.read P.whole in
-    let has : DiskHas (after_put records name (length bytes)) new = subst (λ rs. DiskHas (after_put rs name (length bytes)) new) same (subst (λ bs. DiskHas (after_put P.records name (length bs)) new) read P.disk) in
-    sure-left records (after_put records name (length bytes)) old new K (put-over name records old new end K A (inl done)) has)
+    let has : DiskHas (after_put records name (length bytes)) new =
+    subst (λ rs. DiskHas (after_put rs name (length bytes)) new) same
+    (subst (λ bs. DiskHas (after_put P.records name (length bs)) new) read P.disk) in
+    sure-left records (after_put records name (length bytes)) old new K
+    (put-over name records old new end K A (inl done)) has)
 
 -- after a done drop the store is sure, with the drop's record
-pub drop-sure : (name : List ℕ) (records : List Record) (old new : Seen) (end : Ending) → AnswersAlone (DropJob name) old new end → IsDone end → IsKnown old records → IsSure new (after_drop records name)
+pub drop-sure : (name : List ℕ) (records : List Record) (old new : Seen) (end : Ending) →
+    AnswersAlone (DropJob name) old new end → IsDone end → IsKnown old records →
+    IsSure new (after_drop records name)
 drop-sure name records old new end A done K =
     (let P = drop-done name old new end A done in
     let same = known-once old records P.records K P.opened.read in
-    sure-left records (after_drop records name) old new K (alone-over (DropJob name) records old new end K tt A (inl done)) (subst (λ rs. DiskHas (after_drop rs name) new) same P.disk))
+    sure-left records (after_drop records name) old new K
+    (alone-over (DropJob name) records old new end K tt A (inl done))
+    (subst (λ rs. DiskHas (after_drop rs name) new) same P.disk))
 
 -- after a done audit the store is sure, with the audit's two records, whose counts it told
-pub audit-sure : (records : List Record) (old new : Seen) (end : Ending) → AnswersAlone AuditJob old new end → IsDone end → IsKnown old records → (undecided : ℕ) × (counts : List ℕ) × IsSure new (after_audit records undecided counts)
-    × IsTold (audit_lines (setup_in_effect records).tolerance (next_audit records) undecided counts) old new end
+pub audit-sure : (records : List Record) (old new : Seen) (end : Ending) → AnswersAlone AuditJob old new end →
+    IsDone end → IsKnown old records → (undecided : ℕ) × (counts : List ℕ) ×
+    IsSure new (after_audit records undecided counts)
+    × IsTold (audit_lines (setup_in_effect records).tolerance (next_audit records) undecided counts) old new
+    end
 audit-sure records old new end A done K =
     (let P = audit-done old new end A done in
     let same = known-once old records P.records K P.opened.read in (
       P.undecided,
       P.counts,
-      sure-left records (after_audit records P.undecided P.counts) old new K (alone-over AuditJob records old new end K tt A (inl done)) (subst (λ rs. DiskHas (after_audit rs P.undecided P.counts) new) same P.disk),
-      subst (λ rs. IsTold (audit_lines (setup_in_effect rs).tolerance (next_audit rs) P.undecided P.counts) old new end) same P.told,
+      sure-left records (after_audit records P.undecided P.counts) old new K
+          (alone-over AuditJob records old new end K tt A (inl done))
+          (subst (λ rs. DiskHas (after_audit rs P.undecided P.counts) new) same P.disk),
+      subst (λ rs. IsTold (audit_lines (setup_in_effect rs).tolerance (next_audit rs) P.undecided P.counts)
+          old new end) same P.told,
     ))
 
 -- after a done repair the store is sure, with the repair's record
-pub repair-sure : (records : List Record) (due : Due) (old new : Seen) (end : Ending) → AnswersAlone RepairJob old new end → IsDone end → IsKnown old records → due_of records ≡ Some due → IsSure new (after_repair records due)
+pub repair-sure : (records : List Record) (due : Due) (old new : Seen) (end : Ending) →
+    AnswersAlone RepairJob old new end → IsDone end → IsKnown old records → due_of records ≡ Some due →
+    IsSure new (after_repair records due)
 repair-sure records due old new end A done K is_due =
     (let P = repair-done old new end A done in
     let same = known-once old records P.records K P.opened.read in
-    let due_is : P.due ≡ due = same_value (due_of records) P.due due (ap due_of (sym same) ∙ P.is_due) is_due in
-    let has : DiskHas (after_repair records due) new = subst (λ rs. DiskHas (after_repair rs due) new) same (subst (λ d. DiskHas (after_repair P.records d) new) due_is P.disk) in
-    sure-left records (after_repair records due) old new K (alone-over RepairJob records old new end K tt A (inl done)) has)
+    let due_is : P.due ≡ due = same_value (due_of records) P.due due
+    (ap due_of (sym same) ∙ P.is_due) is_due in
+    let has : DiskHas (after_repair records due) new =
+    subst (λ rs. DiskHas (after_repair rs due) new) same
+    (subst (λ d. DiskHas (after_repair P.records d) new) due_is P.disk) in
+    sure-left records (after_repair records due) old new K
+    (alone-over RepairJob records old new end K tt A (inl done)) has)
 
 -- a get appends nothing
-get-has : (name : List ℕ) (records : List Record) (old new : Seen) (end : Ending) → IsOpened old records → AnswersJob (GetJob name) records old new end → IsOver end.status → DiskHas records new
-get-has name records old new end R (AnswersJob.refused why is synced r) over = absurd (over-refused why end.status r.status_is over)
-get-has name records old new end R (AnswersJob.no_memory synced r) over = absurd (over-memory end.status r.status_is over)
+get-has : (name : List ℕ) (records : List Record) (old new : Seen) (end : Ending) → IsOpened old records →
+    AnswersJob (GetJob name) records old new end → IsOver end.status → DiskHas records new
+get-has name records old new end R (AnswersJob.refused why is synced r) over =
+    absurd (over-refused why end.status r.status_is over)
+get-has name records old new end R (AnswersJob.no_memory synced r) over =
+    absurd (over-memory end.status r.status_is over)
 get-has name records old new end R (AnswersJob.ended how none runs left by) over =
-    (let L : GetLeaves (ran_left records (GetJob name) how old new end.heard left) name how = left.leaves.by_kind in
+    (let L : GetLeaves (ran_left records (GetJob name) how old new end.heard left) name how =
+    left.leaves.by_kind in
     images-same new.disk left.after records left.doubt R.read.some L.records L.sure left.images)
 
 -- after a get that is over the store is sure, with the same records
-pub get-sure : (name : List ℕ) (records : List Record) (old new : Seen) (end : Ending) → AnswersAlone (GetJob name) old new end → IsOver end.status → IsKnown old records → IsSure new records
+pub get-sure : (name : List ℕ) (records : List Record) (old new : Seen) (end : Ending) →
+    AnswersAlone (GetJob name) old new end → IsOver end.status → IsKnown old records → IsSure new records
 get-sure name records old new end A over K = elim (alone-known (GetJob name) old new end records K A) [
   | inl (inl (rose, r)) ↦ absurd (over-twelve end.status r.status_is over)
   | inl (inr r) ↦ absurd (over-memory end.status r.status_is over)
-  | inr job ↦ sure-left records records old new K (left-over (GetJob name) records old new end K.opened tt job over) (get-has name records old new end K.opened job over)
+  | inr job ↦ sure-left records records old new K
+      (left-over (GetJob name) records old new end K.opened tt job over)
+      (get-has name records old new end K.opened job over)
 ]
 
 -- ---- a store that failed, and a row that a repair lost
 
 -- after a put of which a store failed the store is sure, with the put's first record alone
-pub failed-put-sure : (name : List ℕ) (records : List Record) (old new : Seen) (end : Ending) → AnswersPut name old new end → end.status ≡ 13 → IsKnown old records → IsSure new (after_start records name)
+pub failed-put-sure : (name : List ℕ) (records : List Record) (old new : Seen) (end : Ending) →
+    AnswersPut name old new end → end.status ≡ 13 → IsKnown old records →
+    IsSure new (after_start records name)
 failed-put-sure name records old new end A failed K =
     (let P = put-fails name old new end A failed in
     let same = known-once old records P.records K P.opened.read in
-    sure-left records (after_start records name) old new K (put-over name records old new end K A (inr (inr failed))) (subst (λ rs. DiskHas (after_start rs name) new) same P.disk))
+    sure-left records (after_start records name) old new K
+    (put-over name records old new end K A (inr (inr failed)))
+    (subst (λ rs. DiskHas (after_start rs name) new) same P.disk))
 
 -- after a repair that failed at a store or a lost row the store is sure, with the same records
-pub failed-repair-sure : (records : List Record) (old new : Seen) (end : Ending) → AnswersAlone RepairJob old new end → (end.status ≡ 4) ⊎ (end.status ≡ 13) → IsKnown old records → IsSure new records
-failed-repair-sure records old new end A failed K = sure-left records records old new K (alone-over RepairJob records old new end K tt A (inr failed)) (has failed)
+pub failed-repair-sure : (records : List Record) (old new : Seen) (end : Ending) →
+    AnswersAlone RepairJob old new end → (end.status ≡ 4) ⊎ (end.status ≡ 13) → IsKnown old records →
+    IsSure new records
+failed-repair-sure records old new end A failed K =
+    sure-left records records old new K (alone-over RepairJob records old new end K tt A (inr failed))
+    (has failed)
   where
     has : (end.status ≡ 4) ⊎ (end.status ≡ 13) → DiskHas records new
-    has (inl lost) = (let P = repair-loses old new end A lost in subst (λ rs. DiskHas rs new) (known-once old records P.records K P.opened.read) P.disk)
-    has (inr store) = (let P = repair-fails old new end A store in subst (λ rs. DiskHas rs new) (known-once old records P.records K P.opened.read) P.disk)
+    has (inl lost) = (let P = repair-loses old new end A lost in
+        subst (λ rs. DiskHas rs new) (known-once old records P.records K P.opened.read) P.disk)
+    has (inr store) = (let P = repair-fails old new end A store in
+        subst (λ rs. DiskHas rs new) (known-once old records P.records K P.opened.read) P.disk)
 
 -- a disk that was synced, over known records
-synced-sure : (records : List Record) (old new : Seen) → IsKnown old records → new.disk ≡ option_map synced old.disk → new.providers ≡ old.providers → IsSure new records
+synced-sure : (records : List Record) (old new : Seen) → IsKnown old records →
+    new.disk ≡ option_map synced old.disk → new.providers ≡ old.providers → IsSure new records
 synced-sure records old new K after same =
     (let c = is_some-at old.disk K.tells in
     let told : new.disk ≡ Some (firm (reads c.0)) = after ∙ ap (option_map synced) c.1 in
     let R = K.opened.read in
-    let looked : (9 < length (reads c.0)) × StandsFor (journal_read c.0) records = subst (λ d. IfSome d (λ cells. (9 < length (reads cells)) × StandsFor (journal_read cells) records)) c.1 R.reads_are in
+    let looked : (9 < length (reads c.0)) × StandsFor (journal_read c.0) records =
+    subst (λ d. IfSome d (λ cells. (9 < length (reads cells)) × StandsFor (journal_read cells) records)) c.1
+    R.reads_are in
     let stands : StandsFor (reads c.0) records = stands-front largest_journal (reads c.0) records looked.1 in
     record {
       known = known-good (setup_in_effect records) new (firm (reads c.0)) records told
-          (record { some = R.some; accepted = R.accepted; room = R.room; setup = refl; stands = subst (λ bytes. StandsFor bytes records) (sym (reads-firm (reads c.0))) stands })
+          (record {
+            some = R.some;
+            accepted = R.accepted;
+            room = R.room;
+            setup = refl;
+            stands = subst (λ bytes. StandsFor bytes records) (sym (reads-firm (reads c.0))) stands;
+          })
           (subst (λ ps. (setup_in_effect records).n ≤ length ps) (sym same) K.opened.enough);
-      images = subst (λ d. EachImage d (λ image. StandsFor image records)) (sym told) (λ image is. subst (λ bytes. StandsFor bytes records) (sym (image-firm (reads c.0) image is)) stands);
+      images = subst (λ d. EachImage d (λ image. StandsFor image records)) (sym told)
+          (λ image is. subst (λ bytes. StandsFor bytes records)
+          (sym (image-firm (reads c.0) image is)) stands);
     })
 
 -- after a done list the store is sure, with the same records
-pub list-sure : (records : List Record) (old new : Seen) (end : Ending) → AnswersList old new end → IsDone end → IsKnown old records → IsSure new records
-list-sure records old new end A done K = (let P = list-done old new end A done in synced-sure records old new K P.disk P.providers)
+pub list-sure : (records : List Record) (old new : Seen) (end : Ending) → AnswersList old new end →
+    IsDone end → IsKnown old records → IsSure new records
+list-sure records old new end A done K =
+    (let P = list-done old new end A done in synced-sure records old new K P.disk P.providers)
 
 -- ---- init
 
@@ -231,7 +314,8 @@ key-master text key F = (let d = decode_of-ok F.digits key F.spelled in
     let long : length key ≡ 32 = (let a = d.2 in let b = F.size in omega (arith, a, b)) in
     let fits = IsBytes-all key d.3 in grind (arith, nat_tests, long, fits))
 
-init-good : (s : Setup) (rest : List ℕ) → is_setup s ≡ true → is_master s.master ≡ true → IsGood s (text (SetUp s ∷ []) ++ rest) (SetUp s ∷ [])
+init-good : (s : Setup) (rest : List ℕ) → is_setup s ≡ true → is_master s.master ≡ true →
+    IsGood s (text (SetUp s ∷ []) ++ rest) (SetUp s ∷ [])
 init-good s rest good master = record {
   some = λ e. cc;
   accepted = (refl, tt);
@@ -246,25 +330,34 @@ init-good s rest good master = record {
   };
 }
 
-firm-sure : (s : Setup) (new : Seen) (bytes : List ℕ) (rs : List Record) → new.disk ≡ Some (firm bytes) → IsGood s bytes rs → s.n ≤ length new.providers → IsSure new rs
+firm-sure : (s : Setup) (new : Seen) (bytes : List ℕ) (rs : List Record) → new.disk ≡ Some (firm bytes) →
+    IsGood s bytes rs → s.n ≤ length new.providers → IsSure new rs
 firm-sure s new bytes rs told G enough = record {
-  known = known-good s new (firm bytes) rs told (subst (λ b. IsGood s b rs) (sym (reads-firm bytes)) G) enough;
-  images = subst (λ d. EachImage d (λ image. StandsFor image rs)) (sym told) (λ image is. subst (λ b. StandsFor b rs) (sym (image-firm bytes image is)) G.stands);
+  known = known-good s new (firm bytes) rs told (subst (λ b. IsGood s b rs) (sym (reads-firm bytes)) G)
+      enough;
+  images = subst (λ d. EachImage d (λ image. StandsFor image rs)) (sym told)
+      (λ image is. subst (λ b. StandsFor b rs) (sym (image-firm bytes image is)) G.stands);
 }
 
-set_up-at : (s : Setup) (a b : Option Cells) → is_some a ≡ true → Goes (IsSetUpOn s) a b → (rest : List ℕ) × (b ≡ Some (firm (text (SetUp s ∷ []) ++ rest)))
+set_up-at : (s : Setup) (a b : Option Cells) → is_some a ≡ true → Goes (IsSetUpOn s) a b →
+    (rest : List ℕ) × (b ≡ Some (firm (text (SetUp s ∷ []) ++ rest)))
 set_up-at s None b tells g = absurd (false≢true tells)
 set_up-at s (Some a) None tells g = absurd g
 set_up-at s (Some a) (Some b) tells g = (_, ap Some g.reads_are)
 
 -- after a done init the store is sure, and its one record is the setup
-pub init-sure : (numbers : Numbers) (key : List ℕ) (old new : Seen) (end : Ending) → AnswersInit numbers old new end → IsDone end → is_some old.disk ≡ true →
-    ((bytes : List ℕ) × (old.source ≡ Some bytes) × IsKeyForm bytes key) → IsSure new (SetUp (setup_with numbers key) ∷ [])
+pub init-sure : (numbers : Numbers) (key : List ℕ) (old new : Seen) (end : Ending) →
+    AnswersInit numbers old new end → IsDone end → is_some old.disk ≡ true →
+    ((bytes : List ℕ) × (old.source ≡ Some bytes) × IsKeyForm bytes key) →
+    IsSure new (SetUp (setup_with numbers key) ∷ [])
 init-sure numbers key old new end A done tells (bytes, source, form) =
     (let I = init-done numbers old new end A done in
-    let same : I.key ≡ key = IsKeyForm-once bytes I.key key (form-all old.source new.source bytes I.bytes I.key source I.read I.form) form in
-    let set_up = set_up-at (setup_with numbers key) old.disk new.disk tells (subst (λ k. Goes (IsSetUpOn (setup_with numbers k)) old.disk new.disk) same I.disk) in
-    firm-sure (setup_with numbers key) new _ (SetUp (setup_with numbers key) ∷ []) set_up.1 (init-good (setup_with numbers key) set_up.0 I.good (key-master bytes key form))
+    let same : I.key ≡ key = IsKeyForm-once bytes I.key key
+    (form-all old.source new.source bytes I.bytes I.key source I.read I.form) form in
+    let set_up = set_up-at (setup_with numbers key) old.disk new.disk tells
+    (subst (λ k. Goes (IsSetUpOn (setup_with numbers k)) old.disk new.disk) same I.disk) in
+    firm-sure (setup_with numbers key) new _ (SetUp (setup_with numbers key) ∷ []) set_up.1
+    (init-good (setup_with numbers key) set_up.0 I.good (key-master bytes key form))
     (subst (λ ps. numbers.n ≤ length ps) (sym I.providers) I.enough))
 
 -- ---- whatever comes of a command
@@ -273,51 +366,72 @@ init-sure numbers key old new end A done tells (bytes, source, form) =
 abbrev Comes : List Record → Seen → Seen → Ending → Type 0
 Comes records old new end = ((status : ℕ) × (at : ℕ) × IsRefused status at old new end) ⊎ Left records old new
 
-job-comes : (kind : Kind) (records : List Record) (old new : Seen) (end : Ending) → IsOpened old records → HasBytes kind → AnswersJob kind records old new end → Comes records old new end
+job-comes : (kind : Kind) (records : List Record) (old new : Seen) (end : Ending) → IsOpened old records →
+    HasBytes kind → AnswersJob kind records old new end → Comes records old new end
 job-comes kind records old new end R are (AnswersJob.refused why is synced r) = inl (status_of why, 0, r)
 job-comes kind records old new end R are (AnswersJob.no_memory synced r) = inl (70, 0, r)
 job-comes kind records old new end R are (AnswersJob.ended how none runs left by) =
-    inr (ran-good records kind how old new end.heard R (spelled-kind records kind are none) runs, tells-past kind how records left.after old.disk new.disk left.past_text)
+    inr (
+      ran-good records kind how old new end.heard R (spelled-kind records kind are none) runs,
+      tells-past kind how records left.after old.disk new.disk left.past_text,
+    )
 
-unstarted-comes : (records : List Record) (old new : Seen) (end : Ending) → IsKnown old records → Unstarted old new end → Comes records old new end
-unstarted-comes records old new end K u = elim (unstarted-known old new end records K u) [ inl (rose, r) ↦ inl (12, 0, r) | inr r ↦ inl (70, 0, r) ]
+unstarted-comes : (records : List Record) (old new : Seen) (end : Ending) → IsKnown old records →
+    Unstarted old new end → Comes records old new end
+unstarted-comes records old new end K u =
+    elim (unstarted-known old new end records K u) [ inl (rose, r) ↦ inl (12, 0, r) | inr r ↦ inl (70, 0, r) ]
 
-alone-comes : (kind : Kind) (records : List Record) (old new : Seen) (end : Ending) → IsKnown old records → HasBytes kind → AnswersAlone kind old new end → Comes records old new end
+alone-comes : (kind : Kind) (records : List Record) (old new : Seen) (end : Ending) → IsKnown old records →
+    HasBytes kind → AnswersAlone kind old new end → Comes records old new end
 alone-comes kind records old new end K are A = elim (alone-known kind old new end records K A) [
   | inl (inl (rose, r)) ↦ inl (12, 0, r)
   | inl (inr r) ↦ inl (70, 0, r)
   | inr job ↦ job-comes kind records old new end K.opened are job
 ]
 
-put-comes : (name : List ℕ) (records : List Record) (old new : Seen) (end : Ending) → IsKnown old records → AnswersPut name old new end → Comes records old new end
+put-comes : (name : List ℕ) (records : List Record) (old new : Seen) (end : Ending) → IsKnown old records →
+    AnswersPut name old new end → Comes records old new end
 put-comes name records old new end K (AnswersPut.unstarted u same) = unstarted-comes records old new end K u
-put-comes name records old new end K (AnswersPut.source_fault other opened rose synced taken r) = inl (14, 0, r)
+put-comes name records old new end K (AnswersPut.source_fault other opened rose synced taken r) =
+    inl (14, 0, r)
 put-comes name records old new end K (AnswersPut.no_memory taken r) = inl (70, 0, r)
 put-comes name records old new end K (AnswersPut.begun other bytes opened read A) =
-    subst (λ rs. Comes rs old new end) (known-once old records other K opened.read) (job-comes (PutJob name bytes) other old new end opened read.are_bytes A)
+    subst (λ rs. Comes rs old new end) (known-once old records other K opened.read)
+    (job-comes (PutJob name bytes) other old new end opened read.are_bytes A)
 
-list-comes : (records : List Record) (old new : Seen) (end : Ending) → IsKnown old records → AnswersList old new end → IsSure new records ⊎ Comes records old new end
+list-comes : (records : List Record) (old new : Seen) (end : Ending) → IsKnown old records →
+    AnswersList old new end → IsSure new records ⊎ Comes records old new end
 list-comes records old new end K (AnswersList.unstarted u) = inr (unstarted-comes records old new end K u)
 list-comes records old new end K (AnswersList.no_memory r) = inr (inl (70, 0, r))
-list-comes records old new end K (AnswersList.listed other opened L) = inl (synced-sure records old new K L.disk L.providers)
+list-comes records old new end K (AnswersList.listed other opened L) =
+    inl (synced-sure records old new K L.disk L.providers)
 
-command-comes : (command : Command) (records : List Record) (old new : Seen) (end : Ending) → IsKnown old records → Answers command old new end → opens_store command ≡ true → IsSure new records ⊎ Comes records old new end
+command-comes : (command : Command) (records : List Record) (old new : Seen) (end : Ending) →
+    IsKnown old records → Answers command old new end → opens_store command ≡ true →
+    IsSure new records ⊎ Comes records old new end
 command-comes (RowOf n l b seen) records old new end K A opens = absurd (false≢true opens)
 command-comes (InitWith numbers) records old new end K A opens = absurd (false≢true opens)
 command-comes (PutUnder name) records old new end K A opens = inr (put-comes name records old new end K A)
-command-comes (GetOf name) records old new end K A opens = inr (alone-comes (GetJob name) records old new end K tt A.0)
-command-comes (DropOf name) records old new end K A opens = inr (alone-comes (DropJob name) records old new end K tt A.0)
+command-comes (GetOf name) records old new end K A opens =
+    inr (alone-comes (GetJob name) records old new end K tt A.0)
+command-comes (DropOf name) records old new end K A opens =
+    inr (alone-comes (DropJob name) records old new end K tt A.0)
 command-comes ListAll records old new end K A opens = list-comes records old new end K A.0
 command-comes AuditAll records old new end K A opens = inr (alone-comes AuditJob records old new end K tt A.0)
-command-comes RepairDue records old new end K A opens = inr (alone-comes RepairJob records old new end K tt A.0)
+command-comes RepairDue records old new end K A opens =
+    inr (alone-comes RepairJob records old new end K tt A.0)
 
 -- what is told of each image: it is good, and stands for the records or for these with some of the job's
 abbrev Told : Command → List Record → Seen → Seen → List ℕ → Type 0
-Told command records old new image = (rs : List Record) × IsGood (setup_in_effect records) image rs × IsThen command records old new rs
+Told command records old new image =
+    (rs : List Record) × IsGood (setup_in_effect records) image rs × IsThen command records old new rs
 
-image-told : (command : Command) (records : List Record) (old new : Seen) (image : List ℕ) (rs : List Record) → IsGood (setup_in_effect records) image rs →
-    StandsFor image records ⊎ ((kind : Kind) × RunsKind command old new kind × IsAfter records kind image) → Told command records old new image
-image-told command records old new image rs G (inl stands) = (rs, G, inl (one_meaning image rs records G.stands stands))
+image-told : (command : Command) (records : List Record) (old new : Seen) (image : List ℕ)
+    (rs : List Record) → IsGood (setup_in_effect records) image rs →
+    StandsFor image records ⊎ ((kind : Kind) × RunsKind command old new kind × IsAfter records kind image) →
+    Told command records old new image
+image-told command records old new image rs G (inl stands) =
+    (rs, G, inl (one_meaning image rs records G.stands stands))
 image-told command records old new image rs G (inr (kind, is, after)) = (
   rs,
   G,
@@ -332,26 +446,41 @@ image-told command records old new image rs G (inr (kind, is, after)) = (
 )
 
 -- the next command finds an image of the disk
-pub next-image : (new next : Seen) → is_some new.disk ≡ true → Follows new next → (cells : Cells) × (next.disk ≡ Some cells) × ((P : List ℕ → Type 0) → EachImage new.disk P → P (reads cells))
+pub next-image : (new next : Seen) → is_some new.disk ≡ true → Follows new next →
+    (cells : Cells) × (next.disk ≡ Some cells) ×
+    ((P : List ℕ → Type 0) → EachImage new.disk P → P (reads cells))
 next-image new next tells N = elim N.disk [
-  | inl same ↦ (let c = is_some-at new.disk tells in (c.0, same ∙ c.1, λ P h. subst (λ d. EachImage d P) c.1 h (reads c.0) (IsImage-reads c.0)))
+  | inl same ↦ (let c = is_some-at new.disk tells in
+      (c.0, same ∙ c.1, λ P h. subst (λ d. EachImage d P) c.1 h (reads c.0) (IsImage-reads c.0)))
   | inr stopped ↦ stopped-at new.disk next.disk tells stopped
 ]
   where
-    stopped-at : (a b : Option Cells) → is_some a ≡ true → Goes Stopped a b → (cells : Cells) × (b ≡ Some cells) × ((P : List ℕ → Type 0) → EachImage a P → P (reads cells))
+    stopped-at : (a b : Option Cells) → is_some a ≡ true → Goes Stopped a b →
+        (cells : Cells) × (b ≡ Some cells) × ((P : List ℕ → Type 0) → EachImage a P → P (reads cells))
     stopped-at None b tells g = absurd (false≢true tells)
     stopped-at (Some a) None tells g = absurd g
-    stopped-at (Some a) (Some b) tells (image, of, is) = (firm image, ap Some is, λ P h. subst P (sym (reads-firm image)) (h image of))
+    stopped-at (Some a) (Some b) tells (image, of, is) =
+        (firm image, ap Some is, λ P h. subst P (sym (reads-firm image)) (h image of))
 
 -- after any command the next one finds the store known, with some of the records of its job
-pub known-always : (command : Command) (records : List Record) (old new next : Seen) (end : Ending) → Answers command old new end → opens_store command ≡ true → IsSure old records →
+pub known-always : (command : Command) (records : List Record) (old new next : Seen) (end : Ending) →
+    Answers command old new end → opens_store command ≡ true → IsSure old records →
     Follows new next → (after : List Record) × IsKnown next after × IsThen command records old new after
-known-always command records old new next end A opens S N = elim (command-comes command records old new end S.known A opens) [
-  | inl sure ↦ (records, (sure-next records new next sure N).known, inl refl)
-  | inr (inl (status, at, r)) ↦ (records, (sure-next records new next (sure-refused status at records old new end r S) N).known, inl refl)
-  | inr (inr good) ↦ (let c = next-image new next (good.1 ∙ S.known.tells) N in
-      let g = c.2 (λ image. (rs : List Record) × IsGood (setup_in_effect records) image rs) good.0.0 in
-      let stands = c.2 _ (known-images command records old new end A opens S.known S.images) in
-      let told = image-told command records old new (reads c.0) g.0 g.1 stands in
-      (told.0, known-good (setup_in_effect records) next c.0 told.0 c.1 told.1 (let e = good.0.1 in let h = N.handed in omega (arith, e, h)), told.2))
-]
+known-always command records old new next end A opens S N =
+    elim (command-comes command records old new end S.known A opens) [
+      | inl sure ↦ (records, (sure-next records new next sure N).known, inl refl)
+      | inr (inl (status, at, r)) ↦ (
+        records,
+        (sure-next records new next (sure-refused status at records old new end r S) N).known,
+        inl refl,
+      )
+      | inr (inr good) ↦ (let c = next-image new next (good.1 ∙ S.known.tells) N in
+          let g = c.2 (λ image. (rs : List Record) × IsGood (setup_in_effect records) image rs) good.0.0 in
+          let stands = c.2 _ (known-images command records old new end A opens S.known S.images) in
+          let told = image-told command records old new (reads c.0) g.0 g.1 stands in (
+            told.0,
+            known-good (setup_in_effect records) next c.0 told.0 c.1 told.1
+                (let e = good.0.1 in let h = N.handed in omega (arith, e, h)),
+            told.2,
+          ))
+    ]

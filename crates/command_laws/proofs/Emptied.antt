@@ -1,4 +1,5 @@
--- An empty text makes no call of the sink, so its fault ends neither a list without a file nor a get of an empty file.
+-- An empty text makes no call of the sink, so its fault ends neither a list without a file nor a get of an
+-- empty file.
 use Rattle.std.proofs.Common.{◌≡◌, ◌≢◌, ℕ, List, [], ◌∷◌, take, Some, refl, ap, sym, ◌∙◌, inl, inr, arith}
 use Rattle.record_defs.specs.Records.{Record}
 use Rattle.record_defs.specs.Table.{File, file_of, files_of}
@@ -28,39 +29,52 @@ take-zero n l zero = ap (λ k. take k l) zero ∙ none l
 not-fifteen : (status n : ℕ) → status ≡ n → n ≢ 15 → status ≡ 15 → ⊥
 not-fifteen status n is other sink = other (sym is ∙ sink)
 
-written-empty : (text : List ℕ) (old new : Seen) (end : Ending) → WritesLine text end.status (sinking old new) → text ≡ [] → end.status ≡ 15 → ⊥
+written-empty : (text : List ℕ) (old new : Seen) (end : Ending) →
+    WritesLine text end.status (sinking old new) → text ≡ [] → end.status ≡ 15 → ⊥
 written-empty text old new end (inl w) none sink = not-fifteen end.status 0 w.0 (λ e. omega (arith, e)) sink
 written-empty text old new end (inr (inl w)) none sink = w.0 none
-written-empty text old new end (inr (inr w)) none sink = not-fifteen end.status 70 w.0 (λ e. omega (arith, e)) sink
+written-empty text old new end (inr (inr w)) none sink =
+    not-fifteen end.status 70 w.0 (λ e. omega (arith, e)) sink
 
 -- ---- lists
 
 -- a list of no files does not end in a fault of the sink
-pub list-empty : (records : List Record) (old new : Seen) (end : Ending) → AnswersList old new end → IsKnown old records → files_of records ≡ [] → end.status ≡ 15 → ⊥
-list-empty records old new end (AnswersList.unstarted u) K none sink = elim (unstarted-known old new end records K u) [
-  | inl (rose, r) ↦ not-fifteen end.status 12 r.status_is (λ e. omega (arith, e)) sink
-  | inr r ↦ not-fifteen end.status 70 r.status_is (λ e. omega (arith, e)) sink
-]
-list-empty records old new end (AnswersList.no_memory r) K none sink = not-fifteen end.status 70 r.status_is (λ e. omega (arith, e)) sink
+pub list-empty : (records : List Record) (old new : Seen) (end : Ending) → AnswersList old new end →
+    IsKnown old records → files_of records ≡ [] → end.status ≡ 15 → ⊥
+list-empty records old new end (AnswersList.unstarted u) K none sink =
+    elim (unstarted-known old new end records K u) [
+      | inl (rose, r) ↦ not-fifteen end.status 12 r.status_is (λ e. omega (arith, e)) sink
+      | inr r ↦ not-fifteen end.status 70 r.status_is (λ e. omega (arith, e)) sink
+    ]
+list-empty records old new end (AnswersList.no_memory r) K none sink =
+    not-fifteen end.status 70 r.status_is (λ e. omega (arith, e)) sink
 list-empty records old new end (AnswersList.listed other opened L) K none sink =
-    written-empty (list_lines (files_of other)) old new end L.written (ap (λ rs. list_lines (files_of rs)) (known-once old records other K opened.read) ∙ ap list_lines none) sink
+    written-empty (list_lines (files_of other)) old new end L.written
+    (ap (λ rs. list_lines (files_of rs)) (known-once old records other K opened.read)
+    ∙ ap list_lines none) sink
 
 -- ---- gets
 
-module _ (name : List ℕ) (records : List Record) (file : File) (old new : Seen) (end : Ending) (in_effect : file_of records name ≡ Some file) (none : file.size ≡ 0) where
-  by-answer : (how : Answer) (left : LeftAlone records (GetJob name) how old new end.heard) → GetLeaves (ran_left records (GetJob name) how old new end.heard left) name how →
-      EndsByAnswer (text_of (setup_in_effect records).tolerance (GetJob name) how) how old new end → end.status ≡ 15 → ⊥
+module _ (name : List ℕ) (records : List Record) (file : File) (old new : Seen) (end : Ending)
+    (in_effect : file_of records name ≡ Some file) (none : file.size ≡ 0) where
+  by-answer : (how : Answer) (left : LeftAlone records (GetJob name) how old new end.heard) →
+      GetLeaves (ran_left records (GetJob name) how old new end.heard left) name how →
+      EndsByAnswer (text_of (setup_in_effect records).tolerance (GetJob name) how) how old new end →
+      end.status ≡ 15 → ⊥
   by-answer (answer.Got bytes) left L by sink =
       (let same : L.file ≡ file = same_value (file_of records name) L.file file L.in_effect in_effect in
       let zero : L.file.size ≡ 0 = ap (λ (f : File). f.size) same ∙ none in
       let empty : bytes ≡ [] = L.gives.1.cut ∙ take-zero L.file.size _ zero in
       written-empty bytes old new end by.written empty sink)
-  by-answer (answer.Lost stripe row) left L by sink = not-fifteen end.status 4 by.status_is (λ e. omega (arith, e)) sink
+  by-answer (answer.Lost stripe row) left L by sink =
+      not-fifteen end.status 4 by.status_is (λ e. omega (arith, e)) sink
   by-answer how left L by sink = L.gives
 
   get-job : AnswersJob (GetJob name) records old new end → end.status ≡ 15 → ⊥
-  get-job (AnswersJob.refused why is synced r) sink = refused-not why 15 refl (λ e. omega (arith, e)) (sym r.status_is ∙ sink)
-  get-job (AnswersJob.no_memory synced r) sink = not-fifteen end.status 70 r.status_is (λ e. omega (arith, e)) sink
+  get-job (AnswersJob.refused why is synced r) sink =
+      refused-not why 15 refl (λ e. omega (arith, e)) (sym r.status_is ∙ sink)
+  get-job (AnswersJob.no_memory synced r) sink =
+      not-fifteen end.status 70 r.status_is (λ e. omega (arith, e)) sink
   get-job (AnswersJob.ended how none runs left by) sink = by-answer how left left.leaves.by_kind by sink
 
   -- a get of an empty file does not end in a fault of the sink

@@ -41,28 +41,37 @@ abbrev fetches_of : Provider → ℕ
 fetches_of p = p.fetches
 
 -- a put fetches nothing
-pub put-fetches : (name : List ℕ) (old new : Seen) (end : Ending) → AnswersPut name old new end → SameFetches old new
+pub put-fetches : (name : List ℕ) (old new : Seen) (end : Ending) → AnswersPut name old new end →
+    SameFetches old new
 put-fetches name old new end (AnswersPut.unstarted u same) = unstarted-same fetches_of old new end u
-put-fetches name old new end (AnswersPut.source_fault records opened rose after taken r) = refused-same fetches_of 14 0 old new end r
+put-fetches name old new end (AnswersPut.source_fault records opened rose after taken r) =
+    refused-same fetches_of 14 0 old new end r
 put-fetches name old new end (AnswersPut.no_memory taken r) = refused-same fetches_of 70 0 old new end r
-put-fetches name old new end (AnswersPut.begun records bytes opened read (AnswersJob.refused why is after r)) = refused-same fetches_of _ 0 old new end r
-put-fetches name old new end (AnswersPut.begun records bytes opened read (AnswersJob.no_memory after r)) = refused-same fetches_of 70 0 old new end r
+put-fetches name old new end (AnswersPut.begun records bytes opened read (AnswersJob.refused why is after r)) =
+    refused-same fetches_of _ 0 old new end r
+put-fetches name old new end (AnswersPut.begun records bytes opened read (AnswersJob.no_memory after r)) =
+    refused-same fetches_of 70 0 old new end r
 put-fetches name old new end (AnswersPut.begun records bytes opened read (AnswersJob.ended how none runs left by)) =
     left-same fetches_of records (PutJob name bytes) how old new end.heard left left.leaves.by_kind.1
 
 -- a drop fetches nothing
-pub drop-fetches : (name : List ℕ) (old new : Seen) (end : Ending) → AnswersAlone (DropJob name) old new end → SameFetches old new
+pub drop-fetches : (name : List ℕ) (old new : Seen) (end : Ending) → AnswersAlone (DropJob name) old new end →
+    SameFetches old new
 drop-fetches name old new end (AnswersAlone.unstarted u) = unstarted-same fetches_of old new end u
-drop-fetches name old new end (AnswersAlone.begun records opened (AnswersJob.refused why is after r)) = refused-same fetches_of _ 0 old new end r
-drop-fetches name old new end (AnswersAlone.begun records opened (AnswersJob.no_memory after r)) = refused-same fetches_of 70 0 old new end r
+drop-fetches name old new end (AnswersAlone.begun records opened (AnswersJob.refused why is after r)) =
+    refused-same fetches_of _ 0 old new end r
+drop-fetches name old new end (AnswersAlone.begun records opened (AnswersJob.no_memory after r)) =
+    refused-same fetches_of 70 0 old new end r
 drop-fetches name old new end (AnswersAlone.begun records opened (AnswersJob.ended how none runs left by)) =
     left-same fetches_of records (DropJob name) how old new end.heard left left.leaves.by_kind.1
 
 -- an audit fetches nothing
 pub audit-fetches : (old new : Seen) (end : Ending) → AnswersAlone AuditJob old new end → SameFetches old new
 audit-fetches old new end (AnswersAlone.unstarted u) = unstarted-same fetches_of old new end u
-audit-fetches old new end (AnswersAlone.begun records opened (AnswersJob.refused why is after r)) = refused-same fetches_of _ 0 old new end r
-audit-fetches old new end (AnswersAlone.begun records opened (AnswersJob.no_memory after r)) = refused-same fetches_of 70 0 old new end r
+audit-fetches old new end (AnswersAlone.begun records opened (AnswersJob.refused why is after r)) =
+    refused-same fetches_of _ 0 old new end r
+audit-fetches old new end (AnswersAlone.begun records opened (AnswersJob.no_memory after r)) =
+    refused-same fetches_of 70 0 old new end r
 audit-fetches old new end (AnswersAlone.begun records opened (AnswersJob.ended how none runs left by)) =
     left-same fetches_of records AuditJob how old new end.heard left left.leaves.by_kind.fetches
 
@@ -70,20 +79,31 @@ audit-fetches old new end (AnswersAlone.begun records opened (AnswersJob.ended h
 pub list-fetches : (old new : Seen) (end : Ending) → AnswersList old new end → SameFetches old new
 list-fetches old new end (AnswersList.unstarted u) = unstarted-same fetches_of old new end u
 list-fetches old new end (AnswersList.no_memory r) = refused-same fetches_of 70 0 old new end r
-list-fetches old new end (AnswersList.listed records opened L) = λ j. ap (λ ps. (provider_at ps j).fetches) L.providers
+list-fetches old new end (AnswersList.listed records opened L) =
+    λ j. ap (λ ps. (provider_at ps j).fetches) L.providers
 
 -- an init fetches nothing
-pub init-fetches : (numbers : Numbers) (old new : Seen) (end : Ending) → AnswersInit numbers old new end → SameFetches old new
-init-fetches numbers old new end (AnswersInit.bad_setup bad same r) = refused-same fetches_of 20 0 old new end r
-init-fetches numbers old new end (AnswersInit.too_few_providers good few same r) = refused-same fetches_of 22 0 old new end r
-init-fetches numbers old new end (AnswersInit.source_fault good enough rose taken r) = refused-same fetches_of 14 0 old new end r
-init-fetches numbers old new end (AnswersInit.bad_key seen good enough read none r) = refused-same fetches_of 18 0 old new end r
+pub init-fetches : (numbers : Numbers) (old new : Seen) (end : Ending) → AnswersInit numbers old new end →
+    SameFetches old new
+init-fetches numbers old new end (AnswersInit.bad_setup bad same r) =
+    refused-same fetches_of 20 0 old new end r
+init-fetches numbers old new end (AnswersInit.too_few_providers good few same r) =
+    refused-same fetches_of 22 0 old new end r
+init-fetches numbers old new end (AnswersInit.source_fault good enough rose taken r) =
+    refused-same fetches_of 14 0 old new end r
+init-fetches numbers old new end (AnswersInit.bad_key seen good enough read none r) =
+    refused-same fetches_of 18 0 old new end r
 init-fetches numbers old new end (AnswersInit.no_memory taken r) = refused-same fetches_of 70 0 old new end r
-init-fetches numbers old new end (AnswersInit.keyed seen key good enough read form (InitsDisk.disk_fault rose F)) = λ j. ap (λ ps. (provider_at ps j).fetches) F.providers
-init-fetches numbers old new end (AnswersInit.keyed seen key good enough read form (InitsDisk.no_memory F)) = λ j. ap (λ ps. (provider_at ps j).fetches) F.providers
-init-fetches numbers old new end (AnswersInit.keyed seen key good enough read form (InitsDisk.bad_journal at is r)) = refused-same fetches_of 8 at old new end r
-init-fetches numbers old new end (AnswersInit.keyed seen key good enough read form (InitsDisk.already is r)) = refused-same fetches_of 10 0 old new end r
-init-fetches numbers old new end (AnswersInit.keyed seen key good enough read form (InitsDisk.ready R)) = λ j. ap (λ ps. (provider_at ps j).fetches) R.providers
+init-fetches numbers old new end (AnswersInit.keyed seen key good enough read form (InitsDisk.disk_fault rose F)) =
+    λ j. ap (λ ps. (provider_at ps j).fetches) F.providers
+init-fetches numbers old new end (AnswersInit.keyed seen key good enough read form (InitsDisk.no_memory F)) =
+    λ j. ap (λ ps. (provider_at ps j).fetches) F.providers
+init-fetches numbers old new end (AnswersInit.keyed seen key good enough read form (InitsDisk.bad_journal at is r)) =
+    refused-same fetches_of 8 at old new end r
+init-fetches numbers old new end (AnswersInit.keyed seen key good enough read form (InitsDisk.already is r)) =
+    refused-same fetches_of 10 0 old new end r
+init-fetches numbers old new end (AnswersInit.keyed seen key good enough read form (InitsDisk.ready R)) =
+    λ j. ap (λ ps. (provider_at ps j).fetches) R.providers
 
 -- ---- which answers end a command so
 
@@ -92,11 +112,21 @@ abbrev IsOwn : ℕ → Type 0
 IsOwn m = (m ≡ 13) ⊎ (m ≡ 4)
 
 unstarted-own : (m : ℕ) (old new : Seen) (end : Ending) → Unstarted old new end → end.status ≡ m → IsOwn m → ⊥
-unstarted-own m old new end (Unstarted.disk_fault rose r) is own = not_two end.status 12 m r.status_is is (λ e. elim own [ inl k ↦ omega (arith, k, e) | inr k ↦ omega (arith, k, e) ])
-unstarted-own m old new end (Unstarted.not_set_up fresh r) is own = not_two end.status 9 m r.status_is is (λ e. elim own [ inl k ↦ omega (arith, k, e) | inr k ↦ omega (arith, k, e) ])
-unstarted-own m old new end (Unstarted.bad_journal at bad r) is own = not_two end.status 8 m r.status_is is (λ e. elim own [ inl k ↦ omega (arith, k, e) | inr k ↦ omega (arith, k, e) ])
-unstarted-own m old new end (Unstarted.too_few_providers records read few after r) is own = not_two end.status 22 m r.status_is is (λ e. elim own [ inl k ↦ omega (arith, k, e) | inr k ↦ omega (arith, k, e) ])
-unstarted-own m old new end (Unstarted.no_memory r) is own = not_two end.status 70 m r.status_is is (λ e. elim own [ inl k ↦ omega (arith, k, e) | inr k ↦ omega (arith, k, e) ])
+unstarted-own m old new end (Unstarted.disk_fault rose r) is own =
+    not_two end.status 12 m r.status_is is
+    (λ e. elim own [ inl k ↦ omega (arith, k, e) | inr k ↦ omega (arith, k, e) ])
+unstarted-own m old new end (Unstarted.not_set_up fresh r) is own =
+    not_two end.status 9 m r.status_is is
+    (λ e. elim own [ inl k ↦ omega (arith, k, e) | inr k ↦ omega (arith, k, e) ])
+unstarted-own m old new end (Unstarted.bad_journal at bad r) is own =
+    not_two end.status 8 m r.status_is is
+    (λ e. elim own [ inl k ↦ omega (arith, k, e) | inr k ↦ omega (arith, k, e) ])
+unstarted-own m old new end (Unstarted.too_few_providers records read few after r) is own =
+    not_two end.status 22 m r.status_is is
+    (λ e. elim own [ inl k ↦ omega (arith, k, e) | inr k ↦ omega (arith, k, e) ])
+unstarted-own m old new end (Unstarted.no_memory r) is own =
+    not_two end.status 70 m r.status_is is
+    (λ e. elim own [ inl k ↦ omega (arith, k, e) | inr k ↦ omega (arith, k, e) ])
 
 refused-own : (m : ℕ) (why : Refusal) (status : ℕ) → status ≡ status_of why → status ≡ m → IsOwn m → ⊥
 refused-own m why status at is (inl k) = refused-not why 13 refl (λ e. omega (arith, e)) (sym at ∙ (is ∙ k))
@@ -106,28 +136,37 @@ memory-own : (m status : ℕ) → status ≡ 70 → status ≡ m → IsOwn m →
 memory-own m status at is (inl k) = not_two status 70 m at is (λ e. omega (arith, k, e))
 memory-own m status at is (inr k) = not_two status 70 m at is (λ e. omega (arith, k, e))
 
-written-own : (m : ℕ) (text : List ℕ) (old new : Seen) (end : Ending) → WritesLine text end.status (sinking old new) → end.status ≡ m → IsOwn m → ⊥
+written-own : (m : ℕ) (text : List ℕ) (old new : Seen) (end : Ending) →
+    WritesLine text end.status (sinking old new) → end.status ≡ m → IsOwn m → ⊥
 written-own m text old new end (inl w) is (inl k) = not_two end.status 0 m w.0 is (λ e. omega (arith, k, e))
 written-own m text old new end (inl w) is (inr k) = not_two end.status 0 m w.0 is (λ e. omega (arith, k, e))
-written-own m text old new end (inr (inl w)) is (inl k) = not_two end.status 15 m w.1 is (λ e. omega (arith, k, e))
-written-own m text old new end (inr (inl w)) is (inr k) = not_two end.status 15 m w.1 is (λ e. omega (arith, k, e))
+written-own m text old new end (inr (inl w)) is (inl k) =
+    not_two end.status 15 m w.1 is (λ e. omega (arith, k, e))
+written-own m text old new end (inr (inl w)) is (inr k) =
+    not_two end.status 15 m w.1 is (λ e. omega (arith, k, e))
 written-own m text old new end (inr (inr w)) is own = memory-own m end.status w.0 is own
 
 -- images of a disk that gained these records, of which none is in doubt
-pub images-same : (told : Option Cells) (after records : List Record) (doubt : Option Record) → records ≢ [] → after ≡ records → doubt ≡ None →
-    EachImage told (λ image. StandsOrIsEmpty image after ⊎ IsSomeAnd doubt (λ entry. StandsFor image (entry ∷ after))) → EachImage told (λ image. StandsFor image records)
+pub images-same : (told : Option Cells) (after records : List Record) (doubt : Option Record) → records ≢ [] →
+    after ≡ records → doubt ≡ None →
+    EachImage told (λ image. StandsOrIsEmpty image after ⊎
+    IsSomeAnd doubt (λ entry. StandsFor image (entry ∷ after))) →
+    EachImage told (λ image. StandsFor image records)
 images-same told after [] doubt some is sure h = absurd (some refl)
 images-same told after (first ∷ rest) doubt some is sure h = images-have told after doubt first rest is sure h
 
 -- what a command ends with, by the answer of its job
 abbrev EndsWith : List Record → Kind → Answer → Seen → Seen → Ending → Type 0
-EndsWith records kind how old new end = EndsByAnswer (text_of (setup_in_effect records).tolerance kind how) how old new end
+EndsWith records kind how old new end =
+    EndsByAnswer (text_of (setup_in_effect records).tolerance kind how) how old new end
 
 -- ---- puts
 
-put-by : (name bytes : List ℕ) (records : List Record) (old new : Seen) (end : Ending) → IsOpened old records → ReadsUpTo (largest_file + 1) old.source new.source bytes →
+put-by : (name bytes : List ℕ) (records : List Record) (old new : Seen) (end : Ending) →
+    IsOpened old records → ReadsUpTo (largest_file + 1) old.source new.source bytes →
     (how : Answer) (left : LeftAlone records (PutJob name bytes) how old new end.heard) →
-    PutLeaves (ran_left records (PutJob name bytes) how old new end.heard left) name bytes how → EndsWith records (PutJob name bytes) how old new end → end.status ≡ 13 → FailsToPut name old new end
+    PutLeaves (ran_left records (PutJob name bytes) how old new end.heard left) name bytes how →
+    EndsWith records (PutJob name bytes) how old new end → end.status ≡ 13 → FailsToPut name old new end
 put-by name bytes records old new end opened read (answer.ProviderFault j) left L by is = record {
   records = records;
   bytes = bytes;
@@ -135,32 +174,44 @@ put-by name bytes records old new end opened read (answer.ProviderFault j) left 
   are_bytes = read.are_bytes;
   read = read;
   provider = subst (λ k. k < (setup_in_effect records).n) (sym by.place) L.0;
-  rose = subst (λ k. Rose (provider_at old.providers k).store_faults (provider_at new.providers k).store_faults) (sym by.place) L.1;
+  rose = subst (λ k. Rose (provider_at old.providers k).store_faults
+      (provider_at new.providers k).store_faults) (sym by.place) L.1;
   sink = by.sink;
   disk = images-have new.disk left.after left.doubt _ _ L.2.after L.2.sure left.images;
   files = λ other. refl;
   due = refl;
   stored = L.3;
 }
-put-by name bytes records old new end opened read answer.Put left L by is = absurd (written-own 13 _ old new end by.written is (inl refl))
-put-by name bytes records old new end opened read answer.DiskFault left L by is = absurd (not_two end.status 12 13 by.status_is is (λ e. omega (arith, e)))
-put-by name bytes records old new end opened read answer.Memory left L by is = absurd (memory-own 13 end.status by.status_is is (inl refl))
+put-by name bytes records old new end opened read answer.Put left L by is =
+    absurd (written-own 13 _ old new end by.written is (inl refl))
+put-by name bytes records old new end opened read answer.DiskFault left L by is =
+    absurd (not_two end.status 12 13 by.status_is is (λ e. omega (arith, e)))
+put-by name bytes records old new end opened read answer.Memory left L by is =
+    absurd (memory-own 13 end.status by.status_is is (inl refl))
 put-by name bytes records old new end opened read how left L by is = absurd L
 
 -- a put of which a store failed used its number, and changed neither the files nor what is due
-pub put-fails : (name : List ℕ) (old new : Seen) (end : Ending) → AnswersPut name old new end → end.status ≡ 13 → FailsToPut name old new end
-put-fails name old new end (AnswersPut.unstarted u same) is = absurd (unstarted-own 13 old new end u is (inl refl))
-put-fails name old new end (AnswersPut.source_fault records opened rose after taken r) is = absurd (not_two end.status 14 13 r.status_is is (λ e. omega (arith, e)))
-put-fails name old new end (AnswersPut.no_memory taken r) is = absurd (memory-own 13 end.status r.status_is is (inl refl))
-put-fails name old new end (AnswersPut.begun records bytes opened read (AnswersJob.refused why applies after r)) is = absurd (refused-own 13 why end.status r.status_is is (inl refl))
-put-fails name old new end (AnswersPut.begun records bytes opened read (AnswersJob.no_memory after r)) is = absurd (memory-own 13 end.status r.status_is is (inl refl))
+pub put-fails : (name : List ℕ) (old new : Seen) (end : Ending) → AnswersPut name old new end →
+    end.status ≡ 13 → FailsToPut name old new end
+put-fails name old new end (AnswersPut.unstarted u same) is =
+    absurd (unstarted-own 13 old new end u is (inl refl))
+put-fails name old new end (AnswersPut.source_fault records opened rose after taken r) is =
+    absurd (not_two end.status 14 13 r.status_is is (λ e. omega (arith, e)))
+put-fails name old new end (AnswersPut.no_memory taken r) is =
+    absurd (memory-own 13 end.status r.status_is is (inl refl))
+put-fails name old new end (AnswersPut.begun records bytes opened read (AnswersJob.refused why applies after r)) is =
+    absurd (refused-own 13 why end.status r.status_is is (inl refl))
+put-fails name old new end (AnswersPut.begun records bytes opened read (AnswersJob.no_memory after r)) is =
+    absurd (memory-own 13 end.status r.status_is is (inl refl))
 put-fails name old new end (AnswersPut.begun records bytes opened read (AnswersJob.ended how none runs left by)) is =
     put-by name bytes records old new end opened read how left left.leaves.by_kind.0 by is
 
 -- ---- gets
 
-get-by : (name : List ℕ) (records : List Record) (old new : Seen) (end : Ending) → IsOpened old records → (how : Answer) (left : LeftAlone records (GetJob name) how old new end.heard) →
-    GetLeaves (ran_left records (GetJob name) how old new end.heard left) name how → EndsWith records (GetJob name) how old new end → end.status ≡ 4 → LosesFile name old new end
+get-by : (name : List ℕ) (records : List Record) (old new : Seen) (end : Ending) → IsOpened old records →
+    (how : Answer) (left : LeftAlone records (GetJob name) how old new end.heard) →
+    GetLeaves (ran_left records (GetJob name) how old new end.heard left) name how →
+    EndsWith records (GetJob name) how old new end → end.status ≡ 4 → LosesFile name old new end
 get-by name records old new end opened (answer.Lost stripe row) left L by is =
     (let G = L.gives in
     let H = G.hears in record {
@@ -169,29 +220,39 @@ get-by name records old new end opened (answer.Lost stripe row) left L by is =
       stripe = stripe;
       opened = opened;
       in_effect = L.in_effect;
-      lost = subst (λ k. LosesStripe (ran_to records records old new end.heard) L.file stripe k) (sym by.place) (record {
-        within = G.within;
-        hears = record { heard = H.heard; truthful = H.truthful };
-        before = G.before;
-        loses = G.loses;
-      });
+      lost = subst (λ k. LosesStripe (ran_to records records old new end.heard) L.file stripe k)
+          (sym by.place) (record {
+            within = G.within;
+            hears = record { heard = H.heard; truthful = H.truthful };
+            before = G.before;
+            loses = G.loses;
+          });
       sink = by.sink;
       disk = images-same new.disk left.after records left.doubt opened.read.some L.records L.sure left.images;
     })
-get-by name records old new end opened (answer.Got bytes) left L by is = absurd (written-own 4 _ old new end by.written is (inr refl))
+get-by name records old new end opened (answer.Got bytes) left L by is =
+    absurd (written-own 4 _ old new end by.written is (inr refl))
 get-by name records old new end opened how left L by is = absurd L.gives
 
 -- a get that ends at a lost row found the lowest of the first stripe that has one, and gave nothing
-pub get-loses : (name : List ℕ) (old new : Seen) (end : Ending) → AnswersAlone (GetJob name) old new end → end.status ≡ 4 → LosesFile name old new end
-get-loses name old new end (AnswersAlone.unstarted u) is = absurd (unstarted-own 4 old new end u is (inr refl))
-get-loses name old new end (AnswersAlone.begun records opened (AnswersJob.refused why applies after r)) is = absurd (refused-own 4 why end.status r.status_is is (inr refl))
-get-loses name old new end (AnswersAlone.begun records opened (AnswersJob.no_memory after r)) is = absurd (memory-own 4 end.status r.status_is is (inr refl))
-get-loses name old new end (AnswersAlone.begun records opened (AnswersJob.ended how none runs left by)) is = get-by name records old new end opened how left left.leaves.by_kind by is
+pub get-loses : (name : List ℕ) (old new : Seen) (end : Ending) → AnswersAlone (GetJob name) old new end →
+    end.status ≡ 4 → LosesFile name old new end
+get-loses name old new end (AnswersAlone.unstarted u) is =
+    absurd (unstarted-own 4 old new end u is (inr refl))
+get-loses name old new end (AnswersAlone.begun records opened (AnswersJob.refused why applies after r)) is =
+    absurd (refused-own 4 why end.status r.status_is is (inr refl))
+get-loses name old new end (AnswersAlone.begun records opened (AnswersJob.no_memory after r)) is =
+    absurd (memory-own 4 end.status r.status_is is (inr refl))
+get-loses name old new end (AnswersAlone.begun records opened (AnswersJob.ended how none runs left by)) is =
+    get-by name records old new end opened how left left.leaves.by_kind by is
 
 -- ---- repairs
 
-repair-by : (records : List Record) (old new : Seen) (end : Ending) → IsOpened old records → (how : Answer) (left : LeftAlone records RepairJob how old new end.heard) (due : Due) → due_of records ≡ Some due →
-    RepairGives (ran_left records RepairJob how old new end.heard left) due how → EndsWith records RepairJob how old new end → end.status ≡ 13 → FailsToRepair old new end
+repair-by : (records : List Record) (old new : Seen) (end : Ending) → IsOpened old records →
+    (how : Answer) (left : LeftAlone records RepairJob how old new end.heard) (due : Due) →
+    due_of records ≡ Some due →
+    RepairGives (ran_left records RepairJob how old new end.heard left) due how →
+    EndsWith records RepairJob how old new end → end.status ≡ 13 → FailsToRepair old new end
 repair-by records old new end opened (answer.ProviderFault j) left due is_due L by is =
     (let S = L.4 in
     let P = S.part in record {
@@ -200,20 +261,36 @@ repair-by records old new end opened (answer.ProviderFault j) left due is_due L 
       opened = opened;
       is_due = is_due;
       provider = subst (λ k. k < (setup_in_effect records).n) (sym by.place) L.0;
-      flagged = subst (λ k. is_flagged (setup_in_effect records).tolerance due.counts k ≡ true) (sym by.place) L.1;
-      rose = subst (λ k. Rose (provider_at old.providers k).store_faults (provider_at new.providers k).store_faults) (sym by.place) L.2;
+      flagged = subst (λ k. is_flagged (setup_in_effect records).tolerance due.counts k ≡ true)
+          (sym by.place) L.1;
+      rose = subst (λ k. Rose (provider_at old.providers k).store_faults
+          (provider_at new.providers k).store_faults) (sym by.place) L.2;
       sink = by.sink;
-      disk = images-same new.disk left.after records left.doubt opened.read.some L.3.after L.3.sure left.images;
-      part = record { done = S.done; rest = S.rest; gave = S.gave; symbols = S.symbols; part = record { parts = P.parts; truth = P.truth; gives = P.gives; held = P.held } };
+      disk = images-same new.disk left.after records left.doubt opened.read.some L.3.after L.3.sure
+          left.images;
+      part = record {
+        done = S.done;
+        rest = S.rest;
+        gave = S.gave;
+        symbols = S.symbols;
+        part = record { parts = P.parts; truth = P.truth; gives = P.gives; held = P.held };
+      };
     })
-repair-by records old new end opened (answer.Repaired number) left due is_due L by is = absurd (written-own 13 _ old new end by.written is (inl refl))
-repair-by records old new end opened (answer.Lost stripe row) left due is_due L by is = absurd (not_two end.status 4 13 by.status_is is (λ e. omega (arith, e)))
-repair-by records old new end opened answer.DiskFault left due is_due L by is = absurd (not_two end.status 12 13 by.status_is is (λ e. omega (arith, e)))
-repair-by records old new end opened answer.Memory left due is_due L by is = absurd (memory-own 13 end.status by.status_is is (inl refl))
+repair-by records old new end opened (answer.Repaired number) left due is_due L by is =
+    absurd (written-own 13 _ old new end by.written is (inl refl))
+repair-by records old new end opened (answer.Lost stripe row) left due is_due L by is =
+    absurd (not_two end.status 4 13 by.status_is is (λ e. omega (arith, e)))
+repair-by records old new end opened answer.DiskFault left due is_due L by is =
+    absurd (not_two end.status 12 13 by.status_is is (λ e. omega (arith, e)))
+repair-by records old new end opened answer.Memory left due is_due L by is =
+    absurd (memory-own 13 end.status by.status_is is (inl refl))
 repair-by records old new end opened how left due is_due L by is = absurd L
 
-lost-by : (records : List Record) (old new : Seen) (end : Ending) → IsOpened old records → (how : Answer) (left : LeftAlone records RepairJob how old new end.heard) (due : Due) → due_of records ≡ Some due →
-    RepairGives (ran_left records RepairJob how old new end.heard left) due how → EndsWith records RepairJob how old new end → end.status ≡ 4 → LosesRepair old new end
+lost-by : (records : List Record) (old new : Seen) (end : Ending) → IsOpened old records →
+    (how : Answer) (left : LeftAlone records RepairJob how old new end.heard) (due : Due) →
+    due_of records ≡ Some due →
+    RepairGives (ran_left records RepairJob how old new end.heard left) due how →
+    EndsWith records RepairJob how old new end → end.status ≡ 4 → LosesRepair old new end
 lost-by records old new end opened (answer.Lost stripe row) left due is_due L by is =
     (let S = L.1 in
     let P = S.part in record {
@@ -222,41 +299,55 @@ lost-by records old new end opened (answer.Lost stripe row) left due is_due L by
       stripe = stripe;
       opened = opened;
       is_due = is_due;
-      lost = subst (λ k. LosesAtPlace (ran_to records records old new end.heard) due stripe k) (sym by.place) (record {
-        done = S.done;
-        place = S.place;
-        rest = S.rest;
-        gave = S.gave;
-        symbols = S.symbols;
-        part = record { parts = P.parts; truth = P.truth; gives = P.gives; held = P.held };
-        truth = S.truth;
-        stripe_is = S.stripe_is;
-        loses = S.loses;
-      });
+      lost = subst (λ k. LosesAtPlace (ran_to records records old new end.heard) due stripe k) (sym by.place)
+          (record {
+            done = S.done;
+            place = S.place;
+            rest = S.rest;
+            gave = S.gave;
+            symbols = S.symbols;
+            part = record { parts = P.parts; truth = P.truth; gives = P.gives; held = P.held };
+            truth = S.truth;
+            stripe_is = S.stripe_is;
+            loses = S.loses;
+          });
       sink = by.sink;
-      disk = images-same new.disk left.after records left.doubt opened.read.some L.0.after L.0.sure left.images;
+      disk = images-same new.disk left.after records left.doubt opened.read.some L.0.after L.0.sure
+          left.images;
     })
-lost-by records old new end opened (answer.Repaired number) left due is_due L by is = absurd (written-own 4 _ old new end by.written is (inr refl))
-lost-by records old new end opened (answer.ProviderFault j) left due is_due L by is = absurd (not_two end.status 13 4 by.status_is is (λ e. omega (arith, e)))
-lost-by records old new end opened answer.DiskFault left due is_due L by is = absurd (not_two end.status 12 4 by.status_is is (λ e. omega (arith, e)))
-lost-by records old new end opened answer.Memory left due is_due L by is = absurd (memory-own 4 end.status by.status_is is (inr refl))
+lost-by records old new end opened (answer.Repaired number) left due is_due L by is =
+    absurd (written-own 4 _ old new end by.written is (inr refl))
+lost-by records old new end opened (answer.ProviderFault j) left due is_due L by is =
+    absurd (not_two end.status 13 4 by.status_is is (λ e. omega (arith, e)))
+lost-by records old new end opened answer.DiskFault left due is_due L by is =
+    absurd (not_two end.status 12 4 by.status_is is (λ e. omega (arith, e)))
+lost-by records old new end opened answer.Memory left due is_due L by is =
+    absurd (memory-own 4 end.status by.status_is is (inr refl))
 lost-by records old new end opened how left due is_due L by is = absurd L
 
 -- a repair of which a store failed stays due, and rewrote at most some of its blocks
-pub repair-fails : (old new : Seen) (end : Ending) → AnswersAlone RepairJob old new end → end.status ≡ 13 → FailsToRepair old new end
+pub repair-fails : (old new : Seen) (end : Ending) → AnswersAlone RepairJob old new end → end.status ≡ 13 →
+    FailsToRepair old new end
 repair-fails old new end (AnswersAlone.unstarted u) is = absurd (unstarted-own 13 old new end u is (inl refl))
-repair-fails old new end (AnswersAlone.begun records opened (AnswersJob.refused why applies after r)) is = absurd (refused-own 13 why end.status r.status_is is (inl refl))
-repair-fails old new end (AnswersAlone.begun records opened (AnswersJob.no_memory after r)) is = absurd (memory-own 13 end.status r.status_is is (inl refl))
+repair-fails old new end (AnswersAlone.begun records opened (AnswersJob.refused why applies after r)) is =
+    absurd (refused-own 13 why end.status r.status_is is (inl refl))
+repair-fails old new end (AnswersAlone.begun records opened (AnswersJob.no_memory after r)) is =
+    absurd (memory-own 13 end.status r.status_is is (inl refl))
 repair-fails old new end (AnswersAlone.begun records opened (AnswersJob.ended how none runs left by)) is =
-    (let L = left.leaves.by_kind.0 in repair-by records old new end opened how left L.due L.is_due L.gives by is)
+    (let L = left.leaves.by_kind.0 in
+    repair-by records old new end opened how left L.due L.is_due L.gives by is)
 
 -- a repair that ends at a lost row stays due, and rewrote at most some blocks before that place
-pub repair-loses : (old new : Seen) (end : Ending) → AnswersAlone RepairJob old new end → end.status ≡ 4 → LosesRepair old new end
+pub repair-loses : (old new : Seen) (end : Ending) → AnswersAlone RepairJob old new end → end.status ≡ 4 →
+    LosesRepair old new end
 repair-loses old new end (AnswersAlone.unstarted u) is = absurd (unstarted-own 4 old new end u is (inr refl))
-repair-loses old new end (AnswersAlone.begun records opened (AnswersJob.refused why applies after r)) is = absurd (refused-own 4 why end.status r.status_is is (inr refl))
-repair-loses old new end (AnswersAlone.begun records opened (AnswersJob.no_memory after r)) is = absurd (memory-own 4 end.status r.status_is is (inr refl))
+repair-loses old new end (AnswersAlone.begun records opened (AnswersJob.refused why applies after r)) is =
+    absurd (refused-own 4 why end.status r.status_is is (inr refl))
+repair-loses old new end (AnswersAlone.begun records opened (AnswersJob.no_memory after r)) is =
+    absurd (memory-own 4 end.status r.status_is is (inr refl))
 repair-loses old new end (AnswersAlone.begun records opened (AnswersJob.ended how none runs left by)) is =
-    (let L = left.leaves.by_kind.0 in lost-by records old new end opened how left L.due L.is_due L.gives by is)
+    (let L = left.leaves.by_kind.0 in
+    lost-by records old new end opened how left L.due L.is_due L.gives by is)
 
 -- ---- no other command ends so
 
@@ -265,20 +356,30 @@ data OwnEnd (how : Answer) : Type 0 where
   store : (j : ℕ) → how ≡ answer.ProviderFault j → OwnEnd how
   lost : (stripe row : ℕ) → how ≡ answer.Lost stripe row → OwnEnd how
 
-own-end : (m : ℕ) (text : List ℕ) (how : Answer) (old new : Seen) (end : Ending) → EndsByAnswer text how old new end → end.status ≡ m → IsOwn m → OwnEnd how
+own-end : (m : ℕ) (text : List ℕ) (how : Answer) (old new : Seen) (end : Ending) →
+    EndsByAnswer text how old new end → end.status ≡ m → IsOwn m → OwnEnd how
 own-end m text (answer.Lost stripe row) old new end by is own = OwnEnd.lost stripe row refl
 own-end m text (answer.ProviderFault j) old new end by is own = OwnEnd.store j refl
-own-end m text answer.DiskFault old new end by is (inl k) = absurd (not_two end.status 12 m by.status_is is (λ e. omega (arith, k, e)))
-own-end m text answer.DiskFault old new end by is (inr k) = absurd (not_two end.status 12 m by.status_is is (λ e. omega (arith, k, e)))
+own-end m text answer.DiskFault old new end by is (inl k) =
+    absurd (not_two end.status 12 m by.status_is is (λ e. omega (arith, k, e)))
+own-end m text answer.DiskFault old new end by is (inr k) =
+    absurd (not_two end.status 12 m by.status_is is (λ e. omega (arith, k, e)))
 own-end m text answer.Memory old new end by is own = absurd (memory-own m end.status by.status_is is own)
 own-end m text answer.Put old new end by is own = absurd (written-own m text old new end by.written is own)
-own-end m text (answer.Got bytes) old new end by is own = absurd (written-own m text old new end by.written is own)
-own-end m text answer.Dropped old new end by is own = absurd (written-own m text old new end by.written is own)
-own-end m text (answer.Audited number undecided counts) old new end by is own = absurd (written-own m text old new end by.written is own)
-own-end m text (answer.Repaired number) old new end by is own = absurd (written-own m text old new end by.written is own)
-own-end m text answer.Upgraded old new end by is own = absurd (written-own m text old new end by.written is own)
-own-end m text (answer.Scrubbed stripes symbols blocks) old new end by is own = absurd (written-own m text old new end by.written is own)
-own-end m text (answer.Packed before after) old new end by is own = absurd (written-own m text old new end by.written is own)
+own-end m text (answer.Got bytes) old new end by is own =
+    absurd (written-own m text old new end by.written is own)
+own-end m text answer.Dropped old new end by is own =
+    absurd (written-own m text old new end by.written is own)
+own-end m text (answer.Audited number undecided counts) old new end by is own =
+    absurd (written-own m text old new end by.written is own)
+own-end m text (answer.Repaired number) old new end by is own =
+    absurd (written-own m text old new end by.written is own)
+own-end m text answer.Upgraded old new end by is own =
+    absurd (written-own m text old new end by.written is own)
+own-end m text (answer.Scrubbed stripes symbols blocks) old new end by is own =
+    absurd (written-own m text old new end by.written is own)
+own-end m text (answer.Packed before after) old new end by is own =
+    absurd (written-own m text old new end by.written is own)
 
 -- which kinds of job end so
 abbrev Ends13 : Kind → Type 0
@@ -307,61 +408,103 @@ lost-kind x AuditJob stripe row L = L.gives
 lost-kind x RepairJob stripe row L = tt
 lost-kind x UpgradeJob stripe row L = L.0
 
-ended-13 : (kind : Kind) (text : List ℕ) (how : Answer) (x : Ran) (old new : Seen) (end : Ending) → LeavesBy x kind how → EndsByAnswer text how old new end → end.status ≡ 13 → Ends13 kind
+ended-13 : (kind : Kind) (text : List ℕ) (how : Answer) (x : Ran) (old new : Seen) (end : Ending) →
+    LeavesBy x kind how → EndsByAnswer text how old new end → end.status ≡ 13 → Ends13 kind
 ended-13 kind text how x old new end L by is = go (own-end 13 text how old new end by is (inl refl))
   where
     go : OwnEnd how → Ends13 kind
     go (OwnEnd.store j same) = store-kind x kind j (subst (LeavesBy x kind) same L)
-    go (OwnEnd.lost stripe row same) = absurd (let told = subst (λ h. EndsByAnswer text h old new end) same by in not_two end.status 4 13 told.status_is is (λ e. omega (arith, e)))
+    go (OwnEnd.lost stripe row same) =
+        absurd (let told = subst (λ h. EndsByAnswer text h old new end) same by in
+        not_two end.status 4 13 told.status_is is (λ e. omega (arith, e)))
 
-ended-4 : (kind : Kind) (text : List ℕ) (how : Answer) (x : Ran) (old new : Seen) (end : Ending) → LeavesBy x kind how → EndsByAnswer text how old new end → end.status ≡ 4 → Ends4 kind
+ended-4 : (kind : Kind) (text : List ℕ) (how : Answer) (x : Ran) (old new : Seen) (end : Ending) →
+    LeavesBy x kind how → EndsByAnswer text how old new end → end.status ≡ 4 → Ends4 kind
 ended-4 kind text how x old new end L by is = go (own-end 4 text how old new end by is (inr refl))
   where
     go : OwnEnd how → Ends4 kind
     go (OwnEnd.lost stripe row same) = lost-kind x kind stripe row (subst (LeavesBy x kind) same L)
-    go (OwnEnd.store j same) = absurd (let told = subst (λ h. EndsByAnswer text h old new end) same by in not_two end.status 13 4 told.status_is is (λ e. omega (arith, e)))
+    go (OwnEnd.store j same) =
+        absurd (let told = subst (λ h. EndsByAnswer text h old new end) same by in
+        not_two end.status 13 4 told.status_is is (λ e. omega (arith, e)))
 
-alone-13 : (kind : Kind) (old new : Seen) (end : Ending) → AnswersAlone kind old new end → end.status ≡ 13 → Ends13 kind
-alone-13 kind old new end (AnswersAlone.unstarted u) is = absurd (unstarted-own 13 old new end u is (inl refl))
-alone-13 kind old new end (AnswersAlone.begun records opened (AnswersJob.refused why applies after r)) is = absurd (refused-own 13 why end.status r.status_is is (inl refl))
-alone-13 kind old new end (AnswersAlone.begun records opened (AnswersJob.no_memory after r)) is = absurd (memory-own 13 end.status r.status_is is (inl refl))
-alone-13 kind old new end (AnswersAlone.begun records opened (AnswersJob.ended how none runs left by)) is = ended-13 kind _ how (ran_left records kind how old new end.heard left) old new end left.leaves.by_kind by is
+alone-13 : (kind : Kind) (old new : Seen) (end : Ending) → AnswersAlone kind old new end → end.status ≡ 13 →
+    Ends13 kind
+alone-13 kind old new end (AnswersAlone.unstarted u) is =
+    absurd (unstarted-own 13 old new end u is (inl refl))
+alone-13 kind old new end (AnswersAlone.begun records opened (AnswersJob.refused why applies after r)) is =
+    absurd (refused-own 13 why end.status r.status_is is (inl refl))
+alone-13 kind old new end (AnswersAlone.begun records opened (AnswersJob.no_memory after r)) is =
+    absurd (memory-own 13 end.status r.status_is is (inl refl))
+alone-13 kind old new end (AnswersAlone.begun records opened (AnswersJob.ended how none runs left by)) is =
+    ended-13 kind _ how (ran_left records kind how old new end.heard left) old new end left.leaves.by_kind by
+    is
 
-job-4 : (kind : Kind) (records : List Record) (old new : Seen) (end : Ending) → AnswersJob kind records old new end → end.status ≡ 4 → Ends4 kind
-job-4 kind records old new end (AnswersJob.refused why applies after r) is = absurd (refused-own 4 why end.status r.status_is is (inr refl))
-job-4 kind records old new end (AnswersJob.no_memory after r) is = absurd (memory-own 4 end.status r.status_is is (inr refl))
-job-4 kind records old new end (AnswersJob.ended how none runs left by) is = ended-4 kind _ how (ran_left records kind how old new end.heard left) old new end left.leaves.by_kind by is
+job-4 : (kind : Kind) (records : List Record) (old new : Seen) (end : Ending) →
+    AnswersJob kind records old new end → end.status ≡ 4 → Ends4 kind
+job-4 kind records old new end (AnswersJob.refused why applies after r) is =
+    absurd (refused-own 4 why end.status r.status_is is (inr refl))
+job-4 kind records old new end (AnswersJob.no_memory after r) is =
+    absurd (memory-own 4 end.status r.status_is is (inr refl))
+job-4 kind records old new end (AnswersJob.ended how none runs left by) is =
+    ended-4 kind _ how (ran_left records kind how old new end.heard left) old new end left.leaves.by_kind by
+    is
 
-alone-4 : (kind : Kind) (old new : Seen) (end : Ending) → AnswersAlone kind old new end → end.status ≡ 4 → Ends4 kind
+alone-4 : (kind : Kind) (old new : Seen) (end : Ending) → AnswersAlone kind old new end → end.status ≡ 4 →
+    Ends4 kind
 alone-4 kind old new end (AnswersAlone.unstarted u) is = absurd (unstarted-own 4 old new end u is (inr refl))
 alone-4 kind old new end (AnswersAlone.begun records opened A) is = job-4 kind records old new end A is
 
 put-4 : (name : List ℕ) (old new : Seen) (end : Ending) → AnswersPut name old new end → end.status ≡ 4 → ⊥
 put-4 name old new end (AnswersPut.unstarted u same) is = unstarted-own 4 old new end u is (inr refl)
-put-4 name old new end (AnswersPut.source_fault records opened rose after taken r) is = not_two end.status 14 4 r.status_is is (λ e. omega (arith, e))
+put-4 name old new end (AnswersPut.source_fault records opened rose after taken r) is =
+    not_two end.status 14 4 r.status_is is (λ e. omega (arith, e))
 put-4 name old new end (AnswersPut.no_memory taken r) is = memory-own 4 end.status r.status_is is (inr refl)
-put-4 name old new end (AnswersPut.begun records bytes opened read A) is = job-4 (PutJob name bytes) records old new end A is
+put-4 name old new end (AnswersPut.begun records bytes opened read A) is =
+    job-4 (PutJob name bytes) records old new end A is
 
 list-own : (m : ℕ) (old new : Seen) (end : Ending) → AnswersList old new end → end.status ≡ m → IsOwn m → ⊥
 list-own m old new end (AnswersList.unstarted u) is own = unstarted-own m old new end u is own
 list-own m old new end (AnswersList.no_memory r) is own = memory-own m end.status r.status_is is own
-list-own m old new end (AnswersList.listed records opened L) is own = written-own m _ old new end L.written is own
+list-own m old new end (AnswersList.listed records opened L) is own =
+    written-own m _ old new end L.written is own
 
-init-own : (m : ℕ) (numbers : Numbers) (old new : Seen) (end : Ending) → AnswersInit numbers old new end → end.status ≡ m → IsOwn m → ⊥
-init-own m numbers old new end (AnswersInit.no_memory taken r) is own = memory-own m end.status r.status_is is own
-init-own m numbers old new end (AnswersInit.keyed seen key good enough read form (InitsDisk.no_memory F)) is own = memory-own m end.status F.status_is is own
-init-own m numbers old new end (AnswersInit.keyed seen key good enough read form (InitsDisk.ready R)) is own = written-own m _ old new end R.written is own
-init-own m numbers old new end (AnswersInit.bad_setup bad same r) is own = not_two end.status 20 m r.status_is is (λ e. elim own [ inl k ↦ omega (arith, k, e) | inr k ↦ omega (arith, k, e) ])
-init-own m numbers old new end (AnswersInit.too_few_providers good few same r) is own = not_two end.status 22 m r.status_is is (λ e. elim own [ inl k ↦ omega (arith, k, e) | inr k ↦ omega (arith, k, e) ])
-init-own m numbers old new end (AnswersInit.source_fault good enough rose taken r) is own = not_two end.status 14 m r.status_is is (λ e. elim own [ inl k ↦ omega (arith, k, e) | inr k ↦ omega (arith, k, e) ])
-init-own m numbers old new end (AnswersInit.bad_key seen good enough read none r) is own = not_two end.status 18 m r.status_is is (λ e. elim own [ inl k ↦ omega (arith, k, e) | inr k ↦ omega (arith, k, e) ])
-init-own m numbers old new end (AnswersInit.keyed seen key good enough read form (InitsDisk.disk_fault rose F)) is own = not_two end.status 12 m F.status_is is (λ e. elim own [ inl k ↦ omega (arith, k, e) | inr k ↦ omega (arith, k, e) ])
-init-own m numbers old new end (AnswersInit.keyed seen key good enough read form (InitsDisk.bad_journal at cause r)) is own = not_two end.status 8 m r.status_is is (λ e. elim own [ inl k ↦ omega (arith, k, e) | inr k ↦ omega (arith, k, e) ])
-init-own m numbers old new end (AnswersInit.keyed seen key good enough read form (InitsDisk.already cause r)) is own = not_two end.status 10 m r.status_is is (λ e. elim own [ inl k ↦ omega (arith, k, e) | inr k ↦ omega (arith, k, e) ])
+init-own : (m : ℕ) (numbers : Numbers) (old new : Seen) (end : Ending) → AnswersInit numbers old new end →
+    end.status ≡ m → IsOwn m → ⊥
+init-own m numbers old new end (AnswersInit.no_memory taken r) is own =
+    memory-own m end.status r.status_is is own
+init-own m numbers old new end (AnswersInit.keyed seen key good enough read form (InitsDisk.no_memory F)) is own =
+    memory-own m end.status F.status_is is own
+init-own m numbers old new end (AnswersInit.keyed seen key good enough read form (InitsDisk.ready R)) is own =
+    written-own m _ old new end R.written is own
+init-own m numbers old new end (AnswersInit.bad_setup bad same r) is own =
+    not_two end.status 20 m r.status_is is
+    (λ e. elim own [ inl k ↦ omega (arith, k, e) | inr k ↦ omega (arith, k, e) ])
+init-own m numbers old new end (AnswersInit.too_few_providers good few same r) is own =
+    not_two end.status 22 m r.status_is is
+    (λ e. elim own [ inl k ↦ omega (arith, k, e) | inr k ↦ omega (arith, k, e) ])
+init-own m numbers old new end (AnswersInit.source_fault good enough rose taken r) is own =
+    not_two end.status 14 m r.status_is is
+    (λ e. elim own [ inl k ↦ omega (arith, k, e) | inr k ↦ omega (arith, k, e) ])
+init-own m numbers old new end (AnswersInit.bad_key seen good enough read none r) is own =
+    not_two end.status 18 m r.status_is is
+    (λ e. elim own [ inl k ↦ omega (arith, k, e) | inr k ↦ omega (arith, k, e) ])
+init-own m numbers old new end (AnswersInit.keyed seen key good enough read form (InitsDisk.disk_fault rose F)) is own =
+    not_two end.status 12 m F.status_is is
+    (λ e. elim own [ inl k ↦ omega (arith, k, e) | inr k ↦ omega (arith, k, e) ])
+init-own m numbers old new end (AnswersInit.keyed seen key good enough read form (InitsDisk.bad_journal at cause r)) is own =
+    not_two end.status 8 m r.status_is is
+    (λ e. elim own [ inl k ↦ omega (arith, k, e) | inr k ↦ omega (arith, k, e) ])
+init-own m numbers old new end (AnswersInit.keyed seen key good enough read form (InitsDisk.already cause r)) is own =
+    not_two end.status 10 m r.status_is is
+    (λ e. elim own [ inl k ↦ omega (arith, k, e) | inr k ↦ omega (arith, k, e) ])
 
 -- only a put and a repair end in a failed store
-pub stores-only : (command : Command) (old new : Seen) (end : Ending) → Answers command old new end → end.status ≡ 13 → stores_blocks command ≡ true
-stores-only (RowOf n l b seen) old new end A is = absurd (none-at n l b seen old new end A.0 13 is (λ e. omega (arith, e)) (λ e. omega (arith, e)) (λ e. omega (arith, e)) (λ e. omega (arith, e)) (λ e. omega (arith, e)))
+pub stores-only : (command : Command) (old new : Seen) (end : Ending) → Answers command old new end →
+    end.status ≡ 13 → stores_blocks command ≡ true
+stores-only (RowOf n l b seen) old new end A is =
+    absurd (none-at n l b seen old new end A.0 13 is (λ e. omega (arith, e)) (λ e. omega (arith, e))
+    (λ e. omega (arith, e)) (λ e. omega (arith, e)) (λ e. omega (arith, e)))
 stores-only (InitWith numbers) old new end A is = absurd (init-own 13 numbers old new end A is (inl refl))
 stores-only (PutUnder name) old new end A is = refl
 stores-only (GetOf name) old new end A is = absurd (alone-13 (GetJob name) old new end A.0 is)
@@ -371,7 +514,8 @@ stores-only AuditAll old new end A is = absurd (alone-13 AuditJob old new end A.
 stores-only RepairDue old new end A is = refl
 
 -- only a row, a get and a repair end at a lost row
-pub rows-only : (command : Command) (old new : Seen) (end : Ending) → Answers command old new end → end.status ≡ 4 → opens_rows command ≡ true
+pub rows-only : (command : Command) (old new : Seen) (end : Ending) → Answers command old new end →
+    end.status ≡ 4 → opens_rows command ≡ true
 rows-only (RowOf n l b seen) old new end A is = refl
 rows-only (InitWith numbers) old new end A is = absurd (init-own 4 numbers old new end A is (inr refl))
 rows-only (PutUnder name) old new end A is = absurd (put-4 name old new end A is)

@@ -54,22 +54,32 @@ same-told id a b same = subst (SameAt id a) (sym same) (none a)
     none (Some held) = λ stripe. refl
 
 -- a provider that is right for an object is so while it holds the object's blocks as before
-pub wrong-same : (o : Object) (bytes : List ℕ) (j : ℕ) (a b : Option Held) → SameAt o.id a b → is_wrong_or_untold o bytes j a ≡ false → is_wrong_or_untold o bytes j b ≡ false
+pub wrong-same : (o : Object) (bytes : List ℕ) (j : ℕ) (a b : Option Held) → SameAt o.id a b →
+    is_wrong_or_untold o bytes j a ≡ false → is_wrong_or_untold o bytes j b ≡ false
 wrong-same o bytes j None None same right = right
 wrong-same o bytes j None (Some b) same right = absurd same
 wrong-same o bytes j (Some a) None same right = absurd same
-wrong-same o bytes j (Some a) (Some b) same right = each-not-wrong o bytes j (b o.id) (λ t l. ap (is_wrong_block o bytes j t) (same t) ∙ not-wrong-each o bytes j (a o.id) right t l)
+wrong-same o bytes j (Some a) (Some b) same right =
+    each-not-wrong o bytes j (b o.id) (λ t l. ap (is_wrong_block o bytes j t) (same t)
+    ∙ not-wrong-each o bytes j (a o.id) right t l)
 
-has-same : (name bytes : List ℕ) (records after : List Record) (spoilt : ℕ → Bool) (old new : Seen) (H : HasRightFile old records name bytes spoilt) → file_of after name ≡ file_of records name → setup_in_effect after ≡ setup_in_effect records →
-    ((j : ℕ) → j < (setup_in_effect records).n → SameAt H.file.id (provider_at old.providers j).held (provider_at new.providers j).held) → HasRightFile new after name bytes spoilt
+has-same : (name bytes : List ℕ) (records after : List Record) (spoilt : ℕ → Bool) (old new : Seen)
+    (H : HasRightFile old records name bytes spoilt) → file_of after name ≡ file_of records name →
+    setup_in_effect after ≡ setup_in_effect records →
+    ((j : ℕ) → j < (setup_in_effect records).n →
+    SameAt H.file.id (provider_at old.providers j).held (provider_at new.providers j).held) →
+    HasRightFile new after name bytes spoilt
 has-same name bytes records after spoilt old new H file setup same = record {
   file = H.file;
   in_effect = file ∙ H.in_effect;
   are_bytes = H.are_bytes;
   size = H.size;
-  right = λ j below clean. (let l : j < (setup_in_effect records).n = subst (λ (s : Setup). j < s.n) setup below in
-      subst (λ (s : Setup). is_wrong_or_untold (object_of (profiled s H.file.profile) H.file.id) bytes j (provider_at new.providers j).held ≡ false) (sym setup)
-      (wrong-same (object_in_effect records H.file) bytes j (provider_at old.providers j).held (provider_at new.providers j).held (same j l) (H.right j l clean)));
+  right = λ j below clean. (let l : j < (setup_in_effect records).n =
+      subst (λ (s : Setup). j < s.n) setup below in
+      subst (λ (s : Setup). is_wrong_or_untold (object_of (profiled s H.file.profile) H.file.id) bytes j
+      (provider_at new.providers j).held ≡ false) (sym setup)
+      (wrong-same (object_in_effect records H.file) bytes j (provider_at old.providers j).held
+      (provider_at new.providers j).held (same j l) (H.right j l clean)));
 }
 
 -- ---- the records after a command
@@ -79,94 +89,144 @@ take-none zero = refl
 take-none (suc count) = refl
 
 -- the first few of two records, and of one
-first-two : (P : List Record → Type 0) (a b : Record) (rs : List Record) → P rs → P (a ∷ rs) → P (b ∷ a ∷ rs) → (count : ℕ) → P (reverse (take count (a ∷ b ∷ [])) ++ rs)
+first-two : (P : List Record → Type 0) (a b : Record) (rs : List Record) → P rs → P (a ∷ rs) →
+    P (b ∷ a ∷ rs) → (count : ℕ) → P (reverse (take count (a ∷ b ∷ [])) ++ rs)
 first-two P a b rs p q r zero = p
 first-two P a b rs p q r (suc zero) = q
-first-two P a b rs p q r (suc (suc count)) = subst (λ l. P (reverse (a ∷ b ∷ l) ++ rs)) (sym (take-none count)) r
+first-two P a b rs p q r (suc (suc count)) =
+    subst (λ l. P (reverse (a ∷ b ∷ l) ++ rs)) (sym (take-none count)) r
 
-first-one : (P : List Record → Type 0) (a : Record) (rs : List Record) → P rs → P (a ∷ rs) → (count : ℕ) → P (reverse (take count (a ∷ [])) ++ rs)
+first-one : (P : List Record → Type 0) (a : Record) (rs : List Record) → P rs → P (a ∷ rs) → (count : ℕ) →
+    P (reverse (take count (a ∷ [])) ++ rs)
 first-one P a rs p q zero = p
 first-one P a rs p q (suc count) = subst (λ l. P (reverse (a ∷ l) ++ rs)) (sym (take-none count)) q
 
 -- a name has the file that it had, and the setup is the same
 abbrev Stays : List ℕ → List Record → List Record → Type 0
-Stays name records after = (file_of after name ≡ file_of records name) × (setup_in_effect after ≡ setup_in_effect records)
+Stays name records after =
+    (file_of after name ≡ file_of records name) × (setup_in_effect after ≡ setup_in_effect records)
 
-grown-by : (P : List Record → Type 0) (records after : List Record) (own : List Record) (count : ℕ) → after ≡ reverse (take count own) ++ records → (known : List Record) → own ≡ known → P (reverse (take count known) ++ records) → P after
-grown-by P records after own count is known own_is p = subst P (sym (is ∙ ap (λ l. reverse (take count l) ++ records) own_is)) p
+grown-by : (P : List Record → Type 0) (records after : List Record) (own : List Record) (count : ℕ) →
+    after ≡ reverse (take count own) ++ records → (known : List Record) → own ≡ known →
+    P (reverse (take count known) ++ records) → P after
+grown-by P records after own count is known own_is p =
+    subst P (sym (is ∙ ap (λ l. reverse (take count l) ++ records) own_is)) p
 
-get-grown : (name : List ℕ) (records after : List Record) (got : List ℕ) (old new : Seen) → HasGrown (GetOf got) records old new after → Stays name records after
-get-grown name records after got old new G = grown-by (Stays name records) records after G.own G.count G.after_is [] (subst (λ kd. AreAppended records kd G.own) G.of_command G.are_own)
+get-grown : (name : List ℕ) (records after : List Record) (got : List ℕ) (old new : Seen) →
+    HasGrown (GetOf got) records old new after → Stays name records after
+get-grown name records after got old new G = grown-by
+    (Stays name records) records after G.own G.count G.after_is []
+    (subst (λ kd. AreAppended records kd G.own) G.of_command G.are_own)
     (subst (λ l. Stays name records (reverse l ++ records)) (sym (take-none G.count)) (refl, refl))
 
-audit-grown : (name : List ℕ) (records after : List Record) (old new : Seen) → HasGrown AuditAll records old new after → Stays name records after
+audit-grown : (name : List ℕ) (records after : List Record) (old new : Seen) →
+    HasGrown AuditAll records old new after → Stays name records after
 audit-grown name records after old new G =
     (let own = subst (λ kd. AreAppended records kd G.own) G.of_command G.are_own in
     grown-by (Stays name records) records after G.own G.count G.after_is _ own.2
-    (first-two (Stays name records) (AuditStart (next_audit records)) (AuditDone (next_audit records) own.0 own.1) records (refl, refl) (refl, refl) (refl, refl) G.count))
+    (first-two (Stays name records) (AuditStart (next_audit records))
+    (AuditDone (next_audit records) own.0 own.1) records (refl, refl) (refl, refl) (refl, refl) G.count))
 
-put-stays : (name other : List ℕ) (records : List Record) (size : ℕ) → other ≢ name → Stays name records (PutDone (next_id records) size ∷ PutStart (next_id records) other ∷ records)
+put-stays : (name other : List ℕ) (records : List Record) (size : ℕ) → other ≢ name →
+    Stays name records (PutDone (next_id records) size ∷ PutStart (next_id records) other ∷ records)
 put-stays name other records size differ = (
-  cond_false (is_start_of name (started_as (PutStart (next_id records) other ∷ records) (next_id records))) _ _
-      (ap (is_start_of name) (cond_true (next_id records == next_id records) (Some other) (started_as records (next_id records)) (eq-eqb (next_id records) (next_id records) refl)) ∙ other_name other name differ),
+  cond_false (is_start_of name (started_as (PutStart (next_id records) other ∷ records) (next_id records))) _
+      _
+      (ap (is_start_of name)
+      (cond_true (next_id records == next_id records) (Some other) (started_as records (next_id records))
+      (eq-eqb (next_id records) (next_id records) refl)) ∙ other_name other name differ),
   refl,
 )
 
-put-grown : (name other : List ℕ) (records after : List Record) (old new : Seen) → other ≢ name → HasGrown (PutUnder other) records old new after → Stays name records after
+put-grown : (name other : List ℕ) (records after : List Record) (old new : Seen) → other ≢ name →
+    HasGrown (PutUnder other) records old new after → Stays name records after
 put-grown name other records after old new differ G =
     (let bytes : List ℕ = G.of_command.0 in
     let own = subst (λ kd. AreAppended records kd G.own) G.of_command.2 G.are_own in
     grown-by (Stays name records) records after G.own G.count G.after_is _ own
-    (first-two (Stays name records) (PutStart (next_id records) other) (PutDone (next_id records) (length bytes)) records (refl, refl) (refl, refl) (put-stays name other records (length bytes) differ) G.count))
+    (first-two (Stays name records) (PutStart (next_id records) other)
+    (PutDone (next_id records) (length bytes)) records (refl, refl) (refl, refl)
+    (put-stays name other records (length bytes) differ) G.count))
 
-drop-grown : (name other : List ℕ) (records after : List Record) (old new : Seen) → other ≢ name → HasGrown (DropOf other) records old new after → Stays name records after
+drop-grown : (name other : List ℕ) (records after : List Record) (old new : Seen) → other ≢ name →
+    HasGrown (DropOf other) records old new after → Stays name records after
 drop-grown name other records after old new differ G =
     (let own = subst (λ kd. AreAppended records kd G.own) G.of_command G.are_own in
     grown-by (Stays name records) records after G.own G.count G.after_is _ own
-    (first-one (Stays name records) (Drop other) records (refl, refl) (cond_false _ None (file_of records name) (other_name other name differ), refl) G.count))
+    (first-one (Stays name records) (Drop other) records (refl, refl)
+    (cond_false _ None (file_of records name) (other_name other name differ), refl) G.count))
 
-then-by : (command : Command) (name : List ℕ) (records after : List Record) (old new : Seen) → (HasGrown command records old new after → Stays name records after) → IsThen command records old new after → Stays name records after
-then-by command name records after old new grown (inl same) = (ap (λ rs. file_of rs name) same, ap setup_in_effect same)
+then-by : (command : Command) (name : List ℕ) (records after : List Record) (old new : Seen) →
+    (HasGrown command records old new after → Stays name records after) →
+    IsThen command records old new after → Stays name records after
+then-by command name records after old new grown (inl same) =
+    (ap (λ rs. file_of rs name) same, ap setup_in_effect same)
 then-by command name records after old new grown (inr G) = grown G
 
 -- ---- commands that keep all blocks
 
-reads-by : (command : Command) (name bytes : List ℕ) (records after : List Record) (spoilt : ℕ → Bool) (old new : Seen) → SameHolds old new → HasRightFile old records name bytes spoilt → Stays name records after → HasRightFile new after name bytes spoilt
-reads-by command name bytes records after spoilt old new holds H S = has-same name bytes records after spoilt old new H S.0 S.1 (λ j below. same-told H.file.id (provider_at old.providers j).held (provider_at new.providers j).held (holds j))
+reads-by : (command : Command) (name bytes : List ℕ) (records after : List Record) (spoilt : ℕ → Bool)
+    (old new : Seen) → SameHolds old new → HasRightFile old records name bytes spoilt →
+    Stays name records after → HasRightFile new after name bytes spoilt
+reads-by command name bytes records after spoilt old new holds H S =
+    has-same name bytes records after spoilt old new H S.0 S.1
+    (λ j below. same-told H.file.id (provider_at old.providers j).held (provider_at new.providers j).held
+    (holds j))
 
 -- a file that is right stays so over a get, a list and an audit
-pub reads-have : (command : Command) (name bytes : List ℕ) (records after : List Record) (spoilt : ℕ → Bool) (old new : Seen) (end : Ending) → Answers command old new end → keeps_blocks command ≡ true →
-    HasRightFile old records name bytes spoilt → IsThen command records old new after → HasRightFile new after name bytes spoilt
-reads-have (GetOf got) name bytes records after spoilt old new end A keeps H T = reads-by (GetOf got) name bytes records after spoilt old new (get-holds got old new end A.0) H (then-by (GetOf got) name records after old new (get-grown name records after got old new) T)
-reads-have ListAll name bytes records after spoilt old new end A keeps H T = reads-by ListAll name bytes records after spoilt old new (list-holds old new end A.0) H (then-by ListAll name records after old new (λ G. absurd G.of_command) T)
-reads-have AuditAll name bytes records after spoilt old new end A keeps H T = reads-by AuditAll name bytes records after spoilt old new (audit-holds old new end A.0) H (then-by AuditAll name records after old new (audit-grown name records after old new) T)
-reads-have (RowOf n l b seen) name bytes records after spoilt old new end A keeps H T = absurd (false≢true keeps)
-reads-have (InitWith numbers) name bytes records after spoilt old new end A keeps H T = absurd (false≢true keeps)
-reads-have (PutUnder other) name bytes records after spoilt old new end A keeps H T = absurd (false≢true keeps)
+pub reads-have : (command : Command) (name bytes : List ℕ) (records after : List Record) (spoilt : ℕ → Bool)
+    (old new : Seen) (end : Ending) → Answers command old new end → keeps_blocks command ≡ true →
+    HasRightFile old records name bytes spoilt → IsThen command records old new after →
+    HasRightFile new after name bytes spoilt
+reads-have (GetOf got) name bytes records after spoilt old new end A keeps H T =
+    reads-by (GetOf got) name bytes records after spoilt old new (get-holds got old new end A.0) H
+    (then-by (GetOf got) name records after old new (get-grown name records after got old new) T)
+reads-have ListAll name bytes records after spoilt old new end A keeps H T =
+    reads-by ListAll name bytes records after spoilt old new (list-holds old new end A.0) H
+    (then-by ListAll name records after old new (λ G. absurd G.of_command) T)
+reads-have AuditAll name bytes records after spoilt old new end A keeps H T =
+    reads-by AuditAll name bytes records after spoilt old new (audit-holds old new end A.0) H
+    (then-by AuditAll name records after old new (audit-grown name records after old new) T)
+reads-have (RowOf n l b seen) name bytes records after spoilt old new end A keeps H T =
+    absurd (false≢true keeps)
+reads-have (InitWith numbers) name bytes records after spoilt old new end A keeps H T =
+    absurd (false≢true keeps)
+reads-have (PutUnder other) name bytes records after spoilt old new end A keeps H T =
+    absurd (false≢true keeps)
 reads-have (DropOf other) name bytes records after spoilt old new end A keeps H T = absurd (false≢true keeps)
 reads-have RepairDue name bytes records after spoilt old new end A keeps H T = absurd (false≢true keeps)
 
 -- a file that is right stays so over a refusal
-pub refused-has : (status at : ℕ) (name bytes : List ℕ) (records : List Record) (spoilt : ℕ → Bool) (old new : Seen) (end : Ending) → IsRefused status at old new end → HasRightFile old records name bytes spoilt → HasRightFile new records name bytes spoilt
-refused-has status at name bytes records spoilt old new end r H = has-same name bytes records records spoilt old new H refl refl
-    (λ j below. same-told H.file.id (provider_at old.providers j).held (provider_at new.providers j).held (ap (λ ps. (provider_at ps j).held) r.providers))
+pub refused-has : (status at : ℕ) (name bytes : List ℕ) (records : List Record) (spoilt : ℕ → Bool)
+    (old new : Seen) (end : Ending) → IsRefused status at old new end →
+    HasRightFile old records name bytes spoilt → HasRightFile new records name bytes spoilt
+refused-has status at name bytes records spoilt old new end r H =
+    has-same name bytes records records spoilt old new H refl refl
+    (λ j below. same-told H.file.id (provider_at old.providers j).held (provider_at new.providers j).held
+    (ap (λ ps. (provider_at ps j).held) r.providers))
 
 -- ---- a put and a drop of another name
 
 -- each provider of the setup holds an object as it did
 abbrev KeepsObject : List Record → ℕ → Seen → Seen → Type 0
-KeepsObject records id old new = (j : ℕ) → j < (setup_in_effect records).n → SameAt id (provider_at old.providers j).held (provider_at new.providers j).held
+KeepsObject records id old new = (j : ℕ) → j < (setup_in_effect records).n →
+    SameAt id (provider_at old.providers j).held (provider_at new.providers j).held
 
-refused-keeps : (status at : ℕ) (records : List Record) (id : ℕ) (old new : Seen) (end : Ending) → IsRefused status at old new end → KeepsObject records id old new
-refused-keeps status at records id old new end r = λ j below. same-told id (provider_at old.providers j).held (provider_at new.providers j).held (ap (λ ps. (provider_at ps j).held) r.providers)
+refused-keeps : (status at : ℕ) (records : List Record) (id : ℕ) (old new : Seen) (end : Ending) →
+    IsRefused status at old new end → KeepsObject records id old new
+refused-keeps status at records id old new end r =
+    λ j below. same-told id (provider_at old.providers j).held (provider_at new.providers j).held
+    (ap (λ ps. (provider_at ps j).held) r.providers)
 
-same-goes : (id : ℕ) (change : Held → Held → Type 0) → ((a b : Held) → change a b → SameOf id a b) → (a b : Option Held) → Goes change a b → SameAt id a b
+same-goes : (id : ℕ) (change : Held → Held → Type 0) → ((a b : Held) → change a b → SameOf id a b) →
+    (a b : Option Held) → Goes change a b → SameAt id a b
 same-goes id change keeps None None g = tt
 same-goes id change keeps None (Some b) g = absurd g
 same-goes id change keeps (Some a) None g = absurd g
 same-goes id change keeps (Some a) (Some b) g = keeps a b g
 
-module _ (name other : List ℕ) (records : List Record) (file : File) (sound : AreSound records) (in_effect : file_of records name ≡ Some file) (differ : other ≢ name) where
+module _ (name other : List ℕ) (records : List Record) (file : File) (sound : AreSound records)
+    (in_effect : file_of records name ≡ Some file) (differ : other ≢ name) where
   -- the file has none of the numbers that are stored or taken away
   not-next : file.id ≢ next_id records
   not-next e = (let below = (sound.file name file in_effect).0 in omega (arith, below, e))
@@ -178,74 +238,125 @@ module _ (name other : List ℕ) (records : List Record) (file : File) (sound : 
       by_file None e = tt
       by_file (Some f) e = λ same. differ (sym (sound.one_name name other file f in_effect e same))
 
-  put-keeps : (bytes : List ℕ) (how : Answer) (old new : Seen) (end : Ending) (left : LeftAlone records (PutJob other bytes) how old new end.heard) →
-      PutLeaves (ran_left records (PutJob other bytes) how old new end.heard left) other bytes how → KeepsObject records file.id old new
+  put-keeps : (bytes : List ℕ) (how : Answer) (old new : Seen) (end : Ending)
+      (left : LeftAlone records (PutJob other bytes) how old new end.heard) →
+      PutLeaves (ran_left records (PutJob other bytes) how old new end.heard left) other bytes how →
+      KeepsObject records file.id old new
   put-keeps bytes how old new end left = by_answer how
     where
-      stored : (rose : Type 0) (j : ℕ) (a b : Held) → StoredOn (object_of (setup_in_effect records) (next_id records)) bytes (file_of records other) rose j a b → SameOf file.id a b
-      stored rose j a b S stripe = S.others file.id stripe (record { stored = λ e. absurd (not-next e); removed = not-older })
+      stored : (rose : Type 0) (j : ℕ) (a b : Held) →
+          StoredOn (object_of (setup_in_effect records) (next_id records)) bytes
+          (file_of records other) rose j a b → SameOf file.id a b
+      stored rose j a b S stripe =
+          S.others file.id stripe (record { stored = λ e. absurd (not-next e); removed = not-older })
 
-      all : (j : ℕ) (a b : Held) → StoredOn (object_of (setup_in_effect records) (next_id records)) bytes None ⊥ j a b → SameOf file.id a b
-      all j a b S stripe = S.others file.id stripe (record { stored = λ e. absurd (not-next e); removed = tt })
+      all : (j : ℕ) (a b : Held) →
+          StoredOn (object_of (setup_in_effect records) (next_id records)) bytes None ⊥ j a b →
+          SameOf file.id a b
+      all j a b S stripe = S.others file.id stripe
+          (record { stored = λ e. absurd (not-next e); removed = tt })
 
-      cut : PutIsCut (ran_left records (PutJob other bytes) how old new end.heard left) other bytes → KeepsObject records file.id old new
-      cut (PutIsCut.at_start after doubt held) = λ j below. same-told file.id (provider_at old.providers j).held (provider_at new.providers j).held (held j below)
-      cut (PutIsCut.at_done after doubt stored) = λ j below. same-goes file.id _ (all j) (provider_at old.providers j).held (provider_at new.providers j).held (stored j below)
+      cut : PutIsCut (ran_left records (PutJob other bytes) how old new end.heard left) other bytes →
+          KeepsObject records file.id old new
+      cut (PutIsCut.at_start after doubt held) = λ j below. same-told file.id
+          (provider_at old.providers j).held (provider_at new.providers j).held (held j below)
+      cut (PutIsCut.at_done after doubt stored) = λ j below. same-goes file.id _ (all j)
+          (provider_at old.providers j).held (provider_at new.providers j).held (stored j below)
 
-      partly : (j : ℕ) (a b : Held) → PartlyStored (object_of (setup_in_effect records) (next_id records)) bytes j a b → SameOf file.id a b
+      partly : (j : ℕ) (a b : Held) →
+          PartlyStored (object_of (setup_in_effect records) (next_id records)) bytes j a b →
+          SameOf file.id a b
       partly j a b S stripe = S.others file.id stripe not-next
 
-      by_answer : (h : Answer) → PutLeaves (ran_left records (PutJob other bytes) how old new end.heard left) other bytes h → KeepsObject records file.id old new
-      by_answer answer.Put L = λ j below. same-goes file.id _ (stored _ j) (provider_at old.providers j).held (provider_at new.providers j).held (L.1 j below)
-      by_answer (answer.ProviderFault k) L = λ j below. same-goes file.id _ (partly j) (provider_at old.providers j).held (provider_at new.providers j).held (L.3 j below)
+      by_answer : (h : Answer) →
+          PutLeaves (ran_left records (PutJob other bytes) how old new end.heard left) other bytes h →
+          KeepsObject records file.id old new
+      by_answer answer.Put L = λ j below. same-goes file.id _ (stored _ j) (provider_at old.providers j).held
+          (provider_at new.providers j).held (L.1 j below)
+      by_answer (answer.ProviderFault k) L = λ j below. same-goes file.id _ (partly j)
+          (provider_at old.providers j).held (provider_at new.providers j).held (L.3 j below)
       by_answer answer.DiskFault L = cut L.1
-      by_answer answer.Memory L = λ j below. same-goes file.id _ (partly j) (provider_at old.providers j).held (provider_at new.providers j).held (L.1 j below)
+      by_answer answer.Memory L = λ j below. same-goes file.id _ (partly j) (provider_at old.providers j).held
+          (provider_at new.providers j).held (L.1 j below)
       by_answer h L = absurd L
 
-  drop-keeps : (how : Answer) (old new : Seen) (end : Ending) (left : LeftAlone records (DropJob other) how old new end.heard) →
-      DropLeaves (ran_left records (DropJob other) how old new end.heard left) other how → KeepsObject records file.id old new
+  drop-keeps : (how : Answer) (old new : Seen) (end : Ending)
+      (left : LeftAlone records (DropJob other) how old new end.heard) →
+      DropLeaves (ran_left records (DropJob other) how old new end.heard left) other how →
+      KeepsObject records file.id old new
   drop-keeps how old new end left = by_answer how
     where
-      dropped : (f : File) → file_of records other ≡ Some f → (rose : Type 0) (a b : Held) → DroppedFrom f.id rose a b → SameOf file.id a b
-      dropped f is rose a b D stripe = D.others file.id stripe (subst (λ o. IfSome o (λ g. file.id ≢ g.id)) is not-older)
+      dropped : (f : File) → file_of records other ≡ Some f → (rose : Type 0) (a b : Held) →
+          DroppedFrom f.id rose a b → SameOf file.id a b
+      dropped f is rose a b D stripe =
+          D.others file.id stripe (subst (λ o. IfSome o (λ g. file.id ≢ g.id)) is not-older)
 
-      by_answer : (h : Answer) → DropLeaves (ran_left records (DropJob other) how old new end.heard left) other h → KeepsObject records file.id old new
-      by_answer answer.Dropped L = λ j below. same-goes file.id _ (dropped L.1.file L.1.in_effect _) (provider_at old.providers j).held (provider_at new.providers j).held (L.1.held j below)
-      by_answer answer.DiskFault L = λ j below. same-told file.id (provider_at old.providers j).held (provider_at new.providers j).held (L.2 j below)
-      by_answer answer.Memory L = λ j below. same-told file.id (provider_at old.providers j).held (provider_at new.providers j).held (L.1 j below)
+      by_answer : (h : Answer) →
+          DropLeaves (ran_left records (DropJob other) how old new end.heard left) other h →
+          KeepsObject records file.id old new
+      by_answer answer.Dropped L = λ j below. same-goes file.id _ (dropped L.1.file L.1.in_effect _)
+          (provider_at old.providers j).held (provider_at new.providers j).held (L.1.held j below)
+      by_answer answer.DiskFault L = λ j below. same-told file.id (provider_at old.providers j).held
+          (provider_at new.providers j).held (L.2 j below)
+      by_answer answer.Memory L = λ j below. same-told file.id (provider_at old.providers j).held
+          (provider_at new.providers j).held (L.1 j below)
       by_answer h L = absurd L
 
-  put-job : (bytes : List ℕ) (old new : Seen) (end : Ending) → AnswersJob (PutJob other bytes) records old new end → KeepsObject records file.id old new
-  put-job bytes old new end (AnswersJob.refused why is synced r) = refused-keeps _ 0 records file.id old new end r
+  put-job : (bytes : List ℕ) (old new : Seen) (end : Ending) →
+      AnswersJob (PutJob other bytes) records old new end → KeepsObject records file.id old new
+  put-job bytes old new end (AnswersJob.refused why is synced r) =
+      refused-keeps _ 0 records file.id old new end r
   put-job bytes old new end (AnswersJob.no_memory synced r) = refused-keeps 70 0 records file.id old new end r
-  put-job bytes old new end (AnswersJob.ended how none runs left by) = put-keeps bytes how old new end left left.leaves.by_kind.0
+  put-job bytes old new end (AnswersJob.ended how none runs left by) =
+      put-keeps bytes how old new end left left.leaves.by_kind.0
 
-  drop-job : (old new : Seen) (end : Ending) → AnswersJob (DropJob other) records old new end → KeepsObject records file.id old new
+  drop-job : (old new : Seen) (end : Ending) → AnswersJob (DropJob other) records old new end →
+      KeepsObject records file.id old new
   drop-job old new end (AnswersJob.refused why is synced r) = refused-keeps _ 0 records file.id old new end r
   drop-job old new end (AnswersJob.no_memory synced r) = refused-keeps 70 0 records file.id old new end r
-  drop-job old new end (AnswersJob.ended how none runs left by) = drop-keeps how old new end left left.leaves.by_kind.0
+  drop-job old new end (AnswersJob.ended how none runs left by) =
+      drop-keeps how old new end left left.leaves.by_kind.0
 
-put-command : (name other bytes : List ℕ) (records : List Record) (spoilt : ℕ → Bool) (old new : Seen) (end : Ending) → other ≢ name → IsKnown old records → (H : HasRightFile old records name bytes spoilt) → AnswersPut other old new end → KeepsObject records H.file.id old new
-put-command name other bytes records spoilt old new end differ K H (AnswersPut.unstarted u same) = (let r = unstarted-refused old new end u in refused-keeps r.0 r.1 records H.file.id old new end r.3)
-put-command name other bytes records spoilt old new end differ K H (AnswersPut.source_fault rs opened rose synced taken r) = refused-keeps 14 0 records H.file.id old new end r
-put-command name other bytes records spoilt old new end differ K H (AnswersPut.no_memory taken r) = refused-keeps 70 0 records H.file.id old new end r
+put-command : (name other bytes : List ℕ) (records : List Record) (spoilt : ℕ → Bool) (old new : Seen)
+    (end : Ending) → other ≢ name → IsKnown old records → (H : HasRightFile old records name bytes spoilt) →
+    AnswersPut other old new end → KeepsObject records H.file.id old new
+put-command name other bytes records spoilt old new end differ K H (AnswersPut.unstarted u same) =
+    (let r = unstarted-refused old new end u in refused-keeps r.0 r.1 records H.file.id old new end r.3)
+put-command name other bytes records spoilt old new end differ K H (AnswersPut.source_fault rs opened rose synced taken r) =
+    refused-keeps 14 0 records H.file.id old new end r
+put-command name other bytes records spoilt old new end differ K H (AnswersPut.no_memory taken r) =
+    refused-keeps 70 0 records H.file.id old new end r
 put-command name other bytes records spoilt old new end differ K H (AnswersPut.begun rs seen opened read A) =
-    put-job name other records H.file (sound-accepted records K.opened.read.accepted) H.in_effect differ seen old new end (subst (λ l. AnswersJob (PutJob other seen) l old new end) (known-once old records rs K opened.read) A)
+    put-job name other records H.file (sound-accepted records K.opened.read.accepted) H.in_effect differ seen
+    old new end (subst (λ l. AnswersJob (PutJob other seen) l old new end)
+    (known-once old records rs K opened.read) A)
 
-drop-command : (name other bytes : List ℕ) (records : List Record) (spoilt : ℕ → Bool) (old new : Seen) (end : Ending) → other ≢ name → IsKnown old records → (H : HasRightFile old records name bytes spoilt) → AnswersAlone (DropJob other) old new end → KeepsObject records H.file.id old new
-drop-command name other bytes records spoilt old new end differ K H (AnswersAlone.unstarted u) = (let r = unstarted-refused old new end u in refused-keeps r.0 r.1 records H.file.id old new end r.3)
+drop-command : (name other bytes : List ℕ) (records : List Record) (spoilt : ℕ → Bool) (old new : Seen)
+    (end : Ending) → other ≢ name → IsKnown old records → (H : HasRightFile old records name bytes spoilt) →
+    AnswersAlone (DropJob other) old new end → KeepsObject records H.file.id old new
+drop-command name other bytes records spoilt old new end differ K H (AnswersAlone.unstarted u) =
+    (let r = unstarted-refused old new end u in refused-keeps r.0 r.1 records H.file.id old new end r.3)
 drop-command name other bytes records spoilt old new end differ K H (AnswersAlone.begun rs opened A) =
-    drop-job name other records H.file (sound-accepted records K.opened.read.accepted) H.in_effect differ old new end (subst (λ l. AnswersJob (DropJob other) l old new end) (known-once old records rs K opened.read) A)
+    drop-job name other records H.file (sound-accepted records K.opened.read.accepted) H.in_effect differ old
+    new end (subst (λ l. AnswersJob (DropJob other) l old new end)
+    (known-once old records rs K opened.read) A)
 
 -- a file that is right stays so over a put or a drop of another name
-pub others-have : (command : Command) (name bytes : List ℕ) (records after : List Record) (spoilt : ℕ → Bool) (old new : Seen) (end : Ending) → Answers command old new end → IsOfAnother name command → IsKnown old records →
-    HasRightFile old records name bytes spoilt → IsThen command records old new after → HasRightFile new after name bytes spoilt
+pub others-have : (command : Command) (name bytes : List ℕ) (records after : List Record) (spoilt : ℕ → Bool)
+    (old new : Seen) (end : Ending) → Answers command old new end → IsOfAnother name command →
+    IsKnown old records →
+    HasRightFile old records name bytes spoilt → IsThen command records old new after →
+    HasRightFile new after name bytes spoilt
 others-have (PutUnder other) name bytes records after spoilt old new end A differ K H T =
-    (let S = then-by (PutUnder other) name records after old new (put-grown name other records after old new differ) T in
-    has-same name bytes records after spoilt old new H S.0 S.1 (put-command name other bytes records spoilt old new end differ K H A))
+    (let S = then-by (PutUnder other) name records after old new
+    (put-grown name other records after old new differ) T in
+    has-same name bytes records after spoilt old new H S.0 S.1
+    (put-command name other bytes records spoilt old new end differ K H A))
 others-have (DropOf other) name bytes records after spoilt old new end A differ K H T =
-    (let S = then-by (DropOf other) name records after old new (drop-grown name other records after old new differ) T in
-    has-same name bytes records after spoilt old new H S.0 S.1 (drop-command name other bytes records spoilt old new end differ K H A.0))
+    (let S = then-by (DropOf other) name records after old new
+    (drop-grown name other records after old new differ) T in
+    has-same name bytes records after spoilt old new H S.0 S.1
+    (drop-command name other bytes records spoilt old new end differ K H A.0))
 others-have (RowOf n l b seen) name bytes records after spoilt old new end A differ K H T = absurd differ
 others-have (InitWith numbers) name bytes records after spoilt old new end A differ K H T = absurd differ
 others-have (GetOf got) name bytes records after spoilt old new end A differ K H T = absurd differ
@@ -256,7 +367,8 @@ others-have RepairDue name bytes records after spoilt old new end A differ K H T
 -- ---- a repair that is done
 
 -- a provider that is not flagged holds an object as before
-pub flag-off : (id : ℕ) (flag : Bool) (change : Held → Held → Type 0) (a b : Option Held) → flag ≡ false → Goes (IfFlagged flag change) a b → SameAt id a b
+pub flag-off : (id : ℕ) (flag : Bool) (change : Held → Held → Type 0) (a b : Option Held) → flag ≡ false →
+    Goes (IfFlagged flag change) a b → SameAt id a b
 flag-off id false change None None off g = tt
 flag-off id false change (Some a) (Some b) off g = λ stripe. g id stripe
 flag-off id false change None (Some b) off g = absurd g
@@ -264,17 +376,25 @@ flag-off id false change (Some a) None off g = absurd g
 flag-off id true change a b off g = absurd (false≢true (sym off))
 
 -- a provider that told what it holds before a change tells it after
-pub goes-tells : (change : Held → Held → Type 0) (a b : Option Held) → is_some a ≡ true → Goes change a b → is_some b ≡ true
+pub goes-tells : (change : Held → Held → Type 0) (a b : Option Held) → is_some a ≡ true → Goes change a b →
+    is_some b ≡ true
 goes-tells change None b tells g = absurd (false≢true tells)
 goes-tells change (Some a) None tells g = absurd g
 goes-tells change (Some a) (Some b) tells g = refl
 
 -- a provider that holds its own column of each stripe is right for the file
-pub columns-right : (s : Setup) (file : File) (bytes : List ℕ) (j : ℕ) (told : Option Held) → length bytes ≡ file.size → is_some told ≡ true →
-    ((stripe : ℕ) → stripe < stripes_of (profiled s file.profile) file.size → IfSome told (λ held. held file.id stripe ≡ Some (columns (object_of (profiled s file.profile) file.id) bytes j stripe))) → is_wrong_or_untold (object_of (profiled s file.profile) file.id) bytes j told ≡ false
+pub columns-right : (s : Setup) (file : File) (bytes : List ℕ) (j : ℕ) (told : Option Held) →
+    length bytes ≡ file.size → is_some told ≡ true →
+    ((stripe : ℕ) → stripe < stripes_of (profiled s file.profile) file.size →
+    IfSome told (λ held. held file.id stripe ≡ Some
+    (columns (object_of (profiled s file.profile) file.id) bytes j stripe))) →
+    is_wrong_or_untold (object_of (profiled s file.profile) file.id) bytes j told ≡ false
 columns-right s file bytes j None size tells h = absurd (false≢true tells)
 columns-right s file bytes j (Some held) size tells h =
-    each-not-wrong (object_of (profiled s file.profile) file.id) bytes j (held file.id) (λ t l. ap (is_wrong_block (object_of (profiled s file.profile) file.id) bytes j t) (h t (subst (λ n. t < stripes_of (profiled s file.profile) n) size l)) ∙ column-right (object_of (profiled s file.profile) file.id) bytes j t)
+    each-not-wrong (object_of (profiled s file.profile) file.id) bytes j (held file.id)
+    (λ t l. ap (is_wrong_block (object_of (profiled s file.profile) file.id) bytes j t)
+    (h t (subst (λ n. t < stripes_of (profiled s file.profile) n) size l))
+    ∙ column-right (object_of (profiled s file.profile) file.id) bytes j t)
 
 -- if `b and not c` is off, and c is off, b is off
 pub and-off : (b c : Bool) → (b && not c) ≡ false → c ≡ false → b ≡ false
@@ -285,20 +405,29 @@ and-off false c h off = refl
 -- a provider that is not flagged holds an object as it did, and each tells on that told
 abbrev GoesFlagged : ℕ → List Record → Due → Seen → Seen → ℕ → Type 0
 GoesFlagged id records due old new j =
-    (is_flagged (setup_in_effect records).tolerance due.counts j ≡ false → SameAt id (provider_at old.providers j).held (provider_at new.providers j).held)
+    (is_flagged (setup_in_effect records).tolerance due.counts j ≡ false →
+    SameAt id (provider_at old.providers j).held (provider_at new.providers j).held)
     × (is_some (provider_at old.providers j).held ≡ true → is_some (provider_at new.providers j).held ≡ true)
 
-repaired-goes : (id : ℕ) (old new : Seen) (end : Ending) (P : IsRepaired old new end) (j : ℕ) → j < (setup_in_effect P.records).n → GoesFlagged id P.records P.due old new j
+repaired-goes : (id : ℕ) (old new : Seen) (end : Ending) (P : IsRepaired old new end) (j : ℕ) →
+    j < (setup_in_effect P.records).n → GoesFlagged id P.records P.due old new j
 repaired-goes id old new end P j below = (
-  λ off. flag-off id (is_flagged (setup_in_effect P.records).tolerance P.due.counts j) _ (provider_at old.providers j).held (provider_at new.providers j).held off (P.rewritten.held j below),
-  λ tells. goes-tells _ (provider_at old.providers j).held (provider_at new.providers j).held tells (P.rewritten.held j below),
+  λ off. flag-off id (is_flagged (setup_in_effect P.records).tolerance P.due.counts j) _
+      (provider_at old.providers j).held (provider_at new.providers j).held off (P.rewritten.held j below),
+  λ tells. goes-tells _ (provider_at old.providers j).held (provider_at new.providers j).held tells
+      (P.rewritten.held j below),
 )
 
 -- after a done repair a right file is right also on the flagged providers, where few are spoilt
-pub repair-has : (name bytes : List ℕ) (records : List Record) (due : Due) (spoilt : ℕ → Bool) (old new : Seen) (end : Ending) → AnswersAlone RepairJob old new end → IsDone end → IsKnown old records → due_of records ≡ Some due →
-    HasRightFile old records name bytes spoilt → IsSteady (setup_in_effect records).n spoilt old new → spoilt_below (setup_in_effect records).n spoilt ≤ (setup_in_effect records).b →
-    ((j : ℕ) → j < (setup_in_effect records).n → is_flagged (setup_in_effect records).tolerance due.counts j ≡ true → is_some (provider_at old.providers j).held ≡ true) →
-    HasRightFile new (after_repair records due) name bytes (λ j. spoilt j && not (is_flagged (setup_in_effect records).tolerance due.counts j))
+pub repair-has : (name bytes : List ℕ) (records : List Record) (due : Due) (spoilt : ℕ → Bool)
+    (old new : Seen) (end : Ending) → AnswersAlone RepairJob old new end → IsDone end → IsKnown old records →
+    due_of records ≡ Some due →
+    HasRightFile old records name bytes spoilt → IsSteady (setup_in_effect records).n spoilt old new →
+    spoilt_below (setup_in_effect records).n spoilt ≤ (setup_in_effect records).b →
+    ((j : ℕ) → j < (setup_in_effect records).n → is_flagged (setup_in_effect records).tolerance due.counts j
+    ≡ true → is_some (provider_at old.providers j).held ≡ true) →
+    HasRightFile new (after_repair records due) name bytes
+    (λ j. spoilt j && not (is_flagged (setup_in_effect records).tolerance due.counts j))
 repair-has name bytes records due spoilt old new end A done K is_due H steady few tells = record {
   file = H.file;
   in_effect = H.in_effect;
@@ -310,15 +439,28 @@ repair-has name bytes records due spoilt old new end A done K is_due H steady fe
     goes : (j : ℕ) → j < (setup_in_effect records).n → GoesFlagged H.file.id records due old new j
     goes j below = (let P = repair-done old new end A done in
         let same = known-once old records P.records K P.opened.read in
-        let due_is : P.due ≡ due = same_value (due_of records) P.due due (ap due_of (sym same) ∙ P.is_due) is_due in
-        subst (λ (d : Due). GoesFlagged H.file.id records d old new j) due_is (subst (λ rs. GoesFlagged H.file.id rs P.due old new j) same (repaired-goes H.file.id old new end P j (subst (λ rs. j < (setup_in_effect rs).n) (sym same) below))))
+        let due_is : P.due ≡ due = same_value (due_of records) P.due due
+        (ap due_of (sym same) ∙ P.is_due) is_due in
+        subst (λ (d : Due). GoesFlagged H.file.id records d old new j) due_is
+        (subst (λ rs. GoesFlagged H.file.id rs P.due old new j) same
+        (repaired-goes H.file.id old new end P j
+        (subst (λ rs. j < (setup_in_effect rs).n) (sym same) below))))
 
-    right : (j : ℕ) → j < (setup_in_effect records).n → (spoilt j && not (is_flagged (setup_in_effect records).tolerance due.counts j)) ≡ false →
-        is_wrong_or_untold (object_in_effect records H.file) bytes j (provider_at new.providers j).held ≡ false
-    right j below clean = (let g = goes j below in elim (cases_Bool (is_flagged (setup_in_effect records).tolerance due.counts j)) [
-      | inl flagged ↦ columns-right (setup_in_effect records) H.file bytes j (provider_at new.providers j).held H.size (g.1 (tells j below flagged))
-          (repair-right name bytes records H.file due j old new end A K done is_due H.in_effect H.size (let b = bad-few name bytes records spoilt old new H steady in omega (arith, b, few)) below flagged)
-      | inr free ↦ wrong-same (object_in_effect records H.file) bytes j (provider_at old.providers j).held (provider_at new.providers j).held
-          (g.0 free)
-          (H.right j below (and-off (spoilt j) (is_flagged (setup_in_effect records).tolerance due.counts j) clean free))
-    ])
+    right : (j : ℕ) → j < (setup_in_effect records).n →
+        (spoilt j && not (is_flagged (setup_in_effect records).tolerance due.counts j)) ≡ false →
+        is_wrong_or_untold (object_in_effect records H.file) bytes j (provider_at new.providers j).held
+        ≡ false
+    right j below clean =
+        (let g = goes j below in
+        elim (cases_Bool (is_flagged (setup_in_effect records).tolerance due.counts j)) [
+          | inl flagged ↦ columns-right (setup_in_effect records) H.file bytes j
+              (provider_at new.providers j).held H.size (g.1 (tells j below flagged))
+              (repair-right name bytes records H.file due j old new end A K done is_due H.in_effect H.size
+              (let b = bad-few name bytes records spoilt old new H steady in
+              omega (arith, b, few)) below flagged)
+          | inr free ↦ wrong-same (object_in_effect records H.file) bytes j (provider_at old.providers j).held
+              (provider_at new.providers j).held
+              (g.0 free)
+              (H.right j below (and-off (spoilt j) (is_flagged (setup_in_effect records).tolerance due.counts j)
+              clean free))
+        ])

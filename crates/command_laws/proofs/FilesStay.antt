@@ -28,53 +28,76 @@ use Rattle.command_laws.proofs.DoneStores.{whole-read}
 -- ---- a provider's own blocks are not wrong
 
 -- a provider on which a file was stored is right for it
-pub stored-right : (o : Object) (bytes : List ℕ) (older : Option File) (rose : Type 0) (j : ℕ) (a b : Option Held) → is_some a ≡ true → Goes (StoredOn o bytes older rose j) a b → is_wrong_or_untold o bytes j b ≡ false
+pub stored-right : (o : Object) (bytes : List ℕ) (older : Option File) (rose : Type 0) (j : ℕ)
+    (a b : Option Held) → is_some a ≡ true → Goes (StoredOn o bytes older rose j) a b →
+    is_wrong_or_untold o bytes j b ≡ false
 stored-right o bytes older rose j None b tells g = absurd (false≢true tells)
 stored-right o bytes older rose j (Some a) None tells g = absurd g
-stored-right o bytes older rose j (Some a) (Some b) tells g = each-not-wrong o bytes j (b o.id) (λ t l. ap (is_wrong_block o bytes j t) (g.stored t l) ∙ column-right o bytes j t)
+stored-right o bytes older rose j (Some a) (Some b) tells g =
+    each-not-wrong o bytes j (b o.id) (λ t l. ap (is_wrong_block o bytes j t) (g.stored t l)
+    ∙ column-right o bytes j t)
 
 -- ---- a put that is done
 
 -- the object of its file is the setup's
-pub put-object : (records : List Record) (id : ℕ) → object_of (setup_in_effect records) id ≡ object_of (profiled (setup_in_effect records) (profile_in (setup_of records))) id
+pub put-object : (records : List Record) (id : ℕ) →
+    object_of (setup_in_effect records) id ≡ object_of
+    (profiled (setup_in_effect records) (profile_in (setup_of records))) id
 put-object records id = by_setup (setup_of records)
   where
-    by_setup : (o : Option Setup) → object_of (setup_or_none o) id ≡ object_of (profiled (setup_or_none o) (profile_in o)) id
+    by_setup : (o : Option Setup) → object_of (setup_or_none o) id
+        ≡ object_of (profiled (setup_or_none o) (profile_in o)) id
     by_setup None = refl
     by_setup (Some s) = refl
 
-put-file : (name : List ℕ) (spoilt : ℕ → Bool) (old new : Seen) (end : Ending) (P : IsWholePut name old new end) → ((j : ℕ) → j < (setup_in_effect P.records).n → spoilt j ≡ false → is_some (provider_at old.providers j).held ≡ true) →
+put-file : (name : List ℕ) (spoilt : ℕ → Bool) (old new : Seen) (end : Ending)
+    (P : IsWholePut name old new end) →
+    ((j : ℕ) → j < (setup_in_effect P.records).n → spoilt j ≡ false →
+    is_some (provider_at old.providers j).held ≡ true) →
     HasRightFile new (after_put P.records name (length P.bytes)) name P.bytes spoilt
 put-file name spoilt old new end P tells = record {
   file = file_as name (next_id P.records) (length P.bytes) (profile_in (setup_of P.records));
   in_effect = P.in_effect;
   are_bytes = P.are_bytes;
   size = refl;
-  right = λ j below clean. subst (λ (o : Object). is_wrong_or_untold o P.bytes j (provider_at new.providers j).held ≡ false) (put-object P.records (next_id P.records))
-      (stored-right (object_of (setup_in_effect P.records) (next_id P.records)) P.bytes (file_of P.records name) _ j (provider_at old.providers j).held (provider_at new.providers j).held (tells j below clean) (P.stored j below));
+  right = λ j below clean. subst
+      (λ (o : Object). is_wrong_or_untold o P.bytes j (provider_at new.providers j).held ≡ false)
+      (put-object P.records (next_id P.records))
+      (stored-right (object_of (setup_in_effect P.records) (next_id P.records)) P.bytes
+      (file_of P.records name) _ j (provider_at old.providers j).held (provider_at new.providers j).held
+      (tells j below clean) (P.stored j below));
 }
 
 -- after a done put its file is in effect, and right on each provider that tells
-pub put-has : (name bytes : List ℕ) (records : List Record) (spoilt : ℕ → Bool) (old new : Seen) (end : Ending) → AnswersPut name old new end → IsDone end → IsKnown old records → old.source ≡ Some bytes →
-    ((j : ℕ) → j < (setup_in_effect records).n → spoilt j ≡ false → is_some (provider_at old.providers j).held ≡ true) → HasRightFile new (after_put records name (length bytes)) name bytes spoilt
+pub put-has : (name bytes : List ℕ) (records : List Record) (spoilt : ℕ → Bool) (old new : Seen)
+    (end : Ending) → AnswersPut name old new end → IsDone end → IsKnown old records →
+    old.source ≡ Some bytes →
+    ((j : ℕ) → j < (setup_in_effect records).n → spoilt j ≡ false →
+    is_some (provider_at old.providers j).held ≡ true) →
+    HasRightFile new (after_put records name (length bytes)) name bytes spoilt
 put-has name bytes records spoilt old new end A done K source tells =
     (let P = put-done name old new end A done in
     let same = known-once old records P.records K P.opened.read in
     let read = whole-read (largest_file + 1) old.source new.source bytes P.bytes source P.read P.whole in
     subst (λ rs. HasRightFile new (after_put rs name (length bytes)) name bytes spoilt) same
-    (subst (λ bs. HasRightFile new (after_put P.records name (length bs)) name bs spoilt) read (put-file name spoilt old new end P
-    (subst (λ rs. (j : ℕ) → j < (setup_in_effect rs).n → spoilt j ≡ false → is_some (provider_at old.providers j).held ≡ true) (sym same) tells))))
+    (subst (λ bs. HasRightFile new (after_put P.records name (length bs)) name bs spoilt) read
+    (put-file name spoilt old new end P
+    (subst (λ rs. (j : ℕ) → j < (setup_in_effect rs).n → spoilt j ≡ false →
+    is_some (provider_at old.providers j).held ≡ true) (sym same) tells))))
 
 -- ---- between two commands
 
 -- a right file is right where the next command finds it
-pub next-has : (name bytes : List ℕ) (records : List Record) (spoilt : ℕ → Bool) (new next : Seen) → HasRightFile new records name bytes spoilt → IsUntouched (setup_in_effect records).n spoilt new next → HasRightFile next records name bytes spoilt
+pub next-has : (name bytes : List ℕ) (records : List Record) (spoilt : ℕ → Bool) (new next : Seen) →
+    HasRightFile new records name bytes spoilt → IsUntouched (setup_in_effect records).n spoilt new next →
+    HasRightFile next records name bytes spoilt
 next-has name bytes records spoilt new next H U = record {
   file = H.file;
   in_effect = H.in_effect;
   are_bytes = H.are_bytes;
   size = H.size;
-  right = λ j below clean. ap (is_wrong_or_untold (object_in_effect records H.file) bytes j) (U j below clean) ∙ H.right j below clean;
+  right = λ j below clean. ap (is_wrong_or_untold (object_in_effect records H.file) bytes j) (U j below clean)
+      ∙ H.right j below clean;
 }
 
 -- ---- how many providers are bad at a get
@@ -83,7 +106,9 @@ calm-risen : (before now : ℕ) → (Rose before now → ⊥) → has_risen befo
 calm-risen before now calm = elim (cases_lt before now) [
   | inl l ↦ absurd (calm (λ below. l))
   | inr m ↦ elim (cases_lt before last_count) [
-    | inl l ↦ (let first = not-less before now m in let second = not-past now last_count (omega (arith, l, m)) in or-false (nat_lt before now) (nat_le last_count now) first second)
+    | inl l ↦ (let first = not-less before now m in
+        let second = not-past now last_count (omega (arith, l, m)) in
+        or-false (nat_lt before now) (nat_le last_count now) first second)
     | inr past ↦ absurd (calm (λ below. absurd (omega (arith, below, past))))
   ]
 ]
@@ -97,20 +122,28 @@ calm-risen before now calm = elim (cases_lt before now) [
     or-false : (b c : Bool) → b ≡ false → c ≡ false → (b || c) ≡ false
     or-false b c e f = (λ i. e i || f i)
 
-bad-off : (o : Object) (bytes : List ℕ) (j : ℕ) (p q : Provider) (told : Option Held) → is_wrong_or_untold o bytes j told ≡ false → has_risen p.other_faults q.other_faults ≡ false → is_bad_with o bytes j p q told ≡ false
+bad-off : (o : Object) (bytes : List ℕ) (j : ℕ) (p q : Provider) (told : Option Held) →
+    is_wrong_or_untold o bytes j told ≡ false → has_risen p.other_faults q.other_faults ≡ false →
+    is_bad_with o bytes j p q told ≡ false
 bad-off o bytes j p q None right calm = absurd (false≢true (sym right))
 bad-off o bytes j p q (Some held) right calm = (λ i. right i || calm i)
 
 -- no more providers are bad for a right file than are spoilt
-pub bad-few : (name bytes : List ℕ) (records : List Record) (spoilt : ℕ → Bool) (old new : Seen) (H : HasRightFile old records name bytes spoilt) → IsSteady (setup_in_effect records).n spoilt old new →
+pub bad-few : (name bytes : List ℕ) (records : List Record) (spoilt : ℕ → Bool) (old new : Seen)
+    (H : HasRightFile old records name bytes spoilt) → IsSteady (setup_in_effect records).n spoilt old new →
     bad_seen records old new H.file bytes ≤ spoilt_below (setup_in_effect records).n spoilt
 bad-few name bytes records spoilt old new H steady =
-    count_of-within (λ j. is_bad_for (object_in_effect records H.file) bytes j (provider_at old.providers j) (provider_at new.providers j)) spoilt 0 (setup_in_effect records).n within
+    count_of-within (λ j. is_bad_for (object_in_effect records H.file) bytes j (provider_at old.providers j)
+    (provider_at new.providers j)) spoilt 0 (setup_in_effect records).n within
   where
-    within : (j : ℕ) → j < 0 + (setup_in_effect records).n → is_bad_for (object_in_effect records H.file) bytes j (provider_at old.providers j) (provider_at new.providers j) ≡ true → spoilt j ≡ true
+    within : (j : ℕ) → j < 0 + (setup_in_effect records).n →
+        is_bad_for (object_in_effect records H.file) bytes j (provider_at old.providers j)
+        (provider_at new.providers j) ≡ true → spoilt j ≡ true
     within j below bad = elim (cases_Bool (spoilt j)) [
       | inl t ↦ t
       | inr f ↦ (let l : j < (setup_in_effect records).n = omega (arith, below) in
-          absurd (false≢true (sym (bad-off (object_in_effect records H.file) bytes j (provider_at old.providers j) (provider_at new.providers j) (provider_at old.providers j).held (H.right j l f)
+          absurd (false≢true (sym
+          (bad-off (object_in_effect records H.file) bytes j (provider_at old.providers j)
+          (provider_at new.providers j) (provider_at old.providers j).held (H.right j l f)
           (calm-risen _ _ (steady j l f))) ∙ bad)))
     ]

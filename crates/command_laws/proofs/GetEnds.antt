@@ -30,21 +30,30 @@ use Rattle.job_laws.proofs.Telling.{over-opened, opened_state, state-over}
 use Rattle.command_laws.proofs.Known.{none-written, written-well, written-zero, written-front, alone-known}
 
 -- the setup of records that are read is of a shape
-pub shape-at : (old : Seen) (records : List Record) → IsOpened old records → IsShape (setup_in_effect records).n (setup_in_effect records).l (setup_in_effect records).b
+pub shape-at : (old : Seen) (records : List Record) → IsOpened old records →
+    IsShape (setup_in_effect records).n (setup_in_effect records).l (setup_in_effect records).b
 shape-at old records R =
-    shape-of (opened_state records 0 old.providers) (opened_state records 0 old.providers) [] (over-opened (opened_state records 0 old.providers) old records 0 R (state-over records 0 old.providers R.read.accepted))
+    shape-of (opened_state records 0 old.providers) (opened_state records 0 old.providers) []
+    (over-opened (opened_state records 0 old.providers) old records 0 R
+    (state-over records 0 old.providers R.read.accepted))
 
 -- what was left, as it is seen
-abbrev pub ran_left : (records : List Record) (kind : Kind) (how : Answer) (old new : Seen) (heard : List Entry) → LeftAlone records kind how old new heard → Ran
-ran_left records kind how old new heard left = ran_alone records old new heard left.faults left.after left.doubt
+abbrev pub ran_left : (records : List Record) (kind : Kind) (how : Answer) (old new : Seen)
+    (heard : List Entry) → LeftAlone records kind how old new heard → Ran
+ran_left records kind how old new heard left =
+    ran_alone records old new heard left.faults left.after left.doubt
 
-module _ (name bytes : List ℕ) (records : List Record) (file : File) (old new : Seen) (end : Ending) (K : IsKnown old records) (in_effect : file_of records name ≡ Some file) (fits : AreBytes bytes) (size : length bytes ≡ file.size) where
+module _ (name bytes : List ℕ) (records : List Record) (file : File) (old new : Seen) (end : Ending)
+    (K : IsKnown old records) (in_effect : file_of records name ≡ Some file) (fits : AreBytes bytes)
+    (size : length bytes ≡ file.size) where
   shape : IsShape (setup_in_effect records).n (setup_in_effect records).l (setup_in_effect records).b
   shape = shape-at old records K.opened
 
   begins : refusal_over records (GetJob name) ≡ None
-  begins = (let named : is_name name ≡ true = (file-spelled records name file (all-spelled records K.opened.read.in_grammar) in_effect).0 in
-      (λ i. cond (not (named i)) (Some refusal.BadName) (cond (not (is_some (in_effect i))) (Some refusal.NoSuchName) None)))
+  begins = (let named : is_name name ≡ true =
+      (file-spelled records name file (all-spelled records K.opened.read.in_grammar) in_effect).0 in
+      (λ i. cond (not (named i)) (Some refusal.BadName)
+      (cond (not (is_some (in_effect i))) (Some refusal.NoSuchName) None)))
 
   no-refusal : (why : Refusal) → refusal_over records (GetJob name) ≡ Some why → ⊥
   no-refusal why is = (let e : None ≡ Some why = sym begins ∙ is in cc)
@@ -53,53 +62,85 @@ module _ (name bytes : List ℕ) (records : List Record) (file : File) (old new 
   abbrev EndsWith : Answer → Type 0
   EndsWith how = EndsByAnswer (text_of (setup_in_effect records).tolerance (GetJob name) how) how old new end
 
-  job-complete : AnswersJob (GetJob name) records old new end → bad_seen records old new file bytes ≤ (setup_in_effect records).b → WritesLine bytes end.status (sinking old new)
+  job-complete : AnswersJob (GetJob name) records old new end →
+      bad_seen records old new file bytes ≤ (setup_in_effect records).b →
+      WritesLine bytes end.status (sinking old new)
   job-complete (AnswersJob.refused why is synced r) few = absurd (no-refusal why is)
-  job-complete (AnswersJob.no_memory synced r) few = inr (inr (r.status_is, none-written bytes old.sink new.sink r.sink))
+  job-complete (AnswersJob.no_memory synced r) few =
+      inr (inr (r.status_is, none-written bytes old.sink new.sink r.sink))
   job-complete (AnswersJob.ended how none runs left by) few =
-      (let same : how ≡ answer.Got bytes = get-complete (ran_left records (GetJob name) how old new end.heard left) name bytes file shape in_effect fits size how left.leaves.by_kind few in
+      (let same : how ≡ answer.Got bytes = get-complete
+      (ran_left records (GetJob name) how old new end.heard left) name bytes file shape in_effect fits
+      size how left.leaves.by_kind few in
       let told : EndsWith (answer.Got bytes) = subst (λ h. EndsWith h) same by in told.written)
 
-  right-by : (x : Ran) (how : Answer) → ((got : List ℕ) → how ≡ answer.Got got → got ≡ bytes) → GetLeaves x name how → EndsWith how → TakesFront old.sink new.sink bytes × (end.status ≡ 0 → new.sink ≡ told_then old.sink bytes)
-  right-by x (answer.Got got) right L by = (let same = right got refl in let told : WritesLine bytes end.status (sinking old new) = subst (λ t. WritesLine t end.status (sinking old new)) same by.written in
+  right-by : (x : Ran) (how : Answer) → ((got : List ℕ) → how ≡ answer.Got got → got ≡ bytes) →
+      GetLeaves x name how → EndsWith how → TakesFront old.sink new.sink bytes ×
+      (end.status ≡ 0 → new.sink ≡ told_then old.sink bytes)
+  right-by x (answer.Got got) right L by =
+      (let same = right got refl in let told : WritesLine bytes end.status (sinking old new) =
+      subst (λ t. WritesLine t end.status (sinking old new)) same by.written in
       (written-front bytes old new end told, written-zero bytes old new end told))
-  right-by x (answer.Lost stripe row) right L by = (none-written bytes old.sink new.sink by.sink, λ zero. absurd (let e : 4 ≡ 0 = sym by.status_is ∙ zero in omega (arith, e)))
+  right-by x (answer.Lost stripe row) right L by = (
+    none-written bytes old.sink new.sink by.sink,
+    λ zero. absurd (let e : 4 ≡ 0 = sym by.status_is ∙ zero in omega (arith, e)),
+  )
   right-by x how right L by = absurd L.gives
 
-  refused-right : (status at : ℕ) → IsRefused status at old new end → (status ≡ 0 → ⊥) → TakesFront old.sink new.sink bytes × (end.status ≡ 0 → new.sink ≡ told_then old.sink bytes)
-  refused-right status at r other = (none-written bytes old.sink new.sink r.sink, λ zero. absurd (other (sym r.status_is ∙ zero)))
+  refused-right : (status at : ℕ) → IsRefused status at old new end → (status ≡ 0 → ⊥) →
+      TakesFront old.sink new.sink bytes × (end.status ≡ 0 → new.sink ≡ told_then old.sink bytes)
+  refused-right status at r other =
+      (none-written bytes old.sink new.sink r.sink, λ zero. absurd (other (sym r.status_is ∙ zero)))
 
-  job-right : AnswersJob (GetJob name) records old new end → bad_seen records old new file bytes ≤ (setup_in_effect records).b + 1 → TakesFront old.sink new.sink bytes × (end.status ≡ 0 → new.sink ≡ told_then old.sink bytes)
+  job-right : AnswersJob (GetJob name) records old new end →
+      bad_seen records old new file bytes ≤ (setup_in_effect records).b + 1 →
+      TakesFront old.sink new.sink bytes × (end.status ≡ 0 → new.sink ≡ told_then old.sink bytes)
   job-right (AnswersJob.refused why is synced r) few = absurd (no-refusal why is)
   job-right (AnswersJob.no_memory synced r) few = refused-right 70 0 r (λ e. omega (arith, e))
   job-right (AnswersJob.ended how none runs left by) few =
       right-by (ran_left records (GetJob name) how old new end.heard left) how
-      (λ got is. get-right (ran_left records (GetJob name) how old new end.heard left) name bytes file shape in_effect fits size got (subst (λ h. GetLeaves (ran_left records (GetJob name) how old new end.heard left) name h) is left.leaves.by_kind) few)
+      (λ got is. get-right (ran_left records (GetJob name) how old new end.heard left) name bytes file shape
+      in_effect fits size got
+      (subst (λ h. GetLeaves (ran_left records (GetJob name) how old new end.heard left) name h) is
+      left.leaves.by_kind) few)
       left.leaves.by_kind by
 
   -- what was heard holds a forgery
   abbrev Forged : Type 0
   Forged = HoldsForgery (object_in_effect records file) bytes job_number end.heard
 
-  forged-by : (x : Ran) (how : Answer) → ((got : List ℕ) → how ≡ answer.Got got → (got ≡ bytes) ⊎ Forged) → GetLeaves x name how → EndsWith how → (TakesFront old.sink new.sink bytes × (end.status ≡ 0 → new.sink ≡ told_then old.sink bytes)) ⊎ Forged
+  forged-by : (x : Ran) (how : Answer) → ((got : List ℕ) → how ≡ answer.Got got → (got ≡ bytes) ⊎ Forged) →
+      GetLeaves x name how → EndsWith how →
+      (TakesFront old.sink new.sink bytes × (end.status ≡ 0 → new.sink ≡ told_then old.sink bytes)) ⊎ Forged
   forged-by x (answer.Got got) right L by = elim (right got refl) [
-    | inl same ↦ (let told : WritesLine bytes end.status (sinking old new) = subst (λ t. WritesLine t end.status (sinking old new)) same by.written in
+    | inl same ↦ (let told : WritesLine bytes end.status (sinking old new) =
+        subst (λ t. WritesLine t end.status (sinking old new)) same by.written in
         inl (written-front bytes old new end told, written-zero bytes old new end told))
     | inr forged ↦ inr forged
   ]
-  forged-by x (answer.Lost stripe row) right L by = inl (none-written bytes old.sink new.sink by.sink, λ zero. absurd (let e : 4 ≡ 0 = sym by.status_is ∙ zero in omega (arith, e)))
+  forged-by x (answer.Lost stripe row) right L by =
+      inl (
+        none-written bytes old.sink new.sink by.sink,
+        λ zero. absurd (let e : 4 ≡ 0 = sym by.status_is ∙ zero in omega (arith, e)),
+      )
   forged-by x how right L by = absurd L.gives
 
-  job-forged : AnswersJob (GetJob name) records old new end → (TakesFront old.sink new.sink bytes × (end.status ≡ 0 → new.sink ≡ told_then old.sink bytes)) ⊎ Forged
+  job-forged : AnswersJob (GetJob name) records old new end →
+      (TakesFront old.sink new.sink bytes × (end.status ≡ 0 → new.sink ≡ told_then old.sink bytes)) ⊎ Forged
   job-forged (AnswersJob.refused why is synced r) = absurd (no-refusal why is)
   job-forged (AnswersJob.no_memory synced r) = inl (refused-right 70 0 r (λ e. omega (arith, e)))
   job-forged (AnswersJob.ended how none runs left by) =
       forged-by (ran_left records (GetJob name) how old new end.heard left) how
-      (λ got is. get-forged (ran_left records (GetJob name) how old new end.heard left) name bytes file shape in_effect fits size got (subst (λ h. GetLeaves (ran_left records (GetJob name) how old new end.heard left) name h) is left.leaves.by_kind))
+      (λ got is. get-forged (ran_left records (GetJob name) how old new end.heard left) name bytes file shape
+      in_effect fits size got
+      (subst (λ h. GetLeaves (ran_left records (GetJob name) how old new end.heard left) name h) is
+      left.leaves.by_kind))
       left.leaves.by_kind by
 
   -- a get with no fault gives the file's bytes where at most b providers are bad, or finds no memory
-  pub seen-complete : AnswersAlone (GetJob name) old new end → bad_seen records old new file bytes ≤ (setup_in_effect records).b → (Rose old.disk_faults new.disk_faults → ⊥) → (Rose old.sink_faults new.sink_faults → ⊥) →
+  pub seen-complete : AnswersAlone (GetJob name) old new end →
+      bad_seen records old new file bytes ≤ (setup_in_effect records).b →
+      (Rose old.disk_faults new.disk_faults → ⊥) → (Rose old.sink_faults new.sink_faults → ⊥) →
       GivesUnlessMemory bytes old new end
   seen-complete A few disk sink = elim (alone-known (GetJob name) old new end records K A) [
     | inl (inl (rose, r)) ↦ absurd (disk rose)
@@ -108,7 +149,9 @@ module _ (name bytes : List ℕ) (records : List Record) (file : File) (old new 
   ]
 
   -- a get gives at most a front of the file's bytes, and all at status 0, where at most b + 1 are bad
-  pub seen-right : AnswersAlone (GetJob name) old new end → bad_seen records old new file bytes ≤ (setup_in_effect records).b + 1 → TakesFront old.sink new.sink bytes × (end.status ≡ 0 → new.sink ≡ told_then old.sink bytes)
+  pub seen-right : AnswersAlone (GetJob name) old new end →
+      bad_seen records old new file bytes ≤ (setup_in_effect records).b + 1 →
+      TakesFront old.sink new.sink bytes × (end.status ≡ 0 → new.sink ≡ told_then old.sink bytes)
   seen-right A few = elim (alone-known (GetJob name) old new end records K A) [
     | inl (inl (rose, r)) ↦ refused-right 12 0 r (λ e. omega (arith, e))
     | inl (inr r) ↦ refused-right 70 0 r (λ e. omega (arith, e))
@@ -116,7 +159,8 @@ module _ (name bytes : List ℕ) (records : List Record) (file : File) (old new 
   ]
 
   -- a get gives at most a front of the file's bytes, and all at status 0, or it heard a forgery
-  pub seen-forged : AnswersAlone (GetJob name) old new end → (TakesFront old.sink new.sink bytes × (end.status ≡ 0 → new.sink ≡ told_then old.sink bytes)) ⊎ Forged
+  pub seen-forged : AnswersAlone (GetJob name) old new end →
+      (TakesFront old.sink new.sink bytes × (end.status ≡ 0 → new.sink ≡ told_then old.sink bytes)) ⊎ Forged
   seen-forged A = elim (alone-known (GetJob name) old new end records K A) [
     | inl (inl (rose, r)) ↦ inl (refused-right 12 0 r (λ e. omega (arith, e)))
     | inl (inr r) ↦ inl (refused-right 70 0 r (λ e. omega (arith, e)))

@@ -63,10 +63,12 @@ now-more start [] base = refl
 now-more start (m ∷ own) base = refl
 
 -- a run from a sound state leaves a sound state
-pub run-sound : (start : State) (own base : List Moment) → IsSound 8 (now start base) → IsRun 8 start (own ++ base) → IsSound 8 (now start (own ++ base))
+pub run-sound : (start : State) (own base : List Moment) → IsSound 8 (now start base) →
+    IsRun 8 start (own ++ base) → IsSound 8 (now start (own ++ base))
 run-sound start [] base S r = S
 run-sound start (m ∷ own) base S (spelled, happens, rest) =
-    events-sound 8 (length (own ++ base)) (now start (own ++ base)) (run-sound start own base S rest) (omega arith, omega arith) m.event m.outcome m.state spelled happens
+    events-sound 8 (length (own ++ base)) (now start (own ++ base)) (run-sound start own base S rest)
+    (omega arith, omega arith) m.event m.outcome m.state spelled happens
 
 steps-go : (c : State) (n : ℕ) (steps : List Moment) → AreSteps c n 1 steps → GoOn 1 steps
 steps-go c n [] h = tt
@@ -76,18 +78,22 @@ length-more : (own base : List Moment) → length base + length own ≡ length (
 length-more [] base = omega arith
 length-more (m ∷ own) base = (let h = length-more own base in omega (arith, h))
 
-happens-at : (start c : State) (base steps : List Moment) (event : Event) (outcome : Outcome) (new : State) → now start base ≡ c → Happens 8 (length base + length steps) (now c steps) event outcome new →
+happens-at : (start c : State) (base steps : List Moment) (event : Event) (outcome : Outcome) (new : State) →
+    now start base ≡ c → Happens 8 (length base + length steps) (now c steps) event outcome new →
     Happens 8 (length (steps ++ base)) (now start (steps ++ base)) event outcome new
 happens-at start c base steps event outcome new e h =
-    subst (λ w. Happens 8 (length (steps ++ base)) w event outcome new) (ap (λ v. now v steps) (sym e) ∙ sym (now-more start steps base))
+    subst (λ w. Happens 8 (length (steps ++ base)) w event outcome new)
+    (ap (λ v. now v steps) (sym e) ∙ sym (now-more start steps base))
     (subst (λ n. Happens 8 n (now c steps) event outcome new) (length-more steps base) h)
 
-steps-run : (start c : State) (base steps : List Moment) → now start base ≡ c → AreSteps c (length base) 1 steps → IsRun 8 start base → IsRun 8 start (steps ++ base)
+steps-run : (start c : State) (base steps : List Moment) → now start base ≡ c →
+    AreSteps c (length base) 1 steps → IsRun 8 start base → IsRun 8 start (steps ++ base)
 steps-run start c base [] e h r = r
 steps-run start c base (m ∷ ms) e (event, outcome, happens, rest) r = (
   subst IsSpelled (sym event) (omega arith),
   subst (λ o. Happens 8 (length (ms ++ base)) (now start (ms ++ base)) m.event o m.state) (sym outcome)
-      (subst (λ v. Happens 8 (length (ms ++ base)) (now start (ms ++ base)) v More m.state) (sym event) (happens-at start c base ms (Step 1) More m.state e happens)),
+      (subst (λ v. Happens 8 (length (ms ++ base)) (now start (ms ++ base)) v More m.state) (sym event)
+      (happens-at start c base ms (Step 1) More m.state e happens)),
   steps-run start c base ms e rest r,
 )
 
@@ -98,10 +104,13 @@ synced-tells None b is tells = absurd (false≢true tells)
 synced-tells (Some a) b is tells = ap is_some is
 
 -- a disk that was synced has one image, what it reads
-image-of-synced : (c : Cells) (b : Option Cells) (P : List ℕ → Type 0) → b ≡ Some (synced c) → P (reads c) → EachImage b P
-image-of-synced c b P is p = subst (λ d. EachImage d P) (sym is) (λ image of. subst P (sym (image-firm (reads c) image of)) p)
+image-of-synced : (c : Cells) (b : Option Cells) (P : List ℕ → Type 0) → b ≡ Some (synced c) → P (reads c) →
+    EachImage b P
+image-of-synced c b P is p =
+    subst (λ d. EachImage d P) (sym is) (λ image of. subst P (sym (image-firm (reads c) image of)) p)
 
-each-kept : (a b : Option Cells) (P : List ℕ → Type 0) → IfSome a (λ cells. EachImage b (IsImage cells)) → is_some a ≡ true → EachImage a P → EachImage b P
+each-kept : (a b : Option Cells) (P : List ℕ → Type 0) → IfSome a (λ cells. EachImage b (IsImage cells)) →
+    is_some a ≡ true → EachImage a P → EachImage b P
 each-kept None b P kept tells h = absurd (false≢true tells)
 each-kept (Some a) None P kept tells h = tt
 each-kept (Some a) (Some b) P kept tells h = λ image is. h image (kept image is)
@@ -110,21 +119,35 @@ each-kept (Some a) (Some b) P kept tells h = λ image is. h image (kept image is
 
 -- the state in which jobs are given up and these records are settled, in a journal of today
 abbrev pub settled : State → List Record → State
-settled w rs = record (given_up w) { doubt = None; records = rs; journal = rs; area = areas.A; is_switching = false }
+settled w rs = record (given_up w) {
+  doubt = None;
+  records = rs;
+  journal = rs;
+  area = areas.A;
+  is_switching = false;
+}
 
 -- the records that an image of a store stands for may be settled
 pub record Settled (w : State) (image : List ℕ) (rs : List Record) : Type 0 where
-  pub settles : (v : State) → v.doubt ≡ w.doubt → v.records ≡ w.records → v.journal ≡ w.journal → v.area ≡ w.area → Rereads v (settled v rs)
+  pub settles : (v : State) → v.doubt ≡ w.doubt → v.records ≡ w.records → v.journal ≡ w.journal →
+      v.area ≡ w.area → Rereads v (settled v rs)
   pub good : IsGood (setup_in w) image rs
   pub up : is_some (setup_of rs) ≡ true
 
--- while journals have no second version, an image of a store stands for one in which the disk holds the whole history
-whole-by : (w : State) → IsSound 8 w → is_some (setup_of w.records) ≡ true → (image : List ℕ) → StandsInState w image → IsWholeJournal w
-whole-by w S up image (inl (inl h)) = S.journal.whole (sym S.journal.alike.version ∙ version-first w.journal h.1.in_grammar)
-whole-by w S up image (inl (inr empty)) = absurd (none-up w.journal (ap is_some S.journal.alike.setup ∙ up) empty.0)
-whole-by w S up image (inr (inl D)) = S.journal.whole (sym S.journal.alike.version ∙ version-first w.journal (grammar-rest D.doubt.entry w.journal D.stands.1.in_grammar))
+-- while journals have no second version, an image of a store stands for one in which the disk holds the whole
+-- history
+whole-by : (w : State) → IsSound 8 w → is_some (setup_of w.records) ≡ true → (image : List ℕ) →
+    StandsInState w image → IsWholeJournal w
+whole-by w S up image (inl (inl h)) =
+    S.journal.whole (sym S.journal.alike.version ∙ version-first w.journal h.1.in_grammar)
+whole-by w S up image (inl (inr empty)) =
+    absurd (none-up w.journal (ap is_some S.journal.alike.setup ∙ up) empty.0)
+whole-by w S up image (inr (inl D)) = S.journal.whole
+    (sym S.journal.alike.version
+    ∙ version-first w.journal (grammar-rest D.doubt.entry w.journal D.stands.1.in_grammar))
 whole-by w S up image (inr (inr X)) =
-    absurd (let second : version_of w.journal ≡ 2 = S.journal.alike.version ∙ (S.switching X.switching).version in
+    absurd (let second : version_of w.journal ≡ 2 = S.journal.alike.version
+    ∙ (S.switching X.switching).version in
     let set = is_some-at (setup_of w.journal) (ap is_some S.journal.alike.setup ∙ up) in
     let like = (packed_are w.journal S.journal.accepted set.0 set.1 second).1 in
     let first : version_of (packed w.journal) ≡ 1 = version-first (packed w.journal) X.stands.1.in_grammar in
@@ -132,7 +155,8 @@ whole-by w S up image (inr (inr X)) =
     omega (arith, second, first, same))
 
 -- the records that an image of a store stands for may be settled, and leave it good
-pub settled-by : (w : State) → IsSound 8 w → is_some (setup_of w.records) ≡ true → (image : List ℕ) → StandsInState w image → (rs : List Record) × Settled w image rs
+pub settled-by : (w : State) → IsSound 8 w → is_some (setup_of w.records) ≡ true → (image : List ℕ) →
+    StandsInState w image → (rs : List Record) × Settled w image rs
 unfolding setup_in
 settled-by w S up image h = by_stand (stands-so w W up image h)
   where
@@ -155,7 +179,13 @@ settled-by w S up image h = by_stand (stands-so w W up image h)
             is_switching = false;
           }),
         );
-        good = record { some = none-up w.records up; accepted = S.accepted; room = (let r = S.room in let e = whole-end w W in omega (arith, r, e)); setup = refl; stands = stands };
+        good = record {
+          some = none-up w.records up;
+          accepted = S.accepted;
+          room = (let r = S.room in let e = whole-end w W in omega (arith, r, e));
+          setup = refl;
+          stands = stands;
+        };
         up = up;
       },
     )
@@ -179,12 +209,19 @@ settled-by w S up image h = by_stand (stands-so w W up image h)
                 },
               ),
             );
-            good = record { some = λ e. cc; accepted = (F.accepted, S.accepted); room = (let r = F.room in let e = whole-end w W in omega (arith, r, e)); setup = ap setup_or_none same; stands = stands };
+            good = record {
+              some = λ e. cc;
+              accepted = (F.accepted, S.accepted);
+              room = (let r = F.room in let e = whole-end w W in omega (arith, r, e));
+              setup = ap setup_or_none same;
+              stands = stands;
+            };
             up = ap is_some same ∙ up;
           },
         ))
 
-module _ (start : State) (ms : List Moment) (R : IsRun 8 start ms) (old : Seen) (S : IsStore (now start ms) old) where
+module _ (start : State) (ms : List Moment) (R : IsRun 8 start ms) (old : Seen)
+    (S : IsStore (now start ms) old) where
   abbrev w : State
   w = now start ms
 
@@ -202,7 +239,8 @@ module _ (start : State) (ms : List Moment) (R : IsRun 8 start ms) (old : Seen) 
   is-read = read-good (setup_in w) old.disk told.0 rs told.1 found.1.good
 
   once : (other : List Record) → IsRead old.disk other → other ≡ rs
-  once other read = read-once told.0 other rs (subst (λ d. IsRead d other) told.1 read) (subst (λ d. IsRead d rs) told.1 is-read)
+  once other read = read-once told.0 other rs (subst (λ d. IsRead d other) told.1 read)
+      (subst (λ d. IsRead d rs) told.1 is-read)
 
   -- the first moment
   abbrev later : Moment
@@ -214,7 +252,8 @@ module _ (start : State) (ms : List Moment) (R : IsRun 8 start ms) (old : Seen) 
   faults-at : (n : ℕ) → old.disk_faults ≤ n → w.disk_faults ≤ n
   faults-at n l = (let e = S.faults_are in omega (arith, e, l))
 
-  handed-by : (v : State) (ps : List Provider) → v.handed ≡ w.handed → v.providers ≡ w.providers → ps ≡ old.providers → AreHanded ps v
+  handed-by : (v : State) (ps : List Provider) → v.handed ≡ w.handed → v.providers ≡ w.providers →
+      ps ≡ old.providers → AreHanded ps v
   handed-by v ps count same is = subst (λ qs. AreHanded qs v) (sym is) (record {
     count = count ∙ S.handed.count;
     each = λ j below. S.handed.each j below ∙ ap (λ (f : ℕ → Provider). Some (f j)) (sym same);
@@ -224,22 +263,35 @@ module _ (start : State) (ms : List Moment) (R : IsRun 8 start ms) (old : Seen) 
   abbrev opened_at : ℕ → State
   opened_at faults = record (settled (continued w) rs) { is_open = true; disk_faults = faults }
 
-  run-opened : (faults : ℕ) → old.disk_faults ≤ faults → (setup_in_effect rs).n ≤ length old.providers → IsRun 8 start (moment Reopen Opened (opened_at faults) ∷ later ∷ ms)
+  run-opened : (faults : ℕ) → old.disk_faults ≤ faults → (setup_in_effect rs).n ≤ length old.providers →
+      IsRun 8 start (moment Reopen Opened (opened_at faults) ∷ later ∷ ms)
   unfolding setup_in
   run-opened faults l enough = (
     tt,
-    (settled (continued w) rs, found.1.settles (continued w) refl refl refl refl, found.1.up, (let e = S.handed.count in omega (arith, e, enough)), (faults, faults-at faults l, refl)),
+    (
+      settled (continued w) rs,
+      found.1.settles (continued w) refl refl refl refl,
+      found.1.up,
+      (let e = S.handed.count in omega (arith, e, enough)),
+      (faults, faults-at faults l, refl),
+    ),
     run-later,
   )
 
-  stands-synced : (d : Option Cells) (v : State) → d ≡ option_map synced old.disk → v.journal ≡ rs → v.area ≡ areas.A → StandsForState d v
-  stands-synced d v is journal area = image-of-synced told.0 d (StandsInState v) (is ∙ ap (option_map synced) told.1)
+  stands-synced : (d : Option Cells) (v : State) → d ≡ option_map synced old.disk → v.journal ≡ rs →
+      v.area ≡ areas.A → StandsForState d v
+  stands-synced d v is journal area =
+      image-of-synced told.0 d (StandsInState v) (is ∙ ap (option_map synced) told.1)
       (inl (inl (area, subst (λ l. StandsFor (reads told.0) l) (sym journal) found.1.good.stands)))
 
-  sound-opened : (faults : ℕ) → old.disk_faults ≤ faults → (setup_in_effect rs).n ≤ length old.providers → IsSound 8 (opened_at faults)
-  sound-opened faults l enough = run-sound start (moment Reopen Opened (opened_at faults) ∷ later ∷ []) ms S.sound (run-opened faults l enough)
+  sound-opened : (faults : ℕ) → old.disk_faults ≤ faults → (setup_in_effect rs).n ≤ length old.providers →
+      IsSound 8 (opened_at faults)
+  sound-opened faults l enough =
+      run-sound start (moment Reopen Opened (opened_at faults) ∷ later ∷ []) ms S.sound
+      (run-opened faults l enough)
 
-  over : (faults : ℕ) → old.disk_faults ≤ faults → (setup_in_effect rs).n ≤ length old.providers → IsOpenedOver (opened_at faults) rs faults old.providers
+  over : (faults : ℕ) → old.disk_faults ≤ faults → (setup_in_effect rs).n ≤ length old.providers →
+      IsOpenedOver (opened_at faults) rs faults old.providers
   over faults l enough = record {
     records = refl;
     whole = record { journal = refl; area = refl; unswitched = refl };
@@ -260,7 +312,8 @@ module _ (start : State) (ms : List Moment) (R : IsRun 8 start ms) (old : Seen) 
   module _ (command : Command) (new : Seen) (end : Ending) (counts : NoCountFalls old new) where
     -- the moments of the command go on with the run
     abbrev GoesOn : Type 0
-    GoesOn = (own : List Moment) × IsCall command old new end w own × IsRun 8 start (own ++ ms) × IsStore (now start (own ++ ms)) new
+    GoesOn = (own : List Moment) × IsCall command old new end w own × IsRun 8 start (own ++ ms) ×
+        IsStore (now start (own ++ ms)) new
 
     refused-tells : (status at : ℕ) → IsRefused status at old new end → is_some new.disk ≡ true
     refused-tells status at r = (read-kept old.disk new.disk rs r.disk S.tells is-read).0
@@ -269,16 +322,22 @@ module _ (start : State) (ms : List Moment) (R : IsRun 8 start ms) (old : Seen) 
     abbrev closed_at : ℕ → State
     closed_at faults = record (given_up (continued w)) { disk_faults = faults }
 
-    stands-kept : (status at : ℕ) → IsRefused status at old new end → StandsForState new.disk (closed_at new.disk_faults)
-    stands-kept status at r = each-kept old.disk new.disk _ (refused-keeps status at old new end r) S.tells (each_image-mono old.disk _ _ again S.images)
+    stands-kept : (status at : ℕ) → IsRefused status at old new end →
+        StandsForState new.disk (closed_at new.disk_faults)
+    stands-kept status at r = each-kept old.disk new.disk _ (refused-keeps status at old new end r) S.tells
+        (each_image-mono old.disk _ _ again S.images)
       where
         again : (image : List ℕ) → StandsInState w image → StandsInState (closed_at new.disk_faults) image
         again image (inl h) = inl h
-        again image (inr (inl D)) = inr (inl (record { doubt = D.doubt; in_doubt = D.in_doubt; stands = D.stands }))
+        again image (inr (inl D)) =
+            inr (inl (record { doubt = D.doubt; in_doubt = D.in_doubt; stands = D.stands }))
         again image (inr (inr X)) = inr (inr (record { switching = X.switching; stands = X.stands }))
 
-    closed-on : (status at : ℕ) (why : Refusal) → IsRefused status at old new end → Happens 8 (length (later ∷ ms)) (continued w) Reopen (Refused why) (closed_at new.disk_faults) → GoesOn
-    closed-on status at why r happens = (let m : Moment = moment Reopen (Refused why) (closed_at new.disk_faults) in
+    closed-on : (status at : ℕ) (why : Refusal) → IsRefused status at old new end →
+        Happens 8 (length (later ∷ ms)) (continued w) Reopen (Refused why) (closed_at new.disk_faults) →
+        GoesOn
+    closed-on status at why r happens =
+        (let m : Moment = moment Reopen (Refused why) (closed_at new.disk_faults) in
         let run : IsRun 8 start (m ∷ later ∷ ms) = (tt, happens, run-later) in (
           m ∷ later ∷ [],
           IsCall.unopened (continued w) (closed_at new.disk_faults) why refl r.heard,
@@ -294,18 +353,28 @@ module _ (start : State) (ms : List Moment) (R : IsRun 8 start ms) (old : Seen) 
         ))
 
     memory-on : (at : ℕ) → IsRefused 70 at old new end → GoesOn
-    memory-on at r = closed-on 70 at refusal.Memory r (new.disk_faults, faults-at new.disk_faults counts.disk, refl)
+    memory-on at r = closed-on 70 at refusal.Memory r
+        (new.disk_faults, faults-at new.disk_faults counts.disk, refl)
 
     -- too few providers are handed in
-    few-on : (other : List Record) → IsRead old.disk other → length old.providers < (setup_in_effect other).n → IsSynced old new → IsRefused 22 0 old new end → GoesOn
+    few-on : (other : List Record) → IsRead old.disk other →
+        length old.providers < (setup_in_effect other).n → IsSynced old new → IsRefused 22 0 old new end →
+        GoesOn
     unfolding setup_in
     few-on other read few sync r =
         (let v : State = record (settled (continued w) rs) { disk_faults = new.disk_faults } in
         let m : Moment = moment Reopen (Refused refusal.TooFewProviders) v in
-        let fewer : length old.providers < (setup_in_effect rs).n = subst (λ l. length old.providers < (setup_in_effect l).n) (once other read) few in
+        let fewer : length old.providers < (setup_in_effect rs).n =
+        subst (λ l. length old.providers < (setup_in_effect l).n) (once other read) few in
         let run : IsRun 8 start (m ∷ later ∷ ms) = (
           tt,
-          (settled (continued w) rs, found.1.settles (continued w) refl refl refl refl, found.1.up, (let e = S.handed.count in omega (arith, e, fewer)), (new.disk_faults, faults-at new.disk_faults counts.disk, refl)),
+          (
+            settled (continued w) rs,
+            found.1.settles (continued w) refl refl refl refl,
+            found.1.up,
+            (let e = S.handed.count in omega (arith, e, fewer)),
+            (new.disk_faults, faults-at new.disk_faults counts.disk, refl),
+          ),
           run-later,
         ) in (
           m ∷ later ∷ [],
@@ -322,11 +391,19 @@ module _ (start : State) (ms : List Moment) (R : IsRun 8 start ms) (old : Seen) 
         ))
 
     unstarted-on : Unstarted old new end → GoesOn
-    unstarted-on (Unstarted.disk_fault rose r) = closed-on 12 0 refusal.DiskFault r
-        (new.disk_faults, faults-at new.disk_faults counts.disk, subst (λ n. Rose n new.disk_faults) (sym S.faults_are) rose, refl)
-    unstarted-on (Unstarted.not_set_up is r) = absurd (read-set_up told.0 rs (subst (λ d. IsRead d rs) told.1 is-read) (subst (λ d. IfSome d (λ cells. HasNoSetup (journal_read cells))) told.1 is))
-    unstarted-on (Unstarted.bad_journal at is r) = absurd (let bad : (9 < length (journal_read told.0)) × IsBadStart (journal_read told.0) at =
-        subst (λ d. IfSome d (λ cells. (9 < length (journal_read cells)) × IsBadStart (journal_read cells) at)) told.1 is in
+    unstarted-on (Unstarted.disk_fault rose r) = closed-on 12 0 refusal.DiskFault r (
+      new.disk_faults,
+      faults-at new.disk_faults counts.disk,
+      subst (λ n. Rose n new.disk_faults) (sym S.faults_are) rose,
+      refl,
+    )
+    unstarted-on (Unstarted.not_set_up is r) = absurd
+        (read-set_up told.0 rs (subst (λ d. IsRead d rs) told.1 is-read)
+        (subst (λ d. IfSome d (λ cells. HasNoSetup (journal_read cells))) told.1 is))
+    unstarted-on (Unstarted.bad_journal at is r) =
+        absurd (let bad : (9 < length (journal_read told.0)) × IsBadStart (journal_read told.0) at =
+        subst (λ d. IfSome d (λ cells. (9 < length (journal_read cells)) ×
+        IsBadStart (journal_read cells) at)) told.1 is in
         read-never-bad told.0 at rs (subst (λ d. IsRead d rs) told.1 is-read) bad.1)
     unstarted-on (Unstarted.too_few_providers other read few sync r) = few-on other read few sync r
     unstarted-on (Unstarted.no_memory r) = memory-on 0 r
@@ -350,7 +427,8 @@ module _ (start : State) (ms : List Moment) (R : IsRun 8 start ms) (old : Seen) 
         handed = handed-by opened new.providers refl refl same;
       }
 
-      opened-on : (status at : ℕ) → (end.status ≡ 14) ⊎ (end.status ≡ 70) → IsSynced old new → IsRefused status at old new end → GoesOn
+      opened-on : (status at : ℕ) → (end.status ≡ 14) ⊎ (end.status ≡ 70) → IsSynced old new →
+          IsRefused status at old new end → GoesOn
       opened-on status at why sync r = (
         reopened ∷ later ∷ [],
         IsCall.opened (continued w) opened refl why r.heard,
@@ -358,7 +436,8 @@ module _ (start : State) (ms : List Moment) (R : IsRun 8 start ms) (old : Seen) 
         store-opened sync r.providers,
       )
 
-      listed-on : command ≡ ListAll → end.heard ≡ [] → IsSynced old new → new.providers ≡ old.providers → GoesOn
+      listed-on : command ≡ ListAll → end.heard ≡ [] → IsSynced old new → new.providers ≡ old.providers →
+          GoesOn
       listed-on is heard sync same = (
         moment Names (Listed (files_of rs)) opened ∷ reopened ∷ later ∷ [],
         IsCall.listed (continued w) opened opened is refl heard,
@@ -367,7 +446,9 @@ module _ (start : State) (ms : List Moment) (R : IsRun 8 start ms) (old : Seen) 
       )
 
       module _ (kind : Kind) (is_job : RunsKind command old new kind) where
-        refused-on : (status at : ℕ) (why : Refusal) → IsSpelledKind kind → (refusal_over rs kind ≡ Some why) ⊎ (why ≡ refusal.Memory) → end.status ≡ status_of why → IsSynced old new → IsRefused status at old new end → GoesOn
+        refused-on : (status at : ℕ) (why : Refusal) → IsSpelledKind kind →
+            (refusal_over rs kind ≡ Some why) ⊎ (why ≡ refusal.Memory) → end.status ≡ status_of why →
+            IsSynced old new → IsRefused status at old new end → GoesOn
         refused-on status at why spelled cause status_is sync r = (
           moment (Begin kind) (Refused why) opened ∷ reopened ∷ later ∷ [],
           IsCall.refused kind (continued w) opened opened why is_job refl status_is r.heard,
@@ -375,11 +456,15 @@ module _ (start : State) (ms : List Moment) (R : IsRun 8 start ms) (old : Seen) 
           store-opened sync r.providers,
         )
           where
-            by_cause : (refusal_over rs kind ≡ Some why) ⊎ (why ≡ refusal.Memory) → (begin_refusal 8 opened kind ≡ Some why) ⊎ (why ≡ refusal.Memory)
-            by_cause (inl e) = inl (refusal-of opened kind refl refl refl (record { journal = refl; area = refl; unswitched = refl }) ∙ e)
+            by_cause : (refusal_over rs kind ≡ Some why) ⊎ (why ≡ refusal.Memory) →
+                (begin_refusal 8 opened kind ≡ Some why) ⊎ (why ≡ refusal.Memory)
+            by_cause (inl e) = inl
+                (refusal-of opened kind refl refl refl
+                (record { journal = refl; area = refl; unswitched = refl }) ∙ e)
             by_cause (inr e) = inr e
 
-        ended-on : (how : Answer) → IsSpelledKind kind → RunsAlone rs kind how old new end.heard → EndsByAnswer (text_of (setup_in_effect rs).tolerance kind how) how old new end → GoesOn
+        ended-on : (how : Answer) → IsSpelledKind kind → RunsAlone rs kind how old new end.heard →
+            EndsByAnswer (text_of (setup_in_effect rs).tolerance kind how) how old new end → GoesOn
         unfolding setup_in
         ended-on how spelled A by =
             (let v : State = opened_at A.faults in
@@ -387,24 +472,35 @@ module _ (start : State) (ms : List Moment) (R : IsRun 8 start ms) (old : Seen) 
             let n : ℕ = length (two ∷ later ∷ ms) in
             let V : IsOpenedOver v rs A.faults old.providers = over A.faults A.before enough in
             let ran : RanAlone rs kind how old new end.heard A.faults v n = A.ran v n V in
-            let L = last-state v ran.last n kind how end.heard (over-opened v old rs A.faults (record { read = is-read; enough = enough }) V) spelled ran.runs in
+            let L = last-state v ran.last n kind how end.heard
+            (over-opened v old rs A.faults (record { read = is-read; enough = enough }) V) spelled ran.runs in
             let c : State = ran.runs.begun in
             let job_is : ran.runs.job ≡ 1 = ran.runs.begins.2 in
             let three : Moment = moment (Begin kind) (Begun 1) c in
-            let begun : IsRun 8 start (three ∷ two ∷ later ∷ ms) = (spelled, subst (λ j. Begins 8 n v kind (Begun j) c) job_is ran.runs.begins, run-opened A.faults A.before enough) in
-            let g : GoesOnTo c (n + 1) 1 how end.heard ran.last = subst (λ j. GoesOnTo c (n + 1) j how end.heard ran.last) job_is ran.runs.goes_on in
+            let begun : IsRun 8 start (three ∷ two ∷ later ∷ ms) = (
+              spelled,
+              subst (λ j. Begins 8 n v kind (Begun j) c) job_is ran.runs.begins,
+              run-opened A.faults A.before enough,
+            ) in
+            let g : GoesOnTo c (n + 1) 1 how end.heard ran.last =
+            subst (λ j. GoesOnTo c (n + 1) j how end.heard ran.last) job_is ran.runs.goes_on in
             let at : n + 1 ≡ length (three ∷ two ∷ later ∷ ms) = omega arith in
             let stepped : IsRun 8 start (g.steps ++ three ∷ two ∷ later ∷ ms) =
-            steps-run start c (three ∷ two ∷ later ∷ ms) g.steps refl (subst (λ k. AreSteps c k 1 g.steps) at g.are_steps) begun in
+            steps-run start c (three ∷ two ∷ later ∷ ms) g.steps refl
+            (subst (λ k. AreSteps c k 1 g.steps) at g.are_steps) begun in
             let four : Moment = moment (Step 1) (Ended how) ran.last in
             let ended : IsRun 8 start (four ∷ (g.steps ++ three ∷ two ∷ later ∷ ms)) = (
               omega arith,
-              happens-at start c (three ∷ two ∷ later ∷ ms) g.steps (Step 1) (Ended how) ran.last refl (subst (λ k. Happens 8 (k + length g.steps) (now c g.steps) (Step 1) (Ended how) ran.last) at g.ends),
+              happens-at start c (three ∷ two ∷ later ∷ ms) g.steps (Step 1) (Ended how) ran.last refl
+                  (subst (λ k. Happens 8 (k + length g.steps) (now c g.steps) (Step 1)
+                  (Ended how) ran.last) at g.ends),
               stepped,
             ) in (
               four ∷ (g.steps ++ three ∷ two ∷ later ∷ []),
-              IsCall.ended kind (continued w) v c ran.last g.steps how is_job (steps-go c (n + 1) g.steps g.are_steps) refl by g.heard_is,
-              subst (λ l. IsRun 8 start (four ∷ l)) (sym (append_assoc g.steps (three ∷ two ∷ later ∷ []) ms)) ended,
+              IsCall.ended kind (continued w) v c ran.last g.steps how is_job
+                  (steps-go c (n + 1) g.steps g.are_steps) refl by g.heard_is,
+              subst (λ l. IsRun 8 start (four ∷ l)) (sym (append_assoc g.steps (three ∷ two ∷ later ∷ []) ms))
+                  ended,
               record {
                 sound = L.sound;
                 set_up = L.up;
@@ -417,38 +513,53 @@ module _ (start : State) (ms : List Moment) (R : IsRun 8 start ms) (old : Seen) 
 
         -- the words of a begin are bytes, also where it is refused
         job-on : IsSpelledKind kind → AnswersJob kind rs old new end → GoesOn
-        job-on spelled (AnswersJob.refused why is sync r) = refused-on (status_of why) 0 why spelled (inl is) r.status_is sync r
-        job-on spelled (AnswersJob.no_memory sync r) = refused-on 70 0 refusal.Memory spelled (inr refl) r.status_is sync r
+        job-on spelled (AnswersJob.refused why is sync r) =
+            refused-on (status_of why) 0 why spelled (inl is) r.status_is sync r
+        job-on spelled (AnswersJob.no_memory sync r) =
+            refused-on 70 0 refusal.Memory spelled (inr refl) r.status_is sync r
         job-on spelled (AnswersJob.ended how none runs left by) = ended-on how spelled runs by
 
     enough-of : (other : List Record) → IsOpened old other → (setup_in_effect rs).n ≤ length old.providers
     enough-of other O = subst (λ l. (setup_in_effect l).n ≤ length old.providers) (once other O.read) O.enough
 
-    alone-on : (kind : Kind) → RunsKind command old new kind → IsSpelledKind kind → AnswersAlone kind old new end → GoesOn
+    alone-on : (kind : Kind) → RunsKind command old new kind → IsSpelledKind kind →
+        AnswersAlone kind old new end → GoesOn
     alone-on kind is spelled (AnswersAlone.unstarted u) = unstarted-on u
-    alone-on kind is spelled (AnswersAlone.begun other O A) = job-on (enough-of other O) kind is spelled (subst (λ l. AnswersJob kind l old new end) (once other O.read) A)
+    alone-on kind is spelled (AnswersAlone.begun other O A) =
+        job-on (enough-of other O) kind is spelled
+        (subst (λ l. AnswersJob kind l old new end) (once other O.read) A)
 
     list-on : command ≡ ListAll → AnswersList old new end → GoesOn
     list-on is (AnswersList.unstarted u) = unstarted-on u
     list-on is (AnswersList.no_memory r) = memory-on 0 r
     list-on is (AnswersList.listed other O L) = listed-on (enough-of other O) is L.heard L.disk L.providers
 
-  put-on : (name : List ℕ) (new : Seen) (end : Ending) (counts : NoCountFalls old new) → IsSpelledCommand (PutUnder name) → AnswersPut name old new end → GoesOn (PutUnder name) new end counts
-  put-on name new end counts spelled (AnswersPut.unstarted u same) = unstarted-on (PutUnder name) new end counts u
+  put-on : (name : List ℕ) (new : Seen) (end : Ending) (counts : NoCountFalls old new) →
+      IsSpelledCommand (PutUnder name) → AnswersPut name old new end → GoesOn (PutUnder name) new end counts
+  put-on name new end counts spelled (AnswersPut.unstarted u same) =
+      unstarted-on (PutUnder name) new end counts u
   put-on name new end counts spelled (AnswersPut.source_fault other O rose sync taken r) =
-      opened-on (PutUnder name) new end counts (enough-of (PutUnder name) new end counts other O) 14 0 (inl r.status_is) sync r
-  put-on name new end counts spelled (AnswersPut.no_memory taken r) = memory-on (PutUnder name) new end counts 0 r
+      opened-on (PutUnder name) new end counts (enough-of (PutUnder name) new end counts other O) 14 0
+      (inl r.status_is) sync r
+  put-on name new end counts spelled (AnswersPut.no_memory taken r) =
+      memory-on (PutUnder name) new end counts 0 r
   put-on name new end counts spelled (AnswersPut.begun other bytes O read A) =
-      job-on (PutUnder name) new end counts (enough-of (PutUnder name) new end counts other O) (PutJob name bytes) (bytes, read, refl) (spelled, read.are_bytes)
+      job-on (PutUnder name) new end counts (enough-of (PutUnder name) new end counts other O)
+      (PutJob name bytes) (bytes, read, refl) (spelled, read.are_bytes)
       (subst (λ l. AnswersJob (PutJob name bytes) l old new end) (once other O.read) A)
 
   -- a command over a store that a run left goes on with that run
-  pub command-on : (command : Command) (new : Seen) (end : Ending) (counts : NoCountFalls old new) → opens_store command ≡ true → IsSpelledCommand command → Answers command old new end → GoesOn command new end counts
+  pub command-on : (command : Command) (new : Seen) (end : Ending) (counts : NoCountFalls old new) →
+      opens_store command ≡ true → IsSpelledCommand command → Answers command old new end →
+      GoesOn command new end counts
   command-on (RowOf n l b seen) new end counts opens spelled A = absurd (false≢true opens)
   command-on (InitWith numbers) new end counts opens spelled A = absurd (false≢true opens)
   command-on (PutUnder name) new end counts opens spelled A = put-on name new end counts spelled A
-  command-on (GetOf name) new end counts opens spelled A = alone-on (GetOf name) new end counts (GetJob name) refl spelled A.0
-  command-on (DropOf name) new end counts opens spelled A = alone-on (DropOf name) new end counts (DropJob name) refl spelled A.0
+  command-on (GetOf name) new end counts opens spelled A =
+      alone-on (GetOf name) new end counts (GetJob name) refl spelled A.0
+  command-on (DropOf name) new end counts opens spelled A =
+      alone-on (DropOf name) new end counts (DropJob name) refl spelled A.0
   command-on ListAll new end counts opens spelled A = list-on ListAll new end counts refl A.0
   command-on AuditAll new end counts opens spelled A = alone-on AuditAll new end counts AuditJob refl tt A.0
-  command-on RepairDue new end counts opens spelled A = alone-on RepairDue new end counts RepairJob refl tt A.0
+  command-on RepairDue new end counts opens spelled A =
+      alone-on RepairDue new end counts RepairJob refl tt A.0

@@ -39,7 +39,8 @@ use Rattle.command_laws.proofs.JobEnds.{unstarted-refused}
 -- ---- images of a disk that was synced
 
 image-synced : (cells : Cells) (image : List ℕ) → IsImage (synced cells) image → IsImage cells image
-image-synced cells image is = subst (IsImage cells) (sym (image-firm (reads cells) image is)) (IsImage-reads cells)
+image-synced cells image is =
+    subst (IsImage cells) (sym (image-firm (reads cells) image is)) (IsImage-reads cells)
 
 -- each image was one before
 abbrev Keeps : Option Cells → Option Cells → Type 0
@@ -53,19 +54,23 @@ keeps-resynced (Some old) (Some new) g = image-resynced old new g
 
 keeps-synced : (old new : Option Cells) → new ≡ option_map synced old → Keeps old new
 keeps-synced None new is = tt
-keeps-synced (Some old) new is = subst (λ (d : Option Cells). EachImage d (IsImage old)) (sym is) (image-synced old)
+keeps-synced (Some old) new is =
+    subst (λ (d : Option Cells). EachImage d (IsImage old)) (sym is) (image-synced old)
 
 -- a disk that is as before has only images that it had before
 pub keeps-same : (old new : Option Cells) → new ≡ old → Keeps old new
 keeps-same None new is = tt
-keeps-same (Some old) new is = subst (λ (d : Option Cells). EachImage d (IsImage old)) (sym is) (λ image of. of)
+keeps-same (Some old) new is =
+    subst (λ (d : Option Cells). EachImage d (IsImage old)) (sym is) (λ image of. of)
 
 -- after a refusal the disk has only images that it had before
-pub refused-keeps : (status at : ℕ) (old new : Seen) (end : Ending) → IsRefused status at old new end → KeepsImages old new
+pub refused-keeps : (status at : ℕ) (old new : Seen) (end : Ending) → IsRefused status at old new end →
+    KeepsImages old new
 refused-keeps status at old new end r = keeps-resynced old.disk new.disk r.disk
 
 unstarted-keeps : (old new : Seen) (end : Ending) → Unstarted old new end → KeepsImages old new
-unstarted-keeps old new end u = (let r = unstarted-refused old new end u in refused-keeps r.0 r.1 old new end r.3)
+unstarted-keeps old new end u =
+    (let r = unstarted-refused old new end u in refused-keeps r.0 r.1 old new end r.3)
 
 -- ---- the records that a job wrote
 
@@ -73,81 +78,127 @@ unstarted-keeps old new end u = (let r = unstarted-refused old new end u in refu
 record Came (x : Ran) (own : List Record) : Type 0 where
   count : ℕ
   after : x.after ≡ reverse (take count own) ++ x.records
-  doubt : (x.doubt ≡ None) ⊎ ((next : Record) × (x.doubt ≡ Some next) × (next ∷ x.after ≡ reverse (take (suc count) own) ++ x.records))
+  doubt : (x.doubt ≡ None) ⊎
+      ((next : Record) × (x.doubt ≡ Some next) ×
+      (next ∷ x.after ≡ reverse (take (suc count) own) ++ x.records))
 
 came-some : (x : Ran) (own : List Record) (count : ℕ) → IsWhole x (take count own) → Came x own
 came-some x own count W = record { count = count; after = W.after; doubt = inl W.sure }
 
 came-whole : (x : Ran) (own : List Record) → IsWhole x own → Came x own
-came-whole x own W = record { count = length own; after = W.after ∙ ap (λ (l : List Record). reverse l ++ x.records) (sym (take-length own)); doubt = inl W.sure }
+came-whole x own W = record {
+  count = length own;
+  after = W.after
+      ∙ ap (λ (l : List Record). reverse l ++ x.records) (sym (take-length own));
+  doubt = inl W.sure;
+}
 
 came-cut : (x : Ran) (own : List Record) → IsCut x own → Came x own
 came-cut x own C = record {
   count = length C.done;
-  after = C.after ∙ ap (λ (l : List Record). reverse l ++ x.records) (sym (ap (take (length C.done)) C.parts ∙ take-append_seam C.done (C.next ∷ C.rest)));
+  after = C.after ∙ ap (λ (l : List Record). reverse l ++ x.records)
+      (sym (ap (take (length C.done)) C.parts ∙ take-append_seam C.done (C.next ∷ C.rest)));
   doubt = inl C.sure;
 }
 
 came-doubt : (x : Ran) (own : List Record) → IsCutInDoubt x own → Came x own
 came-doubt x own C = record {
   count = length C.done;
-  after = C.after ∙ ap (λ (l : List Record). reverse l ++ x.records) (sym (ap (take (length C.done)) C.parts ∙ take-append_seam C.done (C.next ∷ C.rest)));
+  after = C.after ∙ ap (λ (l : List Record). reverse l ++ x.records)
+      (sym (ap (take (length C.done)) C.parts ∙ take-append_seam C.done (C.next ∷ C.rest)));
   doubt = elim C.doubt [ inl sure ↦ inl sure | inr is ↦ inr (C.next, is, more) ];
 }
   where
     one : take (suc (length C.done)) own ≡ C.done ++ C.next ∷ []
-    one = ap (take (suc (length C.done))) C.parts ∙ (ap (λ n. take n (C.done ++ C.next ∷ C.rest)) (let e : suc (length C.done) ≡ length C.done + 1 = omega arith in e) ∙ take-append-add C.done (C.next ∷ C.rest) 1)
+    one = ap (take (suc (length C.done))) C.parts
+        ∙ (ap (λ n. take n (C.done ++ C.next ∷ C.rest))
+        (let e : suc (length C.done) ≡ length C.done + 1 = omega arith in e)
+        ∙ take-append-add C.done (C.next ∷ C.rest) 1)
 
     more : C.next ∷ x.after ≡ reverse (take (suc (length C.done)) own) ++ x.records
-    more = ap (λ (l : List Record). C.next ∷ l) C.after ∙ (ap (λ (l : List Record). l ++ x.records) (sym (reverse-append C.done (C.next ∷ []))) ∙ ap (λ (l : List Record). reverse l ++ x.records) (sym one))
+    more = ap (λ (l : List Record). C.next ∷ l) C.after
+        ∙ (ap (λ (l : List Record). l ++ x.records) (sym (reverse-append C.done (C.next ∷ [])))
+        ∙ ap (λ (l : List Record). reverse l ++ x.records) (sym one))
 
-came-put : (x : Ran) (name bytes : List ℕ) → PutIsCut x name bytes → Came x (put_records x.records name (length bytes))
+came-put : (x : Ran) (name bytes : List ℕ) → PutIsCut x name bytes →
+    Came x (put_records x.records name (length bytes))
 came-put x name bytes (PutIsCut.at_start after doubt held) = record {
   count = 0;
   after = after;
-  doubt = elim doubt [ inl sure ↦ inl sure | inr is ↦ inr (_, is, ap (λ (l : List Record). PutStart (next_id x.records) name ∷ l) after) ];
+  doubt = elim doubt [
+    | inl sure ↦ inl sure
+    | inr is ↦
+        inr (_, is, ap (λ (l : List Record). PutStart (next_id x.records) name ∷ l) after)
+  ];
 }
 came-put x name bytes (PutIsCut.at_done after doubt stored) = record {
   count = 1;
   after = after;
-  doubt = elim doubt [ inl sure ↦ inl sure | inr is ↦ inr (_, is, ap (λ (l : List Record). PutDone (next_id x.records) (length bytes) ∷ l) after) ];
+  doubt = elim doubt [
+    | inl sure ↦ inl sure
+    | inr is ↦
+        inr (_, is, ap (λ (l : List Record). PutDone (next_id x.records) (length bytes) ∷ l) after)
+  ];
 }
 
 -- those of its kind
 abbrev Wrote : Ran → Kind → Type 0
 Wrote x kind = (own : List Record) × AreAppended x.records kind own × Came x own
 
-audit-wrote : (x : Ran) (undecided : ℕ) (counts : List ℕ) → Came x (audit_records x.records undecided counts) → Wrote x AuditJob
+audit-wrote : (x : Ran) (undecided : ℕ) (counts : List ℕ) →
+    Came x (audit_records x.records undecided counts) → Wrote x AuditJob
 audit-wrote x undecided counts C = (audit_records x.records undecided counts, (undecided, counts, refl), C)
 
 cut-wrote : (x : Ran) → AuditIsCut x → Wrote x AuditJob
 cut-wrote x (AuditIsCut.at_start after doubt none) = audit-wrote x 0 [] (record {
   count = 0;
   after = after;
-  doubt = elim doubt [ inl sure ↦ inl sure | inr is ↦ inr (_, is, ap (λ (l : List Record). AuditStart (next_audit x.records) ∷ l) after) ];
+  doubt = elim doubt [
+    | inl sure ↦ inl sure
+    | inr is ↦
+        inr (_, is, ap (λ (l : List Record). AuditStart (next_audit x.records) ∷ l) after)
+  ];
 })
-cut-wrote x (AuditIsCut.before_done after sure hears) = audit-wrote x 0 [] (record { count = 1; after = after; doubt = inl sure })
+cut-wrote x (AuditIsCut.before_done after sure hears) =
+    audit-wrote x 0 [] (record { count = 1; after = after; doubt = inl sure })
 cut-wrote x (AuditIsCut.at_done undecided counts after is hears counted) =
-    audit-wrote x undecided counts (record { count = 1; after = after; doubt = inr (_, is, ap (λ (l : List Record). AuditDone (next_audit x.records) undecided counts ∷ l) after) })
+    audit-wrote x undecided counts
+    (record {
+      count = 1;
+      after = after;
+      doubt = inr (
+        _,
+        is,
+        ap
+            (λ (l : List Record). AuditDone (next_audit x.records) undecided counts ∷ l) after,
+      );
+    })
 
 wrote-by : (x : Ran) (kind : Kind) (how : Answer) → LeavesBy x kind how → Wrote x kind
-wrote-by x (PutJob name bytes) answer.Put L = (put_records x.records name (length bytes), refl, came-whole x _ L.0.0)
-wrote-by x (PutJob name bytes) (answer.ProviderFault j) L = (put_records x.records name (length bytes), refl, came-some x _ 1 L.0.2)
-wrote-by x (PutJob name bytes) answer.DiskFault L = (put_records x.records name (length bytes), refl, came-put x name bytes L.0.1)
-wrote-by x (PutJob name bytes) answer.Memory L = (put_records x.records name (length bytes), refl, came-cut x _ L.0.0)
+wrote-by x (PutJob name bytes) answer.Put L =
+    (put_records x.records name (length bytes), refl, came-whole x _ L.0.0)
+wrote-by x (PutJob name bytes) (answer.ProviderFault j) L =
+    (put_records x.records name (length bytes), refl, came-some x _ 1 L.0.2)
+wrote-by x (PutJob name bytes) answer.DiskFault L =
+    (put_records x.records name (length bytes), refl, came-put x name bytes L.0.1)
+wrote-by x (PutJob name bytes) answer.Memory L =
+    (put_records x.records name (length bytes), refl, came-cut x _ L.0.0)
 wrote-by x (PutJob name bytes) how L = absurd L.0
 wrote-by x (GetJob name) how L = ([], refl, record { count = 0; after = L.records; doubt = inl L.sure })
 wrote-by x (DropJob name) answer.Dropped L = (_, refl, came-whole x _ L.0.0)
 wrote-by x (DropJob name) answer.DiskFault L = (_, refl, came-doubt x _ L.0.1)
 wrote-by x (DropJob name) answer.Memory L = (_, refl, came-cut x _ L.0.0)
 wrote-by x (DropJob name) how L = absurd L.0
-wrote-by x AuditJob (answer.Audited number undecided counts) L = audit-wrote x undecided counts (came-whole x _ L.gives.1)
+wrote-by x AuditJob (answer.Audited number undecided counts) L =
+    audit-wrote x undecided counts (came-whole x _ L.gives.1)
 wrote-by x AuditJob answer.DiskFault L = cut-wrote x L.gives.1
 wrote-by x AuditJob answer.Memory L = audit-wrote x L.gives.0 L.gives.1 (came-cut x _ L.gives.2)
 wrote-by x AuditJob how L = absurd L.gives
 wrote-by x RepairJob (answer.Repaired number) L = (_, (L.0.due, L.0.is_due, refl), came-whole x _ L.0.gives.1)
-wrote-by x RepairJob (answer.Lost stripe row) L = (_, (L.0.due, L.0.is_due, refl), came-some x _ 0 L.0.gives.0)
-wrote-by x RepairJob (answer.ProviderFault j) L = (_, (L.0.due, L.0.is_due, refl), came-some x _ 0 L.0.gives.3)
+wrote-by x RepairJob (answer.Lost stripe row) L =
+    (_, (L.0.due, L.0.is_due, refl), came-some x _ 0 L.0.gives.0)
+wrote-by x RepairJob (answer.ProviderFault j) L =
+    (_, (L.0.due, L.0.is_due, refl), came-some x _ 0 L.0.gives.3)
 wrote-by x RepairJob answer.DiskFault L = (_, (L.0.due, L.0.is_due, refl), came-doubt x _ L.0.gives.1)
 wrote-by x RepairJob answer.Memory L = (_, (L.0.due, L.0.is_due, refl), came-cut x _ L.0.gives.0)
 wrote-by x RepairJob how L = absurd L.0.gives
@@ -161,48 +212,67 @@ none-behind [] b e = e
 none-behind (r ∷ a) b e = absurd (let f : r ∷ (a ++ b) ≡ [] = e in cc)
 
 image-after : (x : Ran) (kind : Kind) → x.records ≢ [] → Wrote x kind → (image : List ℕ) →
-    StandsOrIsEmpty image x.after ⊎ IsSomeAnd x.doubt (λ entry. StandsFor image (entry ∷ x.after)) → IsAfter x.records kind image
-image-after x kind some W image (inl (inl stands)) = record { own = W.0; are_own = W.1; count = W.2.count; stands = subst (StandsFor image) W.2.after stands }
-image-after x kind some W image (inl (inr empty)) = absurd (some (none-behind (reverse (take W.2.count W.0)) x.records (sym W.2.after ∙ empty.0)))
+    StandsOrIsEmpty image x.after ⊎ IsSomeAnd x.doubt (λ entry. StandsFor image (entry ∷ x.after)) →
+    IsAfter x.records kind image
+image-after x kind some W image (inl (inl stands)) =
+    record { own = W.0; are_own = W.1; count = W.2.count; stands = subst (StandsFor image) W.2.after stands }
+image-after x kind some W image (inl (inr empty)) =
+    absurd (some (none-behind (reverse (take W.2.count W.0)) x.records (sym W.2.after ∙ empty.0)))
 image-after x kind some W image (inr entry) = elim W.2.doubt [
   | inl sure ↦ absurd (subst (λ d. IsSomeAnd d (λ e. StandsFor image (e ∷ x.after))) sure entry)
   | inr (next, is, more) ↦ record {
     own = W.0;
     are_own = W.1;
     count = suc W.2.count;
-    stands = subst (StandsFor image) more (subst (λ d. IsSomeAnd d (λ e. StandsFor image (e ∷ x.after))) is entry);
+    stands = subst (StandsFor image) more
+        (subst (λ d. IsSomeAnd d (λ e. StandsFor image (e ∷ x.after))) is entry);
   }
 ]
 
 images-after : (x : Ran) (kind : Kind) → x.records ≢ [] → Wrote x kind → (told : Option Cells) →
-    EachImage told (λ image. StandsOrIsEmpty image x.after ⊎ IsSomeAnd x.doubt (λ entry. StandsFor image (entry ∷ x.after))) → EachImage told (IsAfter x.records kind)
+    EachImage told (λ image. StandsOrIsEmpty image x.after ⊎
+    IsSomeAnd x.doubt (λ entry. StandsFor image (entry ∷ x.after))) →
+    EachImage told (IsAfter x.records kind)
 images-after x kind some W None h = tt
 images-after x kind some W (Some cells) h = λ image is. image-after x kind some W image (h image is)
 
 -- ---- commands that look at a store
 
-job-images : (kind : Kind) (records : List Record) (old new : Seen) (end : Ending) → IsOpened old records → AnswersJob kind records old new end →
+job-images : (kind : Kind) (records : List Record) (old new : Seen) (end : Ending) → IsOpened old records →
+    AnswersJob kind records old new end →
     KeepsImages old new ⊎ EachImage new.disk (IsAfter records kind)
-job-images kind records old new end opened (AnswersJob.refused why is after r) = inl (refused-keeps _ 0 old new end r)
-job-images kind records old new end opened (AnswersJob.no_memory after r) = inl (refused-keeps 70 0 old new end r)
+job-images kind records old new end opened (AnswersJob.refused why is after r) =
+    inl (refused-keeps _ 0 old new end r)
+job-images kind records old new end opened (AnswersJob.no_memory after r) =
+    inl (refused-keeps 70 0 old new end r)
 job-images kind records old new end opened (AnswersJob.ended how none runs left by) =
-    inr (images-after (ran_left records kind how old new end.heard left) kind opened.read.some (wrote-by (ran_left records kind how old new end.heard left) kind how left.leaves.by_kind) new.disk left.images)
+    inr (images-after (ran_left records kind how old new end.heard left) kind opened.read.some
+    (wrote-by (ran_left records kind how old new end.heard left) kind how left.leaves.by_kind) new.disk
+    left.images)
 
-of-job : (command : Command) (kind : Kind) (records : List Record) (old new : Seen) → IsOpened old records → RunsKind command old new kind →
+of-job : (command : Command) (kind : Kind) (records : List Record) (old new : Seen) → IsOpened old records →
+    RunsKind command old new kind →
     KeepsImages old new ⊎ EachImage new.disk (IsAfter records kind) → LeavesImages command old new
 of-job command kind records old new opened is (inl kept) = LeavesImages.kept kept
 of-job command kind records old new opened is (inr images) = LeavesImages.ran records kind opened is images
 
-put-images : (name : List ℕ) (old new : Seen) (end : Ending) → AnswersPut name old new end → LeavesImages (PutUnder name) old new
+put-images : (name : List ℕ) (old new : Seen) (end : Ending) → AnswersPut name old new end →
+    LeavesImages (PutUnder name) old new
 put-images name old new end (AnswersPut.unstarted u same) = LeavesImages.kept (unstarted-keeps old new end u)
-put-images name old new end (AnswersPut.source_fault records opened rose after taken r) = LeavesImages.kept (refused-keeps 14 0 old new end r)
-put-images name old new end (AnswersPut.no_memory taken r) = LeavesImages.kept (refused-keeps 70 0 old new end r)
+put-images name old new end (AnswersPut.source_fault records opened rose after taken r) =
+    LeavesImages.kept (refused-keeps 14 0 old new end r)
+put-images name old new end (AnswersPut.no_memory taken r) =
+    LeavesImages.kept (refused-keeps 70 0 old new end r)
 put-images name old new end (AnswersPut.begun records bytes opened read A) =
-    of-job (PutUnder name) (PutJob name bytes) records old new opened (bytes, read, refl) (job-images (PutJob name bytes) records old new end opened A)
+    of-job (PutUnder name) (PutJob name bytes) records old new opened (bytes, read, refl)
+    (job-images (PutJob name bytes) records old new end opened A)
 
-alone-images : (command : Command) (kind : Kind) (old new : Seen) (end : Ending) → RunsKind command old new kind → AnswersAlone kind old new end → LeavesImages command old new
-alone-images command kind old new end is (AnswersAlone.unstarted u) = LeavesImages.kept (unstarted-keeps old new end u)
-alone-images command kind old new end is (AnswersAlone.begun records opened A) = of-job command kind records old new opened is (job-images kind records old new end opened A)
+alone-images : (command : Command) (kind : Kind) (old new : Seen) (end : Ending) →
+    RunsKind command old new kind → AnswersAlone kind old new end → LeavesImages command old new
+alone-images command kind old new end is (AnswersAlone.unstarted u) =
+    LeavesImages.kept (unstarted-keeps old new end u)
+alone-images command kind old new end is (AnswersAlone.begun records opened A) =
+    of-job command kind records old new opened is (job-images kind records old new end opened A)
 
 list-images : (old new : Seen) (end : Ending) → AnswersList old new end → KeepsImages old new
 list-images old new end (AnswersList.unstarted u) = unstarted-keeps old new end u
@@ -210,34 +280,43 @@ list-images old new end (AnswersList.no_memory r) = refused-keeps 70 0 old new e
 list-images old new end (AnswersList.listed records opened L) = keeps-synced old.disk new.disk L.disk
 
 -- a command leaves images as before, or ones of the records read with some that its job wrote
-pub store-images : (command : Command) (old new : Seen) (end : Ending) → Answers command old new end → opens_store command ≡ true → LeavesImages command old new
+pub store-images : (command : Command) (old new : Seen) (end : Ending) → Answers command old new end →
+    opens_store command ≡ true → LeavesImages command old new
 store-images (RowOf n l b seen) old new end A opens = absurd (false≢true opens)
 store-images (InitWith numbers) old new end A opens = absurd (false≢true opens)
 store-images (PutUnder name) old new end A opens = put-images name old new end A
 store-images (GetOf name) old new end A opens = alone-images (GetOf name) (GetJob name) old new end refl A.0
-store-images (DropOf name) old new end A opens = alone-images (DropOf name) (DropJob name) old new end refl A.0
+store-images (DropOf name) old new end A opens =
+    alone-images (DropOf name) (DropJob name) old new end refl A.0
 store-images ListAll old new end A opens = LeavesImages.kept (list-images old new end A.0)
 store-images AuditAll old new end A opens = alone-images AuditAll AuditJob old new end refl A.0
 store-images RepairDue old new end A opens = alone-images RepairDue RepairJob old new end refl A.0
 
 -- what each image stands for, where each stood for the records before
 abbrev StandsAfter : Command → List Record → Seen → Seen → List ℕ → Type 0
-StandsAfter command records old new image = StandsFor image records ⊎ ((kind : Kind) × RunsKind command old new kind × IsAfter records kind image)
+StandsAfter command records old new image =
+    StandsFor image records ⊎ ((kind : Kind) × RunsKind command old new kind × IsAfter records kind image)
 
-kept-stand : (command : Command) (records : List Record) (old new : Seen) (before after : Option Cells) → IfSome before (λ cells. EachImage after (IsImage cells)) → before ≢ None →
-    EachImage before (λ image. StandsFor image records) → EachImage after (StandsAfter command records old new)
+kept-stand : (command : Command) (records : List Record) (old new : Seen) (before after : Option Cells) →
+    IfSome before (λ cells. EachImage after (IsImage cells)) → before ≢ None →
+    EachImage before (λ image. StandsFor image records) →
+    EachImage after (StandsAfter command records old new)
 kept-stand command records old new None after kept tells stand = absurd (tells refl)
 kept-stand command records old new (Some cells) None kept tells stand = tt
-kept-stand command records old new (Some cells) (Some now) kept tells stand = λ image is. inl (stand image (kept image is))
+kept-stand command records old new (Some cells) (Some now) kept tells stand =
+    λ image is. inl (stand image (kept image is))
 
-ran-stand : (command : Command) (records : List Record) (kind : Kind) (old new : Seen) → RunsKind command old new kind → (after : Option Cells) → EachImage after (IsAfter records kind) →
+ran-stand : (command : Command) (records : List Record) (kind : Kind) (old new : Seen) →
+    RunsKind command old new kind → (after : Option Cells) → EachImage after (IsAfter records kind) →
     EachImage after (StandsAfter command records old new)
 ran-stand command records kind old new is None h = tt
 ran-stand command records kind old new is (Some cells) h = λ image of. inr (kind, is, h image of)
 
 -- over known records each image stands for these after a command, or for these with some of its job's
-pub known-images : (command : Command) (records : List Record) (old new : Seen) (end : Ending) → Answers command old new end → opens_store command ≡ true → IsKnown old records →
-    EachImage old.disk (λ image. StandsFor image records) → EachImage new.disk (StandsAfter command records old new)
+pub known-images : (command : Command) (records : List Record) (old new : Seen) (end : Ending) →
+    Answers command old new end → opens_store command ≡ true → IsKnown old records →
+    EachImage old.disk (λ image. StandsFor image records) →
+    EachImage new.disk (StandsAfter command records old new)
 known-images command records old new end A opens K stand = go (store-images command old new end A opens)
   where
     tells : old.disk ≢ None
@@ -246,47 +325,72 @@ known-images command records old new end A opens K stand = go (store-images comm
     go : LeavesImages command old new → EachImage new.disk (StandsAfter command records old new)
     go (LeavesImages.kept kept) = kept-stand command records old new old.disk new.disk kept tells stand
     go (LeavesImages.ran other kind opened is images) =
-        ran-stand command records kind old new is new.disk (subst (λ rs. EachImage new.disk (IsAfter rs kind)) (known-once old records other K opened.read) images)
+        ran-stand command records kind old new is new.disk
+        (subst (λ rs. EachImage new.disk (IsAfter rs kind))
+        (known-once old records other K opened.read) images)
 
 -- ---- init
 
 not-free : (cells : Cells) (rs : List Record) → rs ≢ [] → StandsFor (reads cells) rs → IsFree cells → ⊥
-not-free cells rs some S (inl short) = (let long = stands-long (reads cells) rs some S in omega (arith, long, short))
-not-free cells rs some S (inr none) = some (one_meaning (reads cells) rs [] S (stands-front largest_journal (reads cells) [] none))
+not-free cells rs some S (inl short) =
+    (let long = stands-long (reads cells) rs some S in omega (arith, long, short))
+not-free cells rs some S (inr none) =
+    some (one_meaning (reads cells) rs [] S (stands-front largest_journal (reads cells) [] none))
 
-left-kept : (cells : Cells) (numbers : Numbers) (key : List ℕ) → (IsFree cells → ⊥) → (after : Option Cells) → EachImage after (MayBeLeft (setup_with numbers key) cells) → EachImage after (IsImage cells)
+left-kept : (cells : Cells) (numbers : Numbers) (key : List ℕ) → (IsFree cells → ⊥) → (after : Option Cells) →
+    EachImage after (MayBeLeft (setup_with numbers key) cells) → EachImage after (IsImage cells)
 left-kept cells numbers key taken None h = tt
-left-kept cells numbers key taken (Some now) h = λ image is. elim (h image is) [ inl same ↦ same | inr free ↦ absurd (taken free.0) ]
+left-kept cells numbers key taken (Some now) h =
+    λ image is. elim (h image is) [ inl same ↦ same | inr free ↦ absurd (taken free.0) ]
 
-kept-left : (numbers : Numbers) (key : List ℕ) (old new : Option Cells) → IfSome old (λ cells. EachImage new (IsImage cells)) → IfSome old (λ cells. EachImage new (MayBeLeft (setup_with numbers key) cells))
+kept-left : (numbers : Numbers) (key : List ℕ) (old new : Option Cells) →
+    IfSome old (λ cells. EachImage new (IsImage cells)) →
+    IfSome old (λ cells. EachImage new (MayBeLeft (setup_with numbers key) cells))
 kept-left numbers key None new h = tt
 kept-left numbers key (Some cells) None h = tt
 kept-left numbers key (Some cells) (Some now) h = λ image is. inl (h image is)
 
-refused-init : (numbers : Numbers) (status at : ℕ) (old new : Seen) (end : Ending) → IsRefused status at old new end → InitImages numbers old new
-refused-init numbers status at old new end r = ([], inr (kept-left numbers [] old.disk new.disk (refused-keeps status at old new end r)))
+refused-init : (numbers : Numbers) (status at : ℕ) (old new : Seen) (end : Ending) →
+    IsRefused status at old new end → InitImages numbers old new
+refused-init numbers status at old new end r =
+    ([], inr (kept-left numbers [] old.disk new.disk (refused-keeps status at old new end r)))
 
 -- an init sets the store up, or leaves images that a failed init may leave
-pub init-images : (numbers : Numbers) (old new : Seen) (end : Ending) → AnswersInit numbers old new end → InitImages numbers old new
+pub init-images : (numbers : Numbers) (old new : Seen) (end : Ending) → AnswersInit numbers old new end →
+    InitImages numbers old new
 init-images numbers old new end (AnswersInit.bad_setup bad same r) = refused-init numbers 20 0 old new end r
-init-images numbers old new end (AnswersInit.too_few_providers good few same r) = refused-init numbers 22 0 old new end r
-init-images numbers old new end (AnswersInit.source_fault good enough rose taken r) = refused-init numbers 14 0 old new end r
-init-images numbers old new end (AnswersInit.bad_key bytes good enough read bad r) = refused-init numbers 18 0 old new end r
+init-images numbers old new end (AnswersInit.too_few_providers good few same r) =
+    refused-init numbers 22 0 old new end r
+init-images numbers old new end (AnswersInit.source_fault good enough rose taken r) =
+    refused-init numbers 14 0 old new end r
+init-images numbers old new end (AnswersInit.bad_key bytes good enough read bad r) =
+    refused-init numbers 18 0 old new end r
 init-images numbers old new end (AnswersInit.no_memory taken r) = refused-init numbers 70 0 old new end r
-init-images numbers old new end (AnswersInit.keyed bytes key good enough read form (InitsDisk.disk_fault rose F)) = (key, inr F.images)
-init-images numbers old new end (AnswersInit.keyed bytes key good enough read form (InitsDisk.no_memory F)) = (key, inr F.images)
-init-images numbers old new end (AnswersInit.keyed bytes key good enough read form (InitsDisk.bad_journal at is r)) = refused-init numbers 8 at old new end r
-init-images numbers old new end (AnswersInit.keyed bytes key good enough read form (InitsDisk.already is r)) = refused-init numbers 10 0 old new end r
-init-images numbers old new end (AnswersInit.keyed bytes key good enough read form (InitsDisk.ready R)) = (key, inl R.disk)
+init-images numbers old new end (AnswersInit.keyed bytes key good enough read form (InitsDisk.disk_fault rose F)) =
+    (key, inr F.images)
+init-images numbers old new end (AnswersInit.keyed bytes key good enough read form (InitsDisk.no_memory F)) =
+    (key, inr F.images)
+init-images numbers old new end (AnswersInit.keyed bytes key good enough read form (InitsDisk.bad_journal at is r)) =
+    refused-init numbers 8 at old new end r
+init-images numbers old new end (AnswersInit.keyed bytes key good enough read form (InitsDisk.already is r)) =
+    refused-init numbers 10 0 old new end r
+init-images numbers old new end (AnswersInit.keyed bytes key good enough read form (InitsDisk.ready R)) =
+    (key, inl R.disk)
 
 -- over a store that is set up an init leaves only images that the disk had before
-pub init-kept : (numbers : Numbers) (records : List Record) (old new : Seen) (end : Ending) → AnswersInit numbers old new end → records ≢ [] → EachImage old.disk (λ image. StandsFor image records) → KeepsImages old new
-init-kept numbers records old new end A some stand = go old.disk new.disk stand (init-images numbers old new end A)
+pub init-kept : (numbers : Numbers) (records : List Record) (old new : Seen) (end : Ending) →
+    AnswersInit numbers old new end → records ≢ [] → EachImage old.disk (λ image. StandsFor image records) →
+    KeepsImages old new
+init-kept numbers records old new end A some stand =
+    go old.disk new.disk stand (init-images numbers old new end A)
   where
     go : (before after : Option Cells) → EachImage before (λ image. StandsFor image records) →
-        (key : List ℕ) × (Goes (IsSetUpOn (setup_with numbers key)) before after ⊎ IfSome before (λ cells. EachImage after (MayBeLeft (setup_with numbers key) cells))) →
+        (key : List ℕ) × (Goes (IsSetUpOn (setup_with numbers key)) before after ⊎
+        IfSome before (λ cells. EachImage after (MayBeLeft (setup_with numbers key) cells))) →
         IfSome before (λ cells. EachImage after (IsImage cells))
     go None after stand h = tt
     go (Some cells) None stand (key, inl g) = absurd g
-    go (Some cells) (Some now) stand (key, inl g) = absurd (not-free cells records some (stand (reads cells) (IsImage-reads cells)) g.free)
-    go (Some cells) after stand (key, inr left) = left-kept cells numbers key (not-free cells records some (stand (reads cells) (IsImage-reads cells))) after left
+    go (Some cells) (Some now) stand (key, inl g) =
+        absurd (not-free cells records some (stand (reads cells) (IsImage-reads cells)) g.free)
+    go (Some cells) after stand (key, inr left) = left-kept cells numbers key
+        (not-free cells records some (stand (reads cells) (IsImage-reads cells))) after left

@@ -29,32 +29,41 @@ use Rattle.command_laws.proofs.JobEnds.{unstarted-done, not-done, memory-well}
 -- a text of the form is shorter than what is read
 form-length : (text key : List ℕ) → IsKeyForm text key → length text < longest_key
 form-length text key F = elim F.line_end [
-  | inl none ↦ (let a = ap length F.text_is in let b = length-append F.digits F.behind in let c = F.size in let d = ap length none in omega (arith, a, b, c, d))
-  | inr (inl line) ↦ (let a = ap length F.text_is in let b = length-append F.digits F.behind in let c = F.size in let d = ap length line in omega (arith, a, b, c, d))
-  | inr (inr line) ↦ (let a = ap length F.text_is in let b = length-append F.digits F.behind in let c = F.size in let d = ap length line in omega (arith, a, b, c, d))
+  | inl none ↦ (let a = ap length F.text_is in let b = length-append F.digits F.behind in let c = F.size in
+      let d = ap length none in omega (arith, a, b, c, d))
+  | inr (inl line) ↦ (let a = ap length F.text_is in let b = length-append F.digits F.behind in
+      let c = F.size in let d = ap length line in omega (arith, a, b, c, d))
+  | inr (inr line) ↦ (let a = ap length F.text_is in let b = length-append F.digits F.behind in
+      let c = F.size in let d = ap length line in omega (arith, a, b, c, d))
 ]
 
 -- what is read of a source is all of it, where one of the two is short
-short-read : (old new : Option (List ℕ)) (bytes seen : List ℕ) → old ≡ Some bytes → length seen < longest_key → ReadsUpTo longest_key old new seen → bytes ≡ seen
+short-read : (old new : Option (List ℕ)) (bytes seen : List ℕ) → old ≡ Some bytes →
+    length seen < longest_key → ReadsUpTo longest_key old new seen → bytes ≡ seen
 short-read old None bytes seen is short R = absurd (let e : Some bytes ≡ None = sym is ∙ R.front in cc)
 short-read old (Some left) bytes seen is short R =
     (let e : Some bytes ≡ Some (seen ++ left) = sym is ∙ R.front in
     let f : bytes ≡ seen ++ left = cc in
     f ∙ (ap (λ l. seen ++ l) (R.end short) ∙ append-nil seen))
 
-seen-short : (old new : Option (List ℕ)) (bytes seen : List ℕ) → old ≡ Some bytes → length bytes < longest_key → ReadsUpTo longest_key old new seen → length seen < longest_key
+seen-short : (old new : Option (List ℕ)) (bytes seen : List ℕ) → old ≡ Some bytes →
+    length bytes < longest_key → ReadsUpTo longest_key old new seen → length seen < longest_key
 seen-short old None bytes seen is short R = absurd (let e : Some bytes ≡ None = sym is ∙ R.front in cc)
 seen-short old (Some left) bytes seen is short R =
     (let e : Some bytes ≡ Some (seen ++ left) = sym is ∙ R.front in
     let f : bytes ≡ seen ++ left = cc in
     let size = ap length f in let sum = length-append seen left in omega (arith, size, sum, short))
 
-form-seen : (old new : Option (List ℕ)) (bytes seen key : List ℕ) → old ≡ Some bytes → ReadsUpTo longest_key old new seen → IsKeyForm bytes key → IsKeyForm seen key
-form-seen old new bytes seen key is R F = subst (λ b. IsKeyForm b key) (short-read old new bytes seen is (seen-short old new bytes seen is (form-length bytes key F) R) R) F
+form-seen : (old new : Option (List ℕ)) (bytes seen key : List ℕ) → old ≡ Some bytes →
+    ReadsUpTo longest_key old new seen → IsKeyForm bytes key → IsKeyForm seen key
+form-seen old new bytes seen key is R F = subst (λ b. IsKeyForm b key)
+    (short-read old new bytes seen is (seen-short old new bytes seen is (form-length bytes key F) R) R) F
 
 -- where what was read of the source has the key's form, the whole source has it
-pub form-all : (old new : Option (List ℕ)) (bytes seen key : List ℕ) → old ≡ Some bytes → ReadsUpTo longest_key old new seen → IsKeyForm seen key → IsKeyForm bytes key
-form-all old new bytes seen key is R F = subst (λ b. IsKeyForm b key) (sym (short-read old new bytes seen is (form-length seen key F) R)) F
+pub form-all : (old new : Option (List ℕ)) (bytes seen key : List ℕ) → old ≡ Some bytes →
+    ReadsUpTo longest_key old new seen → IsKeyForm seen key → IsKeyForm bytes key
+form-all old new bytes seen key is R F =
+    subst (λ b. IsKeyForm b key) (sym (short-read old new bytes seen is (form-length seen key F) R)) F
 
 -- ---- what a disk reads, when a store is set up
 
@@ -94,225 +103,359 @@ bad-once bytes at other (inr a) (inr b) = a.3 ∙ sym b.3
 
 bad-already : (bytes : List ℕ) (at : ℕ) → IsBadInit bytes at → IsSetUpAlready bytes → ⊥
 bad-already bytes at (inl a) b = bad_is_none bytes at b.0 a b.1
-bad-already bytes at (inr a) b = one-begin b.0 (subst BeginsOtherwise (one_meaning bytes a.0 b.0 a.1 b.1) a.2) b.2
+bad-already bytes at (inr a) b =
+    one-begin b.0 (subst BeginsOtherwise (one_meaning bytes a.0 b.0 a.1 b.1) a.2) b.2
 
 read-short : (cells : Cells) → length (journal_read cells) ≤ length (reads cells)
 read-short cells = (let e = length-take largest_journal (reads cells) in omega (arith, e))
 
-bad-free : (cells : Cells) (at : ℕ) → 9 < length (journal_read cells) → IsBadInit (journal_read cells) at → IsFree cells → ⊥
+bad-free : (cells : Cells) (at : ℕ) → 9 < length (journal_read cells) → IsBadInit (journal_read cells) at →
+    IsFree cells → ⊥
 bad-free cells at long bad (inl short) = (let e = read-short cells in omega (arith, long, short, e))
 bad-free cells at long (inl bad) (inr none) = bad_is_none (journal_read cells) at [] bad none
-bad-free cells at long (inr bad) (inr none) = subst BeginsOtherwise (one_meaning (journal_read cells) bad.0 [] bad.1 none) bad.2
+bad-free cells at long (inr bad) (inr none) =
+    subst BeginsOtherwise (one_meaning (journal_read cells) bad.0 [] bad.1 none) bad.2
 
-already-free : (cells : Cells) → 9 < length (journal_read cells) → IsSetUpAlready (journal_read cells) → IsFree cells → ⊥
+already-free : (cells : Cells) → 9 < length (journal_read cells) → IsSetUpAlready (journal_read cells) →
+    IsFree cells → ⊥
 already-free cells long set_up (inl short) = (let e = read-short cells in omega (arith, long, short, e))
-already-free cells long set_up (inr none) = subst BeginsWithSetup (one_meaning (journal_read cells) set_up.0 [] set_up.1 none) set_up.2
+already-free cells long set_up (inr none) =
+    subst BeginsWithSetup (one_meaning (journal_read cells) set_up.0 [] set_up.1 none) set_up.2
 
 -- ---- an init that is done
 
 -- a done init set the store up with the numbers and the key of its source
-pub init-done : (numbers : Numbers) (old new : Seen) (end : Ending) → AnswersInit numbers old new end → IsDone end → IsInit numbers old new end
-init-done numbers old new end (AnswersInit.bad_setup bad same r) done = absurd (not-done end.status 20 r.status_is (λ e. omega (arith, e)) (λ e. omega (arith, e)) done)
-init-done numbers old new end (AnswersInit.too_few_providers good few same r) done = absurd (not-done end.status 22 r.status_is (λ e. omega (arith, e)) (λ e. omega (arith, e)) done)
-init-done numbers old new end (AnswersInit.source_fault good enough rose taken r) done = absurd (not-done end.status 14 r.status_is (λ e. omega (arith, e)) (λ e. omega (arith, e)) done)
-init-done numbers old new end (AnswersInit.bad_key seen good enough read none r) done = absurd (not-done end.status 18 r.status_is (λ e. omega (arith, e)) (λ e. omega (arith, e)) done)
-init-done numbers old new end (AnswersInit.no_memory taken r) done = absurd (not-done end.status 70 r.status_is (λ e. omega (arith, e)) (λ e. omega (arith, e)) done)
-init-done numbers old new end (AnswersInit.keyed seen key good enough read form (InitsDisk.disk_fault rose F)) done = absurd (not-done end.status 12 F.status_is (λ e. omega (arith, e)) (λ e. omega (arith, e)) done)
-init-done numbers old new end (AnswersInit.keyed seen key good enough read form (InitsDisk.bad_journal at is r)) done = absurd (not-done end.status 8 r.status_is (λ e. omega (arith, e)) (λ e. omega (arith, e)) done)
-init-done numbers old new end (AnswersInit.keyed seen key good enough read form (InitsDisk.already is r)) done = absurd (not-done end.status 10 r.status_is (λ e. omega (arith, e)) (λ e. omega (arith, e)) done)
-init-done numbers old new end (AnswersInit.keyed seen key good enough read form (InitsDisk.no_memory F)) done = absurd (not-done end.status 70 F.status_is (λ e. omega (arith, e)) (λ e. omega (arith, e)) done)
-init-done numbers old new end (AnswersInit.keyed seen key good enough read form (InitsDisk.ready R)) done = record {
-  bytes = seen;
-  key = key;
-  good = good;
-  enough = enough;
-  read = read;
-  whole = read.end (form-length seen key form);
-  form = form;
-  told = record { written = R.written; place = R.place };
-  disk = R.disk;
-  providers = R.providers;
-}
+pub init-done : (numbers : Numbers) (old new : Seen) (end : Ending) → AnswersInit numbers old new end →
+    IsDone end → IsInit numbers old new end
+init-done numbers old new end (AnswersInit.bad_setup bad same r) done =
+    absurd (not-done end.status 20 r.status_is (λ e. omega (arith, e)) (λ e. omega (arith, e)) done)
+init-done numbers old new end (AnswersInit.too_few_providers good few same r) done =
+    absurd (not-done end.status 22 r.status_is (λ e. omega (arith, e)) (λ e. omega (arith, e)) done)
+init-done numbers old new end (AnswersInit.source_fault good enough rose taken r) done =
+    absurd (not-done end.status 14 r.status_is (λ e. omega (arith, e)) (λ e. omega (arith, e)) done)
+init-done numbers old new end (AnswersInit.bad_key seen good enough read none r) done =
+    absurd (not-done end.status 18 r.status_is (λ e. omega (arith, e)) (λ e. omega (arith, e)) done)
+init-done numbers old new end (AnswersInit.no_memory taken r) done =
+    absurd (not-done end.status 70 r.status_is (λ e. omega (arith, e)) (λ e. omega (arith, e)) done)
+init-done numbers old new end (AnswersInit.keyed seen key good enough read form (InitsDisk.disk_fault rose F)) done =
+    absurd (not-done end.status 12 F.status_is (λ e. omega (arith, e)) (λ e. omega (arith, e)) done)
+init-done numbers old new end (AnswersInit.keyed seen key good enough read form (InitsDisk.bad_journal at is r)) done =
+    absurd (not-done end.status 8 r.status_is (λ e. omega (arith, e)) (λ e. omega (arith, e)) done)
+init-done numbers old new end (AnswersInit.keyed seen key good enough read form (InitsDisk.already is r)) done =
+    absurd (not-done end.status 10 r.status_is (λ e. omega (arith, e)) (λ e. omega (arith, e)) done)
+init-done numbers old new end (AnswersInit.keyed seen key good enough read form (InitsDisk.no_memory F)) done =
+    absurd (not-done end.status 70 F.status_is (λ e. omega (arith, e)) (λ e. omega (arith, e)) done)
+init-done numbers old new end (AnswersInit.keyed seen key good enough read form (InitsDisk.ready R)) done =
+    record {
+      bytes = seen;
+      key = key;
+      good = good;
+      enough = enough;
+      read = read;
+      whole = read.end (form-length seen key form);
+      form = form;
+      told = record { written = R.written; place = R.place };
+      disk = R.disk;
+      providers = R.providers;
+    }
 
 -- ---- statuses only with their causes
 
-written-not : (text : List ℕ) (old new : Seen) (end : Ending) (m : ℕ) → WritesLine text end.status (sinking old new) → end.status ≡ m → 0 ≢ m → 15 ≢ m → 70 ≢ m → ⊥
+written-not : (text : List ℕ) (old new : Seen) (end : Ending) (m : ℕ) →
+    WritesLine text end.status (sinking old new) → end.status ≡ m → 0 ≢ m → 15 ≢ m → 70 ≢ m → ⊥
 written-not text old new end m (inl w) is zero sink memory = zero (sym w.0 ∙ is)
 written-not text old new end m (inr (inl w)) is zero sink memory = sink (sym w.1 ∙ is)
 written-not text old new end m (inr (inr w)) is zero sink memory = memory (sym w.0 ∙ is)
 
 -- an init ends with 20 only where its numbers are no setup
-pub setup-only : (numbers : Numbers) (old new : Seen) (end : Ending) → AnswersInit numbers old new end → end.status ≡ 20 → is_setup (setup_with numbers []) ≡ false
+pub setup-only : (numbers : Numbers) (old new : Seen) (end : Ending) → AnswersInit numbers old new end →
+    end.status ≡ 20 → is_setup (setup_with numbers []) ≡ false
 setup-only numbers old new end (AnswersInit.bad_setup bad same r) is_20 = bad
-setup-only numbers old new end (AnswersInit.too_few_providers good few same r) is_20 = absurd (not_two end.status 22 20 r.status_is is_20 (λ e. omega (arith, e)))
-setup-only numbers old new end (AnswersInit.source_fault good enough rose taken r) is_20 = absurd (not_two end.status 14 20 r.status_is is_20 (λ e. omega (arith, e)))
-setup-only numbers old new end (AnswersInit.bad_key seen good enough read none r) is_20 = absurd (not_two end.status 18 20 r.status_is is_20 (λ e. omega (arith, e)))
-setup-only numbers old new end (AnswersInit.no_memory taken r) is_20 = absurd (not_two end.status 70 20 r.status_is is_20 (λ e. omega (arith, e)))
-setup-only numbers old new end (AnswersInit.keyed seen key good enough read form (InitsDisk.disk_fault rose F)) is_20 = absurd (not_two end.status 12 20 F.status_is is_20 (λ e. omega (arith, e)))
-setup-only numbers old new end (AnswersInit.keyed seen key good enough read form (InitsDisk.bad_journal at is r)) is_20 = absurd (not_two end.status 8 20 r.status_is is_20 (λ e. omega (arith, e)))
-setup-only numbers old new end (AnswersInit.keyed seen key good enough read form (InitsDisk.already is r)) is_20 = absurd (not_two end.status 10 20 r.status_is is_20 (λ e. omega (arith, e)))
-setup-only numbers old new end (AnswersInit.keyed seen key good enough read form (InitsDisk.no_memory F)) is_20 = absurd (not_two end.status 70 20 F.status_is is_20 (λ e. omega (arith, e)))
-setup-only numbers old new end (AnswersInit.keyed seen key good enough read form (InitsDisk.ready R)) is_20 = absurd (written-not ready_line old new end 20 R.written is_20 (λ e. omega (arith, e)) (λ e. omega (arith, e)) (λ e. omega (arith, e)))
+setup-only numbers old new end (AnswersInit.too_few_providers good few same r) is_20 =
+    absurd (not_two end.status 22 20 r.status_is is_20 (λ e. omega (arith, e)))
+setup-only numbers old new end (AnswersInit.source_fault good enough rose taken r) is_20 =
+    absurd (not_two end.status 14 20 r.status_is is_20 (λ e. omega (arith, e)))
+setup-only numbers old new end (AnswersInit.bad_key seen good enough read none r) is_20 =
+    absurd (not_two end.status 18 20 r.status_is is_20 (λ e. omega (arith, e)))
+setup-only numbers old new end (AnswersInit.no_memory taken r) is_20 =
+    absurd (not_two end.status 70 20 r.status_is is_20 (λ e. omega (arith, e)))
+setup-only numbers old new end (AnswersInit.keyed seen key good enough read form (InitsDisk.disk_fault rose F)) is_20 =
+    absurd (not_two end.status 12 20 F.status_is is_20 (λ e. omega (arith, e)))
+setup-only numbers old new end (AnswersInit.keyed seen key good enough read form (InitsDisk.bad_journal at is r)) is_20 =
+    absurd (not_two end.status 8 20 r.status_is is_20 (λ e. omega (arith, e)))
+setup-only numbers old new end (AnswersInit.keyed seen key good enough read form (InitsDisk.already is r)) is_20 =
+    absurd (not_two end.status 10 20 r.status_is is_20 (λ e. omega (arith, e)))
+setup-only numbers old new end (AnswersInit.keyed seen key good enough read form (InitsDisk.no_memory F)) is_20 =
+    absurd (not_two end.status 70 20 F.status_is is_20 (λ e. omega (arith, e)))
+setup-only numbers old new end (AnswersInit.keyed seen key good enough read form (InitsDisk.ready R)) is_20 =
+    absurd (written-not ready_line old new end 20 R.written is_20 (λ e. omega (arith, e))
+    (λ e. omega (arith, e)) (λ e. omega (arith, e)))
 
 -- an init ends with 22 only where too few providers are handed in
-pub few-only : (numbers : Numbers) (old new : Seen) (end : Ending) → AnswersInit numbers old new end → end.status ≡ 22 → (is_setup (setup_with numbers []) ≡ true) × (length old.providers < numbers.n)
-few-only numbers old new end (AnswersInit.bad_setup bad same r) is_22 = absurd (not_two end.status 20 22 r.status_is is_22 (λ e. omega (arith, e)))
+pub few-only : (numbers : Numbers) (old new : Seen) (end : Ending) → AnswersInit numbers old new end →
+    end.status ≡ 22 → (is_setup (setup_with numbers []) ≡ true) × (length old.providers < numbers.n)
+few-only numbers old new end (AnswersInit.bad_setup bad same r) is_22 =
+    absurd (not_two end.status 20 22 r.status_is is_22 (λ e. omega (arith, e)))
 few-only numbers old new end (AnswersInit.too_few_providers good few same r) is_22 = (good, few)
-few-only numbers old new end (AnswersInit.source_fault good enough rose taken r) is_22 = absurd (not_two end.status 14 22 r.status_is is_22 (λ e. omega (arith, e)))
-few-only numbers old new end (AnswersInit.bad_key seen good enough read none r) is_22 = absurd (not_two end.status 18 22 r.status_is is_22 (λ e. omega (arith, e)))
-few-only numbers old new end (AnswersInit.no_memory taken r) is_22 = absurd (not_two end.status 70 22 r.status_is is_22 (λ e. omega (arith, e)))
-few-only numbers old new end (AnswersInit.keyed seen key good enough read form (InitsDisk.disk_fault rose F)) is_22 = absurd (not_two end.status 12 22 F.status_is is_22 (λ e. omega (arith, e)))
-few-only numbers old new end (AnswersInit.keyed seen key good enough read form (InitsDisk.bad_journal at is r)) is_22 = absurd (not_two end.status 8 22 r.status_is is_22 (λ e. omega (arith, e)))
-few-only numbers old new end (AnswersInit.keyed seen key good enough read form (InitsDisk.already is r)) is_22 = absurd (not_two end.status 10 22 r.status_is is_22 (λ e. omega (arith, e)))
-few-only numbers old new end (AnswersInit.keyed seen key good enough read form (InitsDisk.no_memory F)) is_22 = absurd (not_two end.status 70 22 F.status_is is_22 (λ e. omega (arith, e)))
-few-only numbers old new end (AnswersInit.keyed seen key good enough read form (InitsDisk.ready R)) is_22 = absurd (written-not ready_line old new end 22 R.written is_22 (λ e. omega (arith, e)) (λ e. omega (arith, e)) (λ e. omega (arith, e)))
+few-only numbers old new end (AnswersInit.source_fault good enough rose taken r) is_22 =
+    absurd (not_two end.status 14 22 r.status_is is_22 (λ e. omega (arith, e)))
+few-only numbers old new end (AnswersInit.bad_key seen good enough read none r) is_22 =
+    absurd (not_two end.status 18 22 r.status_is is_22 (λ e. omega (arith, e)))
+few-only numbers old new end (AnswersInit.no_memory taken r) is_22 =
+    absurd (not_two end.status 70 22 r.status_is is_22 (λ e. omega (arith, e)))
+few-only numbers old new end (AnswersInit.keyed seen key good enough read form (InitsDisk.disk_fault rose F)) is_22 =
+    absurd (not_two end.status 12 22 F.status_is is_22 (λ e. omega (arith, e)))
+few-only numbers old new end (AnswersInit.keyed seen key good enough read form (InitsDisk.bad_journal at is r)) is_22 =
+    absurd (not_two end.status 8 22 r.status_is is_22 (λ e. omega (arith, e)))
+few-only numbers old new end (AnswersInit.keyed seen key good enough read form (InitsDisk.already is r)) is_22 =
+    absurd (not_two end.status 10 22 r.status_is is_22 (λ e. omega (arith, e)))
+few-only numbers old new end (AnswersInit.keyed seen key good enough read form (InitsDisk.no_memory F)) is_22 =
+    absurd (not_two end.status 70 22 F.status_is is_22 (λ e. omega (arith, e)))
+few-only numbers old new end (AnswersInit.keyed seen key good enough read form (InitsDisk.ready R)) is_22 =
+    absurd (written-not ready_line old new end 22 R.written is_22 (λ e. omega (arith, e))
+    (λ e. omega (arith, e)) (λ e. omega (arith, e)))
 
 -- an init whose source is a key does not end with 18
-pub key-only : (numbers : Numbers) (bytes spelled : List ℕ) (old new : Seen) (end : Ending) → old.source ≡ Some bytes → IsKeyForm bytes spelled → AnswersInit numbers old new end → end.status ≡ 18 → ⊥
-key-only numbers bytes spelled old new end told spells (AnswersInit.bad_setup bad same r) is_18 = absurd (not_two end.status 20 18 r.status_is is_18 (λ e. omega (arith, e)))
-key-only numbers bytes spelled old new end told spells (AnswersInit.too_few_providers good few same r) is_18 = absurd (not_two end.status 22 18 r.status_is is_18 (λ e. omega (arith, e)))
-key-only numbers bytes spelled old new end told spells (AnswersInit.source_fault good enough rose taken r) is_18 = absurd (not_two end.status 14 18 r.status_is is_18 (λ e. omega (arith, e)))
-key-only numbers bytes spelled old new end told spells (AnswersInit.bad_key seen good enough read none r) is_18 = none spelled (form-seen old.source new.source bytes seen spelled told read spells)
-key-only numbers bytes spelled old new end told spells (AnswersInit.no_memory taken r) is_18 = absurd (not_two end.status 70 18 r.status_is is_18 (λ e. omega (arith, e)))
-key-only numbers bytes spelled old new end told spells (AnswersInit.keyed seen key good enough read form (InitsDisk.disk_fault rose F)) is_18 = absurd (not_two end.status 12 18 F.status_is is_18 (λ e. omega (arith, e)))
-key-only numbers bytes spelled old new end told spells (AnswersInit.keyed seen key good enough read form (InitsDisk.bad_journal at is r)) is_18 = absurd (not_two end.status 8 18 r.status_is is_18 (λ e. omega (arith, e)))
-key-only numbers bytes spelled old new end told spells (AnswersInit.keyed seen key good enough read form (InitsDisk.already is r)) is_18 = absurd (not_two end.status 10 18 r.status_is is_18 (λ e. omega (arith, e)))
-key-only numbers bytes spelled old new end told spells (AnswersInit.keyed seen key good enough read form (InitsDisk.no_memory F)) is_18 = absurd (not_two end.status 70 18 F.status_is is_18 (λ e. omega (arith, e)))
-key-only numbers bytes spelled old new end told spells (AnswersInit.keyed seen key good enough read form (InitsDisk.ready R)) is_18 = absurd (written-not ready_line old new end 18 R.written is_18 (λ e. omega (arith, e)) (λ e. omega (arith, e)) (λ e. omega (arith, e)))
+pub key-only : (numbers : Numbers) (bytes spelled : List ℕ) (old new : Seen) (end : Ending) →
+    old.source ≡ Some bytes → IsKeyForm bytes spelled → AnswersInit numbers old new end → end.status ≡ 18 → ⊥
+key-only numbers bytes spelled old new end told spells (AnswersInit.bad_setup bad same r) is_18 =
+    absurd (not_two end.status 20 18 r.status_is is_18 (λ e. omega (arith, e)))
+key-only numbers bytes spelled old new end told spells (AnswersInit.too_few_providers good few same r) is_18 =
+    absurd (not_two end.status 22 18 r.status_is is_18 (λ e. omega (arith, e)))
+key-only numbers bytes spelled old new end told spells (AnswersInit.source_fault good enough rose taken r) is_18 =
+    absurd (not_two end.status 14 18 r.status_is is_18 (λ e. omega (arith, e)))
+key-only numbers bytes spelled old new end told spells (AnswersInit.bad_key seen good enough read none r) is_18 =
+    none spelled (form-seen old.source new.source bytes seen spelled told read spells)
+key-only numbers bytes spelled old new end told spells (AnswersInit.no_memory taken r) is_18 =
+    absurd (not_two end.status 70 18 r.status_is is_18 (λ e. omega (arith, e)))
+key-only numbers bytes spelled old new end told spells (AnswersInit.keyed seen key good enough read form (InitsDisk.disk_fault rose F)) is_18 =
+    absurd (not_two end.status 12 18 F.status_is is_18 (λ e. omega (arith, e)))
+key-only numbers bytes spelled old new end told spells (AnswersInit.keyed seen key good enough read form (InitsDisk.bad_journal at is r)) is_18 =
+    absurd (not_two end.status 8 18 r.status_is is_18 (λ e. omega (arith, e)))
+key-only numbers bytes spelled old new end told spells (AnswersInit.keyed seen key good enough read form (InitsDisk.already is r)) is_18 =
+    absurd (not_two end.status 10 18 r.status_is is_18 (λ e. omega (arith, e)))
+key-only numbers bytes spelled old new end told spells (AnswersInit.keyed seen key good enough read form (InitsDisk.no_memory F)) is_18 =
+    absurd (not_two end.status 70 18 F.status_is is_18 (λ e. omega (arith, e)))
+key-only numbers bytes spelled old new end told spells (AnswersInit.keyed seen key good enough read form (InitsDisk.ready R)) is_18 =
+    absurd (written-not ready_line old new end 18 R.written is_18 (λ e. omega (arith, e))
+    (λ e. omega (arith, e)) (λ e. omega (arith, e)))
 
 -- an init ends with 8 only where the disk holds a journal that is bad at this place
-pub journal-only : (numbers : Numbers) (cells : Cells) (old new : Seen) (end : Ending) → old.disk ≡ Some cells → AnswersInit numbers old new end → end.status ≡ 8 → (9 < length (journal_read cells)) × IsBadInit (journal_read cells) end.at
-journal-only numbers cells old new end tells (AnswersInit.bad_setup bad same r) is_8 = absurd (not_two end.status 20 8 r.status_is is_8 (λ e. omega (arith, e)))
-journal-only numbers cells old new end tells (AnswersInit.too_few_providers good few same r) is_8 = absurd (not_two end.status 22 8 r.status_is is_8 (λ e. omega (arith, e)))
-journal-only numbers cells old new end tells (AnswersInit.source_fault good enough rose taken r) is_8 = absurd (not_two end.status 14 8 r.status_is is_8 (λ e. omega (arith, e)))
-journal-only numbers cells old new end tells (AnswersInit.bad_key seen good enough read none r) is_8 = absurd (not_two end.status 18 8 r.status_is is_8 (λ e. omega (arith, e)))
-journal-only numbers cells old new end tells (AnswersInit.no_memory taken r) is_8 = absurd (not_two end.status 70 8 r.status_is is_8 (λ e. omega (arith, e)))
-journal-only numbers cells old new end tells (AnswersInit.keyed seen key good enough read form (InitsDisk.disk_fault rose F)) is_8 = absurd (not_two end.status 12 8 F.status_is is_8 (λ e. omega (arith, e)))
-journal-only numbers cells old new end tells (AnswersInit.keyed seen key good enough read form (InitsDisk.bad_journal at is r)) is_8 = subst (λ k. (9 < length (journal_read cells)) × IsBadInit (journal_read cells) k) (sym r.place) (subst (λ d. IfSome d (λ c. (9 < length (journal_read c)) × IsBadInit (journal_read c) at)) tells is)
-journal-only numbers cells old new end tells (AnswersInit.keyed seen key good enough read form (InitsDisk.already is r)) is_8 = absurd (not_two end.status 10 8 r.status_is is_8 (λ e. omega (arith, e)))
-journal-only numbers cells old new end tells (AnswersInit.keyed seen key good enough read form (InitsDisk.no_memory F)) is_8 = absurd (not_two end.status 70 8 F.status_is is_8 (λ e. omega (arith, e)))
-journal-only numbers cells old new end tells (AnswersInit.keyed seen key good enough read form (InitsDisk.ready R)) is_8 = absurd (written-not ready_line old new end 8 R.written is_8 (λ e. omega (arith, e)) (λ e. omega (arith, e)) (λ e. omega (arith, e)))
+pub journal-only : (numbers : Numbers) (cells : Cells) (old new : Seen) (end : Ending) →
+    old.disk ≡ Some cells → AnswersInit numbers old new end → end.status ≡ 8 →
+    (9 < length (journal_read cells)) × IsBadInit (journal_read cells) end.at
+journal-only numbers cells old new end tells (AnswersInit.bad_setup bad same r) is_8 =
+    absurd (not_two end.status 20 8 r.status_is is_8 (λ e. omega (arith, e)))
+journal-only numbers cells old new end tells (AnswersInit.too_few_providers good few same r) is_8 =
+    absurd (not_two end.status 22 8 r.status_is is_8 (λ e. omega (arith, e)))
+journal-only numbers cells old new end tells (AnswersInit.source_fault good enough rose taken r) is_8 =
+    absurd (not_two end.status 14 8 r.status_is is_8 (λ e. omega (arith, e)))
+journal-only numbers cells old new end tells (AnswersInit.bad_key seen good enough read none r) is_8 =
+    absurd (not_two end.status 18 8 r.status_is is_8 (λ e. omega (arith, e)))
+journal-only numbers cells old new end tells (AnswersInit.no_memory taken r) is_8 =
+    absurd (not_two end.status 70 8 r.status_is is_8 (λ e. omega (arith, e)))
+journal-only numbers cells old new end tells (AnswersInit.keyed seen key good enough read form (InitsDisk.disk_fault rose F)) is_8 =
+    absurd (not_two end.status 12 8 F.status_is is_8 (λ e. omega (arith, e)))
+journal-only numbers cells old new end tells (AnswersInit.keyed seen key good enough read form (InitsDisk.bad_journal at is r)) is_8 =
+    subst (λ k. (9 < length (journal_read cells)) × IsBadInit (journal_read cells) k) (sym r.place)
+    (subst (λ d. IfSome d (λ c. (9 < length (journal_read c)) × IsBadInit (journal_read c) at)) tells is)
+journal-only numbers cells old new end tells (AnswersInit.keyed seen key good enough read form (InitsDisk.already is r)) is_8 =
+    absurd (not_two end.status 10 8 r.status_is is_8 (λ e. omega (arith, e)))
+journal-only numbers cells old new end tells (AnswersInit.keyed seen key good enough read form (InitsDisk.no_memory F)) is_8 =
+    absurd (not_two end.status 70 8 F.status_is is_8 (λ e. omega (arith, e)))
+journal-only numbers cells old new end tells (AnswersInit.keyed seen key good enough read form (InitsDisk.ready R)) is_8 =
+    absurd (written-not ready_line old new end 8 R.written is_8 (λ e. omega (arith, e))
+    (λ e. omega (arith, e)) (λ e. omega (arith, e)))
 
 -- an init ends with 10 only where the disk holds the journal of a store that is set up
-pub already-only : (numbers : Numbers) (cells : Cells) (old new : Seen) (end : Ending) → old.disk ≡ Some cells → AnswersInit numbers old new end → end.status ≡ 10 → (9 < length (journal_read cells)) × IsSetUpAlready (journal_read cells)
-already-only numbers cells old new end tells (AnswersInit.bad_setup bad same r) is_10 = absurd (not_two end.status 20 10 r.status_is is_10 (λ e. omega (arith, e)))
-already-only numbers cells old new end tells (AnswersInit.too_few_providers good few same r) is_10 = absurd (not_two end.status 22 10 r.status_is is_10 (λ e. omega (arith, e)))
-already-only numbers cells old new end tells (AnswersInit.source_fault good enough rose taken r) is_10 = absurd (not_two end.status 14 10 r.status_is is_10 (λ e. omega (arith, e)))
-already-only numbers cells old new end tells (AnswersInit.bad_key seen good enough read none r) is_10 = absurd (not_two end.status 18 10 r.status_is is_10 (λ e. omega (arith, e)))
-already-only numbers cells old new end tells (AnswersInit.no_memory taken r) is_10 = absurd (not_two end.status 70 10 r.status_is is_10 (λ e. omega (arith, e)))
-already-only numbers cells old new end tells (AnswersInit.keyed seen key good enough read form (InitsDisk.disk_fault rose F)) is_10 = absurd (not_two end.status 12 10 F.status_is is_10 (λ e. omega (arith, e)))
-already-only numbers cells old new end tells (AnswersInit.keyed seen key good enough read form (InitsDisk.bad_journal at is r)) is_10 = absurd (not_two end.status 8 10 r.status_is is_10 (λ e. omega (arith, e)))
-already-only numbers cells old new end tells (AnswersInit.keyed seen key good enough read form (InitsDisk.already is r)) is_10 = subst (λ d. IfSome d (λ c. (9 < length (journal_read c)) × IsSetUpAlready (journal_read c))) tells is
-already-only numbers cells old new end tells (AnswersInit.keyed seen key good enough read form (InitsDisk.no_memory F)) is_10 = absurd (not_two end.status 70 10 F.status_is is_10 (λ e. omega (arith, e)))
-already-only numbers cells old new end tells (AnswersInit.keyed seen key good enough read form (InitsDisk.ready R)) is_10 = absurd (written-not ready_line old new end 10 R.written is_10 (λ e. omega (arith, e)) (λ e. omega (arith, e)) (λ e. omega (arith, e)))
+pub already-only : (numbers : Numbers) (cells : Cells) (old new : Seen) (end : Ending) →
+    old.disk ≡ Some cells → AnswersInit numbers old new end → end.status ≡ 10 →
+    (9 < length (journal_read cells)) × IsSetUpAlready (journal_read cells)
+already-only numbers cells old new end tells (AnswersInit.bad_setup bad same r) is_10 =
+    absurd (not_two end.status 20 10 r.status_is is_10 (λ e. omega (arith, e)))
+already-only numbers cells old new end tells (AnswersInit.too_few_providers good few same r) is_10 =
+    absurd (not_two end.status 22 10 r.status_is is_10 (λ e. omega (arith, e)))
+already-only numbers cells old new end tells (AnswersInit.source_fault good enough rose taken r) is_10 =
+    absurd (not_two end.status 14 10 r.status_is is_10 (λ e. omega (arith, e)))
+already-only numbers cells old new end tells (AnswersInit.bad_key seen good enough read none r) is_10 =
+    absurd (not_two end.status 18 10 r.status_is is_10 (λ e. omega (arith, e)))
+already-only numbers cells old new end tells (AnswersInit.no_memory taken r) is_10 =
+    absurd (not_two end.status 70 10 r.status_is is_10 (λ e. omega (arith, e)))
+already-only numbers cells old new end tells (AnswersInit.keyed seen key good enough read form (InitsDisk.disk_fault rose F)) is_10 =
+    absurd (not_two end.status 12 10 F.status_is is_10 (λ e. omega (arith, e)))
+already-only numbers cells old new end tells (AnswersInit.keyed seen key good enough read form (InitsDisk.bad_journal at is r)) is_10 =
+    absurd (not_two end.status 8 10 r.status_is is_10 (λ e. omega (arith, e)))
+already-only numbers cells old new end tells (AnswersInit.keyed seen key good enough read form (InitsDisk.already is r)) is_10 =
+    subst (λ d. IfSome d (λ c. (9 < length (journal_read c)) × IsSetUpAlready (journal_read c))) tells is
+already-only numbers cells old new end tells (AnswersInit.keyed seen key good enough read form (InitsDisk.no_memory F)) is_10 =
+    absurd (not_two end.status 70 10 F.status_is is_10 (λ e. omega (arith, e)))
+already-only numbers cells old new end tells (AnswersInit.keyed seen key good enough read form (InitsDisk.ready R)) is_10 =
+    absurd (written-not ready_line old new end 10 R.written is_10 (λ e. omega (arith, e))
+    (λ e. omega (arith, e)) (λ e. omega (arith, e)))
 
 -- ---- and always with them
 
 -- an init whose numbers are no setup ends with 20, or finds no memory
-pub setup-always : (numbers : Numbers) (old new : Seen) (end : Ending) → AnswersInit numbers old new end → is_setup (setup_with numbers []) ≡ false → (end.status ≡ 20) ⊎ (end.status ≡ 70)
+pub setup-always : (numbers : Numbers) (old new : Seen) (end : Ending) → AnswersInit numbers old new end →
+    is_setup (setup_with numbers []) ≡ false → (end.status ≡ 20) ⊎ (end.status ≡ 70)
 setup-always numbers old new end (AnswersInit.bad_setup bad same r) is = inl r.status_is
-setup-always numbers old new end (AnswersInit.too_few_providers good few same r) is = absurd (false≢true (sym is ∙ good))
-setup-always numbers old new end (AnswersInit.source_fault good enough rose taken r) is = absurd (false≢true (sym is ∙ good))
-setup-always numbers old new end (AnswersInit.bad_key seen good enough read none r) is = absurd (false≢true (sym is ∙ good))
-setup-always numbers old new end (AnswersInit.keyed seen key good enough read form D) is = absurd (false≢true (sym is ∙ good))
+setup-always numbers old new end (AnswersInit.too_few_providers good few same r) is =
+    absurd (false≢true (sym is ∙ good))
+setup-always numbers old new end (AnswersInit.source_fault good enough rose taken r) is =
+    absurd (false≢true (sym is ∙ good))
+setup-always numbers old new end (AnswersInit.bad_key seen good enough read none r) is =
+    absurd (false≢true (sym is ∙ good))
+setup-always numbers old new end (AnswersInit.keyed seen key good enough read form D) is =
+    absurd (false≢true (sym is ∙ good))
 setup-always numbers old new end (AnswersInit.no_memory taken r) is = inr r.status_is
 
 -- an init with too few providers ends with 22, or finds no memory
-pub few-always : (numbers : Numbers) (old new : Seen) (end : Ending) → AnswersInit numbers old new end → is_setup (setup_with numbers []) ≡ true → length old.providers < numbers.n →
+pub few-always : (numbers : Numbers) (old new : Seen) (end : Ending) → AnswersInit numbers old new end →
+    is_setup (setup_with numbers []) ≡ true → length old.providers < numbers.n →
     (end.status ≡ 22) ⊎ (end.status ≡ 70)
-few-always numbers old new end (AnswersInit.bad_setup bad same r) good is = absurd (false≢true (sym bad ∙ good))
+few-always numbers old new end (AnswersInit.bad_setup bad same r) good is =
+    absurd (false≢true (sym bad ∙ good))
 few-always numbers old new end (AnswersInit.too_few_providers fine few same r) good is = inl r.status_is
-few-always numbers old new end (AnswersInit.source_fault fine enough rose taken r) good is = absurd (omega (arith, enough, is))
-few-always numbers old new end (AnswersInit.bad_key seen fine enough read none r) good is = absurd (omega (arith, enough, is))
-few-always numbers old new end (AnswersInit.keyed seen key fine enough read form D) good is = absurd (omega (arith, enough, is))
+few-always numbers old new end (AnswersInit.source_fault fine enough rose taken r) good is =
+    absurd (omega (arith, enough, is))
+few-always numbers old new end (AnswersInit.bad_key seen fine enough read none r) good is =
+    absurd (omega (arith, enough, is))
+few-always numbers old new end (AnswersInit.keyed seen key fine enough read form D) good is =
+    absurd (omega (arith, enough, is))
 few-always numbers old new end (AnswersInit.no_memory taken r) good is = inr r.status_is
 
 -- an init whose source is no key ends with 18, or finds no memory
-pub key-always : (numbers : Numbers) (bytes : List ℕ) (old new : Seen) (end : Ending) → AnswersInit numbers old new end → is_setup (setup_with numbers []) ≡ true → numbers.n ≤ length old.providers →
-    old.source ≡ Some bytes → ((key : List ℕ) → IsKeyForm bytes key → ⊥) → (Rose old.source_faults new.source_faults → ⊥) → (end.status ≡ 18) ⊎ (end.status ≡ 70)
-key-always numbers bytes old new end (AnswersInit.bad_setup bad same r) good enough told none calm = absurd (false≢true (sym bad ∙ good))
-key-always numbers bytes old new end (AnswersInit.too_few_providers fine few same r) good enough told none calm = absurd (omega (arith, enough, few))
-key-always numbers bytes old new end (AnswersInit.source_fault fine also rose taken r) good enough told none calm = absurd (calm rose)
-key-always numbers bytes old new end (AnswersInit.bad_key seen fine also read lacks r) good enough told none calm = inl r.status_is
-key-always numbers bytes old new end (AnswersInit.keyed seen key fine also read form D) good enough told none calm = absurd (none key (form-all old.source new.source bytes seen key told read form))
-key-always numbers bytes old new end (AnswersInit.no_memory taken r) good enough told none calm = inr r.status_is
+pub key-always : (numbers : Numbers) (bytes : List ℕ) (old new : Seen) (end : Ending) →
+    AnswersInit numbers old new end → is_setup (setup_with numbers []) ≡ true →
+    numbers.n ≤ length old.providers →
+    old.source ≡ Some bytes → ((key : List ℕ) → IsKeyForm bytes key → ⊥) →
+    (Rose old.source_faults new.source_faults → ⊥) → (end.status ≡ 18) ⊎ (end.status ≡ 70)
+key-always numbers bytes old new end (AnswersInit.bad_setup bad same r) good enough told none calm =
+    absurd (false≢true (sym bad ∙ good))
+key-always numbers bytes old new end (AnswersInit.too_few_providers fine few same r) good enough told none calm =
+    absurd (omega (arith, enough, few))
+key-always numbers bytes old new end (AnswersInit.source_fault fine also rose taken r) good enough told none calm =
+    absurd (calm rose)
+key-always numbers bytes old new end (AnswersInit.bad_key seen fine also read lacks r) good enough told none calm =
+    inl r.status_is
+key-always numbers bytes old new end (AnswersInit.keyed seen key fine also read form D) good enough told none calm =
+    absurd (none key (form-all old.source new.source bytes seen key told read form))
+key-always numbers bytes old new end (AnswersInit.no_memory taken r) good enough told none calm =
+    inr r.status_is
 
 -- an init with a key comes to its disk, or finds no memory
-keyed-disk : (numbers : Numbers) (key : List ℕ) (old new : Seen) (end : Ending) → AnswersInit numbers old new end → IsKeyed numbers key old → (Rose old.source_faults new.source_faults → ⊥) →
+keyed-disk : (numbers : Numbers) (key : List ℕ) (old new : Seen) (end : Ending) →
+    AnswersInit numbers old new end → IsKeyed numbers key old →
+    (Rose old.source_faults new.source_faults → ⊥) →
     InitsDisk (setup_with numbers key) old new end ⊎ IsRefused 70 0 old new end
-keyed-disk numbers key old new end (AnswersInit.bad_setup bad same r) K calm = absurd (false≢true (sym bad ∙ K.good))
-keyed-disk numbers key old new end (AnswersInit.too_few_providers fine few same r) K calm = absurd (let e = K.enough in omega (arith, e, few))
-keyed-disk numbers key old new end (AnswersInit.source_fault fine also rose taken r) K calm = absurd (calm rose)
-keyed-disk numbers key old new end (AnswersInit.bad_key seen fine also read lacks r) K calm = absurd (lacks key (form-seen old.source new.source K.bytes seen key K.source read K.form))
+keyed-disk numbers key old new end (AnswersInit.bad_setup bad same r) K calm =
+    absurd (false≢true (sym bad ∙ K.good))
+keyed-disk numbers key old new end (AnswersInit.too_few_providers fine few same r) K calm =
+    absurd (let e = K.enough in omega (arith, e, few))
+keyed-disk numbers key old new end (AnswersInit.source_fault fine also rose taken r) K calm =
+    absurd (calm rose)
+keyed-disk numbers key old new end (AnswersInit.bad_key seen fine also read lacks r) K calm =
+    absurd (lacks key (form-seen old.source new.source K.bytes seen key K.source read K.form))
 keyed-disk numbers key old new end (AnswersInit.keyed seen other fine also read form D) K calm =
-    inl (subst (λ k. InitsDisk (setup_with numbers k) old new end) (IsKeyForm-once K.bytes other key (form-all old.source new.source K.bytes seen other K.source read form) K.form) D)
+    inl (subst (λ k. InitsDisk (setup_with numbers k) old new end)
+    (IsKeyForm-once K.bytes other key
+    (form-all old.source new.source K.bytes seen other K.source read form) K.form) D)
 keyed-disk numbers key old new end (AnswersInit.no_memory taken r) K calm = inr r
 
 -- one that is done set it up on a free disk
-ready-free : (s : Setup) (cells : Cells) (old new : Option Cells) → old ≡ Some cells → Goes (IsSetUpOn s) old new → IsFree cells
+ready-free : (s : Setup) (cells : Cells) (old new : Option Cells) → old ≡ Some cells →
+    Goes (IsSetUpOn s) old new → IsFree cells
 ready-free s cells None new tells g = absurd (let e : None ≡ Some cells = tells in cc)
 ready-free s cells (Some before) None tells g = absurd g
-ready-free s cells (Some before) (Some now) tells g = subst IsFree (let e : Some before ≡ Some cells = tells in let f : before ≡ cells = cc in f) g.free
+ready-free s cells (Some before) (Some now) tells g =
+    subst IsFree (let e : Some before ≡ Some cells = tells in let f : before ≡ cells = cc in f) g.free
 
-module _ (s : Setup) (cells : Cells) (old new : Seen) (end : Ending) (tells : old.disk ≡ Some cells) (calm : Rose old.disk_faults new.disk_faults → ⊥) where
-  told-bad : (at : ℕ) → IfSome old.disk (λ c. (9 < length (journal_read c)) × IsBadInit (journal_read c) at) → (9 < length (journal_read cells)) × IsBadInit (journal_read cells) at
-  told-bad at is = subst (λ d. IfSome d (λ c. (9 < length (journal_read c)) × IsBadInit (journal_read c) at)) tells is
+module _ (s : Setup) (cells : Cells) (old new : Seen) (end : Ending) (tells : old.disk ≡ Some cells)
+    (calm : Rose old.disk_faults new.disk_faults → ⊥) where
+  told-bad : (at : ℕ) → IfSome old.disk (λ c. (9 < length (journal_read c)) × IsBadInit (journal_read c) at) →
+      (9 < length (journal_read cells)) × IsBadInit (journal_read cells) at
+  told-bad at is = subst (λ d. IfSome d (λ c. (9 < length (journal_read c)) × IsBadInit (journal_read c) at))
+      tells is
 
-  told-already : IfSome old.disk (λ c. (9 < length (journal_read c)) × IsSetUpAlready (journal_read c)) → (9 < length (journal_read cells)) × IsSetUpAlready (journal_read cells)
-  told-already is = subst (λ d. IfSome d (λ c. (9 < length (journal_read c)) × IsSetUpAlready (journal_read c))) tells is
+  told-already : IfSome old.disk (λ c. (9 < length (journal_read c)) × IsSetUpAlready (journal_read c)) →
+      (9 < length (journal_read cells)) × IsSetUpAlready (journal_read cells)
+  told-already is = subst
+      (λ d. IfSome d (λ c. (9 < length (journal_read c)) × IsSetUpAlready (journal_read c))) tells is
 
-  disk-bad : (at : ℕ) → 9 < length (journal_read cells) → IsBadInit (journal_read cells) at → InitsDisk s old new end → ((end.status ≡ 8) × (end.at ≡ at)) ⊎ (end.status ≡ 70)
+  disk-bad : (at : ℕ) → 9 < length (journal_read cells) → IsBadInit (journal_read cells) at →
+      InitsDisk s old new end → ((end.status ≡ 8) × (end.at ≡ at)) ⊎ (end.status ≡ 70)
   disk-bad at long bad (InitsDisk.disk_fault rose F) = absurd (calm rose)
-  disk-bad at long bad (InitsDisk.bad_journal other is r) = inl (r.status_is, r.place ∙ bad-once (journal_read cells) other at (told-bad other is).1 bad)
-  disk-bad at long bad (InitsDisk.already is r) = absurd (bad-already (journal_read cells) at bad (told-already is).1)
+  disk-bad at long bad (InitsDisk.bad_journal other is r) =
+      inl (r.status_is, r.place ∙ bad-once (journal_read cells) other at (told-bad other is).1 bad)
+  disk-bad at long bad (InitsDisk.already is r) =
+      absurd (bad-already (journal_read cells) at bad (told-already is).1)
   disk-bad at long bad (InitsDisk.no_memory F) = inr F.status_is
-  disk-bad at long bad (InitsDisk.ready R) = absurd (bad-free cells at long bad (ready-free s cells old.disk new.disk tells R.disk))
+  disk-bad at long bad (InitsDisk.ready R) =
+      absurd (bad-free cells at long bad (ready-free s cells old.disk new.disk tells R.disk))
 
-  disk-already : 9 < length (journal_read cells) → IsSetUpAlready (journal_read cells) → InitsDisk s old new end → (end.status ≡ 10) ⊎ (end.status ≡ 70)
+  disk-already : 9 < length (journal_read cells) → IsSetUpAlready (journal_read cells) →
+      InitsDisk s old new end → (end.status ≡ 10) ⊎ (end.status ≡ 70)
   disk-already long set_up (InitsDisk.disk_fault rose F) = absurd (calm rose)
-  disk-already long set_up (InitsDisk.bad_journal at is r) = absurd (bad-already (journal_read cells) at (told-bad at is).1 set_up)
+  disk-already long set_up (InitsDisk.bad_journal at is r) =
+      absurd (bad-already (journal_read cells) at (told-bad at is).1 set_up)
   disk-already long set_up (InitsDisk.already is r) = inl r.status_is
   disk-already long set_up (InitsDisk.no_memory F) = inr F.status_is
-  disk-already long set_up (InitsDisk.ready R) = absurd (already-free cells long set_up (ready-free s cells old.disk new.disk tells R.disk))
+  disk-already long set_up (InitsDisk.ready R) =
+      absurd (already-free cells long set_up (ready-free s cells old.disk new.disk tells R.disk))
 
-  disk-free : IsFree cells → (Rose old.sink_faults new.sink_faults → ⊥) → InitsDisk s old new end → GivesUnlessMemory ready_line old new end
+  disk-free : IsFree cells → (Rose old.sink_faults new.sink_faults → ⊥) → InitsDisk s old new end →
+      GivesUnlessMemory ready_line old new end
   disk-free free sink (InitsDisk.disk_fault rose F) = absurd (calm rose)
-  disk-free free sink (InitsDisk.bad_journal at is r) = absurd (let b = told-bad at is in bad-free cells at b.0 b.1 free)
-  disk-free free sink (InitsDisk.already is r) = absurd (let b = told-already is in already-free cells b.0 b.1 free)
-  disk-free free sink (InitsDisk.no_memory F) = inr (F.status_is, none-written ready_line old.sink new.sink F.sink)
+  disk-free free sink (InitsDisk.bad_journal at is r) =
+      absurd (let b = told-bad at is in bad-free cells at b.0 b.1 free)
+  disk-free free sink (InitsDisk.already is r) =
+      absurd (let b = told-already is in already-free cells b.0 b.1 free)
+  disk-free free sink (InitsDisk.no_memory F) =
+      inr (F.status_is, none-written ready_line old.sink new.sink F.sink)
   disk-free free sink (InitsDisk.ready R) = written-well ready_line old new end R.written sink
 
 -- an init with a key over a bad journal ends with 8 and the bad place, or finds no memory
-pub journal-always : (numbers : Numbers) (key : List ℕ) (cells : Cells) (at : ℕ) (old new : Seen) (end : Ending) → AnswersInit numbers old new end → IsKeyed numbers key old → old.disk ≡ Some cells →
-    9 < length (journal_read cells) → IsBadInit (journal_read cells) at → (Rose old.source_faults new.source_faults → ⊥) → (Rose old.disk_faults new.disk_faults → ⊥) →
+pub journal-always : (numbers : Numbers) (key : List ℕ) (cells : Cells) (at : ℕ) (old new : Seen)
+    (end : Ending) → AnswersInit numbers old new end → IsKeyed numbers key old → old.disk ≡ Some cells →
+    9 < length (journal_read cells) → IsBadInit (journal_read cells) at →
+    (Rose old.source_faults new.source_faults → ⊥) → (Rose old.disk_faults new.disk_faults → ⊥) →
     ((end.status ≡ 8) × (end.at ≡ at)) ⊎ (end.status ≡ 70)
-journal-always numbers key cells at old new end A K tells long bad source disk = elim (keyed-disk numbers key old new end A K source) [
-  | inl D ↦ disk-bad (setup_with numbers key) cells old new end tells disk at long bad D
-  | inr r ↦ inr r.status_is
-]
+journal-always numbers key cells at old new end A K tells long bad source disk =
+    elim (keyed-disk numbers key old new end A K source) [
+      | inl D ↦ disk-bad (setup_with numbers key) cells old new end tells disk at long bad D
+      | inr r ↦ inr r.status_is
+    ]
 
 -- an init with a key over a store that is set up ends with 10, or finds no memory
-pub already-always : (numbers : Numbers) (key : List ℕ) (cells : Cells) (old new : Seen) (end : Ending) → AnswersInit numbers old new end → IsKeyed numbers key old → old.disk ≡ Some cells →
-    9 < length (journal_read cells) → IsSetUpAlready (journal_read cells) → (Rose old.source_faults new.source_faults → ⊥) → (Rose old.disk_faults new.disk_faults → ⊥) → (end.status ≡ 10) ⊎ (end.status ≡ 70)
-already-always numbers key cells old new end A K tells long set_up source disk = elim (keyed-disk numbers key old new end A K source) [
-  | inl D ↦ disk-already (setup_with numbers key) cells old new end tells disk long set_up D
-  | inr r ↦ inr r.status_is
-]
+pub already-always : (numbers : Numbers) (key : List ℕ) (cells : Cells) (old new : Seen) (end : Ending) →
+    AnswersInit numbers old new end → IsKeyed numbers key old → old.disk ≡ Some cells →
+    9 < length (journal_read cells) → IsSetUpAlready (journal_read cells) →
+    (Rose old.source_faults new.source_faults → ⊥) → (Rose old.disk_faults new.disk_faults → ⊥) →
+    (end.status ≡ 10) ⊎ (end.status ≡ 70)
+already-always numbers key cells old new end A K tells long set_up source disk =
+    elim (keyed-disk numbers key old new end A K source) [
+      | inl D ↦ disk-already (setup_with numbers key) cells old new end tells disk long set_up D
+      | inr r ↦ inr r.status_is
+    ]
 
 -- an init with a key over a free disk and with no fault is done, or finds no memory
-pub init-well : (numbers : Numbers) (key : List ℕ) (cells : Cells) (old new : Seen) (end : Ending) → AnswersInit numbers old new end → IsKeyed numbers key old → old.disk ≡ Some cells → IsFree cells →
-    (Rose old.source_faults new.source_faults → ⊥) → (Rose old.disk_faults new.disk_faults → ⊥) → (Rose old.sink_faults new.sink_faults → ⊥) → GivesUnlessMemory ready_line old new end
-init-well numbers key cells old new end A K tells free source disk sink = elim (keyed-disk numbers key old new end A K source) [
-  | inl D ↦ disk-free (setup_with numbers key) cells old new end tells disk free sink D
-  | inr r ↦ memory-well ready_line old new end r
-]
+pub init-well : (numbers : Numbers) (key : List ℕ) (cells : Cells) (old new : Seen) (end : Ending) →
+    AnswersInit numbers old new end → IsKeyed numbers key old → old.disk ≡ Some cells → IsFree cells →
+    (Rose old.source_faults new.source_faults → ⊥) → (Rose old.disk_faults new.disk_faults → ⊥) →
+    (Rose old.sink_faults new.sink_faults → ⊥) → GivesUnlessMemory ready_line old new end
+init-well numbers key cells old new end A K tells free source disk sink =
+    elim (keyed-disk numbers key old new end A K source) [
+      | inl D ↦ disk-free (setup_with numbers key) cells old new end tells disk free sink D
+      | inr r ↦ memory-well ready_line old new end r
+    ]
 
 -- ---- lists
 
 -- a done list gave the lines of the files in effect
 pub list-done : (old new : Seen) (end : Ending) → AnswersList old new end → IsDone end → IsListed old new end
 list-done old new end (AnswersList.unstarted u) done = absurd (unstarted-done old new end u done)
-list-done old new end (AnswersList.no_memory r) done = absurd (not-done end.status 70 r.status_is (λ e. omega (arith, e)) (λ e. omega (arith, e)) done)
+list-done old new end (AnswersList.no_memory r) done =
+    absurd (not-done end.status 70 r.status_is (λ e. omega (arith, e)) (λ e. omega (arith, e)) done)
 list-done old new end (AnswersList.listed records opened L) done = record {
   records = records;
   opened = opened;
@@ -322,12 +465,18 @@ list-done old new end (AnswersList.listed records opened L) done = record {
 }
 
 -- a list over known records with no fault gives the lines of the files, or finds no memory
-pub list-well : (records : List Record) (old new : Seen) (end : Ending) → AnswersList old new end → IsKnown old records → (Rose old.disk_faults new.disk_faults → ⊥) → (Rose old.sink_faults new.sink_faults → ⊥) →
+pub list-well : (records : List Record) (old new : Seen) (end : Ending) → AnswersList old new end →
+    IsKnown old records → (Rose old.disk_faults new.disk_faults → ⊥) →
+    (Rose old.sink_faults new.sink_faults → ⊥) →
     GivesUnlessMemory (list_lines (files_of records)) old new end
-list-well records old new end (AnswersList.unstarted u) K disk sink = elim (unstarted-known old new end records K u) [
-  | inl (rose, r) ↦ absurd (disk rose)
-  | inr r ↦ memory-well (list_lines (files_of records)) old new end r
-]
-list-well records old new end (AnswersList.no_memory r) K disk sink = memory-well (list_lines (files_of records)) old new end r
+list-well records old new end (AnswersList.unstarted u) K disk sink =
+    elim (unstarted-known old new end records K u) [
+      | inl (rose, r) ↦ absurd (disk rose)
+      | inr r ↦ memory-well (list_lines (files_of records)) old new end r
+    ]
+list-well records old new end (AnswersList.no_memory r) K disk sink =
+    memory-well (list_lines (files_of records)) old new end r
 list-well records old new end (AnswersList.listed other opened L) K disk sink =
-    subst (λ rs. GivesUnlessMemory (list_lines (files_of rs)) old new end) (known-once old records other K opened.read) (written-well (list_lines (files_of other)) old new end L.written sink)
+    subst (λ rs. GivesUnlessMemory (list_lines (files_of rs)) old new end)
+    (known-once old records other K opened.read)
+    (written-well (list_lines (files_of other)) old new end L.written sink)

@@ -13,7 +13,15 @@ use Rattle.command_laws.specs.Instances.{small_setup, small_numbers, key_text, k
 
 key-form : IsKeyForm key_text small_setup.master
 unfolding decode_pairs
-key-form = record { digits = key_text; behind = []; text_is = refl; size = refl; hexadecimal = λ k d l. ap is_hex_digit (get_or-replicate 64 k 48 d l); spelled = refl; line_end = inl refl }
+key-form = record {
+  digits = key_text;
+  behind = [];
+  text_is = refl;
+  size = refl;
+  hexadecimal = λ k d l. ap is_hex_digit (get_or-replicate 64 k 48 d l);
+  spelled = refl;
+  line_end = inl refl;
+}
 
 -- the devices of the sample meet what an init needs: numbers, providers and a key
 pub keyed : IsKeyed small_numbers small_setup.master key_devices
@@ -26,4 +34,10 @@ reads-key = record { are_bytes = refl; front = refl; few = omega arith; end = λ
 pub init : Answers (InitWith small_numbers) key_devices ready_store (ends 0)
 unfolding spelling
 init = AnswersInit.keyed key_text small_setup.master refl (omega arith) reads-key key-form
-    (InitsDisk.ready (record { written = inl (refl, refl); place = refl; heard = refl; disk = record { free = inl (omega arith); reads_are = refl }; providers = refl }))
+    (InitsDisk.ready (record {
+      written = inl (refl, refl);
+      place = refl;
+      heard = refl;
+      disk = record { free = inl (omega arith); reads_are = refl };
+      providers = refl;
+    }))

@@ -39,36 +39,58 @@ use Rattle.command_laws.proofs.GetEnds.{shape-at, ran_left}
 -- ---- what is common
 
 -- a command that did not start was refused, with a status of its own
-pub unstarted-refused : (old new : Seen) (end : Ending) → Unstarted old new end → (status : ℕ) × (at : ℕ) × ((status ≢ 0) × (status ≢ 15)) × IsRefused status at old new end
-unstarted-refused old new end (Unstarted.disk_fault rose r) = (12, 0, ((λ e. omega (arith, e)), (λ e. omega (arith, e))), r)
-unstarted-refused old new end (Unstarted.not_set_up is r) = (9, 0, ((λ e. omega (arith, e)), (λ e. omega (arith, e))), r)
-unstarted-refused old new end (Unstarted.bad_journal at is r) = (8, at, ((λ e. omega (arith, e)), (λ e. omega (arith, e))), r)
-unstarted-refused old new end (Unstarted.too_few_providers records read few synced r) = (22, 0, ((λ e. omega (arith, e)), (λ e. omega (arith, e))), r)
-unstarted-refused old new end (Unstarted.no_memory r) = (70, 0, ((λ e. omega (arith, e)), (λ e. omega (arith, e))), r)
+pub unstarted-refused : (old new : Seen) (end : Ending) → Unstarted old new end →
+    (status : ℕ) × (at : ℕ) × ((status ≢ 0) × (status ≢ 15)) × IsRefused status at old new end
+unstarted-refused old new end (Unstarted.disk_fault rose r) =
+    (12, 0, ((λ e. omega (arith, e)), (λ e. omega (arith, e))), r)
+unstarted-refused old new end (Unstarted.not_set_up is r) =
+    (9, 0, ((λ e. omega (arith, e)), (λ e. omega (arith, e))), r)
+unstarted-refused old new end (Unstarted.bad_journal at is r) =
+    (8, at, ((λ e. omega (arith, e)), (λ e. omega (arith, e))), r)
+unstarted-refused old new end (Unstarted.too_few_providers records read few synced r) =
+    (22, 0, ((λ e. omega (arith, e)), (λ e. omega (arith, e))), r)
+unstarted-refused old new end (Unstarted.no_memory r) =
+    (70, 0, ((λ e. omega (arith, e)), (λ e. omega (arith, e))), r)
 
 -- a command that did not start is not done
 pub unstarted-done : (old new : Seen) (end : Ending) → Unstarted old new end → IsDone end → ⊥
-unstarted-done old new end u done = (let r = unstarted-refused old new end u in elim done [ inl zero ↦ r.2.0 (sym r.3.status_is ∙ zero) | inr sink ↦ r.2.1 (sym r.3.status_is ∙ sink) ])
+unstarted-done old new end u done =
+    (let r = unstarted-refused old new end u in
+    elim done [
+      | inl zero ↦ r.2.0 (sym r.3.status_is ∙ zero)
+      | inr sink ↦
+          r.2.1 (sym r.3.status_is ∙ sink)
+    ])
 
 -- images of a disk with nothing in doubt stand for the records
-pub image-has : (image : List ℕ) (after : List Record) (doubt : Option Record) (first : Record) (rest : List Record) → after ≡ first ∷ rest → doubt ≡ None →
-    StandsOrIsEmpty image after ⊎ IsSomeAnd doubt (λ entry. StandsFor image (entry ∷ after)) → StandsFor image (first ∷ rest)
+pub image-has : (image : List ℕ) (after : List Record) (doubt : Option Record) (first : Record)
+    (rest : List Record) → after ≡ first ∷ rest → doubt ≡ None →
+    StandsOrIsEmpty image after ⊎ IsSomeAnd doubt (λ entry. StandsFor image (entry ∷ after)) →
+    StandsFor image (first ∷ rest)
 image-has image after doubt first rest is sure (inl (inl stands)) = subst (StandsFor image) is stands
-image-has image after doubt first rest is sure (inl (inr none)) = absurd (let e : first ∷ rest ≡ [] = sym is ∙ none.0 in cc)
-image-has image after doubt first rest is sure (inr entry) = absurd (subst (λ d. IsSomeAnd d (λ entry. StandsFor image (entry ∷ after))) sure entry)
+image-has image after doubt first rest is sure (inl (inr none)) =
+    absurd (let e : first ∷ rest ≡ [] = sym is ∙ none.0 in cc)
+image-has image after doubt first rest is sure (inr entry) =
+    absurd (subst (λ d. IsSomeAnd d (λ entry. StandsFor image (entry ∷ after))) sure entry)
 
 -- where nothing is in doubt each image of the disk stands for the records after the job
-pub images-have : (told : Option Cells) (after : List Record) (doubt : Option Record) (first : Record) (rest : List Record) → after ≡ first ∷ rest → doubt ≡ None →
-    EachImage told (λ image. StandsOrIsEmpty image after ⊎ IsSomeAnd doubt (λ entry. StandsFor image (entry ∷ after))) → EachImage told (λ image. StandsFor image (first ∷ rest))
+pub images-have : (told : Option Cells) (after : List Record) (doubt : Option Record) (first : Record)
+    (rest : List Record) → after ≡ first ∷ rest → doubt ≡ None →
+    EachImage told (λ image. StandsOrIsEmpty image after ⊎
+    IsSomeAnd doubt (λ entry. StandsFor image (entry ∷ after))) →
+    EachImage told (λ image. StandsFor image (first ∷ rest))
 images-have None after doubt first rest is sure h = tt
-images-have (Some cells) after doubt first rest is sure h = λ image of. image-has image after doubt first rest is sure (h image of)
+images-have (Some cells) after doubt first rest is sure h =
+    λ image of. image-has image after doubt first rest is sure (h image of)
 
 -- what a command ends with, by the answer of its job
 abbrev EndsWith : List Record → Kind → Answer → Seen → Seen → Ending → Type 0
-EndsWith records kind how old new end = EndsByAnswer (text_of (setup_in_effect records).tolerance kind how) how old new end
+EndsWith records kind how old new end =
+    EndsByAnswer (text_of (setup_in_effect records).tolerance kind how) how old new end
 
 -- a job that found no memory, or wrote its text
-pub memory-well : (text : List ℕ) (old new : Seen) (end : Ending) → IsRefused 70 0 old new end → GivesUnlessMemory text old new end
+pub memory-well : (text : List ℕ) (old new : Seen) (end : Ending) → IsRefused 70 0 old new end →
+    GivesUnlessMemory text old new end
 memory-well text old new end r = inr (r.status_is, none-written text old.sink new.sink r.sink)
 
 -- a status other than 0 and 15 is not done
@@ -82,19 +104,25 @@ refused-done why status is (inl done) = refused-not why 0 refl (λ e. omega (ari
 refused-done why status is (inr done) = refused-not why 15 refl (λ e. omega (arith, e)) (sym is ∙ done)
 
 -- a calm disk was calm once it was opened
-pub calm-disk : (records : List Record) (kind : Kind) (how : Answer) (old new : Seen) (heard : List Entry) (left : LeftAlone records kind how old new heard) → (Rose old.disk_faults new.disk_faults → ⊥) → Rose left.faults new.disk_faults → ⊥
-calm-disk records kind how old new heard left calm rose = calm (rose-before old.disk_faults left.faults new.disk_faults left.before left.leaves.counts.disk rose)
+pub calm-disk : (records : List Record) (kind : Kind) (how : Answer) (old new : Seen) (heard : List Entry)
+    (left : LeftAlone records kind how old new heard) → (Rose old.disk_faults new.disk_faults → ⊥) →
+    Rose left.faults new.disk_faults → ⊥
+calm-disk records kind how old new heard left calm rose =
+    calm (rose-before old.disk_faults left.faults new.disk_faults left.before left.leaves.counts.disk rose)
 
 -- ---- puts
 
-second-off : (b c : Bool) (x y : Refusal) (rest : Option Refusal) → cond b (Some x) (cond c (Some y) rest) ≡ None → c ≡ false
+second-off : (b c : Bool) (x y : Refusal) (rest : Option Refusal) →
+    cond b (Some x) (cond c (Some y) rest) ≡ None → c ≡ false
 second-off true c x y rest h = absurd (let e : Some x ≡ None = h in cc)
 second-off false true x y rest h = absurd (let e : Some y ≡ None = h in cc)
 second-off false false x y rest h = refl
 
 -- a put that is not refused has a file that is not too long
-pub not-long : (records : List Record) (name bytes : List ℕ) → refusal_over records (PutJob name bytes) ≡ None → length bytes ≤ largest_file
-not-long records name bytes none = at-most largest_file (length bytes) (second-off _ (nat_lt largest_file (length bytes)) _ _ _ none)
+pub not-long : (records : List Record) (name bytes : List ℕ) →
+    refusal_over records (PutJob name bytes) ≡ None → length bytes ≤ largest_file
+not-long records name bytes none =
+    at-most largest_file (length bytes) (second-off _ (nat_lt largest_file (length bytes)) _ _ _ none)
   where
     at-most : (a b : ℕ) → nat_lt a b ≡ false → b ≤ a
     at-most a b e = grind (arith, e)
@@ -103,12 +131,19 @@ not-long records name bytes none = at-most largest_file (length bytes) (second-o
 pub put-in_effect : (records : List Record) (name : List ℕ) (size : ℕ) →
     file_of (after_put records name size) name
     ≡ Some (file_as name (next_id records) size (profile_in (setup_of records)))
-put-in_effect records name size = cond_true (is_start_of name (started_as (PutStart (next_id records) name ∷ records) (next_id records))) _ _
-    (ap (is_start_of name) (cond_true (next_id records == next_id records) (Some name) (started_as records (next_id records)) (eq-eqb (next_id records) (next_id records) refl)) ∙ same-refl name)
+put-in_effect records name size =
+    cond_true (is_start_of name (started_as (PutStart (next_id records) name ∷ records) (next_id records))) _
+    _
+    (ap (is_start_of name)
+    (cond_true (next_id records == next_id records) (Some name) (started_as records (next_id records))
+    (eq-eqb (next_id records) (next_id records) refl)) ∙ same-refl name)
 
-put-by : (name bytes : List ℕ) (records : List Record) (old new : Seen) (end : Ending) → IsOpened old records → ReadsUpTo (largest_file + 1) old.source new.source bytes →
-    refusal_over records (PutJob name bytes) ≡ None → (how : Answer) (left : LeftAlone records (PutJob name bytes) how old new end.heard) →
-    PutLeaves (ran_left records (PutJob name bytes) how old new end.heard left) name bytes how → EndsWith records (PutJob name bytes) how old new end → IsDone end → IsWholePut name old new end
+put-by : (name bytes : List ℕ) (records : List Record) (old new : Seen) (end : Ending) →
+    IsOpened old records → ReadsUpTo (largest_file + 1) old.source new.source bytes →
+    refusal_over records (PutJob name bytes) ≡ None →
+    (how : Answer) (left : LeftAlone records (PutJob name bytes) how old new end.heard) →
+    PutLeaves (ran_left records (PutJob name bytes) how old new end.heard left) name bytes how →
+    EndsWith records (PutJob name bytes) how old new end → IsDone end → IsWholePut name old new end
 put-by name bytes records old new end opened read begins answer.Put left L by done = record {
   records = records;
   bytes = bytes;
@@ -121,23 +156,32 @@ put-by name bytes records old new end opened read begins answer.Put left L by do
   in_effect = put-in_effect records name (length bytes);
   stored = L.1;
 }
-put-by name bytes records old new end opened read begins (answer.ProviderFault j) left L by done = absurd (not-done end.status 13 by.status_is (λ e. omega (arith, e)) (λ e. omega (arith, e)) done)
-put-by name bytes records old new end opened read begins answer.DiskFault left L by done = absurd (not-done end.status 12 by.status_is (λ e. omega (arith, e)) (λ e. omega (arith, e)) done)
-put-by name bytes records old new end opened read begins answer.Memory left L by done = absurd (not-done end.status 70 by.status_is (λ e. omega (arith, e)) (λ e. omega (arith, e)) done)
+put-by name bytes records old new end opened read begins (answer.ProviderFault j) left L by done =
+    absurd (not-done end.status 13 by.status_is (λ e. omega (arith, e)) (λ e. omega (arith, e)) done)
+put-by name bytes records old new end opened read begins answer.DiskFault left L by done =
+    absurd (not-done end.status 12 by.status_is (λ e. omega (arith, e)) (λ e. omega (arith, e)) done)
+put-by name bytes records old new end opened read begins answer.Memory left L by done =
+    absurd (not-done end.status 70 by.status_is (λ e. omega (arith, e)) (λ e. omega (arith, e)) done)
 put-by name bytes records old new end opened read begins how left L by done = absurd L
 
 -- a done put stored its whole source on every provider, and it is in effect
-pub put-done : (name : List ℕ) (old new : Seen) (end : Ending) → AnswersPut name old new end → IsDone end → IsWholePut name old new end
+pub put-done : (name : List ℕ) (old new : Seen) (end : Ending) → AnswersPut name old new end → IsDone end →
+    IsWholePut name old new end
 put-done name old new end (AnswersPut.unstarted u same) done = absurd (unstarted-done old new end u done)
-put-done name old new end (AnswersPut.source_fault records opened rose synced taken r) done = absurd (not-done end.status 14 r.status_is (λ e. omega (arith, e)) (λ e. omega (arith, e)) done)
-put-done name old new end (AnswersPut.no_memory taken r) done = absurd (not-done end.status 70 r.status_is (λ e. omega (arith, e)) (λ e. omega (arith, e)) done)
-put-done name old new end (AnswersPut.begun records bytes opened read (AnswersJob.refused why is synced r)) done = absurd (refused-done why end.status r.status_is done)
-put-done name old new end (AnswersPut.begun records bytes opened read (AnswersJob.no_memory synced r)) done = absurd (not-done end.status 70 r.status_is (λ e. omega (arith, e)) (λ e. omega (arith, e)) done)
+put-done name old new end (AnswersPut.source_fault records opened rose synced taken r) done =
+    absurd (not-done end.status 14 r.status_is (λ e. omega (arith, e)) (λ e. omega (arith, e)) done)
+put-done name old new end (AnswersPut.no_memory taken r) done =
+    absurd (not-done end.status 70 r.status_is (λ e. omega (arith, e)) (λ e. omega (arith, e)) done)
+put-done name old new end (AnswersPut.begun records bytes opened read (AnswersJob.refused why is synced r)) done =
+    absurd (refused-done why end.status r.status_is done)
+put-done name old new end (AnswersPut.begun records bytes opened read (AnswersJob.no_memory synced r)) done =
+    absurd (not-done end.status 70 r.status_is (λ e. omega (arith, e)) (λ e. omega (arith, e)) done)
 put-done name old new end (AnswersPut.begun records bytes opened read (AnswersJob.ended how none runs left by)) done =
     put-by name bytes records old new end opened read none how left left.leaves.by_kind.0 by done
 
 -- what is read of a source that is no longer than a file may be is all of it
-read-all : (old new : Option (List ℕ)) (bytes seen : List ℕ) → old ≡ Some bytes → length bytes ≤ largest_file → ReadsUpTo (largest_file + 1) old new seen → seen ≡ bytes
+read-all : (old new : Option (List ℕ)) (bytes seen : List ℕ) → old ≡ Some bytes →
+    length bytes ≤ largest_file → ReadsUpTo (largest_file + 1) old new seen → seen ≡ bytes
 read-all old None bytes seen is small R = absurd (let e : Some bytes ≡ None = sym is ∙ R.front in cc)
 read-all old (Some left) bytes seen is small R =
     (let e : Some bytes ≡ Some (seen ++ left) = sym is ∙ R.front in
@@ -146,56 +190,80 @@ read-all old (Some left) bytes seen is small R =
     let none : left ≡ [] = R.end (omega (arith, size, sum, small)) in
     sym (f ∙ (ap (λ l. seen ++ l) none ∙ append-nil seen)))
 
-put-job-well : (name bytes : List ℕ) (records : List Record) (old new : Seen) (end : Ending) → refusal_over records (PutJob name bytes) ≡ None → (Rose old.disk_faults new.disk_faults → ⊥) →
-    ((j : ℕ) → j < (setup_in_effect records).n → Rose (provider_at old.providers j).store_faults (provider_at new.providers j).store_faults → ⊥) → (Rose old.sink_faults new.sink_faults → ⊥) →
-    AnswersJob (PutJob name bytes) records old new end → GivesUnlessMemory (stored_line name (length bytes)) old new end
-put-job-well name bytes records old new end begins disk stores sink (AnswersJob.refused why is synced r) = absurd (let e : None ≡ Some why = sym begins ∙ is in cc)
-put-job-well name bytes records old new end begins disk stores sink (AnswersJob.no_memory synced r) = memory-well (stored_line name (length bytes)) old new end r
+put-job-well : (name bytes : List ℕ) (records : List Record) (old new : Seen) (end : Ending) →
+    refusal_over records (PutJob name bytes) ≡ None → (Rose old.disk_faults new.disk_faults → ⊥) →
+    ((j : ℕ) → j < (setup_in_effect records).n →
+    Rose (provider_at old.providers j).store_faults (provider_at new.providers j).store_faults → ⊥) →
+    (Rose old.sink_faults new.sink_faults → ⊥) →
+    AnswersJob (PutJob name bytes) records old new end →
+    GivesUnlessMemory (stored_line name (length bytes)) old new end
+put-job-well name bytes records old new end begins disk stores sink (AnswersJob.refused why is synced r) =
+    absurd (let e : None ≡ Some why = sym begins ∙ is in cc)
+put-job-well name bytes records old new end begins disk stores sink (AnswersJob.no_memory synced r) =
+    memory-well (stored_line name (length bytes)) old new end r
 put-job-well name bytes records old new end begins disk stores sink (AnswersJob.ended how none runs left by) =
-    elim (put-end (ran_left records (PutJob name bytes) how old new end.heard left) name bytes how left.leaves.by_kind.0 (calm-disk records (PutJob name bytes) how old new end.heard left disk) stores) [
-      | inl same ↦ (let told : EndsWith records (PutJob name bytes) answer.Put old new end = subst (λ h. EndsWith records (PutJob name bytes) h old new end) same by in
+    elim (put-end (ran_left records (PutJob name bytes) how old new end.heard left) name bytes how
+    left.leaves.by_kind.0 (calm-disk records (PutJob name bytes) how old new end.heard left disk) stores) [
+      | inl same ↦ (let told : EndsWith records (PutJob name bytes) answer.Put old new end =
+          subst (λ h. EndsWith records (PutJob name bytes) h old new end) same by in
           written-well (stored_line name (length bytes)) old new end told.written sink)
-      | inr same ↦ (let told : EndsWith records (PutJob name bytes) answer.Memory old new end = subst (λ h. EndsWith records (PutJob name bytes) h old new end) same by in
+      | inr same ↦ (let told : EndsWith records (PutJob name bytes) answer.Memory old new end =
+          subst (λ h. EndsWith records (PutJob name bytes) h old new end) same by in
           inr (told.status_is, none-written (stored_line name (length bytes)) old.sink new.sink told.sink))
     ]
 
 -- a put that is not refused and meets no fault is done, or finds no memory
-pub put-well : (name bytes : List ℕ) (records : List Record) (old new : Seen) (end : Ending) → AnswersPut name old new end → IsKnown old records → old.source ≡ Some bytes →
+pub put-well : (name bytes : List ℕ) (records : List Record) (old new : Seen) (end : Ending) →
+    AnswersPut name old new end → IsKnown old records → old.source ≡ Some bytes →
     refusal_over records (PutJob name bytes) ≡ None → (Rose old.disk_faults new.disk_faults → ⊥) →
-    ((j : ℕ) → j < (setup_in_effect records).n → Rose (provider_at old.providers j).store_faults (provider_at new.providers j).store_faults → ⊥) →
-    (Rose old.source_faults new.source_faults → ⊥) → (Rose old.sink_faults new.sink_faults → ⊥) → GivesUnlessMemory (stored_line name (length bytes)) old new end
-put-well name bytes records old new end (AnswersPut.unstarted u same) K is begins disk stores source sink = elim (unstarted-known old new end records K u) [
-  | inl (rose, r) ↦ absurd (disk rose)
-  | inr r ↦ memory-well (stored_line name (length bytes)) old new end r
-]
-put-well name bytes records old new end (AnswersPut.source_fault other opened rose synced taken r) K is begins disk stores source sink = absurd (source rose)
-put-well name bytes records old new end (AnswersPut.no_memory taken r) K is begins disk stores source sink = memory-well (stored_line name (length bytes)) old new end r
+    ((j : ℕ) → j < (setup_in_effect records).n →
+    Rose (provider_at old.providers j).store_faults (provider_at new.providers j).store_faults → ⊥) →
+    (Rose old.source_faults new.source_faults → ⊥) → (Rose old.sink_faults new.sink_faults → ⊥) →
+    GivesUnlessMemory (stored_line name (length bytes)) old new end
+put-well name bytes records old new end (AnswersPut.unstarted u same) K is begins disk stores source sink =
+    elim (unstarted-known old new end records K u) [
+      | inl (rose, r) ↦ absurd (disk rose)
+      | inr r ↦ memory-well (stored_line name (length bytes)) old new end r
+    ]
+put-well name bytes records old new end (AnswersPut.source_fault other opened rose synced taken r) K is begins disk stores source sink =
+    absurd (source rose)
+put-well name bytes records old new end (AnswersPut.no_memory taken r) K is begins disk stores source sink =
+    memory-well (stored_line name (length bytes)) old new end r
 put-well name bytes records old new end (AnswersPut.begun other seen opened read A) K is begins disk stores source sink =
     (let same = known-once old records other K opened.read in
     let all = read-all old.source new.source bytes seen is (not-long records name bytes begins) read in
-    put-job-well name bytes records old new end begins disk stores sink (subst (λ b. AnswersJob (PutJob name b) records old new end) all (subst (λ rs. AnswersJob (PutJob name seen) rs old new end) same A)))
+    put-job-well name bytes records old new end begins disk stores sink
+    (subst (λ b. AnswersJob (PutJob name b) records old new end) all
+    (subst (λ rs. AnswersJob (PutJob name seen) rs old new end) same A)))
 
 -- ---- the refusals of a put, by all that its source holds
 
-second-on : (b c : Bool) (x y : Refusal) (rest : Option Refusal) → c ≡ true → cond b (Some x) (cond c (Some y) rest) ≡ cond b (Some x) (Some y)
+second-on : (b c : Bool) (x y : Refusal) (rest : Option Refusal) → c ≡ true →
+    cond b (Some x) (cond c (Some y) rest) ≡ cond b (Some x) (Some y)
 second-on true c x y rest h = refl
 second-on false c x y rest h = cond_true c (Some y) rest h
 
-too-long : (records : List Record) (name a b : List ℕ) → largest_file < length a → largest_file < length b → refusal_over records (PutJob name a) ≡ refusal_over records (PutJob name b)
-too-long records name a b la lb = second-on _ (nat_lt largest_file (length a)) _ _ _ (lt-ltb largest_file (length a) la) ∙ sym (second-on _ (nat_lt largest_file (length b)) _ _ _ (lt-ltb largest_file (length b) lb))
+too-long : (records : List Record) (name a b : List ℕ) → largest_file < length a → largest_file < length b →
+    refusal_over records (PutJob name a) ≡ refusal_over records (PutJob name b)
+too-long records name a b la lb = second-on _ (nat_lt largest_file (length a)) _ _ _
+    (lt-ltb largest_file (length a) la)
+    ∙ sym (second-on _ (nat_lt largest_file (length b)) _ _ _ (lt-ltb largest_file (length b) lb))
 
 -- what is read of a longer source is too long as well
-read-long : (old new : Option (List ℕ)) (bytes seen : List ℕ) → old ≡ Some bytes → largest_file < length bytes → ReadsUpTo (largest_file + 1) old new seen → largest_file < length seen
+read-long : (old new : Option (List ℕ)) (bytes seen : List ℕ) → old ≡ Some bytes →
+    largest_file < length bytes → ReadsUpTo (largest_file + 1) old new seen → largest_file < length seen
 read-long old None bytes seen is long R = absurd (let e : Some bytes ≡ None = sym is ∙ R.front in cc)
 read-long old (Some left) bytes seen is long R = elim (cases_lt largest_file (length seen)) [
   | inl l ↦ l
   | inr l ↦ absurd (let e : Some bytes ≡ Some (seen ++ left) = sym is ∙ R.front in
       let f : bytes ≡ seen ++ left = cc in
       let none : left ≡ [] = R.end (omega (arith, l)) in
-      let size : length bytes ≡ length seen = ap length (f ∙ (ap (λ k. seen ++ k) none ∙ append-nil seen)) in omega (arith, size, l, long))
+      let size : length bytes ≡ length seen = ap length (f ∙ (ap (λ k. seen ++ k) none ∙ append-nil seen)) in
+      omega (arith, size, l, long))
 ]
 
-read-same : (records : List Record) (name : List ℕ) (old new : Option (List ℕ)) (bytes seen : List ℕ) → old ≡ Some bytes → ReadsUpTo (largest_file + 1) old new seen →
+read-same : (records : List Record) (name : List ℕ) (old new : Option (List ℕ)) (bytes seen : List ℕ) →
+    old ≡ Some bytes → ReadsUpTo (largest_file + 1) old new seen →
     refusal_over records (PutJob name seen) ≡ refusal_over records (PutJob name bytes)
 read-same records name old new bytes seen is R = elim (cases_lt largest_file (length bytes)) [
   | inl l ↦ too-long records name seen bytes (read-long old new bytes seen is l R) l
@@ -203,36 +271,50 @@ read-same records name old new bytes seen is R = elim (cases_lt largest_file (le
 ]
 
 -- a put ends with the status of a refusal only where that one is the first that applies
-pub put-only : (name bytes : List ℕ) (records : List Record) (old new : Seen) (end : Ending) (why : Refusal) → AnswersPut name old new end → IsKnown old records → old.source ≡ Some bytes →
+pub put-only : (name bytes : List ℕ) (records : List Record) (old new : Seen) (end : Ending) (why : Refusal) →
+    AnswersPut name old new end → IsKnown old records → old.source ≡ Some bytes →
     status_of why ≢ 70 → end.status ≡ status_of why → refusal_over records (PutJob name bytes) ≡ Some why
-put-only name bytes records old new end why (AnswersPut.unstarted u same) K is own e = elim (unstarted-known old new end records K u) [
-  | inl (rose, r) ↦ absurd (own-status end why 12 refl r.status_is own e)
-  | inr r ↦ absurd (own-status end why 70 refl r.status_is own e)
-]
-put-only name bytes records old new end why (AnswersPut.source_fault other opened rose synced taken r) K is own e = absurd (own-status end why 14 refl r.status_is own e)
-put-only name bytes records old new end why (AnswersPut.no_memory taken r) K is own e = absurd (own-status end why 70 refl r.status_is own e)
+put-only name bytes records old new end why (AnswersPut.unstarted u same) K is own e =
+    elim (unstarted-known old new end records K u) [
+      | inl (rose, r) ↦ absurd (own-status end why 12 refl r.status_is own e)
+      | inr r ↦ absurd (own-status end why 70 refl r.status_is own e)
+    ]
+put-only name bytes records old new end why (AnswersPut.source_fault other opened rose synced taken r) K is own e =
+    absurd (own-status end why 14 refl r.status_is own e)
+put-only name bytes records old new end why (AnswersPut.no_memory taken r) K is own e =
+    absurd (own-status end why 70 refl r.status_is own e)
 put-only name bytes records old new end why (AnswersPut.begun other seen opened read A) K is own e =
     sym (read-same records name old.source new.source bytes seen is read)
-    ∙ refused-only (PutJob name seen) records old new end why (subst (λ rs. AnswersJob (PutJob name seen) rs old new end) (known-once old records other K opened.read) A) own e
+    ∙ refused-only (PutJob name seen) records old new end why
+    (subst (λ rs. AnswersJob (PutJob name seen) rs old new end)
+    (known-once old records other K opened.read) A) own e
 
 -- a put for which a refusal is the first that applies is refused so, or finds no memory
-pub put-always : (name bytes : List ℕ) (records : List Record) (old new : Seen) (end : Ending) (why : Refusal) → AnswersPut name old new end → IsKnown old records → old.source ≡ Some bytes →
-    (Rose old.disk_faults new.disk_faults → ⊥) → (Rose old.source_faults new.source_faults → ⊥) → refusal_over records (PutJob name bytes) ≡ Some why →
+pub put-always : (name bytes : List ℕ) (records : List Record) (old new : Seen) (end : Ending)
+    (why : Refusal) → AnswersPut name old new end → IsKnown old records → old.source ≡ Some bytes →
+    (Rose old.disk_faults new.disk_faults → ⊥) → (Rose old.source_faults new.source_faults → ⊥) →
+    refusal_over records (PutJob name bytes) ≡ Some why →
     IsRefused (status_of why) 0 old new end ⊎ IsRefused 70 0 old new end
-put-always name bytes records old new end why (AnswersPut.unstarted u same) K is disk source applies = elim (unstarted-known old new end records K u) [
-  | inl (rose, r) ↦ absurd (disk rose)
-  | inr r ↦ inr r
-]
-put-always name bytes records old new end why (AnswersPut.source_fault other opened rose synced taken r) K is disk source applies = absurd (source rose)
+put-always name bytes records old new end why (AnswersPut.unstarted u same) K is disk source applies =
+    elim (unstarted-known old new end records K u) [
+      | inl (rose, r) ↦ absurd (disk rose)
+      | inr r ↦ inr r
+    ]
+put-always name bytes records old new end why (AnswersPut.source_fault other opened rose synced taken r) K is disk source applies =
+    absurd (source rose)
 put-always name bytes records old new end why (AnswersPut.no_memory taken r) K is disk source applies = inr r
 put-always name bytes records old new end why (AnswersPut.begun other seen opened read A) K is disk source applies =
-    refused-always (PutJob name seen) records old new end why (subst (λ rs. AnswersJob (PutJob name seen) rs old new end) (known-once old records other K opened.read) A)
+    refused-always (PutJob name seen) records old new end why
+    (subst (λ rs. AnswersJob (PutJob name seen) rs old new end)
+    (known-once old records other K opened.read) A)
     (read-same records name old.source new.source bytes seen is read ∙ applies)
 
 -- ---- drops
 
-drop-by : (name : List ℕ) (records : List Record) (old new : Seen) (end : Ending) → IsOpened old records → (how : Answer) (left : LeftAlone records (DropJob name) how old new end.heard) →
-    DropLeaves (ran_left records (DropJob name) how old new end.heard left) name how → EndsWith records (DropJob name) how old new end → IsDone end → IsDropped name old new end
+drop-by : (name : List ℕ) (records : List Record) (old new : Seen) (end : Ending) → IsOpened old records →
+    (how : Answer) (left : LeftAlone records (DropJob name) how old new end.heard) →
+    DropLeaves (ran_left records (DropJob name) how old new end.heard left) name how →
+    EndsWith records (DropJob name) how old new end → IsDone end → IsDropped name old new end
 drop-by name records old new end opened answer.Dropped left L by done = record {
   records = records;
   file = L.1.file;
@@ -243,88 +325,128 @@ drop-by name records old new end opened answer.Dropped left L by done = record {
   out_of_effect = cond_true (is_same_name name name) None (file_of records name) (same-refl name);
   gone = L.1.held;
 }
-drop-by name records old new end opened answer.DiskFault left L by done = absurd (not-done end.status 12 by.status_is (λ e. omega (arith, e)) (λ e. omega (arith, e)) done)
-drop-by name records old new end opened answer.Memory left L by done = absurd (not-done end.status 70 by.status_is (λ e. omega (arith, e)) (λ e. omega (arith, e)) done)
+drop-by name records old new end opened answer.DiskFault left L by done =
+    absurd (not-done end.status 12 by.status_is (λ e. omega (arith, e)) (λ e. omega (arith, e)) done)
+drop-by name records old new end opened answer.Memory left L by done =
+    absurd (not-done end.status 70 by.status_is (λ e. omega (arith, e)) (λ e. omega (arith, e)) done)
 drop-by name records old new end opened how left L by done = absurd L
 
 -- a done drop took its file out of effect, and its blocks away but where a count rose
-pub drop-done : (name : List ℕ) (old new : Seen) (end : Ending) → AnswersAlone (DropJob name) old new end → IsDone end → IsDropped name old new end
+pub drop-done : (name : List ℕ) (old new : Seen) (end : Ending) → AnswersAlone (DropJob name) old new end →
+    IsDone end → IsDropped name old new end
 drop-done name old new end (AnswersAlone.unstarted u) done = absurd (unstarted-done old new end u done)
-drop-done name old new end (AnswersAlone.begun records opened (AnswersJob.refused why is synced r)) done = absurd (refused-done why end.status r.status_is done)
-drop-done name old new end (AnswersAlone.begun records opened (AnswersJob.no_memory synced r)) done = absurd (not-done end.status 70 r.status_is (λ e. omega (arith, e)) (λ e. omega (arith, e)) done)
-drop-done name old new end (AnswersAlone.begun records opened (AnswersJob.ended how none runs left by)) done = drop-by name records old new end opened how left left.leaves.by_kind.0 by done
+drop-done name old new end (AnswersAlone.begun records opened (AnswersJob.refused why is synced r)) done =
+    absurd (refused-done why end.status r.status_is done)
+drop-done name old new end (AnswersAlone.begun records opened (AnswersJob.no_memory synced r)) done =
+    absurd (not-done end.status 70 r.status_is (λ e. omega (arith, e)) (λ e. omega (arith, e)) done)
+drop-done name old new end (AnswersAlone.begun records opened (AnswersJob.ended how none runs left by)) done =
+    drop-by name records old new end opened how left left.leaves.by_kind.0 by done
 
-drop-job-well : (name : List ℕ) (records : List Record) (old new : Seen) (end : Ending) → refusal_over records (DropJob name) ≡ None → (Rose old.disk_faults new.disk_faults → ⊥) → (Rose old.sink_faults new.sink_faults → ⊥) →
+drop-job-well : (name : List ℕ) (records : List Record) (old new : Seen) (end : Ending) →
+    refusal_over records (DropJob name) ≡ None → (Rose old.disk_faults new.disk_faults → ⊥) →
+    (Rose old.sink_faults new.sink_faults → ⊥) →
     AnswersJob (DropJob name) records old new end → GivesUnlessMemory (dropped_line name) old new end
-drop-job-well name records old new end begins disk sink (AnswersJob.refused why is synced r) = absurd (let e : None ≡ Some why = sym begins ∙ is in cc)
-drop-job-well name records old new end begins disk sink (AnswersJob.no_memory synced r) = memory-well (dropped_line name) old new end r
+drop-job-well name records old new end begins disk sink (AnswersJob.refused why is synced r) =
+    absurd (let e : None ≡ Some why = sym begins ∙ is in cc)
+drop-job-well name records old new end begins disk sink (AnswersJob.no_memory synced r) =
+    memory-well (dropped_line name) old new end r
 drop-job-well name records old new end begins disk sink (AnswersJob.ended how none runs left by) =
-    elim (drop-end (ran_left records (DropJob name) how old new end.heard left) name how left.leaves.by_kind.0 (calm-disk records (DropJob name) how old new end.heard left disk)) [
-      | inl same ↦ (let told : EndsWith records (DropJob name) answer.Dropped old new end = subst (λ h. EndsWith records (DropJob name) h old new end) same by in
+    elim (drop-end (ran_left records (DropJob name) how old new end.heard left) name how left.leaves.by_kind.0
+    (calm-disk records (DropJob name) how old new end.heard left disk)) [
+      | inl same ↦ (let told : EndsWith records (DropJob name) answer.Dropped old new end =
+          subst (λ h. EndsWith records (DropJob name) h old new end) same by in
           written-well (dropped_line name) old new end told.written sink)
-      | inr same ↦ (let told : EndsWith records (DropJob name) answer.Memory old new end = subst (λ h. EndsWith records (DropJob name) h old new end) same by in
+      | inr same ↦ (let told : EndsWith records (DropJob name) answer.Memory old new end =
+          subst (λ h. EndsWith records (DropJob name) h old new end) same by in
           inr (told.status_is, none-written (dropped_line name) old.sink new.sink told.sink))
     ]
 
 -- a drop that is not refused and meets no fault is done, or finds no memory
-pub drop-well : (name : List ℕ) (records : List Record) (old new : Seen) (end : Ending) → AnswersAlone (DropJob name) old new end → IsKnown old records →
-    refusal_over records (DropJob name) ≡ None → (Rose old.disk_faults new.disk_faults → ⊥) → (Rose old.sink_faults new.sink_faults → ⊥) → GivesUnlessMemory (dropped_line name) old new end
-drop-well name records old new end A K begins disk sink = elim (alone-known (DropJob name) old new end records K A) [
-  | inl (inl (rose, r)) ↦ absurd (disk rose)
-  | inl (inr r) ↦ memory-well (dropped_line name) old new end r
-  | inr job ↦ drop-job-well name records old new end begins disk sink job
-]
+pub drop-well : (name : List ℕ) (records : List Record) (old new : Seen) (end : Ending) →
+    AnswersAlone (DropJob name) old new end → IsKnown old records →
+    refusal_over records (DropJob name) ≡ None → (Rose old.disk_faults new.disk_faults → ⊥) →
+    (Rose old.sink_faults new.sink_faults → ⊥) → GivesUnlessMemory (dropped_line name) old new end
+drop-well name records old new end A K begins disk sink =
+    elim (alone-known (DropJob name) old new end records K A) [
+      | inl (inl (rose, r)) ↦ absurd (disk rose)
+      | inl (inr r) ↦ memory-well (dropped_line name) old new end r
+      | inr job ↦ drop-job-well name records old new end begins disk sink job
+    ]
 
 -- ---- audits
 
-audit-by : (records : List Record) (old new : Seen) (end : Ending) → IsOpened old records → (how : Answer) (left : LeftAlone records AuditJob how old new end.heard) →
-    AuditGives (ran_left records AuditJob how old new end.heard left) how → EndsWith records AuditJob how old new end → IsDone end → IsAudited old new end
+audit-by : (records : List Record) (old new : Seen) (end : Ending) → IsOpened old records →
+    (how : Answer) (left : LeftAlone records AuditJob how old new end.heard) →
+    AuditGives (ran_left records AuditJob how old new end.heard left) how →
+    EndsWith records AuditJob how old new end → IsDone end → IsAudited old new end
 audit-by records old new end opened (answer.Audited number undecided counts) left L by done =
-    (let heard = subst (λ n. HearsRounds (ran_left records AuditJob (answer.Audited number undecided counts) old new end.heard left) n) L.0 L.2 in record {
+    (let heard = subst (λ n. HearsRounds
+    (ran_left records AuditJob (answer.Audited number undecided counts) old new end.heard left) n) L.0
+    L.2 in record {
       records = records;
       undecided = undecided;
       counts = counts;
       opened = opened;
-      told = subst (λ n. IsTold (audit_lines (setup_in_effect records).tolerance n undecided counts) old new end) L.0 by;
+      told = subst (λ n. IsTold (audit_lines (setup_in_effect records).tolerance n undecided counts) old new
+          end) L.0 by;
       disk = images-have new.disk left.after left.doubt _ _ L.1.after L.1.sure left.images;
       heard = record { heard = heard.heard; truthful = heard.truthful };
-      counted = subst (λ n. CountsHeard (ran_left records AuditJob (answer.Audited number undecided counts) old new end.heard left) n undecided counts) L.0 L.3;
+      counted = subst (λ n. CountsHeard
+          (ran_left records AuditJob (answer.Audited number undecided counts) old new end.heard left) n
+          undecided counts) L.0 L.3;
     })
-audit-by records old new end opened answer.DiskFault left L by done = absurd (not-done end.status 12 by.status_is (λ e. omega (arith, e)) (λ e. omega (arith, e)) done)
-audit-by records old new end opened answer.Memory left L by done = absurd (not-done end.status 70 by.status_is (λ e. omega (arith, e)) (λ e. omega (arith, e)) done)
+audit-by records old new end opened answer.DiskFault left L by done =
+    absurd (not-done end.status 12 by.status_is (λ e. omega (arith, e)) (λ e. omega (arith, e)) done)
+audit-by records old new end opened answer.Memory left L by done =
+    absurd (not-done end.status 70 by.status_is (λ e. omega (arith, e)) (λ e. omega (arith, e)) done)
 audit-by records old new end opened how left L by done = absurd L
 
 -- a done audit told counts that are the verdicts on what it heard
-pub audit-done : (old new : Seen) (end : Ending) → AnswersAlone AuditJob old new end → IsDone end → IsAudited old new end
+pub audit-done : (old new : Seen) (end : Ending) → AnswersAlone AuditJob old new end → IsDone end →
+    IsAudited old new end
 audit-done old new end (AnswersAlone.unstarted u) done = absurd (unstarted-done old new end u done)
-audit-done old new end (AnswersAlone.begun records opened (AnswersJob.refused why is synced r)) done = absurd (refused-done why end.status r.status_is done)
-audit-done old new end (AnswersAlone.begun records opened (AnswersJob.no_memory synced r)) done = absurd (not-done end.status 70 r.status_is (λ e. omega (arith, e)) (λ e. omega (arith, e)) done)
-audit-done old new end (AnswersAlone.begun records opened (AnswersJob.ended how none runs left by)) done = audit-by records old new end opened how left left.leaves.by_kind.gives by done
+audit-done old new end (AnswersAlone.begun records opened (AnswersJob.refused why is synced r)) done =
+    absurd (refused-done why end.status r.status_is done)
+audit-done old new end (AnswersAlone.begun records opened (AnswersJob.no_memory synced r)) done =
+    absurd (not-done end.status 70 r.status_is (λ e. omega (arith, e)) (λ e. omega (arith, e)) done)
+audit-done old new end (AnswersAlone.begun records opened (AnswersJob.ended how none runs left by)) done =
+    audit-by records old new end opened how left left.leaves.by_kind.gives by done
 
 -- a text that was written whole, or cut for want of memory
-pub zero-or-memory : (text : List ℕ) (old new : Seen) (end : Ending) → GivesUnlessMemory text old new end → (end.status ≡ 0) ⊎ (end.status ≡ 70)
+pub zero-or-memory : (text : List ℕ) (old new : Seen) (end : Ending) → GivesUnlessMemory text old new end →
+    (end.status ≡ 0) ⊎ (end.status ≡ 70)
 zero-or-memory text old new end (inl w) = inl w.0
 zero-or-memory text old new end (inr w) = inr w.0
 
 -- a command at status 0, or one that found no memory, ended in order
-pub in-order : (command : Command) (old new : Seen) (end : Ending) → (end.status ≡ 0) ⊎ (end.status ≡ 70) → EndsInOrder command old new end
+pub in-order : (command : Command) (old new : Seen) (end : Ending) → (end.status ≡ 0) ⊎ (end.status ≡ 70) →
+    EndsInOrder command old new end
 in-order command old new end (inl is) = EndsInOrder.done is
 in-order command old new end (inr is) = EndsInOrder.no_memory is
 
-audit-job-well : (records : List Record) (old new : Seen) (end : Ending) → refusal_over records AuditJob ≡ None → (Rose old.disk_faults new.disk_faults → ⊥) → (Rose old.sink_faults new.sink_faults → ⊥) →
+audit-job-well : (records : List Record) (old new : Seen) (end : Ending) →
+    refusal_over records AuditJob ≡ None → (Rose old.disk_faults new.disk_faults → ⊥) →
+    (Rose old.sink_faults new.sink_faults → ⊥) →
     AnswersJob AuditJob records old new end → (end.status ≡ 0) ⊎ (end.status ≡ 70)
-audit-job-well records old new end begins disk sink (AnswersJob.refused why is synced r) = absurd (let e : None ≡ Some why = sym begins ∙ is in cc)
+audit-job-well records old new end begins disk sink (AnswersJob.refused why is synced r) =
+    absurd (let e : None ≡ Some why = sym begins ∙ is in cc)
 audit-job-well records old new end begins disk sink (AnswersJob.no_memory synced r) = inr r.status_is
 audit-job-well records old new end begins disk sink (AnswersJob.ended how none runs left by) =
-    elim (audit-end (ran_left records AuditJob how old new end.heard left) how left.leaves.by_kind.gives (calm-disk records AuditJob how old new end.heard left disk)) [
-      | inl (number, undecided, counts, same) ↦ (let told : EndsWith records AuditJob (answer.Audited number undecided counts) old new end = subst (λ h. EndsWith records AuditJob h old new end) same by in
+    elim (audit-end (ran_left records AuditJob how old new end.heard left) how left.leaves.by_kind.gives
+    (calm-disk records AuditJob how old new end.heard left disk)) [
+      | inl (number, undecided, counts, same) ↦
+          (let told : EndsWith records AuditJob (answer.Audited number undecided counts) old new end =
+          subst (λ h. EndsWith records AuditJob h old new end) same by in
           zero-or-memory _ old new end (written-well _ old new end told.written sink))
-      | inr same ↦ (let told : EndsWith records AuditJob answer.Memory old new end = subst (λ h. EndsWith records AuditJob h old new end) same by in inr told.status_is)
+      | inr same ↦ (let told : EndsWith records AuditJob answer.Memory old new end =
+          subst (λ h. EndsWith records AuditJob h old new end) same by in inr told.status_is)
     ]
 
 -- an audit that is not refused and meets no fault is done, or finds no memory
-pub audit-well : (records : List Record) (old new : Seen) (end : Ending) → AnswersAlone AuditJob old new end → IsKnown old records →
-    refusal_over records AuditJob ≡ None → (Rose old.disk_faults new.disk_faults → ⊥) → (Rose old.sink_faults new.sink_faults → ⊥) → (end.status ≡ 0) ⊎ (end.status ≡ 70)
+pub audit-well : (records : List Record) (old new : Seen) (end : Ending) → AnswersAlone AuditJob old new end →
+    IsKnown old records →
+    refusal_over records AuditJob ≡ None → (Rose old.disk_faults new.disk_faults → ⊥) →
+    (Rose old.sink_faults new.sink_faults → ⊥) → (end.status ≡ 0) ⊎ (end.status ≡ 70)
 audit-well records old new end A K begins disk sink = elim (alone-known AuditJob old new end records K A) [
   | inl (inl (rose, r)) ↦ absurd (disk rose)
   | inl (inr r) ↦ inr r.status_is
@@ -333,8 +455,11 @@ audit-well records old new end A K begins disk sink = elim (alone-known AuditJob
 
 -- ---- repairs
 
-repair-by : (records : List Record) (old new : Seen) (end : Ending) → IsOpened old records → (how : Answer) (left : LeftAlone records RepairJob how old new end.heard) (due : Due) → due_of records ≡ Some due →
-    RepairGives (ran_left records RepairJob how old new end.heard left) due how → EndsWith records RepairJob how old new end → IsDone end → IsRepaired old new end
+repair-by : (records : List Record) (old new : Seen) (end : Ending) → IsOpened old records →
+    (how : Answer) (left : LeftAlone records RepairJob how old new end.heard) (due : Due) →
+    due_of records ≡ Some due →
+    RepairGives (ran_left records RepairJob how old new end.heard left) due how →
+    EndsWith records RepairJob how old new end → IsDone end → IsRepaired old new end
 repair-by records old new end opened (answer.Repaired number) left due is_due L by done = record {
   records = records;
   due = due;
@@ -342,94 +467,152 @@ repair-by records old new end opened (answer.Repaired number) left due is_due L 
   is_due = is_due;
   told = subst (λ n. IsTold (repaired_line n) old new end) L.0 by;
   disk = images-have new.disk left.after left.doubt _ _ L.1.after L.1.sure left.images;
-  rewritten = record { gave = L.2.gave; symbols = L.2.symbols; truth = L.2.truth; gives = L.2.gives; held = L.2.held };
+  rewritten = record {
+    gave = L.2.gave;
+    symbols = L.2.symbols;
+    truth = L.2.truth;
+    gives = L.2.gives;
+    held = L.2.held;
+  };
 }
-repair-by records old new end opened (answer.Lost stripe row) left due is_due L by done = absurd (not-done end.status 4 by.status_is (λ e. omega (arith, e)) (λ e. omega (arith, e)) done)
-repair-by records old new end opened (answer.ProviderFault j) left due is_due L by done = absurd (not-done end.status 13 by.status_is (λ e. omega (arith, e)) (λ e. omega (arith, e)) done)
-repair-by records old new end opened answer.DiskFault left due is_due L by done = absurd (not-done end.status 12 by.status_is (λ e. omega (arith, e)) (λ e. omega (arith, e)) done)
-repair-by records old new end opened answer.Memory left due is_due L by done = absurd (not-done end.status 70 by.status_is (λ e. omega (arith, e)) (λ e. omega (arith, e)) done)
+repair-by records old new end opened (answer.Lost stripe row) left due is_due L by done =
+    absurd (not-done end.status 4 by.status_is (λ e. omega (arith, e)) (λ e. omega (arith, e)) done)
+repair-by records old new end opened (answer.ProviderFault j) left due is_due L by done =
+    absurd (not-done end.status 13 by.status_is (λ e. omega (arith, e)) (λ e. omega (arith, e)) done)
+repair-by records old new end opened answer.DiskFault left due is_due L by done =
+    absurd (not-done end.status 12 by.status_is (λ e. omega (arith, e)) (λ e. omega (arith, e)) done)
+repair-by records old new end opened answer.Memory left due is_due L by done =
+    absurd (not-done end.status 70 by.status_is (λ e. omega (arith, e)) (λ e. omega (arith, e)) done)
 repair-by records old new end opened how left due is_due L by done = absurd L
 
 -- after a done repair each flagged provider holds the columns of what was fetched, and none is due
-pub repair-done : (old new : Seen) (end : Ending) → AnswersAlone RepairJob old new end → IsDone end → IsRepaired old new end
+pub repair-done : (old new : Seen) (end : Ending) → AnswersAlone RepairJob old new end → IsDone end →
+    IsRepaired old new end
 repair-done old new end (AnswersAlone.unstarted u) done = absurd (unstarted-done old new end u done)
-repair-done old new end (AnswersAlone.begun records opened (AnswersJob.refused why is synced r)) done = absurd (refused-done why end.status r.status_is done)
-repair-done old new end (AnswersAlone.begun records opened (AnswersJob.no_memory synced r)) done = absurd (not-done end.status 70 r.status_is (λ e. omega (arith, e)) (λ e. omega (arith, e)) done)
+repair-done old new end (AnswersAlone.begun records opened (AnswersJob.refused why is synced r)) done =
+    absurd (refused-done why end.status r.status_is done)
+repair-done old new end (AnswersAlone.begun records opened (AnswersJob.no_memory synced r)) done =
+    absurd (not-done end.status 70 r.status_is (λ e. omega (arith, e)) (λ e. omega (arith, e)) done)
 repair-done old new end (AnswersAlone.begun records opened (AnswersJob.ended how none runs left by)) done =
-    (let L = left.leaves.by_kind.0 in repair-by records old new end opened how left L.due L.is_due L.gives by done)
+    (let L = left.leaves.by_kind.0 in
+    repair-by records old new end opened how left L.due L.is_due L.gives by done)
 
-repair-job-well : (records : List Record) (old new : Seen) (end : Ending) (bytes : ℕ → List ℕ) → IsOpened old records → refusal_over records RepairJob ≡ None → (Rose old.disk_faults new.disk_faults → ⊥) →
-    ((j : ℕ) → j < (setup_in_effect records).n → Rose (provider_at old.providers j).store_faults (provider_at new.providers j).store_faults → ⊥) → (Rose old.sink_faults new.sink_faults → ⊥) →
-    ((name : List ℕ) (file : File) → file_of records name ≡ Some file → (length (bytes file.id) ≡ file.size) × (bad_seen records old new file (bytes file.id) ≤ (setup_in_effect records).b)) →
+repair-job-well : (records : List Record) (old new : Seen) (end : Ending) (bytes : ℕ → List ℕ) →
+    IsOpened old records → refusal_over records RepairJob ≡ None →
+    (Rose old.disk_faults new.disk_faults → ⊥) →
+    ((j : ℕ) → j < (setup_in_effect records).n →
+    Rose (provider_at old.providers j).store_faults (provider_at new.providers j).store_faults → ⊥) →
+    (Rose old.sink_faults new.sink_faults → ⊥) →
+    ((name : List ℕ) (file : File) → file_of records name ≡ Some file →
+    (length (bytes file.id) ≡ file.size) ×
+    (bad_seen records old new file (bytes file.id) ≤ (setup_in_effect records).b)) →
     AnswersJob RepairJob records old new end → (end.status ≡ 0) ⊎ (end.status ≡ 70)
-repair-job-well records old new end bytes opened begins disk stores sink safe (AnswersJob.refused why is synced r) = absurd (let e : None ≡ Some why = sym begins ∙ is in cc)
-repair-job-well records old new end bytes opened begins disk stores sink safe (AnswersJob.no_memory synced r) = inr r.status_is
+repair-job-well records old new end bytes opened begins disk stores sink safe (AnswersJob.refused why is synced r) =
+    absurd (let e : None ≡ Some why = sym begins ∙ is in cc)
+repair-job-well records old new end bytes opened begins disk stores sink safe (AnswersJob.no_memory synced r) =
+    inr r.status_is
 repair-job-well records old new end bytes opened begins disk stores sink safe (AnswersJob.ended how none runs left by) =
-    elim (repair-end (ran_left records RepairJob how old new end.heard left) opened.read.accepted (shape-at old records opened) bytes how left.leaves.by_kind.0 (calm-disk records RepairJob how old new end.heard left disk) stores safe) [
-      | inl (number, same) ↦ (let told : EndsWith records RepairJob (answer.Repaired number) old new end = subst (λ h. EndsWith records RepairJob h old new end) same by in
+    elim (repair-end (ran_left records RepairJob how old new end.heard left) opened.read.accepted
+    (shape-at old records opened) bytes how left.leaves.by_kind.0
+    (calm-disk records RepairJob how old new end.heard left disk) stores safe) [
+      | inl (number, same) ↦
+          (let told : EndsWith records RepairJob (answer.Repaired number) old new end =
+          subst (λ h. EndsWith records RepairJob h old new end) same by in
           zero-or-memory _ old new end (written-well _ old new end told.written sink))
-      | inr same ↦ (let told : EndsWith records RepairJob answer.Memory old new end = subst (λ h. EndsWith records RepairJob h old new end) same by in inr told.status_is)
+      | inr same ↦ (let told : EndsWith records RepairJob answer.Memory old new end =
+          subst (λ h. EndsWith records RepairJob h old new end) same by in inr told.status_is)
     ]
 
 -- a repair with no refusal, no fault and at most b bad providers a file is done, or finds no memory
-pub repair-well : (records : List Record) (old new : Seen) (end : Ending) (bytes : ℕ → List ℕ) → AnswersAlone RepairJob old new end → IsKnown old records →
+pub repair-well : (records : List Record) (old new : Seen) (end : Ending) (bytes : ℕ → List ℕ) →
+    AnswersAlone RepairJob old new end → IsKnown old records →
     refusal_over records RepairJob ≡ None → (Rose old.disk_faults new.disk_faults → ⊥) →
-    ((j : ℕ) → j < (setup_in_effect records).n → Rose (provider_at old.providers j).store_faults (provider_at new.providers j).store_faults → ⊥) → (Rose old.sink_faults new.sink_faults → ⊥) →
-    ((name : List ℕ) (file : File) → file_of records name ≡ Some file → (length (bytes file.id) ≡ file.size) × (bad_seen records old new file (bytes file.id) ≤ (setup_in_effect records).b)) →
+    ((j : ℕ) → j < (setup_in_effect records).n →
+    Rose (provider_at old.providers j).store_faults (provider_at new.providers j).store_faults → ⊥) →
+    (Rose old.sink_faults new.sink_faults → ⊥) →
+    ((name : List ℕ) (file : File) → file_of records name ≡ Some file →
+    (length (bytes file.id) ≡ file.size) ×
+    (bad_seen records old new file (bytes file.id) ≤ (setup_in_effect records).b)) →
     (end.status ≡ 0) ⊎ (end.status ≡ 70)
-repair-well records old new end bytes A K begins disk stores sink safe = elim (alone-known RepairJob old new end records K A) [
-  | inl (inl (rose, r)) ↦ absurd (disk rose)
-  | inl (inr r) ↦ inr r.status_is
-  | inr job ↦ repair-job-well records old new end bytes K.opened begins disk stores sink safe job
-]
+repair-well records old new end bytes A K begins disk stores sink safe =
+    elim (alone-known RepairJob old new end records K A) [
+      | inl (inl (rose, r)) ↦ absurd (disk rose)
+      | inl (inr r) ↦ inr r.status_is
+      | inr job ↦ repair-job-well records old new end bytes K.opened begins disk stores sink safe job
+    ]
 
 -- ---- puts, drops and audits over any disk
 
 -- a put with no fault ends in order, over any disk
-pub put-order : (name : List ℕ) (old new : Seen) (end : Ending) → AnswersPut name old new end → (Rose old.disk_faults new.disk_faults → ⊥) →
-    ((j : ℕ) → Rose (provider_at old.providers j).store_faults (provider_at new.providers j).store_faults → ⊥) →
-    (Rose old.source_faults new.source_faults → ⊥) → (Rose old.sink_faults new.sink_faults → ⊥) → EndsInOrder (PutUnder name) old new end
+pub put-order : (name : List ℕ) (old new : Seen) (end : Ending) → AnswersPut name old new end →
+    (Rose old.disk_faults new.disk_faults → ⊥) →
+    ((j : ℕ) → Rose (provider_at old.providers j).store_faults (provider_at new.providers j).store_faults →
+    ⊥) →
+    (Rose old.source_faults new.source_faults → ⊥) → (Rose old.sink_faults new.sink_faults → ⊥) →
+    EndsInOrder (PutUnder name) old new end
 put-order name old new end (AnswersPut.unstarted u same) disk stores source sink = EndsInOrder.unstarted u
-put-order name old new end (AnswersPut.source_fault other opened rose synced taken r) disk stores source sink = absurd (source rose)
-put-order name old new end (AnswersPut.no_memory taken r) disk stores source sink = EndsInOrder.no_memory r.status_is
+put-order name old new end (AnswersPut.source_fault other opened rose synced taken r) disk stores source sink =
+    absurd (source rose)
+put-order name old new end (AnswersPut.no_memory taken r) disk stores source sink =
+    EndsInOrder.no_memory r.status_is
 put-order name old new end (AnswersPut.begun records bytes opened read (AnswersJob.refused why is synced r)) disk stores source sink =
     EndsInOrder.refused records (PutJob name bytes) why opened (bytes, read, refl) is r
-put-order name old new end (AnswersPut.begun records bytes opened read (AnswersJob.no_memory synced r)) disk stores source sink = EndsInOrder.no_memory r.status_is
+put-order name old new end (AnswersPut.begun records bytes opened read (AnswersJob.no_memory synced r)) disk stores source sink =
+    EndsInOrder.no_memory r.status_is
 put-order name old new end (AnswersPut.begun records bytes opened read (AnswersJob.ended how none runs left by)) disk stores source sink =
-    in-order (PutUnder name) old new end (zero-or-memory _ old new end (put-job-well name bytes records old new end none disk (λ j l. stores j) sink (AnswersJob.ended how none runs left by)))
+    in-order (PutUnder name) old new end
+    (zero-or-memory _ old new end
+    (put-job-well name bytes records old new end none disk (λ j l. stores j) sink
+    (AnswersJob.ended how none runs left by)))
 
 -- a drop with no fault ends in order, over any disk
-pub drop-order : (name : List ℕ) (old new : Seen) (end : Ending) → AnswersAlone (DropJob name) old new end → (Rose old.disk_faults new.disk_faults → ⊥) → (Rose old.sink_faults new.sink_faults → ⊥) →
+pub drop-order : (name : List ℕ) (old new : Seen) (end : Ending) → AnswersAlone (DropJob name) old new end →
+    (Rose old.disk_faults new.disk_faults → ⊥) → (Rose old.sink_faults new.sink_faults → ⊥) →
     EndsInOrder (DropOf name) old new end
 drop-order name old new end (AnswersAlone.unstarted u) disk sink = EndsInOrder.unstarted u
-drop-order name old new end (AnswersAlone.begun records opened (AnswersJob.refused why is synced r)) disk sink = EndsInOrder.refused records (DropJob name) why opened refl is r
-drop-order name old new end (AnswersAlone.begun records opened (AnswersJob.no_memory synced r)) disk sink = EndsInOrder.no_memory r.status_is
+drop-order name old new end (AnswersAlone.begun records opened (AnswersJob.refused why is synced r)) disk sink =
+    EndsInOrder.refused records (DropJob name) why opened refl is r
+drop-order name old new end (AnswersAlone.begun records opened (AnswersJob.no_memory synced r)) disk sink =
+    EndsInOrder.no_memory r.status_is
 drop-order name old new end (AnswersAlone.begun records opened (AnswersJob.ended how none runs left by)) disk sink =
-    in-order (DropOf name) old new end (zero-or-memory _ old new end (drop-job-well name records old new end none disk sink (AnswersJob.ended how none runs left by)))
+    in-order (DropOf name) old new end
+    (zero-or-memory _ old new end
+    (drop-job-well name records old new end none disk sink (AnswersJob.ended how none runs left by)))
 
 -- an audit with no fault ends in order, over any disk
-pub audit-order : (old new : Seen) (end : Ending) → AnswersAlone AuditJob old new end → (Rose old.disk_faults new.disk_faults → ⊥) → (Rose old.sink_faults new.sink_faults → ⊥) → EndsInOrder AuditAll old new end
+pub audit-order : (old new : Seen) (end : Ending) → AnswersAlone AuditJob old new end →
+    (Rose old.disk_faults new.disk_faults → ⊥) → (Rose old.sink_faults new.sink_faults → ⊥) →
+    EndsInOrder AuditAll old new end
 audit-order old new end (AnswersAlone.unstarted u) disk sink = EndsInOrder.unstarted u
-audit-order old new end (AnswersAlone.begun records opened (AnswersJob.refused why is synced r)) disk sink = EndsInOrder.refused records AuditJob why opened refl is r
-audit-order old new end (AnswersAlone.begun records opened (AnswersJob.no_memory synced r)) disk sink = EndsInOrder.no_memory r.status_is
+audit-order old new end (AnswersAlone.begun records opened (AnswersJob.refused why is synced r)) disk sink =
+    EndsInOrder.refused records AuditJob why opened refl is r
+audit-order old new end (AnswersAlone.begun records opened (AnswersJob.no_memory synced r)) disk sink =
+    EndsInOrder.no_memory r.status_is
 audit-order old new end (AnswersAlone.begun records opened (AnswersJob.ended how none runs left by)) disk sink =
-    in-order AuditAll old new end (audit-job-well records old new end none disk sink (AnswersJob.ended how none runs left by))
+    in-order AuditAll old new end
+    (audit-job-well records old new end none disk sink (AnswersJob.ended how none runs left by))
 
 -- ---- what providers hold
 
 -- ending refused leaves each provider as it was
-pub refused-same : {X : Type 0} (of : Provider → X) (status at : ℕ) (old new : Seen) (end : Ending) → IsRefused status at old new end →
+pub refused-same : {X : Type 0} (of : Provider → X) (status at : ℕ) (old new : Seen) (end : Ending) →
+    IsRefused status at old new end →
     (j : ℕ) → of (provider_at new.providers j) ≡ of (provider_at old.providers j)
 refused-same of status at old new end r j = ap (λ ps. of (provider_at ps j)) r.providers
 
 -- and so does ending before there is a job
-pub unstarted-same : {X : Type 0} (of : Provider → X) (old new : Seen) (end : Ending) → Unstarted old new end →
+pub unstarted-same : {X : Type 0} (of : Provider → X) (old new : Seen) (end : Ending) →
+    Unstarted old new end →
     (j : ℕ) → of (provider_at new.providers j) ≡ of (provider_at old.providers j)
-unstarted-same of old new end u = (let r = unstarted-refused old new end u in refused-same of r.0 r.1 old new end r.3)
+unstarted-same of old new end u =
+    (let r = unstarted-refused old new end u in refused-same of r.0 r.1 old new end r.3)
 
 -- what a job leaves as it was at each provider of the setup is so at all
-pub left-same : {X : Type 0} (of : Provider → X) (records : List Record) (kind : Kind) (how : Answer) (old new : Seen) (heard : List Entry) (left : LeftAlone records kind how old new heard) →
-    ((j : ℕ) → j < (setup_in_effect records).n → of (provider_at new.providers j) ≡ of (provider_at old.providers j)) → (j : ℕ) → of (provider_at new.providers j) ≡ of (provider_at old.providers j)
+pub left-same : {X : Type 0} (of : Provider → X) (records : List Record) (kind : Kind) (how : Answer)
+    (old new : Seen) (heard : List Entry) (left : LeftAlone records kind how old new heard) →
+    ((j : ℕ) → j < (setup_in_effect records).n → of (provider_at new.providers j)
+    ≡ of (provider_at old.providers j)) → (j : ℕ) →
+    of (provider_at new.providers j) ≡ of (provider_at old.providers j)
 left-same of records kind how old new heard left same j = elim (cases_lt j (setup_in_effect records).n) [
   | inl l ↦ same j l
   | inr l ↦ ap of (left.leaves.others j l)
@@ -440,18 +623,23 @@ abbrev held_by : Provider → Option Held
 held_by p = p.held
 
 -- a get leaves what providers hold
-pub get-holds : (name : List ℕ) (old new : Seen) (end : Ending) → AnswersAlone (GetJob name) old new end → SameHolds old new
+pub get-holds : (name : List ℕ) (old new : Seen) (end : Ending) → AnswersAlone (GetJob name) old new end →
+    SameHolds old new
 get-holds name old new end (AnswersAlone.unstarted u) = unstarted-same held_by old new end u
-get-holds name old new end (AnswersAlone.begun records opened (AnswersJob.refused why is synced r)) = refused-same held_by _ 0 old new end r
-get-holds name old new end (AnswersAlone.begun records opened (AnswersJob.no_memory synced r)) = refused-same held_by 70 0 old new end r
+get-holds name old new end (AnswersAlone.begun records opened (AnswersJob.refused why is synced r)) =
+    refused-same held_by _ 0 old new end r
+get-holds name old new end (AnswersAlone.begun records opened (AnswersJob.no_memory synced r)) =
+    refused-same held_by 70 0 old new end r
 get-holds name old new end (AnswersAlone.begun records opened (AnswersJob.ended how none runs left by)) =
     left-same held_by records (GetJob name) how old new end.heard left left.leaves.by_kind.held
 
 -- an audit leaves what providers hold
 pub audit-holds : (old new : Seen) (end : Ending) → AnswersAlone AuditJob old new end → SameHolds old new
 audit-holds old new end (AnswersAlone.unstarted u) = unstarted-same held_by old new end u
-audit-holds old new end (AnswersAlone.begun records opened (AnswersJob.refused why is synced r)) = refused-same held_by _ 0 old new end r
-audit-holds old new end (AnswersAlone.begun records opened (AnswersJob.no_memory synced r)) = refused-same held_by 70 0 old new end r
+audit-holds old new end (AnswersAlone.begun records opened (AnswersJob.refused why is synced r)) =
+    refused-same held_by _ 0 old new end r
+audit-holds old new end (AnswersAlone.begun records opened (AnswersJob.no_memory synced r)) =
+    refused-same held_by 70 0 old new end r
 audit-holds old new end (AnswersAlone.begun records opened (AnswersJob.ended how none runs left by)) =
     left-same held_by records AuditJob how old new end.heard left left.leaves.by_kind.held
 
@@ -459,4 +647,5 @@ audit-holds old new end (AnswersAlone.begun records opened (AnswersJob.ended how
 pub list-holds : (old new : Seen) (end : Ending) → AnswersList old new end → SameHolds old new
 list-holds old new end (AnswersList.unstarted u) = unstarted-same held_by old new end u
 list-holds old new end (AnswersList.no_memory r) = refused-same held_by 70 0 old new end r
-list-holds old new end (AnswersList.listed records opened L) = λ j. ap (λ ps. (provider_at ps j).held) L.providers
+list-holds old new end (AnswersList.listed records opened L) =
+    λ j. ap (λ ps. (provider_at ps j).held) L.providers

@@ -51,34 +51,46 @@ abbrev pub AreGood : Setup → Option Cells → Type 0
 AreGood s told = EachImage told (λ image. (rs : List Record) × IsGood s image rs)
 
 -- a disk that reads a good image reads its records
-pub read-good : (s : Setup) (told : Option Cells) (cells : Cells) (rs : List Record) → told ≡ Some cells → IsGood s (reads cells) rs → IsRead told rs
+pub read-good : (s : Setup) (told : Option Cells) (cells : Cells) (rs : List Record) → told ≡ Some cells →
+    IsGood s (reads cells) rs → IsRead told rs
 read-good s told cells rs is G = record {
   some = G.some;
   in_grammar = G.stands.in_grammar;
   accepted = G.accepted;
   room = G.room;
-  reads_are = subst (λ d. IfSome d (λ c. (9 < length (reads c)) × StandsFor (journal_read c) rs)) (sym is)
-      (stands-long (reads cells) rs G.some G.stands, stands-take largest_journal (reads cells) rs G.stands G.room);
+  reads_are = subst (λ d. IfSome d (λ c. (9 < length (reads c)) × StandsFor (journal_read c) rs)) (sym is) (
+    stands-long (reads cells) rs G.some G.stands,
+    stands-take largest_journal (reads cells) rs G.stands G.room,
+  );
 }
 
 -- a store whose disk reads a good image is known, with its records
-pub known-good : (s : Setup) (d : Seen) (cells : Cells) (rs : List Record) → d.disk ≡ Some cells → IsGood s (reads cells) rs → s.n ≤ length d.providers → IsKnown d rs
+pub known-good : (s : Setup) (d : Seen) (cells : Cells) (rs : List Record) → d.disk ≡ Some cells →
+    IsGood s (reads cells) rs → s.n ≤ length d.providers → IsKnown d rs
 known-good s d cells rs is G enough = record {
   tells = ap is_some is;
-  opened = record { read = read-good s d.disk cells rs is G; enough = subst (λ (t : Setup). t.n ≤ length d.providers) (sym G.setup) enough };
+  opened = record {
+    read = read-good s d.disk cells rs is G;
+    enough = subst (λ (t : Setup). t.n ≤ length d.providers) (sym G.setup) enough;
+  };
 }
 
 -- known records with another setup's text read are these
-same-good : (s : Setup) (image : List ℕ) (a b : List Record) → IsGood s image a → StandsFor image b → IsGood s image b
+same-good : (s : Setup) (image : List ℕ) (a b : List Record) → IsGood s image a → StandsFor image b →
+    IsGood s image b
 same-good s image a b G stands = subst (IsGood s image) (one_meaning image a b G.stands stands) G
 
 -- a store whose images are all good, and stand for these records, is sure
-pub sure-good : (s : Setup) (d : Seen) (cells : Cells) (rs : List Record) → d.disk ≡ Some cells → AreGood s d.disk → s.n ≤ length d.providers → DiskHas rs d → IsSure d rs
-sure-good s d cells rs is good enough has = record { known = known-good s d cells rs is here enough; images = has }
+pub sure-good : (s : Setup) (d : Seen) (cells : Cells) (rs : List Record) → d.disk ≡ Some cells →
+    AreGood s d.disk → s.n ≤ length d.providers → DiskHas rs d → IsSure d rs
+sure-good s d cells rs is good enough has =
+    record { known = known-good s d cells rs is here enough; images = has }
   where
     here : IsGood s (reads cells) rs
-    here = (let g : EachImage (Some cells) (λ image. (rs : List Record) × IsGood s image rs) = subst (AreGood s) is good in
-        let h : EachImage (Some cells) (λ image. StandsFor image rs) = subst (λ t. EachImage t (λ image. StandsFor image rs)) is has in
+    here = (let g : EachImage (Some cells) (λ image. (rs : List Record) × IsGood s image rs) =
+        subst (AreGood s) is good in
+        let h : EachImage (Some cells) (λ image. StandsFor image rs) =
+        subst (λ t. EachImage t (λ image. StandsFor image rs)) is has in
         let a = g (reads cells) (IsImage-reads cells) in
         same-good s (reads cells) a.0 rs a.1 (h (reads cells) (IsImage-reads cells)))
 
@@ -91,20 +103,24 @@ none-up rs up none = false≢true (let e : false ≡ true = sym (ap (λ l. is_so
 -- an image stands for the history, or for it with the record in doubt
 pub data StandsSo (w : State) (image : List ℕ) : Type 0 where
   sure : StandsFor image w.records → StandsSo w image
-  doubtful : (doubt : Doubt) → w.doubt ≡ Some doubt → StandsFor image (doubt.entry ∷ w.records) → StandsSo w image
+  doubtful : (doubt : Doubt) → w.doubt ≡ Some doubt → StandsFor image (doubt.entry ∷ w.records) →
+      StandsSo w image
 
 -- what an image of a state stands for
 abbrev pub StandsInState : State → List ℕ → Type 0
 StandsInState w image = StandsPlain w image ⊎ (StandsWithDoubt w image ⊎ StandsSwitched w image)
 
 -- so it is where the disk holds the whole history
-pub stands-so : (w : State) → IsWholeJournal w → is_some (setup_of w.records) ≡ true → (image : List ℕ) → StandsInState w image → StandsSo w image
+pub stands-so : (w : State) → IsWholeJournal w → is_some (setup_of w.records) ≡ true → (image : List ℕ) →
+    StandsInState w image → StandsSo w image
 stands-so w W up image (inl (inl h)) = StandsSo.sure (subst (StandsFor image) W.journal h.1)
 stands-so w W up image (inl (inr empty)) = absurd (none-up w.records up (sym W.journal ∙ empty.0))
-stands-so w W up image (inr (inl D)) = StandsSo.doubtful D.doubt D.in_doubt (subst (λ rs. StandsFor image (D.doubt.entry ∷ rs)) W.journal D.stands.1)
+stands-so w W up image (inr (inl D)) = StandsSo.doubtful D.doubt D.in_doubt
+    (subst (λ rs. StandsFor image (D.doubt.entry ∷ rs)) W.journal D.stands.1)
 stands-so w W up image (inr (inr X)) = absurd (false≢true (sym W.unswitched ∙ X.switching))
 
-last-good : (start last : State) → IsLast start last → (image : List ℕ) → StandsInState last image → (rs : List Record) × IsGood (setup_in start) image rs
+last-good : (start last : State) → IsLast start last → (image : List ℕ) → StandsInState last image →
+    (rs : List Record) × IsGood (setup_in start) image rs
 unfolding setup_in
 last-good start last L image h = by_stand (stands-so last L.whole L.up image h)
   where
@@ -130,7 +146,8 @@ last-good start last L image h = by_stand (stands-so last L.whole L.up image h)
       },
     ))
 
-images-good : (start last : State) (told : Option Cells) → IsLast start last → StandsForState told last → AreGood (setup_in start) told
+images-good : (start last : State) (told : Option Cells) → IsLast start last → StandsForState told last →
+    AreGood (setup_in start) told
 images-good start last None L h = tt
 images-good start last (Some cells) L h = λ image is. last-good start last L image (h image is)
 
@@ -158,7 +175,8 @@ HasBytes (PutJob name bytes) = AreBytes bytes
 HasBytes kind = Unit {0}
 
 -- a job that is not refused, and whose bytes are bytes, has words that are bytes
-pub spelled-kind : (records : List Record) (kind : Kind) → HasBytes kind → refusal_over records kind ≡ None → IsSpelledKind kind
+pub spelled-kind : (records : List Record) (kind : Kind) → HasBytes kind → refusal_over records kind ≡ None →
+    IsSpelledKind kind
 spelled-kind records (PutJob name bytes) are none = (name-bytes name (first-off (is_name name) _ _ none), are)
 spelled-kind records (GetJob name) are none = name-bytes name (first-off (is_name name) _ _ none)
 spelled-kind records (DropJob name) are none = name-bytes name (first-off (is_name name) _ _ none)
@@ -170,14 +188,21 @@ spelled-kind records UpgradeJob are none = tt
 
 -- each image is good, and as many providers are handed in
 abbrev pub LeavesGood : List Record → Seen → Seen → Type 0
-LeavesGood records old new = AreGood (setup_in_effect records) new.disk × ((setup_in_effect records).n ≤ length new.providers)
+LeavesGood records old new =
+    AreGood (setup_in_effect records) new.disk × ((setup_in_effect records).n ≤ length new.providers)
 
 -- a job that ran alone leaves only good images, and as many providers
-pub ran-good : (records : List Record) (kind : Kind) (how : Answer) (old new : Seen) (heard : List Entry) → IsOpened old records → IsSpelledKind kind → RunsAlone records kind how old new heard → LeavesGood records old new
+pub ran-good : (records : List Record) (kind : Kind) (how : Answer) (old new : Seen) (heard : List Entry) →
+    IsOpened old records → IsSpelledKind kind → RunsAlone records kind how old new heard →
+    LeavesGood records old new
 unfolding setup_in
 ran-good records kind how old new heard R spelled A =
     (let w : State = opened_state records A.faults old.providers in
     let over = state-over records A.faults old.providers R.read.accepted in
     let ran = A.ran w 1 over in
-    let L = last-state w ran.last 1 kind how heard (over-opened w old records A.faults R over) spelled ran.runs in
-    (images-good w ran.last new.disk L ran.images, (let a = L.handed in let b = ran.handed.count in let c = over.handed.count in let e = R.enough in omega (arith, a, b, c, e))))
+    let L = last-state w ran.last 1 kind how heard (over-opened w old records A.faults R over) spelled
+    ran.runs in (
+      images-good w ran.last new.disk L ran.images,
+      (let a = L.handed in let b = ran.handed.count in let c = over.handed.count in let e = R.enough in
+          omega (arith, a, b, c, e)),
+    ))

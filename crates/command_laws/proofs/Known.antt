@@ -34,20 +34,27 @@ pub none-written : (text : List ℕ) (old new : Option (List ℕ)) → new ≡ o
 none-written text old new same = (0, omega arith, same ∙ sym (told-nothing old))
 
 -- a line with no fault of the sink is written, or no memory is found
-pub written-well : (text : List ℕ) (old new : Seen) (end : Ending) → WritesLine text end.status (sinking old new) → (Rose old.sink_faults new.sink_faults → ⊥) → GivesUnlessMemory text old new end
+pub written-well : (text : List ℕ) (old new : Seen) (end : Ending) →
+    WritesLine text end.status (sinking old new) → (Rose old.sink_faults new.sink_faults → ⊥) →
+    GivesUnlessMemory text old new end
 written-well text old new end (inl done) calm = inl done
 written-well text old new end (inr (inl cut)) calm = absurd (calm cut.2)
 written-well text old new end (inr (inr cut)) calm = inr cut
 
 -- at status 0 the line stands behind what the sink held
-pub written-zero : (text : List ℕ) (old new : Seen) (end : Ending) → WritesLine text end.status (sinking old new) → end.status ≡ 0 → new.sink ≡ told_then old.sink text
+pub written-zero : (text : List ℕ) (old new : Seen) (end : Ending) →
+    WritesLine text end.status (sinking old new) → end.status ≡ 0 → new.sink ≡ told_then old.sink text
 written-zero text old new end (inl done) zero = done.1
-written-zero text old new end (inr (inl cut)) zero = absurd (let e : 15 ≡ 0 = sym cut.1 ∙ zero in omega (arith, e))
-written-zero text old new end (inr (inr cut)) zero = absurd (let e : 70 ≡ 0 = sym cut.0 ∙ zero in omega (arith, e))
+written-zero text old new end (inr (inl cut)) zero =
+    absurd (let e : 15 ≡ 0 = sym cut.1 ∙ zero in omega (arith, e))
+written-zero text old new end (inr (inr cut)) zero =
+    absurd (let e : 70 ≡ 0 = sym cut.0 ∙ zero in omega (arith, e))
 
 -- at any status the sink took at most a front of the line
-pub written-front : (text : List ℕ) (old new : Seen) (end : Ending) → WritesLine text end.status (sinking old new) → TakesFront old.sink new.sink text
-written-front text old new end (inl done) = (length text, omega arith, done.1 ∙ ap (told_then old.sink) (sym (take-whole text)))
+pub written-front : (text : List ℕ) (old new : Seen) (end : Ending) →
+    WritesLine text end.status (sinking old new) → TakesFront old.sink new.sink text
+written-front text old new end (inl done) =
+    (length text, omega arith, done.1 ∙ ap (told_then old.sink) (sym (take-whole text)))
   where
     take-whole : (l : List ℕ) → take (length l) l ≡ l
     take-whole [] = refl
@@ -58,35 +65,53 @@ written-front text old new end (inr (inr cut)) = cut.1
 -- ---- before the begin
 
 -- a known store has one list of records
-pub known-once : (old : Seen) (records other : List Record) → IsKnown old records → IsRead old.disk other → other ≡ records
-known-once old records other K R = (let c = is_some-at old.disk K.tells in read-once c.0 other records (subst (λ d. IsRead d other) c.1 R) (subst (λ d. IsRead d records) c.1 K.opened.read))
+pub known-once : (old : Seen) (records other : List Record) → IsKnown old records → IsRead old.disk other →
+    other ≡ records
+known-once old records other K R =
+    (let c = is_some-at old.disk K.tells in
+    read-once c.0 other records (subst (λ d. IsRead d other) c.1 R)
+    (subst (λ d. IsRead d records) c.1 K.opened.read))
 
 -- a start that reads these records ends before the begin in a fault of the disk alone, or for want of memory
-pub unstarted-known : (old new : Seen) (end : Ending) (records : List Record) → IsKnown old records → Unstarted old new end →
+pub unstarted-known : (old new : Seen) (end : Ending) (records : List Record) → IsKnown old records →
+    Unstarted old new end →
     (Rose old.disk_faults new.disk_faults × IsRefused 12 0 old new end) ⊎ IsRefused 70 0 old new end
 unstarted-known old new end records K (Unstarted.disk_fault rose r) = inl (rose, r)
-unstarted-known old new end records K (Unstarted.not_set_up is r) = absurd (let c = is_some-at old.disk K.tells in
-    read-set_up c.0 records (subst (λ d. IsRead d records) c.1 K.opened.read) (subst (λ d. IfSome d (λ cells. HasNoSetup (journal_read cells))) c.1 is))
-unstarted-known old new end records K (Unstarted.bad_journal at is r) = absurd (let c = is_some-at old.disk K.tells in
-    let bad : (9 < length (journal_read c.0)) × IsBadStart (journal_read c.0) at = subst (λ d. IfSome d (λ cells. (9 < length (journal_read cells)) × IsBadStart (journal_read cells) at)) c.1 is in
+unstarted-known old new end records K (Unstarted.not_set_up is r) =
+    absurd (let c = is_some-at old.disk K.tells in
+    read-set_up c.0 records (subst (λ d. IsRead d records) c.1 K.opened.read)
+    (subst (λ d. IfSome d (λ cells. HasNoSetup (journal_read cells))) c.1 is))
+unstarted-known old new end records K (Unstarted.bad_journal at is r) =
+    absurd (let c = is_some-at old.disk K.tells in
+    let bad : (9 < length (journal_read c.0)) × IsBadStart (journal_read c.0) at =
+    subst (λ d. IfSome d (λ cells. (9 < length (journal_read cells)) × IsBadStart (journal_read cells) at))
+    c.1 is in
     read-good c.0 at records (subst (λ d. IsRead d records) c.1 K.opened.read) bad.1)
-unstarted-known old new end records K (Unstarted.too_few_providers other read few synced r) = absurd (let e = known-once old records other K read in
-    let enough = subst (λ rs. (setup_in_effect rs).n ≤ length old.providers) (sym e) K.opened.enough in omega (arith, few, enough))
+unstarted-known old new end records K (Unstarted.too_few_providers other read few synced r) =
+    absurd (let e = known-once old records other K read in
+    let enough = subst (λ rs. (setup_in_effect rs).n ≤ length old.providers) (sym e) K.opened.enough in
+    omega (arith, few, enough))
 unstarted-known old new end records K (Unstarted.no_memory r) = inr r
 
 -- so a command that runs a job runs it over these records, or ended before
-pub alone-known : (kind : Kind) (old new : Seen) (end : Ending) (records : List Record) → IsKnown old records → AnswersAlone kind old new end →
-    ((Rose old.disk_faults new.disk_faults × IsRefused 12 0 old new end) ⊎ IsRefused 70 0 old new end) ⊎ AnswersJob kind records old new end
-alone-known kind old new end records K (AnswersAlone.unstarted u) = inl (unstarted-known old new end records K u)
-alone-known kind old new end records K (AnswersAlone.begun other opened A) = inr (subst (λ rs. AnswersJob kind rs old new end) (known-once old records other K opened.read) A)
+pub alone-known : (kind : Kind) (old new : Seen) (end : Ending) (records : List Record) →
+    IsKnown old records → AnswersAlone kind old new end →
+    ((Rose old.disk_faults new.disk_faults × IsRefused 12 0 old new end) ⊎ IsRefused 70 0 old new end) ⊎
+    AnswersJob kind records old new end
+alone-known kind old new end records K (AnswersAlone.unstarted u) =
+    inl (unstarted-known old new end records K u)
+alone-known kind old new end records K (AnswersAlone.begun other opened A) =
+    inr (subst (λ rs. AnswersJob kind rs old new end) (known-once old records other K opened.read) A)
 
 -- ---- statuses of refusals
 
 -- which refusal a status tells of
 abbrev refusal_at : ℕ → Option Refusal
 refusal_at n =
-    if n == 3 then Some refusal.NoSuchName else if n == 6 then Some refusal.RepairDue else if n == 7 then Some refusal.NothingDue
-    else if n == 11 then Some refusal.JournalFull else if n == 16 then Some refusal.TooLong else if n == 17 then Some refusal.BadName
+    if n == 3 then Some refusal.NoSuchName else if n == 6 then Some refusal.RepairDue
+    else if n == 7 then Some refusal.NothingDue
+    else if n == 11 then Some refusal.JournalFull else if n == 16 then Some refusal.TooLong
+    else if n == 17 then Some refusal.BadName
     else if n == 21 then Some refusal.TooManyFiles else None
 
 status-back : (why : Refusal) → status_of why ≢ 70 → refusal_at (status_of why) ≡ Some why
@@ -154,13 +179,15 @@ pub data EndStatus (n : ℕ) : Type 0 where
   by_sink : n ≡ 15 → EndStatus n
   by_memory : n ≡ 70 → EndStatus n
 
-status-written : (text : List ℕ) (old new : Seen) (end : Ending) → WritesLine text end.status (sinking old new) → EndStatus end.status
+status-written : (text : List ℕ) (old new : Seen) (end : Ending) →
+    WritesLine text end.status (sinking old new) → EndStatus end.status
 status-written text old new end (inl w) = EndStatus.by_done w.0
 status-written text old new end (inr (inl w)) = EndStatus.by_sink w.1
 status-written text old new end (inr (inr w)) = EndStatus.by_memory w.0
 
 -- a job that began ends with one of its own statuses
-pub status-ended : (text : List ℕ) (how : Answer) (old new : Seen) (end : Ending) → EndsByAnswer text how old new end → EndStatus end.status
+pub status-ended : (text : List ℕ) (how : Answer) (old new : Seen) (end : Ending) →
+    EndsByAnswer text how old new end → EndStatus end.status
 status-ended text (answer.Lost stripe row) old new end e = EndStatus.by_lost e.status_is
 status-ended text (answer.ProviderFault j) old new end e = EndStatus.by_provider e.status_is
 status-ended text answer.DiskFault old new end e = EndStatus.by_disk e.status_is
@@ -168,10 +195,12 @@ status-ended text answer.Memory old new end e = EndStatus.by_memory e.status_is
 status-ended text answer.Put old new end e = status-written text old new end e.written
 status-ended text (answer.Got bytes) old new end e = status-written text old new end e.written
 status-ended text answer.Dropped old new end e = status-written text old new end e.written
-status-ended text (answer.Audited number undecided counts) old new end e = status-written text old new end e.written
+status-ended text (answer.Audited number undecided counts) old new end e =
+    status-written text old new end e.written
 status-ended text (answer.Repaired number) old new end e = status-written text old new end e.written
 status-ended text answer.Upgraded old new end e = status-written text old new end e.written
-status-ended text (answer.Scrubbed stripes symbols blocks) old new end e = status-written text old new end e.written
+status-ended text (answer.Scrubbed stripes symbols blocks) old new end e =
+    status-written text old new end e.written
 status-ended text (answer.Packed before after) old new end e = status-written text old new end e.written
 
 ended-none : (n : ℕ) → EndStatus n → refusal_at n ≡ None
@@ -184,30 +213,40 @@ ended-none n (EndStatus.by_memory e) = ap refusal_at e
 
 -- ---- the refusals are exact
 
-at-some : (why : Refusal) (end : Ending) → status_of why ≢ 70 → end.status ≡ status_of why → refusal_at end.status ≡ Some why
+at-some : (why : Refusal) (end : Ending) → status_of why ≢ 70 → end.status ≡ status_of why →
+    refusal_at end.status ≡ Some why
 at-some why end own e = ap refusal_at e ∙ status-back why own
 
 none-some : (n : ℕ) (why : Refusal) → refusal_at n ≡ None → refusal_at n ≡ Some why → ⊥
 none-some n why none some = (let e : None ≡ Some why = sym none ∙ some in cc)
 
 -- a job ends with the status of a refusal only where that one is the first that applies
-pub refused-only : (kind : Kind) (records : List Record) (old new : Seen) (end : Ending) (why : Refusal) → AnswersJob kind records old new end →
+pub refused-only : (kind : Kind) (records : List Record) (old new : Seen) (end : Ending) (why : Refusal) →
+    AnswersJob kind records old new end →
     status_of why ≢ 70 → end.status ≡ status_of why → refusal_over records kind ≡ Some why
-refused-only kind records old new end why (AnswersJob.refused other is synced r) own e = elim (refused-at other) [
-  | inl lost ↦ absurd (none-some end.status why (ap refusal_at (r.status_is ∙ lost)) (at-some why end own e))
-  | inr at ↦ (let both : Some other ≡ Some why = sym (ap refusal_at r.status_is ∙ at) ∙ at-some why end own e in is ∙ both)
-]
-refused-only kind records old new end why (AnswersJob.no_memory synced r) own e = absurd (none-some end.status why (ap refusal_at r.status_is) (at-some why end own e))
+refused-only kind records old new end why (AnswersJob.refused other is synced r) own e =
+    elim (refused-at other) [
+      | inl lost ↦ absurd (none-some end.status why (ap refusal_at (r.status_is ∙ lost)) (at-some why end own e))
+      | inr at ↦ (let both : Some other ≡ Some why = sym (ap refusal_at r.status_is ∙ at)
+          ∙ at-some why end own e in is ∙ both)
+    ]
+refused-only kind records old new end why (AnswersJob.no_memory synced r) own e =
+    absurd (none-some end.status why (ap refusal_at r.status_is) (at-some why end own e))
 refused-only kind records old new end why (AnswersJob.ended how none runs left by) own e =
-    absurd (none-some end.status why (ended-none end.status (status-ended _ how old new end by)) (at-some why end own e))
+    absurd (none-some end.status why (ended-none end.status (status-ended _ how old new end by))
+    (at-some why end own e))
 
 -- a job for which a refusal is the first that applies is refused so, or finds no memory
-pub refused-always : (kind : Kind) (records : List Record) (old new : Seen) (end : Ending) (why : Refusal) → AnswersJob kind records old new end →
-    refusal_over records kind ≡ Some why → IsRefused (status_of why) 0 old new end ⊎ IsRefused 70 0 old new end
+pub refused-always : (kind : Kind) (records : List Record) (old new : Seen) (end : Ending) (why : Refusal) →
+    AnswersJob kind records old new end →
+    refusal_over records kind ≡ Some why → IsRefused (status_of why) 0 old new end ⊎
+    IsRefused 70 0 old new end
 refused-always kind records old new end why (AnswersJob.refused other is synced r) applies =
-    inl (subst (λ w. IsRefused (status_of w) 0 old new end) (same_value (refusal_over records kind) other why is applies) r)
+    inl (subst (λ w. IsRefused (status_of w) 0 old new end)
+    (same_value (refusal_over records kind) other why is applies) r)
 refused-always kind records old new end why (AnswersJob.no_memory synced r) applies = inr r
-refused-always kind records old new end why (AnswersJob.ended how none runs left by) applies = absurd (let e : None ≡ Some why = sym none ∙ applies in cc)
+refused-always kind records old new end why (AnswersJob.ended how none runs left by) applies =
+    absurd (let e : None ≡ Some why = sym none ∙ applies in cc)
 
 -- ---- and so are the statuses before the begin
 
@@ -247,25 +286,32 @@ refused-opened refusal.NewVersion = refl
 refused-opened refusal.PackTooLong = refl
 
 -- a job over records that were read does not end as a store that is not opened
-pub job-opened : (kind : Kind) (records : List Record) (old new : Seen) (end : Ending) → AnswersJob kind records old new end → is_unopened end.status ≡ false
-job-opened kind records old new end (AnswersJob.refused why is synced r) = ap is_unopened r.status_is ∙ refused-opened why
+pub job-opened : (kind : Kind) (records : List Record) (old new : Seen) (end : Ending) →
+    AnswersJob kind records old new end → is_unopened end.status ≡ false
+job-opened kind records old new end (AnswersJob.refused why is synced r) =
+    ap is_unopened r.status_is ∙ refused-opened why
 job-opened kind records old new end (AnswersJob.no_memory synced r) = ap is_unopened r.status_is
-job-opened kind records old new end (AnswersJob.ended how none runs left by) = ended-opened end.status (status-ended _ how old new end by)
+job-opened kind records old new end (AnswersJob.ended how none runs left by) =
+    ended-opened end.status (status-ended _ how old new end by)
 
 -- ---- and they are exact of a command over a disk that tells
 
 -- over a known store a command is refused only for the first cause that applies
-pub known-only : (kind : Kind) (records : List Record) (old new : Seen) (end : Ending) (why : Refusal) → AnswersAlone kind old new end → IsKnown old records →
+pub known-only : (kind : Kind) (records : List Record) (old new : Seen) (end : Ending) (why : Refusal) →
+    AnswersAlone kind old new end → IsKnown old records →
     status_of why ≢ 70 → end.status ≡ status_of why → refusal_over records kind ≡ Some why
 known-only kind records old new end why A K own e = elim (alone-known kind old new end records K A) [
-  | inl (inl (rose, r)) ↦ absurd (none-some end.status why (ap refusal_at r.status_is) (at-some why end own e))
+  | inl (inl (rose, r)) ↦
+      absurd (none-some end.status why (ap refusal_at r.status_is) (at-some why end own e))
   | inl (inr r) ↦ absurd (none-some end.status why (ap refusal_at r.status_is) (at-some why end own e))
   | inr job ↦ refused-only kind records old new end why job own e
 ]
 
 -- over a known store a command for which a cause applies is refused for it, or finds no memory
-pub known-always : (kind : Kind) (records : List Record) (old new : Seen) (end : Ending) (why : Refusal) → AnswersAlone kind old new end → IsKnown old records →
-    (Rose old.disk_faults new.disk_faults → ⊥) → refusal_over records kind ≡ Some why → IsRefused (status_of why) 0 old new end ⊎ IsRefused 70 0 old new end
+pub known-always : (kind : Kind) (records : List Record) (old new : Seen) (end : Ending) (why : Refusal) →
+    AnswersAlone kind old new end → IsKnown old records →
+    (Rose old.disk_faults new.disk_faults → ⊥) → refusal_over records kind ≡ Some why →
+    IsRefused (status_of why) 0 old new end ⊎ IsRefused 70 0 old new end
 known-always kind records old new end why A K disk applies = elim (alone-known kind old new end records K A) [
   | inl (inl (rose, r)) ↦ absurd (disk rose)
   | inl (inr r) ↦ inr r
@@ -273,5 +319,7 @@ known-always kind records old new end why A K disk applies = elim (alone-known k
 ]
 
 -- a status of no refusal is none of these
-pub own-status : (end : Ending) (why : Refusal) (n : ℕ) → refusal_at n ≡ None → end.status ≡ n → status_of why ≢ 70 → end.status ≡ status_of why → ⊥
-own-status end why n none is own e = none-some end.status why (ap refusal_at is ∙ none) (at-some why end own e)
+pub own-status : (end : Ending) (why : Refusal) (n : ℕ) → refusal_at n ≡ None → end.status ≡ n →
+    status_of why ≢ 70 → end.status ≡ status_of why → ⊥
+own-status end why n none is own e =
+    none-some end.status why (ap refusal_at is ∙ none) (at-some why end own e)

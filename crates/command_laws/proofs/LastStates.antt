@@ -36,10 +36,12 @@ abbrev Stays : State → State → Type 0
 Stays w new = (new.records ≡ w.records) × (new.handed ≡ w.handed)
 
 by-state : (w new left : State) → new ≡ left → left.records ≡ w.records → left.handed ≡ w.handed → Stays w new
-by-state w new left is records handed = (ap (λ (v : State). v.records) is ∙ records, ap (λ (v : State). v.handed) is ∙ handed)
+by-state w new left is records handed =
+    (ap (λ (v : State). v.records) is ∙ records, ap (λ (v : State). v.handed) is ∙ handed)
 
 module _ (w : State) (job : Job) (new : State) where
-  moves-stay : (action : Action) (flight : Option Append) (how : Answer) → Moves w job action flight (Ended how) new → Stays w new
+  moves-stay : (action : Action) (flight : Option Append) (how : Answer) →
+      Moves w job action flight (Ended how) new → Stays w new
   moves-stay WriteBody flight answer.DiskFault (faults, low, rose, is) = by-state w new _ is refl refl
   moves-stay WriteBody flight answer.Memory (faults, low, is) = by-state w new _ is refl refl
   moves-stay SyncBody (Some a) answer.DiskFault (at, (faults, low, rose, is)) = by-state w new _ is refl refl
@@ -55,7 +57,8 @@ module _ (w : State) (job : Job) (new : State) where
   acts-stay End how (so, is) = by-state w new _ is refl refl
   acts-stay action how h = moves-stay action w.append how h
 
-last-of : (start w : State) (kind : Kind) (job : Job) (new : State) → Walked start kind w job → IsSound 8 new → IsWholeJournal new → Stays w new → IsLast start new
+last-of : (start w : State) (kind : Kind) (job : Job) (new : State) → Walked start kind w job →
+    IsSound 8 new → IsWholeJournal new → Stays w new → IsLast start new
 unfolding setup_in
 last-of start w kind job new W sound whole stay = record {
   sound = sound;
@@ -66,13 +69,18 @@ last-of start w kind job new W sound whole stay = record {
 }
 
 -- the state in which a job ended is sound, with the setup and the providers of its begin
-pub last-state : (start new : State) (moment : ℕ) (kind : Kind) (how : Answer) (heard : List Entry) → IsOpenAtRest start 1 → IsSpelledKind kind → RunsJob start moment kind how heard new → IsLast start new
+pub last-state : (start new : State) (moment : ℕ) (kind : Kind) (how : Answer) (heard : List Entry) →
+    IsOpenAtRest start 1 → IsSpelledKind kind → RunsJob start moment kind how heard new → IsLast start new
 last-state start new moment kind how heard O spelled r =
     (let b = walk-begin moment r.job start r.begun kind O spelled r.begins in
-    let g : GoesOnTo r.begun (moment + 1) 1 how heard new = subst (λ n. GoesOnTo r.begun (moment + 1) n how heard new) b.0 r.goes_on in
-    let last = walk-steps start r.begun kind (new_job start moment kind) (moment + 1) g.steps O b.1 g.are_steps in
-    let a = walk-last start O kind (now r.begun g.steps) last.0 last.1 ((moment + 1) + length g.steps) new how g.ends in
+    let g : GoesOnTo r.begun (moment + 1) 1 how heard new =
+    subst (λ n. GoesOnTo r.begun (moment + 1) n how heard new) b.0 r.goes_on in
+    let last = walk-steps start r.begun kind (new_job start moment kind)
+    (moment + 1) g.steps O b.1 g.are_steps in
+    let a = walk-last start O kind (now r.begun g.steps) last.0 last.1
+    ((moment + 1) + length g.steps) new how g.ends in
     last-of start (now r.begun g.steps) kind last.0 new last.1
-    (events-sound 8 ((moment + 1) + length g.steps) (now r.begun g.steps) last.1.sound (omega arith, omega arith) (Step 1) (Ended how) new (omega arith) g.ends)
+    (events-sound 8 ((moment + 1) + length g.steps) (now r.begun g.steps) last.1.sound
+    (omega arith, omega arith) (Step 1) (Ended how) new (omega arith) g.ends)
     (runs-whole start O kind new moment how heard spelled r)
     (acts-stay (now r.begun g.steps) last.0 new a.0 how a.3))

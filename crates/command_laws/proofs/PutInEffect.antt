@@ -1,4 +1,5 @@
--- However a put ended: where the next command finds its end in effect, its file is right on every provider that tells.
+-- However a put ended: where the next command finds its end in effect, its file is right on every provider
+-- that tells.
 use Rattle.std.proofs.Common.{◌≡◌, ◌≢◌, ℕ, ◌+◌, ◌<◌, ◌≤◌, ◌⊎◌, Bool, true, false, List, [], ◌∷◌, ◌++◌, length, reverse, Option, None, Some, refl, ap, sym, subst, ◌∙◌, inl, inr, arith, length-append}
 use Rattle.std.specs.Prelude.{is_some, IfSome, IsSomeAnd}
 use Rattle.std.proofs.lemmas.Bool.{false≢true}
@@ -47,8 +48,11 @@ tells-back new next N tells = elim N.disk [
     stopped-at None (Some b) told g = absurd g
     stopped-at (Some a) b told g = refl
 
-module _ (name bytes : List ℕ) (records : List Record) (spoilt : ℕ → Bool) (old new next : Seen) (end : Ending) (S : IsSure old records) (N : Follows new next)
-    (F : IsKnown next (after_put records name (length bytes))) (tells : (j : ℕ) → j < (setup_in_effect records).n → spoilt j ≡ false → is_some (provider_at old.providers j).held ≡ true) where
+module _ (name bytes : List ℕ) (records : List Record) (spoilt : ℕ → Bool) (old new next : Seen)
+    (end : Ending) (S : IsSure old records) (N : Follows new next)
+    (F : IsKnown next (after_put records name (length bytes)))
+    (tells : (j : ℕ) → j < (setup_in_effect records).n → spoilt j ≡ false →
+    is_some (provider_at old.providers j).held ≡ true) where
   -- an image stands for fewer records than those with both of the put
   abbrev Fewer : List ℕ → Type 0
   Fewer image = (rs : List Record) × StandsFor image rs × (length rs ≤ length records + 1)
@@ -57,9 +61,13 @@ module _ (name bytes : List ℕ) (records : List Record) (spoilt : ℕ → Bool)
   not-fewer h =
       (let c = next-image new next (tells-back new next N F.tells) N in
       let g : Fewer (reads c.0) = c.2 Fewer h in
-      let looked : (9 < length (reads c.0)) × StandsFor (journal_read c.0) (after_put records name (length bytes)) =
-      subst (λ d. IfSome d (λ cells. (9 < length (reads cells)) × StandsFor (journal_read cells) (after_put records name (length bytes)))) c.1 F.opened.read.reads_are in
-      let same = one_meaning (reads c.0) g.0 (after_put records name (length bytes)) g.1 (stands-front largest_journal (reads c.0) (after_put records name (length bytes)) looked.1) in
+      let looked : (9 < length (reads c.0)) × StandsFor (journal_read c.0)
+      (after_put records name (length bytes)) =
+      subst (λ d. IfSome d (λ cells. (9 < length (reads cells)) ×
+      StandsFor (journal_read cells) (after_put records name (length bytes)))) c.1
+      F.opened.read.reads_are in
+      let same = one_meaning (reads c.0) g.0 (after_put records name (length bytes)) g.1
+      (stands-front largest_journal (reads c.0) (after_put records name (length bytes)) looked.1) in
       let size = ap length same in
       let few = g.2 in
       omega (arith, size, few))
@@ -69,43 +77,64 @@ module _ (name bytes : List ℕ) (records : List Record) (spoilt : ℕ → Bool)
   has-fewer (Some cells) h = λ image is. (records, h image is, omega arith)
 
   refused-not : (status at : ℕ) → IsRefused status at old new end → ⊥
-  refused-not status at r = not-fewer (has-fewer new.disk (sure-refused status at records old new end r S).images)
+  refused-not status at r =
+      not-fewer (has-fewer new.disk (sure-refused status at records old new end r S).images)
 
-  image-fewer : (image : List ℕ) (after : List Record) (doubt : Option Record) → after ≢ [] → length after ≤ length records + 1 → ((entry : Record) → doubt ≡ Some entry → length after ≤ length records) →
+  image-fewer : (image : List ℕ) (after : List Record) (doubt : Option Record) → after ≢ [] →
+      length after ≤ length records + 1 →
+      ((entry : Record) → doubt ≡ Some entry → length after ≤ length records) →
       StandsOrIsEmpty image after ⊎ IsSomeAnd doubt (λ entry. StandsFor image (entry ∷ after)) → Fewer image
   image-fewer image after doubt some few less (inl (inl stands)) = (after, stands, few)
   image-fewer image after doubt some few less (inl (inr empty)) = absurd (some empty.0)
   image-fewer image after None some few less (inr h) = absurd h
-  image-fewer image after (Some entry) some few less (inr h) = (entry ∷ after, h, (let l = less entry refl in omega (arith, l)))
+  image-fewer image after (Some entry) some few less (inr h) =
+      (entry ∷ after, h, (let l = less entry refl in omega (arith, l)))
 
-  images-fewer : (told : Option Cells) (after : List Record) (doubt : Option Record) → after ≢ [] → length after ≤ length records + 1 → ((entry : Record) → doubt ≡ Some entry → length after ≤ length records) →
-      EachImage told (λ image. StandsOrIsEmpty image after ⊎ IsSomeAnd doubt (λ entry. StandsFor image (entry ∷ after))) → EachImage told Fewer
+  images-fewer : (told : Option Cells) (after : List Record) (doubt : Option Record) → after ≢ [] →
+      length after ≤ length records + 1 →
+      ((entry : Record) → doubt ≡ Some entry → length after ≤ length records) →
+      EachImage told (λ image. StandsOrIsEmpty image after ⊎
+      IsSomeAnd doubt (λ entry. StandsFor image (entry ∷ after))) → EachImage told Fewer
   images-fewer None after doubt some few less h = tt
-  images-fewer (Some cells) after doubt some few less h = λ image is. image-fewer image after doubt some few less (h image is)
+  images-fewer (Some cells) after doubt some few less h =
+      λ image is. image-fewer image after doubt some few less (h image is)
 
   -- where each provider holds the file, it is the one that is in effect
   has-stored : AreBytes bytes → (older : Option File) (rose : ℕ → Type 0) →
-      ((j : ℕ) → j < (setup_in_effect records).n → Goes (StoredOn (object_of (setup_in_effect records) (next_id records)) bytes older (rose j) j) (provider_at old.providers j).held (provider_at new.providers j).held) →
+      ((j : ℕ) → j < (setup_in_effect records).n →
+      Goes (StoredOn (object_of (setup_in_effect records) (next_id records)) bytes older (rose j) j)
+      (provider_at old.providers j).held (provider_at new.providers j).held) →
       HasRightFile new (after_put records name (length bytes)) name bytes spoilt
   has-stored are older rose stored = record {
     file = file_as name (next_id records) (length bytes) (profile_in (setup_of records));
     in_effect = put-in_effect records name (length bytes);
     are_bytes = are;
     size = refl;
-    right = λ j below clean. subst (λ (o : Object). is_wrong_or_untold o bytes j (provider_at new.providers j).held ≡ false) (put-object records (next_id records))
-        (stored-right (object_of (setup_in_effect records) (next_id records)) bytes older (rose j) j (provider_at old.providers j).held (provider_at new.providers j).held (tells j below clean) (stored j below));
+    right = λ j below clean. subst
+        (λ (o : Object). is_wrong_or_untold o bytes j (provider_at new.providers j).held ≡ false)
+        (put-object records (next_id records))
+        (stored-right (object_of (setup_in_effect records) (next_id records)) bytes older (rose j) j
+        (provider_at old.providers j).held (provider_at new.providers j).held (tells j below clean)
+        (stored j below));
   }
 
-  module _ (are : AreBytes bytes) (how : Answer) (left : LeftAlone records (PutJob name bytes) how old new end.heard) where
+  module _ (are : AreBytes bytes) (how : Answer)
+      (left : LeftAlone records (PutJob name bytes) how old new end.heard) where
     abbrev x : Ran
     x = ran_left records (PutJob name bytes) how old new end.heard left
 
     -- fewer records came in, and no more than one may be in doubt
-    cut-off : (done : List Record) → x.after ≡ reverse done ++ records → length done ≤ 1 → ((entry : Record) → x.doubt ≡ Some entry → length done ≤ 0) → ⊥
+    cut-off : (done : List Record) → x.after ≡ reverse done ++ records → length done ≤ 1 →
+        ((entry : Record) → x.doubt ≡ Some entry → length done ≤ 0) → ⊥
     cut-off done after few less =
-        (let size : length x.after ≡ length done + length records = ap length after ∙ (let a = length-append (reverse done) records in let b = length-reverse done in omega (arith, a, b)) in
-        let some : x.after ≢ [] = (λ none. let e = ap length none in let first = first-record records S.known.opened.read.some in omega (arith, size, e, first)) in
-        not-fewer (images-fewer new.disk x.after x.doubt some (omega (arith, size, few)) (λ entry is. let l = less entry is in omega (arith, size, l)) left.images))
+        (let size : length x.after ≡ length done + length records = ap length after
+        ∙ (let a = length-append (reverse done) records in let b = length-reverse done in
+        omega (arith, a, b)) in
+        let some : x.after ≢ [] =
+        (λ none. let e = ap length none in let first = first-record records S.known.opened.read.some in
+        omega (arith, size, e, first)) in
+        not-fewer (images-fewer new.disk x.after x.doubt some (omega (arith, size, few))
+        (λ entry is. let l = less entry is in omega (arith, size, l)) left.images))
       where
         first-record : (rs : List Record) → rs ≢ [] → 1 ≤ length rs
         first-record [] some = absurd (some refl)
@@ -114,38 +143,66 @@ module _ (name bytes : List ℕ) (records : List Record) (spoilt : ℕ → Bool)
     sure-off : (entry : Record) (done : List Record) → x.doubt ≡ None → x.doubt ≡ Some entry → length done ≤ 0
     sure-off entry done sure is = absurd (let e : None ≡ Some entry = sym sure ∙ is in cc)
 
-    cut-parts : (done : List Record) (entry : Record) (rest : List Record) → put_records records name (length bytes) ≡ done ++ entry ∷ rest → length done ≤ 1
-    cut-parts done entry rest parts = (let e = ap length parts in let a = length-append done (entry ∷ rest) in omega (arith, e, a))
+    cut-parts : (done : List Record) (entry : Record) (rest : List Record) →
+        put_records records name (length bytes) ≡ done ++ entry ∷ rest → length done ≤ 1
+    cut-parts done entry rest parts =
+        (let e = ap length parts in let a = length-append done (entry ∷ rest) in omega (arith, e, a))
 
-    by-answer : (h : Answer) → PutLeaves x name bytes h → HasRightFile new (after_put records name (length bytes)) name bytes spoilt
+    by-answer : (h : Answer) → PutLeaves x name bytes h →
+        HasRightFile new (after_put records name (length bytes)) name bytes spoilt
     by-answer answer.Put L = has-stored are _ _ L.1
-    by-answer (answer.ProviderFault k) L = absurd (let W = L.2 in cut-off (PutStart (next_id records) name ∷ []) W.after (omega arith) (λ entry is. sure-off entry (PutStart (next_id records) name ∷ []) W.sure is))
+    by-answer (answer.ProviderFault k) L =
+        absurd (let W = L.2 in
+        cut-off (PutStart (next_id records) name ∷ []) W.after (omega arith)
+        (λ entry is. sure-off entry (PutStart (next_id records) name ∷ []) W.sure is))
     by-answer answer.DiskFault L = by-cut L.1
       where
-        by-cut : PutIsCut x name bytes → HasRightFile new (after_put records name (length bytes)) name bytes spoilt
-        by-cut (PutIsCut.at_start after doubt held) = absurd (cut-off [] after (omega arith) (λ entry is. omega arith))
+        by-cut : PutIsCut x name bytes →
+            HasRightFile new (after_put records name (length bytes)) name bytes spoilt
+        by-cut (PutIsCut.at_start after doubt held) =
+            absurd (cut-off [] after (omega arith) (λ entry is. omega arith))
         by-cut (PutIsCut.at_done after doubt stored) = has-stored are None (λ j. ⊥) stored
-    by-answer answer.Memory L = absurd (let C = L.0 in cut-off C.done C.after (cut-parts C.done C.next C.rest C.parts) (λ entry is. sure-off entry C.done C.sure is))
+    by-answer answer.Memory L =
+        absurd (let C = L.0 in
+        cut-off C.done C.after (cut-parts C.done C.next C.rest C.parts)
+        (λ entry is. sure-off entry C.done C.sure is))
     by-answer h L = absurd L
 
 -- ---- the command
 
 -- a put that the next command finds in effect has its file right on every provider that tells
-pub put-in-effect : (name bytes : List ℕ) (records : List Record) (spoilt : ℕ → Bool) (old new next : Seen) (end : Ending) → AnswersPut name old new end → IsSure old records → old.source ≡ Some bytes →
-    Follows new next → IsKnown next (after_put records name (length bytes)) → ((j : ℕ) → j < (setup_in_effect records).n → spoilt j ≡ false → is_some (provider_at old.providers j).held ≡ true) → HasRightFile new (after_put records name (length bytes)) name bytes spoilt
-put-in-effect name bytes records spoilt old new next end (AnswersPut.unstarted u same) S source N F tells = absurd (let r = unstarted-refused old new end u in refused-not name bytes records spoilt old new next end S N F tells r.0 r.1 r.3)
-put-in-effect name bytes records spoilt old new next end (AnswersPut.source_fault rs opened rose synced taken r) S source N F tells = absurd (refused-not name bytes records spoilt old new next end S N F tells 14 0 r)
-put-in-effect name bytes records spoilt old new next end (AnswersPut.no_memory taken r) S source N F tells = absurd (refused-not name bytes records spoilt old new next end S N F tells 70 0 r)
+pub put-in-effect : (name bytes : List ℕ) (records : List Record) (spoilt : ℕ → Bool) (old new next : Seen)
+    (end : Ending) → AnswersPut name old new end → IsSure old records → old.source ≡ Some bytes →
+    Follows new next → IsKnown next (after_put records name (length bytes)) →
+    ((j : ℕ) → j < (setup_in_effect records).n → spoilt j ≡ false →
+    is_some (provider_at old.providers j).held ≡ true) →
+    HasRightFile new (after_put records name (length bytes)) name bytes spoilt
+put-in-effect name bytes records spoilt old new next end (AnswersPut.unstarted u same) S source N F tells =
+    absurd (let r = unstarted-refused old new end u in
+    refused-not name bytes records spoilt old new next end S N F tells r.0 r.1 r.3)
+put-in-effect name bytes records spoilt old new next end (AnswersPut.source_fault rs opened rose synced taken r) S source N F tells =
+    absurd (refused-not name bytes records spoilt old new next end S N F tells 14 0 r)
+put-in-effect name bytes records spoilt old new next end (AnswersPut.no_memory taken r) S source N F tells =
+    absurd (refused-not name bytes records spoilt old new next end S N F tells 70 0 r)
 put-in-effect name bytes records spoilt old new next end (AnswersPut.begun rs seen opened read A) S source N F tells =
-    job (subst (λ l. AnswersJob (PutJob name seen) l old new end) (known-once old records rs S.known opened.read) A)
+    job (subst (λ l. AnswersJob (PutJob name seen) l old new end)
+    (known-once old records rs S.known opened.read) A)
   where
-    by-left : (how : Answer) → AreBytes bytes → LeftAlone records (PutJob name bytes) how old new end.heard → HasRightFile new (after_put records name (length bytes)) name bytes spoilt
-    by-left how are left = by-answer name bytes records spoilt old new next end S N F tells are how left how left.leaves.by_kind.0
+    by-left : (how : Answer) → AreBytes bytes → LeftAlone records (PutJob name bytes) how old new end.heard →
+        HasRightFile new (after_put records name (length bytes)) name bytes spoilt
+    by-left how are left =
+        by-answer name bytes records spoilt old new next end S N F tells are how left how
+        left.leaves.by_kind.0
 
-    job : AnswersJob (PutJob name seen) records old new end → HasRightFile new (after_put records name (length bytes)) name bytes spoilt
-    job (AnswersJob.refused why is synced r) = absurd (refused-not name bytes records spoilt old new next end S N F tells _ 0 r)
-    job (AnswersJob.no_memory synced r) = absurd (refused-not name bytes records spoilt old new next end S N F tells 70 0 r)
+    job : AnswersJob (PutJob name seen) records old new end →
+        HasRightFile new (after_put records name (length bytes)) name bytes spoilt
+    job (AnswersJob.refused why is synced r) =
+        absurd (refused-not name bytes records spoilt old new next end S N F tells _ 0 r)
+    job (AnswersJob.no_memory synced r) =
+        absurd (refused-not name bytes records spoilt old new next end S N F tells 70 0 r)
     job (AnswersJob.ended how none runs left by) =
         (let short = not-long records name seen none in
-        let same : seen ≡ bytes = whole-read (largest_file + 1) old.source new.source bytes seen source read (read.end (omega (arith, short))) in
-        by-left how (subst AreBytes same read.are_bytes) (subst (λ bs. LeftAlone records (PutJob name bs) how old new end.heard) same left))
+        let same : seen ≡ bytes = whole-read (largest_file + 1) old.source new.source bytes seen source read
+        (read.end (omega (arith, short))) in
+        by-left how (subst AreBytes same read.are_bytes)
+        (subst (λ bs. LeftAlone records (PutJob name bs) how old new end.heard) same left))

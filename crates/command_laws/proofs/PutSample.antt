@@ -1,4 +1,5 @@
--- A put of the empty file over a store that was set up, from every state that was just opened: four moves, four moves, and its end.
+-- A put of the empty file over a store that was set up, from every state that was just opened: four moves,
+-- four moves, and its end.
 use Rattle.std.proofs.Common.{◌≡◌, ℕ, ◌+◌, List, [], ◌∷◌, None, true, false, refl, sym, subst, ◌∙◌, inl, arith}
 use Rattle.record_defs.specs.Records.{PutStart, PutDone}
 use Rattle.record_defs.specs.Spellings.{spelling}
@@ -27,11 +28,37 @@ use Rattle.command_laws.proofs.Chains.{put-begins}
 use Rattle.command_laws.proofs.Samples.{set_up-sure, held-sure}
 
 abbrev pub formed : State → State
-formed w = record w { records = set_up_records; journal = set_up_records; area = A; is_switching = false; jobs = []; next_job = 1; alone = None; append = None; doubt = None; is_open = true; is_barred = false; disk_faults = 0 }
+formed w = record w {
+  records = set_up_records;
+  journal = set_up_records;
+  area = A;
+  is_switching = false;
+  jobs = [];
+  next_job = 1;
+  alone = None;
+  append = None;
+  doubt = None;
+  is_open = true;
+  is_barred = false;
+  disk_faults = 0;
+}
 
 -- a state that was just opened over the store that was set up is this one
 pub form-is : (w : State) → IsOpenedOver w set_up_records 0 idle_providers → formed w ≡ w
-form-is w V = sym (λ i. record w { records = V.records i; journal = (V.whole.journal ∙ V.records) i; area = V.whole.area i; is_switching = V.whole.unswitched i; jobs = V.jobs i; next_job = V.next_job i; alone = V.none_alone i; append = V.append i; doubt = V.doubt i; is_open = V.is_open i; is_barred = V.unbarred i; disk_faults = V.faults_are i })
+form-is w V = sym (λ i. record w {
+  records = V.records i;
+  journal = (V.whole.journal ∙ V.records) i;
+  area = V.whole.area i;
+  is_switching = V.whole.unswitched i;
+  jobs = V.jobs i;
+  next_job = V.next_job i;
+  alone = V.none_alone i;
+  append = V.append i;
+  doubt = V.doubt i;
+  is_open = V.is_open i;
+  is_barred = V.unbarred i;
+  disk_faults = V.faults_are i;
+})
 
 begins-none : refusal_over set_up_records (PutJob held_name []) ≡ None
 begins-none = put-begins small_setup held_name [] refl (omega arith)
@@ -126,16 +153,43 @@ module _ (w : State) (n : ℕ) (H : AreHanded idle_providers (formed w)) where
 
   steps-are : AreSteps s0 (n + 1) 1 steps
   unfolding steps
-  steps-are = (refl, refl, eight 0, (refl, refl, seven 0, (refl, refl, six 0, (refl, refl, five 0, (refl, refl, four 0, (refl, refl, three 0, (refl, refl, two 0, (refl, refl, one 0, tt))))))))
+  steps-are = (
+    refl,
+    refl,
+    eight 0,
+    (
+      refl,
+      refl,
+      seven 0,
+      (
+        refl,
+        refl,
+        six 0,
+        (
+          refl,
+          refl,
+          five 0,
+          (refl, refl, four 0, (refl, refl, three 0, (refl, refl, two 0, (refl, refl, one 0, tt)))),
+        ),
+      ),
+    ),
+  )
 
-  ran-formed : RanAlone set_up_records (PutJob held_name []) Put (store set_up_records) (with_sink (store held_records) (stored_line held_name 0)) [] 0 v n
+  ran-formed : RanAlone set_up_records (PutJob held_name []) Put (store set_up_records)
+      (with_sink (store held_records) (stored_line held_name 0)) [] 0 v n
   unfolding steps spelling
   ran-formed = record {
     last = s9;
     runs = record {
       begun = s0;
       job = 1;
-      begins = (refl, refusal-of v (PutJob held_name []) refl refl refl (record { journal = refl; area = refl; unswitched = refl }) ∙ begins-none, refl, refl);
+      begins = (
+        refl,
+        refusal-of v (PutJob held_name []) refl refl refl
+            (record { journal = refl; area = refl; unswitched = refl }) ∙ begins-none,
+        refl,
+        refl,
+      );
       goes_on = record { steps = steps; are_steps = steps-are; ends = nine 0; heard_is = refl };
     };
     images = λ image is. inl (inl (refl, held-sure.images image is));
@@ -144,18 +198,24 @@ module _ (w : State) (n : ℕ) (H : AreHanded idle_providers (formed w)) where
     past_text = refl;
   }
 
-put-alone : RunsAlone set_up_records (PutJob held_name []) Put (store set_up_records) (with_sink (store held_records) (stored_line held_name 0)) []
+put-alone : RunsAlone set_up_records (PutJob held_name []) Put (store set_up_records)
+    (with_sink (store held_records) (stored_line held_name 0)) []
 put-alone = record {
   faults = 0;
   before = omega arith;
-  ran = λ w n V. subst (λ u. RanAlone set_up_records (PutJob held_name []) Put (store set_up_records) (with_sink (store held_records) (stored_line held_name 0)) [] 0 u n) (form-is w V)
+  ran = λ w n V. subst (λ u. RanAlone set_up_records (PutJob held_name []) Put (store set_up_records)
+      (with_sink (store held_records) (stored_line held_name 0)) [] 0 u n) (form-is w V)
       (ran-formed w n (subst (AreHanded idle_providers) (sym (form-is w V)) V.handed));
 }
 
 -- a put of the empty file is done
-pub put : Answers (PutUnder held_name) (store set_up_records) (with_sink (store held_records) (stored_line held_name 0)) (ends 0)
-put = AnswersPut.begun set_up_records [] set_up-sure.known.opened (record { are_bytes = refl; front = refl; few = omega arith; end = λ l. refl })
+pub put : Answers (PutUnder held_name) (store set_up_records)
+    (with_sink (store held_records) (stored_line held_name 0)) (ends 0)
+put = AnswersPut.begun set_up_records [] set_up-sure.known.opened
+    (record { are_bytes = refl; front = refl; few = omega arith; end = λ l. refl })
     (AnswersJob.ended Put begins-none put-alone
-    (left-alone set_up_records (PutJob held_name []) Put (store set_up_records) (with_sink (store held_records) (stored_line held_name 0)) []
-    (refl, refl) (λ w last n O r. jobs-leave (PutJob held_name []) w last n Put [] (refl, refl) O r) set_up-sure.known.opened refl put-alone)
+    (left-alone set_up_records (PutJob held_name []) Put (store set_up_records)
+    (with_sink (store held_records) (stored_line held_name 0)) []
+    (refl, refl) (λ w last n O r. jobs-leave (PutJob held_name []) w last n Put [] (refl, refl) O r)
+    set_up-sure.known.opened refl put-alone)
     (record { written = inl (refl, refl); place = refl }))

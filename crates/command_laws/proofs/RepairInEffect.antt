@@ -1,4 +1,5 @@
--- However a repair ended: where the next command finds its end in effect, each flagged provider that tells is right for a file that stood.
+-- However a repair ended: where the next command finds its end in effect, each flagged provider that tells is
+-- right for a file that stood.
 use Rattle.std.proofs.Common.{◌≡◌, ℕ, ◌<◌, ◌≤◌, ◌⊎◌, ◌&&◌, Bool, true, false, not, List, [], ◌∷◌, ◌++◌, length, reverse, Option, None, Some, ap, sym, subst, ◌∙◌, inl, inr, arith, length-append}
 use Rattle.std.specs.Prelude.{is_some, IfSome, IsSomeAnd}
 use Rattle.std.proofs.lemmas.Bool.{cases_Bool}
@@ -34,12 +35,18 @@ use Rattle.command_laws.proofs.FilesStay.{bad-few}
 use Rattle.command_laws.proofs.FilesKept.{wrong-same, flag-off, goes-tells, columns-right, and-off}
 use Rattle.command_laws.proofs.PutInEffect.{tells-back}
 
-module _ (name bytes : List ℕ) (records : List Record) (due : Due) (spoilt : ℕ → Bool) (old new next : Seen) (end : Ending) (S : IsSure old records) (is_due : due_of records ≡ Some due) (N : Follows new next)
-    (F : IsKnown next (after_repair records due)) (H : HasRightFile old records name bytes spoilt) (steady : IsSteady (setup_in_effect records).n spoilt old new) (few : spoilt_below (setup_in_effect records).n spoilt ≤ (setup_in_effect records).b)
-    (tells : (j : ℕ) → j < (setup_in_effect records).n → is_flagged (setup_in_effect records).tolerance due.counts j ≡ true → is_some (provider_at old.providers j).held ≡ true) where
+module _ (name bytes : List ℕ) (records : List Record) (due : Due) (spoilt : ℕ → Bool) (old new next : Seen)
+    (end : Ending) (S : IsSure old records) (is_due : due_of records ≡ Some due) (N : Follows new next)
+    (F : IsKnown next (after_repair records due)) (H : HasRightFile old records name bytes spoilt)
+    (steady : IsSteady (setup_in_effect records).n spoilt old new)
+    (few : spoilt_below (setup_in_effect records).n spoilt ≤ (setup_in_effect records).b)
+    (tells : (j : ℕ) → j < (setup_in_effect records).n →
+    is_flagged (setup_in_effect records).tolerance due.counts j ≡ true →
+    is_some (provider_at old.providers j).held ≡ true) where
   -- the file, right also on each flagged provider
   abbrev Mended : Type 0
-  Mended = HasRightFile new (after_repair records due) name bytes (λ j. spoilt j && not (is_flagged (setup_in_effect records).tolerance due.counts j))
+  Mended = HasRightFile new (after_repair records due) name bytes
+      (λ j. spoilt j && not (is_flagged (setup_in_effect records).tolerance due.counts j))
 
   -- an image stands for the records before
   abbrev Before : List ℕ → Type 0
@@ -50,23 +57,32 @@ module _ (name bytes : List ℕ) (records : List Record) (due : Due) (spoilt : �
       (let c = next-image new next (tells-back new next N F.tells) N in
       let g : StandsFor (reads c.0) records = c.2 Before h in
       let looked : (9 < length (reads c.0)) × StandsFor (journal_read c.0) (after_repair records due) =
-      subst (λ d. IfSome d (λ cells. (9 < length (reads cells)) × StandsFor (journal_read cells) (after_repair records due))) c.1 F.opened.read.reads_are in
-      let same = one_meaning (reads c.0) records (after_repair records due) g (stands-front largest_journal (reads c.0) (after_repair records due) looked.1) in
+      subst (λ d. IfSome d (λ cells. (9 < length (reads cells)) ×
+      StandsFor (journal_read cells) (after_repair records due))) c.1 F.opened.read.reads_are in
+      let same = one_meaning (reads c.0) records (after_repair records due) g
+      (stands-front largest_journal (reads c.0) (after_repair records due) looked.1) in
       let size = ap length same in
       omega (arith, size))
 
   refused-not : (status at : ℕ) → IsRefused status at old new end → ⊥
   refused-not status at r = not-before (sure-refused status at records old new end r S).images
 
-  image-before : (image : List ℕ) (after : List Record) (doubt : Option Record) → after ≡ records → doubt ≡ None → StandsOrIsEmpty image after ⊎ IsSomeAnd doubt (λ entry. StandsFor image (entry ∷ after)) → Before image
+  image-before : (image : List ℕ) (after : List Record) (doubt : Option Record) → after ≡ records →
+      doubt ≡ None → StandsOrIsEmpty image after ⊎ IsSomeAnd doubt
+      (λ entry. StandsFor image (entry ∷ after)) → Before image
   image-before image after doubt is sure (inl (inl stands)) = subst (StandsFor image) is stands
-  image-before image after doubt is sure (inl (inr empty)) = absurd (S.known.opened.read.some (sym is ∙ empty.0))
-  image-before image after doubt is sure (inr h) = absurd (subst (λ d. IsSomeAnd d (λ entry. StandsFor image (entry ∷ after))) sure h)
+  image-before image after doubt is sure (inl (inr empty)) =
+      absurd (S.known.opened.read.some (sym is ∙ empty.0))
+  image-before image after doubt is sure (inr h) =
+      absurd (subst (λ d. IsSomeAnd d (λ entry. StandsFor image (entry ∷ after))) sure h)
 
-  images-before : (told : Option Cells) (after : List Record) (doubt : Option Record) → after ≡ records → doubt ≡ None →
-      EachImage told (λ image. StandsOrIsEmpty image after ⊎ IsSomeAnd doubt (λ entry. StandsFor image (entry ∷ after))) → EachImage told Before
+  images-before : (told : Option Cells) (after : List Record) (doubt : Option Record) → after ≡ records →
+      doubt ≡ None →
+      EachImage told (λ image. StandsOrIsEmpty image after ⊎
+      IsSomeAnd doubt (λ entry. StandsFor image (entry ∷ after))) → EachImage told Before
   images-before None after doubt is sure h = tt
-  images-before (Some cells) after doubt is sure h = λ image of. image-before image after doubt is sure (h image of)
+  images-before (Some cells) after doubt is sure h =
+      λ image of. image-before image after doubt is sure (h image of)
 
   module _ (how : Answer) (left : LeftAlone records RepairJob how old new end.heard) where
     abbrev x : Ran
@@ -88,35 +104,54 @@ module _ (name bytes : List ℕ) (records : List Record) (due : Due) (spoilt : �
         fewer : bad_seen records old new H.file bytes ≤ (setup_in_effect records).b
         fewer = (let b = bad-few name bytes records spoilt old new H steady in omega (arith, b, few))
 
-        right : (j : ℕ) → j < (setup_in_effect records).n → (spoilt j && not (is_flagged (setup_in_effect records).tolerance due.counts j)) ≡ false →
-            is_wrong_or_untold (object_in_effect records H.file) bytes j (provider_at new.providers j).held ≡ false
-        right j below clean = elim (cases_Bool (is_flagged (setup_in_effect records).tolerance due.counts j)) [
-          | inl flagged ↦ columns-right (setup_in_effect records) H.file bytes j (provider_at new.providers j).held H.size (goes-tells _ (provider_at old.providers j).held (provider_at new.providers j).held (tells j below flagged) (W.held j below))
-              (λ stripe within. holds-right x (shape-at old records S.known.opened) due W name H.file bytes H.in_effect H.size fewer S.known.opened.read.accepted stripe within j below flagged)
-          | inr free ↦ wrong-same (object_in_effect records H.file) bytes j (provider_at old.providers j).held (provider_at new.providers j).held
-              (flag-off H.file.id (is_flagged (setup_in_effect records).tolerance due.counts j) _ (provider_at old.providers j).held (provider_at new.providers j).held free (W.held j below))
-              (H.right j below (and-off (spoilt j) (is_flagged (setup_in_effect records).tolerance due.counts j) clean free))
-        ]
+        right : (j : ℕ) → j < (setup_in_effect records).n →
+            (spoilt j && not (is_flagged (setup_in_effect records).tolerance due.counts j)) ≡ false →
+            is_wrong_or_untold (object_in_effect records H.file) bytes j (provider_at new.providers j).held
+            ≡ false
+        right j below clean =
+            elim (cases_Bool (is_flagged (setup_in_effect records).tolerance due.counts j)) [
+              | inl flagged ↦ columns-right (setup_in_effect records) H.file bytes j
+                  (provider_at new.providers j).held H.size
+                  (goes-tells _ (provider_at old.providers j).held (provider_at new.providers j).held
+                  (tells j below flagged) (W.held j below))
+                  (λ stripe within. holds-right x (shape-at old records S.known.opened) due W name H.file bytes
+                  H.in_effect H.size fewer S.known.opened.read.accepted stripe within j below flagged)
+              | inr free ↦ wrong-same (object_in_effect records H.file) bytes j (provider_at old.providers j).held
+                  (provider_at new.providers j).held
+                  (flag-off H.file.id (is_flagged (setup_in_effect records).tolerance due.counts j) _
+                  (provider_at old.providers j).held (provider_at new.providers j).held free (W.held j below))
+                  (H.right j below (and-off (spoilt j)
+                  (is_flagged (setup_in_effect records).tolerance due.counts j) clean free))
+            ]
 
-    none-done : (done : List Record) (entry : Record) (rest : List Record) → RepairDone due.number ∷ [] ≡ done ++ entry ∷ rest → x.after ≡ reverse done ++ records → x.after ≡ records
+    none-done : (done : List Record) (entry : Record) (rest : List Record) →
+        RepairDone due.number ∷ [] ≡ done ++ entry ∷ rest → x.after ≡ reverse done ++ records →
+        x.after ≡ records
     none-done [] entry rest parts after = after
-    none-done (r ∷ done) entry rest parts after = absurd (let e = ap length parts in let a = length-append done (entry ∷ rest) in omega (arith, e, a))
+    none-done (r ∷ done) entry rest parts after =
+        absurd (let e = ap length parts in let a = length-append done (entry ∷ rest) in omega (arith, e, a))
 
     by-answer : (h : Answer) → RepairGives x due h → Mended
     by-answer (answer.Repaired number) L = whole L.2
     by-answer (answer.Lost stripe row) L = absurd (none-more L.0.after L.0.sure)
     by-answer (answer.ProviderFault k) L = absurd (none-more L.3.after L.3.sure)
     by-answer answer.DiskFault L = whole L.2
-    by-answer answer.Memory L = absurd (let C = L.0 in none-more (none-done C.done C.next C.rest C.parts C.after) C.sure)
+    by-answer answer.Memory L =
+        absurd (let C = L.0 in none-more (none-done C.done C.next C.rest C.parts C.after) C.sure)
     by-answer h L = absurd L
 
   by-job : AnswersJob RepairJob records old new end → Mended
   by-job (AnswersJob.refused why is synced r) = absurd (refused-not _ 0 r)
   by-job (AnswersJob.no_memory synced r) = absurd (refused-not 70 0 r)
   by-job (AnswersJob.ended how none runs left by) = (let L = left.leaves.by_kind.0 in
-      by-answer how left how (subst (λ (d : Due). RepairGives (ran_left records RepairJob how old new end.heard left) d how) (same_value (due_of records) L.due due L.is_due is_due) L.gives))
+      by-answer how left how
+      (subst (λ (d : Due). RepairGives (ran_left records RepairJob how old new end.heard left) d how)
+      (same_value (due_of records) L.due due L.is_due is_due) L.gives))
 
   -- a repair that the next command finds in effect left a right file right on flagged providers too
   pub repair-in-effect : AnswersAlone RepairJob old new end → Mended
-  repair-in-effect (AnswersAlone.unstarted u) = absurd (let r = unstarted-refused old new end u in refused-not r.0 r.1 r.3)
-  repair-in-effect (AnswersAlone.begun rs opened A) = by-job (subst (λ l. AnswersJob RepairJob l old new end) (known-once old records rs S.known opened.read) A)
+  repair-in-effect (AnswersAlone.unstarted u) =
+      absurd (let r = unstarted-refused old new end u in refused-not r.0 r.1 r.3)
+  repair-in-effect (AnswersAlone.begun rs opened A) =
+      by-job (subst (λ l. AnswersJob RepairJob l old new end)
+      (known-once old records rs S.known opened.read) A)

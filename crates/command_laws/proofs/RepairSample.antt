@@ -29,13 +29,40 @@ pub due-sure : IsSure (store due_records) due_records
 due-sure = store-sure due_records (λ e. cc) refl (refl, (refl, (refl, tt))) (omega arith) (omega arith)
 
 repaired-sure : IsSure (store repaired_records) repaired_records
-repaired-sure = store-sure repaired_records (λ e. cc) refl (refl, (refl, (refl, (refl, tt)))) (omega arith) (omega arith)
+repaired-sure = store-sure repaired_records (λ e. cc) refl (refl, (refl, (refl, (refl, tt)))) (omega arith)
+    (omega arith)
 
 abbrev formed : State → State
-formed w = record w { records = due_records; journal = due_records; area = A; is_switching = false; jobs = []; next_job = 1; alone = None; append = None; doubt = None; is_open = true; is_barred = false; disk_faults = 0 }
+formed w = record w {
+  records = due_records;
+  journal = due_records;
+  area = A;
+  is_switching = false;
+  jobs = [];
+  next_job = 1;
+  alone = None;
+  append = None;
+  doubt = None;
+  is_open = true;
+  is_barred = false;
+  disk_faults = 0;
+}
 
 form-is : (w : State) → IsOpenedOver w due_records 0 idle_providers → formed w ≡ w
-form-is w V = sym (λ i. record w { records = V.records i; journal = (V.whole.journal ∙ V.records) i; area = V.whole.area i; is_switching = V.whole.unswitched i; jobs = V.jobs i; next_job = V.next_job i; alone = V.none_alone i; append = V.append i; doubt = V.doubt i; is_open = V.is_open i; is_barred = V.unbarred i; disk_faults = V.faults_are i })
+form-is w V = sym (λ i. record w {
+  records = V.records i;
+  journal = (V.whole.journal ∙ V.records) i;
+  area = V.whole.area i;
+  is_switching = V.whole.unswitched i;
+  jobs = V.jobs i;
+  next_job = V.next_job i;
+  alone = V.none_alone i;
+  append = V.append i;
+  doubt = V.doubt i;
+  is_open = V.is_open i;
+  is_barred = V.unbarred i;
+  disk_faults = V.faults_are i;
+})
 
 module _ (w : State) (n : ℕ) (H : AreHanded idle_providers (formed w)) where
   abbrev v : State
@@ -102,7 +129,13 @@ module _ (w : State) (n : ℕ) (H : AreHanded idle_providers (formed w)) where
     runs = record {
       begun = s0;
       job = 1;
-      begins = (refl, refusal-of v RepairJob refl refl refl (record { journal = refl; area = refl; unswitched = refl }), refl, refl);
+      begins = (
+        refl,
+        refusal-of v RepairJob refl refl refl
+            (record { journal = refl; area = refl; unswitched = refl }),
+        refl,
+        refl,
+      );
       goes_on = record { steps = steps; are_steps = steps-are; ends = five 0; heard_is = refl };
     };
     images = λ image is. inl (inl (refl, repaired-sure.images image is));
@@ -115,7 +148,8 @@ repair-alone : RunsAlone due_records RepairJob (Repaired 1) (store due_records) 
 repair-alone = record {
   faults = 0;
   before = omega arith;
-  ran = λ w n V. subst (λ u. RanAlone due_records RepairJob (Repaired 1) (store due_records) repaired_store [] 0 u n) (form-is w V)
+  ran = λ w n V. subst (λ u. RanAlone due_records RepairJob (Repaired 1) (store due_records) repaired_store
+      [] 0 u n) (form-is w V)
       (ran-formed w n (subst (AreHanded idle_providers) (sym (form-is w V)) V.handed));
 }
 
@@ -124,7 +158,8 @@ pub repair : Answers RepairDue (store due_records) repaired_store (ends 0)
 repair = (
   AnswersAlone.begun due_records due-sure.known.opened (AnswersJob.ended (Repaired 1) refl repair-alone
       (left-alone due_records RepairJob (Repaired 1) (store due_records) repaired_store []
-      tt (λ w last n O r. jobs-leave RepairJob w last n (Repaired 1) [] tt O r) due-sure.known.opened refl repair-alone)
+      tt (λ w last n O r. jobs-leave RepairJob w last n (Repaired 1) [] tt O r) due-sure.known.opened refl
+      repair-alone)
       (record { written = inl (refl, refl); place = refl })),
   (refl, refl),
 )

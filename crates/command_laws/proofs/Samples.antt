@@ -44,30 +44,43 @@ use Rattle.job_laws.proofs.BeginRefusals.{refusal-of}
 -- ---- the store
 
 -- a store whose disk reads accepted records that fit is sure
-pub store-sure : (rs : List Record) → rs ≢ [] → IsTrue (list_all is_in_grammar rs) → AreAccepted rs → text_size rs ≤ largest_journal → (setup_in_effect rs).n ≤ 4 → IsSure (store rs) rs
+pub store-sure : (rs : List Record) → rs ≢ [] → IsTrue (list_all is_in_grammar rs) → AreAccepted rs →
+    text_size rs ≤ largest_journal → (setup_in_effect rs).n ≤ 4 → IsSure (store rs) rs
 store-sure rs some all accepted room few = record {
   known = known-good (setup_in_effect rs) (store rs) (firm (text rs)) rs refl
-      (record { some = some; accepted = accepted; room = room; setup = refl; stands = stands-text rs all (reads (firm (text rs))) (reads-firm (text rs)) }) few;
+      (record {
+        some = some;
+        accepted = accepted;
+        room = room;
+        setup = refl;
+        stands = stands-text rs all (reads (firm (text rs))) (reads-firm (text rs));
+      }) few;
   images = λ image is. stands-text rs all image (image-firm (text rs) image is);
 }
 
 -- the store that was set up is sure
 pub set_up-sure : IsSure (store set_up_records) set_up_records
-set_up-sure = store-sure set_up_records (λ e. cc) refl (refl, tt) (let e : text_size set_up_records ≡ 51 = refl in omega (arith, e)) (omega arith)
+set_up-sure = store-sure set_up_records (λ e. cc) refl (refl, tt)
+    (let e : text_size set_up_records ≡ 51 = refl in omega (arith, e)) (omega arith)
 
 -- the store with the empty file is sure
 pub held-sure : IsSure (store held_records) held_records
-held-sure = store-sure held_records (λ e. cc) refl (refl, (refl, (refl, tt))) (let e : text_size held_records ≡ 77 = refl in omega (arith, e)) (omega arith)
+held-sure = store-sure held_records (λ e. cc) refl (refl, (refl, (refl, tt)))
+    (let e : text_size held_records ≡ 77 = refl in omega (arith, e)) (omega arith)
 
 -- the file has no stripes
 no-stripe : (t : ℕ) → t < stripes (object_of small_setup 1) 0 → ⊥
 no-stripe t l = (let e : stripes (object_of small_setup 1) 0 ≡ 0 = refl in omega (arith, e, l))
 
 right-at : (j : ℕ) → j < 4 → is_wrong_at held_records (store held_records) held_file [] j ≡ false
-right-at zero l = each-not-wrong (object_of small_setup 1) [] 0 (λ stripe. None) (λ t within. absurd (no-stripe t within))
-right-at (suc zero) l = each-not-wrong (object_of small_setup 1) [] 1 (λ stripe. None) (λ t within. absurd (no-stripe t within))
-right-at (suc (suc zero)) l = each-not-wrong (object_of small_setup 1) [] 2 (λ stripe. None) (λ t within. absurd (no-stripe t within))
-right-at (suc (suc (suc zero))) l = each-not-wrong (object_of small_setup 1) [] 3 (λ stripe. None) (λ t within. absurd (no-stripe t within))
+right-at zero l = each-not-wrong (object_of small_setup 1) [] 0 (λ stripe. None)
+    (λ t within. absurd (no-stripe t within))
+right-at (suc zero) l =
+    each-not-wrong (object_of small_setup 1) [] 1 (λ stripe. None) (λ t within. absurd (no-stripe t within))
+right-at (suc (suc zero)) l =
+    each-not-wrong (object_of small_setup 1) [] 2 (λ stripe. None) (λ t within. absurd (no-stripe t within))
+right-at (suc (suc (suc zero))) l =
+    each-not-wrong (object_of small_setup 1) [] 3 (λ stripe. None) (λ t within. absurd (no-stripe t within))
 right-at (suc (suc (suc (suc j)))) l = absurd (omega (arith, l))
 
 -- the empty file is in effect and right on every provider
@@ -81,14 +94,17 @@ held-file = record {
 }
 
 -- no provider is wrong or failed: each is right, and none failed
-pub none-bad : bad_seen held_records (store held_records) (store held_records) held_file [] ≤ (setup_in_effect held_records).b
+pub none-bad : bad_seen held_records (store held_records) (store held_records) held_file
+    [] ≤ (setup_in_effect held_records).b
 unfolding held-file
-none-bad = (let b = bad-few held_name [] held_records (λ j. false) (store held_records) (store held_records) held-file (λ j below clean rose. no-rise j below rose) in within _ _ b (omega arith))
+none-bad = (let b = bad-few held_name [] held_records (λ j. false) (store held_records)
+    (store held_records) held-file (λ j below clean rose. no-rise j below rose) in within _ _ b (omega arith))
   where
     within : (a n : ℕ) → a ≤ n → n ≤ 1 → a ≤ 1
     within a n l m = omega (arith, l, m)
 
-    no-rise : (j : ℕ) → j < 4 → Rose (provider_at idle_providers j).other_faults (provider_at idle_providers j).other_faults → ⊥
+    no-rise : (j : ℕ) → j < 4 →
+        Rose (provider_at idle_providers j).other_faults (provider_at idle_providers j).other_faults → ⊥
     no-rise zero l rose = (let r = rose (omega arith) in omega (arith, r))
     no-rise (suc zero) l rose = (let r = rose (omega arith) in omega (arith, r))
     no-rise (suc (suc zero)) l rose = (let r = rose (omega arith) in omega (arith, r))
@@ -100,7 +116,8 @@ pub never-rises : (n : ℕ) → n < last_count → Rose n n → ⊥
 never-rises n low rose = (let r = rose low in omega (arith, r))
 
 -- of providers that were not handed in no count rises either
-pub never-seen : (j : ℕ) → Rose (provider_at idle_providers j).store_faults (provider_at idle_providers j).store_faults → ⊥
+pub never-seen : (j : ℕ) →
+    Rose (provider_at idle_providers j).store_faults (provider_at idle_providers j).store_faults → ⊥
 never-seen zero rose = never-rises 0 (omega arith) rose
 never-seen (suc zero) rose = never-rises 0 (omega arith) rose
 never-seen (suc (suc zero)) rose = never-rises 0 (omega arith) rose
@@ -110,14 +127,41 @@ never-seen (suc (suc (suc (suc j)))) rose = never-rises 0 (omega arith) rose
 -- ---- a get of the empty file, from every state that was just opened
 
 abbrev formed : State → State
-formed w = record w { records = held_records; journal = held_records; area = A; is_switching = false; jobs = []; next_job = 1; alone = None; append = None; doubt = None; is_open = true; is_barred = false; disk_faults = 0 }
+formed w = record w {
+  records = held_records;
+  journal = held_records;
+  area = A;
+  is_switching = false;
+  jobs = [];
+  next_job = 1;
+  alone = None;
+  append = None;
+  doubt = None;
+  is_open = true;
+  is_barred = false;
+  disk_faults = 0;
+}
 
 form-is : (w : State) → IsOpenedOver w held_records 0 idle_providers → formed w ≡ w
-form-is w V = sym (λ i. record w { records = V.records i; journal = (V.whole.journal ∙ V.records) i; area = V.whole.area i; is_switching = V.whole.unswitched i; jobs = V.jobs i; next_job = V.next_job i; alone = V.none_alone i; append = V.append i; doubt = V.doubt i; is_open = V.is_open i; is_barred = V.unbarred i; disk_faults = V.faults_are i })
+form-is w V = sym (λ i. record w {
+  records = V.records i;
+  journal = (V.whole.journal ∙ V.records) i;
+  area = V.whole.area i;
+  is_switching = V.whole.unswitched i;
+  jobs = V.jobs i;
+  next_job = V.next_job i;
+  alone = V.none_alone i;
+  append = V.append i;
+  doubt = V.doubt i;
+  is_open = V.is_open i;
+  is_barred = V.unbarred i;
+  disk_faults = V.faults_are i;
+})
 
 -- a get of a file with no bytes has its end left alone
 abbrev get_actions : ℕ → List Action
-get_actions size = (flat_map (open_actions small_setup 1) (upto (stripes_of small_setup size)) ++ []) ++ End ∷ []
+get_actions size = (flat_map (open_actions small_setup 1)
+    (upto (stripes_of small_setup size)) ++ []) ++ End ∷ []
 
 next-end : (n : ℕ) → n ≡ 0 → slice_get (get_actions n) 0 ≡ Some End
 next-end n none = subst (λ k. slice_get (get_actions k) 0 ≡ Some End) (sym none) refl
@@ -138,15 +182,23 @@ module _ (w : State) (n : ℕ) (H : AreHanded idle_providers (formed w)) (empty 
 
   ends-here : Happens 8 ((n + 1) + 0) begun (Step 1) (Ended (Got [])) (ended begun job)
   unfolding setup_in actions_of
-  ends-here = subst (λ a. StepsOn begun job a (Ended (Got [])) (ended begun job)) (sym (next-end (length (w.bytes 1)) empty)) (nothing-given (length (w.bytes 1)) _ empty, refl)
+  ends-here = subst (λ a. StepsOn begun job a (Ended (Got [])) (ended begun job))
+      (sym (next-end (length (w.bytes 1)) empty)) (nothing-given (length (w.bytes 1)) _ empty, refl)
 
-  ran-formed : RanAlone held_records (GetJob held_name) (Got []) (store held_records) (store held_records) [] 0 v n
+  ran-formed : RanAlone held_records (GetJob held_name) (Got []) (store held_records) (store held_records)
+      [] 0 v n
   ran-formed = record {
     last = ended begun job;
     runs = record {
       begun = begun;
       job = 1;
-      begins = (refl, refusal-of v (GetJob held_name) refl refl refl (record { journal = refl; area = refl; unswitched = refl }), refl, refl);
+      begins = (
+        refl,
+        refusal-of v (GetJob held_name) refl refl refl
+            (record { journal = refl; area = refl; unswitched = refl }),
+        refl,
+        refl,
+      );
       goes_on = record { steps = []; are_steps = tt; ends = ends-here; heard_is = refl };
     };
     images = λ image is. inl (inl (refl, held-sure.images image is));
@@ -159,7 +211,8 @@ got-alone : RunsAlone held_records (GetJob held_name) (Got []) (store held_recor
 got-alone = record {
   faults = 0;
   before = omega arith;
-  ran = λ w n V. subst (λ u. RanAlone held_records (GetJob held_name) (Got []) (store held_records) (store held_records) [] 0 u n) (form-is w V)
+  ran = λ w n V. subst (λ u. RanAlone held_records (GetJob held_name) (Got []) (store held_records)
+      (store held_records) [] 0 u n) (form-is w V)
       (ran-formed w n (subst (AreHanded idle_providers) (sym (form-is w V)) V.handed)
       (V.bytes held_name (file_as held_name 1 0 0) refl).1);
 }
@@ -177,28 +230,55 @@ opened = held-sure.known.opened
 pub got : Answers (GetOf held_name) (store held_records) (store held_records) (ends 0)
 got = (
   AnswersAlone.begun held_records opened (AnswersJob.ended (Got []) refl got-alone
-      (left-alone held_records (GetJob held_name) (Got []) (store held_records) (store held_records) [] refl (λ w last n O r. jobs-leave (GetJob held_name) w last n (Got []) [] refl O r) opened refl got-alone)
+      (left-alone held_records (GetJob held_name) (Got []) (store held_records) (store held_records) [] refl
+      (λ w last n O r. jobs-leave (GetJob held_name) w last n (Got []) [] refl O r) opened refl got-alone)
       (record { written = inl (refl, refl); place = refl })),
   (refl, refl),
 )
 
 refused-so : (status : ℕ) → IsRefused status 0 (store held_records) (store held_records) (ends status)
-refused-so status = record { status_is = refl; place = refl; heard = refl; disk = inl refl; providers = refl; sink = refl }
+refused-so status = record {
+  status_is = refl;
+  place = refl;
+  heard = refl;
+  disk = inl refl;
+  providers = refl;
+  sink = refl;
+}
 
 -- a get of another name says that there is no such file
 pub missed : Answers (GetOf other_name) (store held_records) (store held_records) (ends 3)
-missed = (AnswersAlone.begun held_records opened (AnswersJob.refused refusal.NoSuchName refl (same-disk held_records) (refused-so 3)), (refl, refl))
+missed = (
+  AnswersAlone.begun held_records opened
+      (AnswersJob.refused refusal.NoSuchName refl (same-disk held_records) (refused-so 3)),
+  (refl, refl),
+)
 
 -- a list of the store with the empty file is done
-pub listed : Answers ListAll (store held_records) (with_sink (store held_records) (list_lines (files_of held_records))) (ends 0)
+pub listed : Answers ListAll (store held_records)
+    (with_sink (store held_records) (list_lines (files_of held_records))) (ends 0)
 listed = (
-  AnswersList.listed held_records opened (record { written = inl (refl, refl); place = refl; heard = refl; disk = same-disk held_records; providers = refl }),
+  AnswersList.listed held_records opened
+      (record {
+        written = inl (refl, refl);
+        place = refl;
+        heard = refl;
+        disk = same-disk held_records;
+        providers = refl;
+      }),
   (refl, refl),
 )
 
 -- over the store no count falls
 pub none-fell : NoCountFalls (store held_records) (store held_records)
-none-fell = record { disk = omega arith; handed = refl; stores = λ j. omega arith; others = λ j. omega arith; source = omega arith; sink = omega arith }
+none-fell = record {
+  disk = omega arith;
+  handed = refl;
+  stores = λ j. omega arith;
+  others = λ j. omega arith;
+  source = omega arith;
+  sink = omega arith;
+}
 
 later : IsLater (store held_records) (store held_records)
 later = record { disk = inl refl; faults = refl; events = []; replaced = refl }

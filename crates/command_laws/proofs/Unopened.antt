@@ -17,23 +17,30 @@ use Rattle.command_laws.specs.Ends.{opens_store}
 use Rattle.opening_defs.proofs.Readings.{read-once, read-set_up, read-good, fresh-good, bad-once}
 use Rattle.command_laws.proofs.Known.{is_unopened, job-opened}
 
--- how a command goes that looks at a store: it is not started, or it has a status of its own, over records that were read or none
+-- how a command goes that looks at a store: it is not started, or it has a status of its own, over records
+-- that were read or none
 data Opening (old new : Seen) (end : Ending) : Type 0 where
   before : Unstarted old new end → Opening old new end
   no_room : end.status ≡ 70 → Opening old new end
   over : (records : List Record) → IsOpened old records → is_unopened end.status ≡ false → Opening old new end
 
-put-opening : (name : List ℕ) (old new : Seen) (end : Ending) → AnswersPut name old new end → Opening old new end
+put-opening : (name : List ℕ) (old new : Seen) (end : Ending) → AnswersPut name old new end →
+    Opening old new end
 put-opening name old new end (AnswersPut.unstarted u same) = Opening.before u
-put-opening name old new end (AnswersPut.source_fault records opened rose synced taken r) = Opening.over records opened (ap is_unopened r.status_is)
+put-opening name old new end (AnswersPut.source_fault records opened rose synced taken r) =
+    Opening.over records opened (ap is_unopened r.status_is)
 put-opening name old new end (AnswersPut.no_memory taken r) = Opening.no_room r.status_is
-put-opening name old new end (AnswersPut.begun records bytes opened read A) = Opening.over records opened (job-opened _ records old new end A)
+put-opening name old new end (AnswersPut.begun records bytes opened read A) =
+    Opening.over records opened (job-opened _ records old new end A)
 
-alone-opening : (kind : Kind) (old new : Seen) (end : Ending) → AnswersAlone kind old new end → Opening old new end
+alone-opening : (kind : Kind) (old new : Seen) (end : Ending) → AnswersAlone kind old new end →
+    Opening old new end
 alone-opening kind old new end (AnswersAlone.unstarted u) = Opening.before u
-alone-opening kind old new end (AnswersAlone.begun records opened A) = Opening.over records opened (job-opened kind records old new end A)
+alone-opening kind old new end (AnswersAlone.begun records opened A) =
+    Opening.over records opened (job-opened kind records old new end A)
 
-written-opened : (text : List ℕ) (old new : Seen) (end : Ending) → WritesLine text end.status (sinking old new) → is_unopened end.status ≡ false
+written-opened : (text : List ℕ) (old new : Seen) (end : Ending) →
+    WritesLine text end.status (sinking old new) → is_unopened end.status ≡ false
 written-opened text old new end (inl w) = ap is_unopened w.0
 written-opened text old new end (inr (inl w)) = ap is_unopened w.1
 written-opened text old new end (inr (inr w)) = ap is_unopened w.0
@@ -41,9 +48,11 @@ written-opened text old new end (inr (inr w)) = ap is_unopened w.0
 list-opening : (old new : Seen) (end : Ending) → AnswersList old new end → Opening old new end
 list-opening old new end (AnswersList.unstarted u) = Opening.before u
 list-opening old new end (AnswersList.no_memory r) = Opening.no_room r.status_is
-list-opening old new end (AnswersList.listed records opened L) = Opening.over records opened (written-opened _ old new end L.written)
+list-opening old new end (AnswersList.listed records opened L) =
+    Opening.over records opened (written-opened _ old new end L.written)
 
-opening-of : (command : Command) (old new : Seen) (end : Ending) → Answers command old new end → opens_store command ≡ true → Opening old new end
+opening-of : (command : Command) (old new : Seen) (end : Ending) → Answers command old new end →
+    opens_store command ≡ true → Opening old new end
 opening-of (RowOf n l b seen) old new end A opens = absurd (false≢true opens)
 opening-of (InitWith numbers) old new end A opens = absurd (false≢true opens)
 opening-of (PutUnder name) old new end A opens = put-opening name old new end A
@@ -58,37 +67,62 @@ status-not status n m is also differ = differ (sym is ∙ also)
 
 -- ---- only with the cause
 
-unset-only : (cells : Cells) (old new : Seen) (end : Ending) → old.disk ≡ Some cells → Opening old new end → end.status ≡ 9 → HasNoSetup (journal_read cells)
-unset-only cells old new end tells (Opening.before (Unstarted.not_set_up is r)) nine = subst (λ d. IfSome d (λ c. HasNoSetup (journal_read c))) tells is
-unset-only cells old new end tells (Opening.before (Unstarted.disk_fault rose r)) nine = absurd (status-not end.status 12 9 r.status_is nine (λ e. omega (arith, e)))
-unset-only cells old new end tells (Opening.before (Unstarted.bad_journal at is r)) nine = absurd (status-not end.status 8 9 r.status_is nine (λ e. omega (arith, e)))
-unset-only cells old new end tells (Opening.before (Unstarted.too_few_providers records read few synced r)) nine = absurd (status-not end.status 22 9 r.status_is nine (λ e. omega (arith, e)))
-unset-only cells old new end tells (Opening.before (Unstarted.no_memory r)) nine = absurd (status-not end.status 70 9 r.status_is nine (λ e. omega (arith, e)))
-unset-only cells old new end tells (Opening.no_room is) nine = absurd (status-not end.status 70 9 is nine (λ e. omega (arith, e)))
-unset-only cells old new end tells (Opening.over records opened other) nine = absurd (false≢true (sym other ∙ ap is_unopened nine))
+unset-only : (cells : Cells) (old new : Seen) (end : Ending) → old.disk ≡ Some cells → Opening old new end →
+    end.status ≡ 9 → HasNoSetup (journal_read cells)
+unset-only cells old new end tells (Opening.before (Unstarted.not_set_up is r)) nine =
+    subst (λ d. IfSome d (λ c. HasNoSetup (journal_read c))) tells is
+unset-only cells old new end tells (Opening.before (Unstarted.disk_fault rose r)) nine =
+    absurd (status-not end.status 12 9 r.status_is nine (λ e. omega (arith, e)))
+unset-only cells old new end tells (Opening.before (Unstarted.bad_journal at is r)) nine =
+    absurd (status-not end.status 8 9 r.status_is nine (λ e. omega (arith, e)))
+unset-only cells old new end tells (Opening.before (Unstarted.too_few_providers records read few synced r)) nine =
+    absurd (status-not end.status 22 9 r.status_is nine (λ e. omega (arith, e)))
+unset-only cells old new end tells (Opening.before (Unstarted.no_memory r)) nine =
+    absurd (status-not end.status 70 9 r.status_is nine (λ e. omega (arith, e)))
+unset-only cells old new end tells (Opening.no_room is) nine =
+    absurd (status-not end.status 70 9 is nine (λ e. omega (arith, e)))
+unset-only cells old new end tells (Opening.over records opened other) nine =
+    absurd (false≢true (sym other ∙ ap is_unopened nine))
 
-bad-only : (cells : Cells) (old new : Seen) (end : Ending) → old.disk ≡ Some cells → Opening old new end → end.status ≡ 8 → (9 < length (journal_read cells)) × IsBadStart (journal_read cells) end.at
+bad-only : (cells : Cells) (old new : Seen) (end : Ending) → old.disk ≡ Some cells → Opening old new end →
+    end.status ≡ 8 → (9 < length (journal_read cells)) × IsBadStart (journal_read cells) end.at
 bad-only cells old new end tells (Opening.before (Unstarted.bad_journal at is r)) eight =
-    subst (λ k. (9 < length (journal_read cells)) × IsBadStart (journal_read cells) k) (sym r.place) (subst (λ d. IfSome d (λ c. (9 < length (journal_read c)) × IsBadStart (journal_read c) at)) tells is)
-bad-only cells old new end tells (Opening.before (Unstarted.disk_fault rose r)) eight = absurd (status-not end.status 12 8 r.status_is eight (λ e. omega (arith, e)))
-bad-only cells old new end tells (Opening.before (Unstarted.not_set_up is r)) eight = absurd (status-not end.status 9 8 r.status_is eight (λ e. omega (arith, e)))
-bad-only cells old new end tells (Opening.before (Unstarted.too_few_providers records read few synced r)) eight = absurd (status-not end.status 22 8 r.status_is eight (λ e. omega (arith, e)))
-bad-only cells old new end tells (Opening.before (Unstarted.no_memory r)) eight = absurd (status-not end.status 70 8 r.status_is eight (λ e. omega (arith, e)))
-bad-only cells old new end tells (Opening.no_room is) eight = absurd (status-not end.status 70 8 is eight (λ e. omega (arith, e)))
-bad-only cells old new end tells (Opening.over records opened other) eight = absurd (false≢true (sym other ∙ ap is_unopened eight))
+    subst (λ k. (9 < length (journal_read cells)) × IsBadStart (journal_read cells) k) (sym r.place)
+    (subst (λ d. IfSome d (λ c. (9 < length (journal_read c)) × IsBadStart (journal_read c) at)) tells is)
+bad-only cells old new end tells (Opening.before (Unstarted.disk_fault rose r)) eight =
+    absurd (status-not end.status 12 8 r.status_is eight (λ e. omega (arith, e)))
+bad-only cells old new end tells (Opening.before (Unstarted.not_set_up is r)) eight =
+    absurd (status-not end.status 9 8 r.status_is eight (λ e. omega (arith, e)))
+bad-only cells old new end tells (Opening.before (Unstarted.too_few_providers records read few synced r)) eight =
+    absurd (status-not end.status 22 8 r.status_is eight (λ e. omega (arith, e)))
+bad-only cells old new end tells (Opening.before (Unstarted.no_memory r)) eight =
+    absurd (status-not end.status 70 8 r.status_is eight (λ e. omega (arith, e)))
+bad-only cells old new end tells (Opening.no_room is) eight =
+    absurd (status-not end.status 70 8 is eight (λ e. omega (arith, e)))
+bad-only cells old new end tells (Opening.over records opened other) eight =
+    absurd (false≢true (sym other ∙ ap is_unopened eight))
 
-few-only : (old new : Seen) (end : Ending) → Opening old new end → end.status ≡ 22 → (records : List Record) × IsRead old.disk records × (length old.providers < (setup_in_effect records).n)
-few-only old new end (Opening.before (Unstarted.too_few_providers records read few synced r)) is = (records, read, few)
-few-only old new end (Opening.before (Unstarted.disk_fault rose r)) is = absurd (status-not end.status 12 22 r.status_is is (λ e. omega (arith, e)))
-few-only old new end (Opening.before (Unstarted.not_set_up fresh r)) is = absurd (status-not end.status 9 22 r.status_is is (λ e. omega (arith, e)))
-few-only old new end (Opening.before (Unstarted.bad_journal at bad r)) is = absurd (status-not end.status 8 22 r.status_is is (λ e. omega (arith, e)))
-few-only old new end (Opening.before (Unstarted.no_memory r)) is = absurd (status-not end.status 70 22 r.status_is is (λ e. omega (arith, e)))
-few-only old new end (Opening.no_room m) is = absurd (status-not end.status 70 22 m is (λ e. omega (arith, e)))
-few-only old new end (Opening.over records opened other) is = absurd (false≢true (sym other ∙ ap is_unopened is))
+few-only : (old new : Seen) (end : Ending) → Opening old new end → end.status ≡ 22 →
+    (records : List Record) × IsRead old.disk records × (length old.providers < (setup_in_effect records).n)
+few-only old new end (Opening.before (Unstarted.too_few_providers records read few synced r)) is =
+    (records, read, few)
+few-only old new end (Opening.before (Unstarted.disk_fault rose r)) is =
+    absurd (status-not end.status 12 22 r.status_is is (λ e. omega (arith, e)))
+few-only old new end (Opening.before (Unstarted.not_set_up fresh r)) is =
+    absurd (status-not end.status 9 22 r.status_is is (λ e. omega (arith, e)))
+few-only old new end (Opening.before (Unstarted.bad_journal at bad r)) is =
+    absurd (status-not end.status 8 22 r.status_is is (λ e. omega (arith, e)))
+few-only old new end (Opening.before (Unstarted.no_memory r)) is =
+    absurd (status-not end.status 70 22 r.status_is is (λ e. omega (arith, e)))
+few-only old new end (Opening.no_room m) is =
+    absurd (status-not end.status 70 22 m is (λ e. omega (arith, e)))
+few-only old new end (Opening.over records opened other) is =
+    absurd (false≢true (sym other ∙ ap is_unopened is))
 
 -- ---- and always with it
 
-module _ (cells : Cells) (old new : Seen) (end : Ending) (tells : old.disk ≡ Some cells) (calm : Rose old.disk_faults new.disk_faults → ⊥) where
+module _ (cells : Cells) (old new : Seen) (end : Ending) (tells : old.disk ≡ Some cells)
+    (calm : Rose old.disk_faults new.disk_faults → ⊥) where
   told-read : (records : List Record) → IsRead old.disk records → IsRead (Some cells) records
   told-read records R = subst (λ d. IsRead d records) tells R
 
@@ -96,62 +130,99 @@ module _ (cells : Cells) (old new : Seen) (end : Ending) (tells : old.disk ≡ S
   unset-always fresh (Opening.before (Unstarted.disk_fault rose r)) = absurd (calm rose)
   unset-always fresh (Opening.before (Unstarted.not_set_up is r)) = inl r.status_is
   unset-always fresh (Opening.before (Unstarted.bad_journal at is r)) =
-      absurd (let bad : (9 < length (journal_read cells)) × IsBadStart (journal_read cells) at = subst (λ d. IfSome d (λ c. (9 < length (journal_read c)) × IsBadStart (journal_read c) at)) tells is in
+      absurd (let bad : (9 < length (journal_read cells)) × IsBadStart (journal_read cells) at =
+      subst (λ d. IfSome d (λ c. (9 < length (journal_read c)) × IsBadStart (journal_read c) at)) tells
+      is in
       fresh-good (journal_read cells) at bad.0 fresh bad.1)
-  unset-always fresh (Opening.before (Unstarted.too_few_providers records read few synced r)) = absurd (read-set_up cells records (told-read records read) fresh)
+  unset-always fresh (Opening.before (Unstarted.too_few_providers records read few synced r)) =
+      absurd (read-set_up cells records (told-read records read) fresh)
   unset-always fresh (Opening.before (Unstarted.no_memory r)) = inr r.status_is
   unset-always fresh (Opening.no_room is) = inr is
-  unset-always fresh (Opening.over records opened other) = absurd (read-set_up cells records (told-read records opened.read) fresh)
+  unset-always fresh (Opening.over records opened other) =
+      absurd (read-set_up cells records (told-read records opened.read) fresh)
 
-  bad-always : (at : ℕ) → 9 < length (journal_read cells) → IsBadStart (journal_read cells) at → Opening old new end → ((end.status ≡ 8) × (end.at ≡ at)) ⊎ (end.status ≡ 70)
+  bad-always : (at : ℕ) → 9 < length (journal_read cells) → IsBadStart (journal_read cells) at →
+      Opening old new end → ((end.status ≡ 8) × (end.at ≡ at)) ⊎ (end.status ≡ 70)
   bad-always at long bad (Opening.before (Unstarted.disk_fault rose r)) = absurd (calm rose)
-  bad-always at long bad (Opening.before (Unstarted.not_set_up is r)) = absurd (fresh-good (journal_read cells) at long (subst (λ d. IfSome d (λ c. HasNoSetup (journal_read c))) tells is) bad)
+  bad-always at long bad (Opening.before (Unstarted.not_set_up is r)) =
+      absurd (fresh-good (journal_read cells) at long
+      (subst (λ d. IfSome d (λ c. HasNoSetup (journal_read c))) tells is) bad)
   bad-always at long bad (Opening.before (Unstarted.bad_journal other is r)) =
-      (let also : (9 < length (journal_read cells)) × IsBadStart (journal_read cells) other = subst (λ d. IfSome d (λ c. (9 < length (journal_read c)) × IsBadStart (journal_read c) other)) tells is in
+      (let also : (9 < length (journal_read cells)) × IsBadStart (journal_read cells) other =
+      subst (λ d. IfSome d (λ c. (9 < length (journal_read c)) × IsBadStart (journal_read c) other)) tells
+      is in
       inl (r.status_is, r.place ∙ bad-once (journal_read cells) other at also.1 bad))
-  bad-always at long bad (Opening.before (Unstarted.too_few_providers records read few synced r)) = absurd (read-good cells at records (told-read records read) bad)
+  bad-always at long bad (Opening.before (Unstarted.too_few_providers records read few synced r)) =
+      absurd (read-good cells at records (told-read records read) bad)
   bad-always at long bad (Opening.before (Unstarted.no_memory r)) = inr r.status_is
   bad-always at long bad (Opening.no_room is) = inr is
-  bad-always at long bad (Opening.over records opened other) = absurd (read-good cells at records (told-read records opened.read) bad)
+  bad-always at long bad (Opening.over records opened other) =
+      absurd (read-good cells at records (told-read records opened.read) bad)
 
-  few-always : (records : List Record) → IsRead old.disk records → length old.providers < (setup_in_effect records).n → Opening old new end → (end.status ≡ 22) ⊎ (end.status ≡ 70)
+  few-always : (records : List Record) → IsRead old.disk records →
+      length old.providers < (setup_in_effect records).n → Opening old new end →
+      (end.status ≡ 22) ⊎ (end.status ≡ 70)
   few-always records read few (Opening.before (Unstarted.disk_fault rose r)) = absurd (calm rose)
-  few-always records read few (Opening.before (Unstarted.not_set_up is r)) = absurd (read-set_up cells records (told-read records read) (subst (λ d. IfSome d (λ c. HasNoSetup (journal_read c))) tells is))
+  few-always records read few (Opening.before (Unstarted.not_set_up is r)) =
+      absurd (read-set_up cells records (told-read records read)
+      (subst (λ d. IfSome d (λ c. HasNoSetup (journal_read c))) tells is))
   few-always records read few (Opening.before (Unstarted.bad_journal at is r)) =
-      absurd (let bad : (9 < length (journal_read cells)) × IsBadStart (journal_read cells) at = subst (λ d. IfSome d (λ c. (9 < length (journal_read c)) × IsBadStart (journal_read c) at)) tells is in
+      absurd (let bad : (9 < length (journal_read cells)) × IsBadStart (journal_read cells) at =
+      subst (λ d. IfSome d (λ c. (9 < length (journal_read c)) × IsBadStart (journal_read c) at)) tells
+      is in
       read-good cells at records (told-read records read) bad.1)
-  few-always records read few (Opening.before (Unstarted.too_few_providers other also less synced r)) = inl r.status_is
+  few-always records read few (Opening.before (Unstarted.too_few_providers other also less synced r)) =
+      inl r.status_is
   few-always records read few (Opening.before (Unstarted.no_memory r)) = inr r.status_is
   few-always records read few (Opening.no_room is) = inr is
   few-always records read few (Opening.over other opened own) =
-      absurd (let same = read-once cells other records (told-read other opened.read) (told-read records read) in
-      let enough = subst (λ rs. (setup_in_effect rs).n ≤ length old.providers) same opened.enough in omega (arith, few, enough))
+      absurd (let same = read-once cells other records (told-read other opened.read)
+      (told-read records read) in
+      let enough = subst (λ rs. (setup_in_effect rs).n ≤ length old.providers) same opened.enough in
+      omega (arith, few, enough))
 
 -- a command ends with 9 only where the disk holds no setup
-pub fresh-only : (command : Command) (cells : Cells) (old new : Seen) (end : Ending) → Answers command old new end → opens_store command ≡ true → old.disk ≡ Some cells → end.status ≡ 9 → HasNoSetup (journal_read cells)
-fresh-only command cells old new end A opens tells nine = unset-only cells old new end tells (opening-of command old new end A opens) nine
+pub fresh-only : (command : Command) (cells : Cells) (old new : Seen) (end : Ending) →
+    Answers command old new end → opens_store command ≡ true → old.disk ≡ Some cells → end.status ≡ 9 →
+    HasNoSetup (journal_read cells)
+fresh-only command cells old new end A opens tells nine =
+    unset-only cells old new end tells (opening-of command old new end A opens) nine
 
 -- a command over a disk with no setup ends with 9, or finds no memory
-pub fresh-always : (command : Command) (cells : Cells) (old new : Seen) (end : Ending) → Answers command old new end → opens_store command ≡ true → old.disk ≡ Some cells → HasNoSetup (journal_read cells) →
+pub fresh-always : (command : Command) (cells : Cells) (old new : Seen) (end : Ending) →
+    Answers command old new end → opens_store command ≡ true → old.disk ≡ Some cells →
+    HasNoSetup (journal_read cells) →
     (Rose old.disk_faults new.disk_faults → ⊥) → (end.status ≡ 9) ⊎ (end.status ≡ 70)
-fresh-always command cells old new end A opens tells fresh calm = unset-always cells old new end tells calm fresh (opening-of command old new end A opens)
+fresh-always command cells old new end A opens tells fresh calm =
+    unset-always cells old new end tells calm fresh (opening-of command old new end A opens)
 
 -- a command ends with 8 only where the disk holds a journal that is bad at this place
-pub broken-only : (command : Command) (cells : Cells) (old new : Seen) (end : Ending) → Answers command old new end → opens_store command ≡ true → old.disk ≡ Some cells → end.status ≡ 8 →
+pub broken-only : (command : Command) (cells : Cells) (old new : Seen) (end : Ending) →
+    Answers command old new end → opens_store command ≡ true → old.disk ≡ Some cells → end.status ≡ 8 →
     (9 < length (journal_read cells)) × IsBadStart (journal_read cells) end.at
-broken-only command cells old new end A opens tells eight = bad-only cells old new end tells (opening-of command old new end A opens) eight
+broken-only command cells old new end A opens tells eight =
+    bad-only cells old new end tells (opening-of command old new end A opens) eight
 
 -- a command over a bad journal ends with 8 and the bad place, or finds no memory
-pub broken-always : (command : Command) (cells : Cells) (old new : Seen) (end : Ending) (at : ℕ) → Answers command old new end → opens_store command ≡ true → old.disk ≡ Some cells → 9 < length (journal_read cells) →
-    IsBadStart (journal_read cells) at → (Rose old.disk_faults new.disk_faults → ⊥) → ((end.status ≡ 8) × (end.at ≡ at)) ⊎ (end.status ≡ 70)
-broken-always command cells old new end at A opens tells long bad calm = bad-always cells old new end tells calm at long bad (opening-of command old new end A opens)
+pub broken-always : (command : Command) (cells : Cells) (old new : Seen) (end : Ending) (at : ℕ) →
+    Answers command old new end → opens_store command ≡ true → old.disk ≡ Some cells →
+    9 < length (journal_read cells) →
+    IsBadStart (journal_read cells) at → (Rose old.disk_faults new.disk_faults → ⊥) →
+    ((end.status ≡ 8) × (end.at ≡ at)) ⊎ (end.status ≡ 70)
+broken-always command cells old new end at A opens tells long bad calm =
+    bad-always cells old new end tells calm at long bad (opening-of command old new end A opens)
 
 -- a command ends with 22 only where too few providers are handed in
-pub lacking-only : (command : Command) (old new : Seen) (end : Ending) → Answers command old new end → opens_store command ≡ true → end.status ≡ 22 →
+pub lacking-only : (command : Command) (old new : Seen) (end : Ending) → Answers command old new end →
+    opens_store command ≡ true → end.status ≡ 22 →
     (records : List Record) × IsRead old.disk records × (length old.providers < (setup_in_effect records).n)
 lacking-only command old new end A opens is = few-only old new end (opening-of command old new end A opens) is
 
 -- a command with too few providers ends with 22, or finds no memory
-pub lacking-always : (command : Command) (cells : Cells) (old new : Seen) (end : Ending) (records : List Record) → Answers command old new end → opens_store command ≡ true → old.disk ≡ Some cells → IsRead old.disk records →
-    length old.providers < (setup_in_effect records).n → (Rose old.disk_faults new.disk_faults → ⊥) → (end.status ≡ 22) ⊎ (end.status ≡ 70)
-lacking-always command cells old new end records A opens tells read few calm = few-always cells old new end tells calm records read few (opening-of command old new end A opens)
+pub lacking-always : (command : Command) (cells : Cells) (old new : Seen) (end : Ending)
+    (records : List Record) → Answers command old new end → opens_store command ≡ true →
+    old.disk ≡ Some cells → IsRead old.disk records →
+    length old.providers < (setup_in_effect records).n → (Rose old.disk_faults new.disk_faults → ⊥) →
+    (end.status ≡ 22) ⊎ (end.status ≡ 70)
+lacking-always command cells old new end records A opens tells read few calm =
+    few-always cells old new end tells calm records read few (opening-of command old new end A opens)

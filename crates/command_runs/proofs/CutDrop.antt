@@ -106,13 +106,29 @@ module _ (w : State) (n : ℕ) (count : w.handed ≡ 4) where
     runs = record {
       begun = s0;
       job = 1;
-      begins = (refl, refusal-of v (DropJob named) refl refl refl (record { journal = refl; area = refl; unswitched = refl }) ∙ drop_begins, refl, refl);
+      begins = (
+        refl,
+        refusal-of v (DropJob named) refl refl refl
+            (record { journal = refl; area = refl; unswitched = refl }) ∙ drop_begins,
+        refl,
+        refl,
+      );
       goes_on = record { steps = steps; are_steps = steps-are; ends = happens4 0; heard_is = refl };
     };
-    images = λ image is. inr (inl (record { doubt = record { entry = (Drop named); maker = Some (record base { place = 3 }) }; in_doubt = refl; stands = (refl, new-sure.images image is) }));
+    images = λ image is. inr
+        (inl (record {
+          doubt = record { entry = (Drop named); maker = Some (record base { place = 3 }) };
+          in_doubt = refl;
+          stands = (refl, new-sure.images image is);
+        }));
     faults_are = refl;
     handed = record { count = count; each = each };
-    past_text = record { next = Some (Drop named); is_next = record { done = []; rest = []; parts = refl; after_is = refl }; same = refl };
+    past_text = record {
+      next = Some (Drop named);
+      is_next =
+          record { done = []; rest = []; parts = refl; after_is = refl };
+      same = refl;
+    };
   }
 
 -- the drop's job runs to a fault of the disk from every state just opened over the store
@@ -120,7 +136,8 @@ pub alone : RunsAlone byte_records (DropJob named) (DiskFault) (byte_kept) (drop
 alone = record {
   faults = 0;
   before = omega arith;
-  ran = λ w n V. subst (λ u. RanAlone byte_records (DropJob named) (DiskFault) (byte_kept) (drop_cut) ([]) 0 u n)
+  ran = λ w n V. subst (λ u. RanAlone byte_records (DropJob named) (DiskFault) (byte_kept) (drop_cut)
+      ([]) 0 u n)
       (form-is byte_records (one_byte w.bytes) (holds 0) (holds 1) (holds 2) (holds 3) w
       (one_byte-is w.bytes (V.bytes named (record { name = named; id = 1; size = 1; profile = 0 }) refl).1) V)
       (ran-formed w n V.handed.count);
@@ -131,7 +148,8 @@ pub answers : Answers (DropOf named) (byte_kept) (drop_cut) (ends 12)
 answers = (
   AnswersAlone.begun byte_records old-sure.known.opened (AnswersJob.ended (DiskFault) drop_begins alone
       (left-alone byte_records (DropJob named) (DiskFault) (byte_kept) (drop_cut) ([])
-      refl (λ w last n O r. jobs-leave (DropJob named) w last n (DiskFault) ([]) refl O r) old-sure.known.opened refl alone)
+      refl (λ w last n O r. jobs-leave (DropJob named) w last n (DiskFault) ([]) refl O r)
+      old-sure.known.opened refl alone)
       (record { status_is = refl; place = refl; sink = refl })),
   (refl, refl),
 )

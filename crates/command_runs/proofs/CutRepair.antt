@@ -53,7 +53,11 @@ module _ (w : State) (n : ℕ) (count : w.handed ≡ 4) where
   unfolding setup_in actions_of
   happens1 m = (
     Some (own_block 0),
-    (fetched (v.providers 0), record { held = refl; counts = fetch-counts (v.providers 0); gives = inl (block_sized 0) }, refl),
+    (
+      fetched (v.providers 0),
+      record { held = refl; counts = fetch-counts (v.providers 0); gives = inl (block_sized 0) },
+      refl,
+    ),
   )
 
   abbrev ps2 : ℕ → Provider
@@ -61,7 +65,10 @@ module _ (w : State) (n : ℕ) (count : w.handed ≡ 4) where
 
   abbrev s2 : State
   s2 = record v {
-    jobs = (record base { place = 2; given = Fetched 1 1 0 (Some (own_block 1)) ∷ Fetched 0 1 0 (Some (own_block 0)) ∷ [] }) ∷ [];
+    jobs = (record base {
+      place = 2;
+      given = Fetched 1 1 0 (Some (own_block 1)) ∷ Fetched 0 1 0 (Some (own_block 0)) ∷ [];
+    }) ∷ [];
     next_job = 2;
     providers = ps2;
   }
@@ -70,7 +77,11 @@ module _ (w : State) (n : ℕ) (count : w.handed ≡ 4) where
   unfolding setup_in actions_of
   happens2 m = (
     Some (own_block 1),
-    (fetched (ps1 1), record { held = refl; counts = fetch-counts (ps1 1); gives = inl (block_sized 1) }, refl),
+    (
+      fetched (ps1 1),
+      record { held = refl; counts = fetch-counts (ps1 1); gives = inl (block_sized 1) },
+      refl,
+    ),
   )
 
   abbrev ps3 : ℕ → Provider
@@ -78,7 +89,11 @@ module _ (w : State) (n : ℕ) (count : w.handed ≡ 4) where
 
   abbrev s3 : State
   s3 = record v {
-    jobs = (record base { place = 3; given = Fetched 2 1 0 (None) ∷ Fetched 1 1 0 (Some (own_block 1)) ∷ Fetched 0 1 0 (Some (own_block 0)) ∷ [] }) ∷ [];
+    jobs = (record base {
+      place = 3;
+      given = Fetched 2 1 0 (None) ∷ Fetched 1 1 0 (Some (own_block 1)) ∷ Fetched 0 1 0
+          (Some (own_block 0)) ∷ [];
+    }) ∷ [];
     next_job = 2;
     providers = ps3;
   }
@@ -95,7 +110,11 @@ module _ (w : State) (n : ℕ) (count : w.handed ≡ 4) where
 
   abbrev s4 : State
   s4 = record v {
-    jobs = (record base { place = 4; given = Fetched 3 1 0 (Some (own_block 3)) ∷ Fetched 2 1 0 (None) ∷ Fetched 1 1 0 (Some (own_block 1)) ∷ Fetched 0 1 0 (Some (own_block 0)) ∷ [] }) ∷ [];
+    jobs = (record base {
+      place = 4;
+      given = Fetched 3 1 0 (Some (own_block 3)) ∷ Fetched 2 1 0 (None) ∷ Fetched 1 1 0
+          (Some (own_block 1)) ∷ Fetched 0 1 0 (Some (own_block 0)) ∷ [];
+    }) ∷ [];
     next_job = 2;
     providers = ps4;
   }
@@ -104,12 +123,20 @@ module _ (w : State) (n : ℕ) (count : w.handed ≡ 4) where
   unfolding setup_in actions_of
   happens4 m = (
     Some (own_block 3),
-    (fetched (ps3 3), record { held = refl; counts = fetch-counts (ps3 3); gives = inl (block_sized 3) }, refl),
+    (
+      fetched (ps3 3),
+      record { held = refl; counts = fetch-counts (ps3 3); gives = inl (block_sized 3) },
+      refl,
+    ),
   )
 
   abbrev s5 : State
   s5 = record v {
-    jobs = (record base { place = 5; given = Worked 1 0 symbols ∷ Fetched 3 1 0 (Some (own_block 3)) ∷ Fetched 2 1 0 (None) ∷ Fetched 1 1 0 (Some (own_block 1)) ∷ Fetched 0 1 0 (Some (own_block 0)) ∷ [] }) ∷ [];
+    jobs = (record base {
+      place = 5;
+      given = Worked 1 0 symbols ∷ Fetched 3 1 0 (Some (own_block 3)) ∷ Fetched 2 1 0 (None) ∷ Fetched 1 1 0
+          (Some (own_block 1)) ∷ Fetched 0 1 0 (Some (own_block 0)) ∷ [];
+    }) ∷ [];
     next_job = 2;
     providers = ps4;
   }
@@ -123,7 +150,11 @@ module _ (w : State) (n : ℕ) (count : w.handed ≡ 4) where
 
   abbrev s6 : State
   s6 = record v {
-    jobs = (record base { place = 6; given = Worked 1 0 symbols ∷ Fetched 3 1 0 (Some (own_block 3)) ∷ Fetched 2 1 0 (None) ∷ Fetched 1 1 0 (Some (own_block 1)) ∷ Fetched 0 1 0 (Some (own_block 0)) ∷ [] }) ∷ [];
+    jobs = (record base {
+      place = 6;
+      given = Worked 1 0 symbols ∷ Fetched 3 1 0 (Some (own_block 3)) ∷ Fetched 2 1 0 (None) ∷ Fetched 1 1 0
+          (Some (own_block 1)) ∷ Fetched 0 1 0 (Some (own_block 0)) ∷ [];
+    }) ∷ [];
     next_job = 2;
     providers = ps5;
   }
@@ -134,7 +165,11 @@ module _ (w : State) (n : ℕ) (count : w.handed ≡ 4) where
 
   abbrev s7 : State
   s7 = record v {
-    jobs = (record base { place = 7; given = Worked 1 0 symbols ∷ Fetched 3 1 0 (Some (own_block 3)) ∷ Fetched 2 1 0 (None) ∷ Fetched 1 1 0 (Some (own_block 1)) ∷ Fetched 0 1 0 (Some (own_block 0)) ∷ [] }) ∷ [];
+    jobs = (record base {
+      place = 7;
+      given = Worked 1 0 symbols ∷ Fetched 3 1 0 (Some (own_block 3)) ∷ Fetched 2 1 0 (None) ∷ Fetched 1 1 0
+          (Some (own_block 1)) ∷ Fetched 0 1 0 (Some (own_block 0)) ∷ [];
+    }) ∷ [];
     next_job = 2;
     append = Some (record { job = 1; entry = (RepairDone 1); moves = 1 });
     providers = ps5;
@@ -146,7 +181,11 @@ module _ (w : State) (n : ℕ) (count : w.handed ≡ 4) where
 
   abbrev s8 : State
   s8 = record v {
-    jobs = (record base { place = 8; given = Worked 1 0 symbols ∷ Fetched 3 1 0 (Some (own_block 3)) ∷ Fetched 2 1 0 (None) ∷ Fetched 1 1 0 (Some (own_block 1)) ∷ Fetched 0 1 0 (Some (own_block 0)) ∷ [] }) ∷ [];
+    jobs = (record base {
+      place = 8;
+      given = Worked 1 0 symbols ∷ Fetched 3 1 0 (Some (own_block 3)) ∷ Fetched 2 1 0 (None) ∷ Fetched 1 1 0
+          (Some (own_block 1)) ∷ Fetched 0 1 0 (Some (own_block 0)) ∷ [];
+    }) ∷ [];
     next_job = 2;
     append = Some (record { job = 1; entry = (RepairDone 1); moves = 2 });
     providers = ps5;
@@ -158,10 +197,22 @@ module _ (w : State) (n : ℕ) (count : w.handed ≡ 4) where
 
   abbrev s9 : State
   s9 = record v {
-    jobs = (record base { place = 9; given = Worked 1 0 symbols ∷ Fetched 3 1 0 (Some (own_block 3)) ∷ Fetched 2 1 0 (None) ∷ Fetched 1 1 0 (Some (own_block 1)) ∷ Fetched 0 1 0 (Some (own_block 0)) ∷ [] }) ∷ [];
+    jobs = (record base {
+      place = 9;
+      given = Worked 1 0 symbols ∷ Fetched 3 1 0 (Some (own_block 3)) ∷ Fetched 2 1 0 (None) ∷ Fetched 1 1 0
+          (Some (own_block 1)) ∷ Fetched 0 1 0 (Some (own_block 0)) ∷ [];
+    }) ∷ [];
     next_job = 2;
     append = Some (record { job = 1; entry = (RepairDone 1); moves = 3 });
-    doubt = Some (record { entry = (RepairDone 1); maker = Some (record base { place = 9; given = Worked 1 0 symbols ∷ Fetched 3 1 0 (Some (own_block 3)) ∷ Fetched 2 1 0 (None) ∷ Fetched 1 1 0 (Some (own_block 1)) ∷ Fetched 0 1 0 (Some (own_block 0)) ∷ [] }) });
+    doubt = Some (record {
+      entry = (RepairDone 1);
+      maker =
+          Some (record base {
+            place = 9;
+            given = Worked 1 0 symbols ∷ Fetched 3 1 0 (Some (own_block 3)) ∷ Fetched 2 1 0
+                (None) ∷ Fetched 1 1 0 (Some (own_block 1)) ∷ Fetched 0 1 0 (Some (own_block 0)) ∷ [];
+          });
+    });
     providers = ps5;
   }
 
@@ -174,7 +225,15 @@ module _ (w : State) (n : ℕ) (count : w.handed ≡ 4) where
     jobs = [];
     next_job = 2;
     append = None;
-    doubt = Some (record { entry = (RepairDone 1); maker = Some (record base { place = 9; given = Worked 1 0 symbols ∷ Fetched 3 1 0 (Some (own_block 3)) ∷ Fetched 2 1 0 (None) ∷ Fetched 1 1 0 (Some (own_block 1)) ∷ Fetched 0 1 0 (Some (own_block 0)) ∷ [] }) });
+    doubt = Some (record {
+      entry = (RepairDone 1);
+      maker =
+          Some (record base {
+            place = 9;
+            given = Worked 1 0 symbols ∷ Fetched 3 1 0 (Some (own_block 3)) ∷ Fetched 2 1 0
+                (None) ∷ Fetched 1 1 0 (Some (own_block 1)) ∷ Fetched 0 1 0 (Some (own_block 0)) ∷ [];
+          });
+    });
     providers = ps5;
     disk_faults = 1;
     is_barred = true;
@@ -192,7 +251,37 @@ module _ (w : State) (n : ℕ) (count : w.handed ≡ 4) where
 
   steps-are : AreSteps s0 (n + 1) 1 steps
   unfolding steps
-  steps-are = (refl, refl, happens9 0, (refl, refl, happens8 0, (refl, refl, happens7 0, (refl, refl, happens6 0, (refl, refl, happens5 0, (refl, refl, happens4 0, (refl, refl, happens3 0, (refl, refl, happens2 0, (refl, refl, happens1 0, tt)))))))))
+  steps-are = (
+    refl,
+    refl,
+    happens9 0,
+    (
+      refl,
+      refl,
+      happens8 0,
+      (
+        refl,
+        refl,
+        happens7 0,
+        (
+          refl,
+          refl,
+          happens6 0,
+          (
+            refl,
+            refl,
+            happens5 0,
+            (
+              refl,
+              refl,
+              happens4 0,
+              (refl, refl, happens3 0, (refl, refl, happens2 0, (refl, refl, happens1 0, tt))),
+            ),
+          ),
+        ),
+      ),
+    ),
+  )
 
   each : (j : ℕ) → j < 4 → slice_get (repair_cut).providers j ≡ Some (s10.providers j)
   each zero l = refl
@@ -208,13 +297,36 @@ module _ (w : State) (n : ℕ) (count : w.handed ≡ 4) where
     runs = record {
       begun = s0;
       job = 1;
-      begins = (refl, refusal-of v (RepairJob) refl refl refl (record { journal = refl; area = refl; unswitched = refl }) ∙ repair_begins, refl, refl);
+      begins = (
+        refl,
+        refusal-of v (RepairJob) refl refl refl
+            (record { journal = refl; area = refl; unswitched = refl }) ∙ repair_begins,
+        refl,
+        refl,
+      );
       goes_on = record { steps = steps; are_steps = steps-are; ends = happens10 0; heard_is = refl };
     };
-    images = λ image is. inr (inl (record { doubt = record { entry = (RepairDone 1); maker = Some (record base { place = 9; given = Worked 1 0 symbols ∷ Fetched 3 1 0 (Some (own_block 3)) ∷ Fetched 2 1 0 (None) ∷ Fetched 1 1 0 (Some (own_block 1)) ∷ Fetched 0 1 0 (Some (own_block 0)) ∷ [] }) }; in_doubt = refl; stands = (refl, new-sure.images image is) }));
+    images = λ image is. inr
+        (inl (record {
+          doubt =
+              record {
+                entry = (RepairDone 1);
+                maker = Some (record base {
+                  place = 9;
+                  given = Worked 1 0 symbols ∷ Fetched 3 1 0 (Some (own_block 3)) ∷ Fetched 2 1 0
+                      (None) ∷ Fetched 1 1 0 (Some (own_block 1)) ∷ Fetched 0 1 0 (Some (own_block 0)) ∷ [];
+                });
+              };
+          in_doubt = refl;
+          stands = (refl, new-sure.images image is);
+        }));
     faults_are = refl;
     handed = record { count = count; each = each };
-    past_text = record { next = Some (RepairDone 1); is_next = record { done = []; rest = []; parts = refl; after_is = refl }; same = refl };
+    past_text = record {
+      next = Some (RepairDone 1);
+      is_next = record { done = []; rest = []; parts = refl; after_is = refl };
+      same = refl;
+    };
   }
 
 -- the repair's job runs to a fault of the disk from every state just opened over the store
@@ -222,7 +334,8 @@ pub alone : RunsAlone byte_audited_records (RepairJob) (DiskFault) (due) (repair
 alone = record {
   faults = 0;
   before = omega arith;
-  ran = λ w n V. subst (λ u. RanAlone byte_audited_records (RepairJob) (DiskFault) (due) (repair_cut) ([]) 0 u n)
+  ran = λ w n V. subst (λ u. RanAlone byte_audited_records (RepairJob) (DiskFault) (due) (repair_cut)
+      ([]) 0 u n)
       (form-is byte_audited_records (one_byte w.bytes) (holds 0) (holds 1) (empty_provider) (holds 3) w
       (one_byte-is w.bytes (V.bytes named (record { name = named; id = 1; size = 1; profile = 0 }) refl).1) V)
       (ran-formed w n V.handed.count);
@@ -231,9 +344,11 @@ alone = record {
 -- the repair ends with status 12
 pub answers : Answers (RepairDue) (due) (repair_cut) (ends 12)
 answers = (
-  AnswersAlone.begun byte_audited_records old-sure.known.opened (AnswersJob.ended (DiskFault) repair_begins alone
+  AnswersAlone.begun byte_audited_records old-sure.known.opened
+      (AnswersJob.ended (DiskFault) repair_begins alone
       (left-alone byte_audited_records (RepairJob) (DiskFault) (due) (repair_cut) ([])
-      tt (λ w last n O r. jobs-leave (RepairJob) w last n (DiskFault) ([]) tt O r) old-sure.known.opened refl alone)
+      tt (λ w last n O r. jobs-leave (RepairJob) w last n (DiskFault) ([]) tt O r) old-sure.known.opened refl
+      alone)
       (record { status_is = refl; place = refl; sink = refl })),
   (refl, refl),
 )

@@ -109,7 +109,15 @@ module _ (w : State) (n : ℕ) (count : w.handed ≡ 4) where
   unfolding setup_in actions_of
   happens5 m = (
     right 0,
-    ((v.providers 0), record { held = refl; counts = other-counts (v.providers 0); gives = inl (same_first _ _ refl) }, refl),
+    (
+      (v.providers 0),
+      record {
+        held = refl;
+        counts = other-counts (v.providers 0);
+        gives = inl (same_first _ _ refl);
+      },
+      refl,
+    ),
   )
 
   abbrev ps2 : ℕ → Provider
@@ -120,7 +128,12 @@ module _ (w : State) (n : ℕ) (count : w.handed ≡ 4) where
     records = (AuditStart 1 ∷ byte_records);
     journal = (AuditStart 1 ∷ byte_records);
     audits = (λ number. if number == 1 then n else v.audits number);
-    jobs = (record base { subject = 1; place = 6; given = Answered 1 1 0 (right 1) ∷ Answered 0 1 0 (right 0) ∷ [] }) ∷ [];
+    jobs = (record base {
+      subject = 1;
+      place = 6;
+      given =
+          Answered 1 1 0 (right 1) ∷ Answered 0 1 0 (right 0) ∷ [];
+    }) ∷ [];
     next_job = 2;
     append = None;
     doubt = None;
@@ -142,7 +155,12 @@ module _ (w : State) (n : ℕ) (count : w.handed ≡ 4) where
     records = (AuditStart 1 ∷ byte_records);
     journal = (AuditStart 1 ∷ byte_records);
     audits = (λ number. if number == 1 then n else v.audits number);
-    jobs = (record base { subject = 1; place = 7; given = Answered 2 1 0 (None) ∷ Answered 1 1 0 (right 1) ∷ Answered 0 1 0 (right 0) ∷ [] }) ∷ [];
+    jobs = (record base {
+      subject = 1;
+      place = 7;
+      given =
+          Answered 2 1 0 (None) ∷ Answered 1 1 0 (right 1) ∷ Answered 0 1 0 (right 0) ∷ [];
+    }) ∷ [];
     next_job = 2;
     append = None;
     doubt = None;
@@ -153,7 +171,11 @@ module _ (w : State) (n : ℕ) (count : w.handed ≡ 4) where
   unfolding setup_in actions_of
   happens7 m = (
     None,
-    ((ps2 2), record { held = refl; counts = other-counts (ps2 2); gives = inl (sym (no_answer _ refl)) }, refl),
+    (
+      (ps2 2),
+      record { held = refl; counts = other-counts (ps2 2); gives = inl (sym (no_answer _ refl)) },
+      refl,
+    ),
   )
 
   abbrev ps4 : ℕ → Provider
@@ -164,7 +186,13 @@ module _ (w : State) (n : ℕ) (count : w.handed ≡ 4) where
     records = (AuditStart 1 ∷ byte_records);
     journal = (AuditStart 1 ∷ byte_records);
     audits = (λ number. if number == 1 then n else v.audits number);
-    jobs = (record base { subject = 1; place = 8; given = Answered 3 1 0 (right 3) ∷ Answered 2 1 0 (None) ∷ Answered 1 1 0 (right 1) ∷ Answered 0 1 0 (right 0) ∷ [] }) ∷ [];
+    jobs = (record base {
+      subject = 1;
+      place = 8;
+      given =
+          Answered 3 1 0 (right 3) ∷ Answered 2 1 0 (None) ∷ Answered 1 1 0 (right 1) ∷ Answered 0 1 0
+          (right 0) ∷ [];
+    }) ∷ [];
     next_job = 2;
     append = None;
     doubt = None;
@@ -183,7 +211,13 @@ module _ (w : State) (n : ℕ) (count : w.handed ≡ 4) where
     records = (AuditStart 1 ∷ byte_records);
     journal = (AuditStart 1 ∷ byte_records);
     audits = (λ number. if number == 1 then n else v.audits number);
-    jobs = (record base { subject = 1; place = 9; given = Answered 3 1 0 (right 3) ∷ Answered 2 1 0 (None) ∷ Answered 1 1 0 (right 1) ∷ Answered 0 1 0 (right 0) ∷ [] }) ∷ [];
+    jobs = (record base {
+      subject = 1;
+      place = 9;
+      given =
+          Answered 3 1 0 (right 3) ∷ Answered 2 1 0 (None) ∷ Answered 1 1 0 (right 1) ∷ Answered 0 1 0
+          (right 0) ∷ [];
+    }) ∷ [];
     next_job = 2;
     append = Some (record { job = 1; entry = (AuditDone 1 0 counts); moves = 1 });
     doubt = None;
@@ -192,14 +226,24 @@ module _ (w : State) (n : ℕ) (count : w.handed ≡ 4) where
 
   happens9 : (m : ℕ) → Happens 8 m s8 (Step 1) More s9
   unfolding setup_in actions_of
-  happens9 m = ((AuditDone 1 0 counts), (sums, (sums, (sums, judged, refl), refl), refl), (0, omega arith, refl))
+  happens9 m = (
+    (AuditDone 1 0 counts),
+    (sums, (sums, (sums, judged, refl), refl), refl),
+    (0, omega arith, refl),
+  )
 
   abbrev s10 : State
   s10 = record v {
     records = (AuditStart 1 ∷ byte_records);
     journal = (AuditStart 1 ∷ byte_records);
     audits = (λ number. if number == 1 then n else v.audits number);
-    jobs = (record base { subject = 1; place = 10; given = Answered 3 1 0 (right 3) ∷ Answered 2 1 0 (None) ∷ Answered 1 1 0 (right 1) ∷ Answered 0 1 0 (right 0) ∷ [] }) ∷ [];
+    jobs = (record base {
+      subject = 1;
+      place = 10;
+      given =
+          Answered 3 1 0 (right 3) ∷ Answered 2 1 0 (None) ∷ Answered 1 1 0 (right 1) ∷ Answered 0 1 0
+          (right 0) ∷ [];
+    }) ∷ [];
     next_job = 2;
     append = Some (record { job = 1; entry = (AuditDone 1 0 counts); moves = 2 });
     doubt = None;
@@ -215,10 +259,24 @@ module _ (w : State) (n : ℕ) (count : w.handed ≡ 4) where
     records = (AuditStart 1 ∷ byte_records);
     journal = (AuditStart 1 ∷ byte_records);
     audits = (λ number. if number == 1 then n else v.audits number);
-    jobs = (record base { subject = 1; place = 11; given = Answered 3 1 0 (right 3) ∷ Answered 2 1 0 (None) ∷ Answered 1 1 0 (right 1) ∷ Answered 0 1 0 (right 0) ∷ [] }) ∷ [];
+    jobs = (record base {
+      subject = 1;
+      place = 11;
+      given =
+          Answered 3 1 0 (right 3) ∷ Answered 2 1 0 (None) ∷ Answered 1 1 0 (right 1) ∷ Answered 0 1 0
+          (right 0) ∷ [];
+    }) ∷ [];
     next_job = 2;
     append = Some (record { job = 1; entry = (AuditDone 1 0 counts); moves = 3 });
-    doubt = Some (record { entry = (AuditDone 1 0 counts); maker = Some (record base { subject = 1; place = 11; given = Answered 3 1 0 (right 3) ∷ Answered 2 1 0 (None) ∷ Answered 1 1 0 (right 1) ∷ Answered 0 1 0 (right 0) ∷ [] }) });
+    doubt = Some (record {
+      entry = (AuditDone 1 0 counts);
+      maker = Some (record base {
+        subject = 1;
+        place = 11;
+        given = Answered 3 1 0 (right 3) ∷ Answered 2 1 0 (None) ∷ Answered 1 1 0
+            (right 1) ∷ Answered 0 1 0 (right 0) ∷ [];
+      });
+    });
     providers = ps4;
   }
 
@@ -231,7 +289,13 @@ module _ (w : State) (n : ℕ) (count : w.handed ≡ 4) where
     records = byte_audited_records;
     journal = byte_audited_records;
     audits = (λ number. if number == 1 then n else v.audits number);
-    jobs = (record base { subject = 1; place = 12; given = Answered 3 1 0 (right 3) ∷ Answered 2 1 0 (None) ∷ Answered 1 1 0 (right 1) ∷ Answered 0 1 0 (right 0) ∷ [] }) ∷ [];
+    jobs = (record base {
+      subject = 1;
+      place = 12;
+      given =
+          Answered 3 1 0 (right 3) ∷ Answered 2 1 0 (None) ∷ Answered 1 1 0 (right 1) ∷ Answered 0 1 0
+          (right 0) ∷ [];
+    }) ∷ [];
     next_job = 2;
     append = None;
     doubt = None;
@@ -262,11 +326,57 @@ module _ (w : State) (n : ℕ) (count : w.handed ≡ 4) where
   step s = moment (Step 1) More s
 
   steps : List Moment
-  steps = step s12 ∷ step s11 ∷ step s10 ∷ step s9 ∷ step s8 ∷ step s7 ∷ step s6 ∷ step s5 ∷ step s4 ∷ step s3 ∷ step s2 ∷ step s1 ∷ []
+  steps = step s12 ∷ step s11 ∷ step s10 ∷ step s9 ∷ step s8 ∷ step s7 ∷ step s6 ∷ step s5 ∷ step s4 ∷ step
+      s3 ∷ step s2 ∷ step s1 ∷ []
 
   steps-are : AreSteps s0 (n + 1) 1 steps
   unfolding steps
-  steps-are = (refl, refl, happens12 0, (refl, refl, happens11 0, (refl, refl, happens10 0, (refl, refl, happens9 0, (refl, refl, happens8 0, (refl, refl, happens7 0, (refl, refl, happens6 0, (refl, refl, happens5 0, (refl, refl, happens4 0, (refl, refl, happens3 0, (refl, refl, happens2 0, (refl, refl, happens1 0, tt))))))))))))
+  steps-are = (
+    refl,
+    refl,
+    happens12 0,
+    (
+      refl,
+      refl,
+      happens11 0,
+      (
+        refl,
+        refl,
+        happens10 0,
+        (
+          refl,
+          refl,
+          happens9 0,
+          (
+            refl,
+            refl,
+            happens8 0,
+            (
+              refl,
+              refl,
+              happens7 0,
+              (
+                refl,
+                refl,
+                happens6 0,
+                (
+                  refl,
+                  refl,
+                  happens5 0,
+                  (
+                    refl,
+                    refl,
+                    happens4 0,
+                    (refl, refl, happens3 0, (refl, refl, happens2 0, (refl, refl, happens1 0, tt))),
+                  ),
+                ),
+              ),
+            ),
+          ),
+        ),
+      ),
+    ),
+  )
 
   each : (j : ℕ) → j < 4 → slice_get (byte_audited).providers j ≡ Some (s13.providers j)
   each zero l = refl
@@ -275,14 +385,21 @@ module _ (w : State) (n : ℕ) (count : w.handed ≡ 4) where
   each (suc (suc (suc zero))) l = refl
   each (suc (suc (suc (suc j)))) l = absurd (omega (arith, l))
 
-  ran-formed : RanAlone byte_records (AuditJob) (Audited 1 0 counts) (damaged) (byte_audited) (answers_heard) 0 v n
+  ran-formed : RanAlone byte_records (AuditJob) (Audited 1 0 counts) (damaged) (byte_audited)
+      (answers_heard) 0 v n
   unfolding steps spelling
   ran-formed = record {
     last = s13;
     runs = record {
       begun = s0;
       job = 1;
-      begins = (refl, refusal-of v (AuditJob) refl refl refl (record { journal = refl; area = refl; unswitched = refl }) ∙ audit_begins, refl, refl);
+      begins = (
+        refl,
+        refusal-of v (AuditJob) refl refl refl
+            (record { journal = refl; area = refl; unswitched = refl }) ∙ audit_begins,
+        refl,
+        refl,
+      );
       goes_on = record { steps = steps; are_steps = steps-are; ends = happens13 0; heard_is = refl };
     };
     images = λ image is. inl (inl (refl, new-sure.images image is));
@@ -296,7 +413,8 @@ pub alone : RunsAlone byte_records (AuditJob) (Audited 1 0 counts) (damaged) (by
 alone = record {
   faults = 0;
   before = omega arith;
-  ran = λ w n V. subst (λ u. RanAlone byte_records (AuditJob) (Audited 1 0 counts) (damaged) (byte_audited) (answers_heard) 0 u n)
+  ran = λ w n V. subst (λ u. RanAlone byte_records (AuditJob) (Audited 1 0 counts) (damaged) (byte_audited)
+      (answers_heard) 0 u n)
       (form-is byte_records (one_byte w.bytes) (holds 0) (holds 1) (empty_provider) (holds 3) w
       (one_byte-is w.bytes (V.bytes named (record { name = named; id = 1; size = 1; profile = 0 }) refl).1) V)
       (ran-formed w n V.handed.count);
@@ -305,9 +423,11 @@ alone = record {
 -- the audit ends with status 0, and has heard the answers
 pub answers : Answers (AuditAll) (damaged) (byte_audited) (ends_hearing 0 answers_heard)
 answers = (
-  AnswersAlone.begun byte_records old-sure.known.opened (AnswersJob.ended (Audited 1 0 counts) audit_begins alone
+  AnswersAlone.begun byte_records old-sure.known.opened
+      (AnswersJob.ended (Audited 1 0 counts) audit_begins alone
       (left-alone byte_records (AuditJob) (Audited 1 0 counts) (damaged) (byte_audited) (answers_heard)
-      tt (λ w last n O r. jobs-leave (AuditJob) w last n (Audited 1 0 counts) (answers_heard) tt O r) old-sure.known.opened refl alone)
+      tt (λ w last n O r. jobs-leave (AuditJob) w last n (Audited 1 0 counts) (answers_heard) tt O r)
+      old-sure.known.opened refl alone)
       (record { written = inl (refl, refl); place = refl })),
   (refl, refl),
 )

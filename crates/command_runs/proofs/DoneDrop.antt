@@ -100,7 +100,11 @@ module _ (w : State) (n : ℕ) (count : w.handed ≡ 4) where
 
   happens5 : (m : ℕ) → Happens 8 m s4 (Step 1) More s5
   unfolding setup_in actions_of
-  happens5 m = (robbed (v.providers 0), inl (record { held = refl; counts = robbed-counts (v.providers 0) }), refl)
+  happens5 m = (
+    robbed (v.providers 0),
+    inl (record { held = refl; counts = robbed-counts (v.providers 0) }),
+    refl,
+  )
 
   abbrev ps2 : ℕ → Provider
   ps2 = with_provider ps1 1 (robbed (ps1 1))
@@ -179,7 +183,32 @@ module _ (w : State) (n : ℕ) (count : w.handed ≡ 4) where
 
   steps-are : AreSteps s0 (n + 1) 1 steps
   unfolding steps
-  steps-are = (refl, refl, happens8 0, (refl, refl, happens7 0, (refl, refl, happens6 0, (refl, refl, happens5 0, (refl, refl, happens4 0, (refl, refl, happens3 0, (refl, refl, happens2 0, (refl, refl, happens1 0, tt))))))))
+  steps-are = (
+    refl,
+    refl,
+    happens8 0,
+    (
+      refl,
+      refl,
+      happens7 0,
+      (
+        refl,
+        refl,
+        happens6 0,
+        (
+          refl,
+          refl,
+          happens5 0,
+          (
+            refl,
+            refl,
+            happens4 0,
+            (refl, refl, happens3 0, (refl, refl, happens2 0, (refl, refl, happens1 0, tt))),
+          ),
+        ),
+      ),
+    ),
+  )
 
   each : (j : ℕ) → j < 4 → slice_get (dropped).providers j ≡ Some (s9.providers j)
   each zero l = refl
@@ -195,7 +224,13 @@ module _ (w : State) (n : ℕ) (count : w.handed ≡ 4) where
     runs = record {
       begun = s0;
       job = 1;
-      begins = (refl, refusal-of v (DropJob named) refl refl refl (record { journal = refl; area = refl; unswitched = refl }) ∙ drop_begins, refl, refl);
+      begins = (
+        refl,
+        refusal-of v (DropJob named) refl refl refl
+            (record { journal = refl; area = refl; unswitched = refl }) ∙ drop_begins,
+        refl,
+        refl,
+      );
       goes_on = record { steps = steps; are_steps = steps-are; ends = happens9 0; heard_is = refl };
     };
     images = λ image is. inl (inl (refl, new-sure.images image is));
@@ -220,7 +255,8 @@ pub answers : Answers (DropOf named) (byte_kept) (dropped) (ends 0)
 answers = (
   AnswersAlone.begun byte_records old-sure.known.opened (AnswersJob.ended (Dropped) drop_begins alone
       (left-alone byte_records (DropJob named) (Dropped) (byte_kept) (dropped) ([])
-      refl (λ w last n O r. jobs-leave (DropJob named) w last n (Dropped) ([]) refl O r) old-sure.known.opened refl alone)
+      refl (λ w last n O r. jobs-leave (DropJob named) w last n (Dropped) ([]) refl O r) old-sure.known.opened
+      refl alone)
       (record { written = inl (refl, refl); place = refl })),
   (refl, refl),
 )

@@ -32,7 +32,8 @@ begins-none = refl
 
 module _ (w : State) (n : ℕ) (count : w.handed ≡ 4) where
   abbrev v : State
-  v = formed byte_repaired_records (one_byte w.bytes) (fetched (holds 0)) (fetched (holds 1)) (given_block 2 (fetched empty_provider)) (fetched (holds 3)) w
+  v = formed byte_repaired_records (one_byte w.bytes) (fetched (holds 0)) (fetched (holds 1))
+      (given_block 2 (fetched empty_provider)) (fetched (holds 3)) w
 
   abbrev base : Job
   base = new_job v n (GetJob named)
@@ -54,7 +55,11 @@ module _ (w : State) (n : ℕ) (count : w.handed ≡ 4) where
   unfolding setup_in actions_of
   happens1 m = (
     Some (own_block 0),
-    (fetched (v.providers 0), record { held = refl; counts = fetch-counts (v.providers 0); gives = inl (block_sized 0) }, refl),
+    (
+      fetched (v.providers 0),
+      record { held = refl; counts = fetch-counts (v.providers 0); gives = inl (block_sized 0) },
+      refl,
+    ),
   )
 
   abbrev ps2 : ℕ → Provider
@@ -62,7 +67,10 @@ module _ (w : State) (n : ℕ) (count : w.handed ≡ 4) where
 
   abbrev s2 : State
   s2 = record v {
-    jobs = (record base { place = 2; given = Fetched 1 1 0 (Some (own_block 1)) ∷ Fetched 0 1 0 (Some (own_block 0)) ∷ [] }) ∷ [];
+    jobs = (record base {
+      place = 2;
+      given = Fetched 1 1 0 (Some (own_block 1)) ∷ Fetched 0 1 0 (Some (own_block 0)) ∷ [];
+    }) ∷ [];
     next_job = 2;
     providers = ps2;
   }
@@ -71,7 +79,11 @@ module _ (w : State) (n : ℕ) (count : w.handed ≡ 4) where
   unfolding setup_in actions_of
   happens2 m = (
     Some (own_block 1),
-    (fetched (ps1 1), record { held = refl; counts = fetch-counts (ps1 1); gives = inl (block_sized 1) }, refl),
+    (
+      fetched (ps1 1),
+      record { held = refl; counts = fetch-counts (ps1 1); gives = inl (block_sized 1) },
+      refl,
+    ),
   )
 
   abbrev ps3 : ℕ → Provider
@@ -79,7 +91,11 @@ module _ (w : State) (n : ℕ) (count : w.handed ≡ 4) where
 
   abbrev s3 : State
   s3 = record v {
-    jobs = (record base { place = 3; given = Fetched 2 1 0 (Some (own_block 2)) ∷ Fetched 1 1 0 (Some (own_block 1)) ∷ Fetched 0 1 0 (Some (own_block 0)) ∷ [] }) ∷ [];
+    jobs = (record base {
+      place = 3;
+      given = Fetched 2 1 0 (Some (own_block 2)) ∷ Fetched 1 1 0 (Some (own_block 1)) ∷ Fetched 0 1 0
+          (Some (own_block 0)) ∷ [];
+    }) ∷ [];
     next_job = 2;
     providers = ps3;
   }
@@ -88,7 +104,11 @@ module _ (w : State) (n : ℕ) (count : w.handed ≡ 4) where
   unfolding setup_in actions_of
   happens3 m = (
     Some (own_block 2),
-    (fetched (ps2 2), record { held = refl; counts = fetch-counts (ps2 2); gives = inl (block_sized 2) }, refl),
+    (
+      fetched (ps2 2),
+      record { held = refl; counts = fetch-counts (ps2 2); gives = inl (block_sized 2) },
+      refl,
+    ),
   )
 
   abbrev ps4 : ℕ → Provider
@@ -96,7 +116,11 @@ module _ (w : State) (n : ℕ) (count : w.handed ≡ 4) where
 
   abbrev s4 : State
   s4 = record v {
-    jobs = (record base { place = 4; given = Fetched 3 1 0 (Some (own_block 3)) ∷ Fetched 2 1 0 (Some (own_block 2)) ∷ Fetched 1 1 0 (Some (own_block 1)) ∷ Fetched 0 1 0 (Some (own_block 0)) ∷ [] }) ∷ [];
+    jobs = (record base {
+      place = 4;
+      given = Fetched 3 1 0 (Some (own_block 3)) ∷ Fetched 2 1 0 (Some (own_block 2)) ∷ Fetched 1 1 0
+          (Some (own_block 1)) ∷ Fetched 0 1 0 (Some (own_block 0)) ∷ [];
+    }) ∷ [];
     next_job = 2;
     providers = ps4;
   }
@@ -105,12 +129,21 @@ module _ (w : State) (n : ℕ) (count : w.handed ≡ 4) where
   unfolding setup_in actions_of
   happens4 m = (
     Some (own_block 3),
-    (fetched (ps3 3), record { held = refl; counts = fetch-counts (ps3 3); gives = inl (block_sized 3) }, refl),
+    (
+      fetched (ps3 3),
+      record { held = refl; counts = fetch-counts (ps3 3); gives = inl (block_sized 3) },
+      refl,
+    ),
   )
 
   abbrev s5 : State
   s5 = record v {
-    jobs = (record base { place = 5; given = Worked 1 0 symbols ∷ Fetched 3 1 0 (Some (own_block 3)) ∷ Fetched 2 1 0 (Some (own_block 2)) ∷ Fetched 1 1 0 (Some (own_block 1)) ∷ Fetched 0 1 0 (Some (own_block 0)) ∷ [] }) ∷ [];
+    jobs = (record base {
+      place = 5;
+      given = Worked 1 0 symbols ∷ Fetched 3 1 0 (Some (own_block 3)) ∷ Fetched 2 1 0
+          (Some (own_block 2)) ∷ Fetched 1 1 0 (Some (own_block 1)) ∷ Fetched 0 1 0
+          (Some (own_block 0)) ∷ [];
+    }) ∷ [];
     next_job = 2;
     providers = ps4;
   }
@@ -134,7 +167,17 @@ module _ (w : State) (n : ℕ) (count : w.handed ≡ 4) where
 
   steps-are : AreSteps s0 (n + 1) 1 steps
   unfolding steps
-  steps-are = (refl, refl, happens5 0, (refl, refl, happens4 0, (refl, refl, happens3 0, (refl, refl, happens2 0, (refl, refl, happens1 0, tt)))))
+  steps-are = (
+    refl,
+    refl,
+    happens5 0,
+    (
+      refl,
+      refl,
+      happens4 0,
+      (refl, refl, happens3 0, (refl, refl, happens2 0, (refl, refl, happens1 0, tt))),
+    ),
+  )
 
   each : (j : ℕ) → j < 4 → slice_get (got).providers j ≡ Some (s6.providers j)
   each zero l = refl
@@ -143,14 +186,21 @@ module _ (w : State) (n : ℕ) (count : w.handed ≡ 4) where
   each (suc (suc (suc zero))) l = refl
   each (suc (suc (suc (suc j)))) l = absurd (omega (arith, l))
 
-  ran-formed : RanAlone byte_repaired_records (GetJob named) (Got byte) (mended) (got) (own_blocks_heard) 0 v n
+  ran-formed : RanAlone byte_repaired_records (GetJob named) (Got byte) (mended) (got)
+      (own_blocks_heard) 0 v n
   unfolding steps spelling
   ran-formed = record {
     last = s6;
     runs = record {
       begun = s0;
       job = 1;
-      begins = (refl, refusal-of v (GetJob named) refl refl refl (record { journal = refl; area = refl; unswitched = refl }) ∙ begins-none, refl, refl);
+      begins = (
+        refl,
+        refusal-of v (GetJob named) refl refl refl
+            (record { journal = refl; area = refl; unswitched = refl }) ∙ begins-none,
+        refl,
+        refl,
+      );
       goes_on = record { steps = steps; are_steps = steps-are; ends = happens6 0; heard_is = refl };
     };
     images = λ image is. inl (inl (refl, new-sure.images image is));
@@ -164,8 +214,10 @@ pub alone : RunsAlone byte_repaired_records (GetJob named) (Got byte) (mended) (
 alone = record {
   faults = 0;
   before = omega arith;
-  ran = λ w n V. subst (λ u. RanAlone byte_repaired_records (GetJob named) (Got byte) (mended) (got) (own_blocks_heard) 0 u n)
-      (form-is byte_repaired_records (one_byte w.bytes) (fetched (holds 0)) (fetched (holds 1)) (given_block 2 (fetched empty_provider)) (fetched (holds 3)) w
+  ran = λ w n V. subst (λ u. RanAlone byte_repaired_records (GetJob named) (Got byte) (mended) (got)
+      (own_blocks_heard) 0 u n)
+      (form-is byte_repaired_records (one_byte w.bytes) (fetched (holds 0)) (fetched (holds 1))
+      (given_block 2 (fetched empty_provider)) (fetched (holds 3)) w
       (one_byte-is w.bytes (V.bytes named (record { name = named; id = 1; size = 1; profile = 0 }) refl).1) V)
       (ran-formed w n V.handed.count);
 }
@@ -173,9 +225,11 @@ alone = record {
 -- the get ends with status 0 and the byte, and has heard all own blocks
 pub answers : Answers (GetOf named) (mended) (got) (ends_hearing 0 own_blocks_heard)
 answers = (
-  AnswersAlone.begun byte_repaired_records old-sure.known.opened (AnswersJob.ended (Got byte) begins-none alone
+  AnswersAlone.begun byte_repaired_records old-sure.known.opened
+      (AnswersJob.ended (Got byte) begins-none alone
       (left-alone byte_repaired_records (GetJob named) (Got byte) (mended) (got) (own_blocks_heard)
-      refl (λ w last n O r. jobs-leave (GetJob named) w last n (Got byte) (own_blocks_heard) refl O r) old-sure.known.opened refl alone)
+      refl (λ w last n O r. jobs-leave (GetJob named) w last n (Got byte) (own_blocks_heard) refl O r)
+      old-sure.known.opened refl alone)
       (record { written = inl (refl, refl); place = refl })),
   (refl, refl),
 )

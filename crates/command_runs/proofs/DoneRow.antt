@@ -17,7 +17,8 @@ use Rattle.command_laws.specs.Instances.{with_sink, ends}
 abbrev pub sevens : List (Option ℕ)
 sevens = Some 7 ∷ Some 7 ∷ Some 7 ∷ Some 9 ∷ []
 
-agreed : (c : ℕ) → agree (c ∷ []) (upto 4) sevens ≡ cond (nim.eq 7 c) 1 0 + (cond (nim.eq 7 c) 1 0 + (cond (nim.eq 7 c) 1 0 + (cond (nim.eq 9 c) 1 0 + 0)))
+agreed : (c : ℕ) → agree (c ∷ []) (upto 4) sevens
+    ≡ cond (nim.eq 7 c) 1 0 + (cond (nim.eq 7 c) 1 0 + (cond (nim.eq 7 c) 1 0 + (cond (nim.eq 9 c) 1 0 + 0)))
 unfolding agree_over is_seen_over
 agreed c = rw (value-constant c 0, value-constant c 1, value-constant c 2, value-constant c 3) refl
 
@@ -35,12 +36,17 @@ enough n m e h = omega (arith, e, h)
 
 only : (p : List ℕ) → Accepts (upto 4) sevens 1 1 p → values_at (upto 1) p ≡ 7 ∷ []
 only [] a = absurd (omega (arith, a.agrees, none))
-only (c ∷ []) a = (let seven : 7 ≡ c = nim_laws.eq_true 7 c (thrice (nim.eq 7 c) (nim.eq 9 c) (enough _ _ (agreed c) a.agrees)) in
+only (c ∷ []) a = (let seven : 7 ≡ c = nim_laws.eq_true 7 c
+    (thrice (nim.eq 7 c) (nim.eq 9 c) (enough _ _ (agreed c) a.agrees)) in
     ap (λ v. v ∷ []) (value-constant c 0 ∙ sym seven))
 only (c ∷ d ∷ p) a = absurd (omega (arith, a.degree))
 
 accepted : Accepts (upto 4) sevens 1 1 (7 ∷ [])
-accepted = record { degree = omega arith; agrees = (let e : agree (7 ∷ []) (upto 4) sevens ≡ 3 = agreed 7 in omega (arith, e)) }
+accepted = record {
+  degree = omega arith;
+  agrees =
+      (let e : agree (7 ∷ []) (upto 4) sevens ≡ 3 = agreed 7 in omega (arith, e));
+}
 
 row_shape : IsShape 4 1 1
 row_shape = (omega arith, omega arith, omega arith, omega arith, omega arith)
@@ -53,5 +59,12 @@ done-row = (
     lost = λ shape lost. absurd (lost (7 ∷ []) accepted);
     held = λ shape p a. inl (refl, ap (λ values. Some (values_line values)) (sym (only p a)));
   },
-  record { disk = refl; disk_faults = refl; providers = refl; source = (refl, refl); place = refl; heard = refl },
+  record {
+    disk = refl;
+    disk_faults = refl;
+    providers = refl;
+    source = (refl, refl);
+    place = refl;
+    heard = refl;
+  },
 )

@@ -104,7 +104,12 @@ module _ (w : State) (n : ℕ) (count : w.handed ≡ 4) where
 
   steps-are : AreSteps s0 (n + 1) 1 steps
   unfolding steps
-  steps-are = (refl, refl, happens4 0, (refl, refl, happens3 0, (refl, refl, happens2 0, (refl, refl, happens1 0, tt))))
+  steps-are = (
+    refl,
+    refl,
+    happens4 0,
+    (refl, refl, happens3 0, (refl, refl, happens2 0, (refl, refl, happens1 0, tt))),
+  )
 
   each : (j : ℕ) → j < 4 → slice_get (all_hidden).providers j ≡ Some (s5.providers j)
   each zero l = refl
@@ -120,7 +125,13 @@ module _ (w : State) (n : ℕ) (count : w.handed ≡ 4) where
     runs = record {
       begun = s0;
       job = 1;
-      begins = (refl, refusal-of v UpgradeJob refl refl refl (record { journal = refl; area = refl; unswitched = refl }) ∙ upgrade_begins, refl, refl);
+      begins = (
+        refl,
+        refusal-of v UpgradeJob refl refl refl
+            (record { journal = refl; area = refl; unswitched = refl }) ∙ upgrade_begins,
+        refl,
+        refl,
+      );
       goes_on = record { steps = steps; are_steps = steps-are; ends = happens5 0; heard_is = refl };
     };
     images = tt;

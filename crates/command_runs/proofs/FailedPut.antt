@@ -67,7 +67,10 @@ module _ (w : State) (n : ℕ) (count : w.handed ≡ 4) where
     jobs = (record base { subject = 1; place = 3 }) ∷ [];
     next_job = 2;
     append = Some (record { job = 1; entry = (PutStart 1 named); moves = 3 });
-    doubt = Some (record { entry = (PutStart 1 named); maker = Some (record base { subject = 1; place = 3 }) });
+    doubt = Some (record {
+      entry = (PutStart 1 named);
+      maker = Some (record base { subject = 1; place = 3 });
+    });
   }
 
   happens3 : (m : ℕ) → Happens 8 m s2 (Step 1) More s3
@@ -127,7 +130,12 @@ module _ (w : State) (n : ℕ) (count : w.handed ≡ 4) where
 
   steps-are : AreSteps s0 (n + 1) 1 steps
   unfolding steps
-  steps-are = (refl, refl, happens4 0, (refl, refl, happens3 0, (refl, refl, happens2 0, (refl, refl, happens1 0, tt))))
+  steps-are = (
+    refl,
+    refl,
+    happens4 0,
+    (refl, refl, happens3 0, (refl, refl, happens2 0, (refl, refl, happens1 0, tt))),
+  )
 
   each : (j : ℕ) → j < 4 → slice_get (put_failed).providers j ≡ Some (s5.providers j)
   each zero l = refl
@@ -143,7 +151,13 @@ module _ (w : State) (n : ℕ) (count : w.handed ≡ 4) where
     runs = record {
       begun = s0;
       job = 1;
-      begins = (refl, refusal-of v (PutJob named byte) refl refl refl (record { journal = refl; area = refl; unswitched = refl }) ∙ put_begins, refl, refl);
+      begins = (
+        refl,
+        refusal-of v (PutJob named byte) refl refl refl
+            (record { journal = refl; area = refl; unswitched = refl }) ∙ put_begins,
+        refl,
+        refl,
+      );
       goes_on = record { steps = steps; are_steps = steps-are; ends = happens5 0; heard_is = refl };
     };
     images = λ image is. inl (inl (refl, new-sure.images image is));
@@ -157,15 +171,19 @@ pub alone : RunsAlone four_records (PutJob named byte) (ProviderFault 0) (to_put
 alone = record {
   faults = 0;
   before = omega arith;
-  ran = λ w n V. subst (λ u. RanAlone four_records (PutJob named byte) (ProviderFault 0) (to_put) (put_failed) ([]) 0 u n)
-      (form-is four_records w.bytes (empty_provider) (empty_provider) (empty_provider) (empty_provider) w refl V)
+  ran = λ w n V. subst (λ u. RanAlone four_records (PutJob named byte) (ProviderFault 0) (to_put) (put_failed)
+      ([]) 0 u n)
+      (form-is four_records w.bytes (empty_provider) (empty_provider) (empty_provider)
+      (empty_provider) w refl V)
       (ran-formed w n V.handed.count);
 }
 
 -- the put ends with status 13, at provider 0
 pub answers : Answers (PutUnder named) (to_put) (put_failed) (ends 13)
-answers = AnswersPut.begun four_records byte old-sure.known.opened (record { are_bytes = refl; front = refl; few = omega arith; end = λ l. refl })
+answers = AnswersPut.begun four_records byte old-sure.known.opened
+    (record { are_bytes = refl; front = refl; few = omega arith; end = λ l. refl })
     (AnswersJob.ended (ProviderFault 0) put_begins alone
     (left-alone four_records (PutJob named byte) (ProviderFault 0) (to_put) (put_failed) ([])
-    (refl, refl) (λ w last n O r. jobs-leave (PutJob named byte) w last n (ProviderFault 0) ([]) (refl, refl) O r) old-sure.known.opened refl alone)
+    (refl, refl) (λ w last n O r. jobs-leave (PutJob named byte) w last n (ProviderFault 0) ([])
+    (refl, refl) O r) old-sure.known.opened refl alone)
     (record { status_is = refl; place = refl; sink = refl }))

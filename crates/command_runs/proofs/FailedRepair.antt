@@ -51,7 +51,11 @@ module _ (w : State) (n : ℕ) (count : w.handed ≡ 4) where
   unfolding setup_in actions_of
   happens1 m = (
     Some (own_block 0),
-    (fetched (v.providers 0), record { held = refl; counts = fetch-counts (v.providers 0); gives = inl (block_sized 0) }, refl),
+    (
+      fetched (v.providers 0),
+      record { held = refl; counts = fetch-counts (v.providers 0); gives = inl (block_sized 0) },
+      refl,
+    ),
   )
 
   abbrev ps2 : ℕ → Provider
@@ -59,7 +63,10 @@ module _ (w : State) (n : ℕ) (count : w.handed ≡ 4) where
 
   abbrev s2 : State
   s2 = record v {
-    jobs = (record base { place = 2; given = Fetched 1 1 0 (Some (own_block 1)) ∷ Fetched 0 1 0 (Some (own_block 0)) ∷ [] }) ∷ [];
+    jobs = (record base {
+      place = 2;
+      given = Fetched 1 1 0 (Some (own_block 1)) ∷ Fetched 0 1 0 (Some (own_block 0)) ∷ [];
+    }) ∷ [];
     next_job = 2;
     providers = ps2;
   }
@@ -68,7 +75,11 @@ module _ (w : State) (n : ℕ) (count : w.handed ≡ 4) where
   unfolding setup_in actions_of
   happens2 m = (
     Some (own_block 1),
-    (fetched (ps1 1), record { held = refl; counts = fetch-counts (ps1 1); gives = inl (block_sized 1) }, refl),
+    (
+      fetched (ps1 1),
+      record { held = refl; counts = fetch-counts (ps1 1); gives = inl (block_sized 1) },
+      refl,
+    ),
   )
 
   abbrev ps3 : ℕ → Provider
@@ -76,7 +87,11 @@ module _ (w : State) (n : ℕ) (count : w.handed ≡ 4) where
 
   abbrev s3 : State
   s3 = record v {
-    jobs = (record base { place = 3; given = Fetched 2 1 0 (None) ∷ Fetched 1 1 0 (Some (own_block 1)) ∷ Fetched 0 1 0 (Some (own_block 0)) ∷ [] }) ∷ [];
+    jobs = (record base {
+      place = 3;
+      given = Fetched 2 1 0 (None) ∷ Fetched 1 1 0 (Some (own_block 1)) ∷ Fetched 0 1 0
+          (Some (own_block 0)) ∷ [];
+    }) ∷ [];
     next_job = 2;
     providers = ps3;
   }
@@ -93,7 +108,11 @@ module _ (w : State) (n : ℕ) (count : w.handed ≡ 4) where
 
   abbrev s4 : State
   s4 = record v {
-    jobs = (record base { place = 4; given = Fetched 3 1 0 (Some (own_block 3)) ∷ Fetched 2 1 0 (None) ∷ Fetched 1 1 0 (Some (own_block 1)) ∷ Fetched 0 1 0 (Some (own_block 0)) ∷ [] }) ∷ [];
+    jobs = (record base {
+      place = 4;
+      given = Fetched 3 1 0 (Some (own_block 3)) ∷ Fetched 2 1 0 (None) ∷ Fetched 1 1 0
+          (Some (own_block 1)) ∷ Fetched 0 1 0 (Some (own_block 0)) ∷ [];
+    }) ∷ [];
     next_job = 2;
     providers = ps4;
   }
@@ -102,12 +121,20 @@ module _ (w : State) (n : ℕ) (count : w.handed ≡ 4) where
   unfolding setup_in actions_of
   happens4 m = (
     Some (own_block 3),
-    (fetched (ps3 3), record { held = refl; counts = fetch-counts (ps3 3); gives = inl (block_sized 3) }, refl),
+    (
+      fetched (ps3 3),
+      record { held = refl; counts = fetch-counts (ps3 3); gives = inl (block_sized 3) },
+      refl,
+    ),
   )
 
   abbrev s5 : State
   s5 = record v {
-    jobs = (record base { place = 5; given = Worked 1 0 symbols ∷ Fetched 3 1 0 (Some (own_block 3)) ∷ Fetched 2 1 0 (None) ∷ Fetched 1 1 0 (Some (own_block 1)) ∷ Fetched 0 1 0 (Some (own_block 0)) ∷ [] }) ∷ [];
+    jobs = (record base {
+      place = 5;
+      given = Worked 1 0 symbols ∷ Fetched 3 1 0 (Some (own_block 3)) ∷ Fetched 2 1 0 (None) ∷ Fetched 1 1 0
+          (Some (own_block 1)) ∷ Fetched 0 1 0 (Some (own_block 0)) ∷ [];
+    }) ∷ [];
     next_job = 2;
     providers = ps4;
   }
@@ -145,7 +172,17 @@ module _ (w : State) (n : ℕ) (count : w.handed ≡ 4) where
 
   steps-are : AreSteps s0 (n + 1) 1 steps
   unfolding steps
-  steps-are = (refl, refl, happens5 0, (refl, refl, happens4 0, (refl, refl, happens3 0, (refl, refl, happens2 0, (refl, refl, happens1 0, tt)))))
+  steps-are = (
+    refl,
+    refl,
+    happens5 0,
+    (
+      refl,
+      refl,
+      happens4 0,
+      (refl, refl, happens3 0, (refl, refl, happens2 0, (refl, refl, happens1 0, tt))),
+    ),
+  )
 
   each : (j : ℕ) → j < 4 → slice_get (repair_failed).providers j ≡ Some (s6.providers j)
   each zero l = refl
@@ -161,7 +198,13 @@ module _ (w : State) (n : ℕ) (count : w.handed ≡ 4) where
     runs = record {
       begun = s0;
       job = 1;
-      begins = (refl, refusal-of v (RepairJob) refl refl refl (record { journal = refl; area = refl; unswitched = refl }) ∙ repair_begins, refl, refl);
+      begins = (
+        refl,
+        refusal-of v (RepairJob) refl refl refl
+            (record { journal = refl; area = refl; unswitched = refl }) ∙ repair_begins,
+        refl,
+        refl,
+      );
       goes_on = record { steps = steps; are_steps = steps-are; ends = happens6 0; heard_is = refl };
     };
     images = λ image is. inl (inl (refl, new-sure.images image is));
@@ -175,7 +218,8 @@ pub alone : RunsAlone byte_audited_records (RepairJob) (ProviderFault 2) (due) (
 alone = record {
   faults = 0;
   before = omega arith;
-  ran = λ w n V. subst (λ u. RanAlone byte_audited_records (RepairJob) (ProviderFault 2) (due) (repair_failed) ([]) 0 u n)
+  ran = λ w n V. subst (λ u. RanAlone byte_audited_records (RepairJob) (ProviderFault 2) (due) (repair_failed)
+      ([]) 0 u n)
       (form-is byte_audited_records (one_byte w.bytes) (holds 0) (holds 1) (empty_provider) (holds 3) w
       (one_byte-is w.bytes (V.bytes named (record { name = named; id = 1; size = 1; profile = 0 }) refl).1) V)
       (ran-formed w n V.handed.count);
@@ -184,9 +228,11 @@ alone = record {
 -- the repair ends with status 13, at provider 2
 pub answers : Answers (RepairDue) (due) (repair_failed) (ends_at 13 2)
 answers = (
-  AnswersAlone.begun byte_audited_records old-sure.known.opened (AnswersJob.ended (ProviderFault 2) repair_begins alone
+  AnswersAlone.begun byte_audited_records old-sure.known.opened
+      (AnswersJob.ended (ProviderFault 2) repair_begins alone
       (left-alone byte_audited_records (RepairJob) (ProviderFault 2) (due) (repair_failed) ([])
-      tt (λ w last n O r. jobs-leave (RepairJob) w last n (ProviderFault 2) ([]) tt O r) old-sure.known.opened refl alone)
+      tt (λ w last n O r. jobs-leave (RepairJob) w last n (ProviderFault 2) ([]) tt O r) old-sure.known.opened
+      refl alone)
       (record { status_is = refl; place = refl; sink = refl })),
   (refl, refl),
 )

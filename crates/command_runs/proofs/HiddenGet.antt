@@ -50,7 +50,11 @@ module _ (w : State) (n : ℕ) (count : w.handed ≡ 4) where
   unfolding setup_in actions_of
   happens1 m = (
     None,
-    (fetched (v.providers 0), record { held = refl; counts = fetch-counts (v.providers 0); gives = inl (tt) }, refl),
+    (
+      fetched (v.providers 0),
+      record { held = refl; counts = fetch-counts (v.providers 0); gives = inl (tt) },
+      refl,
+    ),
   )
 
   abbrev ps2 : ℕ → Provider
@@ -75,7 +79,10 @@ module _ (w : State) (n : ℕ) (count : w.handed ≡ 4) where
 
   abbrev s3 : State
   s3 = record v {
-    jobs = (record base { place = 3; given = Fetched 2 1 0 (None) ∷ Fetched 1 1 0 (None) ∷ Fetched 0 1 0 (None) ∷ [] }) ∷ [];
+    jobs = (record base {
+      place = 3;
+      given = Fetched 2 1 0 (None) ∷ Fetched 1 1 0 (None) ∷ Fetched 0 1 0 (None) ∷ [];
+    }) ∷ [];
     next_job = 2;
     providers = ps3;
   }
@@ -92,7 +99,11 @@ module _ (w : State) (n : ℕ) (count : w.handed ≡ 4) where
 
   abbrev s4 : State
   s4 = record v {
-    jobs = (record base { place = 4; given = Fetched 3 1 0 (None) ∷ Fetched 2 1 0 (None) ∷ Fetched 1 1 0 (None) ∷ Fetched 0 1 0 (None) ∷ [] }) ∷ [];
+    jobs = (record base {
+      place = 4;
+      given = Fetched 3 1 0 (None) ∷ Fetched 2 1 0 (None) ∷ Fetched 1 1 0 (None) ∷ Fetched 0 1 0
+          (None) ∷ [];
+    }) ∷ [];
     next_job = 2;
     providers = ps4;
   }
@@ -119,7 +130,12 @@ module _ (w : State) (n : ℕ) (count : w.handed ≡ 4) where
 
   steps-are : AreSteps s0 (n + 1) 1 steps
   unfolding steps
-  steps-are = (refl, refl, happens4 0, (refl, refl, happens3 0, (refl, refl, happens2 0, (refl, refl, happens1 0, tt))))
+  steps-are = (
+    refl,
+    refl,
+    happens4 0,
+    (refl, refl, happens3 0, (refl, refl, happens2 0, (refl, refl, happens1 0, tt))),
+  )
 
   each : (j : ℕ) → j < 4 → slice_get (hidden_fetched).providers j ≡ Some (s5.providers j)
   each zero l = refl
@@ -135,7 +151,13 @@ module _ (w : State) (n : ℕ) (count : w.handed ≡ 4) where
     runs = record {
       begun = s0;
       job = 1;
-      begins = (refl, refusal-of v (GetJob named) refl refl refl (record { journal = refl; area = refl; unswitched = refl }) ∙ get_begins, refl, refl);
+      begins = (
+        refl,
+        refusal-of v (GetJob named) refl refl refl
+            (record { journal = refl; area = refl; unswitched = refl }) ∙ get_begins,
+        refl,
+        refl,
+      );
       goes_on = record { steps = steps; are_steps = steps-are; ends = happens5 0; heard_is = refl };
     };
     images = tt;
@@ -149,7 +171,8 @@ pub alone : RunsAlone byte_records (GetJob named) (Lost 0 0) (all_hidden) (hidde
 alone = record {
   faults = 0;
   before = omega arith;
-  ran = λ w n V. subst (λ u. RanAlone byte_records (GetJob named) (Lost 0 0) (all_hidden) (hidden_fetched) (no_blocks) 0 u n)
+  ran = λ w n V. subst (λ u. RanAlone byte_records (GetJob named) (Lost 0 0) (all_hidden) (hidden_fetched)
+      (no_blocks) 0 u n)
       (form-is byte_records (one_byte w.bytes) (silent) (silent) (silent) (silent) w
       (one_byte-is w.bytes (V.bytes named (record { name = named; id = 1; size = 1; profile = 0 }) refl).1) V)
       (ran-formed w n V.handed.count);
@@ -160,7 +183,8 @@ pub answers : Answers (GetOf named) (all_hidden) (hidden_fetched) (ends_hearing 
 answers = (
   AnswersAlone.begun byte_records hidden-opened (AnswersJob.ended (Lost 0 0) get_begins alone
       (left-alone byte_records (GetJob named) (Lost 0 0) (all_hidden) (hidden_fetched) (no_blocks)
-      refl (λ w last n O r. jobs-leave (GetJob named) w last n (Lost 0 0) (no_blocks) refl O r) hidden-opened refl alone)
+      refl (λ w last n O r. jobs-leave (GetJob named) w last n (Lost 0 0) (no_blocks) refl O r) hidden-opened
+      refl alone)
       (record { status_is = refl; place = refl; sink = refl })),
   (refl, refl),
 )

@@ -67,7 +67,10 @@ module _ (w : State) (n : ℕ) (count : w.handed ≡ 4) where
     jobs = (record base { subject = 1; place = 3 }) ∷ [];
     next_job = 2;
     append = Some (record { job = 1; entry = (PutStart 1 named); moves = 3 });
-    doubt = Some (record { entry = (PutStart 1 named); maker = Some (record base { subject = 1; place = 3 }) });
+    doubt = Some (record {
+      entry = (PutStart 1 named);
+      maker = Some (record base { subject = 1; place = 3 });
+    });
   }
 
   happens3 : (m : ℕ) → Happens 8 m s2 (Step 1) More s3
@@ -106,7 +109,11 @@ module _ (w : State) (n : ℕ) (count : w.handed ≡ 4) where
 
   happens5 : (m : ℕ) → Happens 8 m s4 (Step 1) More s5
   unfolding setup_in actions_of
-  happens5 m = (given_block 0 (v.providers 0), record { held = refl; counts = store-counts 0 (v.providers 0) }, refl)
+  happens5 m = (
+    given_block 0 (v.providers 0),
+    record { held = refl; counts = store-counts 0 (v.providers 0) },
+    refl,
+  )
 
   abbrev ps2 : ℕ → Provider
   ps2 = with_provider ps1 1 (given_block 1 (ps1 1))
@@ -249,11 +256,57 @@ module _ (w : State) (n : ℕ) (count : w.handed ≡ 4) where
   step s = moment (Step 1) More s
 
   steps : List Moment
-  steps = step s12 ∷ step s11 ∷ step s10 ∷ step s9 ∷ step s8 ∷ step s7 ∷ step s6 ∷ step s5 ∷ step s4 ∷ step s3 ∷ step s2 ∷ step s1 ∷ []
+  steps = step s12 ∷ step s11 ∷ step s10 ∷ step s9 ∷ step s8 ∷ step s7 ∷ step s6 ∷ step s5 ∷ step s4 ∷ step
+      s3 ∷ step s2 ∷ step s1 ∷ []
 
   steps-are : AreSteps s0 (n + 1) 1 steps
   unfolding steps
-  steps-are = (refl, refl, happens12 0, (refl, refl, happens11 0, (refl, refl, happens10 0, (refl, refl, happens9 0, (refl, refl, happens8 0, (refl, refl, happens7 0, (refl, refl, happens6 0, (refl, refl, happens5 0, (refl, refl, happens4 0, (refl, refl, happens3 0, (refl, refl, happens2 0, (refl, refl, happens1 0, tt))))))))))))
+  steps-are = (
+    refl,
+    refl,
+    happens12 0,
+    (
+      refl,
+      refl,
+      happens11 0,
+      (
+        refl,
+        refl,
+        happens10 0,
+        (
+          refl,
+          refl,
+          happens9 0,
+          (
+            refl,
+            refl,
+            happens8 0,
+            (
+              refl,
+              refl,
+              happens7 0,
+              (
+                refl,
+                refl,
+                happens6 0,
+                (
+                  refl,
+                  refl,
+                  happens5 0,
+                  (
+                    refl,
+                    refl,
+                    happens4 0,
+                    (refl, refl, happens3 0, (refl, refl, happens2 0, (refl, refl, happens1 0, tt))),
+                  ),
+                ),
+              ),
+            ),
+          ),
+        ),
+      ),
+    ),
+  )
 
   each : (j : ℕ) → j < 4 → slice_get (all_hidden).providers j ≡ Some (s13.providers j)
   each zero l = refl
@@ -269,7 +322,13 @@ module _ (w : State) (n : ℕ) (count : w.handed ≡ 4) where
     runs = record {
       begun = s0;
       job = 1;
-      begins = (refl, refusal-of v (PutJob named byte) refl refl refl (record { journal = refl; area = refl; unswitched = refl }) ∙ put_begins, refl, refl);
+      begins = (
+        refl,
+        refusal-of v (PutJob named byte) refl refl refl
+            (record { journal = refl; area = refl; unswitched = refl }) ∙ put_begins,
+        refl,
+        refl,
+      );
       goes_on = record { steps = steps; are_steps = steps-are; ends = happens13 0; heard_is = refl };
     };
     images = tt;
@@ -283,15 +342,18 @@ pub alone : RunsAlone four_records (PutJob named byte) (Put) (all_hidden) (all_h
 alone = record {
   faults = 0;
   before = omega arith;
-  ran = λ w n V. subst (λ u. RanAlone four_records (PutJob named byte) (Put) (all_hidden) (all_hidden) ([]) 0 u n)
+  ran = λ w n V. subst (λ u. RanAlone four_records (PutJob named byte) (Put) (all_hidden) (all_hidden)
+      ([]) 0 u n)
       (form-is four_records w.bytes (silent) (silent) (silent) (silent) w refl V)
       (ran-formed w n V.handed.count);
 }
 
 -- the put ends with status 0
 pub answers : Answers (PutUnder named) (all_hidden) (all_hidden) (ends 0)
-answers = AnswersPut.begun four_records byte hidden-fresh (record { are_bytes = refl; front = refl; few = omega arith; end = λ l. tt })
+answers = AnswersPut.begun four_records byte hidden-fresh
+    (record { are_bytes = refl; front = refl; few = omega arith; end = λ l. tt })
     (AnswersJob.ended (Put) put_begins alone
     (left-alone four_records (PutJob named byte) (Put) (all_hidden) (all_hidden) ([])
-    (refl, refl) (λ w last n O r. jobs-leave (PutJob named byte) w last n (Put) ([]) (refl, refl) O r) hidden-fresh refl alone)
+    (refl, refl) (λ w last n O r. jobs-leave (PutJob named byte) w last n (Put) ([]) (refl, refl) O r)
+    hidden-fresh refl alone)
     (record { written = inl (refl, refl); place = refl }))

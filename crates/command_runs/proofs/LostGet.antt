@@ -29,7 +29,8 @@ use Rattle.command_runs.proofs.Begins.{get_begins}
 
 module _ (w : State) (n : ℕ) (count : w.handed ≡ 4) where
   abbrev v : State
-  v = formed byte_records (one_byte w.bytes) (empty_provider) (empty_provider) (empty_provider) (empty_provider) w
+  v = formed byte_records (one_byte w.bytes) (empty_provider) (empty_provider) (empty_provider)
+      (empty_provider) w
 
   abbrev base : Job
   base = new_job v n (GetJob named)
@@ -51,7 +52,11 @@ module _ (w : State) (n : ℕ) (count : w.handed ≡ 4) where
   unfolding setup_in actions_of
   happens1 m = (
     None,
-    (fetched (v.providers 0), record { held = refl; counts = fetch-counts (v.providers 0); gives = inl (refl) }, refl),
+    (
+      fetched (v.providers 0),
+      record { held = refl; counts = fetch-counts (v.providers 0); gives = inl (refl) },
+      refl,
+    ),
   )
 
   abbrev ps2 : ℕ → Provider
@@ -76,7 +81,10 @@ module _ (w : State) (n : ℕ) (count : w.handed ≡ 4) where
 
   abbrev s3 : State
   s3 = record v {
-    jobs = (record base { place = 3; given = Fetched 2 1 0 (None) ∷ Fetched 1 1 0 (None) ∷ Fetched 0 1 0 (None) ∷ [] }) ∷ [];
+    jobs = (record base {
+      place = 3;
+      given = Fetched 2 1 0 (None) ∷ Fetched 1 1 0 (None) ∷ Fetched 0 1 0 (None) ∷ [];
+    }) ∷ [];
     next_job = 2;
     providers = ps3;
   }
@@ -93,7 +101,11 @@ module _ (w : State) (n : ℕ) (count : w.handed ≡ 4) where
 
   abbrev s4 : State
   s4 = record v {
-    jobs = (record base { place = 4; given = Fetched 3 1 0 (None) ∷ Fetched 2 1 0 (None) ∷ Fetched 1 1 0 (None) ∷ Fetched 0 1 0 (None) ∷ [] }) ∷ [];
+    jobs = (record base {
+      place = 4;
+      given = Fetched 3 1 0 (None) ∷ Fetched 2 1 0 (None) ∷ Fetched 1 1 0 (None) ∷ Fetched 0 1 0
+          (None) ∷ [];
+    }) ∷ [];
     next_job = 2;
     providers = ps4;
   }
@@ -120,7 +132,12 @@ module _ (w : State) (n : ℕ) (count : w.handed ≡ 4) where
 
   steps-are : AreSteps s0 (n + 1) 1 steps
   unfolding steps
-  steps-are = (refl, refl, happens4 0, (refl, refl, happens3 0, (refl, refl, happens2 0, (refl, refl, happens1 0, tt))))
+  steps-are = (
+    refl,
+    refl,
+    happens4 0,
+    (refl, refl, happens3 0, (refl, refl, happens2 0, (refl, refl, happens1 0, tt))),
+  )
 
   each : (j : ℕ) → j < 4 → slice_get (found_lost).providers j ≡ Some (s5.providers j)
   each zero l = refl
@@ -136,7 +153,13 @@ module _ (w : State) (n : ℕ) (count : w.handed ≡ 4) where
     runs = record {
       begun = s0;
       job = 1;
-      begins = (refl, refusal-of v (GetJob named) refl refl refl (record { journal = refl; area = refl; unswitched = refl }) ∙ get_begins, refl, refl);
+      begins = (
+        refl,
+        refusal-of v (GetJob named) refl refl refl
+            (record { journal = refl; area = refl; unswitched = refl }) ∙ get_begins,
+        refl,
+        refl,
+      );
       goes_on = record { steps = steps; are_steps = steps-are; ends = happens5 0; heard_is = refl };
     };
     images = λ image is. inl (inl (refl, new-sure.images image is));
@@ -150,8 +173,10 @@ pub alone : RunsAlone byte_records (GetJob named) (Lost 0 0) (all_lost) (found_l
 alone = record {
   faults = 0;
   before = omega arith;
-  ran = λ w n V. subst (λ u. RanAlone byte_records (GetJob named) (Lost 0 0) (all_lost) (found_lost) (no_blocks) 0 u n)
-      (form-is byte_records (one_byte w.bytes) (empty_provider) (empty_provider) (empty_provider) (empty_provider) w
+  ran = λ w n V. subst (λ u. RanAlone byte_records (GetJob named) (Lost 0 0) (all_lost) (found_lost)
+      (no_blocks) 0 u n)
+      (form-is byte_records (one_byte w.bytes) (empty_provider) (empty_provider) (empty_provider)
+      (empty_provider) w
       (one_byte-is w.bytes (V.bytes named (record { name = named; id = 1; size = 1; profile = 0 }) refl).1) V)
       (ran-formed w n V.handed.count);
 }
@@ -161,7 +186,8 @@ pub answers : Answers (GetOf named) (all_lost) (found_lost) (ends_hearing 4 no_b
 answers = (
   AnswersAlone.begun byte_records old-sure.known.opened (AnswersJob.ended (Lost 0 0) get_begins alone
       (left-alone byte_records (GetJob named) (Lost 0 0) (all_lost) (found_lost) (no_blocks)
-      refl (λ w last n O r. jobs-leave (GetJob named) w last n (Lost 0 0) (no_blocks) refl O r) old-sure.known.opened refl alone)
+      refl (λ w last n O r. jobs-leave (GetJob named) w last n (Lost 0 0) (no_blocks) refl O r)
+      old-sure.known.opened refl alone)
       (record { status_is = refl; place = refl; sink = refl })),
   (refl, refl),
 )

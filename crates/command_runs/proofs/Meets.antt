@@ -44,7 +44,9 @@ three-tell (suc (suc (suc zero))) l = refl
 three-tell (suc (suc (suc (suc j)))) l = absurd (omega (arith, l))
 
 -- of devices that tell nothing no count rises
-pub none-rises : (j : ℕ) → Rose (provider_at all_hidden.providers j).store_faults (provider_at all_hidden.providers j).store_faults → ⊥
+pub none-rises : (j : ℕ) →
+    Rose (provider_at all_hidden.providers j).store_faults (provider_at all_hidden.providers j).store_faults →
+    ⊥
 none-rises zero rose = never-rises 0 (omega arith) rose
 none-rises (suc zero) rose = never-rises 0 (omega arith) rose
 none-rises (suc (suc zero)) rose = never-rises 0 (omega arith) rose
@@ -56,7 +58,9 @@ abbrev pub kept : File
 kept = record { name = named; id = 1; size = 1; profile = 0 }
 
 -- the own block is right
-right_held : (j : ℕ) → is_wrong (object_of four 1) byte j (λ stripe. if (1 == 1) && (stripe == 0) then Some (columns (object_of four 1) byte j 0) else None) ≡ false
+right_held : (j : ℕ) →
+    is_wrong (object_of four 1) byte j
+    (λ stripe. if (1 == 1) && (stripe == 0) then Some (columns (object_of four 1) byte j 0) else None) ≡ false
 unfolding is_wrong
 right_held j = rw (column-right (object_of four 1) byte j 0) refl
 
@@ -120,7 +124,8 @@ flagged-second zero = refl
 flagged-second (suc zero) = refl
 flagged-second (suc (suc zero)) = refl
 flagged-second (suc (suc (suc j))) =
-    spared (second (suc (suc (suc j)))) (not (is_flagged 0 counts (suc (suc (suc j))))) (ne_eqb (suc (suc (suc j))) 2 (λ e. omega (arith, e)))
+    spared (second (suc (suc (suc j)))) (not (is_flagged 0 counts (suc (suc (suc j)))))
+    (ne_eqb (suc (suc (suc j))) 2 (λ e. omega (arith, e)))
 
 -- ---- the file is right
 
@@ -178,7 +183,8 @@ damaged-file = record {
 -- at most one provider is wrong for it, or failed
 pub few-bad : bad_seen byte_audited_records due repaired kept byte ≤ 1
 unfolding due-file
-few-bad = within _ (bad-few named byte byte_audited_records second due repaired due-file (λ j below clean rose. repair-steady second j below clean rose))
+few-bad = within _ (bad-few named byte byte_audited_records second due repaired due-file
+    (λ j below clean rose. repair-steady second j below clean rose))
   where
     within : (n : ℕ) → n ≤ 1 → n ≤ 1
     within n l = l

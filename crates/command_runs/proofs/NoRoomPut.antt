@@ -66,7 +66,13 @@ module _ (w : State) (n : ℕ) (count : w.handed ≡ 4) where
     runs = record {
       begun = s0;
       job = 1;
-      begins = (refl, refusal-of v (PutJob named byte) refl refl refl (record { journal = refl; area = refl; unswitched = refl }) ∙ put_begins, refl, refl);
+      begins = (
+        refl,
+        refusal-of v (PutJob named byte) refl refl refl
+            (record { journal = refl; area = refl; unswitched = refl }) ∙ put_begins,
+        refl,
+        refl,
+      );
       goes_on = record { steps = steps; are_steps = steps-are; ends = happens1 0; heard_is = refl };
     };
     images = λ image is. inl (inl (refl, new-sure.images image is));
@@ -80,15 +86,19 @@ pub alone : RunsAlone four_records (PutJob named byte) (Memory) (to_put) (put_un
 alone = record {
   faults = 0;
   before = omega arith;
-  ran = λ w n V. subst (λ u. RanAlone four_records (PutJob named byte) (Memory) (to_put) (put_unmade) ([]) 0 u n)
-      (form-is four_records w.bytes (empty_provider) (empty_provider) (empty_provider) (empty_provider) w refl V)
+  ran = λ w n V. subst (λ u. RanAlone four_records (PutJob named byte) (Memory) (to_put) (put_unmade)
+      ([]) 0 u n)
+      (form-is four_records w.bytes (empty_provider) (empty_provider) (empty_provider)
+      (empty_provider) w refl V)
       (ran-formed w n V.handed.count);
 }
 
 -- the put ends with status 70
 pub answers : Answers (PutUnder named) (to_put) (put_unmade) (ends 70)
-answers = AnswersPut.begun four_records byte old-sure.known.opened (record { are_bytes = refl; front = refl; few = omega arith; end = λ l. refl })
+answers = AnswersPut.begun four_records byte old-sure.known.opened
+    (record { are_bytes = refl; front = refl; few = omega arith; end = λ l. refl })
     (AnswersJob.ended (Memory) put_begins alone
     (left-alone four_records (PutJob named byte) (Memory) (to_put) (put_unmade) ([])
-    (refl, refl) (λ w last n O r. jobs-leave (PutJob named byte) w last n (Memory) ([]) (refl, refl) O r) old-sure.known.opened refl alone)
+    (refl, refl) (λ w last n O r. jobs-leave (PutJob named byte) w last n (Memory) ([]) (refl, refl) O r)
+    old-sure.known.opened refl alone)
     (record { status_is = refl; place = refl; sink = refl }))

@@ -70,7 +70,10 @@ module _ (w : State) (n : ℕ) (count : w.handed ≡ 4) where
     jobs = (record base { subject = 2; place = 3 }) ∷ [];
     next_job = 2;
     append = Some (record { job = 1; entry = (PutStart 2 other_name); moves = 3 });
-    doubt = Some (record { entry = (PutStart 2 other_name); maker = Some (record base { subject = 2; place = 3 }) });
+    doubt = Some (record {
+      entry = (PutStart 2 other_name);
+      maker = Some (record base { subject = 2; place = 3 });
+    });
   }
 
   happens3 : (m : ℕ) → Happens 8 m s2 (Step 1) More s3
@@ -109,7 +112,11 @@ module _ (w : State) (n : ℕ) (count : w.handed ≡ 4) where
 
   happens5 : (m : ℕ) → Happens 8 m s4 (Step 1) More s5
   unfolding setup_in actions_of
-  happens5 m = (given_other 0 (v.providers 0), record { held = refl; counts = other_store-counts 0 (v.providers 0) }, refl)
+  happens5 m = (
+    given_other 0 (v.providers 0),
+    record { held = refl; counts = other_store-counts 0 (v.providers 0) },
+    refl,
+  )
 
   abbrev ps2 : ℕ → Provider
   ps2 = with_provider ps1 1 (given_other 1 (ps1 1))
@@ -252,11 +259,57 @@ module _ (w : State) (n : ℕ) (count : w.handed ≡ 4) where
   step s = moment (Step 1) More s
 
   steps : List Moment
-  steps = step s12 ∷ step s11 ∷ step s10 ∷ step s9 ∷ step s8 ∷ step s7 ∷ step s6 ∷ step s5 ∷ step s4 ∷ step s3 ∷ step s2 ∷ step s1 ∷ []
+  steps = step s12 ∷ step s11 ∷ step s10 ∷ step s9 ∷ step s8 ∷ step s7 ∷ step s6 ∷ step s5 ∷ step s4 ∷ step
+      s3 ∷ step s2 ∷ step s1 ∷ []
 
   steps-are : AreSteps s0 (n + 1) 1 steps
   unfolding steps
-  steps-are = (refl, refl, happens12 0, (refl, refl, happens11 0, (refl, refl, happens10 0, (refl, refl, happens9 0, (refl, refl, happens8 0, (refl, refl, happens7 0, (refl, refl, happens6 0, (refl, refl, happens5 0, (refl, refl, happens4 0, (refl, refl, happens3 0, (refl, refl, happens2 0, (refl, refl, happens1 0, tt))))))))))))
+  steps-are = (
+    refl,
+    refl,
+    happens12 0,
+    (
+      refl,
+      refl,
+      happens11 0,
+      (
+        refl,
+        refl,
+        happens10 0,
+        (
+          refl,
+          refl,
+          happens9 0,
+          (
+            refl,
+            refl,
+            happens8 0,
+            (
+              refl,
+              refl,
+              happens7 0,
+              (
+                refl,
+                refl,
+                happens6 0,
+                (
+                  refl,
+                  refl,
+                  happens5 0,
+                  (
+                    refl,
+                    refl,
+                    happens4 0,
+                    (refl, refl, happens3 0, (refl, refl, happens2 0, (refl, refl, happens1 0, tt))),
+                  ),
+                ),
+              ),
+            ),
+          ),
+        ),
+      ),
+    ),
+  )
 
   each : (j : ℕ) → j < 4 → slice_get (stored_other).providers j ≡ Some (s13.providers j)
   each zero l = refl
@@ -272,7 +325,13 @@ module _ (w : State) (n : ℕ) (count : w.handed ≡ 4) where
     runs = record {
       begun = s0;
       job = 1;
-      begins = (refl, refusal-of v (PutJob other_name byte) refl refl refl (record { journal = refl; area = refl; unswitched = refl }) ∙ begins-none, refl, refl);
+      begins = (
+        refl,
+        refusal-of v (PutJob other_name byte) refl refl refl
+            (record { journal = refl; area = refl; unswitched = refl }) ∙ begins-none,
+        refl,
+        refl,
+      );
       goes_on = record { steps = steps; are_steps = steps-are; ends = happens13 0; heard_is = refl };
     };
     images = λ image is. inl (inl (refl, new-sure.images image is));
@@ -286,15 +345,18 @@ pub alone : RunsAlone byte_records (PutJob other_name byte) (Put) (to_put_other)
 alone = record {
   faults = 0;
   before = omega arith;
-  ran = λ w n V. subst (λ u. RanAlone byte_records (PutJob other_name byte) (Put) (to_put_other) (stored_other) ([]) 0 u n)
+  ran = λ w n V. subst (λ u. RanAlone byte_records (PutJob other_name byte) (Put) (to_put_other)
+      (stored_other) ([]) 0 u n)
       (form-is byte_records w.bytes (holds 0) (holds 1) (holds 2) (holds 3) w refl V)
       (ran-formed w n V.handed.count);
 }
 
 -- the other put ends with status 0
 pub answers : Answers (PutUnder other_name) (to_put_other) (stored_other) (ends 0)
-answers = AnswersPut.begun byte_records byte old-sure.known.opened (record { are_bytes = refl; front = refl; few = omega arith; end = λ l. refl })
+answers = AnswersPut.begun byte_records byte old-sure.known.opened
+    (record { are_bytes = refl; front = refl; few = omega arith; end = λ l. refl })
     (AnswersJob.ended (Put) begins-none alone
     (left-alone byte_records (PutJob other_name byte) (Put) (to_put_other) (stored_other) ([])
-    (refl, refl) (λ w last n O r. jobs-leave (PutJob other_name byte) w last n (Put) ([]) (refl, refl) O r) old-sure.known.opened refl alone)
+    (refl, refl) (λ w last n O r. jobs-leave (PutJob other_name byte) w last n (Put) ([]) (refl, refl) O r)
+    old-sure.known.opened refl alone)
     (record { written = inl (refl, refl); place = refl }))

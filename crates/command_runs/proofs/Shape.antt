@@ -35,8 +35,10 @@ same_at ps j p e k = elim (cases_Bool (k == j)) [
 from_some : {X : Type 0} (x y : X) → Some x ≡ Some y → x ≡ y
 from_some x y e = cc
 
-over-is : (ps : ℕ → Provider) (p q r s : Provider) → p ≡ ps 0 → q ≡ ps 1 → r ≡ ps 2 → s ≡ ps 3 → over ps p q r s ≡ ps
-over-is ps p q r s a b c d = λ i k. (same_at (with_provider (with_provider (with_provider ps 3 s) 2 r) 1 q) 0 p a k
+over-is : (ps : ℕ → Provider) (p q r s : Provider) → p ≡ ps 0 → q ≡ ps 1 → r ≡ ps 2 → s ≡ ps 3 →
+    over ps p q r s ≡ ps
+over-is ps p q r s a b c d =
+    λ i k. (same_at (with_provider (with_provider (with_provider ps 3 s) 2 r) 1 q) 0 p a k
     ∙ (same_at (with_provider (with_provider ps 3 s) 2 r) 1 q b k
     ∙ (same_at (with_provider ps 3 s) 2 r c k ∙ same_at ps 3 s d k))) i
 
@@ -61,7 +63,8 @@ one_byte-is bytes h = λ i id. (at id) i
   where
     at : (id : ℕ) → one_byte bytes id ≡ bytes id
     at id = elim (cases_Bool (id == 1)) [
-      | inl t ↦ cond_true (id == 1) (first_of (bytes 1) ∷ []) (bytes id) t ∙ (one_long (bytes 1) h ∙ ap bytes (sym (eqb-true id 1 t)))
+      | inl t ↦ cond_true (id == 1) (first_of (bytes 1) ∷ []) (bytes id) t
+          ∙ (one_long (bytes 1) h ∙ ap bytes (sym (eqb-true id 1 t)))
       | inr f ↦ cond_false (id == 1) (first_of (bytes 1) ∷ []) (bytes id) f
     ]
 
@@ -90,8 +93,10 @@ pub form-is : (rs : List Record) (bytes : ℕ → List ℕ) (p q r s : Provider)
     IsOpenedOver w rs 0 (p ∷ q ∷ r ∷ s ∷ []) → formed rs bytes p q r s w ≡ w
 form-is rs bytes p q r s w same V =
     (let P : over w.providers p q r s ≡ w.providers = over-is w.providers p q r s
-    (from_some p (w.providers 0) (V.handed.each 0 (omega arith))) (from_some q (w.providers 1) (V.handed.each 1 (omega arith)))
-    (from_some r (w.providers 2) (V.handed.each 2 (omega arith))) (from_some s (w.providers 3) (V.handed.each 3 (omega arith))) in
+    (from_some p (w.providers 0) (V.handed.each 0 (omega arith)))
+    (from_some q (w.providers 1) (V.handed.each 1 (omega arith)))
+    (from_some r (w.providers 2) (V.handed.each 2 (omega arith)))
+    (from_some s (w.providers 3) (V.handed.each 3 (omega arith))) in
     (λ i. record w {
       records = sym V.records i;
       journal = sym (V.whole.journal ∙ V.records) i;
@@ -119,9 +124,17 @@ pub record AreFit (rs : List Record) : Type 0 where
   pub room : text_size rs ≤ largest_journal
 
 -- devices whose disk reads them are known
-pub sure : (s : Seen) (rs : List Record) → AreFit rs → s.disk ≡ Some (firm (text rs)) → (setup_in_effect rs).n ≤ length s.providers → IsSure s rs
+pub sure : (s : Seen) (rs : List Record) → AreFit rs → s.disk ≡ Some (firm (text rs)) →
+    (setup_in_effect rs).n ≤ length s.providers → IsSure s rs
 sure s rs fit is few = record {
   known = known-good (setup_in_effect rs) s (firm (text rs)) rs is
-      (record { some = fit.some; accepted = fit.accepted; room = fit.room; setup = refl; stands = stands-text rs fit.all (reads (firm (text rs))) (reads-firm (text rs)) }) few;
-  images = subst (λ told. EachImage told (λ image. StandsFor image rs)) (sym is) (λ image has. stands-text rs fit.all image (image-firm (text rs) image has));
+      (record {
+        some = fit.some;
+        accepted = fit.accepted;
+        room = fit.room;
+        setup = refl;
+        stands = stands-text rs fit.all (reads (firm (text rs))) (reads-firm (text rs));
+      }) few;
+  images = subst (λ told. EachImage told (λ image. StandsFor image rs)) (sym is)
+      (λ image has. stands-text rs fit.all image (image-firm (text rs) image has));
 }

@@ -15,20 +15,30 @@ use Rattle.command_laws.specs.After.{IsSure}
 use Rattle.command_runs.specs.Lone.{RunsSomewhere}
 
 abbrev pub Opened : Type 0
-Opened = (w : State) (old : Seen) (records : List Record) (faults : ℕ) → opens.IsOpened old records → IsOpenedOver w records faults old.providers → IsOpenAtRest w 1
+Opened = (w : State) (old : Seen) (records : List Record) (faults : ℕ) → opens.IsOpened old records →
+    IsOpenedOver w records faults old.providers → IsOpenAtRest w 1
 
 abbrev pub ThereIsOne : Type 0
-ThereIsOne = (records : List Record) (faults : ℕ) (providers : List Provider) → AreAccepted records → (w : State) × IsOpenedOver w records faults providers
+ThereIsOne = (records : List Record) (faults : ℕ) (providers : List Provider) → AreAccepted records →
+    (w : State) × IsOpenedOver w records faults providers
 
 -- a job that runs alone over records that were opened runs from some state
-pub somewhere-opened : Opened → ThereIsOne → (records : List Record) (kind : Kind) (answer : Answer) (old new : Seen) (heard : List Entry) →
+pub somewhere-opened : Opened → ThereIsOne →
+    (records : List Record) (kind : Kind) (answer : Answer) (old new : Seen) (heard : List Entry) →
     opens.IsOpened old records → RunsAlone records kind answer old new heard → RunsSomewhere kind answer heard
 somewhere-opened opened one records kind answer old new heard R alone =
     (let w = one records alone.faults old.providers R.read.accepted in
     let ran = alone.ran w.0 0 w.1 in
-    record { start = w.0; last = ran.last; opened = opened w.0 old records alone.faults R w.1; runs = ran.runs })
+    record {
+      start = w.0;
+      last = ran.last;
+      opened = opened w.0 old records alone.faults R w.1;
+      runs = ran.runs;
+    })
 
 -- so it is over a store that is known
-pub somewhere : Opened → ThereIsOne → (records : List Record) (kind : Kind) (answer : Answer) (old new : Seen) (heard : List Entry) →
+pub somewhere : Opened → ThereIsOne →
+    (records : List Record) (kind : Kind) (answer : Answer) (old new : Seen) (heard : List Entry) →
     IsSure old records → RunsAlone records kind answer old new heard → RunsSomewhere kind answer heard
-somewhere opened one records kind answer old new heard sure alone = somewhere-opened opened one records kind answer old new heard sure.known.opened alone
+somewhere opened one records kind answer old new heard sure alone =
+    somewhere-opened opened one records kind answer old new heard sure.known.opened alone

@@ -18,13 +18,28 @@ byte-fit = record { some = λ e. cc; all = refl; accepted = (refl, (refl, (refl,
 
 -- a journal may hold the records after the drop of the file
 pub dropped-fit : AreFit dropped_records
-dropped-fit = record { some = λ e. cc; all = refl; accepted = (refl, (refl, (refl, (refl, tt)))); room = omega arith }
+dropped-fit = record {
+  some = λ e. cc;
+  all = refl;
+  accepted = (refl, (refl, (refl, (refl, tt))));
+  room = omega arith;
+}
 
 audited-fit : AreFit byte_audited_records
-audited-fit = record { some = λ e. cc; all = refl; accepted = (refl, (refl, (refl, (refl, (refl, tt))))); room = omega arith }
+audited-fit = record {
+  some = λ e. cc;
+  all = refl;
+  accepted = (refl, (refl, (refl, (refl, (refl, tt)))));
+  room = omega arith;
+}
 
 repaired-fit : AreFit byte_repaired_records
-repaired-fit = record { some = λ e. cc; all = refl; accepted = (refl, (refl, (refl, (refl, (refl, (refl, tt)))))); room = omega arith }
+repaired-fit = record {
+  some = λ e. cc;
+  all = refl;
+  accepted = (refl, (refl, (refl, (refl, (refl, (refl, tt))))));
+  room = omega arith;
+}
 
 -- the store before the put is sure
 pub put-old : IsSure to_put four_records
@@ -99,7 +114,12 @@ pub got-new : IsSure got byte_repaired_records
 got-new = sure got byte_repaired_records repaired-fit refl (omega arith)
 
 both-fit : AreFit both_records
-both-fit = record { some = λ e. cc; all = refl; accepted = (refl, (refl, (refl, (refl, (refl, tt))))); room = omega arith }
+both-fit = record {
+  some = λ e. cc;
+  all = refl;
+  accepted = (refl, (refl, (refl, (refl, (refl, tt)))));
+  room = omega arith;
+}
 
 -- the store before the put of another file is sure
 pub to_put_other-sure : IsSure to_put_other byte_records
@@ -111,11 +131,31 @@ stored_other-sure = sure stored_other both_records both-fit refl (omega arith)
 
 -- devices that tell nothing
 pub hidden-opened : IsOpened all_hidden byte_records
-hidden-opened = record { read = record { some = byte-fit.some; in_grammar = byte-fit.all; accepted = byte-fit.accepted; room = byte-fit.room; reads_are = tt }; enough = omega arith }
+hidden-opened = record {
+  read =
+      record {
+        some = byte-fit.some;
+        in_grammar = byte-fit.all;
+        accepted = byte-fit.accepted;
+        room = byte-fit.room;
+        reads_are = tt;
+      };
+  enough = omega arith;
+}
 
 -- devices that tell nothing may be those of a store that was just set up
 pub hidden-fresh : IsOpened all_hidden four_records
-hidden-fresh = record { read = record { some = four-fit.some; in_grammar = four-fit.all; accepted = four-fit.accepted; room = four-fit.room; reads_are = tt }; enough = omega arith }
+hidden-fresh = record {
+  read =
+      record {
+        some = four-fit.some;
+        in_grammar = four-fit.all;
+        accepted = four-fit.accepted;
+        room = four-fit.room;
+        reads_are = tt;
+      };
+  enough = omega arith;
+}
 
 -- the store after the drop that was cut off is sure, without the file
 pub drop_cut-new : IsSure drop_cut dropped_records

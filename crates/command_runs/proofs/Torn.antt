@@ -12,7 +12,8 @@ use Rattle.command_runs.specs.Devices.{started_records, byte_records}
 use Rattle.command_runs.proofs.Stores.{started-fit, byte-fit}
 
 -- an image of bytes around a loose one
-any-gate : (a b : List ℕ) (g : ℕ) (image : List ℕ) → IsImage (firm a ++ (g, true) ∷ firm b) image → (x : ℕ) × (image ≡ a ++ x ∷ b)
+any-gate : (a b : List ℕ) (g : ℕ) (image : List ℕ) → IsImage (firm a ++ (g, true) ∷ firm b) image →
+    (x : ℕ) × (image ≡ a ++ x ∷ b)
 any-gate [] b g [] is = absurd is
 any-gate [] b g (i ∷ image) is = (i, ap (λ l. i ∷ l) (image-firm b image is.1))
 any-gate (x ∷ a) b g [] is = absurd is
@@ -36,7 +37,8 @@ whole : before_gate started_records ++ 1 ∷ behind ≡ text byte_records
 unfolding spelling
 whole = refl
 
-by_gate : (x : ℕ) (image : List ℕ) → image ≡ before_gate started_records ++ x ∷ behind → StandsFor image started_records ⊎ StandsFor image byte_records
+by_gate : (x : ℕ) (image : List ℕ) → image ≡ before_gate started_records ++ x ∷ behind →
+    StandsFor image started_records ⊎ StandsFor image byte_records
 by_gate x image is = elim (cases_Bool (x == 1)) [
   | inl t ↦ inr (record {
     in_grammar = byte-fit.all;
@@ -55,13 +57,27 @@ by_gate x image is = elim (cases_Bool (x == 1)) [
 ]
 
 -- each image of the torn disk stands for the records with the put's last one or without it
-pub torn-image : (image : List ℕ) → IsImage (firm (before_gate started_records) ++ (1, true) ∷ firm behind) image → StandsFor image started_records ⊎ StandsFor image byte_records
-torn-image image is = (let r = any-gate (before_gate started_records) behind 1 image is in by_gate r.0 image r.1)
+pub torn-image : (image : List ℕ) →
+    IsImage (firm (before_gate started_records) ++ (1, true) ∷ firm behind) image →
+    StandsFor image started_records ⊎ StandsFor image byte_records
+torn-image image is =
+    (let r = any-gate (before_gate started_records) behind 1 image is in by_gate r.0 image r.1)
 
 -- a stop may leave the gate closed, or open
-pub stopped-closed : Stopped (firm (before_gate started_records) ++ (1, true) ∷ firm behind) (firm (before_gate started_records ++ 0 ∷ behind))
-stopped-closed = (before_gate started_records ++ 0 ∷ behind, gate-image (before_gate started_records) behind 1 0, refl)
+pub stopped-closed : Stopped (firm (before_gate started_records) ++ (1, true) ∷ firm behind)
+    (firm (before_gate started_records ++ 0 ∷ behind))
+stopped-closed = (
+  before_gate started_records ++ 0 ∷ behind,
+  gate-image (before_gate started_records) behind 1 0,
+  refl,
+)
 
 -- a stop may leave the gate open: the disk then reads the put's last record
-pub stopped-open : Stopped (firm (before_gate started_records) ++ (1, true) ∷ firm behind) (firm (text byte_records))
-stopped-open = (text byte_records, subst (IsImage (firm (before_gate started_records) ++ (1, true) ∷ firm behind)) whole (gate-image (before_gate started_records) behind 1 1), refl)
+pub stopped-open : Stopped (firm (before_gate started_records) ++ (1, true) ∷ firm behind)
+    (firm (text byte_records))
+stopped-open = (
+  text byte_records,
+  subst (IsImage (firm (before_gate started_records) ++ (1, true) ∷ firm behind)) whole
+      (gate-image (before_gate started_records) behind 1 1),
+  refl,
+)

@@ -22,16 +22,20 @@ use Rattle.damage_run.proofs.Steps.{counts, state_21}
 use Rattle.damage_run.proofs.Run.{moments, is_run, writes}
 
 -- a job that runs passes a test that all pass
-test_of : (test : Job → Bool) (js : List Job) (k : ℕ) (j : Job) → job_of js k ≡ Some j → list_all test js ≡ true → test j ≡ true
+test_of : (test : Job → Bool) (js : List Job) (k : ℕ) (j : Job) → job_of js k ≡ Some j →
+    list_all test js ≡ true → test j ≡ true
 test_of test [] k j h all = (let e : None ≡ Some j = h in cc)
-test_of test (x ∷ js) k j h all = (let p = and_parts (test x) (list_all test js) all in elim (cases_Bool (x.number == k)) [
-  | inl t ↦ (let same : x ≡ j = same_value _ x j (cond_true (x.number == k) (Some x) (job_of js k) t) h in ap test (sym same) ∙ p.0)
-  | inr f ↦ test_of test js k j (sym (cond_false (x.number == k) (Some x) (job_of js k) f) ∙ h) p.1
-])
+test_of test (x ∷ js) k j h all =
+    (let p = and_parts (test x) (list_all test js) all in elim (cases_Bool (x.number == k)) [
+      | inl t ↦ (let same : x ≡ j = same_value _ x j (cond_true (x.number == k) (Some x) (job_of js k) t) h in
+          ap test (sym same) ∙ p.0)
+      | inr f ↦ test_of test js k j (sym (cond_false (x.number == k) (Some x) (job_of js k) f) ∙ h) p.1
+    ])
 
 -- calm, as a test
 abbrev pub is_calm_for : Mark → List Moment → State → Job → Bool
-is_calm_for mark ms w job = not (relies job.kind) || nat_le (replaced_count w (mark (first_moments job.begun ms)) ms) (setup_in w).b
+is_calm_for mark ms w job =
+    not (relies job.kind) || nat_le (replaced_count w (mark (first_moments job.begun ms)) ms) (setup_in w).b
 
 abbrev pub is_calm : Mark → List Moment → Bool
 is_calm mark [] = true
@@ -40,8 +44,13 @@ is_calm mark (m ∷ ms) = list_all (is_calm_for mark (m ∷ ms) m.state) m.state
 -- a run that passes the test is calm by the mark
 pub calm_by_test : (mark : Mark) (ms : List Moment) → is_calm mark ms ≡ true → IsCalm relies mark ms
 calm_by_test mark [] h = tt
-calm_by_test mark (m ∷ ms) h = (let p = and_parts (list_all (is_calm_for mark (m ∷ ms) m.state) m.state.jobs) (is_calm mark ms) h in
-    (λ number job at reads. leb-true _ _ (passes (relies job.kind) _ reads (test_of (is_calm_for mark (m ∷ ms) m.state) m.state.jobs number job at p.0)), calm_by_test mark ms p.1))
+calm_by_test mark (m ∷ ms) h =
+    (let p = and_parts (list_all (is_calm_for mark (m ∷ ms) m.state) m.state.jobs) (is_calm mark ms) h in (
+      λ number job at reads. leb-true _ _
+          (passes (relies job.kind) _ reads
+          (test_of (is_calm_for mark (m ∷ ms) m.state) m.state.jobs number job at p.0)),
+      calm_by_test mark ms p.1,
+    ))
   where
     passes : (r b : Bool) → IsTrue r → (not r || b) ≡ true → b ≡ true
     passes true b reads h = h
@@ -70,15 +79,21 @@ only_file true name file h = (let e : file_as name 1 1 0 ≡ file = cc in sym e)
 only_file false name file h = (let e : None ≡ Some file = h in cc)
 
 -- at the audit's begin each provider but the flagged one is right for it
-right_then : (j : ℕ) → is_wrong thing byte j (λ stripe. if (1 == 1) && (stripe == 0) then Some (columns thing byte j 0) else None) ≡ false
+right_then : (j : ℕ) →
+    is_wrong thing byte j
+    (λ stripe. if (1 == 1) && (stripe == 0) then Some (columns thing byte j 0) else None) ≡ false
 unfolding is_wrong
 right_then j = rw (column-right thing byte j 0) refl
 
-unmissed : (j : ℕ) → j < 4 → is_flagged 0 counts j ≡ false → (name : List ℕ) (file : File) → file_in state_21 name ≡ Some file → is_wrong_now state_21 file j ≡ true → ⊥
+unmissed : (j : ℕ) → j < 4 → is_flagged 0 counts j ≡ false → (name : List ℕ) (file : File) →
+    file_in state_21 name ≡ Some file → is_wrong_now state_21 file j ≡ true → ⊥
 unfolding setup_in
-unmissed j low flagged name file at wrong = go j low flagged (subst (λ (f : File). is_wrong_told state_21 f j (state_21.providers j).held ≡ true) (only_file _ name file at) wrong)
+unmissed j low flagged name file at wrong = go j low flagged
+    (subst (λ (f : File). is_wrong_told state_21 f j (state_21.providers j).held ≡ true)
+    (only_file _ name file at) wrong)
   where
-    go : (j : ℕ) → j < 4 → is_flagged 0 counts j ≡ false → is_wrong_told state_21 (file_as name 1 1 0) j (state_21.providers j).held ≡ true → ⊥
+    go : (j : ℕ) → j < 4 → is_flagged 0 counts j ≡ false →
+        is_wrong_told state_21 (file_as name 1 1 0) j (state_21.providers j).held ≡ true → ⊥
     go zero low flagged wrong = false≢true (sym (right_then 0) ∙ wrong)
     go (suc zero) low flagged wrong = false≢true (sym (right_then 1) ∙ wrong)
     go (suc (suc zero)) low flagged wrong = false≢true (sym flagged)
@@ -88,12 +103,180 @@ unmissed j low flagged name file at wrong = go j low flagged (subst (λ (f : Fil
 -- no audit of the run missed damage
 pub found : NoneMissed set_up moments
 unfolding setup_in
-found = (tt, (tt, (tt, (tt, (tt, (tt, (tt, (tt, (tt, (tt, (tt, (tt, (tt, (tt, (tt, (tt, (tt, (tt, (tt, (tt, (tt, (λ j h. unmissed j h.provider h.unflagged h.name h.file h.in_effect h.wrong, (tt, (tt, (tt, (tt, (tt, (tt, (tt, (tt, (tt, (tt, (tt, (tt, (tt, (tt, (tt, (tt, (tt, (tt, (tt, (tt, (tt, (tt, (tt, (tt, (tt, (tt, (tt, (tt, (tt, (tt, (tt, (tt, (tt, (tt, (tt, tt)))))))))))))))))))))))))))))))))))))))))))))))))))))))))
+found = (
+  tt,
+  (
+    tt,
+    (
+      tt,
+      (
+        tt,
+        (
+          tt,
+          (
+            tt,
+            (
+              tt,
+              (
+                tt,
+                (
+                  tt,
+                  (
+                    tt,
+                    (
+                      tt,
+                      (
+                        tt,
+                        (
+                          tt,
+                          (
+                            tt,
+                            (
+                              tt,
+                              (
+                                tt,
+                                (
+                                  tt,
+                                  (
+                                    tt,
+                                    (
+                                      tt,
+                                      (
+                                        tt,
+                                        (
+                                          tt,
+                                          (
+                                            λ j h. unmissed j h.provider h.unflagged h.name h.file h.in_effect h.wrong,
+                                            (
+                                              tt,
+                                              (
+                                                tt,
+                                                (
+                                                  tt,
+                                                  (
+                                                    tt,
+                                                    (
+                                                      tt,
+                                                      (
+                                                        tt,
+                                                        (
+                                                          tt,
+                                                          (
+                                                            tt,
+                                                            (
+                                                              tt,
+                                                              (
+                                                                tt,
+                                                                (
+                                                                  tt,
+                                                                  (
+                                                                    tt,
+                                                                    (
+                                                                      tt,
+                                                                      (
+                                                                        tt,
+                                                                        (
+                                                                          tt,
+                                                                          (
+                                                                            tt,
+                                                                            (
+                                                                              tt,
+                                                                              (
+                                                                                tt,
+                                                                                (
+                                                                                  tt,
+                                                                                  (
+                                                                                    tt,
+                                                                                    (
+                                                                                      tt,
+                                                                                      (
+                                                                                        tt,
+                                                                                        (
+                                                                                          tt,
+                                                                                          (
+                                                                                            tt,
+                                                                                            (
+                                                                                              tt,
+                                                                                              (
+                                                                                                tt,
+                                                                                                (
+                                                                                                  tt,
+                                                                                                  (
+                                                                                                    tt,
+                                                                                                    (
+                                                                                                      tt,
+                                                                                                      (
+                                                                                                        tt,
+                                                                                                        (tt, (tt, (tt, (tt, (tt, tt))))),
+                                                                                                      ),
+                                                                                                    ),
+                                                                                                  ),
+                                                                                                ),
+                                                                                              ),
+                                                                                            ),
+                                                                                          ),
+                                                                                        ),
+                                                                                      ),
+                                                                                    ),
+                                                                                  ),
+                                                                                ),
+                                                                              ),
+                                                                            ),
+                                                                          ),
+                                                                        ),
+                                                                      ),
+                                                                    ),
+                                                                  ),
+                                                                ),
+                                                              ),
+                                                            ),
+                                                          ),
+                                                        ),
+                                                      ),
+                                                    ),
+                                                  ),
+                                                ),
+                                              ),
+                                            ),
+                                          ),
+                                        ),
+                                      ),
+                                    ),
+                                  ),
+                                ),
+                              ),
+                            ),
+                          ),
+                        ),
+                      ),
+                    ),
+                  ),
+                ),
+              ),
+            ),
+          ),
+        ),
+      ),
+    ),
+  ),
+)
 
 -- the run carries out the schedule, is calm, and its audit missed no damage
 pub outright : IsOutright moments
 outright = record {
-  clean = record { records = inr (four, refl, refl); journal = refl; first_area = refl; unswitched = refl; none_alone = refl; jobs = refl; first_job = refl; append = refl; doubt = refl; closed = refl; unbarred = refl };
+  clean = record {
+    records = inr (four, refl, refl);
+    journal = refl;
+    first_area = refl;
+    unswitched = refl;
+    none_alone = refl;
+    jobs = refl;
+    first_job = refl;
+    append = refl;
+    doubt = refl;
+    closed = refl;
+    unbarred = refl;
+  };
   tell = λ j. refl;
   run = is_run;
   carried_out = writes;

@@ -22,7 +22,8 @@ abbrev pub robbed : Provider → Provider
 robbed p = record p { held = option_map (without_block 1 0) p.held }
 
 abbrev after : State
-after = record (at 47 moments) { providers = with_provider (at 47 moments).providers 2 (robbed ((at 47 moments).providers 2)) }
+after = record (at 47 moments)
+    { providers = with_provider (at 47 moments).providers 2 (robbed ((at 47 moments).providers 2)) }
 
 loses : Happens 8 47 (at 47 moments) (Lose 2 1 0) Replaced after
 unfolding setup_in
@@ -45,7 +46,13 @@ calm_run = record {
 
 -- the repair's record is in doubt after the loss
 pub in_doubt : InDoubt after (RepairDone 1)
-in_doubt = record { doubt = doubt_at after; in_doubt = refl; entry_is = refl; job = maker_of (doubt_at after); maker = refl }
+in_doubt = record {
+  doubt = doubt_at after;
+  in_doubt = refl;
+  entry_is = refl;
+  job = maker_of (doubt_at after);
+  maker = refl;
+}
 
 -- provider 2 is wrong for the file after the loss
 pub damaged : IsDamaged after 2

@@ -1,4 +1,5 @@
--- After the run a second block is lost, and a get over what is left is lost: two of four blocks are absent, where one may be wrong.
+-- After the run a second block is lost, and a get over what is left is lost: two of four blocks are absent,
+-- where one may be wrong.
 use Rattle.std.proofs.Common.{ℕ, ◌+◌, ◌<◌, ◌≤◌, ◌^◌, Bool, true, false, cond, List, [], ◌∷◌, Option, Some, None, refl, inl, arith}
 use Rattle.algebra_laws.specs.Poly.{agree as agree_over, is_seen as is_seen_over}
 use Rattle.code_defs.specs.Polynomials.{value, agree, is_seen}
@@ -41,11 +42,18 @@ module _ (p : List ℕ) (a b c d : ℕ) (s t : Option ℕ) where
 pub loses_row : LosesRow thing 0 (None ∷ None ∷ Some (block 2) ∷ Some (block 3) ∷ []) 0
 loses_row = record {
   opened = None ∷ None ∷ shown 2 ∷ shown 3 ∷ [];
-  opens = (refl, (refl, (opens-own thing byte 2 0 (omega arith), (opens-own thing byte 3 0 (omega arith), tt))));
+  opens = (
+    refl,
+    (
+      refl,
+      (opens-own thing byte 2 0 (omega arith), (opens-own thing byte 3 0 (omega arith), tt)),
+    ),
+  );
   place = 0;
   kept = omega arith;
   number = refl;
-  lost = λ p h. (let few = at_most_two p (point thing 0) (point thing 1) (point thing 2) (point thing 3) (symbol_in 0 (shown 2)) (symbol_in 0 (shown 3)) in
+  lost = λ p h. (let few = at_most_two p (point thing 0) (point thing 1) (point thing 2) (point thing 3)
+      (symbol_in 0 (shown 2)) (symbol_in 0 (shown 3)) in
       let many = h.agrees in
       omega (arith, few, many));
   lowest = λ before l. absurd (omega (arith, l));
@@ -54,7 +62,8 @@ loses_row = record {
 -- the states
 abbrev with_fetch : State → ℕ → SeenBlock → State
 with_fetch w j seen = record (going_on w (advanced_with (job_at w 6) (Fetched j 1 0 seen))) {
-  providers = with_provider w.providers j (record (w.providers j) { fetches = one_more (w.providers j).fetches });
+  providers = with_provider w.providers j
+      (record (w.providers j) { fetches = one_more (w.providers j).fetches });
 }
 
 abbrev state_58 : State
@@ -91,19 +100,65 @@ fetched w j = record (w.providers j) { fetches = one_more (w.providers j).fetche
 
 happens_59 : Happens 8 59 state_59 (Step 6) More state_60
 unfolding setup_in actions_of
-happens_59 = (None, (fetched state_59 0, record { held = refl; counts = record { store_faults = refl; other_faults = omega arith; fetches = refl }; gives = inl refl }, refl))
+happens_59 = (
+  None,
+  (
+    fetched state_59 0,
+    record {
+      held = refl;
+      counts = record { store_faults = refl; other_faults = omega arith; fetches = refl };
+      gives = inl refl;
+    },
+    refl,
+  ),
+)
 
 happens_60 : Happens 8 60 state_60 (Step 6) More state_61
 unfolding setup_in actions_of
-happens_60 = (None, (fetched state_60 1, record { held = refl; counts = record { store_faults = refl; other_faults = omega arith; fetches = refl }; gives = inl refl }, refl))
+happens_60 = (
+  None,
+  (
+    fetched state_60 1,
+    record {
+      held = refl;
+      counts = record { store_faults = refl; other_faults = omega arith; fetches = refl };
+      gives = inl refl;
+    },
+    refl,
+  ),
+)
 
 happens_61 : Happens 8 61 state_61 (Step 6) More state_62
 unfolding setup_in actions_of
-happens_61 = (Some (block 2), (fetched state_61 2, record { held = refl; counts = record { store_faults = refl; other_faults = omega arith; fetches = refl }; gives = inl (block_sized 2) }, refl))
+happens_61 = (
+  Some (block 2),
+  (
+    fetched state_61 2,
+    record {
+      held = refl;
+      counts =
+          record { store_faults = refl; other_faults = omega arith; fetches = refl };
+      gives = inl (block_sized 2);
+    },
+    refl,
+  ),
+)
 
 happens_62 : Happens 8 62 state_62 (Step 6) More state_63
 unfolding setup_in actions_of
-happens_62 = (Some (block 3), (fetched state_62 3, record { held = refl; counts = record { store_faults = refl; other_faults = omega arith; fetches = refl }; gives = inl (block_sized 3) }, refl))
+happens_62 = (
+  Some (block 3),
+  (
+    fetched state_62 3,
+    record {
+      held = refl;
+      counts =
+          record { store_faults = refl; other_faults = omega arith; fetches = refl };
+      gives = inl (block_sized 3);
+    },
+    refl,
+  ),
+)
 
 happens_63 : Happens 8 63 state_63 (Step 6) (Ended (Lost 0 0)) state_64
 unfolding setup_in actions_of
@@ -114,13 +169,46 @@ small_6 = omega arith
 
 abbrev pub lost_moments : List Moment
 lost_moments =
-    record { event = Step 6; outcome = Ended (Lost 0 0); state = state_64 } ∷ stepped 6 state_63 ∷ stepped 6 state_62 ∷ stepped 6 state_61 ∷ stepped 6 state_60
-    ∷ record { event = Begin (GetJob name); outcome = Begun 6; state = state_59 } ∷ record { event = Lose 1 1 0; outcome = Replaced; state = state_58 } ∷ moments
+    record {
+      event = Step 6;
+      outcome = Ended (Lost 0 0);
+      state = state_64;
+    } ∷ stepped 6 state_63 ∷ stepped 6 state_62 ∷ stepped 6 state_61 ∷ stepped 6 state_60
+    ∷ record {
+      event = Begin (GetJob name);
+      outcome = Begun 6;
+      state = state_59;
+    } ∷ record { event = Lose 1 1 0; outcome = Replaced; state = state_58 } ∷ moments
 
 -- the run with a second loss and a get is a run
 pub is_lost_run : IsRun 8 set_up lost_moments
-is_lost_run = (small_6, happens_63, (small_6, happens_62, (small_6, happens_61, (small_6, happens_60, (small_6, happens_59, (refl, happens_58, ((omega arith, omega arith, omega arith), happens_57, is_run)))))))
+is_lost_run = (
+  small_6,
+  happens_63,
+  (
+    small_6,
+    happens_62,
+    (
+      small_6,
+      happens_61,
+      (
+        small_6,
+        happens_60,
+        (
+          small_6,
+          happens_59,
+          (refl, happens_58, ((omega arith, omega arith, omega arith), happens_57, is_run)),
+        ),
+      ),
+    ),
+  ),
+)
 
 -- its last event ends that get as lost
 pub get_is_lost : EndsBy lost_moments 63 6 (Lost 0 0)
-get_is_lost = record { moment = record { event = Step 6; outcome = Ended (Lost 0 0); state = state_64 }; is = refl; event = refl; outcome = refl }
+get_is_lost = record {
+  moment = record { event = Step 6; outcome = Ended (Lost 0 0); state = state_64 };
+  is = refl;
+  event = refl;
+  outcome = refl;
+}

@@ -42,13 +42,25 @@ pub points : HasPoints moments
 unfolding setup_in is_wrong
 points = record {
   put_runs = record { job = job_at (at 10 moments) 1; runs = refl; kind_is = refl; place_is = refl };
-  put_in_doubt = record { doubt = doubt_at (at 13 moments); in_doubt = refl; entry_is = refl; job = maker_of (doubt_at (at 13 moments)); maker = refl };
+  put_in_doubt = record {
+    doubt = doubt_at (at 13 moments);
+    in_doubt = refl;
+    entry_is = refl;
+    job = maker_of (doubt_at (at 13 moments));
+    maker = refl;
+  };
   put_came = refl;
   put_ends = record { moment = last_of (first_moments 15 moments); is = refl; event = refl; outcome = refl };
   get_runs = record { job = job_at (at 24 moments) 2; runs = refl; kind_is = refl; place_is = refl };
   get_ends = record { moment = last_of (first_moments 25 moments); is = refl; event = refl; outcome = refl };
   audit_runs = record { job = job_at (at 32 moments) 3; runs = refl; kind_is = refl; place_is = refl };
-  audit_in_doubt = record { doubt = doubt_at (at 35 moments); in_doubt = refl; entry_is = refl; job = maker_of (doubt_at (at 35 moments)); maker = refl };
+  audit_in_doubt = record {
+    doubt = doubt_at (at 35 moments);
+    in_doubt = refl;
+    entry_is = refl;
+    job = maker_of (doubt_at (at 35 moments));
+    maker = refl;
+  };
   audit_came = refl;
   damaged_before = record { file = the_file; in_effect = refl; wrong = refl };
   damaged_in_audit = record { file = the_file; in_effect = refl; wrong = refl };
@@ -58,10 +70,21 @@ points = record {
   repair_runs = record { job = job_at (at 43 moments) 4; runs = refl; kind_is = refl; place_is = refl };
   damaged_in_repair = record { file = the_file; in_effect = refl; wrong = refl };
   repair_stored = record { job = job_at (at 44 moments) 4; runs = refl; kind_is = refl; place_is = refl };
-  repair_in_doubt = record { doubt = doubt_at (at 47 moments); in_doubt = refl; entry_is = refl; job = maker_of (doubt_at (at 47 moments)); maker = refl };
+  repair_in_doubt = record {
+    doubt = doubt_at (at 47 moments);
+    in_doubt = refl;
+    entry_is = refl;
+    job = maker_of (doubt_at (at 47 moments));
+    maker = refl;
+  };
   repair_came = refl;
   mark_before = refl;
   mark_after = refl;
   damaged_again = record { file = the_file; in_effect = refl; wrong = refl };
-  second_ends = record { moment = last_of (first_moments 57 moments); is = refl; event = refl; outcome = refl };
+  second_ends = record {
+    moment = last_of (first_moments 57 moments);
+    is = refl;
+    event = refl;
+    outcome = refl;
+  };
 }

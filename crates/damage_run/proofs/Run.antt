@@ -35,7 +35,51 @@ unfolding setup_in
 begins_put = (refl, refl, refl, refl)
 
 is_stored : IsRun 8 set_up stored
-is_stored = (fits, happens_14, (fits, happens_13, (fits, happens_12, (fits, happens_11, (fits, happens_10, (fits, happens_9, (fits, happens_8, (fits, happens_7, (fits, happens_6, (fits, happens_5, (fits, happens_4, (fits, happens_3, (fits, happens_2, ((refl, refl), begins_put, (tt, happens_0, tt)))))))))))))))
+is_stored = (
+  fits,
+  happens_14,
+  (
+    fits,
+    happens_13,
+    (
+      fits,
+      happens_12,
+      (
+        fits,
+        happens_11,
+        (
+          fits,
+          happens_10,
+          (
+            fits,
+            happens_9,
+            (
+              fits,
+              happens_8,
+              (
+                fits,
+                happens_7,
+                (
+                  fits,
+                  happens_6,
+                  (
+                    fits,
+                    happens_5,
+                    (
+                      fits,
+                      happens_4,
+                      (fits, happens_3, (fits, happens_2, ((refl, refl), begins_put, (tt, happens_0, tt)))),
+                    ),
+                  ),
+                ),
+              ),
+            ),
+          ),
+        ),
+      ),
+    ),
+  ),
+)
 
 -- a get begins and makes its fetches
 abbrev pub until_16 : List Moment
@@ -109,14 +153,56 @@ is_until_25 = (small_2, happens_24, (small_2, happens_23, is_until_23))
 
 -- the audit goes on to its end
 abbrev pub steps_36 : List Moment
-steps_36 = stepped 3 state_36 ∷ stepped 3 state_35 ∷ stepped 3 state_34 ∷ stepped 3 state_33 ∷ stepped 3 state_32 ∷ stepped 3 state_31 ∷ stepped 3 state_30 ∷ stepped 3 state_29 ∷ stepped 3 state_28 ∷ stepped 3 state_27 ∷ stepped 3 state_26 ∷ []
+steps_36 = stepped 3 state_36 ∷ stepped 3 state_35 ∷ stepped 3 state_34 ∷ stepped 3 state_33 ∷ stepped 3
+    state_32 ∷ stepped 3 state_31 ∷ stepped 3 state_30 ∷ stepped 3 state_29 ∷ stepped 3 state_28 ∷ stepped 3
+    state_27 ∷ stepped 3 state_26 ∷ []
 
 abbrev pub until_37 : List Moment
-until_37 = record { event = Step 3; outcome = Ended (Audited 1 0 counts); state = state_37 } ∷ (steps_36 ++ until_25)
+until_37 = record {
+  event = Step 3;
+  outcome = Ended (Audited 1 0 counts);
+  state = state_37;
+} ∷ (steps_36 ++ until_25)
 
 is_until_37 : IsRun 8 set_up until_37
 unfolding setup_in
-is_until_37 = (small_3, happens_36, (small_3, happens_35, (small_3, happens_34, (small_3, happens_33, (small_3, happens_32, (small_3, happens_31, (small_3, happens_30, (small_3, happens_29, (small_3, happens_28, (small_3, happens_27, (small_3, happens_26, (small_3, happens_25, is_until_25))))))))))))
+is_until_37 = (
+  small_3,
+  happens_36,
+  (
+    small_3,
+    happens_35,
+    (
+      small_3,
+      happens_34,
+      (
+        small_3,
+        happens_33,
+        (
+          small_3,
+          happens_32,
+          (
+            small_3,
+            happens_31,
+            (
+              small_3,
+              happens_30,
+              (
+                small_3,
+                happens_29,
+                (
+                  small_3,
+                  happens_28,
+                  (small_3, happens_27, (small_3, happens_26, (small_3, happens_25, is_until_25))),
+                ),
+              ),
+            ),
+          ),
+        ),
+      ),
+    ),
+  ),
+)
 
 -- a repair
 abbrev pub until_38 : List Moment
@@ -127,14 +213,48 @@ unfolding setup_in
 is_until_38 = (tt, happens_37, is_until_37)
 
 abbrev pub steps_48 : List Moment
-steps_48 = stepped 4 state_48 ∷ stepped 4 state_47 ∷ stepped 4 state_46 ∷ stepped 4 state_45 ∷ stepped 4 state_44 ∷ stepped 4 state_43 ∷ stepped 4 state_42 ∷ stepped 4 state_41 ∷ stepped 4 state_40 ∷ stepped 4 state_39 ∷ []
+steps_48 = stepped 4 state_48 ∷ stepped 4 state_47 ∷ stepped 4 state_46 ∷ stepped 4 state_45 ∷ stepped 4
+    state_44 ∷ stepped 4 state_43 ∷ stepped 4 state_42 ∷ stepped 4 state_41 ∷ stepped 4 state_40 ∷ stepped 4
+    state_39 ∷ []
 
 abbrev pub until_49 : List Moment
 until_49 = record { event = Step 4; outcome = Ended (Repaired 1); state = state_49 } ∷ (steps_48 ++ until_38)
 
 is_until_49 : IsRun 8 set_up until_49
 unfolding setup_in
-is_until_49 = (small_4, happens_48, (small_4, happens_47, (small_4, happens_46, (small_4, happens_45, (small_4, happens_44, (small_4, happens_43, (small_4, happens_42, (small_4, happens_41, (small_4, happens_40, (small_4, happens_39, (small_4, happens_38, is_until_38)))))))))))
+is_until_49 = (
+  small_4,
+  happens_48,
+  (
+    small_4,
+    happens_47,
+    (
+      small_4,
+      happens_46,
+      (
+        small_4,
+        happens_45,
+        (
+          small_4,
+          happens_44,
+          (
+            small_4,
+            happens_43,
+            (
+              small_4,
+              happens_42,
+              (
+                small_4,
+                happens_41,
+                (small_4, happens_40, (small_4, happens_39, (small_4, happens_38, is_until_38))),
+              ),
+            ),
+          ),
+        ),
+      ),
+    ),
+  ),
+)
 
 -- another block is lost
 abbrev pub until_50 : List Moment
@@ -153,14 +273,27 @@ unfolding setup_in
 is_until_51 = (refl, happens_50, is_until_50)
 
 abbrev pub steps_56 : List Moment
-steps_56 = stepped 5 state_56 ∷ stepped 5 state_55 ∷ stepped 5 state_54 ∷ stepped 5 state_53 ∷ stepped 5 state_52 ∷ []
+steps_56 = stepped 5 state_56 ∷ stepped 5 state_55 ∷ stepped 5 state_54 ∷ stepped 5 state_53 ∷ stepped 5
+    state_52 ∷ []
 
 abbrev pub until_57 : List Moment
 until_57 = record { event = Step 5; outcome = Ended (Got byte); state = state_57 } ∷ (steps_56 ++ until_51)
 
 is_until_57 : IsRun 8 set_up until_57
 unfolding setup_in
-is_until_57 = (small_5, happens_56, (small_5, happens_55, (small_5, happens_54, (small_5, happens_53, (small_5, happens_52, (small_5, happens_51, is_until_51))))))
+is_until_57 = (
+  small_5,
+  happens_56,
+  (
+    small_5,
+    happens_55,
+    (
+      small_5,
+      happens_54,
+      (small_5, happens_53, (small_5, happens_52, (small_5, happens_51, is_until_51))),
+    ),
+  ),
+)
 
 -- all of it
 abbrev pub moments : List Moment
@@ -180,107 +313,331 @@ writes_15 = stored_lines
 abbrev lines_16 : List ℕ
 lines_16 = lines_15 ++ (codes "job 2" ++ 10 ∷ [])
 
-writes_16 : CarriesOut (Once (Begin (GetJob name)) ∷ RunJob 1 ∷ Once (Begin (PutJob name byte)) ∷ Once Reopen ∷ []) until_16 lines_16
+writes_16 : CarriesOut
+    (Once (Begin (GetJob name)) ∷ RunJob 1 ∷ Once (Begin (PutJob name byte)) ∷ Once Reopen ∷ []) until_16
+    lines_16
 unfolding digits
-writes_16 = (record { event = Begin (GetJob name); outcome = Begun 2; state = state_16 }, stored, lines_15, refl, refl, writes_15, refl)
+writes_16 = (
+  record { event = Begin (GetJob name); outcome = Begun 2; state = state_16 },
+  stored,
+  lines_15,
+  refl,
+  refl,
+  writes_15,
+  refl,
+)
 
 abbrev lines_17 : List ℕ
 lines_17 = lines_16 ++ (codes "more" ++ 10 ∷ [])
 
-writes_17 : CarriesOut (Once (Step 2) ∷ Once (Begin (GetJob name)) ∷ RunJob 1 ∷ Once (Begin (PutJob name byte)) ∷ Once Reopen ∷ []) until_17 lines_17
+writes_17 : CarriesOut
+    (Once (Step 2) ∷ Once (Begin (GetJob name)) ∷ RunJob 1 ∷ Once
+    (Begin (PutJob name byte)) ∷ Once Reopen ∷ []) until_17 lines_17
 unfolding digits
-writes_17 = (record { event = Step 2; outcome = More; state = state_17 }, until_16, lines_16, refl, refl, writes_16, refl)
+writes_17 = (
+  record { event = Step 2; outcome = More; state = state_17 },
+  until_16,
+  lines_16,
+  refl,
+  refl,
+  writes_16,
+  refl,
+)
 
 abbrev lines_18 : List ℕ
 lines_18 = lines_17 ++ (codes "more" ++ 10 ∷ [])
 
-writes_18 : CarriesOut (Once (Step 2) ∷ Once (Step 2) ∷ Once (Begin (GetJob name)) ∷ RunJob 1 ∷ Once (Begin (PutJob name byte)) ∷ Once Reopen ∷ []) until_18 lines_18
+writes_18 : CarriesOut
+    (Once (Step 2) ∷ Once (Step 2) ∷ Once (Begin (GetJob name)) ∷ RunJob 1 ∷ Once
+    (Begin (PutJob name byte)) ∷ Once Reopen ∷ []) until_18 lines_18
 unfolding digits
-writes_18 = (record { event = Step 2; outcome = More; state = state_18 }, until_17, lines_17, refl, refl, writes_17, refl)
+writes_18 = (
+  record { event = Step 2; outcome = More; state = state_18 },
+  until_17,
+  lines_17,
+  refl,
+  refl,
+  writes_17,
+  refl,
+)
 
 abbrev lines_19 : List ℕ
 lines_19 = lines_18 ++ (codes "more" ++ 10 ∷ [])
 
-writes_19 : CarriesOut (Once (Step 2) ∷ Once (Step 2) ∷ Once (Step 2) ∷ Once (Begin (GetJob name)) ∷ RunJob 1 ∷ Once (Begin (PutJob name byte)) ∷ Once Reopen ∷ []) until_19 lines_19
+writes_19 : CarriesOut
+    (Once (Step 2) ∷ Once (Step 2) ∷ Once (Step 2) ∷ Once (Begin (GetJob name)) ∷ RunJob 1 ∷ Once
+    (Begin (PutJob name byte)) ∷ Once Reopen ∷ []) until_19 lines_19
 unfolding digits
-writes_19 = (record { event = Step 2; outcome = More; state = state_19 }, until_18, lines_18, refl, refl, writes_18, refl)
+writes_19 = (
+  record { event = Step 2; outcome = More; state = state_19 },
+  until_18,
+  lines_18,
+  refl,
+  refl,
+  writes_18,
+  refl,
+)
 
 abbrev lines_20 : List ℕ
 lines_20 = lines_19 ++ (codes "more" ++ 10 ∷ [])
 
-writes_20 : CarriesOut (Once (Step 2) ∷ Once (Step 2) ∷ Once (Step 2) ∷ Once (Step 2) ∷ Once (Begin (GetJob name)) ∷ RunJob 1 ∷ Once (Begin (PutJob name byte)) ∷ Once Reopen ∷ []) until_20 lines_20
+writes_20 : CarriesOut
+    (Once (Step 2) ∷ Once (Step 2) ∷ Once (Step 2) ∷ Once (Step 2) ∷ Once
+    (Begin (GetJob name)) ∷ RunJob 1 ∷ Once (Begin (PutJob name byte)) ∷ Once Reopen ∷ []) until_20
+    lines_20
 unfolding digits
-writes_20 = (record { event = Step 2; outcome = More; state = state_20 }, until_19, lines_19, refl, refl, writes_19, refl)
+writes_20 = (
+  record { event = Step 2; outcome = More; state = state_20 },
+  until_19,
+  lines_19,
+  refl,
+  refl,
+  writes_19,
+  refl,
+)
 
 abbrev lines_21 : List ℕ
 lines_21 = lines_20 ++ (codes "replaced" ++ 10 ∷ [])
 
-writes_21 : CarriesOut (Once (Lose 2 1 0) ∷ Once (Step 2) ∷ Once (Step 2) ∷ Once (Step 2) ∷ Once (Step 2) ∷ Once (Begin (GetJob name)) ∷ RunJob 1 ∷ Once (Begin (PutJob name byte)) ∷ Once Reopen ∷ []) until_21 lines_21
+writes_21 : CarriesOut
+    (Once (Lose 2 1 0) ∷ Once (Step 2) ∷ Once (Step 2) ∷ Once (Step 2) ∷ Once (Step 2) ∷ Once
+    (Begin (GetJob name)) ∷ RunJob 1 ∷ Once (Begin (PutJob name byte)) ∷ Once Reopen ∷ []) until_21
+    lines_21
 unfolding digits
-writes_21 = (record { event = Lose 2 1 0; outcome = Replaced; state = state_21 }, until_20, lines_20, refl, refl, writes_20, refl)
+writes_21 = (
+  record { event = Lose 2 1 0; outcome = Replaced; state = state_21 },
+  until_20,
+  lines_20,
+  refl,
+  refl,
+  writes_20,
+  refl,
+)
 
 abbrev lines_22 : List ℕ
 lines_22 = lines_21 ++ (codes "job 3" ++ 10 ∷ [])
 
-writes_22 : CarriesOut (Once (Begin AuditJob) ∷ Once (Lose 2 1 0) ∷ Once (Step 2) ∷ Once (Step 2) ∷ Once (Step 2) ∷ Once (Step 2) ∷ Once (Begin (GetJob name)) ∷ RunJob 1 ∷ Once (Begin (PutJob name byte)) ∷ Once Reopen ∷ []) until_22 lines_22
+writes_22 : CarriesOut
+    (Once (Begin AuditJob) ∷ Once (Lose 2 1 0) ∷ Once (Step 2) ∷ Once (Step 2) ∷ Once (Step 2) ∷ Once
+    (Step 2) ∷ Once (Begin (GetJob name)) ∷ RunJob 1 ∷ Once (Begin (PutJob name byte)) ∷ Once Reopen ∷ [])
+    until_22 lines_22
 unfolding digits
-writes_22 = (record { event = Begin AuditJob; outcome = Begun 3; state = state_22 }, until_21, lines_21, refl, refl, writes_21, refl)
+writes_22 = (
+  record { event = Begin AuditJob; outcome = Begun 3; state = state_22 },
+  until_21,
+  lines_21,
+  refl,
+  refl,
+  writes_21,
+  refl,
+)
 
 abbrev lines_23 : List ℕ
 lines_23 = lines_22 ++ (codes "more" ++ 10 ∷ [])
 
-writes_23 : CarriesOut (Once (Step 3) ∷ Once (Begin AuditJob) ∷ Once (Lose 2 1 0) ∷ Once (Step 2) ∷ Once (Step 2) ∷ Once (Step 2) ∷ Once (Step 2) ∷ Once (Begin (GetJob name)) ∷ RunJob 1 ∷ Once (Begin (PutJob name byte)) ∷ Once Reopen ∷ []) until_23 lines_23
+writes_23 : CarriesOut
+    (Once (Step 3) ∷ Once (Begin AuditJob) ∷ Once (Lose 2 1 0) ∷ Once (Step 2) ∷ Once (Step 2) ∷ Once
+    (Step 2) ∷ Once (Step 2) ∷ Once (Begin (GetJob name)) ∷ RunJob 1 ∷ Once
+    (Begin (PutJob name byte)) ∷ Once Reopen ∷ []) until_23 lines_23
 unfolding digits
-writes_23 = (record { event = Step 3; outcome = More; state = state_23 }, until_22, lines_22, refl, refl, writes_22, refl)
+writes_23 = (
+  record { event = Step 3; outcome = More; state = state_23 },
+  until_22,
+  lines_22,
+  refl,
+  refl,
+  writes_22,
+  refl,
+)
 
 abbrev lines_25 : List ℕ
 lines_25 = lines_23 ++ (codes "got 6f" ++ 10 ∷ [])
 
-writes_25 : CarriesOut (RunJob 2 ∷ Once (Step 3) ∷ Once (Begin AuditJob) ∷ Once (Lose 2 1 0) ∷ Once (Step 2) ∷ Once (Step 2) ∷ Once (Step 2) ∷ Once (Step 2) ∷ Once (Begin (GetJob name)) ∷ RunJob 1 ∷ Once (Begin (PutJob name byte)) ∷ Once Reopen ∷ []) until_25 lines_25
+writes_25 : CarriesOut
+    (RunJob 2 ∷ Once (Step 3) ∷ Once (Begin AuditJob) ∷ Once (Lose 2 1 0) ∷ Once (Step 2) ∷ Once
+    (Step 2) ∷ Once (Step 2) ∷ Once (Step 2) ∷ Once (Begin (GetJob name)) ∷ RunJob 1 ∷ Once
+    (Begin (PutJob name byte)) ∷ Once Reopen ∷ []) until_25 lines_25
 unfolding digits
-writes_25 = (record { event = Step 2; outcome = Ended (Got byte); state = state_25 }, steps_24, until_23, lines_23, refl, record { step = refl; over = not_more (Got byte); before = (refl, refl, tt) }, writes_23, refl)
+writes_25 = (
+  record { event = Step 2; outcome = Ended (Got byte); state = state_25 },
+  steps_24,
+  until_23,
+  lines_23,
+  refl,
+  record { step = refl; over = not_more (Got byte); before = (refl, refl, tt) },
+  writes_23,
+  refl,
+)
 
 abbrev lines_37 : List ℕ
 lines_37 = lines_25 ++ (codes "audited 1 undecided 0 counts 0 0 1 0" ++ 10 ∷ [])
 
-writes_37 : CarriesOut (RunJob 3 ∷ RunJob 2 ∷ Once (Step 3) ∷ Once (Begin AuditJob) ∷ Once (Lose 2 1 0) ∷ Once (Step 2) ∷ Once (Step 2) ∷ Once (Step 2) ∷ Once (Step 2) ∷ Once (Begin (GetJob name)) ∷ RunJob 1 ∷ Once (Begin (PutJob name byte)) ∷ Once Reopen ∷ []) until_37 lines_37
+writes_37 : CarriesOut
+    (RunJob 3 ∷ RunJob 2 ∷ Once (Step 3) ∷ Once (Begin AuditJob) ∷ Once (Lose 2 1 0) ∷ Once (Step 2) ∷ Once
+    (Step 2) ∷ Once (Step 2) ∷ Once (Step 2) ∷ Once (Begin (GetJob name)) ∷ RunJob 1 ∷ Once
+    (Begin (PutJob name byte)) ∷ Once Reopen ∷ []) until_37 lines_37
 unfolding digits
-writes_37 = (record { event = Step 3; outcome = Ended (Audited 1 0 counts); state = state_37 }, steps_36, until_25, lines_25, refl, record { step = refl; over = not_more (Audited 1 0 counts); before = (refl, refl, (refl, refl, (refl, refl, (refl, refl, (refl, refl, (refl, refl, (refl, refl, (refl, refl, (refl, refl, (refl, refl, (refl, refl, tt))))))))))) }, writes_25, refl)
+writes_37 = (
+  record { event = Step 3; outcome = Ended (Audited 1 0 counts); state = state_37 },
+  steps_36,
+  until_25,
+  lines_25,
+  refl,
+  record {
+    step = refl;
+    over = not_more (Audited 1 0 counts);
+    before = (
+      refl,
+      refl,
+      (
+        refl,
+        refl,
+        (
+          refl,
+          refl,
+          (
+            refl,
+            refl,
+            (
+              refl,
+              refl,
+              (refl, refl, (refl, refl, (refl, refl, (refl, refl, (refl, refl, (refl, refl, tt)))))),
+            ),
+          ),
+        ),
+      ),
+    );
+  },
+  writes_25,
+  refl,
+)
 
 abbrev lines_38 : List ℕ
 lines_38 = lines_37 ++ (codes "job 4" ++ 10 ∷ [])
 
-writes_38 : CarriesOut (Once (Begin RepairJob) ∷ RunJob 3 ∷ RunJob 2 ∷ Once (Step 3) ∷ Once (Begin AuditJob) ∷ Once (Lose 2 1 0) ∷ Once (Step 2) ∷ Once (Step 2) ∷ Once (Step 2) ∷ Once (Step 2) ∷ Once (Begin (GetJob name)) ∷ RunJob 1 ∷ Once (Begin (PutJob name byte)) ∷ Once Reopen ∷ []) until_38 lines_38
+writes_38 : CarriesOut
+    (Once (Begin RepairJob) ∷ RunJob 3 ∷ RunJob 2 ∷ Once (Step 3) ∷ Once (Begin AuditJob) ∷ Once
+    (Lose 2 1 0) ∷ Once (Step 2) ∷ Once (Step 2) ∷ Once (Step 2) ∷ Once (Step 2) ∷ Once
+    (Begin (GetJob name)) ∷ RunJob 1 ∷ Once (Begin (PutJob name byte)) ∷ Once Reopen ∷ []) until_38
+    lines_38
 unfolding digits
-writes_38 = (record { event = Begin RepairJob; outcome = Begun 4; state = state_38 }, until_37, lines_37, refl, refl, writes_37, refl)
+writes_38 = (
+  record { event = Begin RepairJob; outcome = Begun 4; state = state_38 },
+  until_37,
+  lines_37,
+  refl,
+  refl,
+  writes_37,
+  refl,
+)
 
 abbrev lines_49 : List ℕ
 lines_49 = lines_38 ++ (codes "repaired 1" ++ 10 ∷ [])
 
-writes_49 : CarriesOut (RunJob 4 ∷ Once (Begin RepairJob) ∷ RunJob 3 ∷ RunJob 2 ∷ Once (Step 3) ∷ Once (Begin AuditJob) ∷ Once (Lose 2 1 0) ∷ Once (Step 2) ∷ Once (Step 2) ∷ Once (Step 2) ∷ Once (Step 2) ∷ Once (Begin (GetJob name)) ∷ RunJob 1 ∷ Once (Begin (PutJob name byte)) ∷ Once Reopen ∷ []) until_49 lines_49
+writes_49 : CarriesOut
+    (RunJob 4 ∷ Once (Begin RepairJob) ∷ RunJob 3 ∷ RunJob 2 ∷ Once (Step 3) ∷ Once (Begin AuditJob) ∷ Once
+    (Lose 2 1 0) ∷ Once (Step 2) ∷ Once (Step 2) ∷ Once (Step 2) ∷ Once (Step 2) ∷ Once
+    (Begin (GetJob name)) ∷ RunJob 1 ∷ Once (Begin (PutJob name byte)) ∷ Once Reopen ∷ []) until_49
+    lines_49
 unfolding digits
-writes_49 = (record { event = Step 4; outcome = Ended (Repaired 1); state = state_49 }, steps_48, until_38, lines_38, refl, record { step = refl; over = not_more (Repaired 1); before = (refl, refl, (refl, refl, (refl, refl, (refl, refl, (refl, refl, (refl, refl, (refl, refl, (refl, refl, (refl, refl, (refl, refl, tt)))))))))) }, writes_38, refl)
+writes_49 = (
+  record { event = Step 4; outcome = Ended (Repaired 1); state = state_49 },
+  steps_48,
+  until_38,
+  lines_38,
+  refl,
+  record {
+    step = refl;
+    over = not_more (Repaired 1);
+    before = (
+      refl,
+      refl,
+      (
+        refl,
+        refl,
+        (
+          refl,
+          refl,
+          (
+            refl,
+            refl,
+            (
+              refl,
+              refl,
+              (refl, refl, (refl, refl, (refl, refl, (refl, refl, (refl, refl, tt))))),
+            ),
+          ),
+        ),
+      ),
+    );
+  },
+  writes_38,
+  refl,
+)
 
 abbrev lines_50 : List ℕ
 lines_50 = lines_49 ++ (codes "replaced" ++ 10 ∷ [])
 
-writes_50 : CarriesOut (Once (Lose 0 1 0) ∷ RunJob 4 ∷ Once (Begin RepairJob) ∷ RunJob 3 ∷ RunJob 2 ∷ Once (Step 3) ∷ Once (Begin AuditJob) ∷ Once (Lose 2 1 0) ∷ Once (Step 2) ∷ Once (Step 2) ∷ Once (Step 2) ∷ Once (Step 2) ∷ Once (Begin (GetJob name)) ∷ RunJob 1 ∷ Once (Begin (PutJob name byte)) ∷ Once Reopen ∷ []) until_50 lines_50
+writes_50 : CarriesOut
+    (Once (Lose 0 1 0) ∷ RunJob 4 ∷ Once (Begin RepairJob) ∷ RunJob 3 ∷ RunJob 2 ∷ Once (Step 3) ∷ Once
+    (Begin AuditJob) ∷ Once (Lose 2 1 0) ∷ Once (Step 2) ∷ Once (Step 2) ∷ Once (Step 2) ∷ Once
+    (Step 2) ∷ Once (Begin (GetJob name)) ∷ RunJob 1 ∷ Once (Begin (PutJob name byte)) ∷ Once Reopen ∷ [])
+    until_50 lines_50
 unfolding digits
-writes_50 = (record { event = Lose 0 1 0; outcome = Replaced; state = state_50 }, until_49, lines_49, refl, refl, writes_49, refl)
+writes_50 = (
+  record { event = Lose 0 1 0; outcome = Replaced; state = state_50 },
+  until_49,
+  lines_49,
+  refl,
+  refl,
+  writes_49,
+  refl,
+)
 
 abbrev lines_51 : List ℕ
 lines_51 = lines_50 ++ (codes "job 5" ++ 10 ∷ [])
 
-writes_51 : CarriesOut (Once (Begin (GetJob name)) ∷ Once (Lose 0 1 0) ∷ RunJob 4 ∷ Once (Begin RepairJob) ∷ RunJob 3 ∷ RunJob 2 ∷ Once (Step 3) ∷ Once (Begin AuditJob) ∷ Once (Lose 2 1 0) ∷ Once (Step 2) ∷ Once (Step 2) ∷ Once (Step 2) ∷ Once (Step 2) ∷ Once (Begin (GetJob name)) ∷ RunJob 1 ∷ Once (Begin (PutJob name byte)) ∷ Once Reopen ∷ []) until_51 lines_51
+writes_51 : CarriesOut
+    (Once (Begin (GetJob name)) ∷ Once (Lose 0 1 0) ∷ RunJob 4 ∷ Once
+    (Begin RepairJob) ∷ RunJob 3 ∷ RunJob 2 ∷ Once (Step 3) ∷ Once (Begin AuditJob) ∷ Once
+    (Lose 2 1 0) ∷ Once (Step 2) ∷ Once (Step 2) ∷ Once (Step 2) ∷ Once (Step 2) ∷ Once
+    (Begin (GetJob name)) ∷ RunJob 1 ∷ Once (Begin (PutJob name byte)) ∷ Once Reopen ∷ []) until_51
+    lines_51
 unfolding digits
-writes_51 = (record { event = Begin (GetJob name); outcome = Begun 5; state = state_51 }, until_50, lines_50, refl, refl, writes_50, refl)
+writes_51 = (
+  record { event = Begin (GetJob name); outcome = Begun 5; state = state_51 },
+  until_50,
+  lines_50,
+  refl,
+  refl,
+  writes_50,
+  refl,
+)
 
 abbrev lines_57 : List ℕ
 lines_57 = lines_51 ++ (codes "got 6f" ++ 10 ∷ [])
 
-writes_57 : CarriesOut (RunJob 5 ∷ Once (Begin (GetJob name)) ∷ Once (Lose 0 1 0) ∷ RunJob 4 ∷ Once (Begin RepairJob) ∷ RunJob 3 ∷ RunJob 2 ∷ Once (Step 3) ∷ Once (Begin AuditJob) ∷ Once (Lose 2 1 0) ∷ Once (Step 2) ∷ Once (Step 2) ∷ Once (Step 2) ∷ Once (Step 2) ∷ Once (Begin (GetJob name)) ∷ RunJob 1 ∷ Once (Begin (PutJob name byte)) ∷ Once Reopen ∷ []) until_57 lines_57
+writes_57 : CarriesOut
+    (RunJob 5 ∷ Once (Begin (GetJob name)) ∷ Once (Lose 0 1 0) ∷ RunJob 4 ∷ Once
+    (Begin RepairJob) ∷ RunJob 3 ∷ RunJob 2 ∷ Once (Step 3) ∷ Once (Begin AuditJob) ∷ Once
+    (Lose 2 1 0) ∷ Once (Step 2) ∷ Once (Step 2) ∷ Once (Step 2) ∷ Once (Step 2) ∷ Once
+    (Begin (GetJob name)) ∷ RunJob 1 ∷ Once (Begin (PutJob name byte)) ∷ Once Reopen ∷ []) until_57
+    lines_57
 unfolding digits
-writes_57 = (record { event = Step 5; outcome = Ended (Got byte); state = state_57 }, steps_56, until_51, lines_51, refl, record { step = refl; over = not_more (Got byte); before = (refl, refl, (refl, refl, (refl, refl, (refl, refl, (refl, refl, tt))))) }, writes_51, refl)
+writes_57 = (
+  record { event = Step 5; outcome = Ended (Got byte); state = state_57 },
+  steps_56,
+  until_51,
+  lines_51,
+  refl,
+  record {
+    step = refl;
+    over = not_more (Got byte);
+    before = (refl, refl, (refl, refl, (refl, refl, (refl, refl, (refl, refl, tt)))));
+  },
+  writes_51,
+  refl,
+)
 
 -- the moments carry out the schedule and write its lines
 pub writes : CarriesOut schedule moments written_lines

@@ -1,4 +1,5 @@
--- What the providers hold and answer in the run: the blocks of a file of one byte over four providers, one of which is lost.
+-- What the providers hold and answer in the run: the blocks of a file of one byte over four providers, one of
+-- which is lost.
 use Rattle.column_defs.specs.Forgeries.{count_of}
 use Rattle.std.proofs.Common.{◌≡◌, ℕ, ◌/◌, ◌%◌, ◌<◌, true, false, ◌&&◌, List, [], ◌∷◌, Option, Some, None, refl, ap, sym, ◌∙◌, inl, arith, zero, suc, ◌≤◌}
 use Rattle.std.specs.Prelude.{is_some, unwrap_or, if◌then◌else◌}
@@ -36,18 +37,29 @@ is_right : (j : ℕ) → is_wrong_block thing byte j 0 (Some (block j)) ≡ fals
 is_right j = column-right thing byte j 0
 
 -- without the block of provider 2 the others open to the file's symbols
-pub without_two_give : GivesSymbols thing 0 (Some (block 0) ∷ Some (block 1) ∷ None ∷ Some (block 3) ∷ []) symbols
-without_two_give = given-right thing byte 0 0 (Some (block 0) ∷ Some (block 1) ∷ None ∷ Some (block 3) ∷ []) (shown 0 ∷ shown 1 ∷ None ∷ shown 3 ∷ []) refl
+pub without_two_give : GivesSymbols thing 0 (Some (block 0) ∷ Some (block 1) ∷ None ∷ Some (block 3) ∷ [])
+    symbols
+without_two_give = given-right thing byte 0 0 (Some (block 0) ∷ Some (block 1) ∷ None ∷ Some (block 3) ∷ [])
+    (shown 0 ∷ shown 1 ∷ None ∷ shown 3 ∷ []) refl
     (omega arith, omega arith, omega arith, omega arith, omega arith)
-    (rw (is_right 0, is_right 1, is_right 3) (omega arith))
-    (opens-own thing byte 0 0 (omega arith), (opens-own thing byte 1 0 (omega arith), (refl, (opens-own thing byte 3 0 (omega arith), tt))))
+    (rw (is_right 0, is_right 1, is_right 3) (omega arith)) (
+      opens-own thing byte 0 0 (omega arith),
+      (opens-own thing byte 1 0 (omega arith), (refl, (opens-own thing byte 3 0 (omega arith), tt))),
+    )
 
 -- without the block of provider 0 the others open to the file's symbols
-pub without_zero_give : GivesSymbols thing 0 (None ∷ Some (block 1) ∷ Some (block 2) ∷ Some (block 3) ∷ []) symbols
-without_zero_give = given-right thing byte 0 0 (None ∷ Some (block 1) ∷ Some (block 2) ∷ Some (block 3) ∷ []) (None ∷ shown 1 ∷ shown 2 ∷ shown 3 ∷ []) refl
+pub without_zero_give : GivesSymbols thing 0 (None ∷ Some (block 1) ∷ Some (block 2) ∷ Some (block 3) ∷ [])
+    symbols
+without_zero_give = given-right thing byte 0 0 (None ∷ Some (block 1) ∷ Some (block 2) ∷ Some (block 3) ∷ [])
+    (None ∷ shown 1 ∷ shown 2 ∷ shown 3 ∷ []) refl
     (omega arith, omega arith, omega arith, omega arith, omega arith)
-    (rw (is_right 1, is_right 2, is_right 3) (omega arith))
-    (refl, (opens-own thing byte 1 0 (omega arith), (opens-own thing byte 2 0 (omega arith), (opens-own thing byte 3 0 (omega arith), tt))))
+    (rw (is_right 1, is_right 2, is_right 3) (omega arith)) (
+      refl,
+      (
+        opens-own thing byte 1 0 (omega arith),
+        (opens-own thing byte 2 0 (omega arith), (opens-own thing byte 3 0 (omega arith), tt)),
+      ),
+    )
 
 -- ---- what the audit asks and hears
 
@@ -61,9 +73,11 @@ right j = right_answer thing byte j asked
 
 -- an answer to one pick comes of the symbol in the picked row
 abbrev by_symbol : Option ℕ → Option ℕ
-by_symbol s = if true && is_some s then Some (nim_add 0 (nim_mul (nim_pow (alpha asked.seed) 1) (unwrap_or s 0))) else None
+by_symbol s = if true && is_some s then Some
+    (nim_add 0 (nim_mul (nim_pow (alpha asked.seed) 1) (unwrap_or s 0))) else None
 
-answer_by : (held : ℕ → Option (List ℕ)) → honest_answer asked held ≡ by_symbol (held_symbol 6 held (picked_row asked.seed 6 0))
+answer_by : (held : ℕ → Option (List ℕ)) → honest_answer asked held
+    ≡ by_symbol (held_symbol 6 held (picked_row asked.seed 6 0))
 unfolding all_held sum_over
 answer_by held = refl
 
@@ -76,11 +90,13 @@ first_block = below _
     below x = omega arith
 
 -- so only the first block tells
-pub same_first : (held other : ℕ → Option (List ℕ)) → held 0 ≡ other 0 → honest_answer asked held ≡ honest_answer asked other
+pub same_first : (held other : ℕ → Option (List ℕ)) → held 0 ≡ other 0 →
+    honest_answer asked held ≡ honest_answer asked other
 same_first held other same = answer_by held ∙ (ap by_symbol at ∙ sym (answer_by other))
   where
     at : held_symbol 6 held (picked_row asked.seed 6 0) ≡ held_symbol 6 other (picked_row asked.seed 6 0)
-    at = (let a : held (picked_row asked.seed 6 0 / 6) ≡ other (picked_row asked.seed 6 0 / 6) = ap held first_block ∙ (same ∙ ap other (sym first_block)) in
+    at = (let a : held (picked_row asked.seed 6 0 / 6) ≡ other (picked_row asked.seed 6 0 / 6) =
+        ap held first_block ∙ (same ∙ ap other (sym first_block)) in
         rw a refl)
 
 -- a provider without its block has no answer
@@ -99,24 +115,28 @@ heard = right 0 ∷ right 1 ∷ None ∷ right 3 ∷ []
 pub decider : List ℕ
 decider = right_row thing byte asked
 
-seen_there : (j : ℕ) (s : Option ℕ) → s ≡ Some (value decider (point thing j)) → is_seen (value decider (point thing j)) s ≡ true
+seen_there : (j : ℕ) (s : Option ℕ) → s ≡ Some (value decider (point thing j)) →
+    is_seen (value decider (point thing j)) s ≡ true
 unfolding is_seen_over
 seen_there j s e = rw e (nim_laws.eq_refl (value decider (point thing j)))
 
 -- of four places one is absent, and the others agree
-module _ (p : List ℕ) (a b c d : ℕ) (r s t : Option ℕ) (at_a : is_seen (value p a) r ≡ true) (at_b : is_seen (value p b) s ≡ true) (at_d : is_seen (value p d) t ≡ true) where
+module _ (p : List ℕ) (a b c d : ℕ) (r s t : Option ℕ) (at_a : is_seen (value p a) r ≡ true)
+    (at_b : is_seen (value p b) s ≡ true) (at_d : is_seen (value p d) t ≡ true) where
   three_agree : agree p (a ∷ b ∷ c ∷ d ∷ []) (r ∷ s ∷ None ∷ t ∷ []) ≡ 3
   unfolding agree_over is_seen_over
   three_agree = rw (at_a, at_b, at_d) refl
 
-  one_counts : counts_after p (a ∷ b ∷ c ∷ d ∷ []) (r ∷ s ∷ None ∷ t ∷ []) (0 ∷ 0 ∷ 0 ∷ 0 ∷ []) ≡ 0 ∷ 0 ∷ 1 ∷ 0 ∷ []
+  one_counts : counts_after p (a ∷ b ∷ c ∷ d ∷ []) (r ∷ s ∷ None ∷ t ∷ []) (0 ∷ 0 ∷ 0 ∷ 0 ∷ [])
+      ≡ 0 ∷ 0 ∷ 1 ∷ 0 ∷ []
   unfolding is_seen_over
   one_counts = rw (at_a, at_b, at_d) refl
 
 -- the right answer of each provider is the value of that row at its point
 pub agrees_at : (j : ℕ) → is_seen (value decider (point thing j)) (bare_answer thing asked j (right j)) ≡ true
 unfolding decider
-agrees_at j = seen_there j (bare_answer thing asked j (right j)) ((IsRightRow-right_row thing byte asked (omega arith) refl).values j)
+agrees_at j = seen_there j (bare_answer thing asked j (right j))
+    ((IsRightRow-right_row thing byte asked (omega arith) refl).values j)
 
 -- the sums of the audit
 abbrev pub sums : Sums
@@ -129,10 +149,15 @@ judged = inl (
   decider,
   record {
     degree = (IsRightRow-right_row thing byte asked (omega arith) refl).degree;
-    agrees = (let e = three_agree decider (point thing 0) (point thing 1) (point thing 2) (point thing 3) (bare_answer thing asked 0 (right 0)) (bare_answer thing asked 1 (right 1)) (bare_answer thing asked 3 (right 3)) (agrees_at 0) (agrees_at 1) (agrees_at 3) in
+    agrees = (let e = three_agree decider (point thing 0) (point thing 1) (point thing 2) (point thing 3)
+        (bare_answer thing asked 0 (right 0)) (bare_answer thing asked 1 (right 1))
+        (bare_answer thing asked 3 (right 3)) (agrees_at 0) (agrees_at 1) (agrees_at 3) in
         omega (arith, e));
   },
-  ap (λ l. record { counts = l; undecided = 0 }) (sym (one_counts decider (point thing 0) (point thing 1) (point thing 2) (point thing 3) (bare_answer thing asked 0 (right 0)) (bare_answer thing asked 1 (right 1)) (bare_answer thing asked 3 (right 3)) (agrees_at 0) (agrees_at 1) (agrees_at 3))),
+  ap (λ l. record { counts = l; undecided = 0 })
+      (sym (one_counts decider (point thing 0) (point thing 1) (point thing 2) (point thing 3)
+      (bare_answer thing asked 0 (right 0)) (bare_answer thing asked 1 (right 1))
+      (bare_answer thing asked 3 (right 3)) (agrees_at 0) (agrees_at 1) (agrees_at 3))),
 )
 
 -- ---- the file, of blocks one of which is absent
@@ -141,7 +166,8 @@ judged = inl (
 pub opens_file : OpensFile thing 1 without_two byte
 opens_file = record { symbols = λ stripe. symbols_in thing byte stripe; given = given; cut = byte_back }
   where
-    given : (stripe : ℕ) → stripe < 1 → GivesSymbols thing stripe (without_two stripe) (symbols_in thing byte stripe)
+    given : (stripe : ℕ) → stripe < 1 →
+        GivesSymbols thing stripe (without_two stripe) (symbols_in thing byte stripe)
     given zero l = without_two_give
     given (suc stripe) l = absurd (omega (arith, l))
 

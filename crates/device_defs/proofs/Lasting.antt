@@ -1,4 +1,5 @@
--- What a disk that tells its cells says of their images, what a provider or a disk goes on telling, and counts of faults that rose.
+-- What a disk that tells its cells says of their images, what a provider or a disk goes on telling, and
+-- counts of faults that rose.
 use Rattle.std.proofs.Common.{◌≡◌, ℕ, ◌≤◌, List, [], ◌∷◌, Option, None, Some, refl, ap, sym, inl, inr, arith}
 use Rattle.std.proofs.lemmas.Bool.{cases_lt}
 use Rattle.std.specs.Prelude.{is_some}
@@ -16,7 +17,8 @@ rose-before a b c l m rose below = elim (cases_lt b last_count) [
 ]
 
 -- a disk that went on as before goes on telling
-pub is_some-goes : {A : Type 0} (step : A → A → Type 0) (old new : Option A) → Goes step old new → is_some new ≡ is_some old
+pub is_some-goes : {A : Type 0} (step : A → A → Type 0) (old new : Option A) → Goes step old new →
+    is_some new ≡ is_some old
 is_some-goes step None None g = refl
 is_some-goes step (Some old) (Some new) g = refl
 is_some-goes step None (Some new) g = absurd g
@@ -40,6 +42,7 @@ image-firm (b ∷ bytes) [] is = absurd is
 image-firm (b ∷ bytes) (i ∷ image) is = (λ k. is.0 refl k ∷ image-firm bytes image is.1 k)
 
 -- a weaker fact of each image
-pub each_image-mono : (told : Option Cells) (P Q : List ℕ → Type 0) → ((image : List ℕ) → P image → Q image) → EachImage told P → EachImage told Q
+pub each_image-mono : (told : Option Cells) (P Q : List ℕ → Type 0) → ((image : List ℕ) → P image → Q image) →
+    EachImage told P → EachImage told Q
 each_image-mono None P Q step all = tt
 each_image-mono (Some cells) P Q step all = λ image of. step image (all image of)

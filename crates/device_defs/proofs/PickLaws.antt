@@ -6,12 +6,15 @@ use Rattle.device_defs.specs.Images.{IsImage}
 use Rattle.device_defs.specs.Picks.{picked, picks_for}
 
 -- each image is made by the picks that are read off it
-pub picked-picks_for : (cells : Cells) (image : List ℕ) → IsImage cells image → picked cells (picks_for cells image) ≡ image
+pub picked-picks_for : (cells : Cells) (image : List ℕ) → IsImage cells image →
+    picked cells (picks_for cells image) ≡ image
 picked-picks_for [] [] is = refl
 picked-picks_for [] (i ∷ image) is = absurd is
 picked-picks_for (c ∷ cells) [] is = absurd is
-picked-picks_for ((b, false) ∷ cells) (i ∷ image) is = (λ k. sym (is.0 refl) k ∷ picked-picks_for cells image is.1 k)
-picked-picks_for ((b, true) ∷ cells) (i ∷ image) is = ap (λ (l : List ℕ). i ∷ l) (picked-picks_for cells image is.1)
+picked-picks_for ((b, false) ∷ cells) (i ∷ image) is =
+    (λ k. sym (is.0 refl) k ∷ picked-picks_for cells image is.1 k)
+picked-picks_for ((b, true) ∷ cells) (i ∷ image) is =
+    ap (λ (l : List ℕ). i ∷ l) (picked-picks_for cells image is.1)
 
 -- whatever is picked, what comes of it is an image
 pub IsImage-picked : (cells : Cells) (picks : List ℕ) → IsImage cells (picked cells picks)
@@ -33,14 +36,22 @@ length-picked ((b, true) ∷ cells) [] = ap suc (length-picked cells [])
 length-picked ((b, true) ∷ cells) (p ∷ picks) = ap suc (length-picked cells picks)
 
 -- what holds of all bytes of an image holds of the picks read off it
-pub All-picks_for : (P : ℕ → Type 0) (cells : Cells) (image : List ℕ) → All P image → All P (picks_for cells image)
+pub All-picks_for : (P : ℕ → Type 0) (cells : Cells) (image : List ℕ) → All P image →
+    All P (picks_for cells image)
 All-picks_for P [] image all = All-nil P
 All-picks_for P (c ∷ cells) [] all = All-nil P
 All-picks_for P ((b, false) ∷ cells) (i ∷ image) all = All-picks_for P cells image (All-tail P i image all)
-All-picks_for P ((b, true) ∷ cells) (i ∷ image) all = All-cons P i (picks_for cells image) (All-head P i image all) (All-picks_for P cells image (All-tail P i image all))
+All-picks_for P ((b, true) ∷ cells) (i ∷ image) all =
+    All-cons P i (picks_for cells image) (All-head P i image all)
+    (All-picks_for P cells image (All-tail P i image all))
 
-All-picked : (P : ℕ → Type 0) (cells : Cells) (picks : List ℕ) → All P (reads cells) → All P picks → All P (picked cells picks)
+All-picked : (P : ℕ → Type 0) (cells : Cells) (picks : List ℕ) → All P (reads cells) → All P picks →
+    All P (picked cells picks)
 All-picked P [] picks all ps = All-nil P
-All-picked P ((b, false) ∷ cells) picks all ps = All-cons P b (picked cells picks) (All-head P b (reads cells) all) (All-picked P cells picks (All-tail P b (reads cells) all) ps)
-All-picked P ((b, true) ∷ cells) [] all ps = All-cons P b (picked cells []) (All-head P b (reads cells) all) (All-picked P cells [] (All-tail P b (reads cells) all) ps)
-All-picked P ((b, true) ∷ cells) (p ∷ picks) all ps = All-cons P p (picked cells picks) (All-head P p picks ps) (All-picked P cells picks (All-tail P b (reads cells) all) (All-tail P p picks ps))
+All-picked P ((b, false) ∷ cells) picks all ps = All-cons P b (picked cells picks)
+    (All-head P b (reads cells) all) (All-picked P cells picks (All-tail P b (reads cells) all) ps)
+All-picked P ((b, true) ∷ cells) [] all ps = All-cons P b (picked cells []) (All-head P b (reads cells) all)
+    (All-picked P cells [] (All-tail P b (reads cells) all) ps)
+All-picked P ((b, true) ∷ cells) (p ∷ picks) all ps =
+    All-cons P p (picked cells picks) (All-head P p picks ps)
+    (All-picked P cells picks (All-tail P b (reads cells) all) (All-tail P p picks ps))

@@ -13,7 +13,8 @@ values_more : (p points : List ℕ) (k x : ℕ) → k < length points → x ≡ 
     values_at (take (k + 1) points) p ≡ values_at (take k points) p ++ value p x ∷ []
 values_more p points k x lt read =
     let is_x : get_or points k 0 ≡ x = sym (get_or_read points k x lt read 0) in
-    let more : take (k + 1) points ≡ take k points ++ x ∷ [] = take_more points k 0 lt ∙ ap (λ (y : ℕ). take k points ++ y ∷ []) is_x in
+    let more : take (k + 1) points ≡ take k points ++ x ∷ [] = take_more points k 0 lt
+    ∙ ap (λ (y : ℕ). take k points ++ y ∷ []) is_x in
     rw more (map-append (value p) (take k points) (x ∷ []))
 
 -- the values of a polynomial without zeros at its end
@@ -23,7 +24,8 @@ values-trim p (x ∷ points) = cc (value-trim nim nim_laws p x, values-trim p po
 
 -- the values at all points are the row
 pub row_is : (points primary out rest : List ℕ) (k : ℕ) → length points ≤ k → length out ≡ length points →
-    rest ≡ trim (interpolate (take (length primary) points) primary) → take k out ≡ values_at (take k points) rest → out ≡ row_of points primary
+    rest ≡ trim (interpolate (take (length primary) points) primary) →
+    take k out ≡ values_at (take k points) rest → out ≡ row_of points primary
 row_is points primary out rest k past even is_rest done =
     let all_points : take k points ≡ points = take_all k points past in
     let all_out : take k out ≡ out = take_all k out (omega arith) in

@@ -19,8 +19,10 @@ present_at_most [] = omega arith
 present_at_most (None ∷ ss) = omega (arith, present_at_most ss)
 present_at_most (Some s ∷ ss) = omega (arith, present_at_most ss)
 
-module _ (n l b : ℕ) (points : List ℕ) (seen : List (Option ℕ)) (p q : List ℕ) (shape : IsShape n l b) (apart : Apart points)
-    (even : length points ≡ length seen) (whole : length seen ≡ n) (first : Accepts points seen l b p) (second : Accepts points seen l b q) where
+module _ (n l b : ℕ) (points : List ℕ) (seen : List (Option ℕ)) (p q : List ℕ) (shape : IsShape n l b)
+    (apart : Apart points)
+    (even : length points ≡ length seen) (whole : length seen ≡ n) (first : Accepts points seen l b p)
+    (second : Accepts points seen l b q) where
   -- the sum of two accepted polynomials is zero
   pub sum_zero : Each (λ (a : ℕ). a ≡ 0) (plus p q)
   sum_zero = unique nim nim_laws p q points seen l apart first.degree second.degree

@@ -14,21 +14,30 @@ use Rattle.upgrade_run.proofs.Run.{moments}
 abbrev is_scrub_calm_for : Mark → List Moment → State → Option Alone → Bool
 is_scrub_calm_for mark ms w None = true
 is_scrub_calm_for mark ms w (Some (Packing pack)) = true
-is_scrub_calm_for mark ms w (Some (Scrubbing scrub)) = nat_le (replaced_count w (mark (first_moments scrub.begun ms)) ms) (setup_in w).b
+is_scrub_calm_for mark ms w (Some (Scrubbing scrub)) =
+    nat_le (replaced_count w (mark (first_moments scrub.begun ms)) ms) (setup_in w).b
 
 abbrev are_scrubs_calm : Mark → List Moment → Bool
 are_scrubs_calm mark [] = true
-are_scrubs_calm mark (m ∷ ms) = is_scrub_calm_for mark (m ∷ ms) m.state m.state.alone && are_scrubs_calm mark ms
+are_scrubs_calm mark (m ∷ ms) =
+    is_scrub_calm_for mark (m ∷ ms) m.state m.state.alone && are_scrubs_calm mark ms
 
-scrubs_calm_by_test : (mark : Mark) (ms : List Moment) → are_scrubs_calm mark ms ≡ true → AreScrubsCalm mark ms
+scrubs_calm_by_test : (mark : Mark) (ms : List Moment) → are_scrubs_calm mark ms ≡ true →
+    AreScrubsCalm mark ms
 scrubs_calm_by_test mark [] h = tt
-scrubs_calm_by_test mark (m ∷ ms) h = (let p = and_parts (is_scrub_calm_for mark (m ∷ ms) m.state m.state.alone) (are_scrubs_calm mark ms) h in
-    (λ scrub at. leb-true _ _ (subst (λ x. is_scrub_calm_for mark (m ∷ ms) m.state x ≡ true) at p.0), scrubs_calm_by_test mark ms p.1))
+scrubs_calm_by_test mark (m ∷ ms) h =
+    (let p = and_parts (is_scrub_calm_for mark (m ∷ ms) m.state m.state.alone) (are_scrubs_calm mark ms) h in (
+      λ scrub at. leb-true _ _ (subst (λ x. is_scrub_calm_for mark (m ∷ ms) m.state x ≡ true) at p.0),
+      scrubs_calm_by_test mark ms p.1,
+    ))
 
 -- the run of the second version is calm, counted from finished scrubs
 pub scrub_calm : IsScrubCalm set_up moments
 unfolding setup_in
-scrub_calm = record { jobs = calm_by_test (scrubbed set_up) moments refl; scrubs = scrubs_calm_by_test (scrubbed set_up) moments refl }
+scrub_calm = record {
+  jobs = calm_by_test (scrubbed set_up) moments refl;
+  scrubs = scrubs_calm_by_test (scrubbed set_up) moments refl;
+}
 
 -- the mark after that run is event 22, the begin of its scrub
 pub mark_is : scrubbed set_up moments ≡ 22

@@ -43,8 +43,10 @@ scrubs_never (m ∷ ms) = not (begins_scrub m.event) && scrubs_never ms
 
 unscrubbed_by_test : (ms : List Moment) → scrubs_never ms ≡ true → BeginsNoScrub ms
 unscrubbed_by_test [] h = tt
-unscrubbed_by_test (m ∷ ms) h = (let p = and_parts (not (begins_scrub m.event)) (scrubs_never ms) h in
-    (λ e. false≢true (sym (not-true (begins_scrub m.event) p.0) ∙ ap begins_scrub e), unscrubbed_by_test ms p.1))
+unscrubbed_by_test (m ∷ ms) h = (let p = and_parts (not (begins_scrub m.event)) (scrubs_never ms) h in (
+  λ e. false≢true (sym (not-true (begins_scrub m.event) p.0) ∙ ap begins_scrub e),
+  unscrubbed_by_test ms p.1,
+))
 
 -- the moments are the run: calm, with no scrub, and with the events of the schedule
 pub faulty : IsFaulty moments
@@ -56,7 +58,10 @@ faulty = record {
   calm = calm_by_test (λ moments. 0) moments refl;
   scrubs = scrubs_by_test (λ moments. 0) moments refl;
   unscrubbed = unscrubbed_by_test moments refl;
-  scrub_calm = record { jobs = calm_by_test (scrubbed set_up) moments refl; scrubs = scrubs_by_test (scrubbed set_up) moments refl };
+  scrub_calm = record {
+    jobs = calm_by_test (scrubbed set_up) moments refl;
+    scrubs = scrubs_by_test (scrubbed set_up) moments refl;
+  };
   happens = refl;
 }
 
@@ -93,13 +98,27 @@ fetch_fails = record {
   failure = record {
     job = job_at (at 16 moments) 2;
     action = Fetch 0 1 0;
-    makes = record { event = refl; is_open = refl; unbarred = refl; none_alone = refl; runs = refl; next = refl; unheld = refl };
-    amiss = (refl, λ seen goes gives. no_block seen (ap (λ job. block_of (newest_given job)) goes) (gives ∙ sym (block_sized 0)));
+    makes = record {
+      event = refl;
+      is_open = refl;
+      unbarred = refl;
+      none_alone = refl;
+      runs = refl;
+      next = refl;
+      unheld = refl;
+    };
+    amiss = (
+      refl,
+      λ seen goes gives. no_block seen (ap (λ job. block_of (newest_given job)) goes)
+          (gives ∙ sym (block_sized 0)),
+    );
   };
 }
 
 some_right : right 2 ≡ None → ⊥
-some_right none = false≢true (sym (is_seen-none (value decider (point thing 2))) ∙ subst (λ s. is_seen (value decider (point thing 2)) (bare_answer thing asked 2 s) ≡ true) none (agrees_at 2))
+some_right none = false≢true (sym (is_seen-none (value decider (point thing 2)))
+    ∙ subst (λ s. is_seen (value decider (point thing 2)) (bare_answer thing asked 2 s) ≡ true) none
+    (agrees_at 2))
 
 ask_fails : Fails moments 55 (OfOthers 2)
 unfolding setup_in actions_of
@@ -109,8 +128,20 @@ ask_fails = record {
   failure = record {
     job = job_at (at 55 moments) 6;
     action = Ask 2 1 0;
-    makes = record { event = refl; is_open = refl; unbarred = refl; none_alone = refl; runs = refl; next = refl; unheld = refl };
-    amiss = (refl, λ symbol goes gives. some_right (same_first _ _ refl ∙ sym (ap (λ job. symbol_of (newest_given job)) goes ∙ gives)));
+    makes = record {
+      event = refl;
+      is_open = refl;
+      unbarred = refl;
+      none_alone = refl;
+      runs = refl;
+      next = refl;
+      unheld = refl;
+    };
+    amiss = (
+      refl,
+      λ symbol goes gives. some_right (same_first _ _ refl
+          ∙ sym (ap (λ job. symbol_of (newest_given job)) goes ∙ gives)),
+    );
   };
 }
 
@@ -128,7 +159,15 @@ removal_fails = record {
   failure = record {
     job = job_at (at 71 moments) 7;
     action = Remove 3 1;
-    makes = record { event = refl; is_open = refl; unbarred = refl; none_alone = refl; runs = refl; next = refl; unheld = refl };
+    makes = record {
+      event = refl;
+      is_open = refl;
+      unbarred = refl;
+      none_alone = refl;
+      runs = refl;
+      next = refl;
+      unheld = refl;
+    };
     amiss = (refl, λ gone. still_there (ap first_block gone));
   };
 }
@@ -143,14 +182,20 @@ abbrev pub is_never_out : List ℕ → List Moment → Bool
 is_never_out called [] = true
 is_never_out called (m ∷ ms) = is_left called m.state.records m.state.doubt && is_never_out called ms
 
-left_by_test : (called : List ℕ) (rs : List Record) (doubt : Option Doubt) → is_left called rs doubt ≡ true → (d : Doubt) → doubt ≡ Some d → takes_out rs called d.entry ≡ false
+left_by_test : (called : List ℕ) (rs : List Record) (doubt : Option Doubt) → is_left called rs doubt ≡ true →
+    (d : Doubt) → doubt ≡ Some d → takes_out rs called d.entry ≡ false
 left_by_test called rs None h d e = (let f : None ≡ Some d = e in cc)
-left_by_test called rs (Some c) h d e = (let f : c ≡ d = cc in subst (λ (x : Doubt). takes_out rs called x.entry ≡ false) f (not-true (takes_out rs called c.entry) h))
+left_by_test called rs (Some c) h d e =
+    (let f : c ≡ d = cc in
+    subst (λ (x : Doubt). takes_out rs called x.entry ≡ false) f
+    (not-true (takes_out rs called c.entry) h))
 
 -- a name that passes the test in all moments is never taken out
-pub never_by_test : (called : List ℕ) (ms : List Moment) → is_never_out called ms ≡ true → NeverTakenOut called ms
+pub never_by_test : (called : List ℕ) (ms : List Moment) → is_never_out called ms ≡ true →
+    NeverTakenOut called ms
 never_by_test called [] h = tt
-never_by_test called (m ∷ ms) h = (let p = and_parts (is_left called m.state.records m.state.doubt) (is_never_out called ms) h in
+never_by_test called (m ∷ ms) h =
+    (let p = and_parts (is_left called m.state.records m.state.doubt) (is_never_out called ms) h in
     (left_by_test called m.state.records m.state.doubt p.0, never_by_test called ms p.1))
 
 -- ---- no later call of the program begins
@@ -186,12 +231,41 @@ faults = record {
   reopening_fails = record { moment = event_at 38; happened = record { is = refl }; failure = tt };
   ask_fails = ask_fails;
   removal_fails = removal_fails;
-  get_missed = record { job = job_at (at 20 moments) 2; runs = refl; number_is = refl; kind_is = refl; pinned = (0, omega arith, refl); provider_in = omega arith; stripe_in = omega arith; missed = (3, omega arith, refl) };
+  get_missed = record {
+    job = job_at (at 20 moments) 2;
+    runs = refl;
+    number_is = refl;
+    kind_is = refl;
+    pinned = (0, omega arith, refl);
+    provider_in = omega arith;
+    stripe_in = omega arith;
+    missed = (3, omega arith, refl);
+  };
   get_rose = λ low. omega arith;
   get_lost = record { moment = event_at 20; is = refl; event = refl; outcome = refl };
-  must_reopen = record { moment = event_at 36; happened = record { is = refl }; event = refl; outcome = refl; file = the_file; in_effect = refl };
-  no_memory = record { moment = event_at 40; happened = record { is = refl }; event = refl; outcome = refl; file = the_file; in_effect = refl };
-  cut_in_doubt = record { doubt = doubt_at (at 37 moments); in_doubt = refl; entry_is = refl; job = maker_of (doubt_at (at 37 moments)); maker = refl };
+  must_reopen = record {
+    moment = event_at 36;
+    happened = record { is = refl };
+    event = refl;
+    outcome = refl;
+    file = the_file;
+    in_effect = refl;
+  };
+  no_memory = record {
+    moment = event_at 40;
+    happened = record { is = refl };
+    event = refl;
+    outcome = refl;
+    file = the_file;
+    in_effect = refl;
+  };
+  cut_in_doubt = record {
+    doubt = doubt_at (at 37 moments);
+    in_doubt = refl;
+    entry_is = refl;
+    job = maker_of (doubt_at (at 37 moments));
+    maker = refl;
+  };
   cut_ended = refl;
   cut_profile = refl;
   stop = event_at 37;
@@ -210,19 +284,41 @@ faults = record {
     bytes = byte;
     provider = 0;
     stripe = 0;
-    makes = record { event = refl; is_open = refl; unbarred = refl; none_alone = refl; runs = refl; next = refl; unheld = refl };
+    makes = record {
+      event = refl;
+      is_open = refl;
+      unbarred = refl;
+      none_alone = refl;
+      runs = refl;
+      next = refl;
+      unheld = refl;
+    };
     puts = refl;
     begun_is = refl;
   });
   has_asked = inl (record {
     job = job_at (at 53 moments) 6;
     provider = 0;
-    makes = record { event = refl; is_open = refl; unbarred = refl; none_alone = refl; runs = refl; next = refl; unheld = refl };
+    makes = record {
+      event = refl;
+      is_open = refl;
+      unbarred = refl;
+      none_alone = refl;
+      runs = refl;
+      next = refl;
+      unheld = refl;
+    };
     audits = refl;
     begun_is = refl;
     number_is = refl;
   });
-  end_in_flight = record { append = append_at (at 58 moments); in_flight = refl; entry_is = refl; job = job_at (at 58 moments) 6; runs = refl };
+  end_in_flight = record {
+    append = append_at (at 58 moments);
+    in_flight = refl;
+    entry_is = refl;
+    job = job_at (at 58 moments) 6;
+    runs = refl;
+  };
   after_get = after_second;
   reported = record {
     moment = event_at 47;

@@ -198,7 +198,11 @@ is_until_36 = (small_4, happens_35, is_until_35)
 
 -- no job begins until the next reopening
 abbrev pub until_37 : List Moment
-until_37 = record { event = Begin (GetJob name); outcome = Refused refusal.MustReopen; state = state_37 } ∷ until_36
+until_37 = record {
+  event = Begin (GetJob name);
+  outcome = Refused refusal.MustReopen;
+  state = state_37;
+} ∷ until_36
 
 is_until_37 : IsRun 8 set_up until_37
 unfolding setup_in
@@ -230,7 +234,11 @@ is_until_40 = (tt, happens_39, is_until_39)
 
 -- a begin that finds no memory
 abbrev pub until_41 : List Moment
-until_41 = record { event = Begin (GetJob name); outcome = Refused refusal.Memory; state = state_41 } ∷ until_40
+until_41 = record {
+  event = Begin (GetJob name);
+  outcome = Refused refusal.Memory;
+  state = state_41;
+} ∷ until_40
 
 is_until_41 : IsRun 8 set_up until_41
 unfolding setup_in

@@ -35,18 +35,21 @@ padded-at bytes n i is below = go (nat_lt i n) refl
     go : (b : Bool) → nat_lt i n ≡ b → get_or (take n bytes ++ drop n (replicate 16 0)) i 0 ≡ get_or bytes i 0
     go true less =
         let before : i < n = grind (arith, less) in
-        get_or-append (take n bytes) (drop n (replicate 16 0)) 0 i (omega (arith, before, long)) ∙ get_or-take n bytes i 0 before
+        get_or-append (take n bytes) (drop n (replicate 16 0)) 0 i (omega (arith, before, long))
+        ∙ get_or-take n bytes i 0 before
     go false more =
         let after : n ≤ i = grind (arith, more) in
         get_or-append_right (take n bytes) (drop n (replicate 16 0)) i 0 (omega (arith, after, long))
-        ∙ drop-zeros n 16 (i - length (take n bytes)) ∙ sym (get_or-past bytes i (omega (arith, is, after, below)))
+        ∙ drop-zeros n 16 (i - length (take n bytes))
+        ∙ sym (get_or-past bytes i (omega (arith, is, after, below)))
 
 -- the first 16 bytes, zeros in place of absent ones, make the same number as the bytes themselves
 pub padded-value : (xs bytes : List ℕ) (n : ℕ) → n ≡ min (length bytes) 16 → xs ≡ take n bytes →
     from_le_bytes w128 (xs ++ drop n (replicate 16 0)) ≡ from_le_bytes w128 bytes
 padded-value xs bytes n is e =
     ap (λ (l : List ℕ). from_le_bytes w128 (l ++ drop n (replicate 16 0))) e
-    ∙ from_le_bytes-same (take n bytes ++ drop n (replicate 16 0)) bytes (λ i below. padded-at bytes n i is below)
+    ∙ from_le_bytes-same (take n bytes ++ drop n (replicate 16 0)) bytes
+    (λ i below. padded-at bytes n i is below)
 
 -- what a range to the end of a list has
 take-rest : (n : ℕ) (xs : List ℕ) → length xs ≤ n → take n xs ≡ xs
@@ -56,8 +59,11 @@ take-rest (suc n) [] h = refl
 take-rest (suc n) (x ∷ xs) h = ap (λ (l : List ℕ). x ∷ l) (take-rest n xs (omega (arith, h)))
 
 -- a symbol is the number of the bytes from its first one on, as far as there are any
-pub rest-value : (bytes : List ℕ) (from number start : ℕ) → from ≡ number → start ≡ min (16 * from) (length bytes) →
-    from_le_bytes w128 (take (length bytes - start) (drop start bytes)) ≡ from_le_bytes w128 (drop (16 * number) bytes)
+pub rest-value : (bytes : List ℕ) (from number start : ℕ) → from ≡ number →
+    start ≡ min (16 * from) (length bytes) →
+    from_le_bytes w128 (take (length bytes - start) (drop start bytes))
+    ≡ from_le_bytes w128 (drop (16 * number) bytes)
 rest-value bytes from number start e is =
-    ap (λ (l : List ℕ). from_le_bytes w128 l) (take-rest (length bytes - start) (drop start bytes) (omega (arith, length-drop start bytes))
+    ap (λ (l : List ℕ). from_le_bytes w128 l)
+    (take-rest (length bytes - start) (drop start bytes) (omega (arith, length-drop start bytes))
     ∙ ap (λ (n : ℕ). drop n bytes) is ∙ drop_min (16 * from) bytes ∙ ap (λ (n : ℕ). drop (16 * n) bytes) e)

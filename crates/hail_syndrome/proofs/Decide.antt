@@ -20,9 +20,12 @@ use Rattle.hail_syndrome.proofs.KeyEquation.{tail, length-tail, key_equation}
 use Rattle.hail_syndrome.proofs.KeyRow.{factor_short, factor_some, takes_where}
 use Rattle.hail_syndrome.proofs.SoundPlaces.{many_sound, takes_sound, length-sound_values, Apart-sound, Apart-front, Takes-front}
 
-module _ (points values : List ℕ) (even : length points ≡ length values) (apart : Apart points) (keep fix : ℕ) (some : 1 ≤ keep) (enough : keep + 2 * fix ≤ length values)
-    (r f : List ℕ) (row : FirstRow nim (length points - keep - fix) (power (length points - keep)) [] (key (syndromes_of points values (length points - keep))) (1 ∷ []) r f)
-    (combination : IsCombination r f (key (syndromes_of points values (length points - keep))) (power (length points - keep))) where
+module _ (points values : List ℕ) (even : length points ≡ length values) (apart : Apart points) (keep fix : ℕ)
+    (some : 1 ≤ keep) (enough : keep + 2 * fix ≤ length values)
+    (r f : List ℕ) (row : FirstRow nim (length points - keep - fix) (power (length points - keep)) []
+    (key (syndromes_of points values (length points - keep))) (1 ∷ []) r f)
+    (combination : IsCombination r f (key (syndromes_of points values (length points - keep)))
+    (power (length points - keep))) where
   abbrev m : ℕ
   m = length points - keep
 
@@ -55,7 +58,8 @@ module _ (points values : List ℕ) (even : length points ≡ length values) (ap
     even,
     factor_short nim nim_laws nim_endless m (m - fix) S r f few (omega arith) row,
     many_sound nim nim_laws f points apart
-        (factor_some nim nim_laws nim_endless m (m - fix) S r f few (omega arith) row combination.multiple combination.values),
+        (factor_some nim nim_laws nim_endless m (m - fix) S r f few
+        (omega arith) row combination.multiple combination.values),
   )
 
   abbrev chosen : List ℕ
@@ -84,8 +88,10 @@ module _ (points values : List ℕ) (even : length points ≡ length values) (ap
   takes_chosen p is =
       Takes-front nim nim_laws f p (sound_points nim f points) (sound_values nim f points values) keep
       (takes_sound nim nim_laws f p points values even
-      (takes_where nim nim_laws nim_endless m (m - fix) S r f few (omega arith) row combination.multiple combination.values points values
-      (tail points values even apart m) even apart (omega (arith, length-tail points values even apart m)) equation keep fix (omega (arith, some))
+      (takes_where nim nim_laws nim_endless m (m - fix) S r f few
+      (omega arith) row combination.multiple combination.values points values
+      (tail points values even apart m) even apart (omega (arith, length-tail points values even apart m))
+      equation keep fix (omega (arith, some))
       (omega (arith, enough, even)) (omega (arith, enough, even)) (omega (arith, enough, even)) p is))
 
   module _ (q : List ℕ) (made : q ≡ trim (interpolate chosen taken)) where
@@ -101,7 +107,13 @@ module _ (points values : List ℕ) (even : length points ≡ length values) (ap
     pub too_few : matches q points values + fix < length points → NoneDecodes points values keep fix
     too_few h = record {
       none = λ p is.
-          omega (arith, h, is.near, agree_same nim p q points (map Some values) (λ x. sym (value-trim nim nim_laws p x) ∙ ap (λ u. value u x) (sym (is_made p is))));
+          omega (
+            arith,
+            h,
+            is.near,
+            agree_same nim p q points (map Some values)
+                (λ x. sym (value-trim nim nim_laws p x) ∙ ap (λ u. value u x) (sym (is_made p is))),
+          );
     }
 
     -- where it agrees often enough
@@ -121,11 +133,15 @@ module _ (points values : List ℕ) (even : length points ≡ length values) (ap
     }
 
 -- the front of a list, of which a longer front is known
-pub front_is : (xs total : List ℕ) (n keep : ℕ) → take n xs ≡ total → keep ≤ length total → take keep xs ≡ take keep total
-front_is xs total n keep is le = sym (take-take keep n xs (omega (arith, ap length is, length-take n xs))) ∙ ap (take keep) is
+pub front_is : (xs total : List ℕ) (n keep : ℕ) → take n xs ≡ total → keep ≤ length total →
+    take keep xs ≡ take keep total
+front_is xs total n keep is le =
+    sym (take-take keep n xs (omega (arith, ap length is, length-take n xs))) ∙ ap (take keep) is
 
 -- the polynomial through the chosen places, as it is loaded
-pub made_of : (keep n k : ℕ) (points values sound seen rest : List ℕ) → take n sound ≡ points → take k seen ≡ values → keep ≤ length points → length values ≡ length points →
-    rest ≡ trim (interpolate (take keep sound) (take keep seen)) → rest ≡ trim (interpolate (take keep points) (take keep values))
+pub made_of : (keep n k : ℕ) (points values sound seen rest : List ℕ) → take n sound ≡ points →
+    take k seen ≡ values → keep ≤ length points → length values ≡ length points →
+    rest ≡ trim (interpolate (take keep sound) (take keep seen)) →
+    rest ≡ trim (interpolate (take keep points) (take keep values))
 made_of keep n k points values sound seen rest is_sound is_seen le even made =
     made ∙ cc (front_is sound points n keep is_sound le, front_is seen values k keep is_seen (omega arith))

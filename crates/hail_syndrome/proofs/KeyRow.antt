@@ -28,7 +28,8 @@ module _ {A : Type 0} (F : FieldOf A) (laws : IsField F) (endless : IsEndless A)
   infixl 70 ◌⊗◌
   -- the rows that the algorithm begins with, at as many points 0
   begins : (m : ℕ) (S : List A) → length S ≤ m →
-      AreRows F (replicate m 𝟘) (replicate m (value F S 𝟘)) (vanish F (replicate m 𝟘)) (vanish F (replicate m 𝟘)) [] S (𝟙 ∷ [])
+      AreRows F (replicate m 𝟘) (replicate m (value F S 𝟘)) (vanish F (replicate m 𝟘))
+      (vanish F (replicate m 𝟘)) [] S (𝟙 ∷ [])
   unfolding value
   begins m S few =
       record {
@@ -42,7 +43,8 @@ module _ {A : Type 0} (F : FieldOf A) (laws : IsField F) (endless : IsEndless A)
         top = omega (arith, length-vanish F laws (replicate m 𝟘), length-replicate m 𝟘);
       }
     where
-      start : (k : ℕ) (w : List A) → Each (λ x. value F w x ≡ 𝟘) (replicate k 𝟘) → Solves F w [] (replicate k 𝟘) (replicate k (value F S 𝟘))
+      start : (k : ℕ) (w : List A) → Each (λ x. value F w x ≡ 𝟘) (replicate k 𝟘) →
+          Solves F w [] (replicate k 𝟘) (replicate k (value F S 𝟘))
       start zero w z = tt
       start (suc k) w z = (z.0 ∙ sym (zero_mul laws.ring (value F S 𝟘)), start k w z.1)
 
@@ -56,7 +58,8 @@ module _ {A : Type 0} (F : FieldOf A) (laws : IsField F) (endless : IsEndless A)
     key : IsKeyRow F laws (replicate m 𝟘) (replicate m (value F S 𝟘)) (vanish F (replicate m 𝟘)) below r f
     key =
         key_row F laws (replicate m 𝟘) (replicate m (value F S 𝟘)) (vanish F (replicate m 𝟘))
-        (subst (λ (w : List A). FirstRow F below w [] S (𝟙 ∷ []) r f) (sym (vanish-zeros F laws m)) row) (begins m S few)
+        (subst (λ (w : List A). FirstRow F below w [] S (𝟙 ∷ []) r f) (sym (vanish-zeros F laws m)) row)
+        (begins m S few)
         (omega (arith, length-vanish F laws (replicate m 𝟘), length-replicate m 𝟘))
 
     -- its remainder is short
@@ -67,10 +70,13 @@ module _ {A : Type 0} (F : FieldOf A) (laws : IsField F) (endless : IsEndless A)
     pub factor_short : length f + below ≤ m + 1
     factor_short = omega (arith, key.room, length-replicate m 𝟘)
 
-    module _ (g : List A) (combination : (x : A) → value F r x ≡ (value F f x ⊗ value F S x) ⊕ (value F g x ⊗ value F (power_over F m) x)) where
+    module _ (g : List A)
+        (combination : (x : A) →
+        value F r x ≡ (value F f x ⊗ value F S x) ⊕ (value F g x ⊗ value F (power_over F m) x)) where
       -- its cofactor is not 0
       pub factor_some : Each (λ a. a ≡ 𝟘) f → ⊥
-      factor_some z = laws.one_not_zero (sym (power-at_one F laws m) ∙ ap (λ (p : List A). value F p 𝟙) (sym (vanish-zeros F laws m)) ∙ nothing 𝟙)
+      factor_some z = laws.one_not_zero (sym (power-at_one F laws m)
+          ∙ ap (λ (p : List A). value F p 𝟙) (sym (vanish-zeros F laws m)) ∙ nothing 𝟙)
         where
           multiple : (x : A) → value F r x ≡ value F (power_over F m) x ⊗ value F g x
           multiple x =
@@ -83,7 +89,8 @@ module _ {A : Type 0} (F : FieldOf A) (laws : IsField F) (endless : IsEndless A)
               )
 
           none : (x : A) → value F g x ≡ 𝟘
-          none x = sym (short_factor F laws endless g r m 0 multiple (omega (arith, rest_short)) x) ∙ value-nothing F laws x
+          none x = sym (short_factor F laws endless g r m 0 multiple (omega (arith, rest_short)) x)
+              ∙ value-nothing F laws x
 
           rest_none : (x : A) → value F r x ≡ 𝟘
           rest_none x = multiple x ∙ cc (none x, laws.ring.mul_zero (value F (power_over F m) x))
@@ -99,9 +106,12 @@ module _ {A : Type 0} (F : FieldOf A) (laws : IsField F) (endless : IsEndless A)
                 laws.ring.add_zero 𝟘,
               )
 
-      module _ (xs ys T : List A) (even : length xs ≡ length ys) (apart : Apart xs) (held : length T ≤ length xs)
-          (equation : (x : A) → value F (power_over F m) x ⊗ value F (interpolate F xs ys) x ≡ (value F S x ⊗ value F (vanish F xs) x) ⊕ value F T x)
-          (keep fix : ℕ) (some : 0 < keep) (size : keep + m ≡ length xs) (bound : below + fix ≡ m) (double : 2 * fix ≤ m) where
+      module _ (xs ys T : List A) (even : length xs ≡ length ys) (apart : Apart xs)
+          (held : length T ≤ length xs)
+          (equation : (x : A) → value F (power_over F m) x ⊗ value F (interpolate F xs ys) x
+          ≡ (value F S x ⊗ value F (vanish F xs) x) ⊕ value F T x)
+          (keep fix : ℕ) (some : 0 < keep) (size : keep + m ≡ length xs) (bound : below + fix ≡ m)
+          (double : 2 * fix ≤ m) where
         abbrev I : List A
         I = interpolate F xs ys
 
@@ -120,18 +130,31 @@ module _ {A : Type 0} (F : FieldOf A) (laws : IsField F) (endless : IsEndless A)
         w = plus F (times F r V) (times F f T)
 
         value-Q : (x : A) → value F Q x ≡ (value F f x ⊗ value F I x) ⊕ (value F g x ⊗ value F V x)
-        value-Q x = cc (value-plus F laws (times F f I) (times F g V) x, value-times F laws f I x, value-times F laws g V x)
+        value-Q x = cc (
+          value-plus F laws (times F f I) (times F g V) x,
+          value-times F laws f I x,
+          value-times F laws g V x,
+        )
 
         value-w : (x : A) → value F w x ≡ value F (power_over F m) x ⊗ value F Q x
         value-w x =
-            cc (value-plus F laws (times F r V) (times F f T) x, value-times F laws r V x, value-times F laws f T x, combination x) ∙
-            solve laws.ring env (((v 0 ⊡ v 1) ⊞ (v 2 ⊡ v 3)) ⊡ v 4 ⊞ (v 0 ⊡ v 5)) ((v 0 ⊡ ((v 1 ⊡ v 4) ⊞ v 5)) ⊞ (v 2 ⊡ (v 3 ⊡ v 4))) refl ∙
-            ap (λ t. (value F f x ⊗ t) ⊕ (value F g x ⊗ (value F (power_over F m) x ⊗ value F V x))) (sym (equation x)) ∙
-            solve laws.ring env ((v 0 ⊡ (v 3 ⊡ v 6)) ⊞ (v 2 ⊡ (v 3 ⊡ v 4))) (v 3 ⊡ ((v 0 ⊡ v 6) ⊞ (v 2 ⊡ v 4))) refl ∙
+            cc (
+              value-plus F laws (times F r V) (times F f T) x,
+              value-times F laws r V x,
+              value-times F laws f T x,
+              combination x,
+            ) ∙
+            solve laws.ring env (((v 0 ⊡ v 1) ⊞ (v 2 ⊡ v 3)) ⊡ v 4 ⊞ (v 0 ⊡ v 5))
+            ((v 0 ⊡ ((v 1 ⊡ v 4) ⊞ v 5)) ⊞ (v 2 ⊡ (v 3 ⊡ v 4))) refl ∙
+            ap (λ t. (value F f x ⊗ t) ⊕ (value F g x ⊗ (value F (power_over F m) x ⊗ value F V x)))
+            (sym (equation x)) ∙
+            solve laws.ring env ((v 0 ⊡ (v 3 ⊡ v 6)) ⊞ (v 2 ⊡ (v 3 ⊡ v 4)))
+            (v 3 ⊡ ((v 0 ⊡ v 6) ⊞ (v 2 ⊡ v 4))) refl ∙
             ap (λ t. value F (power_over F m) x ⊗ t) (sym (value-Q x))
           where
             env : List A
-            env = value F f x ∷ value F S x ∷ value F g x ∷ value F (power_over F m) x ∷ value F V x ∷ value F T x ∷ value F I x ∷ []
+            env = value F f x ∷ value F S x ∷ value F g x ∷ value F
+                (power_over F m) x ∷ value F V x ∷ value F T x ∷ value F I x ∷ []
 
         length-w : length w ≤ m + n
         length-w =
@@ -147,7 +170,8 @@ module _ {A : Type 0} (F : FieldOf A) (laws : IsField F) (endless : IsEndless A)
         value-short : (x : A) → value F (take n Q) x ≡ value F Q x
         value-short = short_factor F laws endless Q w m n value-w length-w
 
-        solves : (us vs : List A) → Takes F I us vs → Each (λ x. value F V x ≡ 𝟘) us → Solves F (take n Q) f us vs
+        solves : (us vs : List A) → Takes F I us vs → Each (λ x. value F V x ≡ 𝟘) us →
+            Solves F (take n Q) f us vs
         solves [] vs t z = tt
         solves (u ∷ us) [] t z = absurd t
         solves (u ∷ us) (y ∷ vs) t z = (
@@ -162,8 +186,10 @@ module _ {A : Type 0} (F : FieldOf A) (laws : IsField F) (endless : IsEndless A)
           is_product x =
               same_values F laws (take n Q) (times F f p)
               (row_is_product F laws (take n Q) f p xs ys n (keep - 1) fix apart
-              (solves xs ys (interpolate_takes F laws xs ys laws.one_not_zero even apart) (vanish_roots F laws xs))
-              (omega (arith, length-take n Q)) (omega (arith, factor_short)) (let a = is.short in omega arith) (omega arith) (omega arith) is.near) x ∙
+              (solves xs ys (interpolate_takes F laws xs ys laws.one_not_zero even apart)
+              (vanish_roots F laws xs))
+              (omega (arith, length-take n Q)) (omega (arith, factor_short)) (let a = is.short in omega arith)
+              (omega arith) (omega arith) is.near) x ∙
               value-times F laws f p x
 
           where_some : (us vs : List A) → Solves F (take n Q) f us vs → TakesWhere F f p us vs
@@ -175,8 +201,11 @@ module _ {A : Type 0} (F : FieldOf A) (laws : IsField F) (endless : IsEndless A)
               here nonzero =
                   sum_zero laws.ring (value F p u) y
                   (factor_zero F laws (value F f u) (value F p u ⊕ y)
-                  (laws.ring.mul_add (value F f u) (value F p u) y ∙ cc (sym (is_product u), s.0, laws.ring.add_self (value F f u ⊗ y))) nonzero)
+                  (laws.ring.mul_add (value F f u) (value F p u) y
+                  ∙ cc (sym (is_product u), s.0, laws.ring.add_self (value F f u ⊗ y))) nonzero)
 
           -- so wherever the cofactor is not 0, it takes the value
           pub takes_where : TakesWhere F f p xs ys
-          takes_where = where_some xs ys (solves xs ys (interpolate_takes F laws xs ys laws.one_not_zero even apart) (vanish_roots F laws xs))
+          takes_where = where_some xs ys
+              (solves xs ys (interpolate_takes F laws xs ys laws.one_not_zero even apart)
+              (vanish_roots F laws xs))

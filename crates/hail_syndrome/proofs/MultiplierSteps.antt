@@ -8,7 +8,8 @@ use Rattle.code_defs.specs.Points.{upto, others_product, multiplier}
 -- one point more
 pub others_step : (x : ℕ) (points : List ℕ) (k : ℕ) → k < length points →
     others_product x (drop k points) ≡
-    cond (nat_eq (get_or points k 0) x) (others_product x (drop (k + 1) points)) (nim_mul (nim_add x (get_or points k 0)) (others_product x (drop (k + 1) points)))
+    cond (nat_eq (get_or points k 0) x) (others_product x (drop (k + 1) points))
+    (nim_mul (nim_add x (get_or points k 0)) (others_product x (drop (k + 1) points)))
 unfolding others_product
 others_step x points k h = at_drop_more (others_product x) points k 0 h
 
@@ -23,12 +24,16 @@ map-same [] = refl
 map-same (p ∷ ps) = ap (λ t. p ∷ t) (map-same ps)
 
 -- numbers that are each at its place
-pub places_by_all : (points : List ℕ) (n : ℕ) → n ≡ length points → ((k : ℕ) → k < n → get_or points k 0 ≡ k) → points ≡ upto (length points)
-places_by_all points n long each = fill_by_all (λ k. k) points (length points) 0 refl (λ k h. each k (omega arith)) ∙ map-same (upto (length points))
+pub places_by_all : (points : List ℕ) (n : ℕ) → n ≡ length points →
+    ((k : ℕ) → k < n → get_or points k 0 ≡ k) → points ≡ upto (length points)
+places_by_all points n long each = fill_by_all (λ k. k) points (length points) 0 refl
+    (λ k h. each k (omega arith)) ∙ map-same (upto (length points))
 
 -- the multiplier of a place of a profile
-pub known_multiplier : (points : List ℕ) (size place : ℕ) → points ≡ upto size → place < length points → multiplier place (upto size) ≡ multiplier (slice_index points place) points
+pub known_multiplier : (points : List ℕ) (size place : ℕ) → points ≡ upto size → place < length points →
+    multiplier place (upto size) ≡ multiplier (slice_index points place) points
 known_multiplier points size place is lt =
     let few : length points ≡ size = ap length is ∙ length-range_with_len 0 size in
-    let at : slice_index points place ≡ place = ap (λ (ps : List ℕ). get_or ps place 0) is ∙ get_or-range_with_len 0 size place 0 (omega arith) ∙ zero-add place in
+    let at : slice_index points place ≡ place = ap (λ (ps : List ℕ). get_or ps place 0) is
+    ∙ get_or-range_with_len 0 size place 0 (omega arith) ∙ zero-add place in
     rw (at, is) refl

@@ -23,19 +23,23 @@ module _ {A : Type 0} (F : FieldOf A) (laws : IsField F) (f : List A) where
   length-sound (x ∷ xs) = go (F.eq (value F f x) 𝟘) (length-sound xs)
     where
       go : (b : Bool) → length (suspected F f xs) + length (sound_points F f xs) ≡ length xs →
-          length (cond b (x ∷ suspected F f xs) (suspected F f xs)) + length (cond b (sound_points F f xs) (x ∷ sound_points F f xs)) ≡ length (x ∷ xs)
+          length (cond b (x ∷ suspected F f xs) (suspected F f xs)) + length
+          (cond b (sound_points F f xs) (x ∷ sound_points F f xs)) ≡ length (x ∷ xs)
       go true h = omega arith
       go false h = omega arith
 
   -- as many values as points
-  pub length-sound_values : (xs ys : List A) → length xs ≡ length ys → length (sound_values F f xs ys) ≡ length (sound_points F f xs)
+  pub length-sound_values : (xs ys : List A) → length xs ≡ length ys →
+      length (sound_values F f xs ys) ≡ length (sound_points F f xs)
   unfolding sound_values sound_points
   length-sound_values [] ys e = refl
   length-sound_values (x ∷ xs) [] e = absurd (omega arith)
-  length-sound_values (x ∷ xs) (y ∷ ys) e = go (F.eq (value F f x) 𝟘) (length-sound_values xs ys (omega arith))
+  length-sound_values (x ∷ xs) (y ∷ ys) e =
+      go (F.eq (value F f x) 𝟘) (length-sound_values xs ys (omega arith))
     where
       go : (b : Bool) → length (sound_values F f xs ys) ≡ length (sound_points F f xs) →
-          length (cond b (sound_values F f xs ys) (y ∷ sound_values F f xs ys)) ≡ length (cond b (sound_points F f xs) (x ∷ sound_points F f xs))
+          length (cond b (sound_values F f xs ys) (y ∷ sound_values F f xs ys))
+          ≡ length (cond b (sound_points F f xs) (x ∷ sound_points F f xs))
       go true h = h
       go false h = omega arith
 
@@ -76,7 +80,8 @@ module _ {A : Type 0} (F : FieldOf A) (laws : IsField F) (f : List A) where
   Each-sound P [] h = tt
   Each-sound P (x ∷ xs) h = go (F.eq (value F f x) 𝟘) (Each-sound P xs h.1)
     where
-      go : (b : Bool) → Each P (sound_points F f xs) → Each P (cond b (sound_points F f xs) (x ∷ sound_points F f xs))
+      go : (b : Bool) → Each P (sound_points F f xs) →
+          Each P (cond b (sound_points F f xs) (x ∷ sound_points F f xs))
       go true k = k
       go false k = (h.0, k)
 
@@ -86,23 +91,28 @@ module _ {A : Type 0} (F : FieldOf A) (laws : IsField F) (f : List A) where
   Apart-sound [] h = tt
   Apart-sound (x ∷ xs) h = go (F.eq (value F f x) 𝟘) (Apart-sound xs h.1)
     where
-      go : (b : Bool) → Apart (sound_points F f xs) → Apart (cond b (sound_points F f xs) (x ∷ sound_points F f xs))
+      go : (b : Bool) → Apart (sound_points F f xs) →
+          Apart (cond b (sound_points F f xs) (x ∷ sound_points F f xs))
       go true k = k
       go false k = (Each-sound (λ y. x ≢ y) xs h.0, k)
 
   -- a polynomial that is not 0 leaves all points but fewer than its coefficients
-  pub many_sound : (xs : List A) → Apart xs → (Each (λ a. a ≡ 𝟘) f → ⊥) → length xs < length f + length (sound_points F f xs)
+  pub many_sound : (xs : List A) → Apart xs → (Each (λ a. a ≡ 𝟘) f → ⊥) →
+      length xs < length f + length (sound_points F f xs)
   many_sound xs apart some = go (dec (length f) (length (suspected F f xs)))
     where
       dec : (a b : ℕ) → (a ≤ b) ⊎ (b < a)
       dec a b = grind arith
 
-      go : (length f ≤ length (suspected F f xs)) ⊎ (length (suspected F f xs) < length f) → length xs < length f + length (sound_points F f xs)
-      go (inl le) = absurd (some (zero_from_roots F laws (suspected F f xs) f (Apart-suspected xs apart) (zero_there xs) le))
+      go : (length f ≤ length (suspected F f xs)) ⊎ (length (suspected F f xs) < length f) →
+          length xs < length f + length (sound_points F f xs)
+      go (inl le) = absurd (some
+          (zero_from_roots F laws (suspected F f xs) f (Apart-suspected xs apart) (zero_there xs) le))
       go (inr lt) = omega (arith, length-sound xs)
 
   -- what takes the value wherever f is not 0 takes the sound values
-  pub takes_sound : (p xs ys : List A) → length xs ≡ length ys → TakesWhere F f p xs ys → Takes F p (sound_points F f xs) (sound_values F f xs ys)
+  pub takes_sound : (p xs ys : List A) → length xs ≡ length ys → TakesWhere F f p xs ys →
+      Takes F p (sound_points F f xs) (sound_values F f xs ys)
   unfolding sound_points sound_values
   takes_sound p [] ys e t = tt
   takes_sound p (x ∷ xs) [] e t = absurd (omega arith)
@@ -112,7 +122,8 @@ module _ {A : Type 0} (F : FieldOf A) (laws : IsField F) (f : List A) where
       differ h e = let k : F.eq (value F f x) 𝟘 ≡ true = rw e (laws.eq_refl 𝟘) in cc
 
       go : (b : Bool) → F.eq (value F f x) 𝟘 ≡ b → Takes F p (sound_points F f xs) (sound_values F f xs ys) →
-          Takes F p (cond b (sound_points F f xs) (x ∷ sound_points F f xs)) (cond b (sound_values F f xs ys) (y ∷ sound_values F f xs ys))
+          Takes F p (cond b (sound_points F f xs) (x ∷ sound_points F f xs))
+          (cond b (sound_values F f xs ys) (y ∷ sound_values F f xs ys))
       go true h k = k
       go false h k = (t.0 (differ h), k)
 

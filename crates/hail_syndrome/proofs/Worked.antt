@@ -21,8 +21,10 @@ pub six_apart : Apart six
 six_apart =
     let fifth : Apart {A = ℕ} (4 ∷ 5 ∷ []) = ((omega arith, tt), (tt, tt)) in
     let fourth : Apart {A = ℕ} (3 ∷ 4 ∷ 5 ∷ []) = ((omega arith, (omega arith, tt)), fifth) in
-    let third : Apart {A = ℕ} (2 ∷ 3 ∷ 4 ∷ 5 ∷ []) = ((omega arith, (omega arith, (omega arith, tt))), fourth) in
-    let second : Apart {A = ℕ} (1 ∷ 2 ∷ 3 ∷ 4 ∷ 5 ∷ []) = ((omega arith, (omega arith, (omega arith, (omega arith, tt)))), third) in
+    let third : Apart {A = ℕ} (2 ∷ 3 ∷ 4 ∷ 5 ∷ []) =
+    ((omega arith, (omega arith, (omega arith, tt))), fourth) in
+    let second : Apart {A = ℕ} (1 ∷ 2 ∷ 3 ∷ 4 ∷ 5 ∷ []) =
+    ((omega arith, (omega arith, (omega arith, (omega arith, tt)))), third) in
     ((omega arith, (omega arith, (omega arith, (omega arith, (omega arith, tt))))), second)
 
 -- the values of 5 x

@@ -44,7 +44,8 @@ values_of_takes p (x ∷ xs) [] e t = absurd t
 values_of_takes p (x ∷ xs) (y ∷ ys) e t = cc (t.0, values_of_takes p xs ys (omega arith) t.1)
 
 -- two polynomials, of which one takes the values that the other has, meet at the points
-meet_values : (p q xs ys : List ℕ) → TakesSymbols p xs ys → ys ≡ values_at xs q → Each (λ x. value p x ≡ value q x) xs
+meet_values : (p q xs ys : List ℕ) → TakesSymbols p xs ys → ys ≡ values_at xs q →
+    Each (λ x. value p x ≡ value q x) xs
 meet_values p q [] ys t e = tt
 meet_values p q (x ∷ xs) [] t e = absurd t
 meet_values p q (x ∷ xs) (y ∷ ys) t e = (cc (t.0, e), meet_values p q xs ys t.1 (cc (e)))
@@ -59,15 +60,19 @@ module _ (xs ys : List ℕ) (even : length xs ≡ length ys) (apart : Apart xs) 
   reversed_zero : (m : ℕ) → Each IsZero (syndromes_of xs ys m) → Each IsZero (reverse (syndromes_of xs ys m))
   reversed_zero zero h = tt
   reversed_zero (suc m) h =
-      let both : Each IsZero (syndromes_of xs ys m ++ syndrome xs ys m ∷ []) = subst (λ (s : List ℕ). Each IsZero s) (syndromes_more xs ys even apart m) h in
-      subst (λ (s : List ℕ). Each IsZero s) (sym (reversed_more xs ys even apart m))
-      ((Each-append_right (syndromes_of xs ys m) (syndrome xs ys m ∷ []) both).0, reversed_zero m (Each-append_left (syndromes_of xs ys m) (syndrome xs ys m ∷ []) both))
+      let both : Each IsZero (syndromes_of xs ys m ++ syndrome xs ys m ∷ []) =
+      subst (λ (s : List ℕ). Each IsZero s) (syndromes_more xs ys even apart m) h in
+      subst (λ (s : List ℕ). Each IsZero s) (sym (reversed_more xs ys even apart m)) (
+        (Each-append_right (syndromes_of xs ys m) (syndrome xs ys m ∷ []) both).0,
+        reversed_zero m (Each-append_left (syndromes_of xs ys m) (syndrome xs ys m ∷ []) both),
+      )
 
   -- and back
   zero_reversed : (m : ℕ) → Each IsZero (reverse (syndromes_of xs ys m)) → Each IsZero (syndromes_of xs ys m)
   zero_reversed zero h = tt
   zero_reversed (suc m) h =
-      let both : Each IsZero (syndrome xs ys m ∷ reverse (syndromes_of xs ys m)) = subst (λ (s : List ℕ). Each IsZero s) (reversed_more xs ys even apart m) h in
+      let both : Each IsZero (syndrome xs ys m ∷ reverse (syndromes_of xs ys m)) =
+      subst (λ (s : List ℕ). Each IsZero s) (reversed_more xs ys even apart m) h in
       subst (λ (s : List ℕ). Each IsZero s) (sym (syndromes_more xs ys even apart m))
       (Each-append (syndromes_of xs ys m) (syndrome xs ys m ∷ []) (zero_reversed m both.1) (both.0, tt))
 
@@ -80,10 +85,12 @@ module _ (xs ys : List ℕ) (even : length xs ≡ length ys) (apart : Apart xs) 
     values_from_zero h = record {
       polynomial = take keep (interpolate xs ys);
       degree = omega (arith, length-take keep (interpolate xs ys));
-      values_are = values_of_takes (take keep (interpolate xs ys)) xs ys even (front xs ys interpolate_takes_all);
+      values_are = values_of_takes (take keep (interpolate xs ys)) xs ys even
+          (front xs ys interpolate_takes_all);
     }
       where
-        multiple : (x : ℕ) → value (tail xs ys even apart m) x ≡ nim_mul (value (power m) x) (value (interpolate xs ys) x)
+        multiple : (x : ℕ) → value (tail xs ys even apart m) x
+            ≡ nim_mul (value (power m) x) (value (interpolate xs ys) x)
         multiple x =
             sym (key_equation xs ys even apart m x ∙
             cc (
@@ -95,10 +102,12 @@ module _ (xs ys : List ℕ) (even : length xs ≡ length ys) (apart : Apart xs) 
             ))
 
         short : (x : ℕ) → value (take keep (interpolate xs ys)) x ≡ value (interpolate xs ys) x
-        short = short_factor nim nim_laws nim_endless (interpolate xs ys) (tail xs ys even apart m) m keep multiple
+        short = short_factor nim nim_laws nim_endless (interpolate xs ys)
+            (tail xs ys even apart m) m keep multiple
             (omega (arith, length-tail xs ys even apart m))
 
-        front : (us vs : List ℕ) → TakesSymbols (interpolate xs ys) us vs → TakesSymbols (take keep (interpolate xs ys)) us vs
+        front : (us vs : List ℕ) → TakesSymbols (interpolate xs ys) us vs →
+            TakesSymbols (take keep (interpolate xs ys)) us vs
         front [] vs t = tt
         front (u ∷ us) [] t = t
         front (u ∷ us) (y ∷ vs) t = (short u ∙ t.0, front us vs t.1)
@@ -108,7 +117,8 @@ module _ (xs ys : List ℕ) (even : length xs ≡ length ys) (apart : Apart xs) 
     zero_from_values is =
         zero_reversed m
         (cancel nim nim_laws nim_endless (vanish xs) (reverse (syndromes_of xs ys m)) some
-        (λ x. nim_ring.mul_comm (value (vanish xs) x) (value (reverse (syndromes_of xs ys m)) x) ∙ sym (product x) ∙ value-zero nim nim_laws w x w_zero))
+        (λ x. nim_ring.mul_comm (value (vanish xs) x) (value (reverse (syndromes_of xs ys m)) x)
+        ∙ sym (product x) ∙ value-zero nim nim_laws w x w_zero))
       where
         q : List ℕ
         q = is.polynomial
@@ -120,28 +130,36 @@ module _ (xs ys : List ℕ) (even : length xs ≡ length ys) (apart : Apart xs) 
         w = plus (replicate m 0 ++ is.polynomial) (tail xs ys even apart m)
 
         some : Each IsZero (vanish xs) → ⊥
-        some z = let monic = vanish-monic nim nim_laws xs in last_not_zero monic.0 (subst (λ (p : List ℕ). Each IsZero p) monic.1 z)
+        some z = let monic = vanish-monic nim nim_laws xs in
+            last_not_zero monic.0 (subst (λ (p : List ℕ). Each IsZero p) monic.1 z)
 
         same : (x : ℕ) → value (interpolate xs ys) x ≡ value is.polynomial x
         same x =
             same_values nim nim_laws (interpolate xs ys) is.polynomial
-            (plus_zero nim nim_laws xs (interpolate xs ys) is.polynomial apart (meet_values (interpolate xs ys) is.polynomial xs ys interpolate_takes_all is.values_are)
+            (plus_zero nim nim_laws xs (interpolate xs ys) is.polynomial apart
+            (meet_values (interpolate xs ys) is.polynomial xs ys interpolate_takes_all is.values_are)
             (omega (arith, length-interpolate nim nim_laws xs ys even)) (omega (arith, is.degree))) x
 
-        product : (x : ℕ) → value w x ≡ nim_mul (value (reverse (syndromes_of xs ys m)) x) (value (vanish xs) x)
+        product : (x : ℕ) → value w x ≡ nim_mul (value (reverse (syndromes_of xs ys m)) x)
+            (value (vanish xs) x)
         product x =
             value-plus nim nim_laws (replicate m 0 ++ is.polynomial) (tail xs ys even apart m) x ∙
-            ap (λ t. nim_add t (value (tail xs ys even apart m) x)) (value-shift nim nim_laws m is.polynomial x ∙ ap (nim_mul (value (power m) x)) (sym (same x)) ∙ key_equation xs ys even apart m x) ∙
+            ap (λ t. nim_add t (value (tail xs ys even apart m) x))
+            (value-shift nim nim_laws m is.polynomial x ∙ ap (nim_mul (value (power m) x)) (sym (same x))
+            ∙ key_equation xs ys even apart m x) ∙
             cc (
-              nim_ring.add_assoc (nim_mul (value (reverse (syndromes_of xs ys m)) x) (value (vanish xs) x)) (value (tail xs ys even apart m) x) (value (tail xs ys even apart m) x),
+              nim_ring.add_assoc (nim_mul (value (reverse (syndromes_of xs ys m)) x) (value (vanish xs) x))
+                  (value (tail xs ys even apart m) x) (value (tail xs ys even apart m) x),
               nim_ring.add_self (value (tail xs ys even apart m) x),
               nim_ring.add_zero (nim_mul (value (reverse (syndromes_of xs ys m)) x) (value (vanish xs) x)),
             )
 
         at_roots : (us : List ℕ) → Each (λ x. value (vanish xs) x ≡ 0) us → Each (λ x. value w x ≡ 0) us
         at_roots [] z = tt
-        at_roots (u ∷ us) z =
-            (product u ∙ cc (z.0, nim_ring.mul_zero (value (reverse (syndromes_of xs ys m)) u)), at_roots us z.1)
+        at_roots (u ∷ us) z = (
+          product u ∙ cc (z.0, nim_ring.mul_zero (value (reverse (syndromes_of xs ys m)) u)),
+          at_roots us z.1,
+        )
 
         w_zero : Each IsZero w
         w_zero = zero_from_roots nim nim_laws xs w apart (at_roots xs (vanish_roots nim nim_laws xs))

@@ -16,7 +16,8 @@ use Rattle.second_half_laws.proofs.SecondHalf.{second_half}
 use Rattle.headline.specs.Headline.{file_of_put, IsSafe, AcknowledgedFilesSurvive, Headline}
 
 module _ (limit : ℕ) (start : State) (clean : IsStart start) where
-  safe : (later : List Moment) (m : Moment) (before : List Moment) (job : Job) (name bytes : List ℕ) → IsRun limit start (later ++ m ∷ before) → EndsPut start m before job name bytes →
+  safe : (later : List Moment) (m : Moment) (before : List Moment) (job : Job) (name bytes : List ℕ) →
+      IsRun limit start (later ++ m ∷ before) → EndsPut start m before job name bytes →
       IsSafe start later m before job name bytes
   safe later m before job name bytes run ends = record {
     came = came;
@@ -30,21 +31,26 @@ module _ (limit : ℕ) (start : State) (clean : IsStart start) where
       file = file_of_put job name bytes
 
       came : HasComeIn start before name file
-      came = acknowledged limit start m before job name bytes clean (run_part limit start later (m ∷ before) run) ends
+      came = acknowledged limit start m before job name bytes clean
+          (run_part limit start later (m ∷ before) run) ends
 
       split : later ++ m ∷ before ≡ (later ++ m ∷ came.later) ++ came.moment ∷ came.before
-      split = ap (λ l. later ++ m ∷ l) came.split ∙ sym (append_assoc later (m ∷ came.later) (came.moment ∷ came.before))
+      split = ap (λ l. later ++ m ∷ l) came.split
+          ∙ sym (append_assoc later (m ∷ came.later) (came.moment ∷ came.before))
 
   -- in every run acknowledged files survive
   pub survive : (ms : List Moment) → IsRun limit start ms → AcknowledgedFilesSurvive start ms
-  survive ms run later before m job name bytes is ends = safe later m before job name bytes (subst (IsRun limit start) is run) ends
+  survive ms run later before m job name bytes is ends =
+      safe later m before job name bytes (subst (IsRun limit start) is run) ends
 
 -- all parts of the headline hold of every run
-pub headline : (limit : ℕ) (start : State) (ms : List Moment) → IsStart start → IsRun limit start ms → Headline start ms
+pub headline : (limit : ℕ) (start : State) (ms : List Moment) → IsStart start → IsRun limit start ms →
+    Headline start ms
 headline limit start ms clean run = record {
   gets_are_right = first_half limit start ms clean run;
   calm_gets_end_well = λ tell calm scrubs found. second_half limit start ms clean tell run calm scrubs found;
   acknowledged_files_survive = survive limit start clean ms run;
   one_put = λ begun other object g h. stored_once limit start ms clean run begun other object g h;
-  one_audit = λ begun other number object round g h. asked_once limit start ms clean run begun other number object object round round g h;
+  one_audit = λ begun other number object round g h. asked_once limit start ms clean run begun other number
+      object object round round g h;
 }

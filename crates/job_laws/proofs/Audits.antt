@@ -70,20 +70,41 @@ IsAuditing n (Remove j object) = ⊥
 IsAuditing n action = Unit {0}
 
 auditing-asks : (s : Setup) (job : Job) → Each (IsAuditing s.n) (ask_actions s job)
-auditing-asks s job = each_flat (IsAuditing s.n) (λ (f : Pinned). flat_map (λ round. map (λ j. Ask j f.id round) (upto s.n)) (rounds_of (profiled s f.profile) (length f.bytes))) job.pinned
-    (λ f. each_flat (IsAuditing s.n) (λ round. map (λ j. Ask j f.id round) (upto s.n)) (rounds_of (profiled s f.profile) (length f.bytes)) (λ round. each-upto (IsAuditing s.n) (λ j. Ask j f.id round) 0 s.n (λ k l. omega (arith, l))))
+auditing-asks s job =
+    each_flat (IsAuditing s.n)
+    (λ (f : Pinned). flat_map (λ round. map (λ j. Ask j f.id round) (upto s.n))
+    (rounds_of (profiled s f.profile) (length f.bytes))) job.pinned
+    (λ f. each_flat (IsAuditing s.n) (λ round. map (λ j. Ask j f.id round) (upto s.n))
+    (rounds_of (profiled s f.profile) (length f.bytes))
+    (λ round. each-upto (IsAuditing s.n) (λ j. Ask j f.id round) 0 s.n (λ k l. omega (arith, l))))
 
 auditing-list : (s : Setup) (job : Job) → Each (IsAuditing s.n) (append_actions ++ audit_rest s job)
-auditing-list s job = (tt, (tt, (tt, (tt, each_append (IsAuditing s.n) (ask_actions s job) (append_actions ++ End ∷ []) (auditing-asks s job) (tt, (tt, (tt, (tt, (tt, tt)))))))))
+auditing-list s job = (
+  tt,
+  (
+    tt,
+    (
+      tt,
+      (
+        tt,
+        each_append (IsAuditing s.n) (ask_actions s job) (append_actions ++ End ∷ [])
+            (auditing-asks s job) (tt, (tt, (tt, (tt, (tt, tt))))),
+      ),
+    ),
+  ),
+)
 
 -- ---- moves change nothing of providers
 
-moves-still : (x : With) (old new : ℕ → Provider) (given now : List Given) → Made x append_actions old new given now → (new ≡ old) × (now ≡ given)
+moves-still : (x : With) (old new : ℕ → Provider) (given now : List Given) →
+    Made x append_actions old new given now → (new ≡ old) × (now ≡ given)
 moves-still x old new given now (a, ga, da, (b, gb, db, (c, gc, dc, (d, gd, dd, last)))) =
     (last.0 ∙ (dd.0 ∙ (dc.0 ∙ (db.0 ∙ da.0))), last.1 ∙ (dd.1 ∙ (dc.1 ∙ (db.1 ∙ da.1))))
 
 -- answers with which a move ends a job
-pub move-answers : (w : State) (job : Job) (new : State) (action : Action) (flight : Option Append) (how : Answer) → Moves w job action flight (Ended how) new → (how ≡ answer.DiskFault) ⊎ (how ≡ answer.Memory)
+pub move-answers : (w : State) (job : Job) (new : State) (action : Action) (flight : Option Append)
+    (how : Answer) → Moves w job action flight (Ended how) new →
+    (how ≡ answer.DiskFault) ⊎ (how ≡ answer.Memory)
 move-answers w job new WriteBody flight answer.DiskFault h = inl refl
 move-answers w job new WriteBody flight answer.Memory h = inr refl
 move-answers w job new SyncBody (Some a) answer.DiskFault h = inl refl
@@ -92,7 +113,8 @@ move-answers w job new WriteGate (Some a) answer.Memory h = inr refl
 move-answers w job new SyncGate (Some a) answer.DiskFault h = inl refl
 move-answers w job new action flight how h = absurd h
 
-module _ (start : State) (O : IsOpenAtRest start 1) (w : State) (job : Job) (W : Walked start AuditJob w job) where
+module _ (start : State) (O : IsOpenAtRest start 1) (w : State) (job : Job)
+    (W : Walked start AuditJob w job) where
   abbrev s : Setup
   s = setup_in start
 
@@ -105,18 +127,22 @@ module _ (start : State) (O : IsOpenAtRest start 1) (w : State) (job : Job) (W :
   auditing-all : Each (IsAuditing s.n) (actions_of s job)
   auditing-all = subst (Each (IsAuditing s.n)) (sym list-is) (auditing-list s job)
 
-  auditing-next : (action : Action) → next_action w job ≡ Some action → (action ≡ End → ⊥) → IsAuditing s.n action
+  auditing-next : (action : Action) → next_action w job ≡ Some action → (action ≡ End → ⊥) →
+      IsAuditing s.n action
   auditing-next action next n = each_get (IsAuditing s.n) (actions_of s job) job.place action auditing-all
-      (subst (λ (t : Setup). slice_get (actions_of t job) job.place ≡ Some action) W.setup (next_stands w job action next n))
+      (subst (λ (t : Setup). slice_get (actions_of t job) job.place ≡ Some action) W.setup
+      (next_stands w job action next n))
 
   made-taken : Each (IsAuditing s.n) (take job.place (actions_of s job))
   made-taken = each_take (IsAuditing s.n) (actions_of s job) job.place auditing-all
 
   -- providers hold what they held, and were fetched from no more
   pub held-kept : (i : ℕ) → (w.providers i).held ≡ (start.providers i).held
-  held-kept i = made-keeps x i (λ p q. q.held ≡ p.held) (IsAuditing s.n) (λ p. refl) (λ p q r a b. b ∙ a) step (take job.place (actions_of s job)) start.providers w.providers [] job.given made-taken W.made
+  held-kept i = made-keeps x i (λ p q. q.held ≡ p.held) (IsAuditing s.n) (λ p. refl) (λ p q r a b. b ∙ a) step
+      (take job.place (actions_of s job)) start.providers w.providers [] job.given made-taken W.made
     where
-      step : (a : Action) (given now : List Given) (p q : Provider) → IsAuditing s.n a → Called x a given now i p q → q.held ≡ p.held
+      step : (a : Action) (given now : List Given) (p q : Provider) → IsAuditing s.n a →
+          Called x a given now i p q → q.held ≡ p.held
       step (Ask j o r) given now p q u (e, (symbol, c, is)) = c.held
       step (Store j o t) given now p q u c = absurd u
       step (Fetch j o t) given now p q u c = absurd u
@@ -129,9 +155,12 @@ module _ (start : State) (O : IsOpenAtRest start 1) (w : State) (job : Job) (W :
       step End given now p q u c = absurd c
 
   fetches-kept : (i : ℕ) → (w.providers i).fetches ≡ (start.providers i).fetches
-  fetches-kept i = made-keeps x i (λ p q. q.fetches ≡ p.fetches) (IsAuditing s.n) (λ p. refl) (λ p q r a b. b ∙ a) step (take job.place (actions_of s job)) start.providers w.providers [] job.given made-taken W.made
+  fetches-kept i = made-keeps x i (λ p q. q.fetches ≡ p.fetches) (IsAuditing s.n) (λ p. refl)
+      (λ p q r a b. b ∙ a) step (take job.place (actions_of s job)) start.providers w.providers
+      [] job.given made-taken W.made
     where
-      step : (a : Action) (given now : List Given) (p q : Provider) → IsAuditing s.n a → Called x a given now i p q → q.fetches ≡ p.fetches
+      step : (a : Action) (given now : List Given) (p q : Provider) → IsAuditing s.n a →
+          Called x a given now i p q → q.fetches ≡ p.fetches
       step (Ask j o r) given now p q u (e, (symbol, c, is)) = c.counts.fetches
       step (Store j o t) given now p q u c = absurd u
       step (Fetch j o t) given now p q u c = absurd u
@@ -149,8 +178,10 @@ module _ (start : State) (O : IsOpenAtRest start 1) (w : State) (job : Job) (W :
   number = next_audit start.records
 
   abbrev Doubtful : Option Doubt → Type 0
-  Doubtful doubt = (undecided : ℕ) × (counts : List ℕ) × ((done : List Record) × (next : Record) × (rest : List Record)
-      × (audit_records start.records undecided counts ≡ done ++ next ∷ rest) × (w.records ≡ reverse done ++ start.records))
+  Doubtful doubt = (undecided : ℕ) × (counts : List ℕ) ×
+      ((done : List Record) × (next : Record) × (rest : List Record)
+      × (audit_records start.records undecided counts ≡ done ++ next ∷ rest) ×
+      (w.records ≡ reverse done ++ start.records))
 
   -- where the records stand, of a job with an append left
   data Stand : Type 0 where
@@ -177,19 +208,31 @@ module _ (start : State) (O : IsOpenAtRest start 1) (w : State) (job : Job) (W :
   -- ---- an audit at a move of one of its appends
 
   unmoved-asks : Each IsUnmoved (ask_actions s job)
-  unmoved-asks = each_flat IsUnmoved (λ (f : Pinned). flat_map (λ round. map (λ j. Ask j f.id round) (upto s.n)) (rounds_of (profiled s f.profile) (length f.bytes))) job.pinned
-      (λ f. each_flat IsUnmoved (λ round. map (λ j. Ask j f.id round) (upto s.n)) (rounds_of (profiled s f.profile) (length f.bytes)) (λ round. each_map IsUnmoved (λ j. Ask j f.id round) (upto s.n) (λ j. (λ m. m))))
+  unmoved-asks = each_flat IsUnmoved
+      (λ (f : Pinned). flat_map (λ round. map (λ j. Ask j f.id round) (upto s.n))
+      (rounds_of (profiled s f.profile) (length f.bytes))) job.pinned
+      (λ f. each_flat IsUnmoved (λ round. map (λ j. Ask j f.id round) (upto s.n))
+      (rounds_of (profiled s f.profile) (length f.bytes))
+      (λ round. each_map IsUnmoved (λ j. Ask j f.id round) (upto s.n) (λ j. (λ m. m))))
 
-  module _ (action : Action) (next : next_action w job ≡ Some action) (n : action ≡ End → ⊥) (move : IsMove action) where
-    here : slice_get (append_actions ++ (ask_actions s job ++ (append_actions ++ End ∷ []))) job.place ≡ Some action
-    here = ap (λ xs. slice_get xs job.place) (sym list-is) ∙ subst (λ (t : Setup). slice_get (actions_of t job) job.place ≡ Some action) W.setup (next_stands w job action next n)
+  module _ (action : Action) (next : next_action w job ≡ Some action) (n : action ≡ End → ⊥)
+      (move : IsMove action) where
+    here : slice_get (append_actions ++ (ask_actions s job ++ (append_actions ++ End ∷ []))) job.place
+        ≡ Some action
+    here = ap (λ xs. slice_get xs job.place) (sym list-is)
+        ∙ subst (λ (t : Setup). slice_get (actions_of t job) job.place ≡ Some action) W.setup
+        (next_stands w job action next n)
 
-    made-so-far : Made x (take job.place (append_actions ++ (ask_actions s job ++ (append_actions ++ End ∷ [])))) start.providers w.providers [] job.given
-    made-so-far = subst (λ xs. Made x (take job.place xs) start.providers w.providers [] job.given) list-is W.made
+    made-so-far : Made x (take job.place
+        (append_actions ++ (ask_actions s job ++ (append_actions ++ End ∷ [])))) start.providers w.providers
+        [] job.given
+    made-so-far = subst (λ xs. Made x (take job.place xs) start.providers w.providers [] job.given) list-is
+        W.made
 
     heard-none : appends_left (setup_in w) job ≡ 2 → job.given ≡ []
     heard-none two = elim (cases_lt job.place 4) [
-      | inl l ↦ (moved-first x (ask_actions s job) (End ∷ []) job.place action move unmoved-asks ((λ m. m), tt) start.providers w.providers job.given here made-so-far l).1
+      | inl l ↦ (moved-first x (ask_actions s job) (End ∷ []) job.place action move unmoved-asks
+          ((λ m. m), tt) start.providers w.providers job.given here made-so-far l).1
       | inr l ↦ absurd (let c = audit-later (setup_in w) job W.kind_is l in omega (arith, c, two))
     ]
 
@@ -200,7 +243,8 @@ module _ (start : State) (O : IsOpenAtRest start 1) (w : State) (job : Job) (W :
     ]
 
     asks-at : 4 ≤ job.place → Made x (ask_actions s job) start.providers w.providers [] job.given
-    asks-at l = moved-second x (ask_actions s job) (End ∷ []) job.place action move unmoved-asks ((λ m. m), tt) start.providers w.providers job.given here made-so-far l
+    asks-at l = moved-second x (ask_actions s job) (End ∷ []) job.place action move unmoved-asks
+        ((λ m. m), tt) start.providers w.providers job.given here made-so-far l
 
   -- ---- an audit that came to its end
 
@@ -208,10 +252,13 @@ module _ (start : State) (O : IsOpenAtRest start 1) (w : State) (job : Job) (W :
     end-left : actions_left (setup_in w) job ≡ End ∷ []
     end-left =
         (let listed : slice_get (actions_of (setup_in w) job) job.place ≡ Some End =
-        ap (λ xs. slice_get xs job.place) (audit-list (setup_in w) job W.kind_is) ∙ (sym (next_is_by w job ∙ ap (λ kd. next_by w job kd job.place) W.kind_is) ∙ next) in
+        ap (λ xs. slice_get xs job.place) (audit-list (setup_in w) job W.kind_is)
+        ∙ (sym (next_is_by w job ∙ ap (λ kd. next_by w job kd job.place) W.kind_is) ∙ next) in
         let left = drop-get (actions_of (setup_in w) job) job.place End listed in
-        let o : IsInOrder (moves_made w.append job.number) (End ∷ drop (job.place + 1) (actions_of (setup_in w) job)) =
-        subst (IsInOrder (moves_made w.append job.number)) left (W.sound.jobs job.number job (runs start O AuditJob w job W)).order in
+        let o : IsInOrder (moves_made w.append job.number)
+        (End ∷ drop (job.place + 1) (actions_of (setup_in w) job)) =
+        subst (IsInOrder (moves_made w.append job.number)) left
+        (W.sound.jobs job.number job (runs start O AuditJob w job W)).order in
         left ∙ ap (λ xs. End ∷ xs) o.1)
 
     end-count : appends_left (setup_in start) job ≡ 0
@@ -220,14 +267,22 @@ module _ (start : State) (O : IsOpenAtRest start 1) (w : State) (job : Job) (W :
     -- all actions but the end were made
     made-asks : Made x (ask_actions s job) start.providers w.providers [] job.given
     made-asks =
-        (let left : drop job.place (actions_of s job) ≡ End ∷ [] = subst (λ (t : Setup). actions_left t job ≡ End ∷ []) W.setup end-left in
-        let whole : take job.place (actions_of s job) ++ End ∷ [] ≡ append_actions ++ (ask_actions s job ++ (append_actions ++ End ∷ [])) =
-        ap (λ xs. take job.place (actions_of s job) ++ xs) (sym left) ∙ (take-append-drop job.place (actions_of s job) ∙ list-is) in
-        let all : Made x (append_actions ++ (ask_actions s job ++ (append_actions ++ End ∷ []))) start.providers w.providers [] job.given =
+        (let left : drop job.place (actions_of s job) ≡ End ∷ [] =
+        subst (λ (t : Setup). actions_left t job ≡ End ∷ []) W.setup end-left in
+        let whole : take job.place (actions_of s job) ++ End ∷ []
+        ≡ append_actions ++ (ask_actions s job ++ (append_actions ++ End ∷ [])) =
+        ap (λ xs. take job.place (actions_of s job) ++ xs) (sym left)
+        ∙ (take-append-drop job.place (actions_of s job) ∙ list-is) in
+        let all : Made x (append_actions ++ (ask_actions s job ++ (append_actions ++ End ∷ [])))
+        start.providers w.providers [] job.given =
         subst (λ xs. Made x xs start.providers w.providers [] job.given) whole
-        (made-append x (take job.place (actions_of s job)) (End ∷ []) start.providers w.providers w.providers [] job.given job.given W.made (made-one x End w.providers w.providers job.given job.given (refl, refl))) in
-        let a = made-split x append_actions (ask_actions s job ++ (append_actions ++ End ∷ [])) start.providers w.providers [] job.given all in
-        let b = made-split x (ask_actions s job) (append_actions ++ End ∷ []) a.0 w.providers a.1 job.given a.3 in
+        (made-append x (take job.place (actions_of s job)) (End ∷ []) start.providers w.providers w.providers
+        [] job.given job.given W.made
+        (made-one x End w.providers w.providers job.given job.given (refl, refl))) in
+        let a = made-split x append_actions (ask_actions s job ++ (append_actions ++ End ∷ []))
+        start.providers w.providers [] job.given all in
+        let b = made-split x (ask_actions s job) (append_actions ++ End ∷ []) a.0 w.providers a.1 job.given
+        a.3 in
         let c = made-split x append_actions (End ∷ []) b.0 w.providers b.1 job.given b.3 in
         let first = moves-still x start.providers a.0 [] a.1 a.2 in
         let last = moves-still x b.0 c.0 b.1 c.1 c.2 in
@@ -236,7 +291,8 @@ module _ (start : State) (O : IsOpenAtRest start 1) (w : State) (job : Job) (W :
         let g : job.given ≡ b.1 = end.3.1 ∙ (end.2.1 ∙ last.1) in
         subst (λ f. Made x (ask_actions s job) f w.providers [] job.given) first.0
         (subst (λ h. Made x (ask_actions s job) a.0 w.providers h job.given) first.1
-        (subst (λ f. Made x (ask_actions s job) a.0 f a.1 job.given) (sym p) (subst (λ h. Made x (ask_actions s job) a.0 b.0 a.1 h) (sym g) b.2))))
+        (subst (λ f. Made x (ask_actions s job) a.0 f a.1 job.given) (sym p)
+        (subst (λ h. Made x (ask_actions s job) a.0 b.0 a.1 h) (sym g) b.2))))
 
   -- ---- an audit that has made all its asks
 
@@ -248,7 +304,8 @@ module _ (start : State) (O : IsOpenAtRest start 1) (w : State) (job : Job) (W :
     asked = questions s files
 
     sizes : Each (λ (f : File). length (start.bytes f.id) ≡ f.size) files
-    sizes = each-in (λ (f : File). length (start.bytes f.id) ≡ f.size) files (λ f i. (O.rest.files f.name f (listed_file start.records f i)).1)
+    sizes = each-in (λ (f : File). length (start.bytes f.id) ≡ f.size) files
+        (λ f i. (O.rest.files f.name f (listed_file start.records f i)).1)
 
     asks-are : ask_actions s job ≡ asks_of s.n asked
     asks-are = asks-questions s start job files W.pinned sizes
@@ -257,7 +314,8 @@ module _ (start : State) (O : IsOpenAtRest start 1) (w : State) (job : Job) (W :
     made-questions = subst (λ xs. Made x xs start.providers w.providers [] job.given) asks-are asks
 
     distinct-questions : AreDistinct (asks_of s.n asked)
-    distinct-questions = subst AreDistinct asks-are (distinct-asks s 0 job.pinned (W.sound.jobs job.number job (runs start O AuditJob w job W)).ascending)
+    distinct-questions = subst AreDistinct asks-are
+        (distinct-asks s 0 job.pinned (W.sound.jobs job.number job (runs start O AuditJob w job W)).ascending)
 
     quiet-questions : Each IsQuiet (asks_of s.n asked)
     quiet-questions = subst (Each IsQuiet) asks-are (quiet (ask_actions s job) (auditing-asks s job))
@@ -279,8 +337,15 @@ module _ (start : State) (O : IsOpenAtRest start 1) (w : State) (job : Job) (W :
             one End u = tt
 
     -- what it heard is an entry for each question and provider
-    heard-entries : entries_of 1 job.given ≡ flat_map (λ (q : Question). map (λ j. record { job = 1; given = Answered j q.file.id q.round (answer_given job.given q.file.id q.round j) }) (upto s.n)) asked
-    heard-entries = entries-made 1 x (asks_of s.n asked) start.providers w.providers [] job.given distinct-questions made-questions ∙ entries-questions s.n 1 job.given asked
+    heard-entries : entries_of 1 job.given ≡ flat_map
+        (λ (q : Question). map
+        (λ j. record {
+          job = 1;
+          given = Answered j q.file.id q.round (answer_given job.given q.file.id q.round j);
+        })
+        (upto s.n)) asked
+    heard-entries = entries-made 1 x (asks_of s.n asked) start.providers w.providers
+        [] job.given distinct-questions made-questions ∙ entries-questions s.n 1 job.given asked
 
     abbrev heard_all : List Entry
     heard_all = entries_of 1 job.given
@@ -292,7 +357,12 @@ module _ (start : State) (O : IsOpenAtRest start 1) (w : State) (job : Job) (W :
 
       entries-are : ran.heard ≡ answer_entries ran
       unfolding setup_in
-      entries-are = heard-entries ∙ (λ i. flat_map (λ (q : Question). map (λ j. record { job = 1; given = Answered j q.file.id q.round (sym (answer-heard 1 job.given q.file.id q.round j) i) }) (upto s.n)) asked)
+      entries-are = heard-entries
+          ∙ (λ i. flat_map (λ (q : Question). map
+          (λ j. record {
+            job = 1;
+            given = Answered j q.file.id q.round (sym (answer-heard 1 job.given q.file.id q.round j) i);
+          }) (upto s.n)) asked)
 
       abbrev gave : ℕ → Question → Option ℕ
       gave j q = answer_heard ran q.file.id q.round j
@@ -300,42 +370,72 @@ module _ (start : State) (O : IsOpenAtRest start 1) (w : State) (job : Job) (W :
       abbrev honest : Held → Question → Option ℕ
       honest held q = honest_answer (challenge_at ran job.subject q) (held q.file.id)
 
-      files-known : Each (λ (q : Question). (pinned_size x.pinned q.file.id ≡ q.file.size) × (q.file.profile ≡ s.profile)) asked
-      files-known = each-question s (λ (f : File). (pinned_size x.pinned f.id ≡ f.size) × (f.profile ≡ s.profile)) (files_by_number files)
-          (each-both (λ (f : File). pinned_size x.pinned f.id ≡ f.size) (λ (f : File). f.profile ≡ s.profile) (files_by_number files) (subst (λ ps. Each (λ (f : File). pinned_size ps f.id ≡ f.size) (files_by_number files)) (sym (pinned-by_number start files))
-          (sizes-pinned start (files_by_number files) (each-by_number (λ (f : File). length (start.bytes f.id) ≡ f.size) files sizes)))
+      files-known : Each (λ (q : Question). (pinned_size x.pinned q.file.id ≡ q.file.size) ×
+          (q.file.profile ≡ s.profile)) asked
+      files-known = each-question s
+          (λ (f : File). (pinned_size x.pinned f.id ≡ f.size) × (f.profile ≡ s.profile))
+          (files_by_number files)
+          (each-both (λ (f : File). pinned_size x.pinned f.id ≡ f.size) (λ (f : File). f.profile ≡ s.profile)
+          (files_by_number files)
+          (subst (λ ps. Each (λ (f : File). pinned_size ps f.id ≡ f.size) (files_by_number files))
+          (sym (pinned-by_number start files))
+          (sizes-pinned start (files_by_number files)
+          (each-by_number (λ (f : File). length (start.bytes f.id) ≡ f.size) files sizes)))
           (each-by_number (λ (f : File). f.profile ≡ s.profile) files (plain-files start O)))
 
-      fits : (held : Held) (j : ℕ) (below : j < s.n) → Each (Fits x job.given held j s.n below (gave j) (honest held)) asked
+      fits : (held : Held) (j : ℕ) (below : j < s.n) →
+          Each (Fits x job.given held j s.n below (gave j) (honest held)) asked
       unfolding setup_in
       fits held j below = known asked files-known
         where
-          one : (q : Question) → (pinned_size x.pinned q.file.id ≡ q.file.size) × (q.file.profile ≡ s.profile) → Fits x job.given held j s.n below (gave j) (honest held) q
+          one : (q : Question) → (pinned_size x.pinned q.file.id ≡ q.file.size) ×
+              (q.file.profile ≡ s.profile) → Fits x job.given held j s.n below (gave j) (honest held) q
           one q e = (
             answer-heard 1 job.given q.file.id q.round j,
-            ap (λ p. honest_answer (challenge_of (object_of (profiled s p) q.file.id) q.file.size s.picks job.subject q.round) (held q.file.id)) e.1
-                ∙ (ap (λ size. honest_answer (challenge_of (object_of s q.file.id) size s.picks job.subject q.round) (held q.file.id)) (sym e.0)
-                ∙ ap (λ (z : Object). honest_answer (challenge_of z (pinned_size x.pinned q.file.id) s.picks job.subject q.round) (held q.file.id)) (sym (made-plain start O AuditJob job q.file.id))),
+            ap (λ p. honest_answer
+                (challenge_of (object_of (profiled s p) q.file.id) q.file.size s.picks job.subject q.round)
+                (held q.file.id)) e.1
+                ∙ (ap (λ size. honest_answer
+                (challenge_of (object_of s q.file.id) size s.picks job.subject q.round) (held q.file.id))
+                (sym e.0)
+                ∙ ap (λ (z : Object). honest_answer
+                (challenge_of z (pinned_size x.pinned q.file.id) s.picks job.subject q.round)
+                (held q.file.id)) (sym (made-plain start O AuditJob job q.file.id))),
           )
 
-          known : (qs : List Question) → Each (λ (q : Question). (pinned_size x.pinned q.file.id ≡ q.file.size) × (q.file.profile ≡ s.profile)) qs → Each (Fits x job.given held j s.n below (gave j) (honest held)) qs
+          known : (qs : List Question) →
+              Each (λ (q : Question). (pinned_size x.pinned q.file.id ≡ q.file.size) ×
+              (q.file.profile ≡ s.profile)) qs →
+              Each (Fits x job.given held j s.n below (gave j) (honest held)) qs
           known [] h = tt
           known (q ∷ qs) h = (one q h.0, known qs h.1)
 
-      truth : (j : ℕ) → j < s.n → IfSome (start.providers j).held (λ held. IsTruthful (gave j) (honest held) asked (start.providers j).other_faults (new.providers j).other_faults)
+      truth : (j : ℕ) → j < s.n →
+          IfSome (start.providers j).held
+          (λ held. IsTruthful (gave j) (honest held) asked (start.providers j).other_faults
+          (new.providers j).other_faults)
       truth j below = by_held (start.providers j).held refl
         where
-          tells : (held : Held) → (start.providers j).held ≡ Some held → IsTruthful (gave j) (honest held) asked (start.providers j).other_faults (new.providers j).other_faults
+          tells : (held : Held) → (start.providers j).held ≡ Some held →
+              IsTruthful (gave j) (honest held) asked (start.providers j).other_faults
+              (new.providers j).other_faults
           tells held e =
-              (let t = asks-told x j held job.given (asks_of s.n asked) start.providers w.providers [] quiet-questions distinct-questions made-questions e in
+              (let t = asks-told x j held job.given (asks_of s.n asked) start.providers w.providers
+              [] quiet-questions distinct-questions made-questions e in
               let f = fits held j below in
               record {
-                each = all-each (λ q. (gave j q ≡ honest held q) ⊎ (gave j q ≡ None)) asked (told-questions x job.given held j s.n below (gave j) (honest held) asked f t.0);
-                few = λ l. (let same : (new.providers j).other_faults ≡ (w.providers j).other_faults = ap (λ (g : ℕ → Provider). (g j).other_faults) providers in
-                    let c = t.1 (omega (arith, l, same)) in let m = lacks-questions x job.given held j s.n below (gave j) (honest held) asked f in omega (arith, c, m, same));
+                each = all-each (λ q. (gave j q ≡ honest held q) ⊎ (gave j q ≡ None)) asked
+                    (told-questions x job.given held j s.n below (gave j) (honest held) asked f t.0);
+                few = λ l. (let same : (new.providers j).other_faults ≡ (w.providers j).other_faults =
+                    ap (λ (g : ℕ → Provider). (g j).other_faults) providers in
+                    let c = t.1 (omega (arith, l, same)) in let m =
+                    lacks-questions x job.given held j s.n below (gave j) (honest held) asked f in
+                    omega (arith, c, m, same));
               })
 
-          by_held : (h : Option Held) → (start.providers j).held ≡ h → IfSome h (λ held. IsTruthful (gave j) (honest held) asked (start.providers j).other_faults (new.providers j).other_faults)
+          by_held : (h : Option Held) → (start.providers j).held ≡ h →
+              IfSome h (λ held. IsTruthful (gave j) (honest held) asked (start.providers j).other_faults
+              (new.providers j).other_faults)
           by_held None e = tt
           by_held (Some held) e = tells held e
 
@@ -343,31 +443,52 @@ module _ (start : State) (O : IsOpenAtRest start 1) (w : State) (job : Job) (W :
       unfolding setup_in
       hears = record { heard = entries-are; truthful = truth }
 
-      judged : (sums : Sums) → HasSums (setup_in w) job sums → CountsHeard ran job.subject sums.undecided sums.counts
+      judged : (sums : Sums) → HasSums (setup_in w) job sums →
+          CountsHeard ran job.subject sums.undecided sums.counts
       unfolding setup_in
       judged sums has = files-questions ran s start job one (files_by_number files) (no_sums ran) sums
           (each-by_number (λ (f : File). length (start.bytes f.id) ≡ f.size) files sizes)
-          (subst (λ ps. JudgesFiles s job ps (no_sums ran) sums) (W.pinned ∙ pinned-by_number start files) (subst (λ (t : Setup). HasSums t job sums) W.setup has))
+          (subst (λ ps. JudgesFiles s job ps (no_sums ran) sums) (W.pinned ∙ pinned-by_number start files)
+          (subst (λ (t : Setup). HasSums t job sums) W.setup has))
         where
-          one : (q : Question) (old now : Sums) → Judges (object_of (profiled s q.file.profile) q.file.id) (challenge_in (profiled s q.file.profile) job q.file.id q.file.size q.round) (answers_given job.given s.n q.file.id q.round) old now → JudgesOne ran job.subject q old now
-          one q old now h = subst (λ (g : ℕ → Option ℕ). Judges (object_of (profiled s q.file.profile) q.file.id) (challenge_in (profiled s q.file.profile) job q.file.id q.file.size q.round) (map g (upto s.n)) old now)
+          one : (q : Question) (old now : Sums) →
+              Judges (object_of (profiled s q.file.profile) q.file.id)
+              (challenge_in (profiled s q.file.profile) job q.file.id q.file.size q.round)
+              (answers_given job.given s.n q.file.id q.round) old now → JudgesOne ran job.subject q old now
+          one q old now h = subst
+              (λ (g : ℕ → Option ℕ). Judges (object_of (profiled s q.file.profile) q.file.id)
+              (challenge_in (profiled s q.file.profile) job q.file.id q.file.size q.round)
+              (map g (upto s.n)) old now)
               (λ i j. sym (answer-heard 1 job.given q.file.id q.round j) i) h
 
-      whole : next_action w job ≡ Some End → (sums : Sums) → HasSums (setup_in w) job sums → new.records ≡ w.records → new.doubt ≡ w.doubt → IsWhole ran (audit_records start.records sums.undecided sums.counts)
-      whole next sums has records doubt = record { after = records ∙ by_records w.records refl W.records; sure = ap (option_map (λ (d : Doubt). d.entry)) (doubt ∙ sure) }
+      whole : next_action w job ≡ Some End → (sums : Sums) → HasSums (setup_in w) job sums →
+          new.records ≡ w.records → new.doubt ≡ w.doubt →
+          IsWhole ran (audit_records start.records sums.undecided sums.counts)
+      whole next sums has records doubt =
+          record {
+            after = records ∙ by_records w.records refl W.records;
+            sure = ap (option_map (λ (d : Doubt). d.entry)) (doubt ∙ sure);
+          }
         where
-          by_records : (rs : List Record) → w.records ≡ rs → RecordsAre start AuditJob job rs → w.records ≡ AuditDone number sums.undecided sums.counts ∷ AuditStart number ∷ start.records
+          by_records : (rs : List Record) → w.records ≡ rs → RecordsAre start AuditJob job rs →
+              w.records ≡ AuditDone number sums.undecided sums.counts ∷ AuditStart number ∷ start.records
           by_records rs e (RecordsAre.none l is) = absurd (let c = end-count next in omega (arith, l, c))
           by_records rs e (RecordsAre.one l is) = absurd (let c = end-count next in omega (arith, l, c))
-          by_records rs e (RecordsAre.two entry l sec is) = e ∙ (is ∙ (ap (λ (r : Record). r ∷ AuditStart number ∷ start.records)
-              (sec.2 ∙ ap (λ (t : Sums). AuditDone number t.undecided t.counts) (sums-one s job (valid-shape s (setup-valid 8 start (opened-sound start O) O.opened)) sec.0 sums sec.1 (subst (λ (t : Setup). HasSums t job sums) W.setup has)))))
+          by_records rs e (RecordsAre.two entry l sec is) =
+              e ∙ (is ∙ (ap (λ (r : Record). r ∷ AuditStart number ∷ start.records)
+              (sec.2 ∙ ap (λ (t : Sums). AuditDone number t.undecided t.counts)
+              (sums-one s job (valid-shape s (setup-valid 8 start (opened-sound start O) O.opened)) sec.0
+              sums sec.1 (subst (λ (t : Setup). HasSums t job sums) W.setup has)))))
 
           sure : w.doubt ≡ None
-          sure = (none-moving start O AuditJob w job W (subst (IsInOrder (moves_made w.append job.number)) (end-left next) (W.sound.jobs job.number job (runs start O AuditJob w job W)).order).0).1
+          sure = (none-moving start O AuditJob w job W
+              (subst (IsInOrder (moves_made w.append job.number)) (end-left next)
+              (W.sound.jobs job.number job (runs start O AuditJob w job W)).order).0).1
 
 -- ---- all ends of an audit
 
-module _ (start new : State) (how : Answer) (heard : List Entry) (O : IsOpenAtRest start 1) (E : Ends start AuditJob how heard new) where
+module _ (start new : State) (how : Answer) (heard : List Entry) (O : IsOpenAtRest start 1)
+    (E : Ends start AuditJob how heard new) where
   abbrev w : State
   w = E.before
 
@@ -379,15 +500,19 @@ module _ (start new : State) (how : Answer) (heard : List Entry) (O : IsOpenAtRe
 
   -- what it heard
   heard-is : heard ≡ entries_of 1 E.job.given
-  heard-is = E.heard_is ∙ (ap (heard_by_kind E.job) E.walked.kind_is ∙ ap (λ n. entries_of n E.job.given) E.walked.number)
+  heard-is = E.heard_is
+      ∙ (ap (heard_by_kind E.job) E.walked.kind_is ∙ ap (λ n. entries_of n E.job.given) E.walked.number)
 
   -- what an audit leaves by its answer, and providers as they were
   abbrev Gives : Answer → Type 0
-  Gives a = AuditGives (ran_from start new heard) a × (new.providers ≡ E.before.providers) × (E.before.disk_faults ≤ new.disk_faults)
+  Gives a = AuditGives (ran_from start new heard) a × (new.providers ≡ E.before.providers) ×
+      (E.before.disk_faults ≤ new.disk_faults)
 
   -- the number that it drew
   drawn-number : E.action ≡ End → E.job.subject ≡ next_audit start.records
-  drawn-number at = E.walked.subject ((first-body start O AuditJob E.before E.job E.walked E.action E.next (λ e. (let f : End ≡ WriteBody = sym at ∙ e in cc)) AuditJob refl).1 refl)
+  drawn-number at = E.walked.subject
+      ((first-body start O AuditJob E.before E.job E.walked E.action E.next
+      (λ e. (let f : End ≡ WriteBody = sym at ∙ e in cc)) AuditJob refl).1 refl)
 
   ended : (a : Answer) → E.action ≡ End → Acts E.before E.job End (Ended a) new → Gives a
   ended a at (so, is) = by_answer a (subst (λ kd. EndsAs E.before E.job kd a) E.walked.kind_is so)
@@ -398,16 +523,22 @@ module _ (start new : State) (how : Answer) (heard : List Entry) (O : IsOpenAtRe
       providers : new.providers ≡ E.before.providers
       providers = ap (λ (v : State). v.providers) is
 
-      asks : Made (with_job_of start AuditJob E.job) (ask_actions (setup_in start) E.job) start.providers E.before.providers [] E.job.given
+      asks : Made (with_job_of start AuditJob E.job)
+          (ask_actions (setup_in start) E.job) start.providers E.before.providers [] E.job.given
       asks = made-asks start O E.before E.job E.walked next
 
       by_answer : (a : Answer) → EndsAs E.before E.job AuditJob a → Gives a
       by_answer (answer.Audited number undecided counts) (number_is, has) = (
         subst (λ h. AuditGives (ran_from start new h) (answer.Audited number undecided counts)) (sym heard-is) (
           number_is ∙ drawn-number at,
-          whole start O E.before E.job E.walked asks new providers next (record { counts = counts; undecided = undecided }) has (ap (λ (v : State). v.records) is) (ap (λ (v : State). v.doubt) is),
-          subst (HearsRounds (ran_from start new (entries_of 1 E.job.given))) (sym number_is) (hears start O E.before E.job E.walked asks new providers),
-          subst (λ n. CountsHeard (ran_from start new (entries_of 1 E.job.given)) n undecided counts) (sym number_is) (judged start O E.before E.job E.walked asks new providers (record { counts = counts; undecided = undecided }) has),
+          whole start O E.before E.job E.walked asks new providers next
+              (record { counts = counts; undecided = undecided }) has (ap (λ (v : State). v.records) is)
+              (ap (λ (v : State). v.doubt) is),
+          subst (HearsRounds (ran_from start new (entries_of 1 E.job.given))) (sym number_is)
+              (hears start O E.before E.job E.walked asks new providers),
+          subst (λ n. CountsHeard (ran_from start new (entries_of 1 E.job.given)) n undecided counts)
+              (sym number_is) (judged start O E.before E.job E.walked asks new providers
+              (record { counts = counts; undecided = undecided }) has),
         ),
         providers,
         (let e = ap (λ (v : State). v.disk_faults) is in omega (arith, e)),
@@ -415,46 +546,65 @@ module _ (start new : State) (how : Answer) (heard : List Entry) (O : IsOpenAtRe
       by_answer a h = absurd h
 
   -- a move of an append failed
-  module _ (action : Action) (at : E.action ≡ action) (n : action ≡ End → ⊥) (move : IsMove action) (F : Faults start O AuditJob E.before E.job E.walked new) where
+  module _ (action : Action) (at : E.action ≡ action) (n : action ≡ End → ⊥) (move : IsMove action)
+      (F : Faults start O AuditJob E.before E.job E.walked new) where
     next-is : next_action E.before E.job ≡ Some action
     next-is = E.next ∙ ap Some at
 
-    cut-first : appends_left (setup_in E.before) E.job ≡ 2 → E.before.records ≡ start.records → AuditIsCut (ran_from start new heard)
-    cut-first two is = AuditIsCut.at_start (F.records ∙ is) in-doubt (heard-is ∙ ap (entries_of 1) (heard-none start O E.before E.job E.walked action next-is n move two))
+    cut-first : appends_left (setup_in E.before) E.job ≡ 2 → E.before.records ≡ start.records →
+        AuditIsCut (ran_from start new heard)
+    cut-first two is = AuditIsCut.at_start (F.records ∙ is) in-doubt
+        (heard-is ∙ ap (entries_of 1) (heard-none start O E.before E.job E.walked action next-is n move two))
       where
-        in-doubt : (option_map (λ (d : Doubt). d.entry) new.doubt ≡ None) ⊎ (option_map (λ (d : Doubt). d.entry) new.doubt ≡ Some (AuditStart (next_audit start.records)))
+        in-doubt : (option_map (λ (d : Doubt). d.entry) new.doubt ≡ None) ⊎
+            (option_map (λ (d : Doubt). d.entry) new.doubt ≡ Some (AuditStart (next_audit start.records)))
         in-doubt = elim F.doubt [
           | inl none ↦ inl (ap (option_map (λ (d : Doubt). d.entry)) none)
-          | inr (d, in_doubt, writes) ↦ elim (wrote start O AuditJob E.before E.job E.walked d.entry F.left writes) [
-            | Wrote.first l is entry ↦ inr (ap (option_map (λ (z : Doubt). z.entry)) in_doubt ∙ ap Some entry)
-            | Wrote.second l is sec ↦ absurd (omega (arith, l, two))
-          ]
+          | inr (d, in_doubt, writes) ↦
+              elim (wrote start O AuditJob E.before E.job E.walked d.entry F.left writes) [
+                | Wrote.first l is entry ↦ inr (ap (option_map (λ (z : Doubt). z.entry)) in_doubt ∙ ap Some entry)
+                | Wrote.second l is sec ↦ absurd (omega (arith, l, two))
+              ]
         ]
 
     module _ (one : appends_left (setup_in E.before) E.job ≡ 1) where
-      asks : Made (with_job_of start AuditJob E.job) (ask_actions (setup_in start) E.job) start.providers E.before.providers [] E.job.given
-      asks = asks-at start O E.before E.job E.walked action next-is n move (second start O E.before E.job E.walked action next-is n move one)
+      asks : Made (with_job_of start AuditJob E.job)
+          (ask_actions (setup_in start) E.job) start.providers E.before.providers [] E.job.given
+      asks = asks-at start O E.before E.job E.walked action next-is n move
+          (second start O E.before E.job E.walked action next-is n move one)
 
       number-is : E.job.subject ≡ next_audit start.records
-      number-is = E.walked.subject (let l = second start O E.before E.job E.walked action next-is n move one in omega (arith, l))
+      number-is = E.walked.subject
+          (let l = second start O E.before E.job E.walked action next-is n move one in omega (arith, l))
 
       heard-all : HearsRounds (ran_from start new heard) (next_audit start.records)
       heard-all = subst (λ h. HearsRounds (ran_from start new h) (next_audit start.records)) (sym heard-is)
-          (subst (HearsRounds (ran_from start new (entries_of 1 E.job.given))) number-is (hears start O E.before E.job E.walked asks new F.providers))
+          (subst (HearsRounds (ran_from start new (entries_of 1 E.job.given))) number-is
+          (hears start O E.before E.job E.walked asks new F.providers))
 
-      counted-all : (sums : Sums) → HasSums (setup_in start) E.job sums → CountsHeard (ran_from start new heard) (next_audit start.records) sums.undecided sums.counts
-      counted-all sums has = subst (λ h. CountsHeard (ran_from start new h) (next_audit start.records) sums.undecided sums.counts) (sym heard-is)
-          (subst (λ k. CountsHeard (ran_from start new (entries_of 1 E.job.given)) k sums.undecided sums.counts) number-is
-          (judged start O E.before E.job E.walked asks new F.providers sums (subst (λ (t : Setup). HasSums t E.job sums) (sym E.walked.setup) has)))
+      counted-all : (sums : Sums) → HasSums (setup_in start) E.job sums →
+          CountsHeard (ran_from start new heard) (next_audit start.records) sums.undecided sums.counts
+      counted-all sums has =
+          subst (λ h. CountsHeard (ran_from start new h)
+          (next_audit start.records) sums.undecided sums.counts) (sym heard-is)
+          (subst (λ k. CountsHeard (ran_from start new (entries_of 1 E.job.given)) k sums.undecided
+          sums.counts) number-is
+          (judged start O E.before E.job E.walked asks new F.providers sums
+          (subst (λ (t : Setup). HasSums t E.job sums) (sym E.walked.setup) has)))
 
-      cut-second : E.before.records ≡ AuditStart (next_audit start.records) ∷ start.records → AuditIsCut (ran_from start new heard)
+      cut-second : E.before.records ≡ AuditStart (next_audit start.records) ∷ start.records →
+          AuditIsCut (ran_from start new heard)
       cut-second is = elim F.doubt [
-        | inl none ↦ AuditIsCut.before_done (F.records ∙ is) (ap (option_map (λ (d : Doubt). d.entry)) none) heard-all
-        | inr (d, in_doubt, writes) ↦ elim (wrote start O AuditJob E.before E.job E.walked d.entry F.left writes) [
-          | Wrote.first l same entry ↦ absurd (omega (arith, l, one))
-          | Wrote.second l same sec ↦ (let sums : Sums = sec.0 in
-              AuditIsCut.at_done sums.undecided sums.counts (F.records ∙ is) (ap (option_map (λ (z : Doubt). z.entry)) in_doubt ∙ ap Some sec.2) heard-all (counted-all sums sec.1))
-        ]
+        | inl none ↦ AuditIsCut.before_done (F.records ∙ is)
+            (ap (option_map (λ (d : Doubt). d.entry)) none) heard-all
+        | inr (d, in_doubt, writes) ↦
+            elim (wrote start O AuditJob E.before E.job E.walked d.entry F.left writes) [
+              | Wrote.first l same entry ↦ absurd (omega (arith, l, one))
+              | Wrote.second l same sec ↦ (let sums : Sums = sec.0 in
+                  AuditIsCut.at_done sums.undecided sums.counts (F.records ∙ is)
+                  (ap (option_map (λ (z : Doubt). z.entry)) in_doubt ∙ ap Some sec.2) heard-all
+                  (counted-all sums sec.1))
+            ]
       ]
 
     faulted : Gives answer.DiskFault
@@ -473,18 +623,40 @@ module _ (start new : State) (how : Answer) (heard : List Entry) (O : IsOpenAtRe
   no-room : NoRoom start O AuditJob E.before E.job E.walked new → Gives answer.Memory
   no-room N =
       (let d = cut-at start O E.before E.job E.walked N.left in
-      let c = d.2 in
-      ((d.0, d.1, record { done = c.0; next = c.1; rest = c.2; parts = c.3; after = N.records ∙ c.4; sure = ap (option_map (λ (z : Doubt). z.entry)) N.doubt }), N.providers, N.low))
+      let c = d.2 in (
+        (
+          d.0,
+          d.1,
+          record {
+            done = c.0;
+            next = c.1;
+            rest = c.2;
+            parts = c.3;
+            after = N.records ∙ c.4;
+            sure = ap (option_map (λ (z : Doubt). z.entry)) N.doubt;
+          },
+        ),
+        N.providers,
+        N.low,
+      ))
 
-  moved : (action : Action) → E.action ≡ action → holder_of E.before.append action ≡ None → Moves E.before E.job action E.before.append (Ended how) new → Gives how
+  moved : (action : Action) → E.action ≡ action → holder_of E.before.append action ≡ None →
+      Moves E.before E.job action E.before.append (Ended how) new → Gives how
   moved action at free h = elim (move-answers E.before E.job new action E.before.append how h) [
     | inl e ↦ (let failed = subst (λ a. Moves E.before E.job action E.before.append (Ended a) new) e h in
         let move = move-is E.before E.job new action E.before.append failed in
-        subst Gives (sym e) (faulted action at (λ end. subst IsMove end move) move (move-faults start O AuditJob E.before E.job E.walked action E.before.append new refl (E.next ∙ ap Some at) failed)))
-    | inr e ↦ subst Gives (sym e) (no-room (move-memory start O AuditJob E.before E.job E.walked action E.before.append new refl free (E.next ∙ ap Some at) (subst (λ a. Moves E.before E.job action E.before.append (Ended a) new) e h)))
+        subst Gives (sym e) (faulted action at (λ end. subst IsMove end move) move
+        (move-faults start O AuditJob E.before E.job E.walked action E.before.append new refl
+        (E.next ∙ ap Some at) failed)))
+    | inr e ↦ subst Gives (sym e)
+        (no-room (move-memory start O AuditJob E.before E.job E.walked action E.before.append new refl free
+        (E.next ∙ ap Some at)
+        (subst (λ a. Moves E.before E.job action E.before.append (Ended a) new) e h)))
   ]
 
-  by-action : (action : Action) → E.action ≡ action → holder_of E.before.append action ≡ None → Acts E.before E.job action (Ended how) new → ((action ≡ End → ⊥) → IsAuditing (setup_in start).n action) → Gives how
+  by-action : (action : Action) → E.action ≡ action → holder_of E.before.append action ≡ None →
+      Acts E.before E.job action (Ended how) new →
+      ((action ≡ End → ⊥) → IsAuditing (setup_in start).n action) → Gives how
   by-action End at free h u = ended how at h
   by-action WriteBody at free h u = moved WriteBody at free h
   by-action SyncBody at free h u = moved SyncBody at free h
@@ -498,19 +670,27 @@ module _ (start new : State) (how : Answer) (heard : List Entry) (O : IsOpenAtRe
 
   -- an audit gives what its answer says, and calls no provider in its last step
   pub gives : Gives how
-  gives = by-action E.action refl E.free E.acts (λ n. auditing-next start O E.before E.job E.walked E.action E.next n)
+  gives = by-action E.action refl E.free E.acts
+      (λ n. auditing-next start O E.before E.job E.walked E.action E.next n)
 
   audit-leaves : AuditLeaves (ran_from start new heard) how
   unfolding setup_in
   audit-leaves = record {
     gives = gives.0;
     held = λ j l. ap (λ (g : ℕ → Provider). (g j).held) gives.1 ∙ held-kept start O E.before E.job E.walked j;
-    fetches = λ j l. ap (λ (g : ℕ → Provider). (g j).fetches) gives.1 ∙ fetches-kept start O E.before E.job E.walked j;
+    fetches = λ j l. ap (λ (g : ℕ → Provider). (g j).fetches) gives.1
+        ∙ fetches-kept start O E.before E.job E.walked j;
   }
 
 -- an audit leaves its records, what it heard and its counts, and providers hold what they held
-pub audits-leave : (start new : State) (moment : ℕ) (how : Answer) (heard : List Entry) → IsOpenAtRest start 1 → RunsJob start moment AuditJob how heard new → Leaves (ran_from start new heard) AuditJob how
+pub audits-leave : (start new : State) (moment : ℕ) (how : Answer) (heard : List Entry) →
+    IsOpenAtRest start 1 → RunsJob start moment AuditJob how heard new →
+    Leaves (ran_from start new heard) AuditJob how
 unfolding setup_in
 audits-leave start new moment how heard O r =
     (let E = job-ends start new moment AuditJob how heard O tt r in
-    record { by_kind = audit-leaves start new how heard O E; counts = counts-rise start new AuditJob how heard O E; others = others-stay start new AuditJob how heard O E })
+    record {
+      by_kind = audit-leaves start new how heard O E;
+      counts = counts-rise start new AuditJob how heard O E;
+      others = others-stay start new AuditJob how heard O E;
+    })

@@ -24,9 +24,16 @@ module _ (w : State) where
   abbrev alone : State
   alone = record w { journal = w.records; area = A; jobs = []; alone = None; is_barred = false }
 
-  room-alone : (kind : Kind) → nat_lt largest_journal (end_in A w.records + 0 + sum (append_sizes (version_of w.records) (setup_in_effect w.records) (aim_of kind)))
-      ≡ nat_lt largest_journal (text_size w.records + sum (append_sizes (version_of w.records) (setup_in_effect w.records) (aim_of kind)))
-  room-alone kind = ap (λ n. nat_lt largest_journal (n + sum (append_sizes (version_of w.records) (setup_in_effect w.records) (aim_of kind)))) (add-zero (end_in A w.records) ∙ text_size-end w.records)
+  room-alone : (kind : Kind) →
+      nat_lt largest_journal
+      (end_in A w.records + 0 + sum
+      (append_sizes (version_of w.records) (setup_in_effect w.records) (aim_of kind)))
+      ≡ nat_lt largest_journal
+      (text_size w.records + sum
+      (append_sizes (version_of w.records) (setup_in_effect w.records) (aim_of kind)))
+  room-alone kind = ap (λ n. nat_lt largest_journal
+      (n + sum (append_sizes (version_of w.records) (setup_in_effect w.records) (aim_of kind))))
+      (add-zero (end_in A w.records) ∙ text_size-end w.records)
 
   refusal-alone : (kind : Kind) → begin_refusal 8 alone kind ≡ commands.refusal_over w.records kind
   unfolding setup_in
@@ -34,7 +41,10 @@ module _ (w : State) where
       record { applies = not (is_name name); refusal = refusal.BadName }
       ∷ record { applies = nat_lt largest_file (length bytes); refusal = refusal.TooLong }
       ∷ record { applies = is_crowded_by w.records name; refusal = refusal.TooManyFiles }
-      ∷ record { applies = b || has_no_number w.records (PutJob name bytes); refusal = refusal.JournalFull } ∷ [])) (room-alone (PutJob name bytes))
+      ∷ record {
+        applies = b || has_no_number w.records (PutJob name bytes);
+        refusal = refusal.JournalFull;
+      } ∷ [])) (room-alone (PutJob name bytes))
   refusal-alone (GetJob name) = ap (λ (b : Bool). first_refusal (
       record { applies = not (is_name name); refusal = refusal.BadName }
       ∷ record { applies = not b; refusal = refusal.NoSuchName } ∷ [])) (stored-file w name)
@@ -42,26 +52,39 @@ module _ (w : State) where
       ap (λ (b : Bool). first_refusal (
       record { applies = not (is_name name); refusal = refusal.BadName }
       ∷ record { applies = not b; refusal = refusal.NoSuchName }
-      ∷ record { applies = is_full (sight_of alone) (ToDrop name); refusal = refusal.JournalFull } ∷ [])) (stored-file w name)
+      ∷ record { applies = is_full (sight_of alone) (ToDrop name); refusal = refusal.JournalFull } ∷ []))
+      (stored-file w name)
       ∙ ap (λ (b : Bool). first_refusal (
       record { applies = not (is_name name); refusal = refusal.BadName }
       ∷ record { applies = not (is_some (file_of w.records name)); refusal = refusal.NoSuchName }
-      ∷ record { applies = b || has_no_number w.records (DropJob name); refusal = refusal.JournalFull } ∷ [])) (room-alone (DropJob name))
+      ∷ record { applies = b || has_no_number w.records (DropJob name); refusal = refusal.JournalFull } ∷ []))
+      (room-alone (DropJob name))
   refusal-alone AuditJob = ap (λ (b : Bool). first_refusal (
       record { applies = is_some (due_of w.records); refusal = refusal.RepairDue }
-      ∷ record { applies = b || has_no_number w.records AuditJob; refusal = refusal.JournalFull } ∷ [])) (room-alone AuditJob)
+      ∷ record { applies = b || has_no_number w.records AuditJob; refusal = refusal.JournalFull } ∷ []))
+      (room-alone AuditJob)
   refusal-alone RepairJob = ap (λ (b : Bool). first_refusal (
       record { applies = not (is_some (due_of w.records)); refusal = refusal.NothingDue }
-      ∷ record { applies = b || has_no_number w.records RepairJob; refusal = refusal.JournalFull } ∷ [])) (room-alone RepairJob)
+      ∷ record { applies = b || has_no_number w.records RepairJob; refusal = refusal.JournalFull } ∷ []))
+      (room-alone RepairJob)
   refusal-alone UpgradeJob = ap (λ (b : Bool). first_refusal (
       record { applies = version_of w.records == 2; refusal = refusal.NewVersion }
-      ∷ record { applies = b || has_no_number w.records UpgradeJob; refusal = refusal.JournalFull } ∷ [])) (room-alone UpgradeJob)
+      ∷ record { applies = b || has_no_number w.records UpgradeJob; refusal = refusal.JournalFull } ∷ []))
+      (room-alone UpgradeJob)
 
   -- where no job runs, a begin is refused as a command's
-  pub refusal-of : (kind : Kind) → w.jobs ≡ [] → w.alone ≡ None → w.is_barred ≡ false → IsWholeJournal w → begin_refusal 8 w kind ≡ commands.refusal_over w.records kind
+  pub refusal-of : (kind : Kind) → w.jobs ≡ [] → w.alone ≡ None → w.is_barred ≡ false → IsWholeJournal w →
+      begin_refusal 8 w kind ≡ commands.refusal_over w.records kind
   refusal-of kind none lone unbarred whole =
-      subst (λ (b : Bool). begin_refusal 8 (record w { is_barred = b }) kind ≡ commands.refusal_over w.records kind) (sym unbarred)
-      (subst (λ (js : List Job). begin_refusal 8 (record w { jobs = js; is_barred = false }) kind ≡ commands.refusal_over w.records kind) (sym none)
-      (subst (λ (x : Option Alone). begin_refusal 8 (record w { jobs = []; alone = x; is_barred = false }) kind ≡ commands.refusal_over w.records kind) (sym lone)
-      (subst (λ (a : Area). begin_refusal 8 (record w { area = a; jobs = []; alone = None; is_barred = false }) kind ≡ commands.refusal_over w.records kind) (sym whole.area)
-      (subst (λ (rs : List Record). begin_refusal 8 (record w { journal = rs; area = A; jobs = []; alone = None; is_barred = false }) kind ≡ commands.refusal_over w.records kind) (sym whole.journal) (refusal-alone kind)))))
+      subst (λ (b : Bool). begin_refusal 8 (record w { is_barred = b }) kind
+      ≡ commands.refusal_over w.records kind) (sym unbarred)
+      (subst (λ (js : List Job). begin_refusal 8 (record w { jobs = js; is_barred = false }) kind
+      ≡ commands.refusal_over w.records kind) (sym none)
+      (subst (λ (x : Option Alone). begin_refusal 8 (record w { jobs = []; alone = x; is_barred = false })
+      kind ≡ commands.refusal_over w.records kind) (sym lone)
+      (subst (λ (a : Area). begin_refusal 8
+      (record w { area = a; jobs = []; alone = None; is_barred = false }) kind
+      ≡ commands.refusal_over w.records kind) (sym whole.area)
+      (subst (λ (rs : List Record). begin_refusal 8
+      (record w { journal = rs; area = A; jobs = []; alone = None; is_barred = false }) kind
+      ≡ commands.refusal_over w.records kind) (sym whole.journal) (refusal-alone kind)))))

@@ -52,55 +52,77 @@ length-range a (suc n) = ap suc (length-range (a + 1) n)
 
 -- the block at a place of those that a function makes of providers 0 to n - 1 is that provider's
 pub block_at-map : (f : ℕ → SeenBlock) (n j : ℕ) → j < n → block_at (map f (upto n)) j ≡ f j
-block_at-map f n j l = ap (λ (o : Option SeenBlock). take_out o) (get-map_range f n 0 j l ∙ ap (λ k. Some (f k)) (let e : 0 + j ≡ j = omega arith in e))
+block_at-map f n j l = ap (λ (o : Option SeenBlock). take_out o)
+    (get-map_range f n 0 j l ∙ ap (λ k. Some (f k)) (let e : 0 + j ≡ j = omega arith in e))
   where
     take_out : Option SeenBlock → SeenBlock
     take_out None = None
     take_out (Some b) = b
 
 -- no number of a range passes a test
-any-none : (p : ℕ → Bool) (a n : ℕ) → ((t : ℕ) → a ≤ t → t < a + n → p t ≡ false) → list_any p (range_with_len a n) ≡ false
+any-none : (p : ℕ → Bool) (a n : ℕ) → ((t : ℕ) → a ≤ t → t < a + n → p t ≡ false) →
+    list_any p (range_with_len a n) ≡ false
 any-none p a zero h = refl
-any-none p a (suc n) h = (λ i. h a (omega arith) (omega arith) i || any-none p (a + 1) n (λ t l u. h t (omega (arith, l)) (omega (arith, u))) i)
+any-none p a (suc n) h =
+    (λ i. h a (omega arith) (omega arith) i || any-none p (a + 1) n
+    (λ t l u. h t (omega (arith, l)) (omega (arith, u))) i)
 
-none-any : (p : ℕ → Bool) (a n : ℕ) → list_any p (range_with_len a n) ≡ false → (t : ℕ) → a ≤ t → t < a + n → p t ≡ false
+none-any : (p : ℕ → Bool) (a n : ℕ) → list_any p (range_with_len a n) ≡ false → (t : ℕ) → a ≤ t → t < a + n →
+    p t ≡ false
 none-any p a zero h t l u = absurd (omega (arith, l, u))
 none-any p a (suc n) h t l u =
     (let q = or_parts (p a) (list_any p (range_with_len (a + 1) n)) h in
-    elim (cases_eq t a) [ inl e ↦ ap p e ∙ q.0 | inr m ↦ none-any p (a + 1) n q.1 t (omega (arith, l, m)) (omega (arith, u)) ])
+    elim (cases_eq t a) [
+      | inl e ↦ ap p e ∙ q.0
+      | inr m ↦
+          none-any p (a + 1) n q.1 t (omega (arith, l, m)) (omega (arith, u))
+    ])
 
 -- ---- blocks
 
 -- a block of another size is as wrong as none
-pub wrong-sized : (o : Object) (bytes : List ℕ) (j t : ℕ) (block : Option (List ℕ)) → is_wrong_block o bytes j t (sized o.profile.size block) ≡ is_wrong_block o bytes j t block
+pub wrong-sized : (o : Object) (bytes : List ℕ) (j t : ℕ) (block : Option (List ℕ)) →
+    is_wrong_block o bytes j t (sized o.profile.size block) ≡ is_wrong_block o bytes j t block
 wrong-sized o bytes j t None = refl
 wrong-sized o bytes j t (Some block) = elim (cases_Bool (length block == o.profile.size)) [
   | inl y ↦ ap (is_wrong_block o bytes j t) (cond_true (length block == o.profile.size) (Some block) None y)
-  | inr n ↦ ap (is_wrong_block o bytes j t) (cond_false (length block == o.profile.size) (Some block) None n) ∙ sym (ap (λ b. not b || nat_lt o.profile.fix (differences block (columns o bytes j t))) n)
+  | inr n ↦ ap (is_wrong_block o bytes j t) (cond_false (length block == o.profile.size) (Some block) None n)
+      ∙ sym (ap (λ b. not b || nat_lt o.profile.fix (differences block (columns o bytes j t))) n)
 ]
 
 -- a provider that is not wrong for a file has no wrong block of a stripe of it
-pub not-wrong-each : (o : Object) (bytes : List ℕ) (j : ℕ) (held : ℕ → Option (List ℕ)) → is_wrong o bytes j held ≡ false → (t : ℕ) → t < stripes o (length bytes) → is_wrong_block o bytes j t (held t) ≡ false
+pub not-wrong-each : (o : Object) (bytes : List ℕ) (j : ℕ) (held : ℕ → Option (List ℕ)) →
+    is_wrong o bytes j held ≡ false → (t : ℕ) → t < stripes o (length bytes) →
+    is_wrong_block o bytes j t (held t) ≡ false
 unfolding is_wrong
-not-wrong-each o bytes j held h t l = none-any (λ k. is_wrong_block o bytes j k (held k)) 0 (stripes o (length bytes)) h t (omega arith) (omega (arith, l))
+not-wrong-each o bytes j held h t l = none-any (λ k. is_wrong_block o bytes j k (held k)) 0
+    (stripes o (length bytes)) h t (omega arith) (omega (arith, l))
 
 -- a provider with no wrong block of a file's stripes is not wrong for it
-pub each-not-wrong : (o : Object) (bytes : List ℕ) (j : ℕ) (held : ℕ → Option (List ℕ)) → ((t : ℕ) → t < stripes o (length bytes) → is_wrong_block o bytes j t (held t) ≡ false) → is_wrong o bytes j held ≡ false
+pub each-not-wrong : (o : Object) (bytes : List ℕ) (j : ℕ) (held : ℕ → Option (List ℕ)) →
+    ((t : ℕ) → t < stripes o (length bytes) → is_wrong_block o bytes j t (held t) ≡ false) →
+    is_wrong o bytes j held ≡ false
 unfolding is_wrong
-each-not-wrong o bytes j held h = any-none (λ k. is_wrong_block o bytes j k (held k)) 0 (stripes o (length bytes)) (λ t l u. h t (omega (arith, u)))
+each-not-wrong o bytes j held h = any-none (λ k. is_wrong_block o bytes j k (held k)) 0
+    (stripes o (length bytes)) (λ t l u. h t (omega (arith, u)))
 
 -- ---- what was given where no count rose
 
-missing-one : {B : Type 0} (given held : ℕ → Option B) (a n t : ℕ) → a ≤ t → t < a + n → (is_none (given t) && is_some (held t)) ≡ true → 1 ≤ missing given held (range_with_len a n)
+missing-one : {B : Type 0} (given held : ℕ → Option B) (a n t : ℕ) → a ≤ t → t < a + n →
+    (is_none (given t) && is_some (held t)) ≡ true → 1 ≤ missing given held (range_with_len a n)
 missing-one given held a zero t l u e = absurd (omega (arith, l, u))
 missing-one given held a (suc n) t l u e = elim (cases_eq t a) [
-  | inl same ↦ (let c : ◌≡◌ {A = ℕ} (cond (is_none (given a) && is_some (held a)) 1 0) 1 = cond_true (is_none (given a) && is_some (held a)) 1 0 (subst (λ k. (is_none (given k) && is_some (held k)) ≡ true) same e) in omega (arith, c))
-  | inr m ↦ (let r = missing-one given held (a + 1) n t (omega (arith, l, m)) (omega (arith, u)) e in omega (arith, r))
+  | inl same ↦ (let c : ◌≡◌ {A = ℕ} (cond (is_none (given a) && is_some (held a)) 1 0) 1 =
+      cond_true (is_none (given a) && is_some (held a)) 1 0
+      (subst (λ k. (is_none (given k) && is_some (held k)) ≡ true) same e) in omega (arith, c))
+  | inr m ↦ (let r = missing-one given held (a + 1) n t (omega (arith, l, m)) (omega (arith, u)) e in
+      omega (arith, r))
 ]
 
 -- a count that has not risen is no higher than before, and below its last value
 pub not-risen : (before now : ℕ) → has_risen before now ≡ false → (now ≤ before) × (now < last_count)
-not-risen before now h = (let p = or_parts (nat_lt before now) (nat_le last_count now) h in (at-most before now p.0, less now p.1))
+not-risen before now h =
+    (let p = or_parts (nat_lt before now) (nat_le last_count now) h in (at-most before now p.0, less now p.1))
   where
     at-most : (a b : ℕ) → nat_lt a b ≡ false → b ≤ a
     at-most a b e = grind (arith, e)
@@ -108,20 +130,29 @@ not-risen before now h = (let p = or_parts (nat_lt before now) (nat_le last_coun
     less : (b : ℕ) → nat_le last_count b ≡ false → b < last_count
     less b e = grind (arith, nat_tests, e)
 
-given-held : {B : Type 0} (given held : ℕ → Option B) (m before now : ℕ) → IsTruthful given held (upto m) before now → has_risen before now ≡ false → (t : ℕ) → t < m → given t ≡ held t
+given-held : {B : Type 0} (given held : ℕ → Option B) (m before now : ℕ) →
+    IsTruthful given held (upto m) before now → has_risen before now ≡ false → (t : ℕ) → t < m →
+    given t ≡ held t
 given-held given held m before now T calm t l =
     (let c = not-risen before now calm in
     let few : before + missing given held (upto m) ≤ now = T.few c.1 in
-    let one : (given t ≡ held t) ⊎ (given t ≡ None) = subst (λ k. (given k ≡ held k) ⊎ (given k ≡ None)) (get_or-range 0 m t 0 l ∙ (let e : 0 + t ≡ t = omega arith in e)) (T.each t 0 (let z = length-range 0 m in omega (arith, l, z))) in
+    let one : (given t ≡ held t) ⊎ (given t ≡ None) =
+    subst (λ k. (given k ≡ held k) ⊎ (given k ≡ None))
+    (get_or-range 0 m t 0 l ∙ (let e : 0 + t ≡ t = omega arith in e))
+    (T.each t 0 (let z = length-range 0 m in omega (arith, l, z))) in
     elim one [
       | inl same ↦ same
       | inr none ↦ by_held (held t) refl none few c.0
     ])
   where
-    by_held : (h : Option _) → held t ≡ h → given t ≡ None → before + missing given held (upto m) ≤ now → now ≤ before → given t ≡ held t
+    by_held : (h : Option _) → held t ≡ h → given t ≡ None → before + missing given held (upto m) ≤ now →
+        now ≤ before → given t ≡ held t
     by_held None e none few low = none ∙ sym e
-    by_held (Some b) e none few low = absurd (let both : (is_none (given t) && is_some (held t)) ≡ true = (λ i. is_none (none i) && is_some (e i)) in
-        let r = missing-one given held 0 m t (omega arith) (omega (arith, l)) both in omega (arith, r, few, low))
+    by_held (Some b) e none few low =
+        absurd (let both : (is_none (given t) && is_some (held t)) ≡ true =
+        (λ i. is_none (none i) && is_some (e i)) in
+        let r = missing-one given held 0 m t (omega arith) (omega (arith, l)) both in
+        omega (arith, r, few, low))
 
 -- ---- a provider that is not bad gave no wrong block
 
@@ -129,85 +160,126 @@ module _ (x : Ran) (file : File) (bytes : List ℕ) where
   abbrev o : Object
   o = object_at_begin x file
 
-  good-block : (m j : ℕ) → HearsStripes x file m → j < (setup_at_begin x).n → is_bad x file bytes j ≡ false → (t : ℕ) → t < m → t < stripes o (length bytes) →
+  good-block : (m j : ℕ) → HearsStripes x file m → j < (setup_at_begin x).n → is_bad x file bytes j ≡ false →
+      (t : ℕ) → t < m → t < stripes o (length bytes) →
       is_wrong_block o bytes j t (block_at (blocks_heard x file.id t) j) ≡ false
   good-block m j H below good t l k = by_held (x.old j).held good (H.truthful j below)
     where
       by_held : (h : Option Held) → is_bad_with o bytes j (x.old j) (x.new j) h ≡ false →
-          IfSome h (λ held. IsTruthful (λ s. block_heard x file.id s j) (λ s. sized o.profile.size (held file.id s)) (upto m) (x.old j).other_faults (x.new j).other_faults) →
+          IfSome h (λ held. IsTruthful (λ s. block_heard x file.id s j)
+          (λ s. sized o.profile.size (held file.id s)) (upto m) (x.old j).other_faults
+          (x.new j).other_faults) →
           is_wrong_block o bytes j t (block_at (blocks_heard x file.id t) j) ≡ false
       by_held None g T = absurd (false≢true (sym g))
       by_held (Some held) g T =
-          (let p = or_parts (is_wrong o bytes j (held file.id)) (has_risen (x.old j).other_faults (x.new j).other_faults) g in
-          let same = given-held (λ s. block_heard x file.id s j) (λ s. sized o.profile.size (held file.id s)) m (x.old j).other_faults (x.new j).other_faults T p.1 t l in
-          ap (is_wrong_block o bytes j t) (block_at-map (block_heard x file.id t) (setup_at_begin x).n j below ∙ same) ∙ (wrong-sized o bytes j t (held file.id t) ∙ not-wrong-each o bytes j (held file.id) p.0 t k))
+          (let p = or_parts (is_wrong o bytes j (held file.id))
+          (has_risen (x.old j).other_faults (x.new j).other_faults) g in
+          let same = given-held (λ s. block_heard x file.id s j)
+          (λ s. sized o.profile.size (held file.id s)) m (x.old j).other_faults
+          (x.new j).other_faults T p.1 t l in
+          ap (is_wrong_block o bytes j t) (block_at-map (block_heard x file.id t) (setup_at_begin x).n j below
+          ∙ same) ∙ (wrong-sized o bytes j t (held file.id t)
+          ∙ not-wrong-each o bytes j (held file.id) p.0 t k))
 
   -- a provider that gave a wrong block is bad
-  pub bad-block : (m t : ℕ) → HearsStripes x file m → t < m → t < stripes o (length bytes) → (j : ℕ) → j < 0 + (setup_at_begin x).n → is_wrong_block o bytes j t (block_at (blocks_heard x file.id t) j) ≡ true → is_bad x file bytes j ≡ true
+  pub bad-block : (m t : ℕ) → HearsStripes x file m → t < m → t < stripes o (length bytes) → (j : ℕ) →
+      j < 0 + (setup_at_begin x).n → is_wrong_block o bytes j t (block_at (blocks_heard x file.id t) j)
+      ≡ true → is_bad x file bytes j ≡ true
   bad-block m t H l k j below wrong = elim (cases_Bool (is_bad x file bytes j)) [
     | inl y ↦ y
     | inr n ↦ absurd (false≢true (sym (good-block m j H (omega (arith, below)) n t l k) ∙ wrong))
   ]
 
-  module _ (shape : IsShape (setup_at_begin x).n (setup_at_begin x).l (setup_at_begin x).b) (size : length bytes ≡ file.size) where
+  module _ (shape : IsShape (setup_at_begin x).n (setup_at_begin x).l (setup_at_begin x).b)
+      (size : length bytes ≡ file.size) where
     -- what was heard opens to the file, or holds a forgery
-    right-or-forged : (got : List ℕ) → AreBytes bytes → GetGives x file (answer.Got got) → (got ≡ bytes) ⊎ ((stripe : ℕ) × (place : ℕ) × IsForgery o bytes (blocks_heard x file.id) stripe place)
-    right-or-forged got fits gives = file_or_forged o bytes file.profile refl shape (blocks_heard x file.id) got fits (subst (λ n. OpensFile o n (blocks_heard x file.id) got) (sym size) gives.1)
+    right-or-forged : (got : List ℕ) → AreBytes bytes → GetGives x file (answer.Got got) →
+        (got ≡ bytes) ⊎ ((stripe : ℕ) × (place : ℕ) × IsForgery o bytes (blocks_heard x file.id) stripe place)
+    right-or-forged got fits gives = file_or_forged o bytes file.profile refl shape
+        (blocks_heard x file.id) got fits
+        (subst (λ n. OpensFile o n (blocks_heard x file.id) got) (sym size) gives.1)
 
     -- a forgery needs two more wrong providers than may be
-    few-right : (got : List ℕ) → AreBytes bytes → GetGives x file (answer.Got got) → bad_count x file bytes ≤ (setup_at_begin x).b + 1 → got ≡ bytes
+    few-right : (got : List ℕ) → AreBytes bytes → GetGives x file (answer.Got got) →
+        bad_count x file bytes ≤ (setup_at_begin x).b + 1 → got ≡ bytes
     few-right got fits gives few = elim (right-or-forged got fits gives) [
       | inl same ↦ same
       | inr forged ↦ absurd (let F = forged.2 in
           let many = F.forged.wrong_ones in
-          let within = count_of-within (λ j. is_agreeing o F.opened forged.1 F.row j && is_wrong o bytes j (λ s. block_at (blocks_heard x file.id s) j)) (is_bad x file bytes) 0 (setup_at_begin x).n
-          (λ j l e. bad j l (and_parts (is_agreeing o F.opened forged.1 F.row j) (is_wrong o bytes j (λ s. block_at (blocks_heard x file.id s) j)) e).1) in
+          let within = count_of-within
+          (λ j. is_agreeing o F.opened forged.1 F.row j && is_wrong o bytes j
+          (λ s. block_at (blocks_heard x file.id s) j)) (is_bad x file bytes) 0 (setup_at_begin x).n
+          (λ j l e. bad j l (and_parts (is_agreeing o F.opened forged.1 F.row j)
+          (is_wrong o bytes j (λ s. block_at (blocks_heard x file.id s) j)) e).1) in
           omega (arith, many, within, few))
     ]
       where
         hears : HearsStripes x file (stripes_at_begin x file)
         hears = gives.0
 
-        bad : (j : ℕ) → j < 0 + (setup_at_begin x).n → is_wrong o bytes j (λ s. block_at (blocks_heard x file.id s) j) ≡ true → is_bad x file bytes j ≡ true
+        bad : (j : ℕ) → j < 0 + (setup_at_begin x).n →
+            is_wrong o bytes j (λ s. block_at (blocks_heard x file.id s) j) ≡ true →
+            is_bad x file bytes j ≡ true
         bad j l wrong = elim (cases_Bool (is_bad x file bytes j)) [
           | inl y ↦ y
-          | inr n ↦ absurd (false≢true (sym (each-not-wrong o bytes j (λ s. block_at (blocks_heard x file.id s) j)
-              (λ t k. good-block (stripes_at_begin x file) j hears (omega (arith, l)) n t (subst (λ z. t < stripes_of (profiled (setup_at_begin x) file.profile) z) size k) k)) ∙ wrong))
+          | inr n ↦ absurd (false≢true
+              (sym (each-not-wrong o bytes j (λ s. block_at (blocks_heard x file.id s) j)
+              (λ t k. good-block (stripes_at_begin x file) j hears (omega (arith, l)) n t
+              (subst (λ z. t < stripes_of (profiled (setup_at_begin x) file.profile) z) size k) k))
+              ∙ wrong))
         ]
 
     -- and as few as may be leave no row lost
-    few-kept : (stripe row : ℕ) → GetGives x file (answer.Lost stripe row) → bad_count x file bytes ≤ (setup_at_begin x).b → ⊥
+    few-kept : (stripe row : ℕ) → GetGives x file (answer.Lost stripe row) →
+        bad_count x file bytes ≤ (setup_at_begin x).b → ⊥
     few-kept stripe row L few =
-        (let k : stripe < stripes o (length bytes) = subst (λ z. stripe < stripes_of (profiled (setup_at_begin x) file.profile) z) (sym size) L.within in
-        let within = count_of-within (λ j. is_wrong_block o bytes j stripe (block_at (blocks_heard x file.id stripe) j)) (is_bad x file bytes) 0 (setup_at_begin x).n (bad-block (stripe + 1) stripe L.hears (omega arith) k) in
+        (let k : stripe < stripes o (length bytes) = subst
+        (λ z. stripe < stripes_of (profiled (setup_at_begin x) file.profile) z) (sym size) L.within in
+        let within = count_of-within
+        (λ j. is_wrong_block o bytes j stripe (block_at (blocks_heard x file.id stripe) j))
+        (is_bad x file bytes) 0 (setup_at_begin x).n
+        (bad-block (stripe + 1) stripe L.hears (omega arith) k) in
         L.loses.lost (row_polynomial o (symbols_in o bytes stripe) L.loses.place)
-        (row-right o bytes file.profile stripe L.loses.place (blocks_heard x file.id stripe) L.loses.opened refl shape (omega (arith, within, few)) L.loses.opens
+        (row-right o bytes file.profile stripe L.loses.place
+        (blocks_heard x file.id stripe) L.loses.opened refl shape
+        (omega (arith, within, few)) L.loses.opens
         (let a = L.loses.kept in let b = profile-room o file.profile refl in omega (arith, a, b))))
 
 -- ---- the same of a run
 
 -- the setup of a state just opened makes a shape
-pub shape-of : (w new : State) (heard : List Entry) → IsOpenAtRest w 1 → IsShape (setup_at_begin (ran_from w new heard)).n (setup_at_begin (ran_from w new heard)).l (setup_at_begin (ran_from w new heard)).b
+pub shape-of : (w new : State) (heard : List Entry) → IsOpenAtRest w 1 →
+    IsShape (setup_at_begin (ran_from w new heard)).n (setup_at_begin (ran_from w new heard)).l
+    (setup_at_begin (ran_from w new heard)).b
 unfolding setup_in
 shape-of w new heard O = valid-shape (setup_in w) (setup-valid 8 w (opened-sound w O) O.opened)
 
 -- a get of a file gives it, or holds a forgery
-module _ (x : Ran) (name bytes : List ℕ) (file : File) (shape : IsShape (setup_at_begin x).n (setup_at_begin x).l (setup_at_begin x).b) (in_effect : file_of x.records name ≡ Some file) (fits : AreBytes bytes) (size : length bytes ≡ file.size) where
+module _ (x : Ran) (name bytes : List ℕ) (file : File)
+    (shape : IsShape (setup_at_begin x).n (setup_at_begin x).l (setup_at_begin x).b)
+    (in_effect : file_of x.records name ≡ Some file) (fits : AreBytes bytes)
+    (size : length bytes ≡ file.size) where
   gives-file : (how : Answer) → GetLeaves x name how → GetGives x file how
-  gives-file how L = subst (λ f. GetGives x f how) (same_value (file_of x.records name) L.file file L.in_effect in_effect) L.gives
+  gives-file how L = subst (λ f. GetGives x f how)
+      (same_value (file_of x.records name) L.file file L.in_effect in_effect) L.gives
 
   -- a get gives the file's bytes where at most b providers are bad
-  pub get-complete : (how : Answer) → GetLeaves x name how → bad_count x file bytes ≤ (setup_at_begin x).b → how ≡ answer.Got bytes
-  get-complete (answer.Got got) L few = ap answer.Got (few-right x file bytes shape size got fits (gives-file (answer.Got got) L) (omega (arith, few)))
-  get-complete (answer.Lost stripe row) L few = absurd (few-kept x file bytes shape size stripe row (gives-file (answer.Lost stripe row) L) few)
+  pub get-complete : (how : Answer) → GetLeaves x name how → bad_count x file bytes ≤ (setup_at_begin x).b →
+      how ≡ answer.Got bytes
+  get-complete (answer.Got got) L few = ap answer.Got
+      (few-right x file bytes shape size got fits (gives-file (answer.Got got) L) (omega (arith, few)))
+  get-complete (answer.Lost stripe row) L few =
+      absurd (few-kept x file bytes shape size stripe row (gives-file (answer.Lost stripe row) L) few)
   get-complete how L few = absurd L.gives
 
   -- a get that gave bytes gave the file's where at most b + 1 providers are bad
-  pub get-right : (got : List ℕ) → GetLeaves x name (answer.Got got) → bad_count x file bytes ≤ (setup_at_begin x).b + 1 → got ≡ bytes
+  pub get-right : (got : List ℕ) → GetLeaves x name (answer.Got got) →
+      bad_count x file bytes ≤ (setup_at_begin x).b + 1 → got ≡ bytes
   get-right got L few = few-right x file bytes shape size got fits (gives-file (answer.Got got) L) few
 
   -- a get that gave bytes gave the file's, or what it heard holds a forgery
-  pub get-forged : (got : List ℕ) → GetLeaves x name (answer.Got got) → (got ≡ bytes) ⊎ HoldsForgery (object_at_begin x file) bytes job_number x.heard
+  pub get-forged : (got : List ℕ) → GetLeaves x name (answer.Got got) →
+      (got ≡ bytes) ⊎ HoldsForgery (object_at_begin x file) bytes job_number x.heard
   get-forged got L = elim (right-or-forged x file bytes shape size got fits (gives-file (answer.Got got) L)) [
     | inl same ↦ inl same
     | inr forged ↦ inr (record { stripe = forged.0; place = forged.1; forgery = forged.2 })
@@ -215,9 +287,12 @@ module _ (x : Ran) (name bytes : List ℕ) (file : File) (shape : IsShape (setup
 
 -- ---- puts, drops, audits and upgrades
 
--- a put that ended otherwise than for want of memory stored the file, unless a count of the disk or of a store rose
-pub put-end : (x : Ran) (name bytes : List ℕ) (how : Answer) → PutLeaves x name bytes how → (Rose x.disk_before x.disk_after → ⊥) →
-    ((j : ℕ) → j < (setup_at_begin x).n → Rose (x.old j).store_faults (x.new j).store_faults → ⊥) → (how ≡ answer.Put) ⊎ (how ≡ answer.Memory)
+-- a put that ended otherwise than for want of memory stored the file, unless a count of the disk or of a
+-- store rose
+pub put-end : (x : Ran) (name bytes : List ℕ) (how : Answer) → PutLeaves x name bytes how →
+    (Rose x.disk_before x.disk_after → ⊥) →
+    ((j : ℕ) → j < (setup_at_begin x).n → Rose (x.old j).store_faults (x.new j).store_faults → ⊥) →
+    (how ≡ answer.Put) ⊎ (how ≡ answer.Memory)
 put-end x name bytes answer.Put L disk stores = inl refl
 put-end x name bytes answer.Memory L disk stores = inr refl
 put-end x name bytes (answer.ProviderFault j) L disk stores = absurd (stores j L.0 L.1)
@@ -225,21 +300,25 @@ put-end x name bytes answer.DiskFault L disk stores = absurd (disk L.0)
 put-end x name bytes how L disk stores = absurd L
 
 -- a drop with no fault of the disk is done, or found no memory
-pub drop-end : (x : Ran) (name : List ℕ) (how : Answer) → DropLeaves x name how → (Rose x.disk_before x.disk_after → ⊥) → (how ≡ answer.Dropped) ⊎ (how ≡ answer.Memory)
+pub drop-end : (x : Ran) (name : List ℕ) (how : Answer) → DropLeaves x name how →
+    (Rose x.disk_before x.disk_after → ⊥) → (how ≡ answer.Dropped) ⊎ (how ≡ answer.Memory)
 drop-end x name answer.Dropped L disk = inl refl
 drop-end x name answer.Memory L disk = inr refl
 drop-end x name answer.DiskFault L disk = absurd (disk L.0)
 drop-end x name how L disk = absurd L
 
 -- an audit with no fault of the disk is done, or found no memory
-pub audit-end : (x : Ran) (how : Answer) → AuditGives x how → (Rose x.disk_before x.disk_after → ⊥) → ((number : ℕ) × (undecided : ℕ) × (counts : List ℕ) × (how ≡ answer.Audited number undecided counts)) ⊎ (how ≡ answer.Memory)
+pub audit-end : (x : Ran) (how : Answer) → AuditGives x how → (Rose x.disk_before x.disk_after → ⊥) →
+    ((number : ℕ) × (undecided : ℕ) × (counts : List ℕ) × (how ≡ answer.Audited number undecided counts)) ⊎
+    (how ≡ answer.Memory)
 audit-end x (answer.Audited number undecided counts) L disk = inl (number, undecided, counts, refl)
 audit-end x answer.Memory L disk = inr refl
 audit-end x answer.DiskFault L disk = absurd (disk L.0)
 audit-end x how L disk = absurd L
 
 -- an upgrade with no fault of the disk is done, or found no memory
-pub upgrade-end : (x : Ran) (how : Answer) → UpgradeLeaves x how → (Rose x.disk_before x.disk_after → ⊥) → (how ≡ answer.Upgraded) ⊎ (how ≡ answer.Memory)
+pub upgrade-end : (x : Ran) (how : Answer) → UpgradeLeaves x how → (Rose x.disk_before x.disk_after → ⊥) →
+    (how ≡ answer.Upgraded) ⊎ (how ≡ answer.Memory)
 upgrade-end x answer.Upgraded L disk = inl refl
 upgrade-end x answer.Memory L disk = inr refl
 upgrade-end x answer.DiskFault L disk = absurd (disk L.0)

@@ -59,7 +59,8 @@ IsMove WriteGate = Unit {0}
 IsMove SyncGate = Unit {0}
 IsMove action = ⊥
 
-writing-drop : (s : Setup) (job : Job) (name : List ℕ) → job.kind ≡ DropJob name → Each IsWriting (actions_of s job)
+writing-drop : (s : Setup) (job : Job) (name : List ℕ) → job.kind ≡ DropJob name →
+    Each IsWriting (actions_of s job)
 writing-drop s job name kind = subst (Each IsWriting) (sym (drop-list s job name kind)) (
   tt,
   (
@@ -69,24 +70,29 @@ writing-drop s job name kind = subst (Each IsWriting) (sym (drop-list s job name
       (
         tt,
         each_append IsWriting (remove_actions s job) (End ∷ [])
-            (each_flat IsWriting (λ object. on_each_provider s (λ k. Remove k object)) job.older (λ object. each_map IsWriting (λ k. Remove k object) (upto s.n) (λ k. tt))) (tt, tt),
+            (each_flat IsWriting (λ object. on_each_provider s (λ k. Remove k object)) job.older
+            (λ object. each_map IsWriting (λ k. Remove k object) (upto s.n) (λ k. tt))) (tt, tt),
       ),
     ),
   ),
 )
 
 -- a drop of a name that is in effect is not idle
-not-idle : (w : State) (job : Job) (name : List ℕ) (f : File) → (job.place ≡ 0 → file_in w name ≡ Some f) → is_idle_drop w job (DropJob name) ≡ false
+not-idle : (w : State) (job : Job) (name : List ℕ) (f : File) → (job.place ≡ 0 → file_in w name ≡ Some f) →
+    is_idle_drop w job (DropJob name) ≡ false
 not-idle w job name f h = elim (cases_Bool (is_idle_drop w job (DropJob name))) [
   | inl t ↦ absurd (let p = and_parts (job.place == 0) (not (is_some (file_in w name))) t in
-      let e : not (is_some (file_in w name)) ≡ false = ap (λ (o : Option File). not (is_some o)) (h (eqb-true job.place 0 p.0)) in
+      let e : not (is_some (file_in w name)) ≡ false =
+      ap (λ (o : Option File). not (is_some o)) (h (eqb-true job.place 0 p.0)) in
       let g : false ≡ true = sym e ∙ p.1 in false≢true g)
   | inr n ↦ n
 ]
 
 -- ---- the drop
 
-module _ (start new : State) (name : List ℕ) (how : Answer) (heard : List Entry) (O : IsOpenAtRest start 1) (E : Ends start (DropJob name) how heard new) (file : File) (in_effect : file_in start name ≡ Some file) where
+module _ (start new : State) (name : List ℕ) (how : Answer) (heard : List Entry) (O : IsOpenAtRest start 1)
+    (E : Ends start (DropJob name) how heard new) (file : File)
+    (in_effect : file_in start name ≡ Some file) where
   abbrev drop_with : With
   drop_with = with_job_of start (DropJob name) E.job
 
@@ -100,28 +106,40 @@ module _ (start new : State) (name : List ℕ) (how : Answer) (heard : List Entr
   L = last-call E.before E.job new E.action how E.acts
 
   same-left : appends_left (setup_in start) E.job ≡ appends_left (setup_in E.before) E.job
-  same-left = left-start start O (DropJob name) E.before E.job E.walked (appends_left (setup_in E.before) E.job) refl
+  same-left = left-start start O (DropJob name) E.before E.job E.walked
+      (appends_left (setup_in E.before) E.job) refl
 
   list-is : actions_of (setup_in start) E.job ≡ append_actions ++ drop_rest (setup_in start) E.job
   list-is = drop-list (setup_in start) E.job name E.walked.kind_is
 
-  listed : (action : Action) → E.action ≡ action → (action ≡ End → ⊥) → slice_get (actions_of (setup_in start) E.job) E.job.place ≡ Some action
-  listed action at n = subst (λ (t : Setup). slice_get (actions_of t E.job) E.job.place ≡ Some action) E.walked.setup (next_stands E.before E.job action (E.next ∙ ap Some at) n)
+  listed : (action : Action) → E.action ≡ action → (action ≡ End → ⊥) →
+      slice_get (actions_of (setup_in start) E.job) E.job.place ≡ Some action
+  listed action at n = subst (λ (t : Setup). slice_get (actions_of t E.job) E.job.place ≡ Some action)
+      E.walked.setup (next_stands E.before E.job action (E.next ∙ ap Some at) n)
 
   -- ---- a drop that was cut off
 
-  moves-taken : (action : Action) → E.action ≡ action → (action ≡ End → ⊥) → (IsTail action → ⊥) → Each IsMove (take E.job.place (actions_of (setup_in start) E.job))
-  moves-taken action at n m = subst (λ xs. Each IsMove (take E.job.place xs)) (sym list-is) (elim (split_get append_actions (drop_rest (setup_in start) E.job) E.job.place action (ap (λ xs. slice_get xs E.job.place) (sym list-is) ∙ listed action at n)) [
-    | inl a ↦ subst (Each IsMove) (sym (take-within append_actions (drop_rest (setup_in start) E.job) E.job.place (let l = a.0 in omega (arith, l))))
-        (each_take IsMove append_actions E.job.place (tt, (tt, (tt, (tt, tt)))))
-    | inr b ↦ absurd (m (each_get IsTail (drop_rest (setup_in start) E.job) (E.job.place - length append_actions) action (tail-list (setup_in start) E.job) b.1))
-  ])
+  moves-taken : (action : Action) → E.action ≡ action → (action ≡ End → ⊥) → (IsTail action → ⊥) →
+      Each IsMove (take E.job.place (actions_of (setup_in start) E.job))
+  moves-taken action at n m = subst (λ xs. Each IsMove (take E.job.place xs)) (sym list-is)
+      (elim (split_get append_actions (drop_rest (setup_in start) E.job) E.job.place action
+      (ap (λ xs. slice_get xs E.job.place) (sym list-is) ∙ listed action at n)) [
+        | inl a ↦ subst (Each IsMove)
+            (sym (take-within append_actions (drop_rest (setup_in start) E.job) E.job.place
+            (let l = a.0 in omega (arith, l))))
+            (each_take IsMove append_actions E.job.place (tt, (tt, (tt, (tt, tt)))))
+        | inr b ↦ absurd (m (each_get IsTail (drop_rest (setup_in start) E.job)
+            (E.job.place - length append_actions) action (tail-list (setup_in start) E.job) b.1))
+      ])
 
   same-held : (action : Action) → E.action ≡ action → (action ≡ End → ⊥) → (IsTail action → ⊥) → SameHeld ran
   same-held action at n m j l = (last-keeps E.action E.before new j L.0).0
-      ∙ made-keeps drop_with j (λ p q. q.held ≡ p.held) IsMove (λ p. refl) (λ p q r a b. b ∙ a) one (take E.job.place (actions_of (setup_in start) E.job)) start.providers E.before.providers [] E.job.given (moves-taken action at n m) E.walked.made
+      ∙ made-keeps drop_with j (λ p q. q.held ≡ p.held) IsMove (λ p. refl) (λ p q r a b. b ∙ a) one
+      (take E.job.place (actions_of (setup_in start) E.job)) start.providers E.before.providers [] E.job.given
+      (moves-taken action at n m) E.walked.made
     where
-      one : (a : Action) (given now : List Given) (p q : Provider) → IsMove a → Called drop_with a given now j p q → q.held ≡ p.held
+      one : (a : Action) (given now : List Given) (p q : Provider) → IsMove a →
+          Called drop_with a given now j p q → q.held ≡ p.held
       one WriteBody given now p q u c = absurd c
       one SyncBody given now p q u c = absurd c
       one WriteGate given now p q u c = absurd c
@@ -137,18 +155,23 @@ module _ (start new : State) (name : List ℕ) (how : Answer) (heard : List Entr
   stands : 0 < appends_left (setup_in E.before) E.job → E.before.records ≡ start.records
   stands left = by_records E.before.records refl E.walked.records
     where
-      by_records : (rs : List Record) → E.before.records ≡ rs → RecordsAre start (DropJob name) E.job rs → E.before.records ≡ start.records
+      by_records : (rs : List Record) → E.before.records ≡ rs → RecordsAre start (DropJob name) E.job rs →
+          E.before.records ≡ start.records
       by_records rs e (RecordsAre.none l is) = e ∙ is
       by_records rs e (RecordsAre.one l is) = absurd (let same = same-left in omega (arith, l, same, left))
-      by_records rs e (RecordsAre.two entry l sec is) = absurd (let same = same-left in omega (arith, l, same, left))
+      by_records rs e (RecordsAre.two entry l sec is) =
+          absurd (let same = same-left in omega (arith, l, same, left))
 
-  in-doubt : (doubt : Option Doubt) → 0 < appends_left (setup_in E.before) E.job → InDoubt start O (DropJob name) E.before E.job E.walked doubt →
-      (option_map (λ (d : Doubt). d.entry) doubt ≡ None) ⊎ (option_map (λ (d : Doubt). d.entry) doubt ≡ Some (Drop name))
+  in-doubt : (doubt : Option Doubt) → 0 < appends_left (setup_in E.before) E.job →
+      InDoubt start O (DropJob name) E.before E.job E.walked doubt →
+      (option_map (λ (d : Doubt). d.entry) doubt ≡ None) ⊎
+      (option_map (λ (d : Doubt). d.entry) doubt ≡ Some (Drop name))
   in-doubt doubt left (inl none) = inl (ap (option_map (λ (d : Doubt). d.entry)) none)
-  in-doubt doubt left (inr (d, in_doubt, writes)) = elim (wrote start O (DropJob name) E.before E.job E.walked d.entry left writes) [
-    | Wrote.first l is entry ↦ inr (ap (option_map (λ (z : Doubt). z.entry)) in_doubt ∙ ap Some entry)
-    | Wrote.second l is sec ↦ absurd sec
-  ]
+  in-doubt doubt left (inr (d, in_doubt, writes)) =
+      elim (wrote start O (DropJob name) E.before E.job E.walked d.entry left writes) [
+        | Wrote.first l is entry ↦ inr (ap (option_map (λ (z : Doubt). z.entry)) in_doubt ∙ ap Some entry)
+        | Wrote.second l is sec ↦ absurd sec
+      ]
 
   abbrev Gives : Answer → Type 0
   Gives a = DropLeaves ran name a
@@ -156,20 +179,42 @@ module _ (start new : State) (name : List ℕ) (how : Answer) (heard : List Entr
   faulted : SameHeld ran → Faults start O (DropJob name) E.before E.job E.walked new → Gives answer.DiskFault
   faulted same F = (
     rose-before start.disk_faults E.before.disk_faults new.disk_faults E.walked.disk F.low F.rose,
-    record { done = []; next = Drop name; rest = []; parts = refl; after = F.records ∙ stands F.left; doubt = in-doubt new.doubt F.left F.doubt },
+    record {
+      done = [];
+      next = Drop name;
+      rest = [];
+      parts = refl;
+      after = F.records ∙ stands F.left;
+      doubt = in-doubt new.doubt F.left F.doubt;
+    },
     same,
   )
 
   no-room : SameHeld ran → NoRoom start O (DropJob name) E.before E.job E.walked new → Gives answer.Memory
   no-room same N = (
-    record { done = []; next = Drop name; rest = []; parts = refl; after = N.records ∙ stands N.left; sure = ap (option_map (λ (z : Doubt). z.entry)) N.doubt },
+    record {
+      done = [];
+      next = Drop name;
+      rest = [];
+      parts = refl;
+      after = N.records ∙ stands N.left;
+      sure = ap (option_map (λ (z : Doubt). z.entry)) N.doubt;
+    },
     same,
   )
 
-  moved : (action : Action) → E.action ≡ action → (action ≡ End → ⊥) → (IsTail action → ⊥) → Moves E.before E.job action E.before.append (Ended how) new → Gives how
+  moved : (action : Action) → E.action ≡ action → (action ≡ End → ⊥) → (IsTail action → ⊥) →
+      Moves E.before E.job action E.before.append (Ended how) new → Gives how
   moved action at n m h = elim (move-answers E.before E.job new action E.before.append how h) [
-    | inl e ↦ subst Gives (sym e) (faulted (same-held action at n m) (move-faults start O (DropJob name) E.before E.job E.walked action E.before.append new refl (E.next ∙ ap Some at) (subst (λ a. Moves E.before E.job action E.before.append (Ended a) new) e h)))
-    | inr e ↦ subst Gives (sym e) (no-room (same-held action at n m) (move-memory start O (DropJob name) E.before E.job E.walked action E.before.append new refl (subst (λ z. holder_of E.before.append z ≡ None) at E.free) (E.next ∙ ap Some at)
+    | inl e ↦ subst Gives (sym e)
+        (faulted (same-held action at n m)
+        (move-faults start O (DropJob name) E.before E.job E.walked action E.before.append new refl
+        (E.next ∙ ap Some at)
+        (subst (λ a. Moves E.before E.job action E.before.append (Ended a) new) e h)))
+    | inr e ↦ subst Gives (sym e)
+        (no-room (same-held action at n m)
+        (move-memory start O (DropJob name) E.before E.job E.walked action E.before.append new refl
+        (subst (λ z. holder_of E.before.append z ≡ None) at E.free) (E.next ∙ ap Some at)
         (subst (λ a. Moves E.before E.job action E.before.append (Ended a) new) e h)))
   ]
 
@@ -177,57 +222,88 @@ module _ (start new : State) (name : List ℕ) (how : Answer) (heard : List Entr
 
   -- before its first move the records are those of the begin
   at-begin : E.job.place ≡ 0 → file_in E.before name ≡ Some file
-  at-begin first = ap (λ rs. file_of rs name) (stands (let e = appends-whole E.before E.job (DropJob name) E.walked.kind_is first in omega (arith, e))) ∙ in_effect
+  at-begin first = ap (λ rs. file_of rs name)
+      (stands (let e = appends-whole E.before E.job (DropJob name) E.walked.kind_is first in
+      omega (arith, e))) ∙ in_effect
 
   module _ (at : E.action ≡ End) where
     stand-end : slice_get (actions_of (setup_in start) E.job) E.job.place ≡ Some End
     stand-end = subst (λ (t : Setup). slice_get (actions_of t E.job) E.job.place ≡ Some End) E.walked.setup
         (ap (λ xs. slice_get xs E.job.place) (drop-list (setup_in E.before) E.job name E.walked.kind_is)
-        ∙ (sym (cond_false (is_idle_drop E.before E.job (DropJob name)) (Some End) (slice_get (actions_by (setup_in E.before) E.job (DropJob name)) E.job.place) (not-idle E.before E.job name file at-begin))
-        ∙ (sym (next_is_by E.before E.job ∙ ap (λ kd. next_by E.before E.job kd E.job.place) E.walked.kind_is) ∙ (E.next ∙ ap Some at))))
+        ∙ (sym (cond_false (is_idle_drop E.before E.job (DropJob name)) (Some End)
+        (slice_get (actions_by (setup_in E.before) E.job (DropJob name)) E.job.place)
+        (not-idle E.before E.job name file at-begin))
+        ∙ (sym (next_is_by E.before E.job ∙ ap (λ kd. next_by E.before E.job kd E.job.place) E.walked.kind_is)
+        ∙ (E.next ∙ ap Some at))))
 
     end-before : slice_get (actions_of (setup_in E.before) E.job) E.job.place ≡ Some End
-    end-before = subst (λ (t : Setup). slice_get (actions_of t E.job) E.job.place ≡ Some End) (sym E.walked.setup) stand-end
+    end-before = subst (λ (t : Setup). slice_get (actions_of t E.job) E.job.place ≡ Some End)
+        (sym E.walked.setup) stand-end
 
-    end-order : IsInOrder (moves_made E.before.append E.job.number) (End ∷ drop (E.job.place + 1) (actions_of (setup_in E.before) E.job))
-    end-order = subst (IsInOrder (moves_made E.before.append E.job.number)) (drop-get (actions_of (setup_in E.before) E.job) E.job.place End end-before)
+    end-order : IsInOrder (moves_made E.before.append E.job.number)
+        (End ∷ drop (E.job.place + 1) (actions_of (setup_in E.before) E.job))
+    end-order = subst (IsInOrder (moves_made E.before.append E.job.number))
+        (drop-get (actions_of (setup_in E.before) E.job) E.job.place End end-before)
         (E.walked.sound.jobs E.job.number E.job (runs start O (DropJob name) E.before E.job E.walked)).order
 
     end-left : actions_left (setup_in E.before) E.job ≡ End ∷ []
-    end-left = drop-get (actions_of (setup_in E.before) E.job) E.job.place End end-before ∙ ap (λ xs. End ∷ xs) end-order.1
+    end-left = drop-get (actions_of (setup_in E.before) E.job) E.job.place End end-before
+        ∙ ap (λ xs. End ∷ xs) end-order.1
 
     no-append : appends_left (setup_in start) E.job ≡ 0
-    no-append = left-start start O (DropJob name) E.before E.job E.walked 0 (ap appends_in end-left ∙ appends-cons End [])
+    no-append = left-start start O (DropJob name) E.before E.job E.walked 0
+        (ap appends_in end-left ∙ appends-cons End [])
 
-    end-made : Made drop_with (append_actions ++ (remove_actions (setup_in start) E.job ++ End ∷ [])) start.providers E.before.providers [] E.job.given
+    end-made : Made drop_with (append_actions ++ (remove_actions (setup_in start) E.job ++ End ∷ []))
+        start.providers E.before.providers [] E.job.given
     end-made =
-        (let left : drop E.job.place (actions_of (setup_in start) E.job) ≡ End ∷ [] = subst (λ (t : Setup). actions_left t E.job ≡ End ∷ []) E.walked.setup end-left in
-        let whole : take E.job.place (actions_of (setup_in start) E.job) ++ End ∷ [] ≡ append_actions ++ drop_rest (setup_in start) E.job =
-        ap (λ xs. take E.job.place (actions_of (setup_in start) E.job) ++ xs) (sym left) ∙ (take-append-drop E.job.place (actions_of (setup_in start) E.job) ∙ list-is) in
+        (let left : drop E.job.place (actions_of (setup_in start) E.job) ≡ End ∷ [] =
+        subst (λ (t : Setup). actions_left t E.job ≡ End ∷ []) E.walked.setup end-left in
+        let whole : take E.job.place (actions_of (setup_in start) E.job) ++ End ∷ []
+        ≡ append_actions ++ drop_rest (setup_in start) E.job =
+        ap (λ xs. take E.job.place (actions_of (setup_in start) E.job) ++ xs) (sym left)
+        ∙ (take-append-drop E.job.place (actions_of (setup_in start) E.job) ∙ list-is) in
         subst (λ xs. Made drop_with xs start.providers E.before.providers [] E.job.given) whole
-        (made-append drop_with (take E.job.place (actions_of (setup_in start) E.job)) (End ∷ []) start.providers E.before.providers E.before.providers [] E.job.given E.job.given E.walked.made
+        (made-append drop_with (take E.job.place (actions_of (setup_in start) E.job))
+        (End ∷ []) start.providers E.before.providers E.before.providers
+        [] E.job.given E.job.given E.walked.made
         (made-one drop_with End E.before.providers E.before.providers E.job.given E.job.given (refl, refl))))
 
-    removed : (given : List Given) × (now : List Given) × Made drop_with (remove_actions (setup_in start) E.job) start.providers E.before.providers given now
+    removed : (given : List Given) × (now : List Given) ×
+        Made drop_with (remove_actions (setup_in start) E.job) start.providers E.before.providers given now
     removed =
-        (let a = made-split drop_with append_actions (drop_rest (setup_in start) E.job) start.providers E.before.providers [] E.job.given end-made in
-        let d = made-split drop_with (remove_actions (setup_in start) E.job) (End ∷ []) a.0 E.before.providers a.1 E.job.given a.3 in
+        (let a = made-split drop_with append_actions (drop_rest (setup_in start) E.job) start.providers
+        E.before.providers [] E.job.given end-made in
+        let d = made-split drop_with (remove_actions (setup_in start) E.job)
+        (End ∷ []) a.0 E.before.providers a.1 E.job.given a.3 in
         let first : a.0 ≡ start.providers = moves-made drop_with start.providers a.0 [] a.1 a.2 in
-        let end : E.before.providers ≡ d.0 = d.3.3.0 ∙ d.3.2.0 in
-        (a.1, d.1, subst (λ f. Made drop_with (remove_actions (setup_in start) E.job) start.providers f a.1 d.1) (sym end) (subst (λ f. Made drop_with (remove_actions (setup_in start) E.job) f d.0 a.1 d.1) first d.2)))
+        let end : E.before.providers ≡ d.0 = d.3.3.0 ∙ d.3.2.0 in (
+          a.1,
+          d.1,
+          subst (λ f. Made drop_with (remove_actions (setup_in start) E.job) start.providers f a.1
+              d.1) (sym end) (subst (λ f. Made drop_with (remove_actions (setup_in start) E.job) f d.0 a.1 d.1)
+              first d.2),
+        ))
 
     drops-file : new.providers ≡ E.before.providers → DropsFile ran name
     unfolding setup_in
     drops-file providers = record { file = file; in_effect = in_effect; held = each }
       where
-        each : (j : ℕ) → j < (setup_in start).n → Goes (DroppedFrom file.id (Rose (start.providers j).other_faults (new.providers j).other_faults)) (start.providers j).held (new.providers j).held
-        each j l = subst (λ (q : Provider). Goes (DroppedFrom file.id (Rose (start.providers j).other_faults q.other_faults)) (start.providers j).held q.held) (sym (ap (λ (f : ℕ → Provider). f j) providers))
-            (older-goes drop_with start (setup_in start) E.job (Some file) start.providers E.before.providers removed.0 removed.1 j O.rest.idle.0 (E.walked.older no-append ∙ ap (removable start) in_effect) l removed.2)
+        each : (j : ℕ) → j < (setup_in start).n →
+            Goes (DroppedFrom file.id (Rose (start.providers j).other_faults (new.providers j).other_faults))
+            (start.providers j).held (new.providers j).held
+        each j l = subst (λ (q : Provider). Goes
+            (DroppedFrom file.id (Rose (start.providers j).other_faults q.other_faults))
+            (start.providers j).held q.held) (sym (ap (λ (f : ℕ → Provider). f j) providers))
+            (older-goes drop_with start (setup_in start) E.job
+            (Some file) start.providers E.before.providers removed.0 removed.1 j O.rest.idle.0
+            (E.walked.older no-append ∙ ap (removable start) in_effect) l removed.2)
 
     whole-records : E.before.records ≡ Drop name ∷ start.records
     whole-records = by_records E.before.records refl E.walked.records
       where
-        by_records : (rs : List Record) → E.before.records ≡ rs → RecordsAre start (DropJob name) E.job rs → E.before.records ≡ Drop name ∷ start.records
+        by_records : (rs : List Record) → E.before.records ≡ rs → RecordsAre start (DropJob name) E.job rs →
+            E.before.records ≡ Drop name ∷ start.records
         by_records rs e (RecordsAre.none l is) = absurd (let c = no-append in omega (arith, l, c))
         by_records rs e (RecordsAre.one l is) = e ∙ is
         by_records rs e (RecordsAre.two entry l sec is) = absurd (omega (arith, l))
@@ -240,7 +316,11 @@ module _ (start new : State) (name : List ℕ) (how : Answer) (heard : List Entr
       where
         by_answer : (a : Answer) → step.Ends E.before E.job (DropJob name) a → Gives a
         by_answer answer.Dropped u = (
-          record { after = ap (λ (v : State). v.records) is ∙ whole-records; sure = ap (λ (v : State). option_map (λ (d : Doubt). d.entry) v.doubt) is ∙ ap (option_map (λ (d : Doubt). d.entry)) end-sure },
+          record {
+            after = ap (λ (v : State). v.records) is ∙ whole-records;
+            sure = ap (λ (v : State). option_map (λ (d : Doubt). d.entry) v.doubt) is
+                ∙ ap (option_map (λ (d : Doubt). d.entry)) end-sure;
+          },
           drops-file (ap (λ (v : State). v.providers) is),
         )
         by_answer a h = absurd h
@@ -261,7 +341,9 @@ module _ (start new : State) (name : List ℕ) (how : Answer) (heard : List Entr
         (
           tt,
           each_append NoStore (remove_actions (setup_in start) E.job) (End ∷ [])
-              (each_flat NoStore (λ object. on_each_provider (setup_in start) (λ k. Remove k object)) E.job.older (λ object. each_map NoStore (λ k. Remove k object) (upto (setup_in start).n) (λ k. tt))) (tt, tt),
+              (each_flat NoStore (λ object. on_each_provider (setup_in start) (λ k. Remove k object))
+              E.job.older (λ object. each_map NoStore (λ k. Remove k object) (upto (setup_in start).n)
+              (λ k. tt))) (tt, tt),
         ),
       ),
     ),
@@ -276,13 +358,19 @@ module _ (start new : State) (name : List ℕ) (how : Answer) (heard : List Entr
   by-action (Remove k o) at h = absurd h
   by-action (Fetch k o t) at h = absurd h
   by-action (Ask k o r) at h = absurd h
-  by-action (Store k o t) at h = absurd (each_get NoStore (actions_of (setup_in start) E.job) E.job.place (Store k o t) unstored (listed (Store k o t) at (λ e. cc)))
-  by-action (Work o t) at h = absurd (each_get IsWriting (actions_of (setup_in start) E.job) E.job.place (Work o t) (writing-drop (setup_in start) E.job name E.walked.kind_is) (listed (Work o t) at (λ e. cc)))
+  by-action (Store k o t) at h =
+      absurd (each_get NoStore (actions_of (setup_in start) E.job) E.job.place (Store k o t) unstored
+      (listed (Store k o t) at (λ e. cc)))
+  by-action (Work o t) at h =
+      absurd (each_get IsWriting (actions_of (setup_in start) E.job) E.job.place (Work o t)
+      (writing-drop (setup_in start) E.job name E.walked.kind_is) (listed (Work o t) at (λ e. cc)))
 
   no-fetches : NoFetches ran
   no-fetches j l = (last-keeps E.action E.before new j L.0).1
-      ∙ writing-fetches drop_with (take E.job.place (actions_of (setup_in start) E.job)) start.providers E.before.providers [] E.job.given j
-      (each_take IsWriting (actions_of (setup_in start) E.job) E.job.place (writing-drop (setup_in start) E.job name E.walked.kind_is)) E.walked.made
+      ∙ writing-fetches drop_with (take E.job.place (actions_of (setup_in start) E.job)) start.providers
+      E.before.providers [] E.job.given j
+      (each_take IsWriting (actions_of (setup_in start) E.job) E.job.place
+      (writing-drop (setup_in start) E.job name E.walked.kind_is)) E.walked.made
 
   -- a drop leaves its record, and takes its file away from each provider; or it was cut off
   pub drop-leaves : Leaves ran (DropJob name) how

@@ -62,16 +62,20 @@ take-within [] ys (suc p) l = absurd (omega (arith, l))
 take-within (x ∷ xs) ys zero l = refl
 take-within (x ∷ xs) ys (suc p) l = ap (λ zs. x ∷ zs) (take-within xs ys p (omega (arith, l)))
 
-take-beyond : {X : Type 0} (xs ys : List X) (p : ℕ) → length xs ≤ p → take p (xs ++ ys) ≡ xs ++ take (p - length xs) ys
-take-beyond xs ys p l = ap (λ n. take n (xs ++ ys)) (let e : p ≡ length xs + (p - length xs) = omega (arith, l) in e) ∙ take-append-add xs ys (p - length xs)
+take-beyond : {X : Type 0} (xs ys : List X) (p : ℕ) → length xs ≤ p →
+    take p (xs ++ ys) ≡ xs ++ take (p - length xs) ys
+take-beyond xs ys p l = ap (λ n. take n (xs ++ ys))
+    (let e : p ≡ length xs + (p - length xs) = omega (arith, l) in e) ∙ take-append-add xs ys (p - length xs)
 
 single-get : {X : Type 0} (w x : X) (k : ℕ) → slice_get (w ∷ []) k ≡ Some x → (k ≡ 0) × (x ≡ w)
 single-get w x zero h = (refl, (let e : Some w ≡ Some x = h in let f : w ≡ x = cc in sym f))
 single-get w x (suc k) h = absurd (let e : None ≡ Some x = h in cc)
 
-flat-append : {A X : Type 0} (f : A → List X) (xs ys : List A) → flat_map f (xs ++ ys) ≡ flat_map f xs ++ flat_map f ys
+flat-append : {A X : Type 0} (f : A → List X) (xs ys : List A) →
+    flat_map f (xs ++ ys) ≡ flat_map f xs ++ flat_map f ys
 flat-append f [] ys = refl
-flat-append f (x ∷ xs) ys = ap (λ l. f x ++ l) (flat-append f xs ys) ∙ sym (append_assoc (f x) (flat_map f xs) (flat_map f ys))
+flat-append f (x ∷ xs) ys =
+    ap (λ l. f x ++ l) (flat-append f xs ys) ∙ sym (append_assoc (f x) (flat_map f xs) (flat_map f ys))
 
 -- ---- the list of a get, cut at one of its places
 
@@ -89,31 +93,45 @@ module _ (s : Setup) (id : ℕ) where
     at_fetch : (j t : ℕ) → x ≡ Fetch j id t → Cut n a x front
 
   -- what stands at a place of a get's list is its end, work or a fetch; and what stands before that
-  pub cut : (n a p : ℕ) (x : Action) → slice_get (reads a n ++ End ∷ []) p ≡ Some x → Cut n a x (take p (reads a n ++ End ∷ []))
+  pub cut : (n a p : ℕ) (x : Action) → slice_get (reads a n ++ End ∷ []) p ≡ Some x →
+      Cut n a x (take p (reads a n ++ End ∷ []))
   cut zero a p x h = (let e = single-get End x p h in Cut.at_end e.1 (ap (λ q. take q (End ∷ [])) e.0))
-  cut (suc n) a p x h = elim (split_get (open_actions s id a) (reads (a + 1) n ++ End ∷ []) p x (ap (λ xs. slice_get xs p) (sym whole) ∙ h)) [
-    | inl in_first ↦ elim (split_get (fetches a) (Work id a ∷ []) p x in_first.1) [
-      | inl f ↦ (let g = each_get (λ y. (j : ℕ) × (y ≡ Fetch j id a)) (fetches a) p x (each_map (λ y. (j : ℕ) × (y ≡ Fetch j id a)) (λ j. Fetch j id a) (upto s.n) (λ j. (j, refl))) f.1 in Cut.at_fetch g.0 a g.1)
-      | inr w ↦ (let e = single-get (Work id a) x (p - length (fetches a)) w.1 in
-          let at : p ≡ length (fetches a) + 0 = (let l = w.0 in let z = e.0 in omega (arith, l, z)) in
-          Cut.at_work 0 (omega arith) (e.1 ∙ ap (Work id) (let z : a ≡ a + 0 = omega arith in z))
-          (ap (λ q. take q ((open_actions s id a ++ reads (a + 1) n) ++ End ∷ [])) at
-          ∙ (ap (take (length (fetches a) + 0)) (append_assoc (open_actions s id a) (reads (a + 1) n) (End ∷ []) ∙ append_assoc (fetches a) (Work id a ∷ []) (reads (a + 1) n ++ End ∷ []))
-          ∙ (take-append-add (fetches a) (Work id a ∷ (reads (a + 1) n ++ End ∷ [])) 0 ∙ (append-nil (fetches a) ∙ ap fetches (let z : a ≡ a + 0 = omega arith in z))))))
-    ]
-    | inr later ↦ elim (cut n (a + 1) (p - length (open_actions s id a)) x later.1) [
-      | Cut.at_end is front ↦ Cut.at_end is (behind later.0 ∙ ap (λ ys. open_actions s id a ++ ys) front)
-      | Cut.at_work k l is front ↦ Cut.at_work (suc k) (omega (arith, l)) (is ∙ ap (Work id) (let z : a + 1 + k ≡ a + suc k = omega arith in z))
-          (behind later.0 ∙ (ap (λ ys. open_actions s id a ++ ys) front ∙ (sym (append_assoc (open_actions s id a) (reads (a + 1) k) (fetches (a + 1 + k)))
-          ∙ ap (λ t. (open_actions s id a ++ reads (a + 1) k) ++ fetches t) (let z : a + 1 + k ≡ a + suc k = omega arith in z))))
-      | Cut.at_fetch j t is ↦ Cut.at_fetch j t is
-    ]
-  ]
+  cut (suc n) a p x h =
+      elim (split_get (open_actions s id a) (reads (a + 1) n ++ End ∷ []) p x
+      (ap (λ xs. slice_get xs p) (sym whole) ∙ h)) [
+        | inl in_first ↦ elim (split_get (fetches a) (Work id a ∷ []) p x in_first.1) [
+          | inl f ↦ (let g = each_get (λ y. (j : ℕ) × (y ≡ Fetch j id a)) (fetches a) p x
+              (each_map (λ y. (j : ℕ) × (y ≡ Fetch j id a)) (λ j. Fetch j id a) (upto s.n) (λ j. (j, refl)))
+              f.1 in Cut.at_fetch g.0 a g.1)
+          | inr w ↦ (let e = single-get (Work id a) x (p - length (fetches a)) w.1 in
+              let at : p ≡ length (fetches a) + 0 = (let l = w.0 in let z = e.0 in omega (arith, l, z)) in
+              Cut.at_work 0 (omega arith) (e.1 ∙ ap (Work id) (let z : a ≡ a + 0 = omega arith in z))
+              (ap (λ q. take q ((open_actions s id a ++ reads (a + 1) n) ++ End ∷ [])) at
+              ∙ (ap (take (length (fetches a) + 0))
+              (append_assoc (open_actions s id a) (reads (a + 1) n) (End ∷ [])
+              ∙ append_assoc (fetches a) (Work id a ∷ []) (reads (a + 1) n ++ End ∷ []))
+              ∙ (take-append-add (fetches a) (Work id a ∷ (reads (a + 1) n ++ End ∷ [])) 0
+              ∙ (append-nil (fetches a) ∙ ap fetches (let z : a ≡ a + 0 = omega arith in z))))))
+        ]
+        | inr later ↦ elim (cut n (a + 1) (p - length (open_actions s id a)) x later.1) [
+          | Cut.at_end is front ↦ Cut.at_end is (behind later.0 ∙ ap (λ ys. open_actions s id a ++ ys) front)
+          | Cut.at_work k l is front ↦ Cut.at_work (suc k) (omega (arith, l))
+              (is ∙ ap (Work id) (let z : a + 1 + k ≡ a + suc k = omega arith in z))
+              (behind later.0 ∙ (ap (λ ys. open_actions s id a ++ ys) front
+              ∙ (sym (append_assoc (open_actions s id a) (reads (a + 1) k) (fetches (a + 1 + k)))
+              ∙ ap (λ t. (open_actions s id a ++ reads (a + 1) k) ++ fetches t)
+              (let z : a + 1 + k ≡ a + suc k = omega arith in z))))
+          | Cut.at_fetch j t is ↦ Cut.at_fetch j t is
+        ]
+      ]
     where
-      whole : (open_actions s id a ++ reads (a + 1) n) ++ End ∷ [] ≡ open_actions s id a ++ (reads (a + 1) n ++ End ∷ [])
+      whole : (open_actions s id a ++ reads (a + 1) n) ++ End ∷ []
+          ≡ open_actions s id a ++ (reads (a + 1) n ++ End ∷ [])
       whole = append_assoc (open_actions s id a) (reads (a + 1) n) (End ∷ [])
 
-      behind : length (open_actions s id a) ≤ p → take p ((open_actions s id a ++ reads (a + 1) n) ++ End ∷ []) ≡ open_actions s id a ++ take (p - length (open_actions s id a)) (reads (a + 1) n ++ End ∷ [])
+      behind : length (open_actions s id a) ≤ p →
+          take p ((open_actions s id a ++ reads (a + 1) n) ++ End ∷ [])
+          ≡ open_actions s id a ++ take (p - length (open_actions s id a)) (reads (a + 1) n ++ End ∷ [])
       behind l = ap (take p) whole ∙ take-beyond (open_actions s id a) (reads (a + 1) n ++ End ∷ []) p l
 
   -- ---- no two fetches are the same, and no stripe is worked on twice
@@ -138,18 +156,23 @@ module _ (s : Setup) (id : ℕ) where
 
   distinct-open : (t : ℕ) → AreDistinct (open_actions s id t)
   distinct-open t = distinct-append (fetches t) (Work id t ∷ []) (distinct-fetches t) (tt, tt)
-      (each_map (λ x. IsOver x (Work id t ∷ [])) (λ j. Fetch j id t) (upto s.n) (λ j. ((λ e. (let f : Fetch j id t ≡ Work id t = e in cc)), tt)))
+      (each_map (λ x. IsOver x (Work id t ∷ [])) (λ j. Fetch j id t) (upto s.n)
+      (λ j. ((λ e. (let f : Fetch j id t ≡ Work id t = e in cc)), tt)))
 
   distinct-reads : (a n : ℕ) → AreDistinct (reads a n)
   distinct-reads a n = distinct-range stripe_tag (open_actions s id) a n open-tags distinct-open
 
   -- the whole of it without the work on its last stripe
   reads-last : (a k : ℕ) → reads a (suc k) ≡ (reads a k ++ fetches (a + k)) ++ Work id (a + k) ∷ []
-  reads-last a zero = append-nil (open_actions s id a) ∙ ap (λ t. fetches t ++ Work id t ∷ []) (let z : a ≡ a + 0 = omega arith in z)
+  reads-last a zero = append-nil (open_actions s id a)
+      ∙ ap (λ t. fetches t ++ Work id t ∷ []) (let z : a ≡ a + 0 = omega arith in z)
   reads-last a (suc k) = ap (λ ys. open_actions s id a ++ ys) (reads-last (a + 1) k)
-      ∙ (sym (append_assoc (open_actions s id a) (reads (a + 1) k ++ fetches (a + 1 + k)) (Work id (a + 1 + k) ∷ []))
-      ∙ (ap (λ ys. ys ++ Work id (a + 1 + k) ∷ []) (sym (append_assoc (open_actions s id a) (reads (a + 1) k) (fetches (a + 1 + k))))
-      ∙ ap (λ t. ((open_actions s id a ++ reads (a + 1) k) ++ fetches t) ++ Work id t ∷ []) (let z : a + 1 + k ≡ a + suc k = omega arith in z)))
+      ∙ (sym (append_assoc (open_actions s id a) (reads (a + 1) k ++ fetches (a + 1 + k))
+      (Work id (a + 1 + k) ∷ []))
+      ∙ (ap (λ ys. ys ++ Work id (a + 1 + k) ∷ [])
+      (sym (append_assoc (open_actions s id a) (reads (a + 1) k) (fetches (a + 1 + k))))
+      ∙ ap (λ t. ((open_actions s id a ++ reads (a + 1) k) ++ fetches t) ++ Work id t ∷ [])
+      (let z : a + 1 + k ≡ a + suc k = omega arith in z)))
 
   distinct-left : (xs ys : List Action) → AreDistinct (xs ++ ys) → AreDistinct xs
   distinct-left [] ys d = tt
@@ -172,7 +195,8 @@ module _ (s : Setup) (id : ℕ) where
       over-left End h = tt
 
   distinct-cut : (a k : ℕ) → AreDistinct (reads a k ++ fetches (a + k))
-  distinct-cut a k = distinct-left (reads a k ++ fetches (a + k)) (Work id (a + k) ∷ []) (subst AreDistinct (reads-last a k) (distinct-reads a (suc k)))
+  distinct-cut a k = distinct-left (reads a k ++ fetches (a + k)) (Work id (a + k) ∷ [])
+      (subst AreDistinct (reads-last a k) (distinct-reads a (suc k)))
 
   -- ---- what is heard of them
 
@@ -182,20 +206,27 @@ module _ (s : Setup) (id : ℕ) where
   entries-fetches : (now : List Given) (t : ℕ) → flat_map (entry_for 1 now) (fetches t) ≡ entries_at now t
   entries-fetches now t = singles (upto s.n)
     where
-      singles : (js : List ℕ) → flat_map (entry_for 1 now) (map (λ j. Fetch j id t) js) ≡ map (λ j. record { job = 1; given = Fetched j id t (block_given now id t j) }) js
+      singles : (js : List ℕ) → flat_map (entry_for 1 now) (map (λ j. Fetch j id t) js)
+          ≡ map (λ j. record { job = 1; given = Fetched j id t (block_given now id t j) }) js
       singles [] = refl
-      singles (j ∷ js) = ap (λ l. record { job = 1; given = Fetched j id t (block_given now id t j) } ∷ l) (singles js)
+      singles (j ∷ js) = ap (λ l. record { job = 1; given = Fetched j id t (block_given now id t j) } ∷ l)
+          (singles js)
 
-  entries-reads : (now : List Given) (a n : ℕ) → flat_map (entry_for 1 now) (reads a n) ≡ flat_map (entries_at now) (range_with_len a n)
+  entries-reads : (now : List Given) (a n : ℕ) → flat_map (entry_for 1 now) (reads a n)
+      ≡ flat_map (entries_at now) (range_with_len a n)
   entries-reads now a zero = refl
-  entries-reads now a (suc n) = flat-append (entry_for 1 now) (open_actions s id a) (reads (a + 1) n) ∙ (λ i. piece i ++ entries-reads now (a + 1) n i)
+  entries-reads now a (suc n) = flat-append (entry_for 1 now) (open_actions s id a) (reads (a + 1) n)
+      ∙ (λ i. piece i ++ entries-reads now (a + 1) n i)
     where
       piece : flat_map (entry_for 1 now) (open_actions s id a) ≡ entries_at now a
-      piece = flat-append (entry_for 1 now) (fetches a) (Work id a ∷ []) ∙ (append-nil (flat_map (entry_for 1 now) (fetches a)) ∙ entries-fetches now a)
+      piece = flat-append (entry_for 1 now) (fetches a) (Work id a ∷ [])
+          ∙ (append-nil (flat_map (entry_for 1 now) (fetches a)) ∙ entries-fetches now a)
 
-  entries-cut : (now : List Given) (a k : ℕ) → flat_map (entry_for 1 now) (reads a k ++ fetches (a + k)) ≡ flat_map (entries_at now) (range_with_len a (suc k))
+  entries-cut : (now : List Given) (a k : ℕ) → flat_map (entry_for 1 now) (reads a k ++ fetches (a + k))
+      ≡ flat_map (entries_at now) (range_with_len a (suc k))
   entries-cut now a k = sym (append-nil (flat_map (entry_for 1 now) (reads a k ++ fetches (a + k))))
-      ∙ (sym (flat-append (entry_for 1 now) (reads a k ++ fetches (a + k)) (Work id (a + k) ∷ [])) ∙ (ap (flat_map (entry_for 1 now)) (sym (reads-last a k)) ∙ entries-reads now a (suc k)))
+      ∙ (sym (flat-append (entry_for 1 now) (reads a k ++ fetches (a + k)) (Work id (a + k) ∷ []))
+      ∙ (ap (flat_map (entry_for 1 now)) (sym (reads-last a k)) ∙ entries-reads now a (suc k)))
 
 -- ---- what fetches gave
 
@@ -229,33 +260,56 @@ module _ (x : With) (j : ℕ) (held : Held) (now : List Given) where
     held_is : q.held ≡ Some held
     count : q.other_faults < last_count → p.other_faults + lack_block a ≤ q.other_faults
 
-  still-step : (a : Action) (p q : Provider) → IsToldBlock a → lack_block a ≡ 0 → q ≡ p → p.held ≡ Some held → ReadStep a p q
-  still-step a p q told none e h = record { told = told; held_is = ap (λ (z : Provider). z.held) e ∙ h; count = λ l. (let f = ap (λ (z : Provider). z.other_faults) e in omega (arith, f, none)) }
+  still-step : (a : Action) (p q : Provider) → IsToldBlock a → lack_block a ≡ 0 → q ≡ p → p.held ≡ Some held →
+      ReadStep a p q
+  still-step a p q told none e h =
+      record {
+        told = told;
+        held_is = ap (λ (z : Provider). z.held) e ∙ h;
+        count = λ l. (let f = ap (λ (z : Provider). z.other_faults) e in omega (arith, f, none));
+      }
 
-  fetch-step : (k o t : ℕ) (block : Option (List ℕ)) (p q : Provider) → k ≡ j → block_given now o t k ≡ block → p.held ≡ Some held → Fetches (object_made x o).profile.size o t p block q → ReadStep (Fetch k o t) p q
+  fetch-step : (k o t : ℕ) (block : Option (List ℕ)) (p q : Provider) → k ≡ j →
+      block_given now o t k ≡ block → p.held ≡ Some held →
+      Fetches (object_made x o).profile.size o t p block q → ReadStep (Fetch k o t) p q
   fetch-step k o t block p q hit is h c = record {
     told = λ e. elim gives [ inl g ↦ inl (is ∙ g) | inr f ↦ inr (is ∙ f.0) ];
     held_is = c.held ∙ h;
-    count = λ l. (let one : lack_block (Fetch k o t) ≡ lacks block (has o t) = cond_true (k == j) (lacks (block_given now o t k) (has o t)) 0 (eq-eqb k j hit) ∙ ap (λ g. lacks g (has o t)) is in
+    count = λ l. (let one : lack_block (Fetch k o t) ≡ lacks block (has o t) =
+        cond_true (k == j) (lacks (block_given now o t k) (has o t)) 0 (eq-eqb k j hit)
+        ∙ ap (λ g. lacks g (has o t)) is in
         elim gives [
-          | inl g ↦ (let z = lacks-same block (has o t) g in let low = c.counts.other_faults in omega (arith, one, z, low))
-          | inr f ↦ (let z = lacks-few block (has o t) in let low = c.counts.other_faults in let up = f.1 (omega (arith, low, l)) in omega (arith, one, z, up))
+          | inl g ↦ (let z = lacks-same block (has o t) g in let low = c.counts.other_faults in
+              omega (arith, one, z, low))
+          | inr f ↦ (let z = lacks-few block (has o t) in let low = c.counts.other_faults in
+              let up = f.1 (omega (arith, low, l)) in omega (arith, one, z, up))
         ]);
   }
     where
       gives : (block ≡ has o t) ⊎ FailsToGive p block q
-      gives = elim c.gives [ inl g ↦ inl (subst (λ hs. FetchGives (object_made x o).profile.size o t hs block) h g) | inr f ↦ inr f ]
+      gives = elim c.gives [
+        | inl g ↦
+            inl (subst (λ hs. FetchGives (object_made x o).profile.size o t hs block) h g)
+        | inr f ↦ inr f
+      ]
 
-  read-step : (a : Action) (actions : List Action) (old mid new : ℕ → Provider) (given so_far : List Given) → IsReading a → IsOver a actions → Did x a old mid given so_far → Made x actions mid new so_far now → (old j).held ≡ Some held →
+  read-step : (a : Action) (actions : List Action) (old mid new : ℕ → Provider) (given so_far : List Given) →
+      IsReading a → IsOver a actions → Did x a old mid given so_far → Made x actions mid new so_far now →
+      (old j).held ≡ Some held →
       ReadStep a (old j) (mid j)
-  read-step (Fetch k o t) actions old mid new given so_far reading over (block, called, is) rest h = elim (cases_eq k j) [
-    | inl hit ↦ fetch-step k o t block (old j) (mid j) hit
-        (block-later x actions mid new so_far now k o t rest over ∙ (ap (λ g. block_given g o t k) is ∙ block-newest k o t block given)) h
-        (subst (λ n. Fetches (object_made x o).profile.size o t (old n) block (mid n)) hit (call-hit old k (λ p q. Fetches (object_made x o).profile.size o t p block q) mid called))
-    | inr miss ↦ still-step (Fetch k o t) (old j) (mid j) (λ e. absurd (miss e)) (cond_false (k == j) (lacks (block_given now o t k) (has o t)) 0 (ne_eqb k j miss))
-        (call-miss old k (λ p q. Fetches (object_made x o).profile.size o t p block q) mid j miss called) h
-  ]
-  read-step (Work o t) actions old mid new given so_far reading over (symbols, gives, still, is) rest h = still-step (Work o t) (old j) (mid j) tt refl (ap (λ f. f j) still) h
+  read-step (Fetch k o t) actions old mid new given so_far reading over (block, called, is) rest h =
+      elim (cases_eq k j) [
+        | inl hit ↦ fetch-step k o t block (old j) (mid j) hit
+            (block-later x actions mid new so_far now k o t rest over
+            ∙ (ap (λ g. block_given g o t k) is ∙ block-newest k o t block given)) h
+            (subst (λ n. Fetches (object_made x o).profile.size o t (old n) block (mid n)) hit
+            (call-hit old k (λ p q. Fetches (object_made x o).profile.size o t p block q) mid called))
+        | inr miss ↦ still-step (Fetch k o t) (old j) (mid j) (λ e. absurd (miss e))
+            (cond_false (k == j) (lacks (block_given now o t k) (has o t)) 0 (ne_eqb k j miss))
+            (call-miss old k (λ p q. Fetches (object_made x o).profile.size o t p block q) mid j miss called) h
+      ]
+  read-step (Work o t) actions old mid new given so_far reading over (symbols, gives, still, is) rest h =
+      still-step (Work o t) (old j) (mid j) tt refl (ap (λ f. f j) still) h
   read-step (Ask k o r) actions old mid new given so_far reading over did rest h = absurd reading
   read-step (Store k o t) actions old mid new given so_far reading over did rest h = absurd reading
   read-step (Remove k o) actions old mid new given so_far reading over did rest h = absurd reading
@@ -266,19 +320,29 @@ module _ (x : With) (j : ℕ) (held : Held) (now : List Given) where
   read-step End actions old mid new given so_far reading over did rest h = absurd reading
 
   -- all of them
-  blocks-told : (actions : List Action) (old new : ℕ → Provider) (given : List Given) → Each IsReading actions → AreDistinct actions → Made x actions old new given now → (old j).held ≡ Some held →
-      Each IsToldBlock actions × ((new j).other_faults < last_count → (old j).other_faults + sum_by lack_block actions ≤ (new j).other_faults)
-  blocks-told [] old new given reading d m h = (tt, λ l. (let e = ap (λ (f : ℕ → Provider). (f j).other_faults) m.0 in omega (arith, e)))
+  blocks-told : (actions : List Action) (old new : ℕ → Provider) (given : List Given) →
+      Each IsReading actions → AreDistinct actions → Made x actions old new given now →
+      (old j).held ≡ Some held →
+      Each IsToldBlock actions ×
+      ((new j).other_faults < last_count →
+      (old j).other_faults + sum_by lack_block actions ≤ (new j).other_faults)
+  blocks-told [] old new given reading d m h =
+      (tt, λ l. (let e = ap (λ (f : ℕ → Provider). (f j).other_faults) m.0 in omega (arith, e)))
   blocks-told (a ∷ actions) old new given reading d (mid, so_far, did, rest) h =
       (let s = read-step a actions old mid new given so_far reading.0 d.0 did rest h in
       let r = blocks-told actions mid new so_far reading.1 d.1 rest s.held_is in
-      let up = (made-rises x actions mid new so_far now j rest).1 in
-      ((s.told, r.0), λ l. (let c = s.count (omega (arith, up, l)) in let e = r.1 l in let f = sum_by-cons lack_block a actions in omega (arith, c, e, f))))
+      let up = (made-rises x actions mid new so_far now j rest).1 in (
+        (s.told, r.0),
+        λ l. (let c = s.count (omega (arith, up, l)) in let e = r.1 l in
+            let f = sum_by-cons lack_block a actions in omega (arith, c, e, f)),
+      ))
 
   -- works are told of nothing, and lack nothing
   works-told : (ws : List Action) → Each IsWork ws → Each IsToldBlock ws × (sum_by lack_block ws ≡ 0)
   works-told [] w = (tt, refl)
-  works-told (Work o t ∷ ws) w = (let r = works-told ws w.1 in ((tt, r.0), (let f = sum_by-cons lack_block (Work o t) ws in let e = r.1 in omega (arith, f, e))))
+  works-told (Work o t ∷ ws) w =
+      (let r = works-told ws w.1 in
+      ((tt, r.0), (let f = sum_by-cons lack_block (Work o t) ws in let e = r.1 in omega (arith, f, e))))
   works-told (Fetch k o t ∷ ws) w = absurd w.0
   works-told (Ask k o r ∷ ws) w = absurd w.0
   works-told (Store k o t ∷ ws) w = absurd w.0
@@ -290,17 +354,20 @@ module _ (x : With) (j : ℕ) (held : Held) (now : List Given) where
   works-told (End ∷ ws) w = absurd w.0
 
   -- stripe by stripe
-  module _ (s : Setup) (id : ℕ) (below : j < s.n) (gave : ℕ → Option (List ℕ)) (gave_is : (t : ℕ) → gave t ≡ block_given now id t j) where
+  module _ (s : Setup) (id : ℕ) (below : j < s.n) (gave : ℕ → Option (List ℕ))
+      (gave_is : (t : ℕ) → gave t ≡ block_given now id t j) where
     left-told : (P : Action → Type 0) (xs ys : List Action) → Each P (xs ++ ys) → Each P xs × Each P ys
     left-told P [] ys h = (tt, h)
     left-told P (y ∷ xs) ys h = (let r = left-told P xs ys h.1 in ((h.0, r.0), r.1))
 
-    stripes-told : (a n : ℕ) → Each IsToldBlock (reads s id a n) → Each (λ t. (gave t ≡ has id t) ⊎ (gave t ≡ None)) (range_with_len a n)
+    stripes-told : (a n : ℕ) → Each IsToldBlock (reads s id a n) →
+        Each (λ t. (gave t ≡ has id t) ⊎ (gave t ≡ None)) (range_with_len a n)
     stripes-told a zero h = tt
     stripes-told a (suc n) h =
         (let p = left-told IsToldBlock (open_actions s id a) (reads s id (a + 1) n) h in
         let q = left-told IsToldBlock (fetches s id a) (Work id a ∷ []) p.0 in
-        let one = each-at IsToldBlock (λ k. Fetch k id a) 0 s.n j q.0 (omega arith) (omega (arith, below)) refl in
+        let one = each-at IsToldBlock (λ k. Fetch k id a) 0 s.n j q.0 (omega arith)
+        (omega (arith, below)) refl in
         (elim one [ inl e ↦ inl (gave_is a ∙ e) | inr e ↦ inr (gave_is a ∙ e) ], stripes-told (a + 1) n p.1))
 
     stripes-lack : (a n : ℕ) → sum_by lack_block (reads s id a n) ≡ missing gave (has id) (range_with_len a n)
@@ -309,10 +376,14 @@ module _ (x : With) (j : ℕ) (held : Held) (now : List Given) where
         (let e = sum_by-append lack_block (open_actions s id a) (reads s id (a + 1) n) in
         let f = sum_by-append lack_block (fetches s id a) (Work id a ∷ []) in
         let w = sum_by-cons lack_block (Work id a) [] in
-        let b = range-hit j lack_block (λ k. Fetch k id a) 0 s.n (λ k m. cond_false (k == j) _ 0 (ne_eqb k j m)) (omega arith) (omega (arith, below)) in
+        let b = range-hit j lack_block (λ k. Fetch k id a) 0 s.n
+        (λ k m. cond_false (k == j) _ 0 (ne_eqb k j m)) (omega arith) (omega (arith, below)) in
         let c : lack_block (Fetch j id a) ≡ lacks (gave a) (has id a) =
-        cond_true (j == j) (lacks (block_given now id a j) (has id a)) 0 (eq-eqb j j refl) ∙ ap (λ g. lacks g (has id a)) (sym (gave_is a)) in
-        let d : sum_by lack_block (open_actions s id a) ≡ lacks (gave a) (has id a) = (let g : sum_by lack_block (open_actions s id a) ≡ sum_by lack_block (fetches s id a) = omega (arith, f, w) in g ∙ (b ∙ c)) in
+        cond_true (j == j) (lacks (block_given now id a j) (has id a)) 0 (eq-eqb j j refl)
+        ∙ ap (λ g. lacks g (has id a)) (sym (gave_is a)) in
+        let d : sum_by lack_block (open_actions s id a) ≡ lacks (gave a) (has id a) =
+        (let g : sum_by lack_block (open_actions s id a) ≡ sum_by lack_block (fetches s id a) =
+        omega (arith, f, w) in g ∙ (b ∙ c)) in
         e ∙ (λ i. d i + stripes-lack (a + 1) n i))
 
 -- ---- what the work on stripes gave
@@ -328,15 +399,19 @@ module _ (x : With) (id : ℕ) (now : List Given) where
 
   from-reads : (low a n : ℕ) → low ≤ a → Each (IsFrom low) (reads x.setup id a n)
   from-reads low a zero l = tt
-  from-reads low a (suc n) l = each_append (IsFrom low) (open_actions x.setup id a) (reads x.setup id (a + 1) n)
-      (each_append (IsFrom low) (fetches x.setup id a) (Work id a ∷ []) (from-fetches low a l) (l, tt)) (from-reads low (a + 1) n (omega (arith, l)))
+  from-reads low a (suc n) l =
+      each_append (IsFrom low) (open_actions x.setup id a) (reads x.setup id (a + 1) n)
+      (each_append (IsFrom low) (fetches x.setup id a) (Work id a ∷ []) (from-fetches low a l) (l, tt))
+      (from-reads low (a + 1) n (omega (arith, l)))
 
-  each-not : (low : ℕ) (y : Action) (xs : List Action) → (IsFrom low y → ⊥) → Each (IsFrom low) xs → Each (IsNot y) xs
+  each-not : (low : ℕ) (y : Action) (xs : List Action) → (IsFrom low y → ⊥) → Each (IsFrom low) xs →
+      Each (IsNot y) xs
   each-not low y [] n h = tt
   each-not low y (z ∷ zs) n h = ((λ e. n (subst (IsFrom low) (sym e) h.0)), each-not low y zs n h.1)
 
   -- the stripe a was worked on, and what comes then is of later stripes
-  open-gives : (a : ℕ) (rest : List Action) (old new : ℕ → Provider) (given : List Given) → Each (IsFrom (a + 1)) rest → Made x (open_actions x.setup id a ++ rest) old new given now →
+  open-gives : (a : ℕ) (rest : List Action) (old new : ℕ → Provider) (given : List Given) →
+      Each (IsFrom (a + 1)) rest → Made x (open_actions x.setup id a ++ rest) old new given now →
       GivesSymbols (object_made x id) a (blocks_given now x.setup.n id a) (symbols_given now id a)
   open-gives a rest old new given later m =
       (let p = made-split x (open_actions x.setup id a) rest old new given now m in
@@ -345,25 +420,37 @@ module _ (x : With) (id : ℕ) (now : List Given) where
       let end = q.3.3 in
       let given_is : p.1 ≡ q.3.1 = end.1 in
       let now_is : q.3.1 ≡ Worked id a did.0 ∷ q.1 = did.3 in
-      let blocks : (j : ℕ) → block_given now id a j ≡ block_given q.1 id a j = (λ j. block-later x rest p.0 new p.1 now j id a p.3 (each-not (a + 1) (Fetch j id a) rest (λ l. omega (arith, l)) later)
+      let blocks : (j : ℕ) → block_given now id a j ≡ block_given q.1 id a j =
+      (λ j. block-later x rest p.0 new p.1 now j id a p.3
+      (each-not (a + 1) (Fetch j id a) rest (λ l. omega (arith, l)) later)
       ∙ (ap (λ g. block_given g id a j) (given_is ∙ now_is))) in
-      let symbols : symbols_given now id a ≡ did.0 = symbols-later x rest p.0 new p.1 now id a p.3 (each-not (a + 1) (Work id a) rest (λ l. omega (arith, l)) later)
+      let symbols : symbols_given now id a ≡ did.0 =
+      symbols-later x rest p.0 new p.1 now id a p.3
+      (each-not (a + 1) (Work id a) rest (λ l. omega (arith, l)) later)
       ∙ (ap (λ g. symbols_given g id a) (given_is ∙ now_is) ∙ symbols_given-newest id a did.0 q.1) in
       subst (λ z. GivesSymbols (object_made x id) a (blocks_given now x.setup.n id a) z) (sym symbols)
-      (subst (λ (g : ℕ → Option (List ℕ)). GivesSymbols (object_made x id) a (map g (upto x.setup.n)) did.0) (λ i j. sym (blocks j) i) did.1))
+      (subst (λ (g : ℕ → Option (List ℕ)). GivesSymbols (object_made x id) a (map g (upto x.setup.n)) did.0)
+      (λ i j. sym (blocks j) i) did.1))
 
-  reads-give : (rest : List Action) (n a : ℕ) (old new : ℕ → Provider) (given : List Given) → Each (IsFrom (a + n)) rest → Made x (reads x.setup id a n ++ rest) old new given now → (t : ℕ) → a ≤ t → t < a + n →
+  reads-give : (rest : List Action) (n a : ℕ) (old new : ℕ → Provider) (given : List Given) →
+      Each (IsFrom (a + n)) rest → Made x (reads x.setup id a n ++ rest) old new given now → (t : ℕ) → a ≤ t →
+      t < a + n →
       GivesSymbols (object_made x id) t (blocks_given now x.setup.n id t) (symbols_given now id t)
   reads-give rest zero a old new given from m t l u = absurd (omega (arith, l, u))
   reads-give rest (suc n) a old new given from m t l u =
       (let list = append_assoc (open_actions x.setup id a) (reads x.setup id (a + 1) n) rest in
-      let made : Made x (open_actions x.setup id a ++ (reads x.setup id (a + 1) n ++ rest)) old new given now = subst (λ xs. Made x xs old new given now) list m in
-      let onward : Each (IsFrom (a + 1 + n)) rest = subst (λ k. Each (IsFrom k) rest) (let e : a + suc n ≡ a + 1 + n = omega arith in e) from in
+      let made : Made x (open_actions x.setup id a ++ (reads x.setup id (a + 1) n ++ rest)) old new given
+      now = subst (λ xs. Made x xs old new given now) list m in
+      let onward : Each (IsFrom (a + 1 + n)) rest = subst (λ k. Each (IsFrom k) rest)
+      (let e : a + suc n ≡ a + 1 + n = omega arith in e) from in
       elim (cases_eq t a) [
-        | inl e ↦ subst (λ k. GivesSymbols (object_made x id) k (blocks_given now x.setup.n id k) (symbols_given now id k)) (sym e)
+        | inl e ↦ subst (λ k. GivesSymbols (object_made x id) k (blocks_given now x.setup.n id k)
+            (symbols_given now id k)) (sym e)
             (open-gives a (reads x.setup id (a + 1) n ++ rest) old new given
-            (each_append (IsFrom (a + 1)) (reads x.setup id (a + 1) n) rest (from-reads (a + 1) (a + 1) n (omega arith)) (lower rest onward)) made)
-        | inr o ↦ (let p = made-split x (open_actions x.setup id a) (reads x.setup id (a + 1) n ++ rest) old new given now made in
+            (each_append (IsFrom (a + 1)) (reads x.setup id (a + 1) n) rest
+            (from-reads (a + 1) (a + 1) n (omega arith)) (lower rest onward)) made)
+        | inr o ↦ (let p = made-split x (open_actions x.setup id a)
+            (reads x.setup id (a + 1) n ++ rest) old new given now made in
             reads-give rest n (a + 1) p.0 new p.1 onward p.3 t (omega (arith, l, o)) (omega (arith, u)))
       ])
     where
@@ -385,11 +472,13 @@ module _ (x : With) (id : ℕ) (now : List Given) where
 
 -- ---- the get
 
-get-list : (s : Setup) (job : Job) (name : List ℕ) → job.kind ≡ GetJob name → actions_of s job ≡ read_actions s job.pinned ++ End ∷ []
+get-list : (s : Setup) (job : Job) (name : List ℕ) → job.kind ≡ GetJob name →
+    actions_of s job ≡ read_actions s job.pinned ++ End ∷ []
 unfolding actions_of
 get-list s job name kind = ap (actions_by s job) kind
 
-module _ (start new : State) (name : List ℕ) (how : Answer) (heard : List Entry) (O : IsOpenAtRest start 1) (E : Ends start (GetJob name) how heard new) where
+module _ (start new : State) (name : List ℕ) (how : Answer) (heard : List Entry) (O : IsOpenAtRest start 1)
+    (E : Ends start (GetJob name) how heard new) where
   abbrev s : Setup
   s = setup_in start
 
@@ -410,21 +499,25 @@ module _ (start new : State) (name : List ℕ) (how : Answer) (heard : List Entr
 
   -- what it heard
   heard-is : heard ≡ entries_of 1 E.job.given
-  heard-is = E.heard_is ∙ (ap (heard_by_kind E.job) E.walked.kind_is ∙ ap (λ n. entries_of n E.job.given) E.walked.number)
+  heard-is = E.heard_is
+      ∙ (ap (heard_by_kind E.job) E.walked.kind_is ∙ ap (λ n. entries_of n E.job.given) E.walked.number)
 
   gave-is : (o t j : ℕ) → block_heard ran o t j ≡ block_given E.job.given o t j
   gave-is o t j = ap (λ h. block_given (given_to 1 h) o t j) heard-is ∙ block-heard 1 E.job.given o t j
 
   -- what its next action is
   next-at : slice_get (read_actions (setup_in start) E.job.pinned ++ End ∷ []) E.job.place ≡ Some E.action
-  next-at = subst (λ (t : Setup). slice_get (read_actions t E.job.pinned ++ End ∷ []) E.job.place ≡ Some E.action) E.walked.setup
-      (sym (next_is_by E.before E.job ∙ ap (λ kd. next_by E.before E.job kd E.job.place) E.walked.kind_is) ∙ E.next)
+  next-at = subst (λ (t : Setup). slice_get (read_actions t E.job.pinned ++ End ∷ []) E.job.place
+      ≡ Some E.action) E.walked.setup
+      (sym (next_is_by E.before E.job ∙ ap (λ kd. next_by E.before E.job kd E.job.place) E.walked.kind_is)
+      ∙ E.next)
 
   -- the records and what is in doubt
   records-before : E.before.records ≡ start.records
   records-before = by_records E.before.records refl E.walked.records
     where
-      by_records : (rs : List Record) → E.before.records ≡ rs → RecordsAre start (GetJob name) E.job rs → E.before.records ≡ start.records
+      by_records : (rs : List Record) → E.before.records ≡ rs → RecordsAre start (GetJob name) E.job rs →
+          E.before.records ≡ start.records
       by_records rs e (RecordsAre.none l is) = e ∙ is
       by_records rs e (RecordsAre.one l is) = absurd (omega (arith, l))
       by_records rs e (RecordsAre.two entry l sec is) = absurd (omega (arith, l))
@@ -435,8 +528,11 @@ module _ (start new : State) (name : List ℕ) (how : Answer) (heard : List Entr
       none : moves_made E.before.append E.job.number ≡ 0
       none = elim (cases_eq (moves_made E.before.append E.job.number) 0) [
         | inl e ↦ e
-        | inr more ↦ absurd (let o = (E.walked.sound.jobs E.job.number E.job (runs start O (GetJob name) E.before E.job E.walked)).order in
-            let a = appends-order (moves_made E.before.append E.job.number) (actions_left (setup_in E.before) E.job) (omega (arith, more)) o in
+        | inr more ↦ absurd (let o =
+            (E.walked.sound.jobs E.job.number E.job
+            (runs start O (GetJob name) E.before E.job E.walked)).order in
+            let a = appends-order (moves_made E.before.append E.job.number)
+            (actions_left (setup_in E.before) E.job) (omega (arith, more)) o in
             let b = get-none (setup_in E.before) E.job name E.walked.kind_is in omega (arith, a, b))
       ]
 
@@ -451,7 +547,8 @@ module _ (start new : State) (name : List ℕ) (how : Answer) (heard : List Entr
 
     -- its object is that of the setup
     plain-is : object_of (setup_in start) file.id ≡ o
-    plain-is = ap (λ (t : Setup). object_of t file.id) (sym (profiled-same (setup_in start) file.profile (plain-file start O name file in_effect)))
+    plain-is = ap (λ (t : Setup). object_of t file.id)
+        (sym (profiled-same (setup_in start) file.profile (plain-file start O name file in_effect)))
 
     o-is : object_made x file.id ≡ o
     o-is = made-plain start O (GetJob name) E.job file.id ∙ plain-is
@@ -462,22 +559,33 @@ module _ (start new : State) (name : List ℕ) (how : Answer) (heard : List Entr
     pinned-is : E.job.pinned ≡ pinned_file start file ∷ []
     pinned-is = E.walked.pinned ∙ ap (pin_found (pinned_file start)) in_effect
 
-    list-is : read_actions (setup_in start) E.job.pinned ++ End ∷ [] ≡ reads (setup_in start) file.id 0 count ++ End ∷ []
-    list-is = ap (λ ps. read_actions (setup_in start) ps ++ End ∷ []) pinned-is ∙ ap (λ ys. ys ++ End ∷ []) (append-nil (reads (setup_in start) file.id 0 count))
+    list-is : read_actions (setup_in start) E.job.pinned ++ End ∷ []
+        ≡ reads (setup_in start) file.id 0 count ++ End ∷ []
+    list-is = ap (λ ps. read_actions (setup_in start) ps ++ End ∷ []) pinned-is
+        ∙ ap (λ ys. ys ++ End ∷ []) (append-nil (reads (setup_in start) file.id 0 count))
 
-    cut-is : Cut (setup_in start) file.id count 0 E.action (take E.job.place (reads (setup_in start) file.id 0 count ++ End ∷ []))
-    cut-is = cut (setup_in start) file.id count 0 E.job.place E.action (ap (λ xs. slice_get xs E.job.place) (sym list-is) ∙ next-at)
+    cut-is : Cut (setup_in start) file.id count 0 E.action
+        (take E.job.place (reads (setup_in start) file.id 0 count ++ End ∷ []))
+    cut-is = cut (setup_in start) file.id count 0 E.job.place E.action
+        (ap (λ xs. slice_get xs E.job.place) (sym list-is) ∙ next-at)
 
-    made-cut : Made x (take E.job.place (reads (setup_in start) file.id 0 count ++ End ∷ [])) start.providers E.before.providers [] E.job.given
-    made-cut = subst (λ xs. Made x (take E.job.place xs) start.providers E.before.providers [] E.job.given) (get-list (setup_in start) E.job name E.walked.kind_is ∙ list-is) E.walked.made
+    made-cut : Made x (take E.job.place (reads (setup_in start) file.id 0 count ++ End ∷ [])) start.providers
+        E.before.providers [] E.job.given
+    made-cut = subst (λ xs. Made x (take E.job.place xs) start.providers E.before.providers [] E.job.given)
+        (get-list (setup_in start) E.job name E.walked.kind_is ∙ list-is) E.walked.made
 
     -- the stripes that were fetched
-    module _ (providers : new.providers ≡ E.before.providers) (m : ℕ) (xs ws : List Action) (whole : reads (setup_in start) file.id 0 m ≡ xs ++ ws) (works : Each IsWork ws)
-        (made : Made x xs start.providers E.before.providers [] E.job.given) (distinct : AreDistinct xs) (reading : Each IsReading xs) where
+    module _ (providers : new.providers ≡ E.before.providers) (m : ℕ) (xs ws : List Action)
+        (whole : reads (setup_in start) file.id 0 m ≡ xs ++ ws) (works : Each IsWork ws)
+        (made : Made x xs start.providers E.before.providers [] E.job.given) (distinct : AreDistinct xs)
+        (reading : Each IsReading xs) where
       entries : entries_of 1 E.job.given ≡ flat_map (entries_at (setup_in start) file.id E.job.given) (upto m)
       entries = entries-made 1 x xs start.providers E.before.providers [] E.job.given distinct made
-          ∙ (sym (append-nil (flat_map (entry_for 1 E.job.given) xs)) ∙ (ap (λ l. flat_map (entry_for 1 E.job.given) xs ++ l) (sym (silent ws works))
-          ∙ (sym (flat-append (entry_for 1 E.job.given) xs ws) ∙ (ap (flat_map (entry_for 1 E.job.given)) (sym whole) ∙ entries-reads (setup_in start) file.id E.job.given 0 m))))
+          ∙ (sym (append-nil (flat_map (entry_for 1 E.job.given) xs))
+          ∙ (ap (λ l. flat_map (entry_for 1 E.job.given) xs ++ l) (sym (silent ws works))
+          ∙ (sym (flat-append (entry_for 1 E.job.given) xs ws)
+          ∙ (ap (flat_map (entry_for 1 E.job.given)) (sym whole)
+          ∙ entries-reads (setup_in start) file.id E.job.given 0 m))))
         where
           silent : (ys : List Action) → Each IsWork ys → flat_map (entry_for 1 E.job.given) ys ≡ []
           silent [] h = refl
@@ -493,84 +601,125 @@ module _ (start new : State) (name : List ℕ) (how : Answer) (heard : List Entr
           silent (End ∷ ys) h = absurd h.0
 
       truth : (j : ℕ) → j < (setup_in start).n → IfSome (start.providers j).held (λ held.
-          IsTruthful (λ t. block_heard ran file.id t j) (λ t. sized o.profile.size (held file.id t)) (upto m) (start.providers j).other_faults (new.providers j).other_faults)
+          IsTruthful (λ t. block_heard ran file.id t j) (λ t. sized o.profile.size (held file.id t)) (upto m)
+          (start.providers j).other_faults (new.providers j).other_faults)
       truth j below = by_held (start.providers j).held refl
         where
           tells : (held : Held) → (start.providers j).held ≡ Some held →
-              IsTruthful (λ t. block_heard ran file.id t j) (λ t. sized o.profile.size (held file.id t)) (upto m) (start.providers j).other_faults (new.providers j).other_faults
-          tells held e = subst (λ (z : Object). IsTruthful (λ t. block_heard ran file.id t j) (λ t. sized z.profile.size (held file.id t)) (upto m) (start.providers j).other_faults (new.providers j).other_faults) o-is
-              (let t = blocks-told x j held E.job.given xs start.providers E.before.providers [] reading distinct made e in
+              IsTruthful (λ t. block_heard ran file.id t j) (λ t. sized o.profile.size (held file.id t))
+              (upto m) (start.providers j).other_faults (new.providers j).other_faults
+          tells held e = subst (λ (z : Object). IsTruthful (λ t. block_heard ran file.id t j)
+              (λ t. sized z.profile.size (held file.id t)) (upto m) (start.providers j).other_faults
+              (new.providers j).other_faults) o-is
+              (let t = blocks-told x j held E.job.given xs start.providers E.before.providers
+              [] reading distinct made e in
               let v = works-told x j held E.job.given ws works in
-              let all : Each (IsToldBlock x j held E.job.given) (reads (setup_in start) file.id 0 m) = subst (Each (IsToldBlock x j held E.job.given)) (sym whole) (each_append (IsToldBlock x j held E.job.given) xs ws t.0 v.0) in
-              let sum : sum_by (lack_block x j held E.job.given) (reads (setup_in start) file.id 0 m) ≡ sum_by (lack_block x j held E.job.given) xs = ap (sum_by (lack_block x j held E.job.given)) whole
-              ∙ (let a = sum_by-append (lack_block x j held E.job.given) xs ws in let b = v.1 in omega (arith, a, b)) in
+              let all : Each (IsToldBlock x j held E.job.given) (reads (setup_in start) file.id 0 m) =
+              subst (Each (IsToldBlock x j held E.job.given)) (sym whole)
+              (each_append (IsToldBlock x j held E.job.given) xs ws t.0 v.0) in
+              let sum : sum_by (lack_block x j held E.job.given) (reads (setup_in start) file.id 0 m)
+              ≡ sum_by (lack_block x j held E.job.given) xs =
+              ap (sum_by (lack_block x j held E.job.given)) whole
+              ∙ (let a = sum_by-append (lack_block x j held E.job.given) xs ws in let b = v.1 in
+              omega (arith, a, b)) in
               record {
-                each = all-each (λ t. (block_heard ran file.id t j ≡ has x j held E.job.given file.id t) ⊎ (block_heard ran file.id t j ≡ None)) (upto m)
-                    (stripes-told x j held E.job.given (setup_in start) file.id below (λ t. block_heard ran file.id t j) (λ t. gave-is file.id t j) 0 m all);
-                few = λ l. (let same : (new.providers j).other_faults ≡ (E.before.providers j).other_faults = ap (λ (g : ℕ → Provider). (g j).other_faults) providers in
+                each = all-each (λ t. (block_heard ran file.id t j ≡ has x j held E.job.given file.id t) ⊎
+                    (block_heard ran file.id t j ≡ None)) (upto m)
+                    (stripes-told x j held E.job.given (setup_in start) file.id below
+                    (λ t. block_heard ran file.id t j) (λ t. gave-is file.id t j) 0 m all);
+                few = λ l. (let same : (new.providers j).other_faults ≡ (E.before.providers j).other_faults =
+                    ap (λ (g : ℕ → Provider). (g j).other_faults) providers in
                     let c = t.1 (omega (arith, l, same)) in
-                    let d = stripes-lack x j held E.job.given (setup_in start) file.id below (λ t. block_heard ran file.id t j) (λ t. gave-is file.id t j) 0 m in omega (arith, c, d, sum, same));
+                    let d = stripes-lack x j held E.job.given (setup_in start) file.id below
+                    (λ t. block_heard ran file.id t j) (λ t. gave-is file.id t j) 0 m in
+                    omega (arith, c, d, sum, same));
               })
 
           by_held : (h : Option Held) → (start.providers j).held ≡ h →
-              IfSome h (λ held. IsTruthful (λ t. block_heard ran file.id t j) (λ t. sized o.profile.size (held file.id t)) (upto m) (start.providers j).other_faults (new.providers j).other_faults)
+              IfSome h (λ held. IsTruthful (λ t. block_heard ran file.id t j)
+              (λ t. sized o.profile.size (held file.id t)) (upto m) (start.providers j).other_faults
+              (new.providers j).other_faults)
           by_held None e = tt
           by_held (Some held) e = tells held e
 
       hears : HearsStripes ran file m
       unfolding setup_in
       hears = record {
-        heard = heard-is ∙ (entries ∙ (λ i. flat_map (λ t. map (λ j. record { job = 1; given = Fetched j file.id t (sym (gave-is file.id t j) i) }) (upto (setup_in start).n)) (upto m)));
+        heard = heard-is ∙ (entries
+            ∙ (λ i. flat_map (λ t. map
+            (λ j. record { job = 1; given = Fetched j file.id t (sym (gave-is file.id t j) i) })
+            (upto (setup_in start).n)) (upto m)));
         truthful = truth;
       }
 
     -- the blocks that were heard are those that were given
-    heard-blocks : (P : List (Option (List ℕ)) → Type 0) (t : ℕ) → P (blocks_given E.job.given (setup_in start).n file.id t) → P (blocks_heard ran file.id t)
+    heard-blocks : (P : List (Option (List ℕ)) → Type 0) (t : ℕ) →
+        P (blocks_given E.job.given (setup_in start).n file.id t) → P (blocks_heard ran file.id t)
     unfolding setup_in
-    heard-blocks P t h = subst (λ (g : ℕ → Option (List ℕ)). P (map g (upto (setup_in start).n))) (λ i j. sym (gave-is file.id t j) i) h
+    heard-blocks P t h = subst (λ (g : ℕ → Option (List ℕ)). P (map g (upto (setup_in start).n)))
+        (λ i j. sym (gave-is file.id t j) i) h
 
     reading-fetches : (a : ℕ) → Each IsReading (fetches (setup_in start) file.id a)
     reading-fetches a = each_map IsReading (λ j. Fetch j file.id a) (upto (setup_in start).n) (λ j. tt)
 
     reading-reads : (a n : ℕ) → Each IsReading (reads (setup_in start) file.id a n)
     reading-reads a zero = tt
-    reading-reads a (suc n) = each_append IsReading (open_actions (setup_in start) file.id a) (reads (setup_in start) file.id (a + 1) n)
-        (each_append IsReading (fetches (setup_in start) file.id a) (Work file.id a ∷ []) (reading-fetches a) (tt, tt)) (reading-reads (a + 1) n)
+    reading-reads a (suc n) = each_append IsReading (open_actions (setup_in start) file.id a)
+        (reads (setup_in start) file.id (a + 1) n)
+        (each_append IsReading (fetches (setup_in start) file.id a) (Work file.id a ∷ []) (reading-fetches a)
+        (tt, tt)) (reading-reads (a + 1) n)
 
     abbrev Gives : Answer → Type 0
-    Gives a = GetGives ran file a × (new.providers ≡ E.before.providers) × (new.records ≡ E.before.records) × (new.doubt ≡ E.before.doubt)
+    Gives a = GetGives ran file a × (new.providers ≡ E.before.providers) × (new.records ≡ E.before.records) ×
+        (new.doubt ≡ E.before.doubt)
 
-    at-end : (a : Answer) → E.action ≡ End → take E.job.place (reads (setup_in start) file.id 0 count ++ End ∷ []) ≡ reads (setup_in start) file.id 0 count → Acts E.before E.job End (Ended a) new → Gives a
+    at-end : (a : Answer) → E.action ≡ End →
+        take E.job.place (reads (setup_in start) file.id 0 count ++ End ∷ [])
+        ≡ reads (setup_in start) file.id 0 count → Acts E.before E.job End (Ended a) new → Gives a
     unfolding setup_in
     at-end a at front (so, is) = by_answer a (subst (λ kd. step.Ends E.before E.job kd a) E.walked.kind_is so)
       where
-        made : Made x (reads (setup_in start) file.id 0 count) start.providers E.before.providers [] E.job.given
+        made : Made x (reads (setup_in start) file.id 0 count) start.providers E.before.providers
+            [] E.job.given
         made = subst (λ xs. Made x xs start.providers E.before.providers [] E.job.given) front made-cut
 
         providers : new.providers ≡ E.before.providers
         providers = ap (λ (v : State). v.providers) is
 
         by_answer : (a : Answer) → step.Ends E.before E.job (GetJob name) a → Gives a
-        by_answer (answer.Got bytes) got = ((all_heard, opens), providers, ap (λ (v : State). v.records) is, ap (λ (v : State). v.doubt) is)
+        by_answer (answer.Got bytes) got =
+            ((all_heard, opens), providers, ap (λ (v : State). v.records) is, ap (λ (v : State). v.doubt) is)
           where
             all_heard : HearsStripes ran file (stripes_at_begin ran file)
-            all_heard = subst (λ size. HearsStripes ran file (stripes_of (profiled (setup_in start) file.profile) size)) size-is
-                (hears providers count (reads (setup_in start) file.id 0 count) [] (sym (append-nil (reads (setup_in start) file.id 0 count))) tt made (distinct-reads (setup_in start) file.id 0 count) (reading-reads 0 count))
+            all_heard = subst (λ size. HearsStripes ran file
+                (stripes_of (profiled (setup_in start) file.profile) size)) size-is
+                (hears providers count (reads (setup_in start) file.id 0 count) []
+                (sym (append-nil (reads (setup_in start) file.id 0 count))) tt made
+                (distinct-reads (setup_in start) file.id 0 count) (reading-reads 0 count))
 
             bytes-are : bytes ≡ file_given (setup_in start) E.job.given (pinned_file start file)
-            bytes-are = subst (λ (t : Setup). bytes ≡ file_given t E.job.given (pinned_file start file)) E.walked.setup (subst (λ ps. GotBytes E.before E.job ps bytes) pinned-is got)
+            bytes-are = subst (λ (t : Setup). bytes ≡ file_given t E.job.given (pinned_file start file))
+                E.walked.setup (subst (λ ps. GotBytes E.before E.job ps bytes) pinned-is got)
 
             opens : OpensFile (object_at_begin ran file) file.size (blocks_heard ran file.id) bytes
             opens = subst (λ size. OpensFile o size (blocks_heard ran file.id) bytes) size-is (record {
               symbols = symbols_given E.job.given file.id;
               given = λ t l. heard-blocks (λ bs. GivesSymbols o t bs (symbols_given E.job.given file.id t)) t
-                  (subst (λ (z : Object). GivesSymbols z t (blocks_given E.job.given (setup_in start).n file.id t) (symbols_given E.job.given file.id t)) o-is (reads-give x file.id E.job.given [] count 0 start.providers E.before.providers [] tt
-                  (subst (λ xs. Made x xs start.providers E.before.providers [] E.job.given) (sym (append-nil (reads (setup_in start) file.id 0 count))) made) t (omega arith) (omega (arith, l))));
+                  (subst (λ (z : Object). GivesSymbols z t
+                  (blocks_given E.job.given (setup_in start).n file.id t)
+                  (symbols_given E.job.given file.id t)) o-is
+                  (reads-give x file.id E.job.given [] count 0 start.providers E.before.providers
+                  [] tt
+                  (subst (λ xs. Made x xs start.providers E.before.providers [] E.job.given)
+                  (sym (append-nil (reads (setup_in start) file.id 0 count))) made) t (omega arith)
+                  (omega (arith, l))));
               cut = bytes-are;
             })
         by_answer a h = absurd h
 
-    at-work : (a : Answer) (k : ℕ) → k < count → take E.job.place (reads (setup_in start) file.id 0 count ++ End ∷ []) ≡ reads (setup_in start) file.id 0 k ++ fetches (setup_in start) file.id (0 + k) →
+    at-work : (a : Answer) (k : ℕ) → k < count →
+        take E.job.place (reads (setup_in start) file.id 0 count ++ End ∷ [])
+        ≡ reads (setup_in start) file.id 0 k ++ fetches (setup_in start) file.id (0 + k) →
         Acts E.before E.job (Work file.id (0 + k)) (Ended a) new → Gives a
     unfolding setup_in
     at-work (answer.Lost t row) k within front (same, loses, is) = (
@@ -585,29 +734,44 @@ module _ (start new : State) (name : List ℕ) (how : Answer) (heard : List Entr
       ap (λ (v : State). v.doubt) is,
     )
       where
-        made : Made x (reads (setup_in start) file.id 0 k ++ fetches (setup_in start) file.id (0 + k)) start.providers E.before.providers [] E.job.given
+        made : Made x (reads (setup_in start) file.id 0 k ++ fetches (setup_in start) file.id (0 + k))
+            start.providers E.before.providers [] E.job.given
         made = subst (λ xs. Made x xs start.providers E.before.providers [] E.job.given) front made-cut
 
         providers : new.providers ≡ E.before.providers
         providers = ap (λ (v : State). v.providers) is
 
         few : t < stripes_at_begin ran file
-        few = subst (λ size. t < stripes_of (profiled (setup_in start) file.profile) size) size-is (omega (arith, within, same))
+        few = subst (λ size. t < stripes_of (profiled (setup_in start) file.profile) size) size-is
+            (omega (arith, within, same))
 
         all_heard : HearsStripes ran file (suc k)
-        all_heard = hears providers (suc k) (reads (setup_in start) file.id 0 k ++ fetches (setup_in start) file.id (0 + k)) (Work file.id (0 + k) ∷ []) (reads-last (setup_in start) file.id 0 k) (tt, tt) made
-            (distinct-cut (setup_in start) file.id 0 k) (each_append IsReading (reads (setup_in start) file.id 0 k) (fetches (setup_in start) file.id (0 + k)) (reading-reads 0 k) (reading-fetches (0 + k)))
+        all_heard = hears providers (suc k)
+            (reads (setup_in start) file.id 0 k ++ fetches (setup_in start) file.id (0 + k))
+            (Work file.id (0 + k) ∷ []) (reads-last (setup_in start) file.id 0 k) (tt, tt) made
+            (distinct-cut (setup_in start) file.id 0 k)
+            (each_append IsReading (reads (setup_in start) file.id 0 k)
+            (fetches (setup_in start) file.id (0 + k)) (reading-reads 0 k) (reading-fetches (0 + k)))
 
-        gave : (i : ℕ) → i < k → GivesSymbols (object_at_begin ran file) i (blocks_heard ran file.id i) (symbols_given E.job.given file.id i)
+        gave : (i : ℕ) → i < k →
+            GivesSymbols (object_at_begin ran file) i (blocks_heard ran file.id i)
+            (symbols_given E.job.given file.id i)
         gave i l = heard-blocks (λ bs. GivesSymbols o i bs (symbols_given E.job.given file.id i)) i
-            (subst (λ (z : Object). GivesSymbols z i (blocks_given E.job.given (setup_in start).n file.id i) (symbols_given E.job.given file.id i)) o-is (reads-give x file.id E.job.given (fetches (setup_in start) file.id (0 + k)) k 0 start.providers E.before.providers []
-            (from-fetches x file.id E.job.given (0 + k) (0 + k) (omega arith)) made i (omega arith) (omega (arith, l))))
+            (subst (λ (z : Object). GivesSymbols z i (blocks_given E.job.given (setup_in start).n file.id i)
+            (symbols_given E.job.given file.id i)) o-is
+            (reads-give x file.id E.job.given (fetches (setup_in start) file.id (0 + k)) k 0
+            start.providers E.before.providers []
+            (from-fetches x file.id E.job.given (0 + k) (0 + k) (omega arith)) made i (omega arith)
+            (omega (arith, l))))
 
         lost : LosesRow (object_at_begin ran file) t (blocks_heard ran file.id t) row
         lost = heard-blocks (λ bs. LosesRow o t bs row) t
-            (subst (λ (z : Object). LosesRow z t (blocks_given E.job.given (setup_in start).n file.id t) row) (worked-plain start O (GetJob name) E.before E.job E.walked file.id ∙ plain-is)
-            (subst (λ n. LosesRow (worked_object E.before E.job file.id) t (blocks_given E.job.given n file.id t) row) (ap (λ (u : Setup). u.n) E.walked.setup)
-            (subst (λ i. LosesRow (worked_object E.before E.job file.id) i (blocks_given E.job.given (setup_in E.before).n file.id i) row) (sym same) loses)))
+            (subst (λ (z : Object). LosesRow z t (blocks_given E.job.given (setup_in start).n file.id t) row)
+            (worked-plain start O (GetJob name) E.before E.job E.walked file.id ∙ plain-is)
+            (subst (λ n. LosesRow (worked_object E.before E.job file.id) t
+            (blocks_given E.job.given n file.id t) row) (ap (λ (u : Setup). u.n) E.walked.setup)
+            (subst (λ i. LosesRow (worked_object E.before E.job file.id) i
+            (blocks_given E.job.given (setup_in E.before).n file.id i) row) (sym same) loses)))
     at-work a k within front h = absurd h
 
     at-fetch : (a : Answer) (j t : ℕ) → Acts E.before E.job (Fetch j file.id t) (Ended a) new → Gives a
@@ -615,8 +779,10 @@ module _ (start new : State) (name : List ℕ) (how : Answer) (heard : List Entr
 
     gives : Gives how
     gives = elim cut-is [
-      | Cut.at_end is front ↦ at-end how is front (subst (λ z. Acts E.before E.job z (Ended how) new) is E.acts)
-      | Cut.at_work k l is front ↦ at-work how k l front (subst (λ z. Acts E.before E.job z (Ended how) new) is E.acts)
+      | Cut.at_end is front ↦
+          at-end how is front (subst (λ z. Acts E.before E.job z (Ended how) new) is E.acts)
+      | Cut.at_work k l is front ↦ at-work how k l front
+          (subst (λ z. Acts E.before E.job z (Ended how) new) is E.acts)
       | Cut.at_fetch j t is ↦ at-fetch how j t (subst (λ z. Acts E.before E.job z (Ended how) new) is E.acts)
     ]
 
@@ -624,8 +790,11 @@ module _ (start new : State) (name : List ℕ) (how : Answer) (heard : List Entr
     reading-cut : Each IsReading (take E.job.place (reads (setup_in start) file.id 0 count ++ End ∷ []))
     reading-cut = elim cut-is [
       | Cut.at_end is front ↦ subst (Each IsReading) (sym front) (reading-reads 0 count)
-      | Cut.at_work k l is front ↦ subst (Each IsReading) (sym front) (each_append IsReading (reads (setup_in start) file.id 0 k) (fetches (setup_in start) file.id (0 + k)) (reading-reads 0 k) (reading-fetches (0 + k)))
-      | Cut.at_fetch j t is ↦ absurd (at-fetch-none how j t (subst (λ z. Acts E.before E.job z (Ended how) new) is E.acts))
+      | Cut.at_work k l is front ↦ subst (Each IsReading) (sym front)
+          (each_append IsReading (reads (setup_in start) file.id 0 k)
+          (fetches (setup_in start) file.id (0 + k)) (reading-reads 0 k) (reading-fetches (0 + k)))
+      | Cut.at_fetch j t is ↦
+          absurd (at-fetch-none how j t (subst (λ z. Acts E.before E.job z (Ended how) new) is E.acts))
     ]
       where
         at-fetch-none : (a : Answer) (j t : ℕ) → Acts E.before E.job (Fetch j file.id t) (Ended a) new → ⊥
@@ -633,9 +802,11 @@ module _ (start new : State) (name : List ℕ) (how : Answer) (heard : List Entr
 
     held-kept : (i : ℕ) → (E.before.providers i).held ≡ (start.providers i).held
     held-kept i = made-keeps x i (λ p q. q.held ≡ p.held) IsReading (λ p. refl) (λ p q r a b. b ∙ a) one
-        (take E.job.place (reads (setup_in start) file.id 0 count ++ End ∷ [])) start.providers E.before.providers [] E.job.given reading-cut made-cut
+        (take E.job.place (reads (setup_in start) file.id 0 count ++ End ∷ [])) start.providers
+        E.before.providers [] E.job.given reading-cut made-cut
       where
-        one : (a : Action) (given now : List Given) (p q : Provider) → IsReading a → Called x a given now i p q → q.held ≡ p.held
+        one : (a : Action) (given now : List Given) (p q : Provider) → IsReading a →
+            Called x a given now i p q → q.held ≡ p.held
         one (Fetch j z t) given now p q u (e, (block, c, is)) = c.held
         one (Work z t) given now p q u c = absurd c
         one (Ask j z r) given now p q u c = absurd u
@@ -660,13 +831,16 @@ module _ (start new : State) (name : List ℕ) (how : Answer) (heard : List Entr
 
   -- without a file a get has only its end, and no answer
   no-file : file_in start name ≡ None → GetLeaves ran name how
-  no-file none = absurd (by_answer how (subst (λ kd. step.Ends E.before E.job kd how) E.walked.kind_is acts.0))
+  no-file none = absurd
+      (by_answer how (subst (λ kd. step.Ends E.before E.job kd how) E.walked.kind_is acts.0))
     where
       empty : E.job.pinned ≡ []
       empty = E.walked.pinned ∙ ap (pin_found (pinned_file start)) none
 
       at : E.action ≡ End
-      at = (single-get End E.action E.job.place (ap (λ ps. slice_get (read_actions (setup_in start) ps ++ End ∷ []) E.job.place) (sym empty) ∙ next-at)).1
+      at = (single-get End E.action E.job.place
+          (ap (λ ps. slice_get (read_actions (setup_in start) ps ++ End ∷ []) E.job.place) (sym empty)
+          ∙ next-at)).1
 
       acts : Acts E.before E.job End (Ended how) new
       acts = subst (λ z. Acts E.before E.job z (Ended how) new) at E.acts

@@ -19,7 +19,8 @@ use Rattle.opening_defs.specs.Opened.{IsOpenAtRest}
 use Rattle.lone_laws.specs.Walked.{Walked}
 use Rattle.lone_laws.proofs.Walk.{runs}
 
-module _ (start : State) (O : IsOpenAtRest start 1) (kind : Kind) (w : State) (job : Job) (W : Walked start kind w job) where
+module _ (start : State) (O : IsOpenAtRest start 1) (kind : Kind) (w : State) (job : Job)
+    (W : Walked start kind w job) where
   -- the append in flight is the job's
   own-append : (a : Append) → w.append ≡ Some a → (a.job ≡ job.number) × Writes w job job.kind a.entry
   own-append a flight =
@@ -29,7 +30,8 @@ module _ (start : State) (O : IsOpenAtRest start 1) (kind : Kind) (w : State) (j
       (sym number, subst (λ (z : Job). Writes w z z.kind a.entry) one A.writes))
     where
       only : (j : Job) (k : ℕ) → job_of w.jobs k ≡ Some j → j ≡ job
-      only j k h = (let g : job_of (job ∷ []) k ≡ Some j = ap (λ js. job_of js k) (sym W.jobs) ∙ h in first (job.number == k) g)
+      only j k h = (let g : job_of (job ∷ []) k ≡ Some j = ap (λ js. job_of js k) (sym W.jobs) ∙ h in
+          first (job.number == k) g)
         where
           first : (b : Bool) → cond b (Some job) None ≡ Some j → j ≡ job
           first true e = (let f : job ≡ j = cc in sym f)
@@ -42,7 +44,8 @@ module _ (start : State) (O : IsOpenAtRest start 1) (kind : Kind) (w : State) (j
   mid-left : (a : Append) → w.append ≡ Some a → 0 < appends_left (setup_in w) job
   mid-left a flight = (let own = own-append a flight in let A = W.sound.append a flight in
       let o = (W.sound.jobs job.number job (runs start O kind w job W)).order in
-      let m : moves_made w.append job.number ≡ a.moves = ap (λ f. moves_made f job.number) flight ∙ mine a job.number own.0 in
+      let m : moves_made w.append job.number ≡ a.moves = ap (λ f. moves_made f job.number) flight
+      ∙ mine a job.number own.0 in
       let b = A.begun in
       appends-order (moves_made w.append job.number) (actions_left (setup_in w) job) (omega (arith, m, b)) o)
 
@@ -53,13 +56,16 @@ module _ (start : State) (O : IsOpenAtRest start 1) (kind : Kind) (w : State) (j
   doubt-before : InDoubt w.doubt
   doubt-before = by_flight w.append refl (W.sound.undoubted W.opened W.unbarred)
     where
-      by_flight : (flight : Option Append) → w.append ≡ flight → IsDoubtOf flight w.doubt → (w.doubt ≡ None) ⊎ ((d : Doubt) × (w.doubt ≡ Some d) × Writes w job job.kind d.entry)
+      by_flight : (flight : Option Append) → w.append ≡ flight → IsDoubtOf flight w.doubt →
+          (w.doubt ≡ None) ⊎ ((d : Doubt) × (w.doubt ≡ Some d) × Writes w job job.kind d.entry)
       by_flight None e h = inl h
       by_flight (Some a) e h = by_moves (a.moves == 3) h
         where
-          by_moves : (b : Bool) → IsGatedDoubt a b w.doubt → (w.doubt ≡ None) ⊎ ((d : Doubt) × (w.doubt ≡ Some d) × Writes w job job.kind d.entry)
+          by_moves : (b : Bool) → IsGatedDoubt a b w.doubt →
+              (w.doubt ≡ None) ⊎ ((d : Doubt) × (w.doubt ≡ Some d) × Writes w job job.kind d.entry)
           by_moves false h = inl h
-          by_moves true (d, in_doubt, is) = inr (d, in_doubt, subst (Writes w job job.kind) (sym is) (own-append a e).1)
+          by_moves true (d, in_doubt, is) =
+              inr (d, in_doubt, subst (Writes w job job.kind) (sym is) (own-append a e).1)
 
   -- a move that failed
   pub record Faults (new : State) : Type 0 where
@@ -71,12 +77,48 @@ module _ (start : State) (O : IsOpenAtRest start 1) (kind : Kind) (w : State) (j
     pub left : 0 < appends_left (setup_in w) job
 
   -- a move that a fault of the disk ended leaves records and providers, and at most its record in doubt
-  pub move-faults : (action : Action) (flight : Option Append) (new : State) → w.append ≡ flight → next_action w job ≡ Some action → Moves w job action flight (Ended answer.DiskFault) new → Faults new
-  move-faults WriteBody flight new e next (faults, low, rose, is) = subst Faults (sym is) (record { rose = rose; low = low; records = refl; providers = refl; doubt = doubt-before; left = body-left 8 w W.sound job.number job (runs start O kind w job W) next })
-  move-faults SyncBody (Some a) new e next (at, (faults, low, rose, is)) = subst Faults (sym is) (record { rose = rose; low = low; records = refl; providers = refl; doubt = doubt-before; left = mid-left a e })
+  pub move-faults : (action : Action) (flight : Option Append) (new : State) → w.append ≡ flight →
+      next_action w job ≡ Some action → Moves w job action flight (Ended answer.DiskFault) new → Faults new
+  move-faults WriteBody flight new e next (faults, low, rose, is) =
+      subst Faults (sym is)
+      (record {
+        rose = rose;
+        low = low;
+        records = refl;
+        providers = refl;
+        doubt = doubt-before;
+        left = body-left 8 w W.sound job.number job (runs start O kind w job W) next;
+      })
+  move-faults SyncBody (Some a) new e next (at, (faults, low, rose, is)) =
+      subst Faults (sym is)
+      (record {
+        rose = rose;
+        low = low;
+        records = refl;
+        providers = refl;
+        doubt = doubt-before;
+        left = mid-left a e;
+      })
   move-faults WriteGate (Some a) new e next (at, (faults, low, rose, is)) =
-      subst Faults (sym is) (record { rose = rose; low = low; records = refl; providers = refl; doubt = inr (record { entry = a.entry; maker = Some (advanced job) }, refl, (own-append a e).1); left = mid-left a e })
-  move-faults SyncGate (Some a) new e next (at, (faults, low, rose, is)) = subst Faults (sym is) (record { rose = rose; low = low; records = refl; providers = refl; doubt = doubt-before; left = mid-left a e })
+      subst Faults (sym is)
+      (record {
+        rose = rose;
+        low = low;
+        records = refl;
+        providers = refl;
+        doubt = inr (record { entry = a.entry; maker = Some (advanced job) }, refl, (own-append a e).1);
+        left = mid-left a e;
+      })
+  move-faults SyncGate (Some a) new e next (at, (faults, low, rose, is)) =
+      subst Faults (sym is)
+      (record {
+        rose = rose;
+        low = low;
+        records = refl;
+        providers = refl;
+        doubt = doubt-before;
+        left = mid-left a e;
+      })
   move-faults action flight new e next h = absurd h
 
   -- a write that found no memory
@@ -87,22 +129,37 @@ module _ (start : State) (O : IsOpenAtRest start 1) (kind : Kind) (w : State) (j
     pub doubt : new.doubt ≡ None
     pub left : 0 < appends_left (setup_in w) job
 
-  none-doubted : (flight : Option Append) → w.append ≡ flight → ((a : Append) → flight ≡ Some a → (a.moves == 3) ≡ false) → w.doubt ≡ None
-  none-doubted flight e early = by_flight flight e early (subst (λ f. IsDoubtOf f w.doubt) e (W.sound.undoubted W.opened W.unbarred))
+  none-doubted : (flight : Option Append) → w.append ≡ flight →
+      ((a : Append) → flight ≡ Some a → (a.moves == 3) ≡ false) → w.doubt ≡ None
+  none-doubted flight e early =
+      by_flight flight e early (subst (λ f. IsDoubtOf f w.doubt) e (W.sound.undoubted W.opened W.unbarred))
     where
-      by_flight : (flight : Option Append) → w.append ≡ flight → ((a : Append) → flight ≡ Some a → (a.moves == 3) ≡ false) → IsDoubtOf flight w.doubt → w.doubt ≡ None
+      by_flight : (flight : Option Append) → w.append ≡ flight →
+          ((a : Append) → flight ≡ Some a → (a.moves == 3) ≡ false) → IsDoubtOf flight w.doubt →
+          w.doubt ≡ None
       by_flight None e early h = h
       by_flight (Some a) e early h = subst (λ b. IsGatedDoubt a b w.doubt) (early a refl) h
 
   -- a move that found no memory leaves records and providers, and nothing in doubt
-  pub move-memory : (action : Action) (flight : Option Append) (new : State) → w.append ≡ flight → holder_of flight action ≡ None → next_action w job ≡ Some action → Moves w job action flight (Ended answer.Memory) new → NoRoom new
-  move-memory WriteBody None new e free next (faults, low, is) = subst NoRoom (sym is) (record { low = low; records = refl; providers = refl; doubt = none-doubted None e (λ a h. absurd (let f : None ≡ Some a = h in cc)); left = body-left 8 w W.sound job.number job (runs start O kind w job W) next })
+  pub move-memory : (action : Action) (flight : Option Append) (new : State) → w.append ≡ flight →
+      holder_of flight action ≡ None → next_action w job ≡ Some action →
+      Moves w job action flight (Ended answer.Memory) new → NoRoom new
+  move-memory WriteBody None new e free next (faults, low, is) =
+      subst NoRoom (sym is)
+      (record {
+        low = low;
+        records = refl;
+        providers = refl;
+        doubt = none-doubted None e (λ a h. absurd (let f : None ≡ Some a = h in cc));
+        left = body-left 8 w W.sound job.number job (runs start O kind w job W) next;
+      })
   move-memory WriteBody (Some a) new e free next h = absurd (some-not-none (Some a.job) a.job refl free)
   move-memory WriteGate (Some a) new e free next (at, (faults, low, is)) = subst NoRoom (sym is) (record {
     low = low;
     records = refl;
     providers = refl;
-    doubt = none-doubted (Some a) e (λ b h. (let f : a ≡ b = cc in ap (λ (z : Append). z.moves == 3) (sym f) ∙ ap (λ n. n == 3) at.1));
+    doubt = none-doubted (Some a) e
+        (λ b h. (let f : a ≡ b = cc in ap (λ (z : Append). z.moves == 3) (sym f) ∙ ap (λ n. n == 3) at.1));
     left = mid-left a e;
   })
   move-memory SyncBody (Some a) new e free next h = absurd h
@@ -115,7 +172,9 @@ module _ (start : State) (O : IsOpenAtRest start 1) (kind : Kind) (w : State) (j
   pub none-moving : moves_made w.append job.number ≡ 0 → (w.append ≡ None) × (w.doubt ≡ None)
   none-moving none = by_flight w.append refl (W.sound.undoubted W.opened W.unbarred)
     where
-      by_flight : (flight : Option Append) → w.append ≡ flight → IsDoubtOf flight w.doubt → (w.append ≡ None) × (w.doubt ≡ None)
+      by_flight : (flight : Option Append) → w.append ≡ flight → IsDoubtOf flight w.doubt →
+          (w.append ≡ None) × (w.doubt ≡ None)
       by_flight None e h = (e, h)
       by_flight (Some a) e h = absurd (let own = own-append a e in let b = (W.sound.append a e).begun in
-          let m : moves_made w.append job.number ≡ a.moves = ap (λ f. moves_made f job.number) e ∙ mine a job.number own.0 in omega (arith, none, b, m))
+          let m : moves_made w.append job.number ≡ a.moves = ap (λ f. moves_made f job.number) e
+          ∙ mine a job.number own.0 in omega (arith, none, b, m))

@@ -44,20 +44,29 @@ length-last : {A : Type 0} (xs : List A) (z : A) → length xs < length (xs ++ z
 length-last [] z = omega arith
 length-last (x ∷ xs) z = (let r = length-last xs z in omega (arith, r))
 
-missing-last : {A B : Type 0} (given held : A → Option B) (xs : List A) (z : A) → (is_none (given z) && is_some (held z)) ≡ true → 1 ≤ missing given held (xs ++ z ∷ [])
-missing-last given held [] z e = (let c : ◌≡◌ {A = ℕ} (cond (is_none (given z) && is_some (held z)) 1 0) 1 = cond_true (is_none (given z) && is_some (held z)) 1 0 e in omega (arith, c))
+missing-last : {A B : Type 0} (given held : A → Option B) (xs : List A) (z : A) →
+    (is_none (given z) && is_some (held z)) ≡ true → 1 ≤ missing given held (xs ++ z ∷ [])
+missing-last given held [] z e =
+    (let c : ◌≡◌ {A = ℕ} (cond (is_none (given z) && is_some (held z)) 1 0) 1 =
+    cond_true (is_none (given z) && is_some (held z)) 1 0 e in omega (arith, c))
 missing-last given held (x ∷ xs) z e = (let r = missing-last given held xs z e in omega (arith, r))
 
-last-held : {A B : Type 0} (given held : A → Option B) (xs : List A) (z : A) (before now : ℕ) → IsTruthful given held (xs ++ z ∷ []) before now → has_risen before now ≡ false → given z ≡ held z
+last-held : {A B : Type 0} (given held : A → Option B) (xs : List A) (z : A) (before now : ℕ) →
+    IsTruthful given held (xs ++ z ∷ []) before now → has_risen before now ≡ false → given z ≡ held z
 last-held given held xs z before now T calm =
     (let c = not-risen before now calm in
     let few : before + missing given held (xs ++ z ∷ []) ≤ now = T.few c.1 in
-    let one : (given z ≡ held z) ⊎ (given z ≡ None) = subst (λ k. (given k ≡ held k) ⊎ (given k ≡ None)) (get_or-last xs z z) (T.each (length xs) z (length-last xs z)) in
+    let one : (given z ≡ held z) ⊎ (given z ≡ None) =
+    subst (λ k. (given k ≡ held k) ⊎ (given k ≡ None)) (get_or-last xs z z)
+    (T.each (length xs) z (length-last xs z)) in
     elim one [ inl same ↦ same | inr none ↦ by_held (held z) refl none few c.0 ])
   where
-    by_held : (h : Option _) → held z ≡ h → given z ≡ None → before + missing given held (xs ++ z ∷ []) ≤ now → now ≤ before → given z ≡ held z
+    by_held : (h : Option _) → held z ≡ h → given z ≡ None →
+        before + missing given held (xs ++ z ∷ []) ≤ now → now ≤ before → given z ≡ held z
     by_held None e none few low = none ∙ sym e
-    by_held (Some b) e none few low = absurd (let both : (is_none (given z) && is_some (held z)) ≡ true = (λ i. is_none (none i) && is_some (e i)) in
+    by_held (Some b) e none few low =
+        absurd (let both : (is_none (given z) && is_some (held z)) ≡ true =
+        (λ i. is_none (none i) && is_some (e i)) in
         let r = missing-last given held xs z both in omega (arith, r, few, low))
 
 -- ---- the file of a place
@@ -66,18 +75,26 @@ module _ (s : Setup) (P : File → Type 0) where
   abbrev Fits : Place → Type 0
   Fits p = (f : File) × P f × (f.id ≡ p.object) × (p.stripe < stripes_of (profiled s f.profile) f.size)
 
-  fits-range : (f : File) (a n : ℕ) → P f → a + n ≤ stripes_of (profiled s f.profile) f.size → Each Fits (map (λ stripe. record { object = f.id; stripe = stripe }) (range_with_len a n))
+  fits-range : (f : File) (a n : ℕ) → P f → a + n ≤ stripes_of (profiled s f.profile) f.size →
+      Each Fits (map (λ stripe. record { object = f.id; stripe = stripe }) (range_with_len a n))
   fits-range f a zero h l = tt
   fits-range f a (suc n) h l = ((f, h, refl, omega (arith, l)), fits-range f (a + 1) n h (omega (arith, l)))
 
-  fits-places : (fs : List File) → Each P fs → Each Fits (flat_map (λ (f : File). map (λ stripe. record { object = f.id; stripe = stripe }) (upto (stripes_of (profiled s f.profile) f.size))) fs)
+  fits-places : (fs : List File) → Each P fs →
+      Each Fits (flat_map (λ (f : File). map (λ stripe. record { object = f.id; stripe = stripe })
+      (upto (stripes_of (profiled s f.profile) f.size))) fs)
   fits-places [] h = tt
-  fits-places (f ∷ fs) h = each_append Fits (map (λ stripe. record { object = f.id; stripe = stripe }) (upto (stripes_of (profiled s f.profile) f.size))) (flat_map (λ (f : File). map (λ stripe. record { object = f.id; stripe = stripe }) (upto (stripes_of (profiled s f.profile) f.size))) fs)
+  fits-places (f ∷ fs) h =
+      each_append Fits (map (λ stripe. record { object = f.id; stripe = stripe })
+      (upto (stripes_of (profiled s f.profile) f.size)))
+      (flat_map (λ (f : File). map (λ stripe. record { object = f.id; stripe = stripe })
+      (upto (stripes_of (profiled s f.profile) f.size))) fs)
       (fits-range f 0 (stripes_of (profiled s f.profile) f.size) h.0 (omega arith)) (fits-places fs h.1)
 
 -- ---- a place that is lost
 
-module _ (x : Ran) (shape : IsShape (setup_at_begin x).n (setup_at_begin x).l (setup_at_begin x).b) (due : Due) (stripe row : ℕ) (L : LosesAtPlace x due stripe row) (bytes : List ℕ) where
+module _ (x : Ran) (shape : IsShape (setup_at_begin x).n (setup_at_begin x).l (setup_at_begin x).b)
+    (due : Due) (stripe row : ℕ) (L : LosesAtPlace x due stripe row) (bytes : List ℕ) where
   abbrev o : Object
   o = object_numbered x L.place.object
 
@@ -85,36 +102,56 @@ module _ (x : Ran) (shape : IsShape (setup_at_begin x).n (setup_at_begin x).l (s
   abbrev is_bad_here : ℕ → Bool
   is_bad_here j = is_bad_for o bytes j (x.old j) (x.new j)
 
-  good-place : (j : ℕ) → j < (setup_at_begin x).n → is_bad_here j ≡ false → L.place.stripe < stripes o (length bytes) → is_wrong_block o bytes j L.place.stripe (block_at (blocks_at x L.gave L.place) j) ≡ false
+  good-place : (j : ℕ) → j < (setup_at_begin x).n → is_bad_here j ≡ false →
+      L.place.stripe < stripes o (length bytes) →
+      is_wrong_block o bytes j L.place.stripe (block_at (blocks_at x L.gave L.place) j) ≡ false
   good-place j below good k = by_held (x.old j).held good (L.truth j below)
     where
       by_held : (h : Option Held) → is_bad_with o bytes j (x.old j) (x.new j) h ≡ false →
-          IfSome h (λ held. IsTruthful (L.gave j) (held_at x held) (L.done ++ L.place ∷ []) (x.old j).other_faults (x.new j).other_faults) →
+          IfSome h (λ held. IsTruthful (L.gave j) (held_at x held) (L.done ++ L.place ∷ [])
+          (x.old j).other_faults (x.new j).other_faults) →
           is_wrong_block o bytes j L.place.stripe (block_at (blocks_at x L.gave L.place) j) ≡ false
       by_held None g T = absurd (false≢true (sym g))
       by_held (Some held) g T =
-          (let p = or_parts (is_wrong o bytes j (held L.place.object)) (has_risen (x.old j).other_faults (x.new j).other_faults) g in
-          let same = last-held (L.gave j) (held_at x held) L.done L.place (x.old j).other_faults (x.new j).other_faults T p.1 in
-          ap (is_wrong_block o bytes j L.place.stripe) (block_at-map (λ i. L.gave i L.place) (setup_at_begin x).n j below ∙ same)
-          ∙ (wrong-sized o bytes j L.place.stripe (held L.place.object L.place.stripe) ∙ not-wrong-each o bytes j (held L.place.object) p.0 L.place.stripe k))
+          (let p = or_parts (is_wrong o bytes j (held L.place.object))
+          (has_risen (x.old j).other_faults (x.new j).other_faults) g in
+          let same = last-held (L.gave j) (held_at x held) L.done L.place (x.old j).other_faults
+          (x.new j).other_faults T p.1 in
+          ap (is_wrong_block o bytes j L.place.stripe)
+          (block_at-map (λ i. L.gave i L.place) (setup_at_begin x).n j below ∙ same)
+          ∙ (wrong-sized o bytes j L.place.stripe (held L.place.object L.place.stripe)
+          ∙ not-wrong-each o bytes j (held L.place.object) p.0 L.place.stripe k))
 
-  bad-place : L.place.stripe < stripes o (length bytes) → (j : ℕ) → j < 0 + (setup_at_begin x).n → is_wrong_block o bytes j L.place.stripe (block_at (blocks_at x L.gave L.place) j) ≡ true → is_bad_here j ≡ true
+  bad-place : L.place.stripe < stripes o (length bytes) → (j : ℕ) → j < 0 + (setup_at_begin x).n →
+      is_wrong_block o bytes j L.place.stripe (block_at (blocks_at x L.gave L.place) j) ≡ true →
+      is_bad_here j ≡ true
   bad-place k j below wrong = elim (cases_Bool (is_bad_here j)) [
     | inl y ↦ y
     | inr n ↦ absurd (false≢true (sym (good-place j (omega (arith, below)) n k) ∙ wrong))
   ]
 
-  few-mended : L.place.stripe < stripes o (length bytes) → count_of is_bad_here (upto (setup_at_begin x).n) ≤ (setup_at_begin x).b → ⊥
+  few-mended : L.place.stripe < stripes o (length bytes) →
+      count_of is_bad_here (upto (setup_at_begin x).n) ≤ (setup_at_begin x).b → ⊥
   few-mended k few =
-      (let lost : LosesRow o L.place.stripe (blocks_at x L.gave L.place) row = subst (λ t. LosesRow o t (blocks_at x L.gave L.place) row) (sym L.stripe_is) L.loses in
-      let within = count_of-within (λ j. is_wrong_block o bytes j L.place.stripe (block_at (blocks_at x L.gave L.place) j)) is_bad_here 0 (setup_at_begin x).n (bad-place k) in
+      (let lost : LosesRow o L.place.stripe (blocks_at x L.gave L.place) row =
+      subst (λ t. LosesRow o t (blocks_at x L.gave L.place) row) (sym L.stripe_is) L.loses in
+      let within = count_of-within
+      (λ j. is_wrong_block o bytes j L.place.stripe (block_at (blocks_at x L.gave L.place) j)) is_bad_here 0
+      (setup_at_begin x).n (bad-place k) in
       lost.lost (row_polynomial o (symbols_in o bytes L.place.stripe) lost.place)
-      (row-right o bytes (profile_among (setup_at_begin x).profile (files_of x.records) L.place.object) L.place.stripe lost.place (blocks_at x L.gave L.place) lost.opened refl shape (omega (arith, within, few)) lost.opens
-      (let a = lost.kept in let b = profile-room o (profile_among (setup_at_begin x).profile (files_of x.records) L.place.object) refl in omega (arith, a, b))))
+      (row-right o bytes (profile_among (setup_at_begin x).profile (files_of x.records) L.place.object)
+      L.place.stripe lost.place (blocks_at x L.gave L.place) lost.opened refl shape
+      (omega (arith, within, few)) lost.opens
+      (let a = lost.kept in
+      let b = profile-room o
+      (profile_among (setup_at_begin x).profile (files_of x.records) L.place.object) refl in
+      omega (arith, a, b))))
 
 -- ---- the repair
 
-module _ (x : Ran) (accepted : AreAccepted x.records) (shape : IsShape (setup_at_begin x).n (setup_at_begin x).l (setup_at_begin x).b) (bytes : ℕ → List ℕ) where
+module _ (x : Ran) (accepted : AreAccepted x.records)
+    (shape : IsShape (setup_at_begin x).n (setup_at_begin x).l (setup_at_begin x).b)
+    (bytes : ℕ → List ℕ) where
   -- a file whose bytes few providers are wrong for
   abbrev pub IsSafe : File → Type 0
   IsSafe f = (length (bytes f.id) ≡ f.size) × (bad_count x f (bytes f.id) ≤ (setup_at_begin x).b)
@@ -123,20 +160,32 @@ module _ (x : Ran) (accepted : AreAccepted x.records) (shape : IsShape (setup_at
   abbrev IsFound : File → Type 0
   IsFound f = IsSafe f × (object_numbered x f.id ≡ object_at_begin x f)
 
-  lost-none : (due : Due) (stripe row : ℕ) → ((name : List ℕ) (file : File) → file_of x.records name ≡ Some file → IsSafe file) → LosesAtPlace x due stripe row → ⊥
+  lost-none : (due : Due) (stripe row : ℕ) →
+      ((name : List ℕ) (file : File) → file_of x.records name ≡ Some file → IsSafe file) →
+      LosesAtPlace x due stripe row → ⊥
   lost-none due stripe row safe L =
-      (let all : Each IsFound (files_by_number (files_of x.records)) = each-by_number IsFound (files_of x.records)
-      (each-in IsFound (files_of x.records) (λ f i. (safe f.name f (listed_file x.records f i), numbered-file x accepted f i))) in
-      let fits = each_middle (Fits (setup_at_begin x) IsFound) L.done L.place L.rest (subst (Each (Fits (setup_at_begin x) IsFound)) L.part.parts (fits-places (setup_at_begin x) IsFound (files_by_number (files_of x.records)) all)) in
+      (let all : Each IsFound (files_by_number (files_of x.records)) =
+      each-by_number IsFound (files_of x.records)
+      (each-in IsFound (files_of x.records)
+      (λ f i. (safe f.name f (listed_file x.records f i), numbered-file x accepted f i))) in
+      let fits = each_middle (Fits (setup_at_begin x) IsFound) L.done L.place L.rest
+      (subst (Each (Fits (setup_at_begin x) IsFound)) L.part.parts
+      (fits-places (setup_at_begin x) IsFound (files_by_number (files_of x.records)) all)) in
       let file = fits.0 in
-      let at : object_at_begin x file ≡ object_numbered x L.place.object = sym fits.1.1 ∙ ap (object_numbered x) fits.2 in
+      let at : object_at_begin x file ≡ object_numbered x L.place.object = sym fits.1.1
+      ∙ ap (object_numbered x) fits.2 in
       few-mended x shape due stripe row L (bytes file.id)
-      (subst (λ (z : Object). L.place.stripe < stripes z (length (bytes file.id))) at (subst (λ n. L.place.stripe < stripes_of (profiled (setup_at_begin x) file.profile) n) (sym fits.1.0.0) fits.3))
-      (subst (λ (z : Object). count_of (λ j. is_bad_for z (bytes file.id) j (x.old j) (x.new j)) (upto (setup_at_begin x).n) ≤ (setup_at_begin x).b) at fits.1.0.1))
+      (subst (λ (z : Object). L.place.stripe < stripes z (length (bytes file.id))) at (subst
+      (λ n. L.place.stripe < stripes_of (profiled (setup_at_begin x) file.profile) n)
+      (sym fits.1.0.0) fits.3))
+      (subst (λ (z : Object). count_of (λ j. is_bad_for z (bytes file.id) j (x.old j) (x.new j))
+      (upto (setup_at_begin x).n) ≤ (setup_at_begin x).b) at fits.1.0.1))
 
   -- a repair with no fault and at most b bad providers a file is done, or found no memory
-  pub repair-end : (how : Answer) → RepairLeaves x how → (Rose x.disk_before x.disk_after → ⊥) → ((j : ℕ) → j < (setup_at_begin x).n → Rose (x.old j).store_faults (x.new j).store_faults → ⊥) →
-      ((name : List ℕ) (file : File) → file_of x.records name ≡ Some file → IsSafe file) → ((number : ℕ) × (how ≡ answer.Repaired number)) ⊎ (how ≡ answer.Memory)
+  pub repair-end : (how : Answer) → RepairLeaves x how → (Rose x.disk_before x.disk_after → ⊥) →
+      ((j : ℕ) → j < (setup_at_begin x).n → Rose (x.old j).store_faults (x.new j).store_faults → ⊥) →
+      ((name : List ℕ) (file : File) → file_of x.records name ≡ Some file → IsSafe file) →
+      ((number : ℕ) × (how ≡ answer.Repaired number)) ⊎ (how ≡ answer.Memory)
   repair-end (answer.Repaired number) L disk stores safe = inl (number, refl)
   repair-end answer.Memory L disk stores safe = inr refl
   repair-end (answer.Lost stripe row) L disk stores safe = absurd (lost-none L.due stripe row safe L.gives.1)

@@ -1,4 +1,5 @@
--- A put or an audit at a move of one of its two appends: at its first one it has done nothing else, and at its second one all that stands
+-- A put or an audit at a move of one of its two appends: at its first one it has done nothing else, and at
+-- its second one all that stands
 -- between them.
 use Rattle.std.proofs.Common.{◌≡◌, ℕ, zero, suc, ◌+◌, ◌-◌, ◌<◌, ◌≤◌, List, [], ◌∷◌, ◌++◌, length, take, Some, ap, sym, subst, ◌∙◌, inl, inr, arith}
 use Rattle.std.specs.Prelude.{slice_get}
@@ -28,7 +29,8 @@ abbrev pub IsUnmoved : Action → Type 0
 IsUnmoved action = IsMove action → ⊥
 
 -- a move that failed is a move
-pub move-is : (w : State) (job : Job) (new : State) (action : Action) (flight : _) → Moves w job action flight (Ended answer.DiskFault) new → IsMove action
+pub move-is : (w : State) (job : Job) (new : State) (action : Action) (flight : _) →
+    Moves w job action flight (Ended answer.DiskFault) new → IsMove action
 move-is w job new WriteBody flight h = tt
 move-is w job new SyncBody flight h = tt
 move-is w job new WriteGate flight h = tt
@@ -36,7 +38,8 @@ move-is w job new SyncGate flight h = tt
 move-is w job new action flight h = absurd h
 
 -- moves change nothing of providers, and give nothing
-did-move : (x : With) (action : Action) (old new : ℕ → Provider) (given now : List Given) → IsMove action → Did x action old new given now → (new ≡ old) × (now ≡ given)
+did-move : (x : With) (action : Action) (old new : ℕ → Provider) (given now : List Given) → IsMove action →
+    Did x action old new given now → (new ≡ old) × (now ≡ given)
 did-move x WriteBody old new given now m d = d
 did-move x SyncBody old new given now m d = d
 did-move x WriteGate old new given now m d = d
@@ -48,7 +51,8 @@ did-move x (Work o t) old new given now m d = absurd m
 did-move x (Remove j o) old new given now m d = absurd m
 did-move x End old new given now m d = absurd m
 
-made-moves : (x : With) (actions : List Action) (old new : ℕ → Provider) (given now : List Given) → Each IsMove actions → Made x actions old new given now → (new ≡ old) × (now ≡ given)
+made-moves : (x : With) (actions : List Action) (old new : ℕ → Provider) (given now : List Given) →
+    Each IsMove actions → Made x actions old new given now → (new ≡ old) × (now ≡ given)
 made-moves x [] old new given now ms made = made
 made-moves x (a ∷ actions) old new given now (m, ms) (mid, so_far, did, rest) =
     (let first = did-move x a old mid given so_far m did in
@@ -63,11 +67,15 @@ few-moves behind (suc (suc zero)) l = (tt, (tt, tt))
 few-moves behind (suc (suc (suc zero))) l = (tt, (tt, (tt, tt)))
 few-moves behind (suc (suc (suc (suc r)))) l = absurd (omega (arith, l))
 
-module _ (x : With) (between behind : List Action) (p : ℕ) (action : Action) (move : IsMove action) (first : Each IsUnmoved between) (last : Each IsUnmoved behind) (old new : ℕ → Provider) (now : List Given)
-    (at : slice_get (append_actions ++ (between ++ (append_actions ++ behind))) p ≡ Some action) (made : Made x (take p (append_actions ++ (between ++ (append_actions ++ behind)))) old new [] now) where
+module _ (x : With) (between behind : List Action) (p : ℕ) (action : Action) (move : IsMove action)
+    (first : Each IsUnmoved between) (last : Each IsUnmoved behind) (old new : ℕ → Provider)
+    (now : List Given)
+    (at : slice_get (append_actions ++ (between ++ (append_actions ++ behind))) p ≡ Some action)
+    (made : Made x (take p (append_actions ++ (between ++ (append_actions ++ behind)))) old new [] now) where
   -- a move before the first append's end
   pub moved-first : p < 4 → (new ≡ old) × (now ≡ [])
-  moved-first l = made-moves x (take p (append_actions ++ (between ++ (append_actions ++ behind)))) old new [] now (few-moves (between ++ (append_actions ++ behind)) p l) made
+  moved-first l = made-moves x (take p (append_actions ++ (between ++ (append_actions ++ behind)))) old new
+      [] now (few-moves (between ++ (append_actions ++ behind)) p l) made
 
   -- where a move of the second append stands
   second-at : 4 ≤ p → (r : ℕ) × (r < 4) × (p ≡ 4 + (length between + r))
@@ -86,14 +94,20 @@ module _ (x : With) (between behind : List Action) (p : ℕ) (action : Action) (
   pub moved-second : 4 ≤ p → Made x between old new [] now
   moved-second l =
       (let r = second-at l in
-      let front : take p (append_actions ++ (between ++ (append_actions ++ behind))) ≡ append_actions ++ (between ++ take r.0 (append_actions ++ behind)) =
+      let front : take p (append_actions ++ (between ++ (append_actions ++ behind)))
+      ≡ append_actions ++ (between ++ take r.0 (append_actions ++ behind)) =
       ap (λ n. take n (append_actions ++ (between ++ (append_actions ++ behind)))) r.2
-      ∙ (take-append-add append_actions (between ++ (append_actions ++ behind)) (length between + r.0) ∙ ap (λ xs. append_actions ++ xs) (take-append-add between (append_actions ++ behind) r.0)) in
-      let all : Made x (append_actions ++ (between ++ take r.0 (append_actions ++ behind))) old new [] now = subst (λ xs. Made x xs old new [] now) front made in
-      let a = made-split x append_actions (between ++ take r.0 (append_actions ++ behind)) old new [] now all in
+      ∙ (take-append-add append_actions (between ++ (append_actions ++ behind)) (length between + r.0)
+      ∙ ap (λ xs. append_actions ++ xs) (take-append-add between (append_actions ++ behind) r.0)) in
+      let all : Made x (append_actions ++ (between ++ take r.0 (append_actions ++ behind))) old new [] now =
+      subst (λ xs. Made x xs old new [] now) front made in
+      let a = made-split x append_actions (between ++ take r.0 (append_actions ++ behind)) old new
+      [] now all in
       let b = made-split x between (take r.0 (append_actions ++ behind)) a.0 new a.1 now a.3 in
       let start = made-moves x append_actions old a.0 [] a.1 (tt, (tt, (tt, (tt, tt)))) a.2 in
-      let end = made-moves x (take r.0 (append_actions ++ behind)) b.0 new b.1 now (few-moves behind r.0 r.1) b.3 in
+      let end = made-moves x (take r.0 (append_actions ++ behind)) b.0 new b.1 now
+      (few-moves behind r.0 r.1) b.3 in
       subst (λ f. Made x between f new [] now) start.0
       (subst (λ h. Made x between a.0 new h now) start.1
-      (subst (λ f. Made x between a.0 f a.1 now) (sym end.0) (subst (λ h. Made x between a.0 b.0 a.1 h) (sym end.1) b.2))))
+      (subst (λ f. Made x between a.0 f a.1 now) (sym end.0)
+      (subst (λ h. Made x between a.0 b.0 a.1 h) (sym end.1) b.2))))

@@ -34,26 +34,47 @@ actions_at s job p = open_actions s p.object p.stripe ++ rewrite_actions s job p
 
 -- the places of files in this order
 abbrev pub places_in : Setup → List File → List Place
-places_in s fs = flat_map (λ (f : File). map (λ stripe. record { object = f.id; stripe = stripe }) (upto (stripes_of (profiled s f.profile) f.size))) fs
+places_in s fs = flat_map
+    (λ (f : File). map (λ stripe. record { object = f.id; stripe = stripe })
+    (upto (stripes_of (profiled s f.profile) f.size))) fs
 
-stripes-places : (s : Setup) (job : Job) (id : ℕ) (stripes : List ℕ) → flat_map (λ stripe. open_actions s id stripe ++ rewrite_actions s job id stripe) stripes ≡ flat_map (actions_at s job) (map (λ stripe. record { object = id; stripe = stripe }) stripes)
+stripes-places : (s : Setup) (job : Job) (id : ℕ) (stripes : List ℕ) →
+    flat_map (λ stripe. open_actions s id stripe ++ rewrite_actions s job id stripe) stripes
+    ≡ flat_map (actions_at s job) (map (λ stripe. record { object = id; stripe = stripe }) stripes)
 stripes-places s job id [] = refl
-stripes-places s job id (t ∷ ts) = ap (λ l. (open_actions s id t ++ rewrite_actions s job id t) ++ l) (stripes-places s job id ts)
+stripes-places s job id (t ∷ ts) =
+    ap (λ l. (open_actions s id t ++ rewrite_actions s job id t) ++ l) (stripes-places s job id ts)
 
-files-places : (s : Setup) (w : State) (job : Job) (fs : List File) → Each (λ (f : File). length (w.bytes f.id) ≡ f.size) fs →
-    flat_map (λ (f : Pinned). on_each_stripe (profiled s f.profile) (length f.bytes) (λ stripe. open_actions s f.id stripe ++ rewrite_actions s job f.id stripe)) (map (pinned_file w) fs) ≡ flat_map (actions_at s job) (places_in s fs)
+files-places : (s : Setup) (w : State) (job : Job) (fs : List File) →
+    Each (λ (f : File). length (w.bytes f.id) ≡ f.size) fs →
+    flat_map (λ (f : Pinned). on_each_stripe (profiled s f.profile) (length f.bytes)
+    (λ stripe. open_actions s f.id stripe ++ rewrite_actions s job f.id stripe)) (map (pinned_file w) fs)
+    ≡ flat_map (actions_at s job) (places_in s fs)
 files-places s w job [] h = refl
 files-places s w job (f ∷ fs) h =
-    (let one : flat_map (λ stripe. open_actions s f.id stripe ++ rewrite_actions s job f.id stripe) (upto (stripes_of (profiled s f.profile) (length (w.bytes f.id)))) ≡ flat_map (actions_at s job) (map (λ stripe. record { object = f.id; stripe = stripe }) (upto (stripes_of (profiled s f.profile) f.size))) =
-    ap (λ n. flat_map (λ stripe. open_actions s f.id stripe ++ rewrite_actions s job f.id stripe) (upto (stripes_of (profiled s f.profile) n))) h.0 ∙ stripes-places s job f.id (upto (stripes_of (profiled s f.profile) f.size)) in
-    (λ i. one i ++ files-places s w job fs h.1 i) ∙ sym (flat_map-append (actions_at s job) (map (λ stripe. record { object = f.id; stripe = stripe }) (upto (stripes_of (profiled s f.profile) f.size))) (places_in s fs)))
+    (let one : flat_map (λ stripe. open_actions s f.id stripe ++ rewrite_actions s job f.id stripe)
+    (upto (stripes_of (profiled s f.profile) (length (w.bytes f.id))))
+    ≡ flat_map (actions_at s job)
+    (map (λ stripe. record { object = f.id; stripe = stripe })
+    (upto (stripes_of (profiled s f.profile) f.size))) =
+    ap (λ n. flat_map (λ stripe. open_actions s f.id stripe ++ rewrite_actions s job f.id stripe)
+    (upto (stripes_of (profiled s f.profile) n))) h.0
+    ∙ stripes-places s job f.id (upto (stripes_of (profiled s f.profile) f.size)) in
+    (λ i. one i ++ files-places s w job fs h.1 i)
+    ∙ sym (flat_map-append (actions_at s job)
+    (map (λ stripe. record { object = f.id; stripe = stripe })
+    (upto (stripes_of (profiled s f.profile) f.size))) (places_in s fs)))
 
 -- the actions of a repair are those of its places, in order
-pub repairs-places : (s : Setup) (w : State) (job : Job) (files : List File) → job.pinned ≡ pin_all w files → Each (λ (f : File). length (w.bytes f.id) ≡ f.size) files →
+pub repairs-places : (s : Setup) (w : State) (job : Job) (files : List File) → job.pinned ≡ pin_all w files →
+    Each (λ (f : File). length (w.bytes f.id) ≡ f.size) files →
     repair_actions s job ≡ flat_map (actions_at s job) (places s files)
 repairs-places s w job files pinned h =
-    ap (λ ps. flat_map (λ (f : Pinned). on_each_stripe (profiled s f.profile) (length f.bytes) (λ stripe. open_actions s f.id stripe ++ rewrite_actions s job f.id stripe)) ps) (pinned ∙ pinned-by_number w files)
-    ∙ files-places s w job (files_by_number files) (each-by_number (λ (f : File). length (w.bytes f.id) ≡ f.size) files h)
+    ap (λ ps. flat_map (λ (f : Pinned). on_each_stripe (profiled s f.profile) (length f.bytes)
+    (λ stripe. open_actions s f.id stripe ++ rewrite_actions s job f.id stripe)) ps)
+    (pinned ∙ pinned-by_number w files)
+    ∙ files-places s w job (files_by_number files)
+    (each-by_number (λ (f : File). length (w.bytes f.id) ≡ f.size) files h)
 
 -- ---- no place comes twice
 
@@ -64,33 +85,52 @@ abbrev pub AreApart : List Place → Type 0
 AreApart [] = Unit {0}
 AreApart (p ∷ ps) = Each (IsElse p) ps × AreApart ps
 
-apart-append : (ps qs : List Place) → AreApart ps → AreApart qs → Each (λ p. Each (IsElse p) qs) ps → AreApart (ps ++ qs)
+apart-append : (ps qs : List Place) → AreApart ps → AreApart qs → Each (λ p. Each (IsElse p) qs) ps →
+    AreApart (ps ++ qs)
 apart-append [] qs a b h = b
 apart-append (p ∷ ps) qs a b h = (each_append (IsElse p) ps qs a.0 h.0, apart-append ps qs a.1 b h.1)
 
-apart-stripes : (id a n : ℕ) → AreApart (map (λ stripe. record { object = id; stripe = stripe }) (range_with_len a n))
+apart-stripes : (id a n : ℕ) →
+    AreApart (map (λ stripe. record { object = id; stripe = stripe }) (range_with_len a n))
 apart-stripes id a zero = tt
 apart-stripes id a (suc n) = (above (a + 1) n (omega arith), apart-stripes id (a + 1) n)
   where
-    above : (b m : ℕ) → a < b → Each (IsElse (record { object = id; stripe = a })) (map (λ stripe. record { object = id; stripe = stripe }) (range_with_len b m))
+    above : (b m : ℕ) → a < b →
+        Each (IsElse (record { object = id; stripe = a }))
+        (map (λ stripe. record { object = id; stripe = stripe }) (range_with_len b m))
     above b zero l = tt
     above b (suc m) l = ((λ e. (let f = e.1 in omega (arith, f, l))), above (b + 1) m (omega (arith, l)))
 
-places-above : (s : Setup) (w : State) (low : ℕ) (fs : List File) → AreAscending low (map (pinned_file w) fs) → Each (λ (p : Place). low ≤ p.object) (places_in s fs)
+places-above : (s : Setup) (w : State) (low : ℕ) (fs : List File) →
+    AreAscending low (map (pinned_file w) fs) → Each (λ (p : Place). low ≤ p.object) (places_in s fs)
 places-above s w low [] h = tt
-places-above s w low (f ∷ fs) h = each_append (λ (p : Place). low ≤ p.object) (map (λ stripe. record { object = f.id; stripe = stripe }) (upto (stripes_of (profiled s f.profile) f.size))) (places_in s fs)
-    (each_map (λ (p : Place). low ≤ p.object) (λ stripe. record { object = f.id; stripe = stripe }) (upto (stripes_of (profiled s f.profile) f.size)) (λ t. h.0))
-    (each_mono (λ (p : Place). f.id + 1 ≤ p.object) (λ (p : Place). low ≤ p.object) (places_in s fs) (λ p l. (let a = h.0 in omega (arith, l, a))) (places-above s w (f.id + 1) fs h.1))
+places-above s w low (f ∷ fs) h = each_append (λ (p : Place). low ≤ p.object)
+    (map (λ stripe. record { object = f.id; stripe = stripe })
+    (upto (stripes_of (profiled s f.profile) f.size))) (places_in s fs)
+    (each_map (λ (p : Place). low ≤ p.object) (λ stripe. record { object = f.id; stripe = stripe })
+    (upto (stripes_of (profiled s f.profile) f.size)) (λ t. h.0))
+    (each_mono (λ (p : Place). f.id + 1 ≤ p.object) (λ (p : Place). low ≤ p.object) (places_in s fs)
+    (λ p l. (let a = h.0 in omega (arith, l, a))) (places-above s w (f.id + 1) fs h.1))
 
-places-apart : (s : Setup) (w : State) (low : ℕ) (fs : List File) → AreAscending low (map (pinned_file w) fs) → AreApart (places_in s fs)
+places-apart : (s : Setup) (w : State) (low : ℕ) (fs : List File) →
+    AreAscending low (map (pinned_file w) fs) → AreApart (places_in s fs)
 places-apart s w low [] h = tt
-places-apart s w low (f ∷ fs) h = apart-append (map (λ stripe. record { object = f.id; stripe = stripe }) (upto (stripes_of (profiled s f.profile) f.size))) (places_in s fs) (apart-stripes f.id 0 (stripes_of (profiled s f.profile) f.size)) (places-apart s w (f.id + 1) fs h.1)
-    (each_map (λ p. Each (IsElse p) (places_in s fs)) (λ stripe. record { object = f.id; stripe = stripe }) (upto (stripes_of (profiled s f.profile) f.size))
-    (λ t. each_mono (λ (p : Place). f.id + 1 ≤ p.object) (IsElse (record { object = f.id; stripe = t })) (places_in s fs) (λ p l e. (let a = e.0 in omega (arith, l, a))) (places-above s w (f.id + 1) fs h.1)))
+places-apart s w low (f ∷ fs) h =
+    apart-append (map (λ stripe. record { object = f.id; stripe = stripe })
+    (upto (stripes_of (profiled s f.profile) f.size))) (places_in s fs)
+    (apart-stripes f.id 0 (stripes_of (profiled s f.profile) f.size))
+    (places-apart s w (f.id + 1) fs h.1)
+    (each_map (λ p. Each (IsElse p) (places_in s fs)) (λ stripe. record { object = f.id; stripe = stripe })
+    (upto (stripes_of (profiled s f.profile) f.size))
+    (λ t. each_mono (λ (p : Place). f.id + 1 ≤ p.object) (IsElse (record { object = f.id; stripe = t }))
+    (places_in s fs) (λ p l e. (let a = e.0 in omega (arith, l, a)))
+    (places-above s w (f.id + 1) fs h.1)))
 
 -- no place of files comes twice, where they ascend by number
-pub all-apart : (s : Setup) (w : State) (files : List File) → AreAscending 0 (pin_all w files) → AreApart (places s files)
-all-apart s w files h = places-apart s w 0 (files_by_number files) (subst (AreAscending 0) (pinned-by_number w files) h)
+pub all-apart : (s : Setup) (w : State) (files : List File) → AreAscending 0 (pin_all w files) →
+    AreApart (places s files)
+all-apart s w files h =
+    places-apart s w 0 (files_by_number files) (subst (AreAscending 0) (pinned-by_number w files) h)
 
 -- ---- the order of the actions
 
@@ -107,9 +147,13 @@ at-cond p j false = tt
 
 -- all actions of a place are at it
 pub at-place : (s : Setup) (job : Job) (p : Place) → Each (IsAt p) (actions_at s job p)
-at-place s job p = each_append (IsAt p) (open_actions s p.object p.stripe) (rewrite_actions s job p.object p.stripe)
-    (each_append (IsAt p) (fetches_at s p) (Work p.object p.stripe ∷ []) (each_map (IsAt p) (λ j. Fetch j p.object p.stripe) (upto s.n) (λ j. (refl, refl))) ((refl, refl), tt))
-    (each_flat (IsAt p) (λ j. cond (job.flagged j) (Store j p.object p.stripe ∷ []) []) (upto s.n) (λ j. at-cond p j (job.flagged j)))
+at-place s job p = each_append (IsAt p) (open_actions s p.object p.stripe)
+    (rewrite_actions s job p.object p.stripe)
+    (each_append (IsAt p) (fetches_at s p) (Work p.object p.stripe ∷ [])
+    (each_map (IsAt p) (λ j. Fetch j p.object p.stripe) (upto s.n) (λ j. (refl, refl)))
+    ((refl, refl), tt))
+    (each_flat (IsAt p) (λ j. cond (job.flagged j) (Store j p.object p.stripe ∷ []) []) (upto s.n)
+    (λ j. at-cond p j (job.flagged j)))
 
 -- what is at another place is neither a fetch of this one nor the work on it
 else-none : (p q : Place) (y : Action) → IsElse p q → IsAt q y → IsNoneOf p.object p.stripe y
@@ -124,15 +168,23 @@ else-none p q WriteGate n a = tt
 else-none p q SyncGate n a = tt
 else-none p q End n a = tt
 
-else-all : (s : Setup) (job : Job) (p : Place) (qs : List Place) → Each (IsElse p) qs → Each (IsNoneOf p.object p.stripe) (flat_map (actions_at s job) qs)
+else-all : (s : Setup) (job : Job) (p : Place) (qs : List Place) → Each (IsElse p) qs →
+    Each (IsNoneOf p.object p.stripe) (flat_map (actions_at s job) qs)
 else-all s job p [] h = tt
-else-all s job p (q ∷ qs) h = each_append (IsNoneOf p.object p.stripe) (actions_at s job q) (flat_map (actions_at s job) qs)
-    (each_mono (IsAt q) (IsNoneOf p.object p.stripe) (actions_at s job q) (λ y a. else-none p q y h.0 a) (at-place s job q)) (else-all s job p qs h.1)
+else-all s job p (q ∷ qs) h =
+    each_append (IsNoneOf p.object p.stripe) (actions_at s job q) (flat_map (actions_at s job) qs)
+    (each_mono (IsAt q) (IsNoneOf p.object p.stripe) (actions_at s job q) (λ y a. else-none p q y h.0 a)
+    (at-place s job q)) (else-all s job p qs h.1)
 
-before-none : (p : Place) (x : Action) (ys : List Action) → IsAt p x → Each (IsNoneOf p.object p.stripe) ys → IsBefore x ys
-before-none p (Fetch j o s) ys a h = each_mono (IsNoneOf p.object p.stripe) (IsNot (Fetch j o s)) ys (λ y n e. none-fetch j p.object p.stripe y n ((let f = a.0 in let g = a.1 in (λ i. Fetch j (sym f i) (sym g i))) ∙ e)) h
-before-none p (Work o s) ys a h = subst (λ n. Each (IsNoneOf n s) ys) (sym a.0) (subst (λ n. Each (IsNoneOf p.object n) ys) (sym a.1) h)
-before-none p (Store j o s) ys a h = subst (λ n. Each (IsNoneOf n s) ys) (sym a.0) (subst (λ n. Each (IsNoneOf p.object n) ys) (sym a.1) h)
+before-none : (p : Place) (x : Action) (ys : List Action) → IsAt p x → Each (IsNoneOf p.object p.stripe) ys →
+    IsBefore x ys
+before-none p (Fetch j o s) ys a h = each_mono (IsNoneOf p.object p.stripe) (IsNot (Fetch j o s)) ys
+    (λ y n e. none-fetch j p.object p.stripe y n
+    ((let f = a.0 in let g = a.1 in (λ i. Fetch j (sym f i) (sym g i))) ∙ e)) h
+before-none p (Work o s) ys a h =
+    subst (λ n. Each (IsNoneOf n s) ys) (sym a.0) (subst (λ n. Each (IsNoneOf p.object n) ys) (sym a.1) h)
+before-none p (Store j o s) ys a h =
+    subst (λ n. Each (IsNoneOf n s) ys) (sym a.0) (subst (λ n. Each (IsNoneOf p.object n) ys) (sym a.1) h)
 before-none p (Ask j o r) ys a h = tt
 before-none p (Remove j o) ys a h = tt
 before-none p WriteBody ys a h = tt
@@ -153,7 +205,8 @@ before-append WriteGate xs ys a b = tt
 before-append SyncGate xs ys a b = tt
 before-append End xs ys a b = tt
 
-ordered-append : (xs ys : List Action) → AreOrdered xs → AreOrdered ys → Each (λ x. IsBefore x ys) xs → AreOrdered (xs ++ ys)
+ordered-append : (xs ys : List Action) → AreOrdered xs → AreOrdered ys → Each (λ x. IsBefore x ys) xs →
+    AreOrdered (xs ++ ys)
 ordered-append [] ys a b h = b
 ordered-append (x ∷ xs) ys a b h = (before-append x xs ys a.0 h.0, ordered-append xs ys a.1 b h.1)
 
@@ -168,7 +221,8 @@ stores-cond j o s false = tt
 
 -- what a repair rewrites of a stripe are stores alone
 pub stores-only : (s : Setup) (job : Job) (o t : ℕ) → Each IsStoreAt (rewrite_actions s job o t)
-stores-only s job o t = each_flat IsStoreAt (λ j. cond (job.flagged j) (Store j o t ∷ []) []) (upto s.n) (λ j. stores-cond j o t (job.flagged j))
+stores-only s job o t = each_flat IsStoreAt (λ j. cond (job.flagged j) (Store j o t ∷ []) []) (upto s.n)
+    (λ j. stores-cond j o t (job.flagged j))
 
 stores-none : (o s : ℕ) (y : Action) → IsStoreAt y → IsNoneOf o s y
 stores-none o s (Store j p t) u = tt
@@ -184,7 +238,8 @@ stores-none o s End u = tt
 
 ordered-stores : (xs : List Action) → Each IsStoreAt xs → AreOrdered xs
 ordered-stores [] h = tt
-ordered-stores (Store j o s ∷ xs) h = (each_mono IsStoreAt (IsNoneOf o s) xs (λ y u. stores-none o s y u) h.1, ordered-stores xs h.1)
+ordered-stores (Store j o s ∷ xs) h =
+    (each_mono IsStoreAt (IsNoneOf o s) xs (λ y u. stores-none o s y u) h.1, ordered-stores xs h.1)
 ordered-stores (Fetch j o s ∷ xs) h = absurd h.0
 ordered-stores (Work o s ∷ xs) h = absurd h.0
 ordered-stores (Ask j o r ∷ xs) h = absurd h.0
@@ -201,45 +256,75 @@ ordered-fetches o s a (suc n) = (above (a + 1) n (omega arith), ordered-fetches 
   where
     above : (b m : ℕ) → a < b → Each (IsNot (Fetch a o s)) (map (λ j. Fetch j o s) (range_with_len b m))
     above b zero l = tt
-    above b (suc m) l = ((λ e. (let f : a ≡ b = (let g = e in cc) in omega (arith, f, l))), above (b + 1) m (omega (arith, l)))
+    above b (suc m) l = (
+      (λ e. (let f : a ≡ b = (let g = e in cc) in omega (arith, f, l))),
+      above (b + 1) m (omega (arith, l)),
+    )
 
 ordered-place : (s : Setup) (job : Job) (p : Place) → AreOrdered (actions_at s job p)
-ordered-place s job p = ordered-append (open_actions s p.object p.stripe) (rewrite_actions s job p.object p.stripe)
-    (ordered-append (fetches_at s p) (Work p.object p.stripe ∷ []) (ordered-fetches p.object p.stripe 0 s.n) (tt, tt)
-    (each_map (λ x. IsBefore x (Work p.object p.stripe ∷ [])) (λ j. Fetch j p.object p.stripe) (upto s.n) (λ j. ((λ e. cc), tt))))
+ordered-place s job p =
+    ordered-append (open_actions s p.object p.stripe) (rewrite_actions s job p.object p.stripe)
+    (ordered-append (fetches_at s p) (Work p.object p.stripe ∷ []) (ordered-fetches p.object p.stripe 0 s.n)
+    (tt, tt)
+    (each_map (λ x. IsBefore x (Work p.object p.stripe ∷ [])) (λ j. Fetch j p.object p.stripe) (upto s.n)
+    (λ j. ((λ e. cc), tt))))
     (ordered-stores (rewrite_actions s job p.object p.stripe) (stores-only s job p.object p.stripe))
-    (each_mono (IsAt p) (λ x. IsBefore x (rewrite_actions s job p.object p.stripe)) (open_actions s p.object p.stripe)
-    (λ x a. before-none p x (rewrite_actions s job p.object p.stripe) a (each_mono IsStoreAt (IsNoneOf p.object p.stripe) (rewrite_actions s job p.object p.stripe) (λ y u. stores-none p.object p.stripe y u) (stores-only s job p.object p.stripe)))
-    (each_append (IsAt p) (fetches_at s p) (Work p.object p.stripe ∷ []) (each_map (IsAt p) (λ j. Fetch j p.object p.stripe) (upto s.n) (λ j. (refl, refl))) ((refl, refl), tt)))
+    (each_mono (IsAt p) (λ x. IsBefore x (rewrite_actions s job p.object p.stripe))
+    (open_actions s p.object p.stripe)
+    (λ x a. before-none p x (rewrite_actions s job p.object p.stripe) a
+    (each_mono IsStoreAt (IsNoneOf p.object p.stripe) (rewrite_actions s job p.object p.stripe)
+    (λ y u. stores-none p.object p.stripe y u) (stores-only s job p.object p.stripe)))
+    (each_append (IsAt p) (fetches_at s p) (Work p.object p.stripe ∷ [])
+    (each_map (IsAt p) (λ j. Fetch j p.object p.stripe) (upto s.n) (λ j. (refl, refl)))
+    ((refl, refl), tt)))
 
 -- the actions of places that are apart, with what may follow, are in the order of a repair
-pub ordered-places : (s : Setup) (job : Job) (ps : List Place) (tail : List Action) → AreApart ps → AreOrdered tail → Each (λ y. (o t : ℕ) → IsNoneOf o t y) tail → AreOrdered (flat_map (actions_at s job) ps ++ tail)
+pub ordered-places : (s : Setup) (job : Job) (ps : List Place) (tail : List Action) → AreApart ps →
+    AreOrdered tail → Each (λ y. (o t : ℕ) → IsNoneOf o t y) tail →
+    AreOrdered (flat_map (actions_at s job) ps ++ tail)
 ordered-places s job [] tail a o n = o
-ordered-places s job (p ∷ ps) tail a o n = subst AreOrdered (sym (append_assoc (actions_at s job p) (flat_map (actions_at s job) ps) tail))
-    (ordered-append (actions_at s job p) (flat_map (actions_at s job) ps ++ tail) (ordered-place s job p) (ordered-places s job ps tail a.1 o n)
+ordered-places s job (p ∷ ps) tail a o n =
+    subst AreOrdered (sym (append_assoc (actions_at s job p) (flat_map (actions_at s job) ps) tail))
+    (ordered-append (actions_at s job p) (flat_map (actions_at s job) ps ++ tail) (ordered-place s job p)
+    (ordered-places s job ps tail a.1 o n)
     (each_mono (IsAt p) (λ x. IsBefore x (flat_map (actions_at s job) ps ++ tail)) (actions_at s job p)
     (λ x u. before-none p x (flat_map (actions_at s job) ps ++ tail) u
-    (each_append (IsNoneOf p.object p.stripe) (flat_map (actions_at s job) ps) tail (else-all s job p ps a.0) (each_mono (λ y. (o t : ℕ) → IsNoneOf o t y) (IsNoneOf p.object p.stripe) tail (λ y g. g p.object p.stripe) n)))
+    (each_append (IsNoneOf p.object p.stripe) (flat_map (actions_at s job) ps) tail (else-all s job p ps a.0)
+    (each_mono (λ y. (o t : ℕ) → IsNoneOf o t y) (IsNoneOf p.object p.stripe) tail
+    (λ y g. g p.object p.stripe) n)))
     (at-place s job p)))
 
 -- ---- where a list is cut
 
-pub data Cut (A : Place → List Action) (ps : List Place) (tail : List Action) (p : ℕ) (a : Action) : Type 0 where
-  inside : (done : List Place) (place : Place) (rest : List Place) (q : ℕ) → ps ≡ done ++ place ∷ rest → slice_get (A place) q ≡ Some a → take p (flat_map A ps ++ tail) ≡ flat_map A done ++ take q (A place) → Cut A ps tail p a
-  behind : (q : ℕ) → slice_get tail q ≡ Some a → take p (flat_map A ps ++ tail) ≡ flat_map A ps ++ take q tail → Cut A ps tail p a
+pub data Cut (A : Place → List Action) (ps : List Place) (tail : List Action) (p : ℕ)
+    (a : Action) : Type 0 where
+  inside : (done : List Place) (place : Place) (rest : List Place) (q : ℕ) → ps ≡ done ++ place ∷ rest →
+      slice_get (A place) q ≡ Some a → take p (flat_map A ps ++ tail) ≡ flat_map A done ++ take q (A place) →
+      Cut A ps tail p a
+  behind : (q : ℕ) → slice_get tail q ≡ Some a → take p (flat_map A ps ++ tail)
+      ≡ flat_map A ps ++ take q tail → Cut A ps tail p a
 
 -- what stands at a place of such a list stands in one part or behind all; and what stands before that
-pub cut-at : (A : Place → List Action) (ps : List Place) (tail : List Action) (p : ℕ) (a : Action) → slice_get (flat_map A ps ++ tail) p ≡ Some a → Cut A ps tail p a
+pub cut-at : (A : Place → List Action) (ps : List Place) (tail : List Action) (p : ℕ) (a : Action) →
+    slice_get (flat_map A ps ++ tail) p ≡ Some a → Cut A ps tail p a
 cut-at A [] tail p a h = Cut.behind p h refl
 cut-at A (x ∷ ps) tail p a h =
-    (let assoc : (A x ++ flat_map A ps) ++ tail ≡ A x ++ (flat_map A ps ++ tail) = append_assoc (A x) (flat_map A ps) tail in
+    (let assoc : (A x ++ flat_map A ps) ++ tail ≡ A x ++ (flat_map A ps ++ tail) =
+    append_assoc (A x) (flat_map A ps) tail in
     elim (split_get (A x) (flat_map A ps ++ tail) p a (ap (λ xs. slice_get xs p) (sym assoc) ∙ h)) [
-      | inl l ↦ Cut.inside [] x ps p refl l.1 (ap (take p) assoc ∙ take-append-le p (A x) (flat_map A ps ++ tail) (let e = l.0 in omega (arith, e)))
+      | inl l ↦ Cut.inside [] x ps p refl l.1 (ap (take p) assoc
+          ∙ take-append-le p (A x) (flat_map A ps ++ tail) (let e = l.0 in omega (arith, e)))
       | inr r ↦ (let n = p - length (A x) in
           let is : p ≡ length (A x) + n = (let e = r.0 in omega (arith, e)) in
-          let front : take p ((A x ++ flat_map A ps) ++ tail) ≡ A x ++ take n (flat_map A ps ++ tail) = ap (take p) assoc ∙ (ap (λ k. take k (A x ++ (flat_map A ps ++ tail))) is ∙ take-append-add (A x) (flat_map A ps ++ tail) n) in
+          let front : take p ((A x ++ flat_map A ps) ++ tail) ≡ A x ++ take n (flat_map A ps ++ tail) =
+          ap (take p) assoc ∙ (ap (λ k. take k (A x ++ (flat_map A ps ++ tail))) is
+          ∙ take-append-add (A x) (flat_map A ps ++ tail) n) in
           elim (cut-at A ps tail n a r.1) [
-            | Cut.inside done place rest q e at t ↦ Cut.inside (x ∷ done) place rest q (ap (λ l. x ∷ l) e) at (front ∙ (ap (λ l. A x ++ l) t ∙ sym (append_assoc (A x) (flat_map A done) (take q (A place)))))
-            | Cut.behind q at t ↦ Cut.behind q at (front ∙ (ap (λ l. A x ++ l) t ∙ sym (append_assoc (A x) (flat_map A ps) (take q tail))))
+            | Cut.inside done place rest q e at t ↦ Cut.inside (x ∷ done) place rest q
+                (ap (λ l. x ∷ l) e) at (front
+                ∙ (ap (λ l. A x ++ l) t ∙ sym (append_assoc (A x) (flat_map A done) (take q (A place)))))
+            | Cut.behind q at t ↦
+                Cut.behind q at (front
+                ∙ (ap (λ l. A x ++ l) t ∙ sym (append_assoc (A x) (flat_map A ps) (take q tail))))
           ])
     ])

@@ -60,11 +60,14 @@ use Rattle.job_laws.proofs.Tails.{IsTail, tail-list}
 -- ---- blocks that are set
 
 with_block-hit : (o t : ℕ) (block : List ℕ) (p : Held) → with_block o t block p o t ≡ Some block
-with_block-hit o t block p = cond_true ((o == o) && (t == t)) (Some block) (p o t) (and_from (o == o) (t == t) (eq-eqb o o refl) (eq-eqb t t refl))
+with_block-hit o t block p = cond_true ((o == o) && (t == t)) (Some block) (p o t)
+    (and_from (o == o) (t == t) (eq-eqb o o refl) (eq-eqb t t refl))
 
-with_block-cases : (o t : ℕ) (block : List ℕ) (p : Held) (i u : ℕ) → (with_block o t block p i u ≡ p i u) ⊎ ((i ≡ o) × (u ≡ t) × (with_block o t block p i u ≡ Some block))
+with_block-cases : (o t : ℕ) (block : List ℕ) (p : Held) (i u : ℕ) →
+    (with_block o t block p i u ≡ p i u) ⊎ ((i ≡ o) × (u ≡ t) × (with_block o t block p i u ≡ Some block))
 with_block-cases o t block p i u = elim (cases_Bool ((i == o) && (u == t))) [
-  | inl y ↦ (let b = and_parts (i == o) (u == t) y in inr (eqb-true i o b.0, eqb-true u t b.1, cond_true ((i == o) && (u == t)) (Some block) (p i u) y))
+  | inl y ↦ (let b = and_parts (i == o) (u == t) y in
+      inr (eqb-true i o b.0, eqb-true u t b.1, cond_true ((i == o) && (u == t)) (Some block) (p i u) y))
   | inr n ↦ inl (cond_false ((i == o) && (u == t)) (Some block) (p i u) n)
 ]
 
@@ -88,27 +91,43 @@ module _ (s : Setup) (name bytes : List ℕ) (subject id : ℕ) (pinned : List P
   range-none : (a : ℕ) (p : Held) → StoresRange a 0 p p
   range-none a p = record { stored = λ t l u. absurd (omega (arith, l, u)); others = λ o t n. refl }
 
-  range-more : (a n : ℕ) (p q : Held) → StoresRange (a + 1) n (with_block id a (block a) p) q → StoresRange a (suc n) p q
+  range-more : (a n : ℕ) (p q : Held) → StoresRange (a + 1) n (with_block id a (block a) p) q →
+      StoresRange a (suc n) p q
   range-more a n p q R = record {
     stored = λ t l u. elim (cases_eq t a) [
-      | inl e ↦ R.others id t (λ f. inl (omega (arith, e))) ∙ (ap (λ k. with_block id a (block a) p id k) e ∙ (with_block-hit id a (block a) p ∙ ap (λ k. Some (block k)) (sym e)))
+      | inl e ↦ R.others id t (λ f. inl (omega (arith, e)))
+          ∙ (ap (λ k. with_block id a (block a) p id k) e
+          ∙ (with_block-hit id a (block a) p ∙ ap (λ k. Some (block k)) (sym e)))
       | inr m ↦ R.stored t (omega (arith, l, m)) (omega (arith, u))
     ];
-    others = λ o t n. R.others o t (λ e. elim (n e) [ inl l ↦ inl (omega (arith, l)) | inr g ↦ inr (omega (arith, g)) ])
+    others = λ o t n. R.others o t
+        (λ e. elim (n e) [ inl l ↦ inl (omega (arith, l)) | inr g ↦ inr (omega (arith, g)) ])
         ∙ elim (with_block-cases id a (block a) p o t) [
           | inl same ↦ same
-          | inr hit ↦ absurd (elim (n hit.0) [ inl l ↦ (let e = hit.1 in omega (arith, l, e)) | inr g ↦ (let e = hit.1 in omega (arith, g, e)) ])
+          | inr hit ↦ absurd (elim (n hit.0) [
+            | inl l ↦ (let e = hit.1 in omega (arith, l, e))
+            | inr g ↦
+                (let e = hit.1 in omega (arith, g, e))
+          ])
         ];
   }
 
-  stores-go : (n a : ℕ) (old new : ℕ → Provider) (given now : List Given) → j < s.n → Made x (flat_map stripe_stores (range_with_len a n)) old new given now → Goes (StoresRange a n) (old j).held (new j).held
-  stores-go zero a old new given now below m = subst (λ (f : ℕ → Provider). Goes (StoresRange a 0) (old j).held (f j).held) (sym m.0) (goes-same (StoresRange a 0) (range-none a) (old j).held)
+  stores-go : (n a : ℕ) (old new : ℕ → Provider) (given now : List Given) → j < s.n →
+      Made x (flat_map stripe_stores (range_with_len a n)) old new given now →
+      Goes (StoresRange a n) (old j).held (new j).held
+  stores-go zero a old new given now below m = subst
+      (λ (f : ℕ → Provider). Goes (StoresRange a 0) (old j).held (f j).held) (sym m.0)
+      (goes-same (StoresRange a 0) (range-none a) (old j).held)
   stores-go (suc n) a old new given now below m =
-      (let p = made-split x (stripe_stores a) (flat_map stripe_stores (range_with_len (a + 1) n)) old new given now m in
-      let one = row-hit x (λ k. Store k id a) (λ k. Stores id a (columns (object_of s id) bytes k a)) (λ k b c g h did. did.0) j 0 s.n old p.0 given p.1 (omega arith) (omega (arith, below)) p.2 in
+      (let p = made-split x (stripe_stores a) (flat_map stripe_stores (range_with_len (a + 1) n)) old new
+      given now m in
+      let one = row-hit x (λ k. Store k id a) (λ k. Stores id a (columns (object_of s id) bytes k a))
+      (λ k b c g h did. did.0) j 0 s.n old p.0 given p.1 (omega arith) (omega (arith, below)) p.2 in
       goes-more (λ h k. k ≡ with_block id a (block a) h) (StoresRange (a + 1) n) (StoresRange a (suc n))
-      (λ h k r e R. range-more a n h r (subst (λ z. StoresRange (a + 1) n z r) e R)) (old j).held (p.0 j).held (new j).held
-      (goes-map (λ h k. k ≡ with_block id a (block a) h) (with_block id a (block a)) (λ h. refl) (old j).held (p.0 j).held one.held)
+      (λ h k r e R. range-more a n h r (subst (λ z. StoresRange (a + 1) n z r) e R)) (old j).held (p.0 j).held
+      (new j).held
+      (goes-map (λ h k. k ≡ with_block id a (block a) h) (with_block id a (block a)) (λ h. refl) (old j).held
+      (p.0 j).held one.held)
       (stores-go n (a + 1) p.0 new p.1 now below p.3))
 
   -- ---- some of them
@@ -131,26 +150,39 @@ module _ (s : Setup) (name bytes : List ℕ) (subject id : ℕ) (pinned : List P
 
   partly-more : (p q r : Held) → Partly p q → Partly q r → Partly p r
   partly-more p q r a b = record {
-    stored = λ t. elim (b.stored t) [ inl same ↦ elim (a.stored t) [ inl still ↦ inl (same ∙ still) | inr set ↦ inr (same ∙ set) ] | inr set ↦ inr set ];
+    stored = λ t. elim (b.stored t) [
+      | inl same ↦ elim (a.stored t) [ inl still ↦ inl (same ∙ still) | inr set ↦ inr (same ∙ set) ]
+      | inr
+          set ↦ inr set
+    ];
     others = λ o t n. b.others o t n ∙ a.others o t n;
   }
 
   partly-store : (t : ℕ) (p : Held) → Partly p (with_block id t (block t) p)
   partly-store t p = record {
-    stored = λ u. elim (with_block-cases id t (block t) p id u) [ inl same ↦ inl same | inr hit ↦ inr (hit.2 ∙ ap (λ k. Some (block k)) (sym hit.1)) ];
-    others = λ o u n. elim (with_block-cases id t (block t) p o u) [ inl same ↦ same | inr hit ↦ absurd (n hit.0) ];
+    stored = λ u. elim (with_block-cases id t (block t) p id u)
+        [ inl same ↦ inl same | inr hit ↦ inr (hit.2 ∙ ap (λ k. Some (block k)) (sym hit.1)) ];
+    others = λ o u n. elim (with_block-cases id t (block t) p o u)
+        [ inl same ↦ same | inr hit ↦ absurd (n hit.0) ];
   }
 
-  partly-goes : (xs : List Action) (old new : ℕ → Provider) (given now : List Given) → Each IsStoring xs → Made x xs old new given now → Goes Partly (old j).held (new j).held
-  partly-goes xs old new given now e m = made-keeps x j (λ p q. Goes Partly p.held q.held) IsStoring (λ p. goes-same Partly partly-same p.held)
-      (λ p q r a b. goes-more Partly Partly Partly partly-more p.held q.held r.held a b) one xs old new given now e m
+  partly-goes : (xs : List Action) (old new : ℕ → Provider) (given now : List Given) → Each IsStoring xs →
+      Made x xs old new given now → Goes Partly (old j).held (new j).held
+  partly-goes xs old new given now e m =
+      made-keeps x j (λ p q. Goes Partly p.held q.held) IsStoring (λ p. goes-same Partly partly-same p.held)
+      (λ p q r a b. goes-more Partly Partly Partly partly-more p.held q.held r.held a b) one xs old new given
+      now e m
     where
-      stored : (k o t : ℕ) (p q : Provider) → j ≡ k → o ≡ id → Stores o t (columns (object_of s o) bytes k t) p q → Goes Partly p.held q.held
+      stored : (k o t : ℕ) (p q : Provider) → j ≡ k → o ≡ id →
+          Stores o t (columns (object_of s o) bytes k t) p q → Goes Partly p.held q.held
       stored k o t p q at is c = goes-map Partly (with_block id t (block t)) (partly-store t) p.held q.held
-          (subst (λ i. q.held ≡ option_map (with_block id t (columns (object_of s id) bytes i t)) p.held) (sym at)
-          (subst (λ i. q.held ≡ option_map (with_block i t (columns (object_of s i) bytes k t)) p.held) is c.held))
+          (subst (λ i. q.held ≡ option_map (with_block id t (columns (object_of s id) bytes i t)) p.held)
+          (sym at)
+          (subst (λ i. q.held ≡ option_map (with_block i t (columns (object_of s i) bytes k t)) p.held) is
+          c.held))
 
-      one : (a : Action) (given now : List Given) (p q : Provider) → IsStoring a → Called x a given now j p q → Goes Partly p.held q.held
+      one : (a : Action) (given now : List Given) (p q : Provider) → IsStoring a →
+          Called x a given now j p q → Goes Partly p.held q.held
       one (Store k o t) given now p q u (e, c, is) = stored k o t p q e u c
       one (Remove k o) given now p q u c = absurd u
       one (Fetch k o t) given now p q u c = absurd u
@@ -165,18 +197,25 @@ module _ (s : Setup) (name bytes : List ℕ) (subject id : ℕ) (pinned : List P
 -- ---- a file that is stored whole, and an older one taken away
 
 module _ (s : Setup) (name bytes : List ℕ) (subject id count : ℕ) (pinned : List Pinned) (j : ℕ) where
-  whole-none : (rose : Type 0) (p q r : Held) → count ≡ stripes (object_of s id) (length bytes) → StoresRange s name bytes subject id pinned j 0 count p q → r ≡ q → StoredOn (object_of s id) bytes None rose j p r
+  whole-none : (rose : Type 0) (p q r : Held) → count ≡ stripes (object_of s id) (length bytes) →
+      StoresRange s name bytes subject id pinned j 0 count p q → r ≡ q →
+      StoredOn (object_of s id) bytes None rose j p r
   whole-none rose p q r size R same = record {
     stored = λ t l. ap (λ (h : Held). h id t) same ∙ R.stored t (omega arith) (omega (arith, l, size));
     removed = tt;
-    others = λ o t n. ap (λ (h : Held). h o t) same ∙ R.others o t (λ e. inr (let l = n.stored e in omega (arith, l, size)));
+    others = λ o t n. ap (λ (h : Held). h o t) same
+        ∙ R.others o t (λ e. inr (let l = n.stored e in omega (arith, l, size)));
   }
 
-  whole-some : (rose : Type 0) (f : File) (p q r : Held) → count ≡ stripes (object_of s id) (length bytes) → (f.id ≡ id → ⊥) → StoresRange s name bytes subject id pinned j 0 count p q → DroppedFrom f.id rose q r → StoredOn (object_of s id) bytes (Some f) rose j p r
+  whole-some : (rose : Type 0) (f : File) (p q r : Held) → count ≡ stripes (object_of s id) (length bytes) →
+      (f.id ≡ id → ⊥) → StoresRange s name bytes subject id pinned j 0 count p q → DroppedFrom f.id rose q r →
+      StoredOn (object_of s id) bytes (Some f) rose j p r
   whole-some rose f p q r size apart R D = record {
     stored = λ t l. D.others id t (λ e. apart (sym e)) ∙ R.stored t (omega arith) (omega (arith, l, size));
-    removed = λ t. elim (D.gone t) [ inl none ↦ inl none | inr same ↦ inr (same.0, same.1 ∙ R.others f.id t (λ e. absurd (apart e))) ];
-    others = λ o t n. D.others o t n.removed ∙ R.others o t (λ e. inr (let l = n.stored e in omega (arith, l, size)));
+    removed = λ t. elim (D.gone t)
+        [ inl none ↦ inl none | inr same ↦ inr (same.0, same.1 ∙ R.others f.id t (λ e. absurd (apart e))) ];
+    others = λ o t n. D.others o t n.removed
+        ∙ R.others o t (λ e. inr (let l = n.stored e in omega (arith, l, size)));
   }
 
 -- ---- the list of a put
@@ -195,7 +234,8 @@ none-stored s job = (
       (
         tt,
         each_append NoStore (remove_actions s job) (End ∷ [])
-            (each_flat NoStore (λ object. on_each_provider s (λ k. Remove k object)) job.older (λ object. each_map NoStore (λ k. Remove k object) (upto s.n) (λ k. tt))) (tt, tt),
+            (each_flat NoStore (λ object. on_each_provider s (λ k. Remove k object)) job.older
+            (λ object. each_map NoStore (λ k. Remove k object) (upto s.n) (λ k. tt))) (tt, tt),
       ),
     ),
   ),
@@ -205,11 +245,14 @@ none-stored s job = (
 abbrev put_front : Setup → Job → List ℕ → List Action
 put_front s job bytes = append_actions ++ (store_actions s job bytes ++ append_actions)
 
-put-parts : (s : Setup) (job : Job) (name bytes : List ℕ) → job.kind ≡ PutJob name bytes → actions_of s job ≡ put_front s job bytes ++ (remove_actions s job ++ End ∷ [])
+put-parts : (s : Setup) (job : Job) (name bytes : List ℕ) → job.kind ≡ PutJob name bytes →
+    actions_of s job ≡ put_front s job bytes ++ (remove_actions s job ++ End ∷ [])
 put-parts s job name bytes kind = put-list s job name bytes kind
-    ∙ ap (λ ys. append_actions ++ ys) (sym (append_assoc (store_actions s job bytes) append_actions (remove_actions s job ++ End ∷ [])))
+    ∙ ap (λ ys. append_actions ++ ys)
+    (sym (append_assoc (store_actions s job bytes) append_actions (remove_actions s job ++ End ∷ [])))
 
-writing-put : (s : Setup) (job : Job) (name bytes : List ℕ) → job.kind ≡ PutJob name bytes → Each IsWriting (actions_of s job)
+writing-put : (s : Setup) (job : Job) (name bytes : List ℕ) → job.kind ≡ PutJob name bytes →
+    Each IsWriting (actions_of s job)
 writing-put s job name bytes kind = subst (Each IsWriting) (sym (put-list s job name bytes kind)) (
   tt,
   (
@@ -219,7 +262,9 @@ writing-put s job name bytes kind = subst (Each IsWriting) (sym (put-list s job 
       (
         tt,
         each_append IsWriting (store_actions s job bytes) _
-            (each_flat IsWriting (λ t. on_each_provider s (λ k. Store k job.subject t)) (upto (stripes_of (profiled s job.profile) (length bytes))) (λ t. each_map IsWriting (λ k. Store k job.subject t) (upto s.n) (λ k. tt))) (
+            (each_flat IsWriting (λ t. on_each_provider s (λ k. Store k job.subject t))
+            (upto (stripes_of (profiled s job.profile) (length bytes)))
+            (λ t. each_map IsWriting (λ k. Store k job.subject t) (upto s.n) (λ k. tt))) (
               tt,
               (
                 tt,
@@ -228,7 +273,9 @@ writing-put s job name bytes kind = subst (Each IsWriting) (sym (put-list s job 
                   (
                     tt,
                     each_append IsWriting (remove_actions s job) (End ∷ [])
-                        (each_flat IsWriting (λ object. on_each_provider s (λ k. Remove k object)) job.older (λ object. each_map IsWriting (λ k. Remove k object) (upto s.n) (λ k. tt))) (tt, tt),
+                        (each_flat IsWriting (λ object. on_each_provider s (λ k. Remove k object)) job.older
+                        (λ object. each_map IsWriting (λ k. Remove k object) (upto s.n) (λ k. tt)))
+                        (tt, tt),
                   ),
                 ),
               ),
@@ -239,23 +286,32 @@ writing-put s job name bytes kind = subst (Each IsWriting) (sym (put-list s job 
 )
 
 -- a store stands behind the first append, and before the second
-store-place : (s : Setup) (job : Job) (bytes : List ℕ) (p k o t : ℕ) → slice_get (append_actions ++ put_rest s job bytes) p ≡ Some (Store k o t) → (4 ≤ p) × (0 < appends_in (drop p (append_actions ++ put_rest s job bytes)))
+store-place : (s : Setup) (job : Job) (bytes : List ℕ) (p k o t : ℕ) →
+    slice_get (append_actions ++ put_rest s job bytes) p ≡ Some (Store k o t) →
+    (4 ≤ p) × (0 < appends_in (drop p (append_actions ++ put_rest s job bytes)))
 store-place s job bytes zero k o t h = absurd (let e : Some WriteBody ≡ Some (Store k o t) = h in cc)
 store-place s job bytes (suc zero) k o t h = absurd (let e : Some SyncBody ≡ Some (Store k o t) = h in cc)
-store-place s job bytes (suc (suc zero)) k o t h = absurd (let e : Some WriteGate ≡ Some (Store k o t) = h in cc)
-store-place s job bytes (suc (suc (suc zero))) k o t h = absurd (let e : Some SyncGate ≡ Some (Store k o t) = h in cc)
+store-place s job bytes (suc (suc zero)) k o t h =
+    absurd (let e : Some WriteGate ≡ Some (Store k o t) = h in cc)
+store-place s job bytes (suc (suc (suc zero))) k o t h =
+    absurd (let e : Some SyncGate ≡ Some (Store k o t) = h in cc)
 store-place s job bytes (suc (suc (suc (suc q)))) k o t h = (
   omega arith,
-  elim (split_get (store_actions s job bytes) (append_actions ++ (remove_actions s job ++ End ∷ [])) q (Store k o t) h) [
-    | inl a ↦ left-within (store_actions s job bytes) (append_actions ++ (remove_actions s job ++ End ∷ [])) q a.0
-        (let e = appends-append append_actions (remove_actions s job ++ End ∷ []) in let f : appends_in append_actions ≡ 1 = refl in omega (arith, e, f))
-    | inr b ↦ absurd (each_get NoStore (append_actions ++ (remove_actions s job ++ End ∷ [])) (q - length (store_actions s job bytes)) (Store k o t) (none-stored s job) b.1)
-  ],
+  elim (split_get (store_actions s job bytes) (append_actions ++ (remove_actions s job ++ End ∷ [])) q
+      (Store k o t) h) [
+        | inl a ↦ left-within (store_actions s job bytes)
+            (append_actions ++ (remove_actions s job ++ End ∷ [])) q a.0
+            (let e = appends-append append_actions (remove_actions s job ++ End ∷ []) in let f : appends_in
+            append_actions ≡ 1 = refl in omega (arith, e, f))
+        | inr b ↦ absurd (each_get NoStore (append_actions ++ (remove_actions s job ++ End ∷ []))
+            (q - length (store_actions s job bytes)) (Store k o t) (none-stored s job) b.1)
+      ],
 )
 
 -- ---- the put
 
-module _ (start new : State) (name bytes : List ℕ) (how : Answer) (heard : List Entry) (O : IsOpenAtRest start 1) (E : Ends start (PutJob name bytes) how heard new) where
+module _ (start new : State) (name bytes : List ℕ) (how : Answer) (heard : List Entry)
+    (O : IsOpenAtRest start 1) (E : Ends start (PutJob name bytes) how heard new) where
   abbrev s : Setup
   s = setup_in start
 
@@ -269,7 +325,8 @@ module _ (start new : State) (name bytes : List ℕ) (how : Answer) (heard : Lis
   ran = ran_from start new heard
 
   -- the stripes are those of the setup's profile
-  count-same : stripes_of (profiled (setup_in start) E.job.profile) (length bytes) ≡ stripes (object_of (setup_in start) (next_id start.records)) (length bytes)
+  count-same : stripes_of (profiled (setup_in start) E.job.profile) (length bytes)
+      ≡ stripes (object_of (setup_in start) (next_id start.records)) (length bytes)
   count-same = ap (λ p. stripes_of (profiled (setup_in start) p) (length bytes)) E.walked.profile_is
 
   nothing-heard : heard ≡ []
@@ -279,17 +336,21 @@ module _ (start new : State) (name bytes : List ℕ) (how : Answer) (heard : Lis
   L = last-call E.before E.job new E.action how E.acts
 
   same-left : appends_left (setup_in start) E.job ≡ appends_left (setup_in E.before) E.job
-  same-left = left-start start O (PutJob name bytes) E.before E.job E.walked (appends_left (setup_in E.before) E.job) refl
+  same-left = left-start start O (PutJob name bytes) E.before E.job E.walked
+      (appends_left (setup_in E.before) E.job) refl
 
-  listed : (action : Action) → E.action ≡ action → (action ≡ End → ⊥) → slice_get (actions_of (setup_in start) E.job) E.job.place ≡ Some action
-  listed action at n = subst (λ (t : Setup). slice_get (actions_of t E.job) E.job.place ≡ Some action) E.walked.setup (next_stands E.before E.job action (E.next ∙ ap Some at) n)
+  listed : (action : Action) → E.action ≡ action → (action ≡ End → ⊥) →
+      slice_get (actions_of (setup_in start) E.job) E.job.place ≡ Some action
+  listed action at n = subst (λ (t : Setup). slice_get (actions_of t E.job) E.job.place ≡ Some action)
+      E.walked.setup (next_stands E.before E.job action (E.next ∙ ap Some at) n)
 
   -- ---- a put that was cut off
 
   subject-is : 1 ≤ E.job.place → E.job.subject ≡ next_id start.records
   subject-is l = E.walked.subject l
 
-  storing-front : Each (IsStoring (setup_in start) name bytes E.job.subject E.job.subject [] 0) (put_front (setup_in start) E.job bytes)
+  storing-front : Each (IsStoring (setup_in start) name bytes E.job.subject E.job.subject [] 0)
+      (put_front (setup_in start) E.job bytes)
   storing-front = (
     tt,
     (
@@ -298,57 +359,101 @@ module _ (start new : State) (name bytes : List ℕ) (how : Answer) (heard : Lis
         tt,
         (
           tt,
-          each_append (IsStoring (setup_in start) name bytes E.job.subject E.job.subject [] 0) (store_actions (setup_in start) E.job bytes) append_actions
-              (each_flat (IsStoring (setup_in start) name bytes E.job.subject E.job.subject [] 0) (λ t. on_each_provider (setup_in start) (λ k. Store k E.job.subject t)) (upto (stripes_of (profiled (setup_in start) E.job.profile) (length bytes)))
-              (λ t. each_map (IsStoring (setup_in start) name bytes E.job.subject E.job.subject [] 0) (λ k. Store k E.job.subject t) (upto (setup_in start).n) (λ k. refl))) (tt, (tt, (tt, (tt, tt)))),
+          each_append (IsStoring (setup_in start) name bytes E.job.subject E.job.subject [] 0)
+              (store_actions (setup_in start) E.job bytes) append_actions
+              (each_flat (IsStoring (setup_in start) name bytes E.job.subject E.job.subject [] 0)
+              (λ t. on_each_provider (setup_in start) (λ k. Store k E.job.subject t))
+              (upto (stripes_of (profiled (setup_in start) E.job.profile) (length bytes)))
+              (λ t. each_map (IsStoring (setup_in start) name bytes E.job.subject E.job.subject [] 0)
+              (λ k. Store k E.job.subject t) (upto (setup_in start).n) (λ k. refl)))
+              (tt, (tt, (tt, (tt, tt)))),
         ),
       ),
     ),
   )
 
-  storing-taken : (action : Action) → E.action ≡ action → (action ≡ End → ⊥) → (IsTail action → ⊥) → Each (IsStoring (setup_in start) name bytes E.job.subject (next_id start.records) [] 0) (take E.job.place (actions_of (setup_in start) E.job))
+  storing-taken : (action : Action) → E.action ≡ action → (action ≡ End → ⊥) → (IsTail action → ⊥) →
+      Each (IsStoring (setup_in start) name bytes E.job.subject (next_id start.records) [] 0)
+      (take E.job.place (actions_of (setup_in start) E.job))
   storing-taken action at n m = elim (cases_eq E.job.place 0) [
-    | inl first ↦ subst (λ p. Each (IsStoring (setup_in start) name bytes E.job.subject (next_id start.records) [] 0) (take p (actions_of (setup_in start) E.job))) (sym first) tt
-    | inr later ↦ subst (λ i. Each (IsStoring (setup_in start) name bytes E.job.subject i [] 0) (take E.job.place (actions_of (setup_in start) E.job))) (subject-is (omega (arith, later)))
-        (subst (λ xs. Each (IsStoring (setup_in start) name bytes E.job.subject E.job.subject [] 0) (take E.job.place xs)) (sym (put-parts (setup_in start) E.job name bytes E.walked.kind_is)) front)
+    | inl first ↦ subst (λ p. Each
+        (IsStoring (setup_in start) name bytes E.job.subject (next_id start.records) [] 0)
+        (take p (actions_of (setup_in start) E.job))) (sym first) tt
+    | inr later ↦ subst (λ i. Each (IsStoring (setup_in start) name bytes E.job.subject i [] 0)
+        (take E.job.place (actions_of (setup_in start) E.job))) (subject-is (omega (arith, later)))
+        (subst (λ xs. Each (IsStoring (setup_in start) name bytes E.job.subject E.job.subject [] 0)
+        (take E.job.place xs)) (sym (put-parts (setup_in start) E.job name bytes E.walked.kind_is)) front)
   ]
     where
-      front : Each (IsStoring (setup_in start) name bytes E.job.subject E.job.subject [] 0) (take E.job.place (put_front (setup_in start) E.job bytes ++ (remove_actions (setup_in start) E.job ++ End ∷ [])))
-      front = elim (split_get (put_front (setup_in start) E.job bytes) (remove_actions (setup_in start) E.job ++ End ∷ []) E.job.place action
-          (ap (λ xs. slice_get xs E.job.place) (sym (put-parts (setup_in start) E.job name bytes E.walked.kind_is)) ∙ listed action at n)) [
+      front : Each (IsStoring (setup_in start) name bytes E.job.subject E.job.subject [] 0)
+          (take E.job.place (put_front (setup_in start) E.job
+          bytes ++ (remove_actions (setup_in start) E.job ++ End ∷ [])))
+      front = elim (split_get (put_front (setup_in start) E.job bytes)
+          (remove_actions (setup_in start) E.job ++ End ∷ []) E.job.place action
+          (ap (λ xs. slice_get xs E.job.place)
+          (sym (put-parts (setup_in start) E.job name bytes E.walked.kind_is)) ∙ listed action at n)) [
             | inl a ↦ subst (Each (IsStoring (setup_in start) name bytes E.job.subject E.job.subject [] 0))
-                (sym (take-within (put_front (setup_in start) E.job bytes) (remove_actions (setup_in start) E.job ++ End ∷ []) E.job.place (let l = a.0 in omega (arith, l))))
-                (each_take (IsStoring (setup_in start) name bytes E.job.subject E.job.subject [] 0) (put_front (setup_in start) E.job bytes) E.job.place storing-front)
-            | inr b ↦ absurd (m (each_get IsTail (remove_actions (setup_in start) E.job ++ End ∷ []) (E.job.place - length (put_front (setup_in start) E.job bytes)) action (tail-list (setup_in start) E.job) b.1))
+                (sym (take-within (put_front (setup_in start) E.job bytes)
+                (remove_actions (setup_in start) E.job ++ End ∷ []) E.job.place
+                (let l = a.0 in omega (arith, l))))
+                (each_take (IsStoring (setup_in start) name bytes E.job.subject E.job.subject [] 0)
+                (put_front (setup_in start) E.job bytes) E.job.place storing-front)
+            | inr b ↦ absurd (m (each_get IsTail (remove_actions (setup_in start) E.job ++ End ∷ [])
+                (E.job.place - length (put_front (setup_in start) E.job bytes)) action
+                (tail-list (setup_in start) E.job) b.1))
           ]
 
-  stores-part : (action : Action) → E.action ≡ action → (action ≡ End → ⊥) → (IsTail action → ⊥) → StoresPart ran bytes
+  stores-part : (action : Action) → E.action ≡ action → (action ≡ End → ⊥) → (IsTail action → ⊥) →
+      StoresPart ran bytes
   unfolding setup_in
-  stores-part action at n m = λ j l. subst (λ h. Goes (PartlyStored (object_of (setup_in start) (next_id start.records)) bytes j) (start.providers j).held h) (sym (last-keeps E.action E.before new j L.0).0)
-      (partly-goes (setup_in start) name bytes E.job.subject (next_id start.records) [] j (take E.job.place (actions_of (setup_in start) E.job)) start.providers E.before.providers [] E.job.given (storing-taken action at n m) E.walked.made)
+  stores-part action at n m =
+      λ j l. subst (λ h. Goes (PartlyStored (object_of (setup_in start) (next_id start.records)) bytes j)
+      (start.providers j).held h) (sym (last-keeps E.action E.before new j L.0).0)
+      (partly-goes (setup_in start) name bytes E.job.subject (next_id start.records) [] j
+      (take E.job.place (actions_of (setup_in start) E.job)) start.providers E.before.providers
+      [] E.job.given (storing-taken action at n m) E.walked.made)
 
   -- where the records stand, of a put with an append left
   data Stand : Type 0 where
     at_first : appends_left (setup_in E.before) E.job ≡ 2 → E.before.records ≡ start.records → Stand
-    at_second : appends_left (setup_in E.before) E.job ≡ 1 → E.before.records ≡ PutStart (next_id start.records) name ∷ start.records → Stand
+    at_second : appends_left (setup_in E.before) E.job ≡ 1 →
+        E.before.records ≡ PutStart (next_id start.records) name ∷ start.records → Stand
 
   stands : 0 < appends_left (setup_in E.before) E.job → Stand
   stands left = by_records E.before.records refl E.walked.records
     where
-      by_records : (rs : List Record) → E.before.records ≡ rs → RecordsAre start (PutJob name bytes) E.job rs → Stand
+      by_records : (rs : List Record) → E.before.records ≡ rs →
+          RecordsAre start (PutJob name bytes) E.job rs → Stand
       by_records rs e (RecordsAre.none l is) = Stand.at_first (sym same-left ∙ l) (e ∙ is)
-      by_records rs e (RecordsAre.one l is) = Stand.at_second (let same = same-left in omega (arith, l, same)) (e ∙ is)
-      by_records rs e (RecordsAre.two entry l sec is) = absurd (let same = same-left in omega (arith, l, same, left))
+      by_records rs e (RecordsAre.one l is) =
+          Stand.at_second (let same = same-left in omega (arith, l, same)) (e ∙ is)
+      by_records rs e (RecordsAre.two entry l sec is) =
+          absurd (let same = same-left in omega (arith, l, same, left))
 
   abbrev Doubtful : Option Doubt → Type 0
   Doubtful doubt = (done : List Record) × (next : Record) × (rest : List Record)
-      × (put_records start.records name (length bytes) ≡ done ++ next ∷ rest) × (E.before.records ≡ reverse done ++ start.records)
+      × (put_records start.records name (length bytes) ≡ done ++ next ∷ rest) ×
+      (E.before.records ≡ reverse done ++ start.records)
       × (option_map (λ (d : Doubt). d.entry) doubt ≡ None)
 
   cut-at : (doubt : Option Doubt) → 0 < appends_left (setup_in E.before) E.job → doubt ≡ None → Doubtful doubt
   cut-at doubt left none = elim (stands left) [
-    | Stand.at_first l is ↦ ([], PutStart (next_id start.records) name, PutDone (next_id start.records) (length bytes) ∷ [], refl, is, ap (option_map (λ (d : Doubt). d.entry)) none)
-    | Stand.at_second l is ↦ (PutStart (next_id start.records) name ∷ [], PutDone (next_id start.records) (length bytes), [], refl, is, ap (option_map (λ (d : Doubt). d.entry)) none)
+    | Stand.at_first l is ↦ (
+      [],
+      PutStart (next_id start.records) name,
+      PutDone (next_id start.records) (length bytes) ∷ [],
+      refl,
+      is,
+      ap (option_map (λ (d : Doubt). d.entry)) none,
+    )
+    | Stand.at_second l is ↦ (
+      PutStart (next_id start.records) name ∷ [],
+      PutDone (next_id start.records) (length bytes),
+      [],
+      refl,
+      is,
+      ap (option_map (λ (d : Doubt). d.entry)) none,
+    )
   ]
 
   abbrev Gives : Answer → Type 0
@@ -357,85 +462,138 @@ module _ (start new : State) (name bytes : List ℕ) (how : Answer) (heard : Lis
   -- ---- a move of an append that failed
 
   unmoved-stores : Each IsUnmoved (store_actions (setup_in start) E.job bytes)
-  unmoved-stores = each_flat IsUnmoved (λ t. on_each_provider (setup_in start) (λ k. Store k E.job.subject t)) (upto (stripes_of (profiled (setup_in start) E.job.profile) (length bytes)))
+  unmoved-stores = each_flat IsUnmoved (λ t. on_each_provider (setup_in start) (λ k. Store k E.job.subject t))
+      (upto (stripes_of (profiled (setup_in start) E.job.profile) (length bytes)))
       (λ t. each_map IsUnmoved (λ k. Store k E.job.subject t) (upto (setup_in start).n) (λ k. (λ m. m)))
 
   unmoved-tail : Each IsUnmoved (remove_actions (setup_in start) E.job ++ End ∷ [])
   unmoved-tail = each_append IsUnmoved (remove_actions (setup_in start) E.job) (End ∷ [])
-      (each_flat IsUnmoved (λ object. on_each_provider (setup_in start) (λ k. Remove k object)) E.job.older (λ object. each_map IsUnmoved (λ k. Remove k object) (upto (setup_in start).n) (λ k. (λ m. m)))) ((λ m. m), tt)
+      (each_flat IsUnmoved (λ object. on_each_provider (setup_in start) (λ k. Remove k object)) E.job.older
+      (λ object. each_map IsUnmoved (λ k. Remove k object) (upto (setup_in start).n) (λ k. (λ m. m))))
+      ((λ m. m), tt)
 
   module _ (action : Action) (at : E.action ≡ action) (n : action ≡ End → ⊥) (move : IsMove action) where
-    list : actions_of (setup_in start) E.job ≡ append_actions ++ (store_actions (setup_in start) E.job bytes ++ (append_actions ++ (remove_actions (setup_in start) E.job ++ End ∷ [])))
+    list : actions_of (setup_in start) E.job
+        ≡ append_actions ++ (store_actions (setup_in start) E.job
+        bytes ++ (append_actions ++ (remove_actions (setup_in start) E.job ++ End ∷ [])))
     list = put-list (setup_in start) E.job name bytes E.walked.kind_is
 
-    here : slice_get (append_actions ++ (store_actions (setup_in start) E.job bytes ++ (append_actions ++ (remove_actions (setup_in start) E.job ++ End ∷ [])))) E.job.place ≡ Some action
+    here : slice_get (append_actions ++ (store_actions
+        (setup_in start) E.job
+        bytes ++ (append_actions ++ (remove_actions (setup_in start) E.job ++ End ∷ [])))) E.job.place
+        ≡ Some action
     here = ap (λ xs. slice_get xs E.job.place) (sym list) ∙ listed action at n
 
-    made-so-far : Made put_with (take E.job.place (append_actions ++ (store_actions (setup_in start) E.job bytes ++ (append_actions ++ (remove_actions (setup_in start) E.job ++ End ∷ []))))) start.providers E.before.providers [] E.job.given
-    made-so-far = subst (λ xs. Made put_with (take E.job.place xs) start.providers E.before.providers [] E.job.given) list E.walked.made
+    made-so-far : Made put_with
+        (take E.job.place (append_actions ++ (store_actions
+        (setup_in start) E.job
+        bytes ++ (append_actions ++ (remove_actions (setup_in start) E.job ++ End ∷ [])))))
+        start.providers E.before.providers [] E.job.given
+    made-so-far = subst (λ xs. Made put_with (take E.job.place xs) start.providers E.before.providers
+        [] E.job.given) list E.walked.made
 
     untouched : appends_left (setup_in E.before) E.job ≡ 2 → E.before.providers ≡ start.providers
     untouched two = elim (cases_lt E.job.place 4) [
-      | inl l ↦ (moved-first put_with (store_actions (setup_in start) E.job bytes) (remove_actions (setup_in start) E.job ++ End ∷ []) E.job.place action move unmoved-stores unmoved-tail start.providers E.before.providers E.job.given here made-so-far l).0
-      | inr l ↦ absurd (let c = put-later (setup_in E.before) E.job name bytes E.walked.kind_is l in omega (arith, c, two))
+      | inl l ↦ (moved-first put_with (store_actions (setup_in start) E.job bytes)
+          (remove_actions (setup_in start) E.job ++ End ∷ []) E.job.place action move unmoved-stores
+          unmoved-tail start.providers E.before.providers E.job.given here made-so-far l).0
+      | inr l ↦ absurd (let c = put-later (setup_in E.before) E.job name bytes E.walked.kind_is l in
+          omega (arith, c, two))
     ]
 
     second : appends_left (setup_in E.before) E.job ≡ 1 → 4 ≤ E.job.place
     second one = elim (cases_lt E.job.place 4) [
-      | inl l ↦ absurd (let c = put-first (setup_in E.before) E.job name bytes E.walked.kind_is l in omega (arith, c, one))
+      | inl l ↦ absurd (let c = put-first (setup_in E.before) E.job name bytes E.walked.kind_is l in
+          omega (arith, c, one))
       | inr l ↦ l
     ]
 
-    stores-made : 4 ≤ E.job.place → Made put_with (store_actions (setup_in start) E.job bytes) start.providers E.before.providers [] E.job.given
-    stores-made l = moved-second put_with (store_actions (setup_in start) E.job bytes) (remove_actions (setup_in start) E.job ++ End ∷ []) E.job.place action move unmoved-stores unmoved-tail start.providers E.before.providers E.job.given here made-so-far l
+    stores-made : 4 ≤ E.job.place →
+        Made put_with (store_actions (setup_in start) E.job bytes) start.providers E.before.providers
+        [] E.job.given
+    stores-made l = moved-second put_with (store_actions (setup_in start) E.job bytes)
+        (remove_actions (setup_in start) E.job ++ End ∷ []) E.job.place action move unmoved-stores
+        unmoved-tail start.providers E.before.providers E.job.given here made-so-far l
 
-    all-goes : 4 ≤ E.job.place → (j : ℕ) → j < (setup_in start).n → Goes (StoredOn (object_of (setup_in start) (next_id start.records)) bytes None ⊥ j) (start.providers j).held (E.before.providers j).held
-    all-goes l j below = goes-mono (StoresRange (setup_in start) name bytes E.job.subject (next_id start.records) [] j 0 (stripes_of (profiled (setup_in start) E.job.profile) (length bytes))) (StoredOn (object_of (setup_in start) (next_id start.records)) bytes None ⊥ j)
-        (λ h k R. whole-none (setup_in start) name bytes E.job.subject (next_id start.records) (stripes_of (profiled (setup_in start) E.job.profile) (length bytes)) [] j ⊥ h k k count-same R refl) (start.providers j).held (E.before.providers j).held
-        (stores-go (setup_in start) name bytes E.job.subject (next_id start.records) [] j (stripes_of (profiled (setup_in start) E.job.profile) (length bytes)) 0 start.providers E.before.providers [] E.job.given below
-        (subst (λ i. Made put_with (flat_map (λ t. on_each_provider (setup_in start) (λ k. Store k i t)) (upto (stripes_of (profiled (setup_in start) E.job.profile) (length bytes)))) start.providers E.before.providers [] E.job.given) (subject-is (omega (arith, l))) (stores-made l)))
+    all-goes : 4 ≤ E.job.place → (j : ℕ) → j < (setup_in start).n →
+        Goes (StoredOn (object_of (setup_in start) (next_id start.records)) bytes None ⊥ j)
+        (start.providers j).held (E.before.providers j).held
+    all-goes l j below = goes-mono
+        (StoresRange (setup_in start) name bytes E.job.subject (next_id start.records) [] j 0
+        (stripes_of (profiled (setup_in start) E.job.profile) (length bytes)))
+        (StoredOn (object_of (setup_in start) (next_id start.records)) bytes None ⊥ j)
+        (λ h k R. whole-none (setup_in start) name bytes E.job.subject (next_id start.records)
+        (stripes_of (profiled (setup_in start) E.job.profile) (length bytes))
+        [] j ⊥ h k k count-same R refl) (start.providers j).held (E.before.providers j).held
+        (stores-go (setup_in start) name bytes E.job.subject (next_id start.records) [] j
+        (stripes_of (profiled (setup_in start) E.job.profile) (length bytes)) 0 start.providers
+        E.before.providers [] E.job.given below
+        (subst (λ i. Made put_with
+        (flat_map (λ t. on_each_provider (setup_in start) (λ k. Store k i t))
+        (upto (stripes_of (profiled (setup_in start) E.job.profile) (length bytes)))) start.providers
+        E.before.providers [] E.job.given) (subject-is (omega (arith, l))) (stores-made l)))
 
     stores-all : 4 ≤ E.job.place → new.providers ≡ E.before.providers → StoresAll ran bytes
     unfolding setup_in
-    stores-all l same j below = subst (λ (f : ℕ → Provider). Goes (StoredOn (object_of (setup_in start) (next_id start.records)) bytes None ⊥ j) (start.providers j).held (f j).held) (sym same) (all-goes l j below)
+    stores-all l same j below =
+        subst (λ (f : ℕ → Provider). Goes
+        (StoredOn (object_of (setup_in start) (next_id start.records)) bytes None ⊥ j)
+        (start.providers j).held (f j).held) (sym same) (all-goes l j below)
 
-    doubt-first : appends_left (setup_in E.before) E.job ≡ 2 → (F : Faults start O (PutJob name bytes) E.before E.job E.walked new) → (ran.doubt ≡ None) ⊎ (ran.doubt ≡ Some (PutStart (next_id start.records) name))
+    doubt-first : appends_left (setup_in E.before) E.job ≡ 2 →
+        (F : Faults start O (PutJob name bytes) E.before E.job E.walked new) →
+        (ran.doubt ≡ None) ⊎ (ran.doubt ≡ Some (PutStart (next_id start.records) name))
     doubt-first two F = elim F.doubt [
       | inl none ↦ inl (ap (option_map (λ (d : Doubt). d.entry)) none)
-      | inr (d, in_doubt, writes) ↦ elim (wrote start O (PutJob name bytes) E.before E.job E.walked d.entry F.left writes) [
-        | Wrote.first l is entry ↦ inr (ap (option_map (λ (z : Doubt). z.entry)) in_doubt ∙ ap Some entry)
-        | Wrote.second l is sec ↦ absurd (omega (arith, l, two))
-      ]
+      | inr (d, in_doubt, writes) ↦
+          elim (wrote start O (PutJob name bytes) E.before E.job E.walked d.entry F.left writes) [
+            | Wrote.first l is entry ↦ inr (ap (option_map (λ (z : Doubt). z.entry)) in_doubt ∙ ap Some entry)
+            | Wrote.second l is sec ↦ absurd (omega (arith, l, two))
+          ]
     ]
 
-    doubt-second : appends_left (setup_in E.before) E.job ≡ 1 → (F : Faults start O (PutJob name bytes) E.before E.job E.walked new) → (ran.doubt ≡ None) ⊎ (ran.doubt ≡ Some (PutDone (next_id start.records) (length bytes)))
+    doubt-second : appends_left (setup_in E.before) E.job ≡ 1 →
+        (F : Faults start O (PutJob name bytes) E.before E.job E.walked new) →
+        (ran.doubt ≡ None) ⊎ (ran.doubt ≡ Some (PutDone (next_id start.records) (length bytes)))
     doubt-second one F = elim F.doubt [
       | inl none ↦ inl (ap (option_map (λ (d : Doubt). d.entry)) none)
-      | inr (d, in_doubt, writes) ↦ elim (wrote start O (PutJob name bytes) E.before E.job E.walked d.entry F.left writes) [
-        | Wrote.first l is entry ↦ absurd (omega (arith, l, one))
-        | Wrote.second l is sec ↦ inr (ap (option_map (λ (z : Doubt). z.entry)) in_doubt ∙ ap Some (sec ∙ done-plain start O (next_id start.records) (length bytes) E.job.profile))
-      ]
+      | inr (d, in_doubt, writes) ↦
+          elim (wrote start O (PutJob name bytes) E.before E.job E.walked d.entry F.left writes) [
+            | Wrote.first l is entry ↦ absurd (omega (arith, l, one))
+            | Wrote.second l is sec ↦
+                inr (ap (option_map (λ (z : Doubt). z.entry)) in_doubt
+                ∙ ap Some (sec ∙ done-plain start O (next_id start.records) (length bytes) E.job.profile))
+          ]
     ]
 
     faulted : Faults start O (PutJob name bytes) E.before E.job E.walked new → Gives answer.DiskFault
     faulted F = (
       rose-before start.disk_faults E.before.disk_faults new.disk_faults E.walked.disk F.low F.rose,
       elim (stands F.left) [
-        | Stand.at_first l is ↦ PutIsCut.at_start (F.records ∙ is) (doubt-first l F) (λ j below. ap (λ (f : ℕ → Provider). (f j).held) (F.providers ∙ untouched l))
-        | Stand.at_second l is ↦ PutIsCut.at_done (F.records ∙ is) (doubt-second l F) (stores-all (second l) F.providers)
+        | Stand.at_first l is ↦ PutIsCut.at_start (F.records ∙ is) (doubt-first l F)
+            (λ j below. ap (λ (f : ℕ → Provider). (f j).held) (F.providers ∙ untouched l))
+        | Stand.at_second l is ↦ PutIsCut.at_done (F.records ∙ is) (doubt-second l F)
+            (stores-all (second l) F.providers)
       ],
     )
 
-  no-room : StoresPart ran bytes → NoRoom start O (PutJob name bytes) E.before E.job E.walked new → Gives answer.Memory
+  no-room : StoresPart ran bytes → NoRoom start O (PutJob name bytes) E.before E.job E.walked new →
+      Gives answer.Memory
   no-room part N =
       (let d = cut-at new.doubt N.left N.doubt in
       (record { done = d.0; next = d.1; rest = d.2; parts = d.3; after = N.records ∙ d.4; sure = d.5 }, part))
 
-  moved : (action : Action) → E.action ≡ action → (action ≡ End → ⊥) → (IsTail action → ⊥) → Moves E.before E.job action E.before.append (Ended how) new → Gives how
+  moved : (action : Action) → E.action ≡ action → (action ≡ End → ⊥) → (IsTail action → ⊥) →
+      Moves E.before E.job action E.before.append (Ended how) new → Gives how
   moved action at n m h = elim (move-answers E.before E.job new action E.before.append how h) [
     | inl e ↦ (let failed = subst (λ a. Moves E.before E.job action E.before.append (Ended a) new) e h in
-        subst Gives (sym e) (faulted action at n (move-is E.before E.job new action E.before.append failed) (move-faults start O (PutJob name bytes) E.before E.job E.walked action E.before.append new refl (E.next ∙ ap Some at) failed)))
-    | inr e ↦ subst Gives (sym e) (no-room (stores-part action at n m) (move-memory start O (PutJob name bytes) E.before E.job E.walked action E.before.append new refl (subst (λ z. holder_of E.before.append z ≡ None) at E.free) (E.next ∙ ap Some at)
+        subst Gives (sym e) (faulted action at n (move-is E.before E.job new action E.before.append failed)
+        (move-faults start O (PutJob name bytes) E.before E.job E.walked action E.before.append new refl
+        (E.next ∙ ap Some at) failed)))
+    | inr e ↦ subst Gives (sym e)
+        (no-room (stores-part action at n m)
+        (move-memory start O (PutJob name bytes) E.before E.job E.walked action E.before.append new refl
+        (subst (λ z. holder_of E.before.append z ≡ None) at E.free) (E.next ∙ ap Some at)
         (subst (λ a. Moves E.before E.job action E.before.append (Ended a) new) e h)))
   ]
 
@@ -444,36 +602,55 @@ module _ (start new : State) (name bytes : List ℕ) (how : Answer) (heard : Lis
   module _ (k o t : ℕ) (at : E.action ≡ Store k o t) where
     place : (4 ≤ E.job.place) × (0 < appends_left (setup_in E.before) E.job)
     place = (let list = put-list (setup_in start) E.job name bytes E.walked.kind_is in
-        let p = store-place (setup_in start) E.job bytes E.job.place k o t (ap (λ xs. slice_get xs E.job.place) (sym list) ∙ listed (Store k o t) at (λ e. cc)) in
+        let p = store-place (setup_in start) E.job bytes E.job.place k o t
+        (ap (λ xs. slice_get xs E.job.place) (sym list) ∙ listed (Store k o t) at (λ e. cc)) in
         (p.0, subst (λ n. 0 < n) (ap (λ xs. appends_in (drop E.job.place xs)) (sym list) ∙ same-left) p.1))
 
     started : E.before.records ≡ PutStart (next_id start.records) name ∷ start.records
     started = elim (stands place.1) [
-      | Stand.at_first l is ↦ absurd (let a = put-later (setup_in E.before) E.job name bytes E.walked.kind_is place.0 in omega (arith, a, l))
+      | Stand.at_first l is ↦
+          absurd (let a = put-later (setup_in E.before) E.job name bytes E.walked.kind_is place.0 in
+          omega (arith, a, l))
       | Stand.at_second l is ↦ is
     ]
 
     calm : E.before.doubt ≡ None
-    calm = (none-moving start O (PutJob name bytes) E.before E.job E.walked (moves-first (moves_made E.before.append E.job.number) (Store k o t) (drop (E.job.place + 1) (actions_of (setup_in E.before) E.job))
-        (subst (IsInOrder (moves_made E.before.append E.job.number)) (drop-get (actions_of (setup_in E.before) E.job) E.job.place (Store k o t) (next_stands E.before E.job (Store k o t) (E.next ∙ ap Some at) (λ e. cc)))
-        (E.walked.sound.jobs E.job.number E.job (runs start O (PutJob name bytes) E.before E.job E.walked)).order))).1
+    calm = (none-moving start O (PutJob name bytes) E.before E.job E.walked
+        (moves-first (moves_made E.before.append E.job.number) (Store k o t)
+        (drop (E.job.place + 1) (actions_of (setup_in E.before) E.job))
+        (subst (IsInOrder (moves_made E.before.append E.job.number))
+        (drop-get (actions_of (setup_in E.before) E.job) E.job.place (Store k o t)
+        (next_stands E.before E.job (Store k o t) (E.next ∙ ap Some at) (λ e. cc)))
+        (E.walked.sound.jobs E.job.number E.job
+        (runs start O (PutJob name bytes) E.before E.job E.walked)).order))).1
 
     below-n : k < (setup_in start).n
-    below-n = each_get (IsBelow (setup_in start).n) (actions_of (setup_in start) E.job) E.job.place (Store k o t) (below (setup_in start) E.job) (listed (Store k o t) at (λ e. cc))
+    below-n = each_get (IsBelow (setup_in start).n) (actions_of (setup_in start) E.job) E.job.place
+        (Store k o t) (below (setup_in start) E.job) (listed (Store k o t) at (λ e. cc))
 
     store-ends : (a : Answer) → Acts E.before E.job (Store k o t) (Ended a) new → Gives a
     unfolding setup_in
     store-ends (answer.ProviderFault i) (same, (p, made, is)) = (
       subst (λ z. z < (setup_in start).n) (sym same) below-n,
-      subst (λ z. Rose (start.providers z).store_faults (new.providers z).store_faults) (sym same) (rose-before (start.providers k).store_faults (E.before.providers k).store_faults (new.providers k).store_faults
-          (made-rises put_with (take E.job.place (actions_of (setup_in start) E.job)) start.providers E.before.providers [] E.job.given k E.walked.made).0
-          (let f = made.counts.store_faults in omega (arith, f, hit)) (subst (Rose (E.before.providers k).store_faults) (sym hit) made.cause)),
-      record { after = ap (λ (v : State). v.records) is ∙ started; sure = ap (λ (v : State). option_map (λ (d : Doubt). d.entry) v.doubt) is ∙ ap (option_map (λ (d : Doubt). d.entry)) calm },
+      subst (λ z. Rose (start.providers z).store_faults (new.providers z).store_faults) (sym same)
+          (rose-before (start.providers k).store_faults (E.before.providers k).store_faults
+          (new.providers k).store_faults
+          (made-rises put_with (take E.job.place (actions_of (setup_in start) E.job)) start.providers
+          E.before.providers [] E.job.given k E.walked.made).0
+          (let f = made.counts.store_faults in omega (arith, f, hit))
+          (subst (Rose (E.before.providers k).store_faults) (sym hit) made.cause)),
+      record {
+        after = ap (λ (v : State). v.records) is ∙ started;
+        sure = ap (λ (v : State). option_map (λ (d : Doubt). d.entry) v.doubt) is
+            ∙ ap (option_map (λ (d : Doubt). d.entry)) calm;
+      },
       stores-part (Store k o t) at (λ e. cc) (λ u. u),
     )
       where
         hit : (new.providers k).store_faults ≡ p.store_faults
-        hit = ap (λ (v : State). (v.providers k).store_faults) is ∙ ap (λ (z : Provider). z.store_faults) (cond_true (k == k) p (E.before.providers k) (eq-eqb k k refl))
+        hit = ap (λ (v : State). (v.providers k).store_faults) is
+            ∙ ap (λ (z : Provider). z.store_faults)
+            (cond_true (k == k) p (E.before.providers k) (eq-eqb k k refl))
     store-ends answer.Memory (p, made, is) = (
       record {
         done = PutStart (next_id start.records) name ∷ [];
@@ -481,7 +658,8 @@ module _ (start new : State) (name bytes : List ℕ) (how : Answer) (heard : Lis
         rest = [];
         parts = refl;
         after = ap (λ (v : State). v.records) is ∙ started;
-        sure = ap (λ (v : State). option_map (λ (d : Doubt). d.entry) v.doubt) is ∙ ap (option_map (λ (d : Doubt). d.entry)) calm;
+        sure = ap (λ (v : State). option_map (λ (d : Doubt). d.entry) v.doubt) is
+            ∙ ap (option_map (λ (d : Doubt). d.entry)) calm;
       },
       stores-part (Store k o t) at (λ e. cc) (λ u. u),
     )
@@ -493,26 +671,43 @@ module _ (start new : State) (name bytes : List ℕ) (how : Answer) (heard : Lis
     stand-end : slice_get (actions_of (setup_in start) E.job) E.job.place ≡ Some End
     stand-end = subst (λ (t : Setup). slice_get (actions_of t E.job) E.job.place ≡ Some End) E.walked.setup
         (ap (λ xs. slice_get xs E.job.place) (put-list (setup_in E.before) E.job name bytes E.walked.kind_is)
-        ∙ (sym (next_is_by E.before E.job ∙ ap (λ kd. next_by E.before E.job kd E.job.place) E.walked.kind_is) ∙ (E.next ∙ ap Some at)))
+        ∙ (sym (next_is_by E.before E.job ∙ ap (λ kd. next_by E.before E.job kd E.job.place) E.walked.kind_is)
+        ∙ (E.next ∙ ap Some at)))
 
-    end-order : IsInOrder (moves_made E.before.append E.job.number) (End ∷ drop (E.job.place + 1) (actions_of (setup_in E.before) E.job))
+    end-order : IsInOrder (moves_made E.before.append E.job.number)
+        (End ∷ drop (E.job.place + 1) (actions_of (setup_in E.before) E.job))
     end-order = subst (IsInOrder (moves_made E.before.append E.job.number))
-        (drop-get (actions_of (setup_in E.before) E.job) E.job.place End (subst (λ (t : Setup). slice_get (actions_of t E.job) E.job.place ≡ Some End) (sym E.walked.setup) stand-end))
-        (E.walked.sound.jobs E.job.number E.job (runs start O (PutJob name bytes) E.before E.job E.walked)).order
+        (drop-get (actions_of (setup_in E.before) E.job) E.job.place End
+        (subst (λ (t : Setup). slice_get (actions_of t E.job) E.job.place ≡ Some End)
+        (sym E.walked.setup) stand-end))
+        (E.walked.sound.jobs E.job.number E.job
+        (runs start O (PutJob name bytes) E.before E.job E.walked)).order
 
     end-left : actions_left (setup_in E.before) E.job ≡ End ∷ []
-    end-left = drop-get (actions_of (setup_in E.before) E.job) E.job.place End (subst (λ (t : Setup). slice_get (actions_of t E.job) E.job.place ≡ Some End) (sym E.walked.setup) stand-end) ∙ ap (λ xs. End ∷ xs) end-order.1
+    end-left = drop-get (actions_of (setup_in E.before) E.job) E.job.place End
+        (subst (λ (t : Setup). slice_get (actions_of t E.job) E.job.place ≡ Some End)
+        (sym E.walked.setup) stand-end) ∙ ap (λ xs. End ∷ xs) end-order.1
 
     no-append : appends_left (setup_in start) E.job ≡ 0
-    no-append = left-start start O (PutJob name bytes) E.before E.job E.walked 0 (ap appends_in end-left ∙ appends-cons End [])
+    no-append = left-start start O (PutJob name bytes) E.before E.job E.walked 0
+        (ap appends_in end-left ∙ appends-cons End [])
 
-    end-made : Made put_with (append_actions ++ (store_actions (setup_in start) E.job bytes ++ (append_actions ++ (remove_actions (setup_in start) E.job ++ End ∷ [])))) start.providers E.before.providers [] E.job.given
+    end-made : Made put_with
+        (append_actions ++ (store_actions (setup_in start) E.job
+        bytes ++ (append_actions ++ (remove_actions (setup_in start) E.job ++ End ∷ [])))) start.providers
+        E.before.providers [] E.job.given
     end-made =
-        (let left : drop E.job.place (actions_of (setup_in start) E.job) ≡ End ∷ [] = subst (λ (t : Setup). actions_left t E.job ≡ End ∷ []) E.walked.setup end-left in
-        let whole : take E.job.place (actions_of (setup_in start) E.job) ++ End ∷ [] ≡ append_actions ++ put_rest (setup_in start) E.job bytes =
-        ap (λ xs. take E.job.place (actions_of (setup_in start) E.job) ++ xs) (sym left) ∙ (take-append-drop E.job.place (actions_of (setup_in start) E.job) ∙ put-list (setup_in start) E.job name bytes E.walked.kind_is) in
+        (let left : drop E.job.place (actions_of (setup_in start) E.job) ≡ End ∷ [] =
+        subst (λ (t : Setup). actions_left t E.job ≡ End ∷ []) E.walked.setup end-left in
+        let whole : take E.job.place (actions_of (setup_in start) E.job) ++ End ∷ []
+        ≡ append_actions ++ put_rest (setup_in start) E.job bytes =
+        ap (λ xs. take E.job.place (actions_of (setup_in start) E.job) ++ xs) (sym left)
+        ∙ (take-append-drop E.job.place (actions_of (setup_in start) E.job)
+        ∙ put-list (setup_in start) E.job name bytes E.walked.kind_is) in
         subst (λ xs. Made put_with xs start.providers E.before.providers [] E.job.given) whole
-        (made-append put_with (take E.job.place (actions_of (setup_in start) E.job)) (End ∷ []) start.providers E.before.providers E.before.providers [] E.job.given E.job.given E.walked.made
+        (made-append put_with (take E.job.place (actions_of (setup_in start) E.job))
+        (End ∷ []) start.providers E.before.providers E.before.providers
+        [] E.job.given E.job.given E.walked.made
         (made-one put_with End E.before.providers E.before.providers E.job.given E.job.given (refl, refl))))
 
     -- providers once the file is stored, and the givens by then
@@ -527,10 +722,15 @@ module _ (start new : State) (name bytes : List ℕ) (how : Answer) (heard : Lis
 
     stored : Stored
     stored =
-        (let a = made-split put_with append_actions (put_rest (setup_in start) E.job bytes) start.providers E.before.providers [] E.job.given end-made in
-        let b = made-split put_with (store_actions (setup_in start) E.job bytes) (append_actions ++ (remove_actions (setup_in start) E.job ++ End ∷ [])) a.0 E.before.providers a.1 E.job.given a.3 in
-        let c = made-split put_with append_actions (remove_actions (setup_in start) E.job ++ End ∷ []) b.0 E.before.providers b.1 E.job.given b.3 in
-        let d = made-split put_with (remove_actions (setup_in start) E.job) (End ∷ []) c.0 E.before.providers c.1 E.job.given c.3 in
+        (let a = made-split put_with append_actions (put_rest (setup_in start) E.job bytes) start.providers
+        E.before.providers [] E.job.given end-made in
+        let b = made-split put_with (store_actions (setup_in start) E.job bytes)
+        (append_actions ++ (remove_actions (setup_in start) E.job ++ End ∷ [])) a.0 E.before.providers a.1
+        E.job.given a.3 in
+        let c = made-split put_with append_actions (remove_actions (setup_in start) E.job ++ End ∷ []) b.0
+        E.before.providers b.1 E.job.given b.3 in
+        let d = made-split put_with (remove_actions (setup_in start) E.job)
+        (End ∷ []) c.0 E.before.providers c.1 E.job.given c.3 in
         let first : a.0 ≡ start.providers = moves-made put_with start.providers a.0 [] a.1 a.2 in
         let second : c.0 ≡ b.0 = moves-made put_with b.0 c.0 b.1 c.1 c.2 in
         let end : E.before.providers ≡ d.0 = d.3.3.0 ∙ d.3.2.0 in
@@ -538,54 +738,89 @@ module _ (start new : State) (name bytes : List ℕ) (how : Answer) (heard : Lis
           mid = b.0;
           given = a.1;
           now = b.1;
-          stores = subst (λ f. Made put_with (store_actions (setup_in start) E.job bytes) f b.0 a.1 b.1) first b.2;
+          stores = subst (λ f. Made put_with (store_actions (setup_in start) E.job bytes) f b.0 a.1 b.1) first
+              b.2;
           later = c.1;
           last = d.1;
-          removes = subst (λ f. Made put_with (remove_actions (setup_in start) E.job) b.0 f c.1 d.1) (sym end) (subst (λ f. Made put_with (remove_actions (setup_in start) E.job) f d.0 c.1 d.1) second d.2);
+          removes = subst (λ f. Made put_with (remove_actions (setup_in start) E.job) b.0 f c.1 d.1) (sym end)
+              (subst (λ f. Made put_with (remove_actions (setup_in start) E.job) f d.0 c.1 d.1) second d.2);
         })
 
     drawn : E.job.subject ≡ next_id start.records
-    drawn = subject-is ((first-body start O (PutJob name bytes) E.before E.job E.walked E.action E.next (λ e. (let f : End ≡ WriteBody = sym at ∙ e in cc)) (PutJob name bytes) refl).0 name bytes refl)
+    drawn = subject-is ((first-body start O (PutJob name bytes) E.before E.job E.walked E.action E.next
+        (λ e. (let f : End ≡ WriteBody = sym at ∙ e in cc)) (PutJob name bytes) refl).0 name bytes refl)
 
     abbrev count : ℕ
     count = stripes_of (profiled (setup_in start) E.job.profile) (length bytes)
 
-    range-go : (j : ℕ) → j < (setup_in start).n → Goes (StoresRange (setup_in start) name bytes E.job.subject (next_id start.records) [] j 0 count) (start.providers j).held (stored.mid j).held
-    range-go j l = stores-go (setup_in start) name bytes E.job.subject (next_id start.records) [] j count 0 start.providers stored.mid stored.given stored.now l
-        (subst (λ i. Made put_with (flat_map (λ t. on_each_provider (setup_in start) (λ k. Store k i t)) (upto count)) start.providers stored.mid stored.given stored.now) drawn stored.stores)
+    range-go : (j : ℕ) → j < (setup_in start).n →
+        Goes (StoresRange (setup_in start) name bytes E.job.subject (next_id start.records) [] j 0 count)
+        (start.providers j).held (stored.mid j).held
+    range-go j l = stores-go (setup_in start) name bytes E.job.subject (next_id start.records)
+        [] j count 0 start.providers stored.mid stored.given stored.now l
+        (subst (λ i. Made put_with
+        (flat_map (λ t. on_each_provider (setup_in start) (λ k. Store k i t)) (upto count))
+        start.providers stored.mid stored.given stored.now) drawn stored.stores)
 
-    stored-on : (o : Option File) (j : ℕ) (p q : Provider) → ((f : File) → o ≡ Some f → f.id ≡ next_id start.records → ⊥) → (rose : Type 0) → (Rose p.other_faults q.other_faults → rose) →
-        Goes (StoresRange (setup_in start) name bytes E.job.subject (next_id start.records) [] j 0 count) (start.providers j).held p.held → OlderGoes o p q →
-        Goes (StoredOn (object_of (setup_in start) (next_id start.records)) bytes o rose j) (start.providers j).held q.held
-    stored-on None j p q apart rose up range older = subst (Goes (StoredOn (object_of (setup_in start) (next_id start.records)) bytes None rose j) (start.providers j).held) (sym older)
-        (goes-mono (StoresRange (setup_in start) name bytes E.job.subject (next_id start.records) [] j 0 count) (StoredOn (object_of (setup_in start) (next_id start.records)) bytes None rose j)
-        (λ h k R. whole-none (setup_in start) name bytes E.job.subject (next_id start.records) count [] j rose h k k count-same R refl) (start.providers j).held p.held range)
-    stored-on (Some f) j p q apart rose up range older = goes-more (StoresRange (setup_in start) name bytes E.job.subject (next_id start.records) [] j 0 count) (DroppedFrom f.id (Rose p.other_faults q.other_faults))
+    stored-on : (o : Option File) (j : ℕ) (p q : Provider) →
+        ((f : File) → o ≡ Some f → f.id ≡ next_id start.records → ⊥) → (rose : Type 0) →
+        (Rose p.other_faults q.other_faults → rose) →
+        Goes (StoresRange (setup_in start) name bytes E.job.subject (next_id start.records) [] j 0 count)
+        (start.providers j).held p.held → OlderGoes o p q →
+        Goes (StoredOn (object_of (setup_in start) (next_id start.records)) bytes o rose j)
+        (start.providers j).held q.held
+    stored-on None j p q apart rose up range older =
+        subst (Goes (StoredOn (object_of (setup_in start) (next_id start.records)) bytes None rose j)
+        (start.providers j).held) (sym older)
+        (goes-mono (StoresRange (setup_in start) name bytes E.job.subject (next_id start.records)
+        [] j 0 count) (StoredOn (object_of (setup_in start) (next_id start.records)) bytes None rose j)
+        (λ h k R. whole-none (setup_in start) name bytes E.job.subject (next_id start.records) count
+        [] j rose h k k count-same R refl) (start.providers j).held p.held range)
+    stored-on (Some f) j p q apart rose up range older =
+        goes-more (StoresRange (setup_in start) name bytes E.job.subject (next_id start.records) [] j 0 count)
+        (DroppedFrom f.id (Rose p.other_faults q.other_faults))
         (StoredOn (object_of (setup_in start) (next_id start.records)) bytes (Some f) rose j)
-        (λ h k r R D. whole-some (setup_in start) name bytes E.job.subject (next_id start.records) count [] j rose f h k r count-same (apart f refl) R (dropped-over f.id (Rose p.other_faults q.other_faults) rose k r up D))
+        (λ h k r R D. whole-some (setup_in start) name bytes E.job.subject (next_id start.records) count
+        [] j rose f h k r count-same (apart f refl) R
+        (dropped-over f.id (Rose p.other_faults q.other_faults) rose k r up D))
         (start.providers j).held p.held q.held range older
 
     stores-file : new.providers ≡ E.before.providers → StoresFile ran name bytes
     unfolding setup_in
     stores-file providers j l =
         (let same : new.providers j ≡ E.before.providers j = ap (λ (f : ℕ → Provider). f j) providers in
-        let rises = made-rises put_with (store_actions (setup_in start) E.job bytes) start.providers stored.mid stored.given stored.now j stored.stores in
-        let more = made-rises put_with (remove_actions (setup_in start) E.job) stored.mid E.before.providers stored.later stored.last j stored.removes in
-        subst (λ (q : Provider). Goes (StoredOn (object_of (setup_in start) (next_id start.records)) bytes (file_of start.records name) (Rose (start.providers j).other_faults q.other_faults) j) (start.providers j).held q.held) (sym same)
+        let rises = made-rises put_with (store_actions (setup_in start) E.job bytes) start.providers
+        stored.mid stored.given stored.now j stored.stores in
+        let more = made-rises put_with (remove_actions (setup_in start) E.job) stored.mid E.before.providers
+        stored.later stored.last j stored.removes in
+        subst (λ (q : Provider). Goes
+        (StoredOn (object_of (setup_in start) (next_id start.records)) bytes (file_of start.records name)
+        (Rose (start.providers j).other_faults q.other_faults) j) (start.providers j).held q.held)
+        (sym same)
         (stored-on (file_of start.records name) j (stored.mid j) (E.before.providers j)
-        (λ f e g. (let m : f.id < next_id start.records = ((sound-accepted start.records O.rest.accepted).file name f e).0 in omega (arith, m, g)))
+        (λ f e g. (let m : f.id < next_id start.records =
+        ((sound-accepted start.records O.rest.accepted).file name f e).0 in omega (arith, m, g)))
         (Rose (start.providers j).other_faults (E.before.providers j).other_faults)
-        (rose-before (start.providers j).other_faults (stored.mid j).other_faults (E.before.providers j).other_faults rises.1 more.1)
+        (rose-before (start.providers j).other_faults (stored.mid j).other_faults
+        (E.before.providers j).other_faults rises.1 more.1)
         (range-go j l)
-        (older-goes put_with start (setup_in start) E.job (file_of start.records name) stored.mid E.before.providers stored.later stored.last j O.rest.idle.0 (E.walked.older no-append) l stored.removes)))
+        (older-goes put_with start (setup_in start) E.job
+        (file_of start.records name) stored.mid E.before.providers stored.later stored.last j
+        O.rest.idle.0 (E.walked.older no-append) l stored.removes)))
 
-    whole-records : E.before.records ≡ PutDone (next_id start.records) (length bytes) ∷ PutStart (next_id start.records) name ∷ start.records
+    whole-records : E.before.records ≡ PutDone (next_id start.records) (length bytes) ∷ PutStart
+        (next_id start.records) name ∷ start.records
     whole-records = by_records E.before.records refl E.walked.records
       where
-        by_records : (rs : List Record) → E.before.records ≡ rs → RecordsAre start (PutJob name bytes) E.job rs → E.before.records ≡ PutDone (next_id start.records) (length bytes) ∷ PutStart (next_id start.records) name ∷ start.records
+        by_records : (rs : List Record) → E.before.records ≡ rs →
+            RecordsAre start (PutJob name bytes) E.job rs →
+            E.before.records ≡ PutDone (next_id start.records) (length bytes) ∷ PutStart
+            (next_id start.records) name ∷ start.records
         by_records rs e (RecordsAre.none l is) = absurd (let c = no-append in omega (arith, l, c))
         by_records rs e (RecordsAre.one l is) = absurd (let c = no-append in omega (arith, l, c))
-        by_records rs e (RecordsAre.two entry l sec is) = e ∙ (is ∙ ap (λ (r : Record). r ∷ PutStart (next_id start.records) name ∷ start.records) (sec ∙ done-plain start O (next_id start.records) (length bytes) E.job.profile))
+        by_records rs e (RecordsAre.two entry l sec is) = e
+            ∙ (is ∙ ap (λ (r : Record). r ∷ PutStart (next_id start.records) name ∷ start.records)
+            (sec ∙ done-plain start O (next_id start.records) (length bytes) E.job.profile))
 
     end-sure : E.before.doubt ≡ None
     end-sure = (none-moving start O (PutJob name bytes) E.before E.job E.walked end-order.0).1
@@ -595,7 +830,11 @@ module _ (start new : State) (name bytes : List ℕ) (how : Answer) (heard : Lis
       where
         by_answer : (a : Answer) → step.Ends E.before E.job (PutJob name bytes) a → Gives a
         by_answer answer.Put u = (
-          record { after = ap (λ (v : State). v.records) is ∙ whole-records; sure = ap (λ (v : State). option_map (λ (d : Doubt). d.entry) v.doubt) is ∙ ap (option_map (λ (d : Doubt). d.entry)) end-sure },
+          record {
+            after = ap (λ (v : State). v.records) is ∙ whole-records;
+            sure = ap (λ (v : State). option_map (λ (d : Doubt). d.entry) v.doubt) is
+                ∙ ap (option_map (λ (d : Doubt). d.entry)) end-sure;
+          },
           stores-file (ap (λ (v : State). v.providers) is),
         )
         by_answer a h = absurd h
@@ -612,12 +851,16 @@ module _ (start new : State) (name bytes : List ℕ) (how : Answer) (heard : Lis
   by-action (Remove k o) at h = absurd h
   by-action (Fetch k o t) at h = absurd h
   by-action (Ask k o r) at h = absurd h
-  by-action (Work o t) at h = absurd (each_get IsWriting (actions_of (setup_in start) E.job) E.job.place (Work o t) (writing-put (setup_in start) E.job name bytes E.walked.kind_is) (listed (Work o t) at (λ e. cc)))
+  by-action (Work o t) at h =
+      absurd (each_get IsWriting (actions_of (setup_in start) E.job) E.job.place (Work o t)
+      (writing-put (setup_in start) E.job name bytes E.walked.kind_is) (listed (Work o t) at (λ e. cc)))
 
   no-fetches : NoFetches ran
   no-fetches j l = (last-keeps E.action E.before new j L.0).1
-      ∙ writing-fetches put_with (take E.job.place (actions_of (setup_in start) E.job)) start.providers E.before.providers [] E.job.given j
-      (each_take IsWriting (actions_of (setup_in start) E.job) E.job.place (writing-put (setup_in start) E.job name bytes E.walked.kind_is)) E.walked.made
+      ∙ writing-fetches put_with (take E.job.place (actions_of (setup_in start) E.job)) start.providers
+      E.before.providers [] E.job.given j
+      (each_take IsWriting (actions_of (setup_in start) E.job) E.job.place
+      (writing-put (setup_in start) E.job name bytes E.walked.kind_is)) E.walked.made
 
   -- a put leaves its records and stores its file on each provider; or it failed or was cut off
   pub put-leaves : Leaves ran (PutJob name bytes) how

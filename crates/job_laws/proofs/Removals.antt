@@ -28,34 +28,44 @@ rose-on : (a b c : ℕ) → b ≤ c → Rose a b → Rose a c
 rose-on a b c m rose below = (let r = rose below in omega (arith, m, r))
 
 -- before an append one is left
-pub left-within : (xs ys : List Action) (p : ℕ) → p < length xs → 0 < appends_in ys → 0 < appends_in (drop p (xs ++ ys))
+pub left-within : (xs ys : List Action) (p : ℕ) → p < length xs → 0 < appends_in ys →
+    0 < appends_in (drop p (xs ++ ys))
 left-within [] ys p l h = absurd (omega (arith, l))
 left-within (x ∷ xs) ys zero l h = (let e = appends-append (x ∷ xs) ys in omega (arith, e, h))
 left-within (x ∷ xs) ys (suc p) l h = left-within xs ys p (omega (arith, l)) h
 
 -- ---- one action for each provider
 
-module _ (x : With) (f : ℕ → Action) (call : ℕ → Provider → Provider → Type 0) (calls : (k : ℕ) (old new : ℕ → Provider) (given now : List Given) → Did x (f k) old new given now → CallsOne old k (call k) new) where
+module _ (x : With) (f : ℕ → Action) (call : ℕ → Provider → Provider → Type 0)
+    (calls : (k : ℕ) (old new : ℕ → Provider) (given now : List Given) → Did x (f k) old new given now →
+    CallsOne old k (call k) new) where
   -- providers below the first one are as they were
-  row-miss : (j a m : ℕ) (old new : ℕ → Provider) (given now : List Given) → j < a → Made x (map f (range_with_len a m)) old new given now → new j ≡ old j
+  row-miss : (j a m : ℕ) (old new : ℕ → Provider) (given now : List Given) → j < a →
+      Made x (map f (range_with_len a m)) old new given now → new j ≡ old j
   row-miss j a zero old new given now l m = ap (λ g. g j) m.0
   row-miss j a (suc m) old new given now l (mid, so_far, did, rest) =
-      row-miss j (a + 1) m mid new so_far now (omega (arith, l)) rest ∙ call-miss old a (call a) mid j (λ e. omega (arith, l, e)) (calls a old mid given so_far did)
+      row-miss j (a + 1) m mid new so_far now (omega (arith, l)) rest
+      ∙ call-miss old a (call a) mid j (λ e. omega (arith, l, e)) (calls a old mid given so_far did)
 
   -- each of the others was called once
-  pub row-hit : (j a m : ℕ) (old new : ℕ → Provider) (given now : List Given) → a ≤ j → j < a + m → Made x (map f (range_with_len a m)) old new given now → call j (old j) (new j)
+  pub row-hit : (j a m : ℕ) (old new : ℕ → Provider) (given now : List Given) → a ≤ j → j < a + m →
+      Made x (map f (range_with_len a m)) old new given now → call j (old j) (new j)
   row-hit j a zero old new given now l u m = absurd (omega (arith, l, u))
   row-hit j a (suc m) old new given now l u (mid, so_far, did, rest) = elim (cases_eq a j) [
-    | inl e ↦ subst (λ q. call j (old j) q) (sym (row-miss j (a + 1) m mid new so_far now (omega (arith, e)) rest))
-        (subst (λ k. call k (old k) (mid k)) e (call-hit old a (call a) mid (calls a old mid given so_far did)))
-    | inr n ↦ subst (λ p. call j p (new j)) (call-miss old a (call a) mid j n (calls a old mid given so_far did))
+    | inl e ↦ subst (λ q. call j (old j) q)
+        (sym (row-miss j (a + 1) m mid new so_far now (omega (arith, e)) rest))
+        (subst (λ k. call k (old k) (mid k)) e
+        (call-hit old a (call a) mid (calls a old mid given so_far did)))
+    | inr n ↦ subst (λ p. call j p (new j))
+        (call-miss old a (call a) mid j n (calls a old mid given so_far did))
         (row-hit j (a + 1) m mid new so_far now (omega (arith, l, n)) (omega (arith, u)) rest)
   ]
 
 -- ---- what is told
 
 -- both tell, or neither does
-pub goes-by : (R : Held → Held → Type 0) (old new : Option Held) → (old ≡ None → new ≡ None) → ((p : Held) → old ≡ Some p → (q : Held) × (new ≡ Some q) × R p q) → Goes R old new
+pub goes-by : (R : Held → Held → Type 0) (old new : Option Held) → (old ≡ None → new ≡ None) →
+    ((p : Held) → old ≡ Some p → (q : Held) × (new ≡ Some q) × R p q) → Goes R old new
 goes-by R None new none some = subst (Goes R None) (sym (none refl)) tt
 goes-by R (Some p) new none some = (let r = some p refl in subst (Goes R (Some p)) (sym r.1) r.2)
 
@@ -64,10 +74,12 @@ goes-none R None None g e = refl
 goes-none R None (Some q) g e = absurd g
 goes-none R (Some p) new g e = absurd (let f : Some p ≡ None = e in cc)
 
-goes-some : (R : Held → Held → Type 0) (old new : Option Held) (p : Held) → Goes R old new → old ≡ Some p → (q : Held) × (new ≡ Some q) × R p q
+goes-some : (R : Held → Held → Type 0) (old new : Option Held) (p : Held) → Goes R old new → old ≡ Some p →
+    (q : Held) × (new ≡ Some q) × R p q
 goes-some R None new p g e = absurd (let f : None ≡ Some p = e in cc)
 goes-some R (Some r) None p g e = absurd g
-goes-some R (Some r) (Some q) p g e = (q, refl, subst (λ z. R z q) (let f : Some r ≡ Some p = e in let h : r ≡ p = cc in h) g)
+goes-some R (Some r) (Some q) p g e =
+    (q, refl, subst (λ z. R z q) (let f : Some r ≡ Some p = e in let h : r ≡ p = cc in h) g)
 
 -- what is told and stays goes by a relation of each to itself
 pub goes-same : (R : Held → Held → Type 0) → ((p : Held) → R p p) → (h : Option Held) → Goes R h h
@@ -75,7 +87,8 @@ goes-same R same None = tt
 goes-same R same (Some p) = same p
 
 -- what is told and goes by one relation and then by another goes by both together
-pub goes-more : (R S T : Held → Held → Type 0) → ((p q r : Held) → R p q → S q r → T p r) → (a b c : Option Held) → Goes R a b → Goes S b c → Goes T a c
+pub goes-more : (R S T : Held → Held → Type 0) → ((p q r : Held) → R p q → S q r → T p r) →
+    (a b c : Option Held) → Goes R a b → Goes S b c → Goes T a c
 goes-more R S T more None None None g h = tt
 goes-more R S T more None None (Some r) g h = absurd h
 goes-more R S T more None (Some q) c g h = absurd g
@@ -84,12 +97,14 @@ goes-more R S T more (Some p) (Some q) None g h = absurd h
 goes-more R S T more (Some p) (Some q) (Some r) g h = more p q r g h
 
 -- what is told and is changed by a function goes by a relation of each to what it is changed to
-pub goes-map : (R : Held → Held → Type 0) (f : Held → Held) → ((p : Held) → R p (f p)) → (old new : Option Held) → new ≡ option_map f old → Goes R old new
+pub goes-map : (R : Held → Held → Type 0) (f : Held → Held) → ((p : Held) → R p (f p)) →
+    (old new : Option Held) → new ≡ option_map f old → Goes R old new
 goes-map R f h None new e = subst (Goes R None) (sym e) tt
 goes-map R f h (Some p) new e = subst (Goes R (Some p)) (sym e) (h p)
 
 -- what is told and goes by a relation goes by a wider one
-pub goes-mono : (R S : Held → Held → Type 0) → ((p q : Held) → R p q → S p q) → (a b : Option Held) → Goes R a b → Goes S a b
+pub goes-mono : (R S : Held → Held → Type 0) → ((p q : Held) → R p q → S p q) → (a b : Option Held) →
+    Goes R a b → Goes S a b
 goes-mono R S f None None g = tt
 goes-mono R S f None (Some q) g = absurd g
 goes-mono R S f (Some p) None g = absurd g
@@ -110,19 +125,29 @@ gone-part o rose p q r lost = record {
 }
 
 -- what is held after a removal, done or failed
-removal-goes : (o : ℕ) (old new : Provider) → Removes o old new → Goes (DroppedFrom o (Rose old.other_faults new.other_faults)) old.held new.held
-removal-goes o old new (inl c) = goes-map (DroppedFrom o (Rose old.other_faults new.other_faults)) (without_object o) (gone-all o (Rose old.other_faults new.other_faults)) old.held new.held c.held
-removal-goes o old new (inr c) = goes-mono (LosesPart o) (DroppedFrom o (Rose old.other_faults new.other_faults)) (λ p q l. gone-part o (Rose old.other_faults new.other_faults) p q c.cause l) old.held new.held c.held
+removal-goes : (o : ℕ) (old new : Provider) → Removes o old new →
+    Goes (DroppedFrom o (Rose old.other_faults new.other_faults)) old.held new.held
+removal-goes o old new (inl c) = goes-map (DroppedFrom o (Rose old.other_faults new.other_faults))
+    (without_object o) (gone-all o (Rose old.other_faults new.other_faults)) old.held new.held c.held
+removal-goes o old new (inr c) = goes-mono (LosesPart o)
+    (DroppedFrom o (Rose old.other_faults new.other_faults))
+    (λ p q l. gone-part o (Rose old.other_faults new.other_faults) p q c.cause l) old.held new.held c.held
 
 -- the same, over a longer time
 pub dropped-over : (o : ℕ) (a b : Type 0) (p q : Held) → (a → b) → DroppedFrom o a p q → DroppedFrom o b p q
-dropped-over o a b p q f d = record { gone = λ t. elim (d.gone t) [ inl none ↦ inl none | inr same ↦ inr (f same.0, same.1) ]; others = d.others }
+dropped-over o a b p q f d =
+    record {
+      gone = λ t. elim (d.gone t) [ inl none ↦ inl none | inr same ↦ inr (f same.0, same.1) ];
+      others = d.others;
+    }
 
 -- removals of an object from all providers
-removals-go : (x : With) (o n : ℕ) (old new : ℕ → Provider) (given now : List Given) (j : ℕ) → j < n → Made x (map (λ k. Remove k o) (range_with_len 0 n)) old new given now →
+removals-go : (x : With) (o n : ℕ) (old new : ℕ → Provider) (given now : List Given) (j : ℕ) → j < n →
+    Made x (map (λ k. Remove k o) (range_with_len 0 n)) old new given now →
     Goes (DroppedFrom o (Rose (old j).other_faults (new j).other_faults)) (old j).held (new j).held
 removals-go x o n old new given now j l m = removal-goes o (old j) (new j)
-    (row-hit x (λ k. Remove k o) (λ k. Removes o) (λ k a b g h did. did.0) j 0 n old new given now (omega arith) (omega (arith, l)) m)
+    (row-hit x (λ k. Remove k o) (λ k. Removes o) (λ k a b g h did. did.0) j 0 n old new given now
+    (omega arith) (omega (arith, l)) m)
 
 -- ---- jobs that fetch nothing
 
@@ -134,10 +159,13 @@ IsWriting (Work o t) = ⊥
 IsWriting action = Unit {0}
 
 -- actions that only write leave the count of fetches
-pub writing-fetches : (x : With) (xs : List Action) (old new : ℕ → Provider) (given now : List Given) (i : ℕ) → Each IsWriting xs → Made x xs old new given now → (new i).fetches ≡ (old i).fetches
-writing-fetches x xs old new given now i e m = made-keeps x i (λ p q. q.fetches ≡ p.fetches) IsWriting (λ p. refl) (λ p q r a b. b ∙ a) step xs old new given now e m
+pub writing-fetches : (x : With) (xs : List Action) (old new : ℕ → Provider) (given now : List Given)
+    (i : ℕ) → Each IsWriting xs → Made x xs old new given now → (new i).fetches ≡ (old i).fetches
+writing-fetches x xs old new given now i e m = made-keeps x i (λ p q. q.fetches ≡ p.fetches) IsWriting
+    (λ p. refl) (λ p q r a b. b ∙ a) step xs old new given now e m
   where
-    step : (a : Action) (given now : List Given) (p q : Provider) → IsWriting a → Called x a given now i p q → q.fetches ≡ p.fetches
+    step : (a : Action) (given now : List Given) (p q : Provider) → IsWriting a → Called x a given now i p q →
+        q.fetches ≡ p.fetches
     step (Store j o t) given now p q u (e, c, is) = c.counts.fetches
     step (Remove j o) given now p q u (e, inl c, is) = c.counts.fetches
     step (Remove j o) given now p q u (e, inr c, is) = c.counts.fetches
@@ -151,16 +179,21 @@ writing-fetches x xs old new given now i e m = made-keeps x i (λ p q. q.fetches
     step End given now p q u c = absurd c
 
 -- the last step leaves what providers hold, and fetches nothing
-pub last-keeps : (action : Action) (w new : State) (i : ℕ) → LastCall action w new → ((new.providers i).held ≡ (w.providers i).held) × ((new.providers i).fetches ≡ (w.providers i).fetches)
-last-keeps action w new i (LastCall.none is) = (ap (λ (f : ℕ → Provider). (f i).held) is, ap (λ (f : ℕ → Provider). (f i).fetches) is)
-last-keeps action w new i (LastCall.store k o t at call) = elim (calls-at w.providers k (λ p q. (q.held ≡ p.held) × StoreCounts p q) new.providers i call) [
-  | inl e ↦ (ap (λ (p : Provider). p.held) e, ap (λ (p : Provider). p.fetches) e)
-  | inr c ↦ (c.1.0, c.1.1.fetches)
-]
+pub last-keeps : (action : Action) (w new : State) (i : ℕ) → LastCall action w new →
+    ((new.providers i).held ≡ (w.providers i).held) × ((new.providers i).fetches ≡ (w.providers i).fetches)
+last-keeps action w new i (LastCall.none is) =
+    (ap (λ (f : ℕ → Provider). (f i).held) is, ap (λ (f : ℕ → Provider). (f i).fetches) is)
+last-keeps action w new i (LastCall.store k o t at call) =
+    elim (calls-at w.providers k (λ p q. (q.held ≡ p.held) × StoreCounts p q) new.providers i call) [
+      | inl e ↦ (ap (λ (p : Provider). p.held) e, ap (λ (p : Provider). p.fetches) e)
+      | inr c ↦ (c.1.0, c.1.1.fetches)
+    ]
 
 -- moves of an append change nothing of providers
-pub moves-made : (x : With) (old new : ℕ → Provider) (given now : List Given) → Made x (WriteBody ∷ SyncBody ∷ WriteGate ∷ SyncGate ∷ []) old new given now → new ≡ old
-moves-made x old new given now (a, ga, da, (b, gb, db, (c, gc, dc, (d, gd, dd, last)))) = last.0 ∙ (dd.0 ∙ (dc.0 ∙ (db.0 ∙ da.0)))
+pub moves-made : (x : With) (old new : ℕ → Provider) (given now : List Given) →
+    Made x (WriteBody ∷ SyncBody ∷ WriteGate ∷ SyncGate ∷ []) old new given now → new ≡ old
+moves-made x old new given now (a, ga, da, (b, gb, db, (c, gc, dc, (d, gd, dd, last)))) =
+    last.0 ∙ (dd.0 ∙ (dc.0 ∙ (db.0 ∙ da.0)))
 
 -- ---- the removals of a put or a drop
 
@@ -175,14 +208,19 @@ OlderGoes None p q = q.held ≡ p.held
 OlderGoes (Some f) p q = Goes (DroppedFrom f.id (Rose p.other_faults q.other_faults)) p.held q.held
 
 -- a put's or a drop's removals take the older object away from each provider, or a count rose
-pub older-goes : (x : With) (start : State) (s : Setup) (job : Job) (older : Option File) (old new : ℕ → Provider) (given now : List Given) (j : ℕ) → start.jobs ≡ [] → job.older ≡ removable start older → j < s.n →
+pub older-goes : (x : With) (start : State) (s : Setup) (job : Job) (older : Option File)
+    (old new : ℕ → Provider) (given now : List Given) (j : ℕ) → start.jobs ≡ [] →
+    job.older ≡ removable start older → j < s.n →
     Made x (remove_actions s job) old new given now → OlderGoes older (old j) (new j)
 older-goes x start s job older old new given now j idle is below m = by_file older is
   where
-    list : (os : List ℕ) → job.older ≡ os → Made x (flat_map (λ object. on_each_provider s (λ k. Remove k object)) os) old new given now
-    list os e = subst (λ zs. Made x (flat_map (λ object. on_each_provider s (λ k. Remove k object)) zs) old new given now) e m
+    list : (os : List ℕ) → job.older ≡ os →
+        Made x (flat_map (λ object. on_each_provider s (λ k. Remove k object)) os) old new given now
+    list os e = subst (λ zs. Made x (flat_map (λ object. on_each_provider s (λ k. Remove k object)) zs) old
+        new given now) e m
 
     by_file : (o : Option File) → job.older ≡ removable start o → OlderGoes o (old j) (new j)
     by_file None e = ap (λ (f : ℕ → Provider). (f j).held) (list [] e).0
     by_file (Some f) e = removals-go x f.id s.n old new given now j below
-        (subst (λ ys. Made x ys old new given now) (append-nil (on_each_provider s (λ k. Remove k f.id))) (list (f.id ∷ []) (e ∙ nothing-pinned start idle f)))
+        (subst (λ ys. Made x ys old new given now) (append-nil (on_each_provider s (λ k. Remove k f.id)))
+        (list (f.id ∷ []) (e ∙ nothing-pinned start idle f)))

@@ -93,7 +93,8 @@ at-repairs p WriteGate h = absurd h
 at-repairs p SyncGate h = absurd h
 at-repairs p End h = absurd h
 
-module _ (start : State) (O : IsOpenAtRest start 1) (w : State) (job : Job) (W : Walked start RepairJob w job) where
+module _ (start : State) (O : IsOpenAtRest start 1) (w : State) (job : Job)
+    (W : Walked start RepairJob w job) where
   abbrev s : Setup
   s = setup_in start
 
@@ -110,39 +111,56 @@ module _ (start : State) (O : IsOpenAtRest start 1) (w : State) (job : Job) (W :
   acts = take job.place (actions_of s job)
 
   sizes : Each (λ (f : File). length (start.bytes f.id) ≡ f.size) (files_of start.records)
-  sizes = each-in (λ (f : File). length (start.bytes f.id) ≡ f.size) (files_of start.records) (λ f i. (O.rest.files f.name f (listed_file start.records f i)).1)
+  sizes = each-in (λ (f : File). length (start.bytes f.id) ≡ f.size) (files_of start.records)
+      (λ f i. (O.rest.files f.name f (listed_file start.records f i)).1)
 
   list-is : actions_of s job ≡ flat_map (actions_at s job) all ++ tail
-  list-is = repair-list s job W.kind_is ∙ ap (λ xs. xs ++ tail) (repairs-places s start job (files_of start.records) W.pinned sizes)
+  list-is = repair-list s job W.kind_is
+      ∙ ap (λ xs. xs ++ tail) (repairs-places s start job (files_of start.records) W.pinned sizes)
 
   places-apart : AreApart all
-  places-apart = all-apart s start (files_of start.records) (subst (AreAscending 0) W.pinned (W.sound.jobs job.number job (runs start O RepairJob w job W)).ascending)
+  places-apart = all-apart s start (files_of start.records)
+      (subst (AreAscending 0) W.pinned
+      (W.sound.jobs job.number job (runs start O RepairJob w job W)).ascending)
 
   ordered-acts : AreOrdered acts
-  ordered-acts = ordered-take (actions_of s job) job.place (subst AreOrdered (sym list-is) (ordered-places s job all tail places-apart (tt, (tt, (tt, (tt, (tt, tt))))) (λ o t. tt, (λ o t. tt, (λ o t. tt, (λ o t. tt, (λ o t. tt, tt)))))))
+  ordered-acts = ordered-take (actions_of s job) job.place
+      (subst AreOrdered (sym list-is)
+      (ordered-places s job all tail places-apart (tt, (tt, (tt, (tt, (tt, tt)))))
+      (λ o t. tt, (λ o t. tt, (λ o t. tt, (λ o t. tt, (λ o t. tt, tt)))))))
 
   repairing-places : (ps : List Place) → Each IsRepairing (flat_map (actions_at s job) ps)
   repairing-places [] = tt
-  repairing-places (p ∷ ps) = each_append IsRepairing (actions_at s job p) (flat_map (actions_at s job) ps) (each_mono (IsAt p) IsRepairing (actions_at s job p) (λ a h. at-repairs p a h) (at-place s job p)) (repairing-places ps)
+  repairing-places (p ∷ ps) = each_append IsRepairing (actions_at s job p) (flat_map (actions_at s job) ps)
+      (each_mono (IsAt p) IsRepairing (actions_at s job p) (λ a h. at-repairs p a h) (at-place s job p))
+      (repairing-places ps)
 
   repairing-acts : Each IsRepairing acts
-  repairing-acts = each_take IsRepairing (actions_of s job) job.place (subst (Each IsRepairing) (sym list-is) (each_append IsRepairing (flat_map (actions_at s job) all) tail (repairing-places all) (tt, (tt, (tt, (tt, (tt, tt)))))))
+  repairing-acts = each_take IsRepairing (actions_of s job) job.place
+      (subst (Each IsRepairing) (sym list-is)
+      (each_append IsRepairing (flat_map (actions_at s job) all) tail (repairing-places all)
+      (tt, (tt, (tt, (tt, (tt, tt)))))))
 
   made-acts : Made x acts start.providers w.providers [] job.given
   made-acts = W.made
 
   -- where the next action stands
-  cut-next : (action : Action) → slice_get (actions_of s job) job.place ≡ Some action → Cut (actions_at s job) all tail job.place action
-  cut-next action h = cut-at (actions_at s job) all tail job.place action (ap (λ xs. slice_get xs job.place) (sym list-is) ∙ h)
+  cut-next : (action : Action) → slice_get (actions_of s job) job.place ≡ Some action →
+      Cut (actions_at s job) all tail job.place action
+  cut-next action h = cut-at (actions_at s job) all tail job.place action
+      (ap (λ xs. slice_get xs job.place) (sym list-is) ∙ h)
 
-  acts-are : (front : List Action) → take job.place (flat_map (actions_at s job) all ++ tail) ≡ front → acts ≡ front
+  acts-are : (front : List Action) → take job.place (flat_map (actions_at s job) all ++ tail) ≡ front →
+      acts ≡ front
   acts-are front e = ap (take job.place) list-is ∙ e
 
   -- one that doesn't tell what it holds goes on so
   untold : (j : ℕ) → (start.providers j).held ≡ None → (w.providers j).held ≡ None
-  untold j = made-keeps x j (λ p q. p.held ≡ None → q.held ≡ None) IsRepairing (λ p e. e) (λ p q r a b e. b (a e)) step acts start.providers w.providers [] job.given repairing-acts made-acts
+  untold j = made-keeps x j (λ p q. p.held ≡ None → q.held ≡ None) IsRepairing (λ p e. e)
+      (λ p q r a b e. b (a e)) step acts start.providers w.providers [] job.given repairing-acts made-acts
     where
-      step : (a : Action) (given now : List Given) (p q : Provider) → IsRepairing a → Called x a given now j p q → p.held ≡ None → q.held ≡ None
+      step : (a : Action) (given now : List Given) (p q : Provider) → IsRepairing a →
+          Called x a given now j p q → p.held ≡ None → q.held ≡ None
       step (Fetch k o t) given now p q u (e, (block, c, is)) h = c.held ∙ h
       step (Store k o t) given now p q u (e, c, is) h = c.held ∙ ap (option_map _) h
       step (Ask k o r) given now p q u c h = absurd u
@@ -156,7 +174,9 @@ module _ (start : State) (O : IsOpenAtRest start 1) (w : State) (job : Job) (W :
 
   -- ---- what its actions gave and left, in the words of the command
 
-  module _ (new : State) (heard : List Entry) (held-same : (j : ℕ) → (new.providers j).held ≡ (w.providers j).held) (count-same : (j : ℕ) → (new.providers j).other_faults ≡ (w.providers j).other_faults)
+  module _ (new : State) (heard : List Entry) (held-same : (j : ℕ) →
+      (new.providers j).held ≡ (w.providers j).held)
+      (count-same : (j : ℕ) → (new.providers j).other_faults ≡ (w.providers j).other_faults)
       (due : Due) (is-due : due_of start.records ≡ Some due) where
     abbrev ran : Ran
     ran = ran_from start new heard
@@ -178,66 +198,104 @@ module _ (start : State) (O : IsOpenAtRest start 1) (w : State) (job : Job) (W :
     -- the flagged providers are those of the due audit
     flagged-is : (j : ℕ) → job.flagged j ≡ flags ran due j
     unfolding setup_in
-    flagged-is j = ap (λ (f : ℕ → Bool). f j) W.flagged ∙ ap (λ (d : Option Due). due_flags (setup_in start).tolerance d j) is-due
+    flagged-is j = ap (λ (f : ℕ → Bool). f j) W.flagged
+        ∙ ap (λ (d : Option Due). due_flags (setup_in start).tolerance d j) is-due
 
-    told : (j : ℕ) (held : Held) → (start.providers j).held ≡ Some held → Told x refl job.given j held held acts (start.providers j) (w.providers j)
-    told j held e = made-told x refl job.given j held acts start.providers w.providers repairing-acts ordered-acts made-acts e
+    told : (j : ℕ) (held : Held) → (start.providers j).held ≡ Some held →
+        Told x refl job.given j held held acts (start.providers j) (w.providers j)
+    told j held e = made-told x refl job.given j held acts start.providers w.providers repairing-acts
+        ordered-acts made-acts e
 
     truth : (ps : List Place) → FetchesAll s ps acts → IsTruth ran gave ps
     unfolding setup_in
     truth ps f = λ j below. by_held j below (start.providers j).held refl
       where
-        tells : (j : ℕ) → j < s.n → (held : Held) → (start.providers j).held ≡ Some held → IsTruthful (gave j) (held_at ran held) ps (start.providers j).other_faults (new.providers j).other_faults
-        tells j below held e = subst (λ (objs : ℕ → Object). IsTruthful (gave j) (λ p. sized (objs p.object).profile.size (held p.object p.stripe)) ps (start.providers j).other_faults (new.providers j).other_faults) objects-are
+        tells : (j : ℕ) → j < s.n → (held : Held) → (start.providers j).held ≡ Some held →
+            IsTruthful (gave j) (held_at ran held) ps (start.providers j).other_faults
+            (new.providers j).other_faults
+        tells j below held e =
+            subst (λ (objs : ℕ → Object). IsTruthful (gave j)
+            (λ p. sized (objs p.object).profile.size (held p.object p.stripe)) ps
+            (start.providers j).other_faults (new.providers j).other_faults) objects-are
             (let t = told j held e in record {
-              each = all-each (λ p. (gave j p ≡ sized (plain p.object).profile.size (held p.object p.stripe)) ⊎ (gave j p ≡ None)) ps (told-places x refl job.given j held below ps acts f t.told);
-              few = λ l. (let same = count-same j in let c = t.count (omega (arith, l, same)) in let m = lacks-places x refl job.given j held below ps acts f in omega (arith, c, m, same));
+              each = all-each (λ p. (gave j p ≡ sized (plain p.object).profile.size
+                  (held p.object p.stripe)) ⊎ (gave j p ≡ None)) ps
+                  (told-places x refl job.given j held below ps acts f t.told);
+              few = λ l. (let same = count-same j in let c = t.count (omega (arith, l, same)) in
+                  let m = lacks-places x refl job.given j held below ps acts f in omega (arith, c, m, same));
             })
 
-        by_held : (j : ℕ) → j < s.n → (h : Option Held) → (start.providers j).held ≡ h → IfSome h (λ held. IsTruthful (gave j) (held_at ran held) ps (start.providers j).other_faults (new.providers j).other_faults)
+        by_held : (j : ℕ) → j < s.n → (h : Option Held) → (start.providers j).held ≡ h →
+            IfSome h (λ held. IsTruthful (gave j) (held_at ran held) ps (start.providers j).other_faults
+            (new.providers j).other_faults)
         by_held j below None e = tt
         by_held j below (Some held) e = tells j below held e
 
     opened : (ps : List Place) → OpensAll s ps acts → All (GivesPlace ran gave symbols) ps
     unfolding setup_in
-    opened ps o = subst (λ (objs : ℕ → Object). All (λ p. GivesSymbols (objs p.object) p.stripe (blocks_at ran gave p) (symbols p)) ps) objects-are
-        (all-each (λ p. GivesSymbols (plain p.object) p.stripe (blocks_at ran gave p) (symbols p)) ps (gives-places x job.given ps acts o (works-opened x acts start.providers w.providers [] job.given ordered-acts made-acts)))
+    opened ps o = subst (λ (objs : ℕ → Object). All
+        (λ p. GivesSymbols (objs p.object) p.stripe (blocks_at ran gave p) (symbols p)) ps) objects-are
+        (all-each (λ p. GivesSymbols (plain p.object) p.stripe (blocks_at ran gave p) (symbols p)) ps
+        (gives-places x job.given ps acts o
+        (works-opened x acts start.providers w.providers [] job.given ordered-acts made-acts)))
 
     -- what a provider holds now
-    now-held : (j : ℕ) (held : Held) → (start.providers j).held ≡ Some held → (new.providers j).held ≡ Some (after x job.given j acts held)
+    now-held : (j : ℕ) (held : Held) → (start.providers j).held ≡ Some held →
+        (new.providers j).held ≡ Some (after x job.given j acts held)
     now-held j held e = held-same j ∙ (told j held e).held_is
 
-    goes-by : (change : ℕ → Held → Held → Type 0) → ((j : ℕ) (held : Held) → j < s.n → change j held (after x job.given j acts held)) → (j : ℕ) → j < s.n → Goes (change j) (start.providers j).held (new.providers j).held
+    goes-by : (change : ℕ → Held → Held → Type 0) →
+        ((j : ℕ) (held : Held) → j < s.n → change j held (after x job.given j acts held)) → (j : ℕ) →
+        j < s.n → Goes (change j) (start.providers j).held (new.providers j).held
     goes-by change f j below = by_held (start.providers j).held refl
       where
         by_held : (h : Option Held) → (start.providers j).held ≡ h → Goes (change j) h (new.providers j).held
         by_held None e = subst (Goes (change j) None) (sym (held-same j ∙ untold j e)) tt
         by_held (Some held) e = subst (Goes (change j) (Some held)) (sym (now-held j held e)) (f j held below)
 
-    same-unflagged : (ps : List Place) → Each (IsStoreOf job s.n ps) acts → (j : ℕ) (held : Held) → job.flagged j ≡ false → (o t : ℕ) → after x job.given j acts held o t ≡ held o t
-    same-unflagged ps st j held f o t = after-none x job.given j acts held o t (no-stores job s.n ps j o t acts (λ h. false≢true (sym f ∙ h.0)) st)
+    same-unflagged : (ps : List Place) → Each (IsStoreOf job s.n ps) acts → (j : ℕ) (held : Held) →
+        job.flagged j ≡ false → (o t : ℕ) → after x job.given j acts held o t ≡ held o t
+    same-unflagged ps st j held f o t = after-none x job.given j acts held o t
+        (no-stores job s.n ps j o t acts (λ h. false≢true (sym f ∙ h.0)) st)
 
-    same-elsewhere : (ps : List Place) → Each (IsStoreOf job s.n ps) acts → (j : ℕ) (held : Held) (p : Place) → (Contains ps p → ⊥) → after x job.given j acts held p.object p.stripe ≡ held p.object p.stripe
-    same-elsewhere ps st j held p n = after-none x job.given j acts held p.object p.stripe (no-stores job s.n ps j p.object p.stripe acts (λ h. n (in_contains ps p h.1)) st)
+    same-elsewhere : (ps : List Place) → Each (IsStoreOf job s.n ps) acts →
+        (j : ℕ) (held : Held) (p : Place) → (Contains ps p → ⊥) →
+        after x job.given j acts held p.object p.stripe ≡ held p.object p.stripe
+    same-elsewhere ps st j held p n = after-none x job.given j acts held p.object p.stripe
+        (no-stores job s.n ps j p.object p.stripe acts (λ h. n (in_contains ps p h.1)) st)
 
     -- some places are rewritten
-    rewritten-part : (ps : List Place) → Each (IsStoreOf job s.n ps) acts → EachHeldGoes ran (λ j. IfFlagged (flags ran due j) (PartlyRewrittenOn (object_numbered ran) symbols ps j))
+    rewritten-part : (ps : List Place) → Each (IsStoreOf job s.n ps) acts →
+        EachHeldGoes ran (λ j. IfFlagged (flags ran due j)
+        (PartlyRewrittenOn (object_numbered ran) symbols ps j))
     unfolding setup_in
-    rewritten-part ps st = subst (λ (objs : ℕ → Object). EachHeldGoes ran (λ j. IfFlagged (flags ran due j) (PartlyRewrittenOn objs symbols ps j))) objects-are
-        (goes-by (λ j. IfFlagged (flags ran due j) (PartlyRewrittenOn plain symbols ps j)) (λ j held below. by_flag j held (flags ran due j) (flagged-is j)))
+    rewritten-part ps st =
+        subst (λ (objs : ℕ → Object). EachHeldGoes ran
+        (λ j. IfFlagged (flags ran due j) (PartlyRewrittenOn objs symbols ps j))) objects-are
+        (goes-by (λ j. IfFlagged (flags ran due j) (PartlyRewrittenOn plain symbols ps j))
+        (λ j held below. by_flag j held (flags ran due j) (flagged-is j)))
       where
-        each-place : (j : ℕ) (held : Held) (qs : List Place) → Each (λ (p : Place). (after x job.given j acts held p.object p.stripe ≡ held p.object p.stripe) ⊎ (after x job.given j acts held p.object p.stripe ≡ Some (column_at x job.given j p.object p.stripe))) qs
+        each-place : (j : ℕ) (held : Held) (qs : List Place) →
+            Each (λ (p : Place). (after x job.given j acts held p.object p.stripe ≡ held p.object p.stripe) ⊎
+            (after x job.given j acts held p.object p.stripe
+            ≡ Some (column_at x job.given j p.object p.stripe))) qs
         each-place j held [] = tt
-        each-place j held (p ∷ qs) = (after-either x job.given j acts held p.object p.stripe, each-place j held qs)
+        each-place j held (p ∷ qs) =
+            (after-either x job.given j acts held p.object p.stripe, each-place j held qs)
 
-        by_flag : (j : ℕ) (held : Held) (b : Bool) → job.flagged j ≡ b → IfFlagged b (PartlyRewrittenOn plain symbols ps j) held (after x job.given j acts held)
+        by_flag : (j : ℕ) (held : Held) (b : Bool) → job.flagged j ≡ b →
+            IfFlagged b (PartlyRewrittenOn plain symbols ps j) held (after x job.given j acts held)
         by_flag j held true f = record {
-          stored = all-each (λ (p : Place). (after x job.given j acts held p.object p.stripe ≡ held p.object p.stripe) ⊎ (after x job.given j acts held p.object p.stripe ≡ Some (column_at x job.given j p.object p.stripe))) ps (each-place j held ps);
+          stored = all-each (λ (p : Place). (after x job.given j acts held p.object p.stripe
+              ≡ held p.object p.stripe) ⊎
+              (after x job.given j acts held p.object p.stripe
+              ≡ Some (column_at x job.given j p.object p.stripe))) ps (each-place j held ps);
           others = λ p n. same-elsewhere ps st j held p n;
         }
         by_flag j held false f = λ o t. same-unflagged ps st j held f o t
 
-    part : (done rest : List Place) → all ≡ done ++ rest → OpensAll s done acts → Each (IsStoreOf job s.n done) acts → RewritesPart ran due done rest gave symbols
+    part : (done rest : List Place) → all ≡ done ++ rest → OpensAll s done acts →
+        Each (IsStoreOf job s.n done) acts → RewritesPart ran due done rest gave symbols
     unfolding setup_in
     part done rest parts o st = record {
       parts = parts;
@@ -246,32 +304,47 @@ module _ (start : State) (O : IsOpenAtRest start 1) (w : State) (job : Job) (W :
       held = rewritten-part done st;
     }
 
-    some-part : (done rest : List Place) → all ≡ done ++ rest → OpensAll s done acts → Each (IsStoreOf job s.n done) acts → RewritesSome ran due
-    some-part done rest parts o st = record { done = done; rest = rest; gave = gave; symbols = symbols; part = part done rest parts o st }
+    some-part : (done rest : List Place) → all ≡ done ++ rest → OpensAll s done acts →
+        Each (IsStoreOf job s.n done) acts → RewritesSome ran due
+    some-part done rest parts o st =
+        record { done = done; rest = rest; gave = gave; symbols = symbols; part = part done rest parts o st }
 
     -- all places are rewritten
-    all-part : (behind : List Action) → acts ≡ flat_map (actions_at s job) all ++ behind → Each (IsStoreOf job s.n all) behind → RewritesAll ran due
+    all-part : (behind : List Action) → acts ≡ flat_map (actions_at s job) all ++ behind →
+        Each (IsStoreOf job s.n all) behind → RewritesAll ran due
     unfolding setup_in
     all-part behind e b = record {
       gave = gave;
       symbols = symbols;
       truth = truth all (opens-fetches s all acts opens);
       gives = opened all opens;
-      held = subst (λ (objs : ℕ → Object). EachHeldGoes ran (λ j. IfFlagged (flags ran due j) (RewrittenOn objs symbols all j))) objects-are
-          (goes-by (λ j. IfFlagged (flags ran due j) (RewrittenOn plain symbols all j)) (λ j held below. by_flag j held below (flags ran due j) (flagged-is j)));
+      held = subst (λ (objs : ℕ → Object). EachHeldGoes ran
+          (λ j. IfFlagged (flags ran due j) (RewrittenOn objs symbols all j))) objects-are
+          (goes-by (λ j. IfFlagged (flags ran due j) (RewrittenOn plain symbols all j))
+          (λ j held below. by_flag j held below (flags ran due j) (flagged-is j)));
     }
       where
         opens : OpensAll s all acts
-        opens = subst (OpensAll s all) (sym e) (subst (λ ps. OpensAll s ps (flat_map (actions_at s job) all ++ behind)) (append-nil all) (opens-done s job all [] behind tt))
+        opens = subst (OpensAll s all) (sym e)
+            (subst (λ ps. OpensAll s ps (flat_map (actions_at s job) all ++ behind)) (append-nil all)
+            (opens-done s job all [] behind tt))
 
         st : Each (IsStoreOf job s.n all) acts
-        st = subst (Each (IsStoreOf job s.n all)) (sym e) (each_append (IsStoreOf job s.n all) (flat_map (actions_at s job) all) behind (stores-all s job all) b)
+        st = subst (Each (IsStoreOf job s.n all)) (sym e)
+            (each_append (IsStoreOf job s.n all) (flat_map (actions_at s job) all) behind
+            (stores-all s job all) b)
 
-        by_flag : (j : ℕ) (held : Held) → j < s.n → (b : Bool) → job.flagged j ≡ b → IfFlagged b (RewrittenOn plain symbols all j) held (after x job.given j acts held)
+        by_flag : (j : ℕ) (held : Held) → j < s.n → (b : Bool) → job.flagged j ≡ b →
+            IfFlagged b (RewrittenOn plain symbols all j) held (after x job.given j acts held)
         by_flag j held below true f = record {
-          stored = all-each (λ (p : Place). after x job.given j acts held p.object p.stripe ≡ Some (column_at x job.given j p.object p.stripe)) all
-              (each-in (λ (p : Place). after x job.given j acts held p.object p.stripe ≡ Some (column_at x job.given j p.object p.stripe)) all
-              (λ p i. after-some x job.given j acts held p.object p.stripe (subst (In (Store j p.object p.stripe)) (sym e) (in_left (flat_map (actions_at s job) all) behind (Store j p.object p.stripe) (stored-at s job j all p below f i)))));
+          stored = all-each (λ (p : Place). after x job.given j acts held p.object p.stripe
+              ≡ Some (column_at x job.given j p.object p.stripe)) all
+              (each-in (λ (p : Place). after x job.given j acts held p.object p.stripe
+              ≡ Some (column_at x job.given j p.object p.stripe)) all
+              (λ p i. after-some x job.given j acts held p.object p.stripe
+              (subst (In (Store j p.object p.stripe)) (sym e)
+              (in_left (flat_map (actions_at s job) all) behind (Store j p.object p.stripe)
+              (stored-at s job j all p below f i)))));
           others = λ p n. same-elsewhere all st j held p n;
         }
         by_flag j held below false f = λ o t. same-unflagged all st j held f o t
@@ -284,17 +357,22 @@ module _ (start : State) (O : IsOpenAtRest start 1) (w : State) (job : Job) (W :
       same : appends_left (setup_in start) job ≡ appends_left (setup_in w) job
       same = left-start start O RepairJob w job W (appends_left (setup_in w) job) refl
 
-      by_records : (rs : List Record) → w.records ≡ rs → RecordsAre start RepairJob job rs → w.records ≡ start.records
+      by_records : (rs : List Record) → w.records ≡ rs → RecordsAre start RepairJob job rs →
+          w.records ≡ start.records
       by_records rs e (RecordsAre.none l is) = e ∙ is
       by_records rs e (RecordsAre.one l is) = absurd (omega (arith, l, same, left))
       by_records rs e (RecordsAre.two entry l sec is) = absurd (omega (arith, l))
 
   -- before the append it is left
-  places-left : (a : Action) → slice_get (actions_of s job) job.place ≡ Some a → (p : Place) → IsAt p a → 0 < appends_left (setup_in w) job
-  places-left a h p at = subst (λ (t : Setup). 0 < appends_left t job) (sym W.setup) (subst (λ xs. 0 < appends_in (drop job.place xs)) (sym (repair-list s job W.kind_is))
-      (elim (split_get (repair_actions s job) tail job.place a (ap (λ xs. slice_get xs job.place) (sym (repair-list s job W.kind_is)) ∙ h)) [
+  places-left : (a : Action) → slice_get (actions_of s job) job.place ≡ Some a → (p : Place) → IsAt p a →
+      0 < appends_left (setup_in w) job
+  places-left a h p at = subst (λ (t : Setup). 0 < appends_left t job) (sym W.setup)
+      (subst (λ xs. 0 < appends_in (drop job.place xs)) (sym (repair-list s job W.kind_is))
+      (elim (split_get (repair_actions s job) tail job.place a
+      (ap (λ xs. slice_get xs job.place) (sym (repair-list s job W.kind_is)) ∙ h)) [
         | inl l ↦ audit-within (repair_actions s job) job.place l.0
-        | inr r ↦ absurd (each_get (λ y. IsAt p y → ⊥) tail (job.place - length (repair_actions s job)) a ((λ u. u), ((λ u. u), ((λ u. u), ((λ u. u), ((λ u. u), tt))))) r.1 at)
+        | inr r ↦ absurd (each_get (λ y. IsAt p y → ⊥) tail (job.place - length (repair_actions s job)) a
+            ((λ u. u), ((λ u. u), ((λ u. u), ((λ u. u), ((λ u. u), tt))))) r.1 at)
       ]))
 
 -- ---- all ends of a repair
@@ -308,7 +386,8 @@ abbrev IsNoWork : Action → Type 0
 IsNoWork (Work o t) = ⊥
 IsNoWork action = Unit {0}
 
-module _ (start new : State) (how : Answer) (heard : List Entry) (O : IsOpenAtRest start 1) (E : Ends start RepairJob how heard new) (due : Due) (is-due : due_of start.records ≡ Some due) where
+module _ (start new : State) (how : Answer) (heard : List Entry) (O : IsOpenAtRest start 1)
+    (E : Ends start RepairJob how heard new) (due : Due) (is-due : due_of start.records ≡ Some due) where
   abbrev Gives : Answer → Type 0
   Gives a = RepairGives (ran_from start new heard) due a
 
@@ -318,118 +397,213 @@ module _ (start new : State) (how : Answer) (heard : List Entry) (O : IsOpenAtRe
   subject-is : E.job.subject ≡ due.number
   subject-is = E.walked.subject ∙ ap due_number is-due
 
-  listed : (action : Action) → E.action ≡ action → (action ≡ End → ⊥) → slice_get (actions_of sx E.job) E.job.place ≡ Some action
-  listed action at n = subst (λ (t : Setup). slice_get (actions_of t E.job) E.job.place ≡ Some action) E.walked.setup (next_stands E.before E.job action (E.next ∙ ap Some at) n)
+  listed : (action : Action) → E.action ≡ action → (action ≡ End → ⊥) →
+      slice_get (actions_of sx E.job) E.job.place ≡ Some action
+  listed action at n = subst (λ (t : Setup). slice_get (actions_of t E.job) E.job.place ≡ Some action)
+      E.walked.setup (next_stands E.before E.job action (E.next ∙ ap Some at) n)
 
   -- a move, or the end, stands behind all places
-  behind-all : (action : Action) → slice_get (actions_of sx E.job) E.job.place ≡ Some action → ((p : Place) → IsAt p action → ⊥) →
-      (q : ℕ) × (take E.job.place (actions_of sx E.job) ≡ flat_map (actions_at sx E.job) (places sx (files_of start.records)) ++ take q (append_actions ++ End ∷ []))
+  behind-all : (action : Action) → slice_get (actions_of sx E.job) E.job.place ≡ Some action →
+      ((p : Place) → IsAt p action → ⊥) →
+      (q : ℕ) × (take E.job.place (actions_of sx E.job)
+      ≡ flat_map (actions_at sx E.job) (places sx (files_of start.records)) ++ take q
+      (append_actions ++ End ∷ []))
   behind-all action h n = elim (cut-next start O E.before E.job E.walked action h) [
-    | Cut.inside done place rest q parts at front ↦ absurd (n place (each_get (IsAt place) (actions_at sx E.job place) q action (at-place sx E.job place) at))
-    | Cut.behind q at front ↦ (q, acts-are start O E.before E.job E.walked (flat_map (actions_at sx E.job) (places sx (files_of start.records)) ++ take q (append_actions ++ End ∷ [])) front)
+    | Cut.inside done place rest q parts at front ↦
+        absurd (n place (each_get (IsAt place) (actions_at sx E.job place) q action
+        (at-place sx E.job place) at))
+    | Cut.behind q at front ↦ (
+      q,
+      acts-are start O E.before E.job E.walked
+          (flat_map (actions_at sx E.job) (places sx (files_of start.records)) ++ take q
+          (append_actions ++ End ∷ [])) front,
+    )
   ]
 
-  quiet-tail : (q : ℕ) → Each (IsStoreOf E.job sx.n (places sx (files_of start.records))) (take q (append_actions ++ End ∷ []))
-  quiet-tail q = each_take (IsStoreOf E.job sx.n (places sx (files_of start.records))) (append_actions ++ End ∷ []) q (tt, (tt, (tt, (tt, (tt, tt)))))
+  quiet-tail : (q : ℕ) →
+      Each (IsStoreOf E.job sx.n (places sx (files_of start.records))) (take q (append_actions ++ End ∷ []))
+  quiet-tail q = each_take (IsStoreOf E.job sx.n (places sx (files_of start.records)))
+      (append_actions ++ End ∷ []) q (tt, (tt, (tt, (tt, (tt, tt)))))
 
-  module _ (held-same : (j : ℕ) → (new.providers j).held ≡ (E.before.providers j).held) (count-same : (j : ℕ) → (new.providers j).other_faults ≡ (E.before.providers j).other_faults) where
+  module _ (held-same : (j : ℕ) → (new.providers j).held ≡ (E.before.providers j).held)
+      (count-same : (j : ℕ) → (new.providers j).other_faults ≡ (E.before.providers j).other_faults) where
     -- at a move or the end all places are rewritten, so some of them are
-    all-some : (action : Action) → slice_get (actions_of sx E.job) E.job.place ≡ Some action → ((p : Place) → IsAt p action → ⊥) → RewritesSome (ran_from start new heard) due
+    all-some : (action : Action) → slice_get (actions_of sx E.job) E.job.place ≡ Some action →
+        ((p : Place) → IsAt p action → ⊥) → RewritesSome (ran_from start new heard) due
     all-some action h n =
         (let b = behind-all action h n in
         let ps = places sx (files_of start.records) in
-        some-part start O E.before E.job E.walked new heard held-same count-same due is-due ps [] (sym (append-nil ps))
-        (subst (OpensAll sx ps) (sym b.1) (subst (λ qs. OpensAll sx qs (flat_map (actions_at sx E.job) ps ++ take b.0 (append_actions ++ End ∷ []))) (append-nil ps) (opens-done sx E.job ps [] (take b.0 (append_actions ++ End ∷ [])) tt)))
-        (subst (Each (IsStoreOf E.job sx.n ps)) (sym b.1) (each_append (IsStoreOf E.job sx.n ps) (flat_map (actions_at sx E.job) ps) (take b.0 (append_actions ++ End ∷ [])) (stores-all sx E.job ps) (quiet-tail b.0))))
+        some-part start O E.before E.job E.walked new heard held-same count-same due is-due ps []
+        (sym (append-nil ps))
+        (subst (OpensAll sx ps) (sym b.1)
+        (subst (λ qs. OpensAll sx qs
+        (flat_map (actions_at sx E.job) ps ++ take b.0 (append_actions ++ End ∷ []))) (append-nil ps)
+        (opens-done sx E.job ps [] (take b.0 (append_actions ++ End ∷ [])) tt)))
+        (subst (Each (IsStoreOf E.job sx.n ps)) (sym b.1)
+        (each_append (IsStoreOf E.job sx.n ps) (flat_map (actions_at sx E.job) ps)
+        (take b.0 (append_actions ++ End ∷ [])) (stores-all sx E.job ps) (quiet-tail b.0))))
 
     -- at a store the place is open, and some of its blocks may be stored
-    store-some : (j o t : ℕ) → slice_get (actions_of sx E.job) E.job.place ≡ Some (Store j o t) → RewritesSome (ran_from start new heard) due
+    store-some : (j o t : ℕ) → slice_get (actions_of sx E.job) E.job.place ≡ Some (Store j o t) →
+        RewritesSome (ran_from start new heard) due
     store-some j o t h = elim (cut-next start O E.before E.job E.walked (Store j o t) h) [
-      | Cut.behind q at front ↦ absurd (each_get IsNoStore (append_actions ++ End ∷ []) q (Store j o t) (tt, (tt, (tt, (tt, (tt, tt))))) at)
+      | Cut.behind q at front ↦
+          absurd (each_get IsNoStore (append_actions ++ End ∷ []) q (Store j o t)
+          (tt, (tt, (tt, (tt, (tt, tt))))) at)
       | Cut.inside done place rest q parts at front ↦
           (let c = store-cut sx E.job place q j o t at in
-          let here : List Action = open_actions sx place.object place.stripe ++ take c.0 (rewrite_actions sx E.job place.object place.stripe) in
+          let here : List Action = open_actions sx place.object place.stripe ++ take c.0
+          (rewrite_actions sx E.job place.object place.stripe) in
           let is : take E.job.place (actions_of sx E.job) ≡ flat_map (actions_at sx E.job) done ++ here =
-          acts-are start O E.before E.job E.walked (flat_map (actions_at sx E.job) done ++ take q (actions_at sx E.job place)) front ∙ ap (λ l. flat_map (actions_at sx E.job) done ++ l) c.1 in
-          some-part start O E.before E.job E.walked new heard held-same count-same due is-due (done ++ place ∷ []) rest (parts ∙ sym (append_assoc done (place ∷ []) rest))
-          (subst (OpensAll sx (done ++ place ∷ [])) (sym is) (opens-done sx E.job done (place ∷ []) here (take c.0 (rewrite_actions sx E.job place.object place.stripe), [], sym (append-nil here), tt)))
-          (subst (Each (IsStoreOf E.job sx.n (done ++ place ∷ []))) (sym is) (each_append (IsStoreOf E.job sx.n (done ++ place ∷ [])) (flat_map (actions_at sx E.job) done) here
-          (stores-wider E.job sx.n done (done ++ place ∷ []) (flat_map (actions_at sx E.job) done) (λ p i. in_left done (place ∷ []) p i) (stores-all sx E.job done))
-          (stores-wider E.job sx.n (place ∷ []) (done ++ place ∷ []) here (λ p i. in_right done (place ∷ []) p i) (subst (Each (IsStoreOf E.job sx.n (place ∷ []))) c.1 (each_take (IsStoreOf E.job sx.n (place ∷ [])) (actions_at sx E.job place) q (stores-of sx E.job place)))))))
+          acts-are start O E.before E.job E.walked
+          (flat_map (actions_at sx E.job) done ++ take q (actions_at sx E.job place)) front
+          ∙ ap (λ l. flat_map (actions_at sx E.job) done ++ l) c.1 in
+          some-part start O E.before E.job E.walked new heard held-same count-same due is-due
+          (done ++ place ∷ []) rest (parts ∙ sym (append_assoc done (place ∷ []) rest))
+          (subst (OpensAll sx (done ++ place ∷ [])) (sym is)
+          (opens-done sx E.job done (place ∷ []) here (
+            take c.0 (rewrite_actions sx E.job place.object place.stripe),
+            [],
+            sym (append-nil here),
+            tt,
+          )))
+          (subst (Each (IsStoreOf E.job sx.n (done ++ place ∷ []))) (sym is)
+          (each_append (IsStoreOf E.job sx.n (done ++ place ∷ []))
+          (flat_map (actions_at sx E.job) done) here
+          (stores-wider E.job sx.n done (done ++ place ∷ []) (flat_map (actions_at sx E.job) done)
+          (λ p i. in_left done (place ∷ []) p i) (stores-all sx E.job done))
+          (stores-wider E.job sx.n (place ∷ []) (done ++ place ∷ []) here
+          (λ p i. in_right done (place ∷ []) p i)
+          (subst (Each (IsStoreOf E.job sx.n (place ∷ []))) c.1
+          (each_take (IsStoreOf E.job sx.n (place ∷ [])) (actions_at sx E.job place) q
+          (stores-of sx E.job place)))))))
     ]
 
     -- at a work all blocks of the place were fetched
-    lost-at : (o t row : ℕ) → slice_get (actions_of sx E.job) E.job.place ≡ Some (Work o t) → LosesRow (worked_object E.before E.job o) t (blocks_given E.job.given (setup_in E.before).n o t) row → LosesAtPlace (ran_from start new heard) due t row
+    lost-at : (o t row : ℕ) → slice_get (actions_of sx E.job) E.job.place ≡ Some (Work o t) →
+        LosesRow (worked_object E.before E.job o) t (blocks_given E.job.given (setup_in E.before).n o t) row →
+        LosesAtPlace (ran_from start new heard) due t row
     unfolding setup_in
     lost-at o t row h loses = elim (cut-next start O E.before E.job E.walked (Work o t) h) [
-      | Cut.behind q at front ↦ absurd (each_get IsNoWork (append_actions ++ End ∷ []) q (Work o t) (tt, (tt, (tt, (tt, (tt, tt))))) at)
+      | Cut.behind q at front ↦
+          absurd (each_get IsNoWork (append_actions ++ End ∷ []) q (Work o t)
+          (tt, (tt, (tt, (tt, (tt, tt))))) at)
       | Cut.inside done place rest q parts at front ↦
           (let c = work-cut sx E.job place q o t at in
-          let is : take E.job.place (actions_of sx E.job) ≡ flat_map (actions_at sx E.job) done ++ fetches_at sx place =
-          acts-are start O E.before E.job E.walked (flat_map (actions_at sx E.job) done ++ take q (actions_at sx E.job place)) front ∙ ap (λ l. flat_map (actions_at sx E.job) done ++ l) c.0 in
+          let is : take E.job.place (actions_of sx E.job)
+          ≡ flat_map (actions_at sx E.job) done ++ fetches_at sx place =
+          acts-are start O E.before E.job E.walked
+          (flat_map (actions_at sx E.job) done ++ take q (actions_at sx E.job place)) front
+          ∙ ap (λ l. flat_map (actions_at sx E.job) done ++ l) c.0 in
           record {
             done = done;
             place = place;
             rest = rest;
             gave = λ j p. block_given E.job.given p.object p.stripe j;
             symbols = λ p. symbols_given E.job.given p.object p.stripe;
-            part = part start O E.before E.job E.walked new heard held-same count-same due is-due done (place ∷ rest) parts
-                (subst (OpensAll sx done) (sym is) (subst (λ ps. OpensAll sx ps (flat_map (actions_at sx E.job) done ++ fetches_at sx place)) (append-nil done) (opens-done sx E.job done [] (fetches_at sx place) tt)))
-                (subst (Each (IsStoreOf E.job sx.n done)) (sym is) (each_append (IsStoreOf E.job sx.n done) (flat_map (actions_at sx E.job) done) (fetches_at sx place) (stores-all sx E.job done)
-                (each_map (IsStoreOf E.job sx.n done) (λ j. Fetch j place.object place.stripe) (upto sx.n) (λ j. tt))));
-            truth = truth start O E.before E.job E.walked new heard held-same count-same due is-due (done ++ place ∷ [])
-                (subst (FetchesAll sx (done ++ place ∷ [])) (sym is) (fetches-done sx E.job done (place ∷ []) (fetches_at sx place) ([], [], sym (append-nil (fetches_at sx place ++ []) ∙ append-nil (fetches_at sx place)), tt)));
+            part = part start O E.before E.job E.walked new heard held-same count-same due is-due done
+                (place ∷ rest) parts
+                (subst (OpensAll sx done) (sym is)
+                (subst (λ ps. OpensAll sx ps (flat_map (actions_at sx E.job) done ++ fetches_at sx place))
+                (append-nil done) (opens-done sx E.job done [] (fetches_at sx place) tt)))
+                (subst (Each (IsStoreOf E.job sx.n done)) (sym is)
+                (each_append (IsStoreOf E.job sx.n done) (flat_map (actions_at sx E.job) done)
+                (fetches_at sx place) (stores-all sx E.job done)
+                (each_map (IsStoreOf E.job sx.n done) (λ j. Fetch j place.object place.stripe) (upto sx.n)
+                (λ j. tt))));
+            truth = truth start O E.before E.job E.walked new heard held-same count-same due is-due
+                (done ++ place ∷ [])
+                (subst (FetchesAll sx (done ++ place ∷ [])) (sym is)
+                (fetches-done sx E.job done (place ∷ []) (fetches_at sx place) (
+                  [],
+                  [],
+                  sym (append-nil (fetches_at sx place ++ [])
+                      ∙ append-nil (fetches_at sx place)),
+                  tt,
+                )));
             stripe_is = sym c.2;
-            loses = subst (λ m. LosesRow (object_numbered (ran_from start new heard) place.object) t (blocks_given E.job.given sx.n place.object m) row) c.2
-                (subst (λ (z : Object). LosesRow z t (blocks_given E.job.given sx.n place.object t) row) (sym (numbered-plain start O (ran_from start new heard) refl place.object))
+            loses = subst (λ m. LosesRow (object_numbered (ran_from start new heard) place.object) t
+                (blocks_given E.job.given sx.n place.object m) row) c.2
+                (subst (λ (z : Object). LosesRow z t (blocks_given E.job.given sx.n place.object t) row)
+                (sym (numbered-plain start O (ran_from start new heard) refl place.object))
                 (subst (λ n. LosesRow (object_of sx n) t (blocks_given E.job.given sx.n n t) row) c.1
-                (subst (λ (z : Object). LosesRow z t (blocks_given E.job.given sx.n o t) row) (worked-plain start O RepairJob E.before E.job E.walked o)
-                (subst (λ n. LosesRow (worked_object E.before E.job o) t (blocks_given E.job.given n o t) row) (ap (λ (u : Setup). u.n) E.walked.setup) loses))));
+                (subst (λ (z : Object). LosesRow z t (blocks_given E.job.given sx.n o t) row)
+                (worked-plain start O RepairJob E.before E.job E.walked o)
+                (subst (λ n. LosesRow (worked_object E.before E.job o) t (blocks_given E.job.given n o t) row)
+                (ap (λ (u : Setup). u.n) E.walked.setup) loses))));
           })
     ]
 
   -- ---- by the last action
 
   -- where a provider was called last, what it holds and its other count are as before
-  called-held : (k : ℕ) (p : Provider) → (p.held ≡ (E.before.providers k).held) × StoreCounts (E.before.providers k) p → new.providers ≡ with_provider E.before.providers k p →
-      (j : ℕ) → ((new.providers j).held ≡ (E.before.providers j).held) × ((new.providers j).other_faults ≡ (E.before.providers j).other_faults)
-  called-held k p c is j = elim (calls-at E.before.providers k (λ p q. (q.held ≡ p.held) × StoreCounts p q) new.providers j (p, c, is)) [
-    | inl e ↦ (ap (λ (z : Provider). z.held) e, ap (λ (z : Provider). z.other_faults) e)
-    | inr d ↦ (d.1.0, d.1.1.other_faults)
-  ]
+  called-held : (k : ℕ) (p : Provider) → (p.held ≡ (E.before.providers k).held) ×
+      StoreCounts (E.before.providers k) p → new.providers ≡ with_provider E.before.providers k p →
+      (j : ℕ) → ((new.providers j).held ≡ (E.before.providers j).held) ×
+      ((new.providers j).other_faults ≡ (E.before.providers j).other_faults)
+  called-held k p c is j =
+      elim (calls-at E.before.providers k (λ p q. (q.held ≡ p.held) × StoreCounts p q) new.providers j
+      (p, c, is)) [
+        | inl e ↦ (ap (λ (z : Provider). z.held) e, ap (λ (z : Provider). z.other_faults) e)
+        | inr d ↦ (d.1.0, d.1.1.other_faults)
+      ]
 
-  same-held : new.providers ≡ E.before.providers → (j : ℕ) → (new.providers j).held ≡ (E.before.providers j).held
+  same-held : new.providers ≡ E.before.providers → (j : ℕ) →
+      (new.providers j).held ≡ (E.before.providers j).held
   same-held e j = ap (λ (f : ℕ → Provider). (f j).held) e
 
-  same-count : new.providers ≡ E.before.providers → (j : ℕ) → (new.providers j).other_faults ≡ (E.before.providers j).other_faults
+  same-count : new.providers ≡ E.before.providers → (j : ℕ) →
+      (new.providers j).other_faults ≡ (E.before.providers j).other_faults
   same-count e j = ap (λ (f : ℕ → Provider). (f j).other_faults) e
 
   -- nothing is in doubt between appends
   sure : (action : Action) → E.action ≡ action → moves_before action ≡ 0 → E.before.doubt ≡ None
   sure action at none = (none-moving start O RepairJob E.before E.job E.walked
-      (moves-next E.before E.job action (moves_made E.before.append E.job.number) (E.next ∙ ap Some at) (E.walked.sound.jobs E.job.number E.job (runs start O RepairJob E.before E.job E.walked)).order ∙ none)).1
+      (moves-next E.before E.job action (moves_made E.before.append E.job.number) (E.next ∙ ap Some at)
+      (E.walked.sound.jobs E.job.number E.job (runs start O RepairJob E.before E.job E.walked)).order
+      ∙ none)).1
 
-  none-done : (new.records ≡ E.before.records) → 0 < appends_left (setup_in E.before) E.job → new.records ≡ start.records
+  none-done : (new.records ≡ E.before.records) → 0 < appends_left (setup_in E.before) E.job →
+      new.records ≡ start.records
   none-done e left = e ∙ unwritten start O E.before E.job E.walked left
 
   -- a store is one of a flagged provider, at a place
-  store-flagged : (j o t : ℕ) → slice_get (actions_of sx E.job) E.job.place ≡ Some (Store j o t) → (place : Place) × (j < sx.n) × (E.job.flagged j ≡ true) × IsAt place (Store j o t)
+  store-flagged : (j o t : ℕ) → slice_get (actions_of sx E.job) E.job.place ≡ Some (Store j o t) →
+      (place : Place) × (j < sx.n) × (E.job.flagged j ≡ true) × IsAt place (Store j o t)
   store-flagged j o t h = elim (cut-next start O E.before E.job E.walked (Store j o t) h) [
-    | Cut.behind q at front ↦ absurd (each_get IsNoStore (append_actions ++ End ∷ []) q (Store j o t) (tt, (tt, (tt, (tt, (tt, tt))))) at)
+    | Cut.behind q at front ↦
+        absurd (each_get IsNoStore (append_actions ++ End ∷ []) q (Store j o t)
+        (tt, (tt, (tt, (tt, (tt, tt))))) at)
     | Cut.inside done place rest q parts at front ↦
-        (let u = each_get (IsStoreOf E.job sx.n (place ∷ [])) (actions_at sx E.job place) q (Store j o t) (stores-of sx E.job place) at in
-        (place, u.0, u.1, each_get (IsAt place) (actions_at sx E.job place) q (Store j o t) (at-place sx E.job place) at))
+        (let u = each_get (IsStoreOf E.job sx.n (place ∷ [])) (actions_at sx E.job place) q (Store j o t)
+        (stores-of sx E.job place) at in (
+          place,
+          u.0,
+          u.1,
+          each_get (IsAt place) (actions_at sx E.job place) q (Store j o t)
+              (at-place sx E.job place) at,
+        ))
   ]
 
-  store-rose : (j : ℕ) (p : Provider) → Rose (E.before.providers j).store_faults p.store_faults → (E.before.providers j).store_faults ≤ p.store_faults → new.providers ≡ with_provider E.before.providers j p →
+  store-rose : (j : ℕ) (p : Provider) → Rose (E.before.providers j).store_faults p.store_faults →
+      (E.before.providers j).store_faults ≤ p.store_faults →
+      new.providers ≡ with_provider E.before.providers j p →
       Rose (start.providers j).store_faults (new.providers j).store_faults
   store-rose j p rose low e =
-      (let now : new.providers j ≡ p = ap (λ (f : ℕ → Provider). f j) e ∙ cond_true (j == j) p (E.before.providers j) (eq-eqb j j refl) in
-      let up = (made-rises (with_job_of start RepairJob E.job) (take E.job.place (actions_of sx E.job)) start.providers E.before.providers [] E.job.given j E.walked.made).0 in
-      subst (λ (q : Provider). Rose (start.providers j).store_faults q.store_faults) (sym now) (rose-before (start.providers j).store_faults (E.before.providers j).store_faults p.store_faults up low rose))
+      (let now : new.providers j ≡ p = ap (λ (f : ℕ → Provider). f j) e
+      ∙ cond_true (j == j) p (E.before.providers j) (eq-eqb j j refl) in
+      let up = (made-rises (with_job_of start RepairJob E.job)
+      (take E.job.place (actions_of sx E.job)) start.providers E.before.providers
+      [] E.job.given j E.walked.made).0 in
+      subst (λ (q : Provider). Rose (start.providers j).store_faults q.store_faults) (sym now)
+      (rose-before (start.providers j).store_faults (E.before.providers j).store_faults p.store_faults up low
+      rose))
 
   -- a store failed
-  store-fails : (j o t : ℕ) → E.action ≡ Store j o t → (p : Provider) → FailsToStore (E.before.providers j) p → new ≡ record (ended E.before E.job) { providers = with_provider E.before.providers j p } → Gives (answer.ProviderFault j)
+  store-fails : (j o t : ℕ) → E.action ≡ Store j o t → (p : Provider) →
+      FailsToStore (E.before.providers j) p →
+      new ≡ record (ended E.before E.job) { providers = with_provider E.before.providers j p } →
+      Gives (answer.ProviderFault j)
   unfolding setup_in
   store-fails j o t at p failed is =
       (let h = listed (Store j o t) at (λ e. cc) in
@@ -438,38 +612,74 @@ module _ (start new : State) (how : Answer) (heard : List Entry) (O : IsOpenAtRe
       let cut = store-flagged j o t h in
       let left = places-left start O E.before E.job E.walked (Store j o t) h cut.0 cut.3 in (
         cut.1,
-        sym (flagged-is start O E.before E.job E.walked new heard (λ k. (kept k).0) (λ k. (kept k).1) due is-due j) ∙ cut.2,
+        sym (flagged-is start O E.before E.job E.walked new heard (λ k. (kept k).0)
+            (λ k. (kept k).1) due is-due j) ∙ cut.2,
         store-rose j p failed.cause failed.counts.store_faults e,
-        record { after = none-done (ap (λ (v : State). v.records) is) left; sure = ap (option_map (λ (d : Doubt). d.entry)) (ap (λ (v : State). v.doubt) is ∙ sure (Store j o t) at refl) },
+        record {
+          after = none-done (ap (λ (v : State). v.records) is) left;
+          sure = ap (option_map (λ (d : Doubt). d.entry))
+              (ap (λ (v : State). v.doubt) is ∙ sure (Store j o t) at refl);
+        },
         store-some (λ k. (kept k).0) (λ k. (kept k).1) j o t h,
       ))
 
   -- a cut before the one record
-  cut-none : new.records ≡ start.records → new.doubt ≡ None → IsCut (ran_from start new heard) (RepairDone due.number ∷ [])
-  cut-none e d = record { done = []; next = RepairDone due.number; rest = []; parts = refl; after = e; sure = ap (option_map (λ (z : Doubt). z.entry)) d }
+  cut-none : new.records ≡ start.records → new.doubt ≡ None →
+      IsCut (ran_from start new heard) (RepairDone due.number ∷ [])
+  cut-none e d = record {
+    done = [];
+    next = RepairDone due.number;
+    rest = [];
+    parts = refl;
+    after = e;
+    sure = ap (option_map (λ (z : Doubt). z.entry)) d;
+  }
 
-  store-memory : (j o t : ℕ) → E.action ≡ Store j o t → (p : Provider) → FindsNoMemory (E.before.providers j) p → new ≡ record (ended E.before E.job) { providers = with_provider E.before.providers j p } → Gives answer.Memory
+  store-memory : (j o t : ℕ) → E.action ≡ Store j o t → (p : Provider) →
+      FindsNoMemory (E.before.providers j) p →
+      new ≡ record (ended E.before E.job) { providers = with_provider E.before.providers j p } →
+      Gives answer.Memory
   store-memory j o t at p failed is =
       (let h = listed (Store j o t) at (λ e. cc) in
       let kept = called-held j p (failed.held, failed.counts) (ap (λ (v : State). v.providers) is) in
       let cut = store-flagged j o t h in
-      let left = places-left start O E.before E.job E.walked (Store j o t) h cut.0 cut.3 in
-      (cut-none (none-done (ap (λ (v : State). v.records) is) left) (ap (λ (v : State). v.doubt) is ∙ sure (Store j o t) at refl), store-some (λ k. (kept k).0) (λ k. (kept k).1) j o t h))
+      let left = places-left start O E.before E.job E.walked (Store j o t) h cut.0 cut.3 in (
+        cut-none (none-done (ap (λ (v : State). v.records) is) left)
+            (ap (λ (v : State). v.doubt) is ∙ sure (Store j o t) at refl),
+        store-some (λ k. (kept k).0) (λ k. (kept k).1) j o t h,
+      ))
 
   -- a row was lost
-  work-loses : (o t row : ℕ) → E.action ≡ Work o t → LosesRow (worked_object E.before E.job o) t (blocks_given E.job.given (setup_in E.before).n o t) row → new ≡ ended E.before E.job → Gives (answer.Lost t row)
+  work-loses : (o t row : ℕ) → E.action ≡ Work o t →
+      LosesRow (worked_object E.before E.job o) t (blocks_given E.job.given (setup_in E.before).n o t) row →
+      new ≡ ended E.before E.job → Gives (answer.Lost t row)
   work-loses o t row at loses is =
       (let h = listed (Work o t) at (λ e. cc) in
       let e : new.providers ≡ E.before.providers = ap (λ (v : State). v.providers) is in
       let lost = lost-at (same-held e) (same-count e) o t row h loses in
-      let left = places-left start O E.before E.job E.walked (Work o t) h (record { object = o; stripe = t }) (refl, refl) in
-      (record { after = none-done (ap (λ (v : State). v.records) is) left; sure = ap (option_map (λ (d : Doubt). d.entry)) (ap (λ (v : State). v.doubt) is ∙ sure (Work o t) at refl) }, lost))
+      let left = places-left start O E.before E.job E.walked (Work o t) h (record { object = o; stripe = t })
+      (refl, refl) in (
+        record {
+          after = none-done (ap (λ (v : State). v.records) is) left;
+          sure = ap (option_map (λ (d : Doubt). d.entry))
+              (ap (λ (v : State). v.doubt) is ∙ sure (Work o t) at refl);
+        },
+        lost,
+      ))
 
   -- a move failed
-  moved : (action : Action) → E.action ≡ action → holder_of E.before.append action ≡ None → (action ≡ End → ⊥) → ((p : Place) → IsAt p action → ⊥) → Moves E.before E.job action E.before.append (Ended how) new → Gives how
+  moved : (action : Action) → E.action ≡ action → holder_of E.before.append action ≡ None →
+      (action ≡ End → ⊥) → ((p : Place) → IsAt p action → ⊥) →
+      Moves E.before E.job action E.before.append (Ended how) new → Gives how
   moved action at free not_end n h = elim (move-answers E.before E.job new action E.before.append how h) [
-    | inl e ↦ subst Gives (sym e) (faulted (move-faults start O RepairJob E.before E.job E.walked action E.before.append new refl (E.next ∙ ap Some at) (subst (λ a. Moves E.before E.job action E.before.append (Ended a) new) e h)))
-    | inr e ↦ subst Gives (sym e) (no-room (move-memory start O RepairJob E.before E.job E.walked action E.before.append new refl free (E.next ∙ ap Some at) (subst (λ a. Moves E.before E.job action E.before.append (Ended a) new) e h)))
+    | inl e ↦ subst Gives (sym e)
+        (faulted (move-faults start O RepairJob E.before E.job E.walked action E.before.append new refl
+        (E.next ∙ ap Some at)
+        (subst (λ a. Moves E.before E.job action E.before.append (Ended a) new) e h)))
+    | inr e ↦ subst Gives (sym e)
+        (no-room (move-memory start O RepairJob E.before E.job E.walked action E.before.append new refl free
+        (E.next ∙ ap Some at)
+        (subst (λ a. Moves E.before E.job action E.before.append (Ended a) new) e h)))
   ]
     where
       some : new.providers ≡ E.before.providers → RewritesSome (ran_from start new heard) due
@@ -477,61 +687,100 @@ module _ (start new : State) (how : Answer) (heard : List Entry) (O : IsOpenAtRe
 
       whole : new.providers ≡ E.before.providers → RewritesAll (ran_from start new heard) due
       whole e = (let b = behind-all action (listed action at not_end) n in
-          all-part start O E.before E.job E.walked new heard (same-held e) (same-count e) due is-due (take b.0 (append_actions ++ End ∷ [])) b.1 (quiet-tail b.0))
+          all-part start O E.before E.job E.walked new heard (same-held e) (same-count e) due is-due
+          (take b.0 (append_actions ++ End ∷ [])) b.1 (quiet-tail b.0))
 
       faulted : Faults start O RepairJob E.before E.job E.walked new → Gives answer.DiskFault
       faulted F = (
         rose-before start.disk_faults E.before.disk_faults new.disk_faults E.walked.disk F.low F.rose,
-        record { done = []; next = RepairDone due.number; rest = []; parts = refl; after = none-done F.records F.left; doubt = in-doubt F.doubt },
+        record {
+          done = [];
+          next = RepairDone due.number;
+          rest = [];
+          parts = refl;
+          after = none-done F.records F.left;
+          doubt = in-doubt F.doubt;
+        },
         whole F.providers,
       )
         where
-          in-doubt : InDoubt start O RepairJob E.before E.job E.walked new.doubt → (option_map (λ (d : Doubt). d.entry) new.doubt ≡ None) ⊎ (option_map (λ (d : Doubt). d.entry) new.doubt ≡ Some (RepairDone due.number))
+          in-doubt : InDoubt start O RepairJob E.before E.job E.walked new.doubt →
+              (option_map (λ (d : Doubt). d.entry) new.doubt ≡ None) ⊎
+              (option_map (λ (d : Doubt). d.entry) new.doubt ≡ Some (RepairDone due.number))
           in-doubt (inl none) = inl (ap (option_map (λ (d : Doubt). d.entry)) none)
-          in-doubt (inr (d, in_doubt, writes)) = elim (wrote start O RepairJob E.before E.job E.walked d.entry F.left writes) [
-            | Wrote.first l is entry ↦ inr (ap (option_map (λ (z : Doubt). z.entry)) in_doubt ∙ ap Some (entry ∙ ap RepairDone (ap due_number is-due)))
-            | Wrote.second l is sec ↦ absurd sec
-          ]
+          in-doubt (inr (d, in_doubt, writes)) =
+              elim (wrote start O RepairJob E.before E.job E.walked d.entry F.left writes) [
+                | Wrote.first l is entry ↦
+                    inr (ap (option_map (λ (z : Doubt). z.entry)) in_doubt
+                    ∙ ap Some (entry ∙ ap RepairDone (ap due_number is-due)))
+                | Wrote.second l is sec ↦ absurd sec
+              ]
 
       no-room : NoRoom start O RepairJob E.before E.job E.walked new → Gives answer.Memory
       no-room N = (cut-none (none-done N.records N.left) N.doubt, some N.providers)
 
   -- the repair came to its end
-  at-end : E.action ≡ End → (new.records ≡ E.before.records) → new.doubt ≡ E.before.doubt → new.providers ≡ E.before.providers →
-      IsWhole (ran_from start new heard) (RepairDone due.number ∷ []) × RewritesAll (ran_from start new heard) due
+  at-end : E.action ≡ End → (new.records ≡ E.before.records) → new.doubt ≡ E.before.doubt →
+      new.providers ≡ E.before.providers →
+      IsWhole (ran_from start new heard) (RepairDone due.number ∷ []) ×
+      RewritesAll (ran_from start new heard) due
   at-end at records doubt providers =
       (let next : next_action E.before E.job ≡ Some End = E.next ∙ ap Some at in
       let here : slice_get (actions_of (setup_in E.before) E.job) E.job.place ≡ Some End =
-      ap (λ xs. slice_get xs E.job.place) (repair-list (setup_in E.before) E.job E.walked.kind_is) ∙ (sym (next_is_by E.before E.job ∙ ap (λ kd. next_by E.before E.job kd E.job.place) E.walked.kind_is) ∙ next) in
+      ap (λ xs. slice_get xs E.job.place) (repair-list (setup_in E.before) E.job E.walked.kind_is)
+      ∙ (sym (next_is_by E.before E.job ∙ ap (λ kd. next_by E.before E.job kd E.job.place) E.walked.kind_is)
+      ∙ next) in
       let left = drop-get (actions_of (setup_in E.before) E.job) E.job.place End here in
-      let o : IsInOrder (moves_made E.before.append E.job.number) (End ∷ drop (E.job.place + 1) (actions_of (setup_in E.before) E.job)) =
-      subst (IsInOrder (moves_made E.before.append E.job.number)) left (E.walked.sound.jobs E.job.number E.job (runs start O RepairJob E.before E.job E.walked)).order in
-      let none : appends_left (setup_in E.before) E.job ≡ 0 = ap appends_in (left ∙ ap (λ xs. End ∷ xs) o.1) ∙ appends-cons End [] in
-      let b = behind-all End (subst (λ (t : Setup). slice_get (actions_of t E.job) E.job.place ≡ Some End) E.walked.setup here) (λ p u. u) in (
-        record { after = records ∙ by_records E.before.records refl E.walked.records (left-start start O RepairJob E.before E.job E.walked 0 none); sure = ap (option_map (λ (d : Doubt). d.entry)) (doubt ∙ sure End at refl) },
-        all-part start O E.before E.job E.walked new heard (same-held providers) (same-count providers) due is-due (take b.0 (append_actions ++ End ∷ [])) b.1 (quiet-tail b.0),
+      let o : IsInOrder (moves_made E.before.append E.job.number)
+      (End ∷ drop (E.job.place + 1) (actions_of (setup_in E.before) E.job)) =
+      subst (IsInOrder (moves_made E.before.append E.job.number)) left
+      (E.walked.sound.jobs E.job.number E.job (runs start O RepairJob E.before E.job E.walked)).order in
+      let none : appends_left (setup_in E.before) E.job ≡ 0 = ap appends_in (left ∙ ap (λ xs. End ∷ xs) o.1)
+      ∙ appends-cons End [] in
+      let b = behind-all End
+      (subst (λ (t : Setup). slice_get (actions_of t E.job) E.job.place ≡ Some End) E.walked.setup here)
+      (λ p u. u) in (
+        record {
+          after = records
+              ∙ by_records E.before.records refl E.walked.records
+              (left-start start O RepairJob E.before E.job E.walked 0 none);
+          sure = ap (option_map (λ (d : Doubt). d.entry)) (doubt ∙ sure End at refl);
+        },
+        all-part start O E.before E.job E.walked new heard (same-held providers)
+            (same-count providers) due is-due (take b.0 (append_actions ++ End ∷ [])) b.1 (quiet-tail b.0),
       ))
     where
-      by_records : (rs : List Record) → E.before.records ≡ rs → RecordsAre start RepairJob E.job rs → appends_left (setup_in start) E.job ≡ 0 → E.before.records ≡ RepairDone due.number ∷ start.records
+      by_records : (rs : List Record) → E.before.records ≡ rs → RecordsAre start RepairJob E.job rs →
+          appends_left (setup_in start) E.job ≡ 0 → E.before.records ≡ RepairDone due.number ∷ start.records
       by_records rs e (RecordsAre.none l is) none = absurd (omega (arith, l, none))
-      by_records rs e (RecordsAre.one l is) none = e ∙ (is ∙ ap (λ n. RepairDone n ∷ start.records) (ap due_number is-due))
+      by_records rs e (RecordsAre.one l is) none =
+          e ∙ (is ∙ ap (λ n. RepairDone n ∷ start.records) (ap due_number is-due))
       by_records rs e (RecordsAre.two entry l sec is) none = absurd (omega (arith, l, none))
 
-  ended-by : (a : Answer) → E.action ≡ End → EndsAs E.before E.job RepairJob a → new ≡ ended E.before E.job → Gives a
-  ended-by (answer.Repaired number) at so is = (let e = at-end at (ap (λ (v : State). v.records) is) (ap (λ (v : State). v.doubt) is) (ap (λ (v : State). v.providers) is) in (so ∙ subject-is, e.0, e.1))
+  ended-by : (a : Answer) → E.action ≡ End → EndsAs E.before E.job RepairJob a → new ≡ ended E.before E.job →
+      Gives a
+  ended-by (answer.Repaired number) at so is =
+      (let e = at-end at (ap (λ (v : State). v.records) is) (ap (λ (v : State). v.doubt) is)
+      (ap (λ (v : State). v.providers) is) in (so ∙ subject-is, e.0, e.1))
   ended-by a at so is = absurd so
 
-  by-store : (j o t : ℕ) (a : Answer) → E.action ≡ Store j o t → Acts E.before E.job (Store j o t) (Ended a) new → Gives a
-  by-store j o t (answer.ProviderFault k) at (same, (p, failed, is)) = subst (λ n. Gives (answer.ProviderFault n)) (sym same) (store-fails j o t at p failed is)
+  by-store : (j o t : ℕ) (a : Answer) → E.action ≡ Store j o t →
+      Acts E.before E.job (Store j o t) (Ended a) new → Gives a
+  by-store j o t (answer.ProviderFault k) at (same, (p, failed, is)) =
+      subst (λ n. Gives (answer.ProviderFault n)) (sym same) (store-fails j o t at p failed is)
   by-store j o t answer.Memory at (p, failed, is) = store-memory j o t at p failed is
   by-store j o t a at h = absurd h
 
-  by-work : (o t : ℕ) (a : Answer) → E.action ≡ Work o t → Acts E.before E.job (Work o t) (Ended a) new → Gives a
-  by-work o t (answer.Lost u row) at (same, loses, is) = subst (λ n. Gives (answer.Lost n row)) (sym same) (work-loses o t row at loses is)
+  by-work : (o t : ℕ) (a : Answer) → E.action ≡ Work o t → Acts E.before E.job (Work o t) (Ended a) new →
+      Gives a
+  by-work o t (answer.Lost u row) at (same, loses, is) =
+      subst (λ n. Gives (answer.Lost n row)) (sym same) (work-loses o t row at loses is)
   by-work o t a at h = absurd h
 
-  by-action : (action : Action) → E.action ≡ action → holder_of E.before.append action ≡ None → Acts E.before E.job action (Ended how) new → Gives how
-  by-action End at free (so, is) = ended-by how at (subst (λ kd. EndsAs E.before E.job kd how) E.walked.kind_is so) is
+  by-action : (action : Action) → E.action ≡ action → holder_of E.before.append action ≡ None →
+      Acts E.before E.job action (Ended how) new → Gives how
+  by-action End at free (so, is) =
+      ended-by how at (subst (λ kd. EndsAs E.before E.job kd how) E.walked.kind_is so) is
   by-action WriteBody at free h = moved WriteBody at free (λ e. cc) (λ p u. u) h
   by-action SyncBody at free h = moved SyncBody at free (λ e. cc) (λ p u. u) h
   by-action WriteGate at free h = moved WriteGate at free (λ e. cc) (λ p u. u) h
@@ -549,13 +798,22 @@ module _ (start new : State) (how : Answer) (heard : List Entry) (O : IsOpenAtRe
   repair-silent = E.heard_is ∙ ap (heard_by_kind E.job) E.walked.kind_is
 
 -- a repair leaves flagged providers rewritten in all places, or in some where it failed or was cut
-pub repairs-leave : (start new : State) (moment : ℕ) (how : Answer) (heard : List Entry) → IsOpenAtRest start 1 → RunsJob start moment RepairJob how heard new → Leaves (ran_from start new heard) RepairJob how
+pub repairs-leave : (start new : State) (moment : ℕ) (how : Answer) (heard : List Entry) →
+    IsOpenAtRest start 1 → RunsJob start moment RepairJob how heard new →
+    Leaves (ran_from start new heard) RepairJob how
 unfolding setup_in
 repairs-leave start new moment how heard O r =
     (let E = job-ends start new moment RepairJob how heard O tt r in
     let due = is_some-at (due_of start.records) (begun-repair 8 start RepairJob None r.begins.1 refl) in
     record {
-      by_kind = (record { due = due.0; is_due = due.1; gives = repair-gives start new how heard O E due.0 due.1 }, repair-silent start new how heard O E due.0 due.1);
+      by_kind = (
+        record {
+          due = due.0;
+          is_due = due.1;
+          gives = repair-gives start new how heard O E due.0 due.1;
+        },
+        repair-silent start new how heard O E due.0 due.1,
+      );
       counts = counts-rise start new RepairJob how heard O E;
       others = others-stay start new RepairJob how heard O E;
     })

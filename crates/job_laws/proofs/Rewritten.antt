@@ -1,4 +1,5 @@
--- What the fetches, the works and the stores of a repair gave and left, of one provider, by the list of its actions alone.
+-- What the fetches, the works and the stores of a repair gave and left, of one provider, by the list of its
+-- actions alone.
 use Rattle.std.proofs.Common.{◌≡◌, ℕ, ◌+◌, ◌<◌, ◌≤◌, ◌==◌, ◌&&◌, ◌⊎◌, true, cond, List, [], ◌∷◌, map, Option, None, Some, refl, ap, sym, subst, ◌∙◌, inl, inr, arith, sum_by}
 use Rattle.std.specs.Option.{option_map}
 use Rattle.std.proofs.lemmas.Bool.{cases_Bool, cases_eq, eq-eqb, ne_eqb, eqb-true, and_parts, and_from}
@@ -80,27 +81,38 @@ module _ (x : With) (last : List Given) where
   -- what provider j holds after these actions
   abbrev pub after : ℕ → List Action → Held → Held
   after j [] held = held
-  after j (Store k o s ∷ actions) held = after j actions (cond (k == j) (with_block o s (column_at j o s) held) held)
+  after j (Store k o s ∷ actions) held =
+      after j actions (cond (k == j) (with_block o s (column_at j o s) held) held)
   after j (action ∷ actions) held = after j actions held
 
   -- one store
-  store-either : (j k p t : ℕ) (held : Held) (o s : ℕ) → (cond (k == j) (with_block p t (column_at j p t) held) held o s ≡ held o s) ⊎ (cond (k == j) (with_block p t (column_at j p t) held) held o s ≡ Some (column_at j o s))
+  store-either : (j k p t : ℕ) (held : Held) (o s : ℕ) →
+      (cond (k == j) (with_block p t (column_at j p t) held) held o s ≡ held o s) ⊎
+      (cond (k == j) (with_block p t (column_at j p t) held) held o s ≡ Some (column_at j o s))
   store-either j k p t held o s = elim (cases_Bool (k == j)) [
-    | inr f ↦ inl (ap (λ (h : Held). h o s) (cond_false (k == j) (with_block p t (column_at j p t) held) held f))
+    | inr f ↦ inl (ap (λ (h : Held). h o s)
+        (cond_false (k == j) (with_block p t (column_at j p t) held) held f))
     | inl u ↦ elim (cases_Bool ((o == p) && (s == t))) [
-      | inr f ↦ inl (ap (λ (h : Held). h o s) (cond_true (k == j) (with_block p t (column_at j p t) held) held u) ∙ cond_false ((o == p) && (s == t)) (Some (column_at j p t)) (held o s) f)
-      | inl v ↦ inr (ap (λ (h : Held). h o s) (cond_true (k == j) (with_block p t (column_at j p t) held) held u) ∙ (cond_true ((o == p) && (s == t)) (Some (column_at j p t)) (held o s) v
-          ∙ (let e = and_parts (o == p) (s == t) v in (λ i. Some (column_at j (sym (eqb-true o p e.0) i) (sym (eqb-true s t e.1) i))))))
+      | inr f ↦ inl (ap (λ (h : Held). h o s)
+          (cond_true (k == j) (with_block p t (column_at j p t) held) held u)
+          ∙ cond_false ((o == p) && (s == t)) (Some (column_at j p t)) (held o s) f)
+      | inl v ↦ inr (ap (λ (h : Held). h o s)
+          (cond_true (k == j) (with_block p t (column_at j p t) held) held u)
+          ∙ (cond_true ((o == p) && (s == t)) (Some (column_at j p t)) (held o s) v
+          ∙ (let e = and_parts (o == p) (s == t) v in
+          (λ i. Some (column_at j (sym (eqb-true o p e.0) i) (sym (eqb-true s t e.1) i))))))
     ]
   ]
 
   -- after stores a block is as it was, or the column that is stored there
-  pub after-either : (j : ℕ) (actions : List Action) (held : Held) (o s : ℕ) → (after j actions held o s ≡ held o s) ⊎ (after j actions held o s ≡ Some (column_at j o s))
+  pub after-either : (j : ℕ) (actions : List Action) (held : Held) (o s : ℕ) →
+      (after j actions held o s ≡ held o s) ⊎ (after j actions held o s ≡ Some (column_at j o s))
   after-either j [] held o s = inl refl
-  after-either j (Store k p t ∷ actions) held o s = elim (after-either j actions (cond (k == j) (with_block p t (column_at j p t) held) held) o s) [
-    | inr e ↦ inr e
-    | inl e ↦ elim (store-either j k p t held o s) [ inl f ↦ inl (e ∙ f) | inr f ↦ inr (e ∙ f) ]
-  ]
+  after-either j (Store k p t ∷ actions) held o s =
+      elim (after-either j actions (cond (k == j) (with_block p t (column_at j p t) held) held) o s) [
+        | inr e ↦ inr e
+        | inl e ↦ elim (store-either j k p t held o s) [ inl f ↦ inl (e ∙ f) | inr f ↦ inr (e ∙ f) ]
+      ]
   after-either j (Fetch k p t ∷ actions) held o s = after-either j actions held o s
   after-either j (Ask k p t ∷ actions) held o s = after-either j actions held o s
   after-either j (Work p t ∷ actions) held o s = after-either j actions held o s
@@ -112,11 +124,13 @@ module _ (x : With) (last : List Given) where
   after-either j (End ∷ actions) held o s = after-either j actions held o s
 
   -- a block that is not stored stays
-  store-other : (j k p t : ℕ) (held : Held) (o s : ℕ) → IsNot (Store j o s) (Store k p t) → cond (k == j) (with_block p t (column_at j p t) held) held o s ≡ held o s
+  store-other : (j k p t : ℕ) (held : Held) (o s : ℕ) → IsNot (Store j o s) (Store k p t) →
+      cond (k == j) (with_block p t (column_at j p t) held) held o s ≡ held o s
   store-other j k p t held o s n = elim (cases_Bool (k == j)) [
     | inr f ↦ ap (λ (h : Held). h o s) (cond_false (k == j) (with_block p t (column_at j p t) held) held f)
     | inl u ↦ elim (cases_Bool ((o == p) && (s == t))) [
-      | inr f ↦ ap (λ (h : Held). h o s) (cond_true (k == j) (with_block p t (column_at j p t) held) held u) ∙ cond_false ((o == p) && (s == t)) (Some (column_at j p t)) (held o s) f
+      | inr f ↦ ap (λ (h : Held). h o s) (cond_true (k == j) (with_block p t (column_at j p t) held) held u)
+          ∙ cond_false ((o == p) && (s == t)) (Some (column_at j p t)) (held o s) f
       | inl v ↦ absurd (n (same (eqb-true k j u) (and_parts (o == p) (s == t) v)))
     ]
   ]
@@ -125,9 +139,12 @@ module _ (x : With) (last : List Given) where
       same a b = (let c = eqb-true o p b.0 in let d = eqb-true s t b.1 in cc)
 
   -- after stores a block that none of them is of is as it was
-  pub after-none : (j : ℕ) (actions : List Action) (held : Held) (o s : ℕ) → Each (IsNot (Store j o s)) actions → after j actions held o s ≡ held o s
+  pub after-none : (j : ℕ) (actions : List Action) (held : Held) (o s : ℕ) →
+      Each (IsNot (Store j o s)) actions → after j actions held o s ≡ held o s
   after-none j [] held o s n = refl
-  after-none j (Store k p t ∷ actions) held o s n = after-none j actions (cond (k == j) (with_block p t (column_at j p t) held) held) o s n.1 ∙ store-other j k p t held o s n.0
+  after-none j (Store k p t ∷ actions) held o s n =
+      after-none j actions (cond (k == j) (with_block p t (column_at j p t) held) held) o s n.1
+      ∙ store-other j k p t held o s n.0
   after-none j (Fetch k p t ∷ actions) held o s n = after-none j actions held o s n.1
   after-none j (Ask k p t ∷ actions) held o s n = after-none j actions held o s n.1
   after-none j (Work p t ∷ actions) held o s n = after-none j actions held o s n.1
@@ -139,16 +156,24 @@ module _ (x : With) (last : List Given) where
   after-none j (End ∷ actions) held o s n = after-none j actions held o s n.1
 
   -- a block that is stored is the column
-  store-own : (j o s : ℕ) (held : Held) → cond (j == j) (with_block o s (column_at j o s) held) held o s ≡ Some (column_at j o s)
-  store-own j o s held = ap (λ (h : Held). h o s) (cond_true (j == j) (with_block o s (column_at j o s) held) held (eq-eqb j j refl))
-      ∙ cond_true ((o == o) && (s == s)) (Some (column_at j o s)) (held o s) (and_from (o == o) (s == s) (eq-eqb o o refl) (eq-eqb s s refl))
+  store-own : (j o s : ℕ) (held : Held) → cond (j == j) (with_block o s (column_at j o s) held) held o s
+      ≡ Some (column_at j o s)
+  store-own j o s held =
+      ap (λ (h : Held). h o s)
+      (cond_true (j == j) (with_block o s (column_at j o s) held) held (eq-eqb j j refl))
+      ∙ cond_true ((o == o) && (s == s)) (Some (column_at j o s)) (held o s)
+      (and_from (o == o) (s == s) (eq-eqb o o refl) (eq-eqb s s refl))
 
   -- after stores a block that one of them is of is its column
-  pub after-some : (j : ℕ) (actions : List Action) (held : Held) (o s : ℕ) → In (Store j o s) actions → after j actions held o s ≡ Some (column_at j o s)
+  pub after-some : (j : ℕ) (actions : List Action) (held : Held) (o s : ℕ) → In (Store j o s) actions →
+      after j actions held o s ≡ Some (column_at j o s)
   after-some j [] held o s i = absurd i
-  after-some j (a ∷ actions) held o s (inl e) = subst (λ b. after j (b ∷ actions) held o s ≡ Some (column_at j o s)) e
-      (elim (after-either j actions (cond (j == j) (with_block o s (column_at j o s) held) held) o s) [ inl f ↦ f ∙ store-own j o s held | inr f ↦ f ])
-  after-some j (Store k p t ∷ actions) held o s (inr i) = after-some j actions (cond (k == j) (with_block p t (column_at j p t) held) held) o s i
+  after-some j (a ∷ actions) held o s (inl e) =
+      subst (λ b. after j (b ∷ actions) held o s ≡ Some (column_at j o s)) e
+      (elim (after-either j actions (cond (j == j) (with_block o s (column_at j o s) held) held) o s)
+      [ inl f ↦ f ∙ store-own j o s held | inr f ↦ f ])
+  after-some j (Store k p t ∷ actions) held o s (inr i) =
+      after-some j actions (cond (k == j) (with_block p t (column_at j p t) held) held) o s i
   after-some j (Fetch k p t ∷ actions) held o s (inr i) = after-some j actions held o s i
   after-some j (Ask k p t ∷ actions) held o s (inr i) = after-some j actions held o s i
   after-some j (Work p t ∷ actions) held o s (inr i) = after-some j actions held o s i
@@ -164,12 +189,15 @@ module _ (x : With) (last : List Given) where
 module _ (x : With) (repairs : x.kind ≡ RepairJob) (last : List Given) (j : ℕ) where
   -- a fetch of provider j is told what it held at the begin, or nothing
   abbrev pub IsToldBlock : Held → Action → Type 0
-  IsToldBlock begin (Fetch k o s) = k ≡ j → (block_given last o s k ≡ sized (object_made x o).profile.size (begin o s)) ⊎ (block_given last o s k ≡ None)
+  IsToldBlock begin (Fetch k o s) = k ≡ j →
+      (block_given last o s k ≡ sized (object_made x o).profile.size (begin o s)) ⊎
+      (block_given last o s k ≡ None)
   IsToldBlock begin action = Unit {0}
 
   -- 1 where it is nothing though something of the size was held
   abbrev pub lack_block : Held → Action → ℕ
-  lack_block begin (Fetch k o s) = cond (k == j) (lacks (block_given last o s k) (sized (object_made x o).profile.size (begin o s))) 0
+  lack_block begin (Fetch k o s) =
+      cond (k == j) (lacks (block_given last o s k) (sized (object_made x o).profile.size (begin o s))) 0
   lack_block begin action = 0
 
   -- the places that are still to be fetched are held as at the begin
@@ -182,69 +210,112 @@ module _ (x : With) (repairs : x.kind ≡ RepairJob) (last : List Given) (j : �
     held_is : q.held ≡ Some (after x last j (a ∷ []) held)
     count : q.other_faults < last_count → p.other_faults + lack_block begin a ≤ q.other_faults
 
-  still : (begin held : Held) (a : Action) (p q : Provider) → IsToldBlock begin a → lack_block begin a ≡ 0 → after x last j (a ∷ []) held ≡ held → q ≡ p → p.held ≡ Some held → Step begin held a p q
-  still begin held a p q told none same e h = record { told = told; held_is = ap (λ (z : Provider). z.held) e ∙ (h ∙ ap Some (sym same)); count = λ l. (let f = ap (λ (z : Provider). z.other_faults) e in omega (arith, f, none)) }
+  still : (begin held : Held) (a : Action) (p q : Provider) → IsToldBlock begin a → lack_block begin a ≡ 0 →
+      after x last j (a ∷ []) held ≡ held → q ≡ p → p.held ≡ Some held → Step begin held a p q
+  still begin held a p q told none same e h =
+      record {
+        told = told;
+        held_is = ap (λ (z : Provider). z.held) e ∙ (h ∙ ap Some (sym same));
+        count = λ l. (let f = ap (λ (z : Provider). z.other_faults) e in omega (arith, f, none));
+      }
 
-  fetch-step : (begin held : Held) (k o s : ℕ) (block : Option (List ℕ)) (p q : Provider) → k ≡ j → held o s ≡ begin o s → block_given last o s k ≡ block → p.held ≡ Some held →
+  fetch-step : (begin held : Held) (k o s : ℕ) (block : Option (List ℕ)) (p q : Provider) → k ≡ j →
+      held o s ≡ begin o s → block_given last o s k ≡ block → p.held ≡ Some held →
       Fetches (object_made x o).profile.size o s p block q → Step begin held (Fetch k o s) p q
   fetch-step begin held k o s block p q hit kept is h c = record {
     told = λ e. elim gives [ inl g ↦ inl (is ∙ g) | inr f ↦ inr (is ∙ f.0) ];
     held_is = c.held ∙ h;
-    count = λ l. (let one : lack_block begin (Fetch k o s) ≡ lacks block (sized (object_made x o).profile.size (begin o s)) =
-        cond_true (k == j) (lacks (block_given last o s k) (sized (object_made x o).profile.size (begin o s))) 0 (eq-eqb k j hit) ∙ ap (λ g. lacks g (sized (object_made x o).profile.size (begin o s))) is in
+    count = λ l. (let one : lack_block begin (Fetch k o s)
+        ≡ lacks block (sized (object_made x o).profile.size (begin o s)) =
+        cond_true (k == j) (lacks (block_given last o s k) (sized (object_made x o).profile.size (begin o s)))
+        0 (eq-eqb k j hit) ∙ ap (λ g. lacks g (sized (object_made x o).profile.size (begin o s))) is in
         elim gives [
-          | inl g ↦ (let z = lacks-same block (sized (object_made x o).profile.size (begin o s)) g in let low = c.counts.other_faults in omega (arith, one, z, low))
-          | inr f ↦ (let z = lacks-few block (sized (object_made x o).profile.size (begin o s)) in let low = c.counts.other_faults in let up = f.1 (omega (arith, low, l)) in omega (arith, one, z, up))
+          | inl g ↦ (let z = lacks-same block (sized (object_made x o).profile.size (begin o s)) g in
+              let low = c.counts.other_faults in omega (arith, one, z, low))
+          | inr f ↦ (let z = lacks-few block (sized (object_made x o).profile.size (begin o s)) in
+              let low = c.counts.other_faults in let up = f.1 (omega (arith, low, l)) in
+              omega (arith, one, z, up))
         ]);
   }
     where
       gives : (block ≡ sized (object_made x o).profile.size (begin o s)) ⊎ FailsToGive p block q
       gives = elim c.gives [
-        | inl g ↦ inl (subst (λ t. FetchGives (object_made x o).profile.size o s t block) h g ∙ ap (sized (object_made x o).profile.size) kept)
+        | inl g ↦ inl (subst (λ t. FetchGives (object_made x o).profile.size o s t block) h g
+            ∙ ap (sized (object_made x o).profile.size) kept)
         | inr f ↦ inr f
       ]
 
-  one-step : (begin held : Held) (a : Action) (actions : List Action) (old mid new : ℕ → Provider) (given so_far : List Given) → IsRepairing a → IsBefore a actions → IsKeptAt begin held a → Did x a old mid given so_far → Made x actions mid new so_far last →
+  one-step : (begin held : Held) (a : Action) (actions : List Action) (old mid new : ℕ → Provider)
+      (given so_far : List Given) → IsRepairing a → IsBefore a actions → IsKeptAt begin held a →
+      Did x a old mid given so_far → Made x actions mid new so_far last →
       (old j).held ≡ Some held → Step begin held a (old j) (mid j)
-  one-step begin held (Fetch k o s) actions old mid new given so_far fit order kept (block, called, is) rest h = elim (cases_eq k j) [
-    | inl hit ↦ fetch-step begin held k o s block (old j) (mid j) hit (kept hit)
-        (block-later x actions mid new so_far last k o s rest order ∙ (ap (λ g. block_given g o s k) is ∙ block-newest k o s block given)) h
-        (subst (λ n. Fetches (object_made x o).profile.size o s (old n) block (mid n)) hit (call-hit old k (λ p q. Fetches (object_made x o).profile.size o s p block q) mid called))
-    | inr miss ↦ still begin held (Fetch k o s) (old j) (mid j) (λ e. absurd (miss e)) (cond_false (k == j) (lacks (block_given last o s k) (sized (object_made x o).profile.size (begin o s))) 0 (ne_eqb k j miss)) refl
-        (call-miss old k (λ p q. Fetches (object_made x o).profile.size o s p block q) mid j miss called) h
-  ]
-  one-step begin held (Store k o s) actions old mid new given so_far fit order kept (called, is) rest h = elim (cases_eq k j) [
-    | inl hit ↦ (let c = subst (λ n. Stores o s (block_stored x x.kind given k o s) (old n) (mid n)) hit (call-hit old k (Stores o s (block_stored x x.kind given k o s)) mid called) in
-        let symbols : symbols_given given o s ≡ symbols_given last o s = sym (ap (λ g. symbols_given g o s) is) ∙ sym (symbols-later x actions mid new so_far last o s rest (each_mono (IsNoneOf o s) (IsNot (Work o s)) actions (λ y u. none-work o s y u) order)) in
-        let block : block_stored x x.kind given k o s ≡ column_at x last j o s =
-        ap (λ kd. block_stored x kd given k o s) repairs ∙ (ap (λ ss. column_of_symbols (object_made x o) ss k s) symbols ∙ ap (λ n. column_of_symbols (object_made x o) (symbols_given last o s) n s) hit) in
-        record {
-          told = tt;
-          held_is = c.held ∙ (ap (option_map (with_block o s (block_stored x x.kind given k o s))) h ∙ (ap (λ b. Some (with_block o s b held)) block
-              ∙ ap Some (sym (cond_true (k == j) (with_block o s (column_at x last j o s) held) held (eq-eqb k j hit)))));
-          count = λ l. (let e = c.counts.other_faults in omega (arith, e));
-        })
-    | inr miss ↦ still begin held (Store k o s) (old j) (mid j) tt refl (cond_false (k == j) (with_block o s (column_at x last j o s) held) held (ne_eqb k j miss)) (call-miss old k (Stores o s (block_stored x x.kind given k o s)) mid j miss called) h
-  ]
+  one-step begin held (Fetch k o s) actions old mid new given so_far fit order kept (block, called, is) rest h =
+      elim (cases_eq k j) [
+        | inl hit ↦ fetch-step begin held k o s block (old j) (mid j) hit (kept hit)
+            (block-later x actions mid new so_far last k o s rest order
+            ∙ (ap (λ g. block_given g o s k) is ∙ block-newest k o s block given)) h
+            (subst (λ n. Fetches (object_made x o).profile.size o s (old n) block (mid n)) hit
+            (call-hit old k (λ p q. Fetches (object_made x o).profile.size o s p block q) mid called))
+        | inr miss ↦ still begin held (Fetch k o s) (old j) (mid j) (λ e. absurd (miss e))
+            (cond_false (k == j) (lacks (block_given last o s k)
+            (sized (object_made x o).profile.size (begin o s))) 0 (ne_eqb k j miss)) refl
+            (call-miss old k (λ p q. Fetches (object_made x o).profile.size o s p block q) mid j miss called) h
+      ]
+  one-step begin held (Store k o s) actions old mid new given so_far fit order kept (called, is) rest h =
+      elim (cases_eq k j) [
+        | inl hit ↦ (let c = subst (λ n. Stores o s (block_stored x x.kind given k o s) (old n) (mid n)) hit
+            (call-hit old k (Stores o s (block_stored x x.kind given k o s)) mid called) in
+            let symbols : symbols_given given o s ≡ symbols_given last o s =
+            sym (ap (λ g. symbols_given g o s) is)
+            ∙ sym (symbols-later x actions mid new so_far last o s rest
+            (each_mono (IsNoneOf o s) (IsNot (Work o s)) actions (λ y u. none-work o s y u) order)) in
+            let block : block_stored x x.kind given k o s ≡ column_at x last j o s =
+            ap (λ kd. block_stored x kd given k o s) repairs
+            ∙ (ap (λ ss. column_of_symbols (object_made x o) ss k s) symbols
+            ∙ ap (λ n. column_of_symbols (object_made x o) (symbols_given last o s) n s) hit) in
+            record {
+              told = tt;
+              held_is = c.held ∙ (ap (option_map (with_block o s (block_stored x x.kind given k o s))) h
+                  ∙ (ap (λ b. Some (with_block o s b held)) block
+                  ∙ ap Some (sym (cond_true (k == j) (with_block o s (column_at x last j o s) held) held
+                  (eq-eqb k j hit)))));
+              count = λ l. (let e = c.counts.other_faults in omega (arith, e));
+            })
+        | inr miss ↦ still begin held (Store k o s) (old j) (mid j) tt refl
+            (cond_false (k == j) (with_block o s (column_at x last j o s) held) held (ne_eqb k j miss))
+            (call-miss old k (Stores o s (block_stored x x.kind given k o s)) mid j miss called) h
+      ]
   one-step begin held (Ask k o r) actions old mid new given so_far fit order kept did rest h = absurd fit
   one-step begin held (Remove k o) actions old mid new given so_far fit order kept did rest h = absurd fit
-  one-step begin held (Work o s) actions old mid new given so_far fit order kept (symbols, gives, same, is) rest h = still begin held (Work o s) (old j) (mid j) tt refl refl (ap (λ f. f j) same) h
-  one-step begin held WriteBody actions old mid new given so_far fit order kept (same, is) rest h = still begin held WriteBody (old j) (mid j) tt refl refl (ap (λ f. f j) same) h
-  one-step begin held SyncBody actions old mid new given so_far fit order kept (same, is) rest h = still begin held SyncBody (old j) (mid j) tt refl refl (ap (λ f. f j) same) h
-  one-step begin held WriteGate actions old mid new given so_far fit order kept (same, is) rest h = still begin held WriteGate (old j) (mid j) tt refl refl (ap (λ f. f j) same) h
-  one-step begin held SyncGate actions old mid new given so_far fit order kept (same, is) rest h = still begin held SyncGate (old j) (mid j) tt refl refl (ap (λ f. f j) same) h
-  one-step begin held End actions old mid new given so_far fit order kept (same, is) rest h = still begin held End (old j) (mid j) tt refl refl (ap (λ f. f j) same) h
+  one-step begin held (Work o s) actions old mid new given so_far fit order kept (symbols, gives, same, is) rest h =
+      still begin held (Work o s) (old j) (mid j) tt refl refl (ap (λ f. f j) same) h
+  one-step begin held WriteBody actions old mid new given so_far fit order kept (same, is) rest h =
+      still begin held WriteBody (old j) (mid j) tt refl refl (ap (λ f. f j) same) h
+  one-step begin held SyncBody actions old mid new given so_far fit order kept (same, is) rest h =
+      still begin held SyncBody (old j) (mid j) tt refl refl (ap (λ f. f j) same) h
+  one-step begin held WriteGate actions old mid new given so_far fit order kept (same, is) rest h =
+      still begin held WriteGate (old j) (mid j) tt refl refl (ap (λ f. f j) same) h
+  one-step begin held SyncGate actions old mid new given so_far fit order kept (same, is) rest h =
+      still begin held SyncGate (old j) (mid j) tt refl refl (ap (λ f. f j) same) h
+  one-step begin held End actions old mid new given so_far fit order kept (same, is) rest h =
+      still begin held End (old j) (mid j) tt refl refl (ap (λ f. f j) same) h
 
   -- what is still to be fetched stays
-  kept-on : (begin held : Held) (a : Action) (actions : List Action) → IsBefore a actions → Each (IsKeptAt begin held) actions → Each (IsKeptAt begin (after x last j (a ∷ []) held)) actions
+  kept-on : (begin held : Held) (a : Action) (actions : List Action) → IsBefore a actions →
+      Each (IsKeptAt begin held) actions → Each (IsKeptAt begin (after x last j (a ∷ []) held)) actions
   kept-on begin held (Store k p t) actions order h = all actions order h
     where
-      one : (y : Action) → IsNoneOf p t y → IsKeptAt begin held y → IsKeptAt begin (cond (k == j) (with_block p t (column_at x last j p t) held) held) y
+      one : (y : Action) → IsNoneOf p t y → IsKeptAt begin held y →
+          IsKeptAt begin (cond (k == j) (with_block p t (column_at x last j p t) held) held) y
       one (Fetch m o s) n e = λ hit. elim (cases_Bool (k == j)) [
-        | inr f ↦ ap (λ (g : Held). g o s) (cond_false (k == j) (with_block p t (column_at x last j p t) held) held f) ∙ e hit
-        | inl u ↦ ap (λ (g : Held). g o s) (cond_true (k == j) (with_block p t (column_at x last j p t) held) held u) ∙ (cond_false ((o == p) && (s == t)) (Some (column_at x last j p t)) (held o s)
+        | inr f ↦ ap (λ (g : Held). g o s)
+            (cond_false (k == j) (with_block p t (column_at x last j p t) held) held f) ∙ e hit
+        | inl u ↦ ap (λ (g : Held). g o s)
+            (cond_true (k == j) (with_block p t (column_at x last j p t) held) held u)
+            ∙ (cond_false ((o == p) && (s == t)) (Some (column_at x last j p t)) (held o s)
             (elim (cases_Bool ((o == p) && (s == t))) [
-              | inl v ↦ absurd (let c = and_parts (o == p) (s == t) v in n (eqb-true o p c.0, eqb-true s t c.1))
+              | inl v ↦ absurd (let c = and_parts (o == p) (s == t) v in
+                  n (eqb-true o p c.0, eqb-true s t c.1))
               | inr f ↦ f
             ]) ∙ e hit)
       ]
@@ -258,7 +329,8 @@ module _ (x : With) (repairs : x.kind ≡ RepairJob) (last : List Given) (j : �
       one SyncGate n e = tt
       one End n e = tt
 
-      all : (xs : List Action) → Each (IsNoneOf p t) xs → Each (IsKeptAt begin held) xs → Each (IsKeptAt begin (cond (k == j) (with_block p t (column_at x last j p t) held) held)) xs
+      all : (xs : List Action) → Each (IsNoneOf p t) xs → Each (IsKeptAt begin held) xs →
+          Each (IsKeptAt begin (cond (k == j) (with_block p t (column_at x last j p t) held) held)) xs
       all [] n e = tt
       all (y ∷ xs) n e = (one y n.0 e.0, all xs n.1 e.1)
   kept-on begin held (Fetch k o s) actions order h = h
@@ -271,7 +343,8 @@ module _ (x : With) (repairs : x.kind ≡ RepairJob) (last : List Given) (j : �
   kept-on begin held SyncGate actions order h = h
   kept-on begin held End actions order h = h
 
-  after-cons : (a : Action) (actions : List Action) (held : Held) → after x last j (a ∷ actions) held ≡ after x last j actions (after x last j (a ∷ []) held)
+  after-cons : (a : Action) (actions : List Action) (held : Held) →
+      after x last j (a ∷ actions) held ≡ after x last j actions (after x last j (a ∷ []) held)
   after-cons (Store k o s) actions held = refl
   after-cons (Fetch k o s) actions held = refl
   after-cons (Ask k o r) actions held = refl
@@ -287,9 +360,12 @@ module _ (x : With) (repairs : x.kind ≡ RepairJob) (last : List Given) (j : �
   pub record Told (begin held : Held) (actions : List Action) (p q : Provider) : Type 0 where
     pub told : Each (IsToldBlock begin) actions
     pub held_is : q.held ≡ Some (after x last j actions held)
-    pub count : q.other_faults < last_count → p.other_faults + sum_by (lack_block begin) actions ≤ q.other_faults
+    pub count : q.other_faults < last_count →
+        p.other_faults + sum_by (lack_block begin) actions ≤ q.other_faults
 
-  told-on : (begin held : Held) (actions : List Action) (old new : ℕ → Provider) (given : List Given) → Each IsRepairing actions → AreOrdered actions → Each (IsKeptAt begin held) actions → Made x actions old new given last → (old j).held ≡ Some held →
+  told-on : (begin held : Held) (actions : List Action) (old new : ℕ → Provider) (given : List Given) →
+      Each IsRepairing actions → AreOrdered actions → Each (IsKeptAt begin held) actions →
+      Made x actions old new given last → (old j).held ≡ Some held →
       Told begin held actions (old j) (new j)
   told-on begin held [] old new given fit order kept m h = record {
     told = tt;
@@ -298,17 +374,22 @@ module _ (x : With) (repairs : x.kind ≡ RepairJob) (last : List Given) (j : �
   }
   told-on begin held (a ∷ actions) old new given fit order kept (mid, so_far, did, rest) h =
       (let s = one-step begin held a actions old mid new given so_far fit.0 order.0 kept.0 did rest h in
-      let r = told-on begin (after x last j (a ∷ []) held) actions mid new so_far fit.1 order.1 (kept-on begin held a actions order.0 kept.1) rest s.held_is in
+      let r = told-on begin (after x last j (a ∷ []) held) actions mid new so_far fit.1 order.1
+      (kept-on begin held a actions order.0 kept.1) rest s.held_is in
       let up = (made-rises x actions mid new so_far last j rest).1 in
       record {
         told = (s.told, r.told);
         held_is = r.held_is ∙ ap Some (sym (after-cons a actions held));
-        count = λ l. (let c = s.count (omega (arith, up, l)) in let e = r.count l in let f = sum_by-cons (lack_block begin) a actions in omega (arith, c, e, f));
+        count = λ l. (let c = s.count (omega (arith, up, l)) in let e = r.count l in
+            let f = sum_by-cons (lack_block begin) a actions in omega (arith, c, e, f));
       })
 
   -- of a repair's actions a provider that tells gave what it held, or nothing, and holds what was stored
-  pub made-told : (held : Held) (actions : List Action) (old new : ℕ → Provider) → Each IsRepairing actions → AreOrdered actions → Made x actions old new [] last → (old j).held ≡ Some held → Told held held actions (old j) (new j)
-  made-told held actions old new fit order m h = told-on held held actions old new [] fit order (all actions) m h
+  pub made-told : (held : Held) (actions : List Action) (old new : ℕ → Provider) → Each IsRepairing actions →
+      AreOrdered actions → Made x actions old new [] last → (old j).held ≡ Some held →
+      Told held held actions (old j) (new j)
+  made-told held actions old new fit order m h =
+      told-on held held actions old new [] fit order (all actions) m h
     where
       one : (y : Action) → IsKeptAt held held y
       one (Fetch m o s) = λ e. refl
@@ -330,20 +411,31 @@ module _ (x : With) (repairs : x.kind ≡ RepairJob) (last : List Given) (j : �
 
 -- the blocks that were given open to the symbols that were given, as both are looked up in the end
 abbrev pub HasOpened : With → List Given → Action → Type 0
-HasOpened x last (Work o s) = GivesSymbols (object_made x o) s (blocks_given last x.setup.n o s) (symbols_given last o s)
+HasOpened x last (Work o s) =
+    GivesSymbols (object_made x o) s (blocks_given last x.setup.n o s) (symbols_given last o s)
 HasOpened x last action = Unit {0}
 
 -- for all works that were made the blocks that were given open to the symbols that were given
-pub works-opened : (x : With) (actions : List Action) (old new : ℕ → Provider) (given last : List Given) → AreOrdered actions → Made x actions old new given last → Each (HasOpened x last) actions
+pub works-opened : (x : With) (actions : List Action) (old new : ℕ → Provider) (given last : List Given) →
+    AreOrdered actions → Made x actions old new given last → Each (HasOpened x last) actions
 works-opened x [] old new given last order m = tt
-works-opened x (a ∷ actions) old new given last order (mid, so_far, did, rest) = (one a order.0 did, works-opened x actions mid new so_far last order.1 rest)
+works-opened x (a ∷ actions) old new given last order (mid, so_far, did, rest) =
+    (one a order.0 did, works-opened x actions mid new so_far last order.1 rest)
   where
     one : (a : Action) → IsBefore a actions → Did x a old mid given so_far → HasOpened x last a
     one (Work o s) order (symbols, gives, same, is) =
-        (let found : symbols_given last o s ≡ symbols = symbols-later x actions mid new so_far last o s rest (each_mono (IsNoneOf o s) (IsNot (Work o s)) actions (λ y u. none-work o s y u) order) ∙ (ap (λ g. symbols_given g o s) is ∙ symbols_given-newest o s symbols given) in
-        let blocks : (k : ℕ) → block_given given o s k ≡ block_given last o s k = (λ k. sym (ap (λ g. block_given g o s k) is) ∙ sym (block-later x actions mid new so_far last k o s rest (each_mono (IsNoneOf o s) (IsNot (Fetch k o s)) actions (λ y u. none-fetch k o s y u) order))) in
+        (let found : symbols_given last o s ≡ symbols =
+        symbols-later x actions mid new so_far last o s rest
+        (each_mono (IsNoneOf o s) (IsNot (Work o s)) actions (λ y u. none-work o s y u) order)
+        ∙ (ap (λ g. symbols_given g o s) is ∙ symbols_given-newest o s symbols given) in
+        let blocks : (k : ℕ) → block_given given o s k ≡ block_given last o s k =
+        (λ k. sym (ap (λ g. block_given g o s k) is)
+        ∙ sym (block-later x actions mid new so_far last k o s rest
+        (each_mono (IsNoneOf o s) (IsNot (Fetch k o s)) actions
+        (λ y u. none-fetch k o s y u) order))) in
         subst (λ ss. GivesSymbols (object_made x o) s (blocks_given last x.setup.n o s) ss) (sym found)
-        (subst (λ bs. GivesSymbols (object_made x o) s bs symbols) (λ i. map (λ k. blocks k i) (upto x.setup.n)) gives))
+        (subst (λ bs. GivesSymbols (object_made x o) s bs symbols)
+        (λ i. map (λ k. blocks k i) (upto x.setup.n)) gives))
     one (Fetch k o s) order did = tt
     one (Store k o s) order did = tt
     one (Ask k o r) order did = tt

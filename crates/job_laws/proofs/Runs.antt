@@ -23,7 +23,8 @@ use Rattle.lone_laws.specs.Walked.{Walked}
 use Rattle.lone_laws.proofs.Walk.{walk-begin, walk-step, walk-last, found}
 
 -- the last step of a job, and the state and the job before it
-pub record Ends (start : State) (kind : Kind) (answer : Answer) (heard : List Entry) (new : State) : Type 0 where
+pub record Ends (start : State) (kind : Kind) (answer : Answer) (heard : List Entry)
+    (new : State) : Type 0 where
   pub before : State
   pub job : Job
   pub walked : Walked start kind before job
@@ -34,18 +35,26 @@ pub record Ends (start : State) (kind : Kind) (answer : Answer) (heard : List En
   pub acts : Acts before job action (Ended answer) new
 
 -- steps that all go on leave a job on its walk
-pub walk-steps : (start w : State) (kind : Kind) (job : Job) (moment : ℕ) (ms : List Moment) → IsOpenAtRest start 1 → Walked start kind w job → AreSteps w moment 1 ms → (next : Job) × Walked start kind (now w ms) next
+pub walk-steps : (start w : State) (kind : Kind) (job : Job) (moment : ℕ) (ms : List Moment) →
+    IsOpenAtRest start 1 → Walked start kind w job → AreSteps w moment 1 ms →
+    (next : Job) × Walked start kind (now w ms) next
 walk-steps start w kind job moment [] O W h = (job, W)
 walk-steps start w kind job moment (m ∷ ms) O W (event, outcome, happens, rest) =
-    (let r = walk-steps start w kind job moment ms O W rest in walk-step start O kind (now w ms) r.0 r.1 (moment + length ms) m.state happens)
+    (let r = walk-steps start w kind job moment ms O W rest in
+    walk-step start O kind (now w ms) r.0 r.1 (moment + length ms) m.state happens)
 
 -- a job that runs alone walks to its last step, which ends it
-pub job-ends : (start new : State) (moment : ℕ) (kind : Kind) (answer : Answer) (heard : List Entry) → IsOpenAtRest start 1 → IsSpelledKind kind → RunsJob start moment kind answer heard new → Ends start kind answer heard new
+pub job-ends : (start new : State) (moment : ℕ) (kind : Kind) (answer : Answer) (heard : List Entry) →
+    IsOpenAtRest start 1 → IsSpelledKind kind → RunsJob start moment kind answer heard new →
+    Ends start kind answer heard new
 job-ends start new moment kind answer heard O spelled r =
     (let b = walk-begin moment r.job start r.begun kind O spelled r.begins in
-    let g : GoesOnTo r.begun (moment + 1) 1 answer heard new = subst (λ n. GoesOnTo r.begun (moment + 1) n answer heard new) b.0 r.goes_on in
-    let last = walk-steps start r.begun kind (new_job start moment kind) (moment + 1) g.steps O b.1 g.are_steps in
-    let a = walk-last start O kind (now r.begun g.steps) last.0 last.1 ((moment + 1) + length g.steps) new answer g.ends in
+    let g : GoesOnTo r.begun (moment + 1) 1 answer heard new =
+    subst (λ n. GoesOnTo r.begun (moment + 1) n answer heard new) b.0 r.goes_on in
+    let last = walk-steps start r.begun kind (new_job start moment kind)
+    (moment + 1) g.steps O b.1 g.are_steps in
+    let a = walk-last start O kind (now r.begun g.steps) last.0 last.1
+    ((moment + 1) + length g.steps) new answer g.ends in
     record {
       before = now r.begun g.steps;
       job = last.0;

@@ -16,4 +16,5 @@ IsTail action = ⊥
 -- these alone stand behind the record
 pub tail-list : (s : Setup) (job : Job) → Each IsTail (remove_actions s job ++ End ∷ [])
 tail-list s job = each_append IsTail (remove_actions s job) (End ∷ [])
-    (each_flat IsTail (λ object. on_each_provider s (λ k. Remove k object)) job.older (λ object. each_map IsTail (λ k. Remove k object) (upto s.n) (λ k. tt))) (tt, tt)
+    (each_flat IsTail (λ object. on_each_provider s (λ k. Remove k object)) job.older
+    (λ object. each_map IsTail (λ k. Remove k object) (upto s.n) (λ k. tt))) (tt, tt)

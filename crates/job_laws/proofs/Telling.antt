@@ -37,8 +37,11 @@ use Rattle.job_laws.proofs.Refused.{drop-has}
 -- ---- a state that was opened over records that a start read
 
 -- a state opened over records that a start read is one just opened
-pub over-opened : (w : State) (old : Seen) (records : List Record) (faults : ℕ) → opens.IsOpened old records → IsOpenedOver w records faults old.providers → IsOpenAtRest w 1
-over-opened w old records faults R V = opened-over w records faults old.providers V R.read.accepted R.read.in_grammar R.read.room (has-setup records R.read.accepted R.read.some) R.enough
+pub over-opened : (w : State) (old : Seen) (records : List Record) (faults : ℕ) → opens.IsOpened old records →
+    IsOpenedOver w records faults old.providers → IsOpenAtRest w 1
+over-opened w old records faults R V =
+    opened-over w records faults old.providers V R.read.accepted R.read.in_grammar R.read.room
+    (has-setup records R.read.accepted R.read.some) R.enough
 
 -- ---- there is such a state
 
@@ -57,14 +60,19 @@ get-none (p ∷ ps) zero l = absurd (omega (arith, l))
 get-none (p ∷ ps) (suc j) l = get-none ps j (omega (arith, l))
 
 -- over accepted records there is a state that was opened over them
-pub state-over : (records : List Record) (faults : ℕ) (providers : List Provider) → AreAccepted records → IsOpenedOver (opened_state records faults providers) records faults providers
-state-over records faults providers accepted = opened-with records faults providers (provider_at providers) accepted (get-provider providers)
+pub state-over : (records : List Record) (faults : ℕ) (providers : List Provider) → AreAccepted records →
+    IsOpenedOver (opened_state records faults providers) records faults providers
+state-over records faults providers accepted =
+    opened-with records faults providers (provider_at providers) accepted (get-provider providers)
 
 -- ---- what is left of the run
 
-module _ (records : List Record) (kind : Kind) (answer : Answer) (old new : Seen) (heard : List Entry) (spelled : IsSpelledKind kind)
-    (law : (w last : State) (moment : ℕ) → IsOpenAtRest w 1 → RunsJob w moment kind answer heard last → Leaves (ran_from w last heard) kind answer)
-    (R : opens.IsOpened old records) (same : length new.providers ≡ length old.providers) (A : RunsAlone records kind answer old new heard) where
+module _ (records : List Record) (kind : Kind) (answer : Answer) (old new : Seen) (heard : List Entry)
+    (spelled : IsSpelledKind kind)
+    (law : (w last : State) (moment : ℕ) → IsOpenAtRest w 1 → RunsJob w moment kind answer heard last →
+    Leaves (ran_from w last heard) kind answer)
+    (R : opens.IsOpened old records) (same : length new.providers ≡ length old.providers)
+    (A : RunsAlone records kind answer old new heard) where
   abbrev w : State
   w = opened_state records A.faults old.providers
 
@@ -79,9 +87,11 @@ module _ (records : List Record) (kind : Kind) (answer : Answer) (old new : Seen
 
   provider-is : (j : ℕ) → ran.last.providers j ≡ provider_at new.providers j
   provider-is j = elim (cases_lt j (length new.providers)) [
-    | inl l ↦ (let e : Some (ran.last.providers j) ≡ Some (provider_at new.providers j) = sym (ran.handed.each j l) ∙ get-provider new.providers j l in
+    | inl l ↦ (let e : Some (ran.last.providers j) ≡ Some (provider_at new.providers j) =
+        sym (ran.handed.each j l) ∙ get-provider new.providers j l in
         let f : ran.last.providers j ≡ provider_at new.providers j = cc in f)
-    | inr l ↦ left-by.others j (let e = R.enough in omega (arith, e, l, same)) ∙ (get-none old.providers j (omega (arith, l, same)) ∙ sym (get-none new.providers j l))
+    | inr l ↦ left-by.others j (let e = R.enough in omega (arith, e, l, same))
+        ∙ (get-none old.providers j (omega (arith, l, same)) ∙ sym (get-none new.providers j l))
   ]
 
   abbrev entry_in : Doubt → Record
@@ -89,18 +99,27 @@ module _ (records : List Record) (kind : Kind) (answer : Answer) (old new : Seen
 
   -- the disk holds the whole history
   whole : IsWholeJournal ran.last
-  whole = runs-whole w (over-opened w old records A.faults R over) kind ran.last 1 answer heard spelled ran.runs
+  whole = runs-whole w (over-opened w old records A.faults R over) kind ran.last 1 answer heard spelled
+      ran.runs
 
-  image-stands : (image : List ℕ) → StandsPlain ran.last image ⊎ (StandsWithDoubt ran.last image ⊎ StandsSwitched ran.last image) →
-      StandsOrIsEmpty image ran.last.records ⊎ IsSomeAnd (option_map (λ (d : Doubt). d.entry) ran.last.doubt) (λ entry. StandsFor image (entry ∷ ran.last.records))
+  image-stands : (image : List ℕ) → StandsPlain ran.last image ⊎
+      (StandsWithDoubt ran.last image ⊎ StandsSwitched ran.last image) →
+      StandsOrIsEmpty image ran.last.records ⊎ IsSomeAnd (option_map (λ (d : Doubt). d.entry) ran.last.doubt)
+      (λ entry. StandsFor image (entry ∷ ran.last.records))
   image-stands image (inl (inl h)) = inl (inl (subst (StandsFor image) whole.journal h.1))
   image-stands image (inl (inr h)) = inl (inr (sym whole.journal ∙ h.0, h.1))
-  image-stands image (inr (inl h)) = inr (subst (λ (d : Option Doubt). IsSomeAnd (option_map (λ (d : Doubt). d.entry) d) (λ entry. StandsFor image (entry ∷ ran.last.records))) (sym h.in_doubt)
+  image-stands image (inr (inl h)) =
+      inr (subst (λ (d : Option Doubt). IsSomeAnd (option_map (λ (d : Doubt). d.entry) d)
+      (λ entry. StandsFor image (entry ∷ ran.last.records))) (sym h.in_doubt)
       (subst (λ rs. StandsFor image (h.doubt.entry ∷ rs)) whole.journal h.stands.1))
   image-stands image (inr (inr h)) = absurd (false≢true (sym whole.unswitched ∙ h.switching))
 
-  images-stand : (told : Option Cells) → EachImage told (λ image. StandsPlain ran.last image ⊎ (StandsWithDoubt ran.last image ⊎ StandsSwitched ran.last image)) →
-      EachImage told (λ image. StandsOrIsEmpty image ran.last.records ⊎ IsSomeAnd (option_map (λ (d : Doubt). d.entry) ran.last.doubt) (λ entry. StandsFor image (entry ∷ ran.last.records)))
+  images-stand : (told : Option Cells) →
+      EachImage told (λ image. StandsPlain ran.last image ⊎
+      (StandsWithDoubt ran.last image ⊎ StandsSwitched ran.last image)) →
+      EachImage told (λ image. StandsOrIsEmpty image ran.last.records ⊎
+      IsSomeAnd (option_map (λ (d : Doubt). d.entry) ran.last.doubt)
+      (λ entry. StandsFor image (entry ∷ ran.last.records)))
   images-stand None h = tt
   images-stand (Some cells) h = λ image is. image-stands image (h image is)
 
@@ -111,8 +130,12 @@ module _ (records : List Record) (kind : Kind) (answer : Answer) (old new : Seen
     before = A.before;
     after = ran.last.records;
     doubt = option_map (λ (d : Doubt). d.entry) ran.last.doubt;
-    leaves = subst (λ n. Leaves (record (ran_alone records old new heard A.faults ran.last.records (option_map (λ (d : Doubt). d.entry) ran.last.doubt)) { disk_after = n }) kind answer) ran.faults_are
-        (subst (λ (f : ℕ → Provider). Leaves (record (ran_from w ran.last heard) { new = f }) kind answer) (λ i j. provider-is j i) left-by);
+    leaves = subst (λ n. Leaves
+        (record (ran_alone records old new heard A.faults ran.last.records
+        (option_map (λ (d : Doubt). d.entry) ran.last.doubt)) { disk_after = n }) kind answer)
+        ran.faults_are
+        (subst (λ (f : ℕ → Provider). Leaves (record (ran_from w ran.last heard) { new = f }) kind answer)
+        (λ i j. provider-is j i) left-by);
     images = images-stand new.disk ran.images;
     past_text = ran.past_text;
   }
@@ -120,11 +143,19 @@ module _ (records : List Record) (kind : Kind) (answer : Answer) (old new : Seen
 -- ---- each kind of job
 
 -- a job of each kind that runs alone leaves what its kind says
-pub jobs-leave : (kind : Kind) (w last : State) (moment : ℕ) (answer : Answer) (heard : List Entry) → IsSpelledKind kind → IsOpenAtRest w 1 → RunsJob w moment kind answer heard last → Leaves (ran_from w last heard) kind answer
-jobs-leave (PutJob name bytes) w last moment answer heard spelled O r = put-leaves w last name bytes answer heard O (job-ends w last moment (PutJob name bytes) answer heard O spelled r)
-jobs-leave (GetJob name) w last moment answer heard spelled O r = all-leaves w last name answer heard O (job-ends w last moment (GetJob name) answer heard O spelled r)
+pub jobs-leave : (kind : Kind) (w last : State) (moment : ℕ) (answer : Answer) (heard : List Entry) →
+    IsSpelledKind kind → IsOpenAtRest w 1 → RunsJob w moment kind answer heard last →
+    Leaves (ran_from w last heard) kind answer
+jobs-leave (PutJob name bytes) w last moment answer heard spelled O r =
+    put-leaves w last name bytes answer heard O
+    (job-ends w last moment (PutJob name bytes) answer heard O spelled r)
+jobs-leave (GetJob name) w last moment answer heard spelled O r =
+    all-leaves w last name answer heard O (job-ends w last moment (GetJob name) answer heard O spelled r)
 jobs-leave (DropJob name) w last moment answer heard spelled O r =
-    (let f = drop-has 8 w name r.begins.1 in drop-leaves w last name answer heard O (job-ends w last moment (DropJob name) answer heard O spelled r) f.0 f.1)
+    (let f = drop-has 8 w name r.begins.1 in
+    drop-leaves w last name answer heard O
+    (job-ends w last moment (DropJob name) answer heard O spelled r) f.0 f.1)
 jobs-leave AuditJob w last moment answer heard spelled O r = audits-leave w last moment answer heard O r
 jobs-leave RepairJob w last moment answer heard spelled O r = repairs-leave w last moment answer heard O r
-jobs-leave UpgradeJob w last moment answer heard spelled O r = upgrade-leaves w last answer heard O (job-ends w last moment UpgradeJob answer heard O spelled r)
+jobs-leave UpgradeJob w last moment answer heard spelled O r =
+    upgrade-leaves w last answer heard O (job-ends w last moment UpgradeJob answer heard O spelled r)

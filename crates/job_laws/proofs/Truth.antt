@@ -1,4 +1,5 @@
--- What a provider that tells gave a job: what it held, or nothing; and nothing, though something was held, at most as often as its
+-- What a provider that tells gave a job: what it held, or nothing; and nothing, though something was held, at
+-- most as often as its
 -- count of faults rose.
 use Rattle.std.proofs.Common.{◌≡◌, ℕ, zero, suc, ◌+◌, ◌<◌, ◌≤◌, ◌==◌, ◌&&◌, ◌⊎◌, Bool, true, false, cond, List, [], ◌∷◌, map, Option, None, Some, refl, ap, sym, subst, ◌∙◌, inl, inr, arith, sum_by}
 use Rattle.std.specs.Prelude.{is_some, is_none}
@@ -19,16 +20,22 @@ use Rattle.job_laws.proofs.Providers.{Rises, rises-same, rises-more, called-rise
 use Rattle.job_laws.proofs.Heard.{IsOver, AreDistinct, answer-later, answer-newest}
 
 -- the call of the very provider, and of another one
-pub call-hit : (old : ℕ → Provider) (j : ℕ) (call : Provider → Provider → Type 0) (new : ℕ → Provider) → CallsOne old j call new → call (old j) (new j)
-call-hit old j call new (p, made, is) = subst (λ q. call (old j) q) (sym (ap (λ f. f j) is ∙ cond_true (j == j) p (old j) (eq-eqb j j refl))) made
+pub call-hit : (old : ℕ → Provider) (j : ℕ) (call : Provider → Provider → Type 0) (new : ℕ → Provider) →
+    CallsOne old j call new → call (old j) (new j)
+call-hit old j call new (p, made, is) =
+    subst (λ q. call (old j) q) (sym (ap (λ f. f j) is ∙ cond_true (j == j) p (old j) (eq-eqb j j refl))) made
 
 -- a call of one provider leaves each other one
-pub call-miss : (old : ℕ → Provider) (k : ℕ) (call : Provider → Provider → Type 0) (new : ℕ → Provider) (j : ℕ) → (k ≡ j → ⊥) → CallsOne old k call new → new j ≡ old j
-call-miss old k call new j n (p, made, is) = ap (λ f. f j) is ∙ cond_false (j == k) p (old j) (ne_eqb j k (λ e. n (sym e)))
+pub call-miss : (old : ℕ → Provider) (k : ℕ) (call : Provider → Provider → Type 0) (new : ℕ → Provider)
+    (j : ℕ) → (k ≡ j → ⊥) → CallsOne old k call new → new j ≡ old j
+call-miss old k call new j n (p, made, is) =
+    ap (λ f. f j) is ∙ cond_false (j == k) p (old j) (ne_eqb j k (λ e. n (sym e)))
 
 -- counts of faults do not fall in actions that were made
-pub made-rises : (x : With) (actions : List Action) (old new : ℕ → Provider) (given now : List Given) (j : ℕ) → Made x actions old new given now → Rises (old j) (new j)
-made-rises x actions old new given now j m = made-keeps x j Rises (λ a. Unit {0}) rises-same rises-more (λ a g h p q u c. called-rises x a g h j p q c) actions old new given now (all actions) m
+pub made-rises : (x : With) (actions : List Action) (old new : ℕ → Provider) (given now : List Given)
+    (j : ℕ) → Made x actions old new given now → Rises (old j) (new j)
+made-rises x actions old new given now j m = made-keeps x j Rises (λ a. Unit {0}) rises-same rises-more
+    (λ a g h p q u c. called-rises x a g h j p q c) actions old new given now (all actions) m
   where
     all : (xs : List Action) → Each (λ a. Unit {0}) xs
     all [] = tt
@@ -60,12 +67,14 @@ lacks-few given held = by_test (is_none given && is_some held)
 
 -- the answer to an ask of provider j, if the action is one, is the honest one of what it holds, or none
 abbrev pub IsTold : With → List Given → Held → ℕ → Action → Type 0
-IsTold x now held j (Ask k o r) = k ≡ j → (answer_given now o r k ≡ honest_answer (challenge_made x o r) (held o)) ⊎ (answer_given now o r k ≡ None)
+IsTold x now held j (Ask k o r) = k ≡ j →
+    (answer_given now o r k ≡ honest_answer (challenge_made x o r) (held o)) ⊎ (answer_given now o r k ≡ None)
 IsTold x now held j action = Unit {0}
 
 -- 1 where it is none though there is an honest one
 abbrev pub lack_at : With → List Given → Held → ℕ → Action → ℕ
-lack_at x now held j (Ask k o r) = cond (k == j) (lacks (answer_given now o r k) (honest_answer (challenge_made x o r) (held o))) 0
+lack_at x now held j (Ask k o r) =
+    cond (k == j) (lacks (answer_given now o r k) (honest_answer (challenge_made x o r) (held o))) 0
 lack_at x now held j action = 0
 
 -- an action that leaves what providers hold
@@ -81,69 +90,125 @@ record Step (x : With) (now : List Given) (held : Held) (j : ℕ) (a : Action) (
   count : q.other_faults < last_count → p.other_faults + lack_at x now held j a ≤ q.other_faults
 
 module _ (x : With) (j : ℕ) (held : Held) (now : List Given) where
-  same-step : (a : Action) (p q : Provider) → IsTold x now held j a → lack_at x now held j a ≡ 0 → q ≡ p → p.held ≡ Some held → Step x now held j a p q
-  same-step a p q told none e h = record { told = told; held_is = ap (λ (z : Provider). z.held) e ∙ h; count = λ l. (let f = ap (λ (z : Provider). z.other_faults) e in omega (arith, f, none)) }
+  same-step : (a : Action) (p q : Provider) → IsTold x now held j a → lack_at x now held j a ≡ 0 → q ≡ p →
+      p.held ≡ Some held → Step x now held j a p q
+  same-step a p q told none e h =
+      record {
+        told = told;
+        held_is = ap (λ (z : Provider). z.held) e ∙ h;
+        count = λ l. (let f = ap (λ (z : Provider). z.other_faults) e in omega (arith, f, none));
+      }
 
-  ask-step : (k o r : ℕ) (symbol : Option ℕ) (p q : Provider) → k ≡ j → answer_given now o r k ≡ symbol → p.held ≡ Some held → Asks (honest_answer (challenge_made x o r)) o p symbol q → Step x now held j (Ask k o r) p q
+  ask-step : (k o r : ℕ) (symbol : Option ℕ) (p q : Provider) → k ≡ j → answer_given now o r k ≡ symbol →
+      p.held ≡ Some held → Asks (honest_answer (challenge_made x o r)) o p symbol q →
+      Step x now held j (Ask k o r) p q
   ask-step k o r symbol p q hit is h c = record {
     told = λ e. elim gives [ inl g ↦ inl (is ∙ g) | inr f ↦ inr (is ∙ f.0) ];
     held_is = c.held ∙ h;
-    count = λ l. (let one : lack_at x now held j (Ask k o r) ≡ lacks symbol (honest_answer (challenge_made x o r) (held o)) =
-        cond_true (k == j) (lacks (answer_given now o r k) (honest_answer (challenge_made x o r) (held o))) 0 (eq-eqb k j hit) ∙ ap (λ g. lacks g (honest_answer (challenge_made x o r) (held o))) is in
+    count = λ l. (let one : lack_at x now held j (Ask k o r)
+        ≡ lacks symbol (honest_answer (challenge_made x o r) (held o)) =
+        cond_true (k == j) (lacks (answer_given now o r k) (honest_answer (challenge_made x o r) (held o))) 0
+        (eq-eqb k j hit) ∙ ap (λ g. lacks g (honest_answer (challenge_made x o r) (held o))) is in
         elim gives [
-          | inl g ↦ (let z = lacks-same symbol (honest_answer (challenge_made x o r) (held o)) g in let low = c.counts.other_faults in omega (arith, one, z, low))
-          | inr f ↦ (let z = lacks-few symbol (honest_answer (challenge_made x o r) (held o)) in let low = c.counts.other_faults in let up = f.1 (omega (arith, low, l)) in omega (arith, one, z, up))
+          | inl g ↦ (let z = lacks-same symbol (honest_answer (challenge_made x o r) (held o)) g in
+              let low = c.counts.other_faults in omega (arith, one, z, low))
+          | inr f ↦ (let z = lacks-few symbol (honest_answer (challenge_made x o r) (held o)) in
+              let low = c.counts.other_faults in let up = f.1 (omega (arith, low, l)) in
+              omega (arith, one, z, up))
         ]);
   }
     where
       gives : (symbol ≡ honest_answer (challenge_made x o r) (held o)) ⊎ FailsToGive p symbol q
-      gives = elim c.gives [ inl g ↦ inl (subst (λ t. AskGives (honest_answer (challenge_made x o r)) o t symbol) h g) | inr f ↦ inr f ]
+      gives = elim c.gives [
+        | inl g ↦
+            inl (subst (λ t. AskGives (honest_answer (challenge_made x o r)) o t symbol) h g)
+        | inr f ↦ inr f
+      ]
 
-  other-ask : (k o r : ℕ) (p q : Provider) → (k ≡ j → ⊥) → q ≡ p → p.held ≡ Some held → Step x now held j (Ask k o r) p q
-  other-ask k o r p q n e h = same-step (Ask k o r) p q (λ f. absurd (n f)) (cond_false (k == j) (lacks (answer_given now o r k) (honest_answer (challenge_made x o r) (held o))) 0 (ne_eqb k j n)) e h
+  other-ask : (k o r : ℕ) (p q : Provider) → (k ≡ j → ⊥) → q ≡ p → p.held ≡ Some held →
+      Step x now held j (Ask k o r) p q
+  other-ask k o r p q n e h = same-step (Ask k o r) p q (λ f. absurd (n f))
+      (cond_false (k == j) (lacks (answer_given now o r k) (honest_answer (challenge_made x o r) (held o))) 0
+      (ne_eqb k j n)) e h
 
-  one-step : (a : Action) (actions : List Action) (old mid new : ℕ → Provider) (given so_far : List Given) → IsQuiet a → IsOver a actions → Did x a old mid given so_far → Made x actions mid new so_far now → (old j).held ≡ Some held →
+  one-step : (a : Action) (actions : List Action) (old mid new : ℕ → Provider) (given so_far : List Given) →
+      IsQuiet a → IsOver a actions → Did x a old mid given so_far → Made x actions mid new so_far now →
+      (old j).held ≡ Some held →
       Step x now held j a (old j) (mid j)
-  one-step (Ask k o r) actions old mid new given so_far quiet over (symbol, called, is) rest h = elim (cases_eq k j) [
-    | inl hit ↦ ask-step k o r symbol (old j) (mid j) hit
-        (answer-later x actions mid new so_far now k o r rest over ∙ (ap (λ g. answer_given g o r k) is ∙ answer-newest k o r symbol given)) h
-        (subst (λ n. Asks (honest_answer (challenge_made x o r)) o (old n) symbol (mid n)) hit (call-hit old k (λ p q. Asks (honest_answer (challenge_made x o r)) o p symbol q) mid called))
-    | inr miss ↦ other-ask k o r (old j) (mid j) miss (call-miss old k (λ p q. Asks (honest_answer (challenge_made x o r)) o p symbol q) mid j miss called) h
-  ]
-  one-step (Fetch k o s) actions old mid new given so_far quiet over (block, called, is) rest h = elim (cases_eq k j) [
-    | inl hit ↦ (let c = subst (λ n. Fetches (object_made x o).profile.size o s (old n) block (mid n)) hit (call-hit old k (λ p q. Fetches (object_made x o).profile.size o s p block q) mid called) in
-        record { told = tt; held_is = c.held ∙ h; count = λ l. (let low = c.counts.other_faults in omega (arith, low)) })
-    | inr miss ↦ same-step (Fetch k o s) (old j) (mid j) tt refl (call-miss old k (λ p q. Fetches (object_made x o).profile.size o s p block q) mid j miss called) h
-  ]
+  one-step (Ask k o r) actions old mid new given so_far quiet over (symbol, called, is) rest h =
+      elim (cases_eq k j) [
+        | inl hit ↦ ask-step k o r symbol (old j) (mid j) hit
+            (answer-later x actions mid new so_far now k o r rest over
+            ∙ (ap (λ g. answer_given g o r k) is ∙ answer-newest k o r symbol given)) h
+            (subst (λ n. Asks (honest_answer (challenge_made x o r)) o (old n) symbol (mid n)) hit
+            (call-hit old k (λ p q. Asks (honest_answer (challenge_made x o r)) o p symbol q) mid called))
+        | inr miss ↦ other-ask k o r (old j) (mid j) miss
+            (call-miss old k (λ p q. Asks (honest_answer (challenge_made x o r)) o p symbol q) mid j miss called)
+            h
+      ]
+  one-step (Fetch k o s) actions old mid new given so_far quiet over (block, called, is) rest h =
+      elim (cases_eq k j) [
+        | inl hit ↦ (let c = subst (λ n. Fetches (object_made x o).profile.size o s (old n) block (mid n)) hit
+            (call-hit old k (λ p q. Fetches (object_made x o).profile.size o s p block q) mid called) in
+            record {
+              told = tt;
+              held_is = c.held ∙ h;
+              count =
+                  λ l. (let low = c.counts.other_faults in omega (arith, low));
+            })
+        | inr miss ↦ same-step (Fetch k o s) (old j) (mid j) tt refl
+            (call-miss old k (λ p q. Fetches (object_made x o).profile.size o s p block q) mid j miss called) h
+      ]
   one-step (Store k o s) actions old mid new given so_far quiet over did rest h = absurd quiet
   one-step (Remove k o) actions old mid new given so_far quiet over did rest h = absurd quiet
-  one-step (Work o s) actions old mid new given so_far quiet over (symbols, gives, still, is) rest h = same-step (Work o s) (old j) (mid j) tt refl (ap (λ f. f j) still) h
-  one-step WriteBody actions old mid new given so_far quiet over (still, is) rest h = same-step WriteBody (old j) (mid j) tt refl (ap (λ f. f j) still) h
-  one-step SyncBody actions old mid new given so_far quiet over (still, is) rest h = same-step SyncBody (old j) (mid j) tt refl (ap (λ f. f j) still) h
-  one-step WriteGate actions old mid new given so_far quiet over (still, is) rest h = same-step WriteGate (old j) (mid j) tt refl (ap (λ f. f j) still) h
-  one-step SyncGate actions old mid new given so_far quiet over (still, is) rest h = same-step SyncGate (old j) (mid j) tt refl (ap (λ f. f j) still) h
-  one-step End actions old mid new given so_far quiet over (still, is) rest h = same-step End (old j) (mid j) tt refl (ap (λ f. f j) still) h
+  one-step (Work o s) actions old mid new given so_far quiet over (symbols, gives, still, is) rest h =
+      same-step (Work o s) (old j) (mid j) tt refl (ap (λ f. f j) still) h
+  one-step WriteBody actions old mid new given so_far quiet over (still, is) rest h =
+      same-step WriteBody (old j) (mid j) tt refl (ap (λ f. f j) still) h
+  one-step SyncBody actions old mid new given so_far quiet over (still, is) rest h =
+      same-step SyncBody (old j) (mid j) tt refl (ap (λ f. f j) still) h
+  one-step WriteGate actions old mid new given so_far quiet over (still, is) rest h =
+      same-step WriteGate (old j) (mid j) tt refl (ap (λ f. f j) still) h
+  one-step SyncGate actions old mid new given so_far quiet over (still, is) rest h =
+      same-step SyncGate (old j) (mid j) tt refl (ap (λ f. f j) still) h
+  one-step End actions old mid new given so_far quiet over (still, is) rest h =
+      same-step End (old j) (mid j) tt refl (ap (λ f. f j) still) h
 
   -- all of them
-  pub asks-told : (actions : List Action) (old new : ℕ → Provider) (given : List Given) → Each IsQuiet actions → AreDistinct actions → Made x actions old new given now → (old j).held ≡ Some held →
-      Each (IsTold x now held j) actions × ((new j).other_faults < last_count → (old j).other_faults + sum_by (lack_at x now held j) actions ≤ (new j).other_faults)
-  asks-told [] old new given quiet d m h = (tt, λ l. (let e = ap (λ (f : ℕ → Provider). (f j).other_faults) m.0 in omega (arith, e)))
+  pub asks-told : (actions : List Action) (old new : ℕ → Provider) (given : List Given) →
+      Each IsQuiet actions → AreDistinct actions → Made x actions old new given now →
+      (old j).held ≡ Some held →
+      Each (IsTold x now held j) actions ×
+      ((new j).other_faults < last_count →
+      (old j).other_faults + sum_by (lack_at x now held j) actions ≤ (new j).other_faults)
+  asks-told [] old new given quiet d m h =
+      (tt, λ l. (let e = ap (λ (f : ℕ → Provider). (f j).other_faults) m.0 in omega (arith, e)))
   asks-told (a ∷ actions) old new given quiet d (mid, so_far, did, rest) h =
       (let s = one-step a actions old mid new given so_far quiet.0 d.0 did rest h in
       let r = asks-told actions mid new so_far quiet.1 d.1 rest s.held_is in
-      let up = (made-rises x actions mid new so_far now j rest).1 in
-      ((s.told, r.0), λ l. (let c = s.count (omega (arith, up, l)) in let e = r.1 l in let f = sum_by-cons (lack_at x now held j) a actions in omega (arith, c, e, f))))
+      let up = (made-rises x actions mid new so_far now j rest).1 in (
+        (s.told, r.0),
+        λ l. (let c = s.count (omega (arith, up, l)) in let e = r.1 l in
+            let f = sum_by-cons (lack_at x now held j) a actions in omega (arith, c, e, f)),
+      ))
 
 -- ---- sums over a range of which one number counts
 
-range-miss : (j v : ℕ) (f : Action → ℕ) (g : ℕ → Action) (a n : ℕ) → ((k : ℕ) → (k ≡ j → ⊥) → f (g k) ≡ 0) → j < a → sum_by f (map g (range_with_len a n)) ≡ 0
+range-miss : (j v : ℕ) (f : Action → ℕ) (g : ℕ → Action) (a n : ℕ) → ((k : ℕ) → (k ≡ j → ⊥) → f (g k) ≡ 0) →
+    j < a → sum_by f (map g (range_with_len a n)) ≡ 0
 range-miss j v f g a zero h l = refl
-range-miss j v f g a (suc n) h l = sum_by-cons f (g a) (map g (range_with_len (a + 1) n)) ∙ (let e = h a (λ e. omega (arith, e, l)) in let r = range-miss j v f g (a + 1) n h (omega (arith, l)) in omega (arith, e, r))
+range-miss j v f g a (suc n) h l = sum_by-cons f (g a) (map g (range_with_len (a + 1) n))
+    ∙ (let e = h a (λ e. omega (arith, e, l)) in let r = range-miss j v f g (a + 1) n h (omega (arith, l)) in
+    omega (arith, e, r))
 
 -- of a range of which one number counts the sum is that number's
-pub range-hit : (j : ℕ) (f : Action → ℕ) (g : ℕ → Action) (a n : ℕ) → ((k : ℕ) → (k ≡ j → ⊥) → f (g k) ≡ 0) → a ≤ j → j < a + n → sum_by f (map g (range_with_len a n)) ≡ f (g j)
+pub range-hit : (j : ℕ) (f : Action → ℕ) (g : ℕ → Action) (a n : ℕ) → ((k : ℕ) → (k ≡ j → ⊥) → f (g k) ≡ 0) →
+    a ≤ j → j < a + n → sum_by f (map g (range_with_len a n)) ≡ f (g j)
 range-hit j f g a zero h l u = absurd (omega (arith, l, u))
-range-hit j f g a (suc n) h l u = sum_by-cons f (g a) (map g (range_with_len (a + 1) n)) ∙ elim (cases_eq a j) [
-  | inl e ↦ (let r = range-miss j 0 f g (a + 1) n h (omega (arith, e)) in let s = ap (λ k. f (g k)) e in omega (arith, r, s))
-  | inr n0 ↦ (let z = h a n0 in let r = range-hit j f g (a + 1) n h (omega (arith, l, n0)) (omega (arith, u)) in omega (arith, z, r))
-]
+range-hit j f g a (suc n) h l u =
+    sum_by-cons f (g a) (map g (range_with_len (a + 1) n)) ∙ elim (cases_eq a j) [
+      | inl e ↦ (let r = range-miss j 0 f g (a + 1) n h (omega (arith, e)) in let s = ap (λ k. f (g k)) e in
+          omega (arith, r, s))
+      | inr n0 ↦ (let z = h a n0 in
+          let r = range-hit j f g (a + 1) n h (omega (arith, l, n0)) (omega (arith, u)) in omega (arith, z, r))
+    ]

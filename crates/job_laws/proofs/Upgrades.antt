@@ -46,7 +46,8 @@ IsStill (Work o t) = ⊥
 IsStill (Remove k o) = ⊥
 IsStill action = Unit {0}
 
-module _ (start new : State) (how : Answer) (heard : List Entry) (O : IsOpenAtRest start 1) (E : Ends start UpgradeJob how heard new) where
+module _ (start new : State) (how : Answer) (heard : List Entry) (O : IsOpenAtRest start 1)
+    (E : Ends start UpgradeJob how heard new) where
   abbrev upgrade_with : With
   upgrade_with = with_job_of start UpgradeJob E.job
 
@@ -60,20 +61,26 @@ module _ (start new : State) (how : Answer) (heard : List Entry) (O : IsOpenAtRe
   L = last-call E.before E.job new E.action how E.acts
 
   same-left : appends_left (setup_in start) E.job ≡ appends_left (setup_in E.before) E.job
-  same-left = left-start start O UpgradeJob E.before E.job E.walked (appends_left (setup_in E.before) E.job) refl
+  same-left = left-start start O UpgradeJob E.before E.job E.walked
+      (appends_left (setup_in E.before) E.job) refl
 
   still-list : Each IsStill (actions_of (setup_in start) E.job)
-  still-list = subst (Each IsStill) (sym (upgrade-list (setup_in start) E.job E.walked.kind_is)) (tt, (tt, (tt, (tt, (tt, tt)))))
+  still-list = subst (Each IsStill) (sym (upgrade-list (setup_in start) E.job E.walked.kind_is))
+      (tt, (tt, (tt, (tt, (tt, tt)))))
 
-  listed : (action : Action) → E.action ≡ action → (action ≡ End → ⊥) → slice_get (actions_of (setup_in start) E.job) E.job.place ≡ Some action
-  listed action at n = subst (λ (t : Setup). slice_get (actions_of t E.job) E.job.place ≡ Some action) E.walked.setup (next_stands E.before E.job action (E.next ∙ ap Some at) n)
+  listed : (action : Action) → E.action ≡ action → (action ≡ End → ⊥) →
+      slice_get (actions_of (setup_in start) E.job) E.job.place ≡ Some action
+  listed action at n = subst (λ (t : Setup). slice_get (actions_of t E.job) E.job.place ≡ Some action)
+      E.walked.setup (next_stands E.before E.job action (E.next ∙ ap Some at) n)
 
   -- providers are not called
   kept : (i : ℕ) → E.before.providers i ≡ start.providers i
-  kept i = made-keeps upgrade_with i (λ p q. q ≡ p) IsStill (λ p. refl) (λ p q r a b. b ∙ a) one (take E.job.place (actions_of (setup_in start) E.job)) start.providers E.before.providers [] E.job.given
+  kept i = made-keeps upgrade_with i (λ p q. q ≡ p) IsStill (λ p. refl) (λ p q r a b. b ∙ a) one
+      (take E.job.place (actions_of (setup_in start) E.job)) start.providers E.before.providers [] E.job.given
       (each_take IsStill (actions_of (setup_in start) E.job) E.job.place still-list) E.walked.made
     where
-      one : (a : Action) (given now : List Given) (p q : Provider) → IsStill a → Called upgrade_with a given now i p q → q ≡ p
+      one : (a : Action) (given now : List Given) (p q : Provider) → IsStill a →
+          Called upgrade_with a given now i p q → q ≡ p
       one WriteBody given now p q u c = absurd c
       one SyncBody given now p q u c = absurd c
       one WriteGate given now p q u c = absurd c
@@ -95,18 +102,23 @@ module _ (start new : State) (how : Answer) (heard : List Entry) (O : IsOpenAtRe
   stands : 0 < appends_left (setup_in E.before) E.job → E.before.records ≡ start.records
   stands left = by_records E.before.records refl E.walked.records
     where
-      by_records : (rs : List Record) → E.before.records ≡ rs → RecordsAre start UpgradeJob E.job rs → E.before.records ≡ start.records
+      by_records : (rs : List Record) → E.before.records ≡ rs → RecordsAre start UpgradeJob E.job rs →
+          E.before.records ≡ start.records
       by_records rs e (RecordsAre.none l is) = e ∙ is
       by_records rs e (RecordsAre.one l is) = absurd (let same = same-left in omega (arith, l, same, left))
-      by_records rs e (RecordsAre.two entry l sec is) = absurd (let same = same-left in omega (arith, l, same, left))
+      by_records rs e (RecordsAre.two entry l sec is) =
+          absurd (let same = same-left in omega (arith, l, same, left))
 
-  in-doubt : (doubt : Option Doubt) → 0 < appends_left (setup_in E.before) E.job → InDoubt start O UpgradeJob E.before E.job E.walked doubt →
-      (option_map (λ (d : Doubt). d.entry) doubt ≡ None) ⊎ (option_map (λ (d : Doubt). d.entry) doubt ≡ Some Version)
+  in-doubt : (doubt : Option Doubt) → 0 < appends_left (setup_in E.before) E.job →
+      InDoubt start O UpgradeJob E.before E.job E.walked doubt →
+      (option_map (λ (d : Doubt). d.entry) doubt ≡ None) ⊎
+      (option_map (λ (d : Doubt). d.entry) doubt ≡ Some Version)
   in-doubt doubt left (inl none) = inl (ap (option_map (λ (d : Doubt). d.entry)) none)
-  in-doubt doubt left (inr (d, in_doubt, writes)) = elim (wrote start O UpgradeJob E.before E.job E.walked d.entry left writes) [
-    | Wrote.first l is entry ↦ inr (ap (option_map (λ (z : Doubt). z.entry)) in_doubt ∙ ap Some entry)
-    | Wrote.second l is sec ↦ absurd sec
-  ]
+  in-doubt doubt left (inr (d, in_doubt, writes)) =
+      elim (wrote start O UpgradeJob E.before E.job E.walked d.entry left writes) [
+        | Wrote.first l is entry ↦ inr (ap (option_map (λ (z : Doubt). z.entry)) in_doubt ∙ ap Some entry)
+        | Wrote.second l is sec ↦ absurd sec
+      ]
 
   abbrev Gives : Answer → Type 0
   Gives a = UpgradeLeaves ran a
@@ -114,20 +126,40 @@ module _ (start new : State) (how : Answer) (heard : List Entry) (O : IsOpenAtRe
   faulted : Faults start O UpgradeJob E.before E.job E.walked new → Gives answer.DiskFault
   faulted F = (
     rose-before start.disk_faults E.before.disk_faults new.disk_faults E.walked.disk F.low F.rose,
-    record { done = []; next = Version; rest = []; parts = refl; after = F.records ∙ stands F.left; doubt = in-doubt new.doubt F.left F.doubt },
+    record {
+      done = [];
+      next = Version;
+      rest = [];
+      parts = refl;
+      after = F.records ∙ stands F.left;
+      doubt = in-doubt new.doubt F.left F.doubt;
+    },
     same-held,
   )
 
   no-room : NoRoom start O UpgradeJob E.before E.job E.walked new → Gives answer.Memory
   no-room N = (
-    record { done = []; next = Version; rest = []; parts = refl; after = N.records ∙ stands N.left; sure = ap (option_map (λ (z : Doubt). z.entry)) N.doubt },
+    record {
+      done = [];
+      next = Version;
+      rest = [];
+      parts = refl;
+      after = N.records ∙ stands N.left;
+      sure = ap (option_map (λ (z : Doubt). z.entry)) N.doubt;
+    },
     same-held,
   )
 
-  moved : (action : Action) → E.action ≡ action → Moves E.before E.job action E.before.append (Ended how) new → Gives how
+  moved : (action : Action) → E.action ≡ action →
+      Moves E.before E.job action E.before.append (Ended how) new → Gives how
   moved action at h = elim (move-answers E.before E.job new action E.before.append how h) [
-    | inl e ↦ subst Gives (sym e) (faulted (move-faults start O UpgradeJob E.before E.job E.walked action E.before.append new refl (E.next ∙ ap Some at) (subst (λ a. Moves E.before E.job action E.before.append (Ended a) new) e h)))
-    | inr e ↦ subst Gives (sym e) (no-room (move-memory start O UpgradeJob E.before E.job E.walked action E.before.append new refl (subst (λ z. holder_of E.before.append z ≡ None) at E.free) (E.next ∙ ap Some at)
+    | inl e ↦ subst Gives (sym e)
+        (faulted (move-faults start O UpgradeJob E.before E.job E.walked action E.before.append new refl
+        (E.next ∙ ap Some at)
+        (subst (λ a. Moves E.before E.job action E.before.append (Ended a) new) e h)))
+    | inr e ↦ subst Gives (sym e)
+        (no-room (move-memory start O UpgradeJob E.before E.job E.walked action E.before.append new refl
+        (subst (λ z. holder_of E.before.append z ≡ None) at E.free) (E.next ∙ ap Some at)
         (subst (λ a. Moves E.before E.job action E.before.append (Ended a) new) e h)))
   ]
 
@@ -136,22 +168,28 @@ module _ (start new : State) (how : Answer) (heard : List Entry) (O : IsOpenAtRe
   module _ (at : E.action ≡ End) where
     end-before : slice_get (actions_of (setup_in E.before) E.job) E.job.place ≡ Some End
     end-before = ap (λ xs. slice_get xs E.job.place) (upgrade-list (setup_in E.before) E.job E.walked.kind_is)
-        ∙ (sym (next_is_by E.before E.job ∙ ap (λ kd. next_by E.before E.job kd E.job.place) E.walked.kind_is) ∙ (E.next ∙ ap Some at))
+        ∙ (sym (next_is_by E.before E.job ∙ ap (λ kd. next_by E.before E.job kd E.job.place) E.walked.kind_is)
+        ∙ (E.next ∙ ap Some at))
 
-    end-order : IsInOrder (moves_made E.before.append E.job.number) (End ∷ drop (E.job.place + 1) (actions_of (setup_in E.before) E.job))
-    end-order = subst (IsInOrder (moves_made E.before.append E.job.number)) (drop-get (actions_of (setup_in E.before) E.job) E.job.place End end-before)
+    end-order : IsInOrder (moves_made E.before.append E.job.number)
+        (End ∷ drop (E.job.place + 1) (actions_of (setup_in E.before) E.job))
+    end-order = subst (IsInOrder (moves_made E.before.append E.job.number))
+        (drop-get (actions_of (setup_in E.before) E.job) E.job.place End end-before)
         (E.walked.sound.jobs E.job.number E.job (runs start O UpgradeJob E.before E.job E.walked)).order
 
     end-left : actions_left (setup_in E.before) E.job ≡ End ∷ []
-    end-left = drop-get (actions_of (setup_in E.before) E.job) E.job.place End end-before ∙ ap (λ xs. End ∷ xs) end-order.1
+    end-left = drop-get (actions_of (setup_in E.before) E.job) E.job.place End end-before
+        ∙ ap (λ xs. End ∷ xs) end-order.1
 
     no-append : appends_left (setup_in start) E.job ≡ 0
-    no-append = left-start start O UpgradeJob E.before E.job E.walked 0 (ap appends_in end-left ∙ appends-cons End [])
+    no-append = left-start start O UpgradeJob E.before E.job E.walked 0
+        (ap appends_in end-left ∙ appends-cons End [])
 
     whole-records : E.before.records ≡ Version ∷ start.records
     whole-records = by_records E.before.records refl E.walked.records
       where
-        by_records : (rs : List Record) → E.before.records ≡ rs → RecordsAre start UpgradeJob E.job rs → E.before.records ≡ Version ∷ start.records
+        by_records : (rs : List Record) → E.before.records ≡ rs → RecordsAre start UpgradeJob E.job rs →
+            E.before.records ≡ Version ∷ start.records
         by_records rs e (RecordsAre.none l is) = absurd (let c = no-append in omega (arith, l, c))
         by_records rs e (RecordsAre.one l is) = e ∙ is
         by_records rs e (RecordsAre.two entry l sec is) = absurd (omega (arith, l))
@@ -164,7 +202,11 @@ module _ (start new : State) (how : Answer) (heard : List Entry) (O : IsOpenAtRe
       where
         by_answer : (a : Answer) → step.Ends E.before E.job UpgradeJob a → Gives a
         by_answer answer.Upgraded u = (
-          record { after = ap (λ (v : State). v.records) is ∙ whole-records; sure = ap (λ (v : State). option_map (λ (d : Doubt). d.entry) v.doubt) is ∙ ap (option_map (λ (d : Doubt). d.entry)) end-sure },
+          record {
+            after = ap (λ (v : State). v.records) is ∙ whole-records;
+            sure = ap (λ (v : State). option_map (λ (d : Doubt). d.entry) v.doubt) is
+                ∙ ap (option_map (λ (d : Doubt). d.entry)) end-sure;
+          },
           same-held,
         )
         by_answer a h = absurd h
@@ -180,8 +222,12 @@ module _ (start new : State) (how : Answer) (heard : List Entry) (O : IsOpenAtRe
   by-action (Remove k o) at h = absurd h
   by-action (Fetch k o t) at h = absurd h
   by-action (Ask k o r) at h = absurd h
-  by-action (Store k o t) at h = absurd (each_get IsStill (actions_of (setup_in start) E.job) E.job.place (Store k o t) still-list (listed (Store k o t) at (λ e. cc)))
-  by-action (Work o t) at h = absurd (each_get IsStill (actions_of (setup_in start) E.job) E.job.place (Work o t) still-list (listed (Work o t) at (λ e. cc)))
+  by-action (Store k o t) at h =
+      absurd (each_get IsStill (actions_of (setup_in start) E.job) E.job.place (Store k o t) still-list
+      (listed (Store k o t) at (λ e. cc)))
+  by-action (Work o t) at h =
+      absurd (each_get IsStill (actions_of (setup_in start) E.job) E.job.place (Work o t) still-list
+      (listed (Work o t) at (λ e. cc)))
 
   -- an upgrade leaves its record, and providers as they were; or it was cut off
   pub upgrade-leaves : Leaves ran UpgradeJob how

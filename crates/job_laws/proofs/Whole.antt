@@ -28,48 +28,87 @@ module _ (old : State) (job : Job) (new : State) where
   kept : (w : State) → new ≡ w → Keeps old w → Keeps old new
   kept w is k = subst (Keeps old) (sym is) k
 
-  moves-keep : (action : Action) (flight : Option Append) (r : Outcome) → Moves old job action flight r new → Keeps old new
-  moves-keep WriteBody flight More (entry, writes, (faults, low, is)) = kept _ is (record { area = refl; switch = refl; journal = λ e. e })
-  moves-keep WriteBody flight (Ended answer.DiskFault) (faults, low, rose, is) = kept _ is (record { area = refl; switch = refl; journal = λ e. e })
-  moves-keep WriteBody flight (Ended answer.Memory) (faults, low, is) = kept _ is (record { area = refl; switch = refl; journal = λ e. e })
-  moves-keep SyncBody (Some a) More (at, (faults, low, is)) = kept _ is (record { area = refl; switch = refl; journal = λ e. e })
-  moves-keep SyncBody (Some a) (Ended answer.DiskFault) (at, (faults, low, rose, is)) = kept _ is (record { area = refl; switch = refl; journal = λ e. e })
-  moves-keep WriteGate (Some a) More (at, (faults, low, is)) = kept _ is (record { area = refl; switch = refl; journal = λ e. e })
-  moves-keep WriteGate (Some a) (Ended answer.DiskFault) (at, (faults, low, rose, is)) = kept _ is (record { area = refl; switch = refl; journal = λ e. e })
-  moves-keep WriteGate (Some a) (Ended answer.Memory) (at, (faults, low, is)) = kept _ is (record { area = refl; switch = refl; journal = λ e. e })
-  moves-keep SyncGate (Some a) More (at, (faults, low, is)) = kept _ is (record { area = refl; switch = refl; journal = λ e. ap (λ rs. a.entry ∷ rs) e })
-  moves-keep SyncGate (Some a) (Ended answer.DiskFault) (at, (faults, low, rose, is)) = kept _ is (record { area = refl; switch = refl; journal = λ e. e })
+  moves-keep : (action : Action) (flight : Option Append) (r : Outcome) → Moves old job action flight r new →
+      Keeps old new
+  moves-keep WriteBody flight More (entry, writes, (faults, low, is)) =
+      kept _ is (record { area = refl; switch = refl; journal = λ e. e })
+  moves-keep WriteBody flight (Ended answer.DiskFault) (faults, low, rose, is) =
+      kept _ is (record { area = refl; switch = refl; journal = λ e. e })
+  moves-keep WriteBody flight (Ended answer.Memory) (faults, low, is) =
+      kept _ is (record { area = refl; switch = refl; journal = λ e. e })
+  moves-keep SyncBody (Some a) More (at, (faults, low, is)) =
+      kept _ is (record { area = refl; switch = refl; journal = λ e. e })
+  moves-keep SyncBody (Some a) (Ended answer.DiskFault) (at, (faults, low, rose, is)) =
+      kept _ is (record { area = refl; switch = refl; journal = λ e. e })
+  moves-keep WriteGate (Some a) More (at, (faults, low, is)) =
+      kept _ is (record { area = refl; switch = refl; journal = λ e. e })
+  moves-keep WriteGate (Some a) (Ended answer.DiskFault) (at, (faults, low, rose, is)) =
+      kept _ is (record { area = refl; switch = refl; journal = λ e. e })
+  moves-keep WriteGate (Some a) (Ended answer.Memory) (at, (faults, low, is)) =
+      kept _ is (record { area = refl; switch = refl; journal = λ e. e })
+  moves-keep SyncGate (Some a) More (at, (faults, low, is)) =
+      kept _ is (record { area = refl; switch = refl; journal = λ e. ap (λ rs. a.entry ∷ rs) e })
+  moves-keep SyncGate (Some a) (Ended answer.DiskFault) (at, (faults, low, rose, is)) =
+      kept _ is (record { area = refl; switch = refl; journal = λ e. e })
   moves-keep action flight r h = absurd h
 
   acts-keep : (action : Action) (r : Outcome) → Acts old job action r new → Keeps old new
-  acts-keep (Store j o t) More (p, call, is) = kept _ is (record { area = refl; switch = refl; journal = λ e. e })
-  acts-keep (Store j o t) (Ended (answer.ProviderFault k)) (same, (p, call, is)) = kept _ is (record { area = refl; switch = refl; journal = λ e. e })
-  acts-keep (Store j o t) (Ended answer.Memory) (p, call, is) = kept _ is (record { area = refl; switch = refl; journal = λ e. e })
-  acts-keep (Fetch j o t) More (block, (p, call, is)) = kept _ is (record { area = refl; switch = refl; journal = λ e. e })
-  acts-keep (Ask j o r) More (symbol, (p, call, is)) = kept _ is (record { area = refl; switch = refl; journal = λ e. e })
-  acts-keep (Work o t) More (symbols, gives, is) = kept _ is (record { area = refl; switch = refl; journal = λ e. e })
-  acts-keep (Work o t) (Ended (answer.Lost s row)) (same, loses, is) = kept _ is (record { area = refl; switch = refl; journal = λ e. e })
-  acts-keep (Remove j o) More (p, call, is) = kept _ is (record { area = refl; switch = refl; journal = λ e. e })
+  acts-keep (Store j o t) More (p, call, is) =
+      kept _ is (record { area = refl; switch = refl; journal = λ e. e })
+  acts-keep (Store j o t) (Ended (answer.ProviderFault k)) (same, (p, call, is)) =
+      kept _ is (record { area = refl; switch = refl; journal = λ e. e })
+  acts-keep (Store j o t) (Ended answer.Memory) (p, call, is) =
+      kept _ is (record { area = refl; switch = refl; journal = λ e. e })
+  acts-keep (Fetch j o t) More (block, (p, call, is)) =
+      kept _ is (record { area = refl; switch = refl; journal = λ e. e })
+  acts-keep (Ask j o r) More (symbol, (p, call, is)) =
+      kept _ is (record { area = refl; switch = refl; journal = λ e. e })
+  acts-keep (Work o t) More (symbols, gives, is) =
+      kept _ is (record { area = refl; switch = refl; journal = λ e. e })
+  acts-keep (Work o t) (Ended (answer.Lost s row)) (same, loses, is) =
+      kept _ is (record { area = refl; switch = refl; journal = λ e. e })
+  acts-keep (Remove j o) More (p, call, is) =
+      kept _ is (record { area = refl; switch = refl; journal = λ e. e })
   acts-keep End (Ended how) (so, is) = kept _ is (record { area = refl; switch = refl; journal = λ e. e })
   acts-keep action r h = moves-keep action old.append r h
 
-  acts-whole : (action : Action) (r : Outcome) → Acts old job action r new → IsWholeJournal old → IsWholeJournal new
-  acts-whole action r h W = (let k = acts-keep action r h in record { journal = k.journal W.journal; area = k.area ∙ W.area; unswitched = k.switch ∙ W.unswitched })
+  acts-whole : (action : Action) (r : Outcome) → Acts old job action r new → IsWholeJournal old →
+      IsWholeJournal new
+  acts-whole action r h W =
+      (let k = acts-keep action r h in
+      record {
+        journal = k.journal W.journal;
+        area = k.area ∙ W.area;
+        unswitched = k.switch
+            ∙ W.unswitched;
+      })
 
 module _ (start : State) (O : IsOpenAtRest start 1) (kind : Kind) where
-  steps-whole : (w : State) (job : Job) (moment : ℕ) (ms : List Moment) → Walked start kind w job → AreSteps w moment 1 ms → IsWholeJournal w → IsWholeJournal (now w ms)
+  steps-whole : (w : State) (job : Job) (moment : ℕ) (ms : List Moment) → Walked start kind w job →
+      AreSteps w moment 1 ms → IsWholeJournal w → IsWholeJournal (now w ms)
   steps-whole w job moment [] W h whole = whole
   steps-whole w job moment (m ∷ ms) W (event, outcome, happens, rest) whole =
       (let r = walk-steps start w kind job moment ms O W rest in
-      let a = step-acts start O kind (now w ms) r.0 r.1 More m.state (λ n e. absurd (let f : More ≡ Waiting n = e in cc)) happens in
+      let a = step-acts start O kind (now w ms) r.0 r.1 More m.state
+      (λ n e. absurd (let f : More ≡ Waiting n = e in cc)) happens in
       acts-whole (now w ms) r.0 m.state a.0 More a.3 (steps-whole w job moment ms W rest whole))
 
   -- a job that runs alone leaves the disk with the whole history
-  pub runs-whole : (new : State) (moment : ℕ) (how : Answer) (heard : List Entry) → IsSpelledKind kind → RunsJob start moment kind how heard new → IsWholeJournal new
+  pub runs-whole : (new : State) (moment : ℕ) (how : Answer) (heard : List Entry) → IsSpelledKind kind →
+      RunsJob start moment kind how heard new → IsWholeJournal new
   runs-whole new moment how heard spelled r =
       (let b = walk-begin moment r.job start r.begun kind O spelled r.begins in
-      let g : GoesOnTo r.begun (moment + 1) 1 how heard new = subst (λ n. GoesOnTo r.begun (moment + 1) n how heard new) b.0 r.goes_on in
-      let begun : IsWholeJournal r.begun = subst IsWholeJournal (sym r.begins.3) (record { journal = O.rest.whole.journal; area = O.rest.whole.area; unswitched = O.rest.whole.unswitched }) in
-      let last = walk-steps start r.begun kind (new_job start moment kind) (moment + 1) g.steps O b.1 g.are_steps in
-      let a = step-acts start O kind (now r.begun g.steps) last.0 last.1 (Ended how) new (λ n e. absurd (let f : Ended how ≡ Waiting n = e in cc)) g.ends in
-      acts-whole (now r.begun g.steps) last.0 new a.0 (Ended how) a.3 (steps-whole r.begun (new_job start moment kind) (moment + 1) g.steps b.1 g.are_steps begun))
+      let g : GoesOnTo r.begun (moment + 1) 1 how heard new =
+      subst (λ n. GoesOnTo r.begun (moment + 1) n how heard new) b.0 r.goes_on in
+      let begun : IsWholeJournal r.begun = subst IsWholeJournal (sym r.begins.3)
+      (record {
+        journal = O.rest.whole.journal;
+        area = O.rest.whole.area;
+        unswitched = O.rest.whole.unswitched;
+      }) in
+      let last = walk-steps start r.begun kind (new_job start moment kind)
+      (moment + 1) g.steps O b.1 g.are_steps in
+      let a = step-acts start O kind (now r.begun g.steps) last.0 last.1 (Ended how) new
+      (λ n e. absurd (let f : Ended how ≡ Waiting n = e in cc)) g.ends in
+      acts-whole (now r.begun g.steps) last.0 new a.0 (Ended how) a.3
+      (steps-whole r.begun (new_job start moment kind) (moment + 1) g.steps b.1 g.are_steps begun))

@@ -18,7 +18,8 @@ profile_done version rs profile = cond (version == 2) profile (profile_in (setup
 
 module _ (version id size profile : ℕ) where
   -- what holds of a put's end in both versions holds of it in each
-  pub by_version : (P : Record → Type 0) → P (PutDoneIn id size profile) → P (PutDone id size) → P (done_record version id size profile)
+  pub by_version : (P : Record → Type 0) → P (PutDoneIn id size profile) → P (PutDone id size) →
+      P (done_record version id size profile)
   by_version P new old = elim (cases_Bool (version == 2)) [
     | inl t ↦ subst P (sym (cond_true (version == 2) (PutDoneIn id size profile) (PutDone id size) t)) new
     | inr f ↦ subst P (sym (cond_false (version == 2) (PutDoneIn id size profile) (PutDone id size) f)) old
@@ -29,8 +30,10 @@ module _ (version id size profile : ℕ) where
   done-setup rs = by_version (λ r. setup_of (r ∷ rs) ≡ setup_of rs) refl refl
 
   -- a put's end ends the start of its number, and leaves that of any other
-  pub done-started : (rs : List Record) (k : ℕ) → started_as (done_record version id size profile ∷ rs) k ≡ cond (id == k) None (started_as rs k)
-  done-started rs k = by_version (λ r. started_as (r ∷ rs) k ≡ cond (id == k) None (started_as rs k)) refl refl
+  pub done-started : (rs : List Record) (k : ℕ) → started_as (done_record version id size profile ∷ rs) k
+      ≡ cond (id == k) None (started_as rs k)
+  done-started rs k = by_version (λ r. started_as (r ∷ rs) k ≡ cond (id == k) None (started_as rs k)) refl
+      refl
 
   -- a put's end ends the put of its number
   pub done-ended : put_ended (done_record version id size profile) ≡ Some id
@@ -38,7 +41,8 @@ module _ (version id size profile : ℕ) where
 
   -- a put's end brings in its file, with the profile that the version gives
   pub done-file : (rs : List Record) (q : List ℕ) → file_of (done_record version id size profile ∷ rs) q
-      ≡ cond (is_start_of q (started_as rs id)) (Some (file_as q id size (profile_done version rs profile))) (file_of rs q)
+      ≡ cond (is_start_of q (started_as rs id)) (Some (file_as q id size (profile_done version rs profile)))
+      (file_of rs q)
   done-file rs q = elim (cases_Bool (version == 2)) [
     | inl t ↦ (rw t refl)
     | inr f ↦ (rw f refl)

@@ -1,4 +1,5 @@
--- A put of no bytes and a get of it are a run, and what it writes; and a stop before the fourth move of the put's last append.
+-- A put of no bytes and a get of it are a run, and what it writes; and a stop before the fourth move of the
+-- put's last append.
 use Rattle.std.specs.Prelude.{List, [], ◌∷◌, ◌++◌, codes, None}
 use Rattle.std.proofs.Common.{refl, inl, inr}
 use Rattle.std.specs.Fmt.{digits}
@@ -16,10 +17,15 @@ use Rattle.machine_defs.proofs.GetSteps.{state_1, state_2, state_3, state_4, sta
 
 -- the moments, the newest first
 abbrev begun : List Moment
-begun = record { event = Begin (PutJob (97 ∷ []) []); outcome = Begun 1; state = state_2 } ∷ record { event = Reopen; outcome = Opened; state = state_1 } ∷ []
+begun = record {
+  event = Begin (PutJob (97 ∷ []) []);
+  outcome = Begun 1;
+  state = state_2;
+} ∷ record { event = Reopen; outcome = Opened; state = state_1 } ∷ []
 
 abbrev steps : List Moment
-steps = stepped 1 state_10 ∷ stepped 1 state_9 ∷ stepped 1 state_8 ∷ stepped 1 state_7 ∷ stepped 1 state_6 ∷ stepped 1 state_5 ∷ stepped 1 state_4 ∷ stepped 1 state_3 ∷ []
+steps = stepped 1 state_10 ∷ stepped 1 state_9 ∷ stepped 1 state_8 ∷ stepped 1 state_7 ∷ stepped 1
+    state_6 ∷ stepped 1 state_5 ∷ stepped 1 state_4 ∷ stepped 1 state_3 ∷ []
 
 abbrev stored : List Moment
 stored = record { event = Step 1; outcome = Ended (Put); state = state_11 } ∷ (steps ++ begun)
@@ -33,17 +39,57 @@ moments = record { event = Step 2; outcome = Ended (Got []); state = state_13 } 
 
 -- the put and the get are a run of the machine
 pub is_run : IsRun 1 set_up moments
-is_run = (fits_two, happens_12, (refl, happens_11, (fits, happens_10, (fits, happens_9, (fits, happens_8, (fits, happens_7, (fits, happens_6, (fits, happens_5, (fits, happens_4, (fits, happens_3, (fits, happens_2, ((refl, refl), happens_1, (tt, happens_0, tt)))))))))))))
+is_run = (
+  fits_two,
+  happens_12,
+  (
+    refl,
+    happens_11,
+    (
+      fits,
+      happens_10,
+      (
+        fits,
+        happens_9,
+        (
+          fits,
+          happens_8,
+          (
+            fits,
+            happens_7,
+            (
+              fits,
+              happens_6,
+              (
+                fits,
+                happens_5,
+                (
+                  fits,
+                  happens_4,
+                  (fits, happens_3, (fits, happens_2, ((refl, refl), happens_1, (tt, happens_0, tt)))),
+                ),
+              ),
+            ),
+          ),
+        ),
+      ),
+    ),
+  ),
+)
 
 -- the put and the get, carried out as commands, write these five lines
-pub transcript : CarriesOut (RunJob 2 ∷ Once (Begin (GetJob (97 ∷ []))) ∷ RunJob 1 ∷ Once (Begin (PutJob (97 ∷ []) [])) ∷ Once Reopen ∷ []) moments
-    (((((codes "opened" ++ 10 ∷ []) ++ (codes "job 1" ++ 10 ∷ [])) ++ (codes "put" ++ 10 ∷ [])) ++ (codes "job 2" ++ 10 ∷ [])) ++ (codes "got -" ++ 10 ∷ []))
+pub transcript : CarriesOut
+    (RunJob 2 ∷ Once (Begin (GetJob (97 ∷ []))) ∷ RunJob 1 ∷ Once
+    (Begin (PutJob (97 ∷ []) [])) ∷ Once Reopen ∷ []) moments
+    (((((codes "opened" ++ 10 ∷ []) ++ (codes "job 1" ++ 10 ∷ [])) ++ (codes "put" ++ 10 ∷ [])) ++ (codes
+    "job 2" ++ 10 ∷ [])) ++ (codes "got -" ++ 10 ∷ []))
 unfolding digits
 transcript = (
   record { event = Step 2; outcome = Ended (Got []); state = state_13 },
   [],
   got,
-  (((codes "opened" ++ 10 ∷ []) ++ (codes "job 1" ++ 10 ∷ [])) ++ (codes "put" ++ 10 ∷ [])) ++ (codes "job 2" ++ 10 ∷ []),
+  (((codes "opened" ++ 10 ∷ []) ++ (codes "job 1" ++ 10 ∷ [])) ++ (codes "put" ++ 10 ∷ [])) ++ (codes
+      "job 2" ++ 10 ∷ []),
   refl,
   record { step = refl; over = not_more (Got []); before = tt },
   (
@@ -58,8 +104,36 @@ transcript = (
       begun,
       (codes "opened" ++ 10 ∷ []) ++ (codes "job 1" ++ 10 ∷ []),
       refl,
-      record { step = refl; over = not_more Put; before = (refl, refl, (refl, refl, (refl, refl, (refl, refl, (refl, refl, (refl, refl, (refl, refl, (refl, refl, tt)))))))) },
-      (record { event = Begin (PutJob (97 ∷ []) []); outcome = Begun 1; state = state_2 }, record { event = Reopen; outcome = Opened; state = state_1 } ∷ [], codes "opened" ++ 10 ∷ [], refl, refl, (record { event = Reopen; outcome = Opened; state = state_1 }, [], [], refl, refl, (refl, refl), refl), refl),
+      record {
+        step = refl;
+        over = not_more Put;
+        before = (
+          refl,
+          refl,
+          (
+            refl,
+            refl,
+            (refl, refl, (refl, refl, (refl, refl, (refl, refl, (refl, refl, (refl, refl, tt)))))),
+          ),
+        );
+      },
+      (
+        record { event = Begin (PutJob (97 ∷ []) []); outcome = Begun 1; state = state_2 },
+        record { event = Reopen; outcome = Opened; state = state_1 } ∷ [],
+        codes "opened" ++ 10 ∷ [],
+        refl,
+        refl,
+        (
+          record { event = Reopen; outcome = Opened; state = state_1 },
+          [],
+          [],
+          refl,
+          refl,
+          (refl, refl),
+          refl,
+        ),
+        refl,
+      ),
       refl,
     ),
     refl,
@@ -69,11 +143,32 @@ transcript = (
 
 -- a run up to the third move of the last append
 abbrev pub doubted_moments : List Moment
-doubted_moments = stepped 1 state_9 ∷ stepped 1 state_8 ∷ stepped 1 state_7 ∷ stepped 1 state_6 ∷ stepped 1 state_5 ∷ stepped 1 state_4 ∷ stepped 1 state_3 ∷ begun
+doubted_moments = stepped 1 state_9 ∷ stepped 1 state_8 ∷ stepped 1 state_7 ∷ stepped 1 state_6 ∷ stepped 1
+    state_5 ∷ stepped 1 state_4 ∷ stepped 1 state_3 ∷ begun
 
 -- the moments up to that third move are a run
 pub doubted_run : IsRun 1 set_up doubted_moments
-doubted_run = (fits, happens_8, (fits, happens_7, (fits, happens_6, (fits, happens_5, (fits, happens_4, (fits, happens_3, (fits, happens_2, ((refl, refl), happens_1, (tt, happens_0, tt)))))))))
+doubted_run = (
+  fits,
+  happens_8,
+  (
+    fits,
+    happens_7,
+    (
+      fits,
+      happens_6,
+      (
+        fits,
+        happens_5,
+        (
+          fits,
+          happens_4,
+          (fits, happens_3, (fits, happens_2, ((refl, refl), happens_1, (tt, happens_0, tt)))),
+        ),
+      ),
+    ),
+  ),
+)
 
 -- the states that a stop may leave: with the record in doubt in effect, and without it
 abbrev pub stopped_with : State
@@ -85,7 +180,12 @@ stopped_without = record (given_up state_9) { doubt = None }
 
 -- a stop at that third move may leave the record in doubt in effect
 pub stops_with : Happens 1 9 state_9 (Stop []) Stopped stopped_with
-stops_with = (state_9.journal, state_9.area, inl (refl, refl), inr (record { entry = PutDone 1 0; maker = maker_at state_9 }, refl, refl))
+stops_with = (
+  state_9.journal,
+  state_9.area,
+  inl (refl, refl),
+  inr (record { entry = PutDone 1 0; maker = maker_at state_9 }, refl, refl),
+)
 
 -- a stop at that third move may leave no trace of the record
 pub stops_without : Happens 1 9 state_9 (Stop []) Stopped stopped_without

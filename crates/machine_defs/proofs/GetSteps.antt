@@ -1,4 +1,5 @@
--- The states and steps of a put of no bytes, up to the third move of its second append, and then of its end and of a get.
+-- The states and steps of a put of no bytes, up to the third move of its second append, and then of its end
+-- and of a get.
 use Rattle.std.specs.Prelude.{[], ◌∷◌, None}
 use Rattle.std.proofs.Common.{refl, arith, inl}
 use Rattle.record_defs.specs.Records.{PutStart, PutDone}
@@ -19,7 +20,13 @@ state_1 = reopened set_up
 -- the vault opens
 pub happens_0 : Happens 1 0 set_up (Reopen) (Opened) state_1
 unfolding setup_in actions_of
-happens_0 = (record (given_up set_up) { doubt = None }, (set_up.journal, set_up.area, inl (refl, refl), inl refl), refl, omega arith, (set_up.disk_faults, omega arith, refl))
+happens_0 = (
+  record (given_up set_up) { doubt = None },
+  (set_up.journal, set_up.area, inl (refl, refl), inl refl),
+  refl,
+  omega arith,
+  (set_up.disk_faults, omega arith, refl),
+)
 
 -- a put of no bytes has begun
 abbrev pub state_2 : State

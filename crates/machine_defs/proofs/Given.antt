@@ -13,28 +13,37 @@ use Rattle.machine_defs.proofs.JobLists.{cond_true, cond_false}
 use Rattle.machine_defs.specs.Events.{AreBytes}
 
 -- one more entry of the job
-pub given_to-more : (n : ℕ) (es : List Entry) (g : Given) → given_to n (es ++ record { job = n; given = g } ∷ []) ≡ g ∷ given_to n es
+pub given_to-more : (n : ℕ) (es : List Entry) (g : Given) →
+    given_to n (es ++ record { job = n; given = g } ∷ []) ≡ g ∷ given_to n es
 given_to-more n [] g = cond_true (n == n) ([] ++ g ∷ []) [] (eq-eqb n n refl)
 given_to-more n (e ∷ es) g = elim (cases_Bool (e.job == n)) [
-  | inl t ↦ cond_true (e.job == n) (given_to n (es ++ record { job = n; given = g } ∷ []) ++ e.given ∷ []) (given_to n (es ++ record { job = n; given = g } ∷ [])) t
-      ∙ (ap (λ l. l ++ e.given ∷ []) (given_to-more n es g) ∙ ap (λ l. g ∷ l) (sym (cond_true (e.job == n) (given_to n es ++ e.given ∷ []) (given_to n es) t)))
-  | inr f ↦ cond_false (e.job == n) (given_to n (es ++ record { job = n; given = g } ∷ []) ++ e.given ∷ []) (given_to n (es ++ record { job = n; given = g } ∷ [])) f
-      ∙ (given_to-more n es g ∙ ap (λ l. g ∷ l) (sym (cond_false (e.job == n) (given_to n es ++ e.given ∷ []) (given_to n es) f)))
+  | inl t ↦ cond_true (e.job == n) (given_to n (es ++ record { job = n; given = g } ∷ []) ++ e.given ∷ [])
+      (given_to n (es ++ record { job = n; given = g } ∷ [])) t
+      ∙ (ap (λ l. l ++ e.given ∷ []) (given_to-more n es g)
+      ∙ ap (λ l. g ∷ l) (sym (cond_true (e.job == n) (given_to n es ++ e.given ∷ []) (given_to n es) t)))
+  | inr f ↦ cond_false (e.job == n) (given_to n (es ++ record { job = n; given = g } ∷ []) ++ e.given ∷ [])
+      (given_to n (es ++ record { job = n; given = g } ∷ [])) f
+      ∙ (given_to-more n es g
+      ∙ ap (λ l. g ∷ l) (sym (cond_false (e.job == n) (given_to n es ++ e.given ∷ []) (given_to n es) f)))
 ]
 
 -- the symbols that were worked out last
-pub symbols_given-newest : (o s : ℕ) (symbols : List ℕ) (given : List Given) → symbols_given (Worked o s symbols ∷ given) o s ≡ symbols
-symbols_given-newest o s symbols given = cond_true ((o == o) && (s == s)) symbols (symbols_given given o s) (and_from (o == o) (s == s) (eq-eqb o o refl) (eq-eqb s s refl))
+pub symbols_given-newest : (o s : ℕ) (symbols : List ℕ) (given : List Given) →
+    symbols_given (Worked o s symbols ∷ given) o s ≡ symbols
+symbols_given-newest o s symbols given = cond_true ((o == o) && (s == s)) symbols (symbols_given given o s)
+    (and_from (o == o) (s == s) (eq-eqb o o refl) (eq-eqb s s refl))
 
 -- the block that a provider gave, among those of all
 pub block_at-given : (given : List Given) (n object stripe j : ℕ) → j < n →
     block_at (blocks_given given n object stripe) j ≡ block_given given object stripe j
 block_at-given given n object stripe j l =
-    ap (λ (x : Option SeenBlock). option_and_then (λ (block : SeenBlock). block) x) (get-map_range (block_given given object stripe) n 0 j l)
+    ap (λ (x : Option SeenBlock). option_and_then (λ (block : SeenBlock). block) x)
+    (get-map_range (block_given given object stripe) n 0 j l)
     ∙ ap (block_given given object stripe) (let e : 0 + j ≡ j = omega arith in e)
 
 -- the earlier moments of a run are a run
-pub run_part : (limit : ℕ) (start : State) (later ms : List Moment) → IsRun limit start (later ++ ms) → IsRun limit start ms
+pub run_part : (limit : ℕ) (start : State) (later ms : List Moment) → IsRun limit start (later ++ ms) →
+    IsRun limit start ms
 run_part limit start [] ms run = run
 run_part limit start (m ∷ later) ms run = run_part limit start later ms run.2
 

@@ -25,15 +25,18 @@ in_pin : (p : Pinned) (ps : List Pinned) (f : Pinned) → In f (pin_by machine_p
 in_pin p [] f (inl e) = inl e
 in_pin p [] f (inr i) = absurd i
 in_pin p (q ∷ qs) f h = elim (cases_Bool (nat_lt p.id q.id)) [
-  | inl t ↦ here (subst (λ l. In f l) (cond_true (nat_lt p.id q.id) (p ∷ q ∷ qs) (q ∷ pin_by machine_pins p qs) t) h)
-  | inr o ↦ later (in_pin p qs f) (subst (λ l. In f l) (cond_false (nat_lt p.id q.id) (p ∷ q ∷ qs) (q ∷ pin_by machine_pins p qs) o) h)
+  | inl t ↦ here (subst (λ l. In f l)
+      (cond_true (nat_lt p.id q.id) (p ∷ q ∷ qs) (q ∷ pin_by machine_pins p qs) t) h)
+  | inr o ↦ later (in_pin p qs f)
+      (subst (λ l. In f l) (cond_false (nat_lt p.id q.id) (p ∷ q ∷ qs) (q ∷ pin_by machine_pins p qs) o) h)
 ]
   where
     here : In f (p ∷ q ∷ qs) → (f ≡ p) ⊎ In f (q ∷ qs)
     here (inl e) = inl e
     here (inr i) = inr i
 
-    later : (In f (pin_by machine_pins p qs) → (f ≡ p) ⊎ In f qs) → In f (q ∷ pin_by machine_pins p qs) → (f ≡ p) ⊎ In f (q ∷ qs)
+    later : (In f (pin_by machine_pins p qs) → (f ≡ p) ⊎ In f qs) → In f (q ∷ pin_by machine_pins p qs) →
+        (f ≡ p) ⊎ In f (q ∷ qs)
     later rest (inl e) = inr (inl e)
     later rest (inr i) = elim (rest i) [ inl e ↦ inl e | inr k ↦ inr (inr k) ]
 
@@ -45,7 +48,8 @@ pub record Stands (w : State) (f : Pinned) : Type 0 where
   pub is : f ≡ pinned_file w file
 
 -- each pin of some files is that of one of them
-pub in_all : (w : State) (fs : List File) (f : Pinned) → In f (pin_all w fs) → (g : File) × In g fs × (f ≡ pinned_file w g)
+pub in_all : (w : State) (fs : List File) (f : Pinned) → In f (pin_all w fs) →
+    (g : File) × In g fs × (f ≡ pinned_file w g)
 in_all w [] f h = absurd h
 in_all w (g ∷ gs) f h = elim (in_pin (pinned_file w g) (pin_all w gs) f h) [
   | inl e ↦ (g, inl refl, e)
@@ -54,9 +58,12 @@ in_all w (g ∷ gs) f h = elim (in_pin (pinned_file w g) (pin_all w gs) f h) [
 
 -- each pin of all files in effect stands for one in effect
 pub in_effect_all : (w : State) (f : Pinned) → In f (pin_all w (files_of w.records)) → Stands w f
-in_effect_all w f h = (let r = in_all w (files_of w.records) f h in record { name = r.0.name; file = r.0; in_effect = listed_file w.records r.0 r.1; is = r.2 })
+in_effect_all w f h =
+    (let r = in_all w (files_of w.records) f h in
+    record { name = r.0.name; file = r.0; in_effect = listed_file w.records r.0 r.1; is = r.2 })
 
-in_effect_one : (w : State) (name : List ℕ) (o : Option File) (f : Pinned) → file_in w name ≡ o → In f (pin_found (pinned_file w) o) → Stands w f
+in_effect_one : (w : State) (name : List ℕ) (o : Option File) (f : Pinned) → file_in w name ≡ o →
+    In f (pin_found (pinned_file w) o) → Stands w f
 in_effect_one w name None f is h = absurd h
 in_effect_one w name (Some g) f is (inl e) = record { name = name; file = g; in_effect = is; is = e }
 in_effect_one w name (Some g) f is (inr i) = absurd i
@@ -72,22 +79,27 @@ pinned_stands w UpgradeJob f h = absurd h
 
 -- ---- what is pinned is not taken away
 
-any_pinned : (ps : List Pinned) (id : ℕ) (f : Pinned) → In f ps → f.id ≡ id → list_any (λ (p : Pinned). p.id == id) ps ≡ true
+any_pinned : (ps : List Pinned) (id : ℕ) (f : Pinned) → In f ps → f.id ≡ id →
+    list_any (λ (p : Pinned). p.id == id) ps ≡ true
 any_pinned [] id f h e = absurd h
 any_pinned (p ∷ ps) id f (inl i) e = elim (cases_Bool (p.id == id)) [
   | inl t ↦ rw t refl
   | inr o ↦ absurd (false≢true (sym o ∙ eq-eqb p.id id (sym (ap (λ (x : Pinned). x.id) i) ∙ e)))
 ]
-any_pinned (p ∷ ps) id f (inr i) e = (let r = any_pinned ps id f i e in elim (cases_Bool (p.id == id)) [ inl t ↦ rw t refl | inr o ↦ rw o r ])
+any_pinned (p ∷ ps) id f (inr i) e =
+    (let r = any_pinned ps id f i e in elim (cases_Bool (p.id == id)) [ inl t ↦ rw t refl | inr o ↦ rw o r ])
 
 -- where no job passes a test, the job of a number does not
-pub any_job : (test : Job → Bool) (js : List Job) (k : ℕ) (j : Job) → job_of js k ≡ Some j → list_any test js ≡ false → test j ≡ false
+pub any_job : (test : Job → Bool) (js : List Job) (k : ℕ) (j : Job) → job_of js k ≡ Some j →
+    list_any test js ≡ false → test j ≡ false
 any_job test [] k j h none = (let e : None ≡ Some j = h in cc)
 any_job test (x ∷ js) k j h none = elim (cases_Bool (test x)) [
   | inl t ↦ absurd (false≢true (sym none ∙ (rw t refl)))
   | inr o ↦ elim (cases_Bool (x.number == k)) [
-    | inl t ↦ (let same : x ≡ j = same_value _ x j (cond_true _ (Some x) (job_of js k) t) h in ap test (sym same) ∙ o)
-    | inr n ↦ any_job test js k j (sym (cond_false _ (Some x) (job_of js k) n) ∙ h) (let e = rw o at none in e)
+    | inl t ↦ (let same : x ≡ j = same_value _ x j (cond_true _ (Some x) (job_of js k) t) h in
+        ap test (sym same) ∙ o)
+    | inr n ↦ any_job test js k j (sym (cond_false _ (Some x) (job_of js k) n) ∙ h)
+        (let e = rw o at none in e)
   ]
 ]
 
@@ -98,8 +110,11 @@ any_aim test js k j h none =
     any_job (λ (x : Job). test (aim_of x.kind)) js k j h (sym (any-aims test js) ∙ none)
 
 -- no running job works on a file whose number is not pinned
-pub not_pinned : (w : State) (k : ℕ) (j : Job) (f : Pinned) (id : ℕ) → is_pinned w id ≡ false → job_of w.jobs k ≡ Some j → In f j.pinned → f.id ≡ id → ⊥
-not_pinned w k j f id none runs i e = false≢true (sym (any_job (λ (x : Job). list_any (λ (p : Pinned). p.id == id) x.pinned) w.jobs k j runs none) ∙ any_pinned j.pinned id f i e)
+pub not_pinned : (w : State) (k : ℕ) (j : Job) (f : Pinned) (id : ℕ) → is_pinned w id ≡ false →
+    job_of w.jobs k ≡ Some j → In f j.pinned → f.id ≡ id → ⊥
+not_pinned w k j f id none runs i e =
+    false≢true (sym (any_job (λ (x : Job). list_any (λ (p : Pinned). p.id == id) x.pinned) w.jobs k j runs
+    none) ∙ any_pinned j.pinned id f i e)
 
 -- the file of an object that a job takes away
 pub record Taken (w : State) (job : Job) (name : List ℕ) (o : ℕ) : Type 0 where
@@ -108,7 +123,8 @@ pub record Taken (w : State) (job : Job) (name : List ℕ) (o : ℕ) : Type 0 wh
   pub id_is : file.id ≡ o
   pub free : is_pinned w o ≡ false
 
-removable_is : (w : State) (job : Job) (name : List ℕ) (f : Option File) (o : ℕ) → file_in w name ≡ f → In o (removable w f) → Taken w job name o
+removable_is : (w : State) (job : Job) (name : List ℕ) (f : Option File) (o : ℕ) → file_in w name ≡ f →
+    In o (removable w f) → Taken w job name o
 removable_is w job name None o is h = absurd h
 removable_is w job name (Some f) o is h = elim (cases_Bool (is_pinned w f.id)) [
   | inl t ↦ absurd (subst (λ l. In o l) (cond_true (is_pinned w f.id) [] (f.id ∷ []) t) h)
@@ -126,10 +142,18 @@ Takes job (DropJob n) name = n ≡ name
 Takes job kind name = ⊥
 
 -- what a job takes away is the file in effect under its name, and no job works on it
-pub taken : (w : State) (job : Job) (kind : Kind) (o : ℕ) → In o (taken_out w job kind) → (name : List ℕ) × Takes job kind name × Taken w job name o
+pub taken : (w : State) (job : Job) (kind : Kind) (o : ℕ) → In o (taken_out w job kind) →
+    (name : List ℕ) × Takes job kind name × Taken w job name o
 taken w job (PutJob n bytes) o h = elim (cases_lt job.place 4) [
-  | inl l ↦ absurd (subst (λ x. In o x) (cond_true (is_first_append job) [] (removable w (file_in w n)) (first_below job l)) h)
-  | inr l ↦ (n, (l, refl), removable_is w job n (file_in w n) o refl (subst (λ x. In o x) (cond_false (is_first_append job) [] (removable w (file_in w n)) (first_above job l)) h))
+  | inl l ↦ absurd (subst (λ x. In o x)
+      (cond_true (is_first_append job) [] (removable w (file_in w n)) (first_below job l)) h)
+  | inr l ↦ (
+    n,
+    (l, refl),
+    removable_is w job n (file_in w n) o refl
+        (subst (λ x. In o x) (cond_false (is_first_append job) [] (removable w (file_in w n))
+        (first_above job l)) h),
+  )
 ]
 taken w job (DropJob n) o h = (n, refl, removable_is w job n (file_in w n) o refl h)
 taken w job (GetJob n) o h = absurd h
@@ -144,7 +168,8 @@ pub check_alone : (limit : ℕ) (w : State) (kind : Kind) (profile : Option ℕ)
     → refusal_of_begin limit w kind profile ≡ None → is_check (aim_of kind) ≡ true
     → (k : ℕ) (j : Job) → job_of w.jobs k ≡ Some j → is_check (aim_of j.kind) ≡ false
 check_alone limit w kind profile none check k j runs =
-    by kind check (right_false (is_shut (sight_of w)) (are_jobs_in_the_way limit (aims_of w.jobs) (aim_of kind))
+    by kind check (right_false (is_shut (sight_of w))
+    (are_jobs_in_the_way limit (aims_of w.jobs) (aim_of kind))
     (not_busy limit w kind profile none))
   where
     not_put : (aim : Aim) → is_put_or_check aim ≡ false → is_check aim ≡ false
@@ -168,9 +193,11 @@ check_alone limit w kind profile none check k j runs =
 
 -- the record of an append, by the job that it is of
 abbrev pub Wrote : Job → Kind → Record → Type 0
-Wrote job (PutJob name bytes) entry = ((job.place < 4) × (entry ≡ PutStart job.subject name)) ⊎ ((4 ≤ job.place) × ((version : ℕ) × (entry ≡ done_record version job.subject (length bytes) job.profile)))
+Wrote job (PutJob name bytes) entry = ((job.place < 4) × (entry ≡ PutStart job.subject name)) ⊎
+    ((4 ≤ job.place) × ((version : ℕ) × (entry ≡ done_record version job.subject (length bytes) job.profile)))
 Wrote job (DropJob name) entry = entry ≡ Drop name
-Wrote job AuditJob entry = ((number : ℕ) × (entry ≡ AuditStart number)) ⊎ ((number : ℕ) × (u : ℕ) × (c : List ℕ) × (entry ≡ AuditDone number u c))
+Wrote job AuditJob entry = ((number : ℕ) × (entry ≡ AuditStart number)) ⊎
+    ((number : ℕ) × (u : ℕ) × (c : List ℕ) × (entry ≡ AuditDone number u c))
 Wrote job RepairJob entry = (number : ℕ) × (entry ≡ RepairDone number)
 Wrote job UpgradeJob entry = entry ≡ Version
 Wrote job (GetJob name) entry = ⊥
@@ -179,10 +206,16 @@ done_proper : (v id size profile : ℕ) (rs : List Record) → IsProper rs (done
 done_proper v id size profile rs = by_version v id size profile (IsProper rs) tt tt
 
 -- a put's start is written with the next number, and no append writes what only a packed journal has
-pub writes_proper : (w : State) (job : Job) (kind : Kind) (entry : Record) → Writes w job kind entry → IsProper w.records entry
+pub writes_proper : (w : State) (job : Job) (kind : Kind) (entry : Record) → Writes w job kind entry →
+    IsProper w.records entry
 writes_proper w job (PutJob name bytes) entry h = elim (cases_Bool (is_first_append job)) [
-  | inl t ↦ subst (IsProper w.records) (sym (h ∙ cond_true (is_first_append job) (PutStart (next_id w.records) name) (done_record (version_of w.records) job.subject (length bytes) job.profile) t)) refl
-  | inr f ↦ subst (IsProper w.records) (sym (h ∙ cond_false (is_first_append job) (PutStart (next_id w.records) name) (done_record (version_of w.records) job.subject (length bytes) job.profile) f)) (done_proper (version_of w.records) job.subject (length bytes) job.profile w.records)
+  | inl t ↦ subst (IsProper w.records)
+      (sym (h ∙ cond_true (is_first_append job) (PutStart (next_id w.records) name)
+      (done_record (version_of w.records) job.subject (length bytes) job.profile) t)) refl
+  | inr f ↦ subst (IsProper w.records)
+      (sym (h ∙ cond_false (is_first_append job) (PutStart (next_id w.records) name)
+      (done_record (version_of w.records) job.subject (length bytes) job.profile) f))
+      (done_proper (version_of w.records) job.subject (length bytes) job.profile w.records)
 ]
 writes_proper w job (GetJob name) entry h = absurd h
 writes_proper w job (DropJob name) entry h = subst (IsProper w.records) (sym h) tt

@@ -1,11 +1,13 @@
--- A program's plan with other pinned files has the same actions, where these say the same of number, profile and length.
+-- A program's plan with other pinned files has the same actions, where these say the same of number, profile
+-- and length.
 use Rattle.std.proofs.Common.{◌≡◌, List, [], ◌∷◌, ◌++◌, map, refl, ap}
 use Rattle.std.specs.List.{flat_map}
 use Rattle.record_defs.specs.Records.{Setup}
 use Rattle.machine_defs.specs.Jobs.{Aim, ToPut, ToGet, ToDrop, ToAudit, ToRepair, ToUpgrade}
 use Rattle.machine_defs.specs.Actions.{End, append_actions, PinsOf, Plan, plan_actions}
 
-flat_map-map : {A B X : Type 0} (f : B → List X) (g : A → B) (xs : List A) → flat_map f (map g xs) ≡ flat_map (λ x. f (g x)) xs
+flat_map-map : {A B X : Type 0} (f : B → List X) (g : A → B) (xs : List A) →
+    flat_map f (map g xs) ≡ flat_map (λ x. f (g x)) xs
 flat_map-map f g [] = refl
 flat_map-map f g (x ∷ xs) = ap (λ l. f (g x) ++ l) (flat_map-map f g xs)
 
@@ -15,12 +17,21 @@ through g q = record { id = λ f. q.id (g f); profile = λ f. q.profile (g f); s
 
 -- the plan with other pinned files
 abbrev pub mapped : {P Q : Type 0} → (P → Q) → Plan P → Plan Q
-mapped g plan = record { aim = plan.aim; profile = plan.profile; subject = plan.subject; older = plan.older; flagged = plan.flagged; pins = map g plan.pins }
+mapped g plan = record {
+  aim = plan.aim;
+  profile = plan.profile;
+  subject = plan.subject;
+  older = plan.older;
+  flagged = plan.flagged;
+  pins = map g plan.pins;
+}
 
-plan-mapped : {P Q : Type 0} (g : P → Q) (q : PinsOf Q) (s : Setup) (plan : Plan P) (aim : Aim) → plan_actions q s (mapped g plan) aim ≡ plan_actions (through g q) s plan aim
+plan-mapped : {P Q : Type 0} (g : P → Q) (q : PinsOf Q) (s : Setup) (plan : Plan P) (aim : Aim) →
+    plan_actions q s (mapped g plan) aim ≡ plan_actions (through g q) s plan aim
 plan-mapped g q s plan (ToPut name size) = refl
 plan-mapped g q s plan (ToGet name) = ap (λ l. l ++ End ∷ []) (flat_map-map _ g plan.pins)
 plan-mapped g q s plan (ToDrop name) = refl
-plan-mapped g q s plan ToAudit = ap (λ l. append_actions ++ (l ++ (append_actions ++ End ∷ []))) (flat_map-map _ g plan.pins)
+plan-mapped g q s plan ToAudit =
+    ap (λ l. append_actions ++ (l ++ (append_actions ++ End ∷ []))) (flat_map-map _ g plan.pins)
 plan-mapped g q s plan ToRepair = ap (λ l. l ++ (append_actions ++ End ∷ [])) (flat_map-map _ g plan.pins)
 plan-mapped g q s plan ToUpgrade = refl

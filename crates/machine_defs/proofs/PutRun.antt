@@ -13,10 +13,16 @@ use Rattle.machine_defs.proofs.PutSteps.{state_1, state_2, state_3, state_4, sta
 
 -- the moments, the newest first
 abbrev begun : List Moment
-begun = record { event = Begin (PutJob (97 ∷ []) (111 ∷ [])); outcome = Begun 1; state = state_2 } ∷ record { event = Reopen; outcome = Opened; state = state_1 } ∷ []
+begun = record {
+  event = Begin (PutJob (97 ∷ []) (111 ∷ []));
+  outcome = Begun 1;
+  state = state_2;
+} ∷ record { event = Reopen; outcome = Opened; state = state_1 } ∷ []
 
 abbrev steps : List Moment
-steps = stepped 1 state_14 ∷ stepped 1 state_13 ∷ stepped 1 state_12 ∷ stepped 1 state_11 ∷ stepped 1 state_10 ∷ stepped 1 state_9 ∷ stepped 1 state_8 ∷ stepped 1 state_7 ∷ stepped 1 state_6 ∷ stepped 1 state_5 ∷ stepped 1 state_4 ∷ stepped 1 state_3 ∷ []
+steps = stepped 1 state_14 ∷ stepped 1 state_13 ∷ stepped 1 state_12 ∷ stepped 1 state_11 ∷ stepped 1
+    state_10 ∷ stepped 1 state_9 ∷ stepped 1 state_8 ∷ stepped 1 state_7 ∷ stepped 1 state_6 ∷ stepped 1
+    state_5 ∷ stepped 1 state_4 ∷ stepped 1 state_3 ∷ []
 
 -- the opening of a vault and the put, to its end
 abbrev pub moments : List Moment
@@ -24,7 +30,51 @@ moments = record { event = Step 1; outcome = Ended (Put); state = state_15 } ∷
 
 -- the put is a run of the machine
 pub is_run : IsRun 1 set_up moments
-is_run = (fits, happens_14, (fits, happens_13, (fits, happens_12, (fits, happens_11, (fits, happens_10, (fits, happens_9, (fits, happens_8, (fits, happens_7, (fits, happens_6, (fits, happens_5, (fits, happens_4, (fits, happens_3, (fits, happens_2, ((refl, refl), happens_1, (tt, happens_0, tt)))))))))))))))
+is_run = (
+  fits,
+  happens_14,
+  (
+    fits,
+    happens_13,
+    (
+      fits,
+      happens_12,
+      (
+        fits,
+        happens_11,
+        (
+          fits,
+          happens_10,
+          (
+            fits,
+            happens_9,
+            (
+              fits,
+              happens_8,
+              (
+                fits,
+                happens_7,
+                (
+                  fits,
+                  happens_6,
+                  (
+                    fits,
+                    happens_5,
+                    (
+                      fits,
+                      happens_4,
+                      (fits, happens_3, (fits, happens_2, ((refl, refl), happens_1, (tt, happens_0, tt)))),
+                    ),
+                  ),
+                ),
+              ),
+            ),
+          ),
+        ),
+      ),
+    ),
+  ),
+)
 
 -- the put, carried out as commands, writes these three lines
 pub transcript : CarriesOut (RunJob 1 ∷ Once (Begin (PutJob (97 ∷ []) (111 ∷ []))) ∷ Once Reopen ∷ []) moments
@@ -36,7 +86,51 @@ transcript = (
   begun,
   (codes "opened" ++ 10 ∷ []) ++ (codes "job 1" ++ 10 ∷ []),
   refl,
-  record { step = refl; over = not_more Put; before = (refl, refl, (refl, refl, (refl, refl, (refl, refl, (refl, refl, (refl, refl, (refl, refl, (refl, refl, (refl, refl, (refl, refl, (refl, refl, (refl, refl, tt)))))))))))) },
-  (record { event = Begin (PutJob (97 ∷ []) (111 ∷ [])); outcome = Begun 1; state = state_2 }, record { event = Reopen; outcome = Opened; state = state_1 } ∷ [], codes "opened" ++ 10 ∷ [], refl, refl, (record { event = Reopen; outcome = Opened; state = state_1 }, [], [], refl, refl, (refl, refl), refl), refl),
+  record {
+    step = refl;
+    over = not_more Put;
+    before = (
+      refl,
+      refl,
+      (
+        refl,
+        refl,
+        (
+          refl,
+          refl,
+          (
+            refl,
+            refl,
+            (
+              refl,
+              refl,
+              (
+                refl,
+                refl,
+                (refl, refl, (refl, refl, (refl, refl, (refl, refl, (refl, refl, (refl, refl, tt)))))),
+              ),
+            ),
+          ),
+        ),
+      ),
+    );
+  },
+  (
+    record { event = Begin (PutJob (97 ∷ []) (111 ∷ [])); outcome = Begun 1; state = state_2 },
+    record { event = Reopen; outcome = Opened; state = state_1 } ∷ [],
+    codes "opened" ++ 10 ∷ [],
+    refl,
+    refl,
+    (
+      record { event = Reopen; outcome = Opened; state = state_1 },
+      [],
+      [],
+      refl,
+      refl,
+      (refl, refl),
+      refl,
+    ),
+    refl,
+  ),
   refl,
 )

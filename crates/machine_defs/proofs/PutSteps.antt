@@ -19,7 +19,13 @@ state_1 = reopened set_up
 -- the vault opens
 pub happens_0 : Happens 1 0 set_up (Reopen) (Opened) state_1
 unfolding setup_in actions_of
-happens_0 = (record (given_up set_up) { doubt = None }, (set_up.journal, set_up.area, inl (refl, refl), inl refl), refl, omega arith, (set_up.disk_faults, omega arith, refl))
+happens_0 = (
+  record (given_up set_up) { doubt = None },
+  (set_up.journal, set_up.area, inl (refl, refl), inl refl),
+  refl,
+  omega arith,
+  (set_up.disk_faults, omega arith, refl),
+)
 
 -- a put of one byte has begun
 abbrev pub state_2 : State

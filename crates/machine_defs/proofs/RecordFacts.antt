@@ -18,18 +18,23 @@ IsProper rs r = Unit {0}
 
 -- names that differ are not taken for the same
 pub other_name : (xs ys : List ℕ) → (xs ≡ ys → ⊥) → is_same_name xs ys ≡ false
-other_name xs ys h = elim (cases_Bool (is_same_name xs ys)) [ inl t ↦ absurd (h (same-eq xs ys t)) | inr f ↦ f ]
+other_name xs ys h = elim (cases_Bool (is_same_name xs ys))
+    [ inl t ↦ absurd (h (same-eq xs ys t)) | inr f ↦ f ]
 
 -- what holds of the records
 pub record AreSound (rs : List Record) : Type 0 where
-  pub file : (q : List ℕ) (f : File) → file_of rs q ≡ Some f → (f.id < next_id rs) × (started_as rs f.id ≡ None)
-  pub one_name : (q p : List ℕ) (f g : File) → file_of rs q ≡ Some f → file_of rs p ≡ Some g → f.id ≡ g.id → q ≡ p
+  pub file : (q : List ℕ) (f : File) → file_of rs q ≡ Some f →
+      (f.id < next_id rs) × (started_as rs f.id ≡ None)
+  pub one_name : (q p : List ℕ) (f g : File) → file_of rs q ≡ Some f → file_of rs p ≡ Some g → f.id ≡ g.id →
+      q ≡ p
   pub started : (id : ℕ) (name : List ℕ) → started_as rs id ≡ Some name → id < next_id rs
 
 -- a number below the next one that is not started stays so
-pub not_started-more : (rs : List Record) (r : Record) (id : ℕ) → IsProper rs r → id < next_id rs → started_as rs id ≡ None → started_as (r ∷ rs) id ≡ None
+pub not_started-more : (rs : List Record) (r : Record) (id : ℕ) → IsProper rs r → id < next_id rs →
+    started_as rs id ≡ None → started_as (r ∷ rs) id ≡ None
 not_started-more rs (SetUp s) id proper l h = h
-not_started-more rs (PutStart k name) id proper l h = cond_false (k == id) (Some name) (started_as rs id) (ne_eqb k id (λ e. omega arith)) ∙ h
+not_started-more rs (PutStart k name) id proper l h =
+    cond_false (k == id) (Some name) (started_as rs id) (ne_eqb k id (λ e. omega arith)) ∙ h
 not_started-more rs (PutDone k size) id proper l h = elim (cases_Bool (k == id)) [
   | inl t ↦ cond_true (k == id) None (started_as rs id) t
   | inr f ↦ cond_false (k == id) None (started_as rs id) f ∙ h
@@ -48,9 +53,11 @@ not_started-more rs (InEffect k size profile kept) id proper l h = absurd proper
 not_started-more rs (RepairDue number counts) id proper l h = absurd proper
 
 -- a number below the next one that is started was so before
-pub started-less : (rs : List Record) (r : Record) (id : ℕ) (name : List ℕ) → IsProper rs r → id < next_id rs → started_as (r ∷ rs) id ≡ Some name → started_as rs id ≡ Some name
+pub started-less : (rs : List Record) (r : Record) (id : ℕ) (name : List ℕ) → IsProper rs r →
+    id < next_id rs → started_as (r ∷ rs) id ≡ Some name → started_as rs id ≡ Some name
 started-less rs (SetUp s) id name proper l h = h
-started-less rs (PutStart k n) id name proper l h = sym (cond_false (k == id) (Some n) (started_as rs id) (ne_eqb k id (λ e. omega arith))) ∙ h
+started-less rs (PutStart k n) id name proper l h =
+    sym (cond_false (k == id) (Some n) (started_as rs id) (ne_eqb k id (λ e. omega arith))) ∙ h
 started-less rs (PutDone k size) id name proper l h = elim (cases_Bool (k == id)) [
   | inl t ↦ (let e : None ≡ Some name = sym (cond_true (k == id) None (started_as rs id) t) ∙ h in cc)
   | inr f ↦ sym (cond_false (k == id) None (started_as rs id) f) ∙ h
@@ -69,16 +76,23 @@ started-less rs (InEffect k size profile kept) id name proper l h = absurd prope
 started-less rs (RepairDue number counts) id name proper l h = absurd proper
 
 -- a file in effect under more records was so before, or is that of a put's end
-pub file-more : (rs : List Record) (r : Record) (q : List ℕ) (f : File) → IsProper rs r → file_of (r ∷ rs) q ≡ Some f →
+pub file-more : (rs : List Record) (r : Record) (q : List ℕ) (f : File) → IsProper rs r →
+    file_of (r ∷ rs) q ≡ Some f →
     (file_of rs q ≡ Some f) ⊎ (started_as rs f.id ≡ Some q)
 file-more rs (SetUp s) q f proper h = inl h
 file-more rs (PutStart k name) q f proper h = inl h
 file-more rs (PutDone k size) q f proper h = elim (cases_Bool (is_start_of q (started_as rs k))) [
   | inl t ↦ (let n = start_name q (started_as rs k) t in
-      let same : record { name = q; id = k; size = size; profile = profile_in (setup_of rs) } ≡ f = (let e : Some (record { name = q; id = k; size = size; profile = profile_in (setup_of rs) }) ≡ Some f = sym (cond_true (is_start_of q (started_as rs k)) (Some (record { name = q; id = k; size = size; profile = profile_in (setup_of rs) })) (file_of rs q) t) ∙ h in cc) in
+      let same : record { name = q; id = k; size = size; profile = profile_in (setup_of rs) } ≡ f =
+      (let e : Some (record { name = q; id = k; size = size; profile = profile_in (setup_of rs) }) ≡ Some f =
+      sym (cond_true (is_start_of q (started_as rs k))
+      (Some (record { name = q; id = k; size = size; profile = profile_in (setup_of rs) }))
+      (file_of rs q) t) ∙ h in cc) in
       let id_is : k ≡ f.id = ap (λ (x : File). x.id) same in
       inr (ap (started_as rs) (sym id_is) ∙ (n.1 ∙ ap Some (sym n.2))))
-  | inr o ↦ inl (sym (cond_false (is_start_of q (started_as rs k)) (Some (record { name = q; id = k; size = size; profile = profile_in (setup_of rs) })) (file_of rs q) o) ∙ h)
+  | inr o ↦ inl (sym (cond_false (is_start_of q (started_as rs k))
+      (Some (record { name = q; id = k; size = size; profile = profile_in (setup_of rs) })) (file_of rs q) o)
+      ∙ h)
 ]
 file-more rs (Drop name) q f proper h = elim (cases_Bool (is_same_name name q)) [
   | inl t ↦ (let e : None ≡ Some f = sym (cond_true (is_same_name name q) None (file_of rs q) t) ∙ h in cc)
@@ -89,10 +103,15 @@ file-more rs (AuditDone number undecided counts) q f proper h = inl h
 file-more rs (RepairDone number) q f proper h = inl h
 file-more rs (PutDoneIn k size profile) q f proper h = elim (cases_Bool (is_start_of q (started_as rs k))) [
   | inl t ↦ (let n = start_name q (started_as rs k) t in
-      let same : record { name = q; id = k; size = size; profile = profile } ≡ f = (let e : Some (record { name = q; id = k; size = size; profile = profile }) ≡ Some f = sym (cond_true (is_start_of q (started_as rs k)) (Some (record { name = q; id = k; size = size; profile = profile })) (file_of rs q) t) ∙ h in cc) in
+      let same : record { name = q; id = k; size = size; profile = profile } ≡ f =
+      (let e : Some (record { name = q; id = k; size = size; profile = profile }) ≡ Some f =
+      sym (cond_true (is_start_of q (started_as rs k))
+      (Some (record { name = q; id = k; size = size; profile = profile })) (file_of rs q) t) ∙ h in
+      cc) in
       let id_is : k ≡ f.id = ap (λ (x : File). x.id) same in
       inr (ap (started_as rs) (sym id_is) ∙ (n.1 ∙ ap Some (sym n.2))))
-  | inr o ↦ inl (sym (cond_false (is_start_of q (started_as rs k)) (Some (record { name = q; id = k; size = size; profile = profile })) (file_of rs q) o) ∙ h)
+  | inr o ↦ inl (sym (cond_false (is_start_of q (started_as rs k))
+      (Some (record { name = q; id = k; size = size; profile = profile })) (file_of rs q) o) ∙ h)
 ]
 file-more rs Version q f proper h = inl h
 file-more rs (Resume next audit) q f proper h = absurd proper
@@ -100,16 +119,26 @@ file-more rs (InEffect k size profile kept) q f proper h = absurd proper
 file-more rs (RepairDue number counts) q f proper h = absurd proper
 
 -- a file that a put's end brings in is no longer started
-done-not_started : (rs : List Record) (r : Record) (q : List ℕ) (f : File) → IsProper rs r → file_of (r ∷ rs) q ≡ Some f → started_as rs f.id ≡ Some q → AreSound rs →
+done-not_started : (rs : List Record) (r : Record) (q : List ℕ) (f : File) → IsProper rs r →
+    file_of (r ∷ rs) q ≡ Some f → started_as rs f.id ≡ Some q → AreSound rs →
     started_as (r ∷ rs) f.id ≡ None
-done-not_started rs (SetUp s) q f proper h st S = absurd (let e = (S.file q f h).1 in let g : None ≡ Some q = sym e ∙ st in cc)
-done-not_started rs (PutStart k name) q f proper h st S = absurd (let e = (S.file q f h).1 in let g : None ≡ Some q = sym e ∙ st in cc)
+done-not_started rs (SetUp s) q f proper h st S =
+    absurd (let e = (S.file q f h).1 in let g : None ≡ Some q = sym e ∙ st in cc)
+done-not_started rs (PutStart k name) q f proper h st S =
+    absurd (let e = (S.file q f h).1 in let g : None ≡ Some q = sym e ∙ st in cc)
 done-not_started rs (PutDone k size) q f proper h st S = elim (cases_Bool (k == f.id)) [
   | inl t ↦ cond_true (k == f.id) None (started_as rs f.id) t
   | inr o ↦ absurd (elim (cases_Bool (is_start_of q (started_as rs k))) [
-    | inl t ↦ (let same : record { name = q; id = k; size = size; profile = profile_in (setup_of rs) } ≡ f = (let e : Some (record { name = q; id = k; size = size; profile = profile_in (setup_of rs) }) ≡ Some f = sym (cond_true (is_start_of q (started_as rs k)) (Some (record { name = q; id = k; size = size; profile = profile_in (setup_of rs) })) (file_of rs q) t) ∙ h in cc) in
+    | inl t ↦ (let same : record { name = q; id = k; size = size; profile = profile_in (setup_of rs) } ≡ f =
+        (let e : Some (record { name = q; id = k; size = size; profile = profile_in (setup_of rs) })
+        ≡ Some f = sym (cond_true (is_start_of q (started_as rs k))
+        (Some (record { name = q; id = k; size = size; profile = profile_in (setup_of rs) }))
+        (file_of rs q) t) ∙ h in cc) in
         false≢true (sym o ∙ eq-eqb k f.id (ap (λ (x : File). x.id) same)))
-    | inr n ↦ (let old = sym (cond_false (is_start_of q (started_as rs k)) (Some (record { name = q; id = k; size = size; profile = profile_in (setup_of rs) })) (file_of rs q) n) ∙ h in
+    | inr n ↦ (let old = sym
+        (cond_false (is_start_of q (started_as rs k))
+        (Some (record { name = q; id = k; size = size; profile = profile_in (setup_of rs) }))
+        (file_of rs q) n) ∙ h in
         let e = (S.file q f old).1 in let g : None ≡ Some q = sym e ∙ st in cc)
   ])
 ]
@@ -120,19 +149,29 @@ done-not_started rs (Drop name) q f proper h st S = st_none name h
       | inl t ↦ (let e : None ≡ Some f = sym (cond_true (is_same_name n q) None (file_of rs q) t) ∙ g in cc)
       | inr o ↦ (S.file q f (sym (cond_false (is_same_name n q) None (file_of rs q) o) ∙ g)).1
     ]
-done-not_started rs (AuditStart number) q f proper h st S = absurd (let e = (S.file q f h).1 in let g : None ≡ Some q = sym e ∙ st in cc)
-done-not_started rs (AuditDone number undecided counts) q f proper h st S = absurd (let e = (S.file q f h).1 in let g : None ≡ Some q = sym e ∙ st in cc)
-done-not_started rs (RepairDone number) q f proper h st S = absurd (let e = (S.file q f h).1 in let g : None ≡ Some q = sym e ∙ st in cc)
+done-not_started rs (AuditStart number) q f proper h st S =
+    absurd (let e = (S.file q f h).1 in let g : None ≡ Some q = sym e ∙ st in cc)
+done-not_started rs (AuditDone number undecided counts) q f proper h st S =
+    absurd (let e = (S.file q f h).1 in let g : None ≡ Some q = sym e ∙ st in cc)
+done-not_started rs (RepairDone number) q f proper h st S =
+    absurd (let e = (S.file q f h).1 in let g : None ≡ Some q = sym e ∙ st in cc)
 done-not_started rs (PutDoneIn k size profile) q f proper h st S = elim (cases_Bool (k == f.id)) [
   | inl t ↦ cond_true (k == f.id) None (started_as rs f.id) t
   | inr o ↦ absurd (elim (cases_Bool (is_start_of q (started_as rs k))) [
-    | inl t ↦ (let same : record { name = q; id = k; size = size; profile = profile } ≡ f = (let e : Some (record { name = q; id = k; size = size; profile = profile }) ≡ Some f = sym (cond_true (is_start_of q (started_as rs k)) (Some (record { name = q; id = k; size = size; profile = profile })) (file_of rs q) t) ∙ h in cc) in
+    | inl t ↦ (let same : record { name = q; id = k; size = size; profile = profile } ≡ f =
+        (let e : Some (record { name = q; id = k; size = size; profile = profile }) ≡ Some f =
+        sym (cond_true (is_start_of q (started_as rs k))
+        (Some (record { name = q; id = k; size = size; profile = profile })) (file_of rs q) t) ∙ h in
+        cc) in
         false≢true (sym o ∙ eq-eqb k f.id (ap (λ (x : File). x.id) same)))
-    | inr n ↦ (let old = sym (cond_false (is_start_of q (started_as rs k)) (Some (record { name = q; id = k; size = size; profile = profile })) (file_of rs q) n) ∙ h in
+    | inr n ↦ (let old = sym
+        (cond_false (is_start_of q (started_as rs k))
+        (Some (record { name = q; id = k; size = size; profile = profile })) (file_of rs q) n) ∙ h in
         let e = (S.file q f old).1 in let g : None ≡ Some q = sym e ∙ st in cc)
   ])
 ]
-done-not_started rs Version q f proper h st S = absurd (let e = (S.file q f h).1 in let g : None ≡ Some q = sym e ∙ st in cc)
+done-not_started rs Version q f proper h st S =
+    absurd (let e = (S.file q f h).1 in let g : None ≡ Some q = sym e ∙ st in cc)
 done-not_started rs (Resume next audit) q f proper h st S = absurd proper
 done-not_started rs (InEffect k size profile kept) q f proper h st S = absurd proper
 done-not_started rs (RepairDue number counts) q f proper h st S = absurd proper
@@ -151,11 +190,13 @@ next_id-more rs (Resume next audit) proper = absurd proper
 next_id-more rs (InEffect id size profile kept) proper = absurd proper
 next_id-more rs (RepairDue number counts) proper = absurd proper
 
-started_below : (rs : List Record) (r : Record) → IsProper rs r → AreSound rs → (id : ℕ) (name : List ℕ) → started_as (r ∷ rs) id ≡ Some name → id < next_id (r ∷ rs)
+started_below : (rs : List Record) (r : Record) → IsProper rs r → AreSound rs → (id : ℕ) (name : List ℕ) →
+    started_as (r ∷ rs) id ≡ Some name → id < next_id (r ∷ rs)
 started_below rs (SetUp s) proper S id name h = S.started id name h
 started_below rs (PutStart k n) proper S id name h = elim (cases_Bool (k == id)) [
   | inl t ↦ (let e = eqb-true k id t in omega arith)
-  | inr f ↦ (let l = S.started id name (sym (cond_false (k == id) (Some n) (started_as rs id) f) ∙ h) in omega arith)
+  | inr f ↦ (let l = S.started id name (sym (cond_false (k == id) (Some n) (started_as rs id) f) ∙ h) in
+      omega arith)
 ]
 started_below rs (PutDone k size) proper S id name h = elim (cases_Bool (k == id)) [
   | inl t ↦ (let e : None ≡ Some name = sym (cond_true (k == id) None (started_as rs id) t) ∙ h in cc)
@@ -178,20 +219,26 @@ started_below rs (RepairDue number counts) proper S id name h = absurd proper
 pub sound-more : (rs : List Record) (r : Record) → IsProper rs r → AreSound rs → AreSound (r ∷ rs)
 sound-more rs r proper S = record { file = file_is; one_name = one; started = started_below rs r proper S }
   where
-    file_is : (q : List ℕ) (f : File) → file_of (r ∷ rs) q ≡ Some f → (f.id < next_id (r ∷ rs)) × (started_as (r ∷ rs) f.id ≡ None)
+    file_is : (q : List ℕ) (f : File) → file_of (r ∷ rs) q ≡ Some f →
+        (f.id < next_id (r ∷ rs)) × (started_as (r ∷ rs) f.id ≡ None)
     file_is q f h = (let g = next_id-more rs r proper in elim (file-more rs r q f proper h) [
-      | inl old ↦ (let p = S.file q f old in (omega (arith, p.0, g), not_started-more rs r f.id proper p.0 p.1))
-      | inr new ↦ (let l = S.started f.id q new in (omega (arith, l, g), done-not_started rs r q f proper h new S))
+      | inl old ↦ (let p = S.file q f old in
+          (omega (arith, p.0, g), not_started-more rs r f.id proper p.0 p.1))
+      | inr new ↦ (let l = S.started f.id q new in
+          (omega (arith, l, g), done-not_started rs r q f proper h new S))
     ])
 
-    one : (q p : List ℕ) (f g : File) → file_of (r ∷ rs) q ≡ Some f → file_of (r ∷ rs) p ≡ Some g → f.id ≡ g.id → q ≡ p
+    one : (q p : List ℕ) (f g : File) → file_of (r ∷ rs) q ≡ Some f → file_of (r ∷ rs) p ≡ Some g →
+        f.id ≡ g.id → q ≡ p
     one q p f g hf hg same = elim (file-more rs r q f proper hf) [
       | inl old ↦ elim (file-more rs r p g proper hg) [
         | inl old2 ↦ S.one_name q p f g old old2 same
-        | inr new2 ↦ absurd (let e = (S.file q f old).1 in let z : None ≡ Some p = sym e ∙ (ap (started_as rs) same ∙ new2) in cc)
+        | inr new2 ↦ absurd (let e = (S.file q f old).1 in let z : None ≡ Some p = sym e
+            ∙ (ap (started_as rs) same ∙ new2) in cc)
       ]
       | inr new ↦ elim (file-more rs r p g proper hg) [
-        | inl old2 ↦ absurd (let e = (S.file p g old2).1 in let z : None ≡ Some q = sym e ∙ (ap (started_as rs) (sym same) ∙ new) in cc)
+        | inl old2 ↦ absurd (let e = (S.file p g old2).1 in let z : None ≡ Some q = sym e
+            ∙ (ap (started_as rs) (sym same) ∙ new) in cc)
         | inr new2 ↦ same_value _ q p new (ap (started_as rs) same ∙ new2)
       ]
     ]
@@ -206,14 +253,21 @@ sound-none = record {
 
 -- ---- the ordered list of files
 
-in_without : (fs : List File) (n : List ℕ) (g : File) → In g (without_file fs n) → In g fs × (is_same_name g.name n ≡ false)
+in_without : (fs : List File) (n : List ℕ) (g : File) → In g (without_file fs n) →
+    In g fs × (is_same_name g.name n ≡ false)
 in_without [] n g h = absurd h
 in_without (f ∷ fs) n g h = elim (cases_Bool (is_same_name f.name n)) [
-  | inl t ↦ (let p = in_without fs n g (subst (λ l. In g l) (cond_true (is_same_name f.name n) (without_file fs n) (f ∷ without_file fs n) t) h) in (inr p.0, p.1))
-  | inr o ↦ kept o (in_without fs n g) (subst (λ l. In g l) (cond_false (is_same_name f.name n) (without_file fs n) (f ∷ without_file fs n) o) h)
+  | inl t ↦ (let p = in_without fs n g
+      (subst (λ l. In g l) (cond_true (is_same_name f.name n) (without_file fs n) (f ∷ without_file fs n) t)
+      h) in (inr p.0, p.1))
+  | inr o ↦ kept o (in_without fs n g)
+      (subst (λ l. In g l) (cond_false (is_same_name f.name n) (without_file fs n) (f ∷ without_file fs n) o)
+      h)
 ]
   where
-    kept : is_same_name f.name n ≡ false → (In g (without_file fs n) → In g fs × (is_same_name g.name n ≡ false)) → In g (f ∷ without_file fs n) → In g (f ∷ fs) × (is_same_name g.name n ≡ false)
+    kept : is_same_name f.name n ≡ false →
+        (In g (without_file fs n) → In g fs × (is_same_name g.name n ≡ false)) →
+        In g (f ∷ without_file fs n) → In g (f ∷ fs) × (is_same_name g.name n ≡ false)
     kept o rest (inl e) = (inl e, ap (λ (x : File). is_same_name x.name n) e ∙ o)
     kept o rest (inr i) = (let p = rest i in (inr p.0, p.1))
 
@@ -221,8 +275,10 @@ in_with : (fs : List File) (x g : File) → In g (with_file fs x) → (g ≡ x) 
 in_with [] x g (inl e) = inl e
 in_with [] x g (inr i) = absurd i
 in_with (f ∷ fs) x g h = elim (cases_Bool (is_name_before f.name x.name)) [
-  | inl t ↦ later (in_with fs x g) (subst (λ l. In g l) (cond_true (is_name_before f.name x.name) (f ∷ with_file fs x) (x ∷ f ∷ fs) t) h)
-  | inr o ↦ here (subst (λ l. In g l) (cond_false (is_name_before f.name x.name) (f ∷ with_file fs x) (x ∷ f ∷ fs) o) h)
+  | inl t ↦ later (in_with fs x g)
+      (subst (λ l. In g l) (cond_true (is_name_before f.name x.name) (f ∷ with_file fs x) (x ∷ f ∷ fs) t) h)
+  | inr o ↦ here (subst (λ l. In g l)
+      (cond_false (is_name_before f.name x.name) (f ∷ with_file fs x) (x ∷ f ∷ fs) o) h)
 ]
   where
     later : (In g (with_file fs x) → (g ≡ x) ⊎ In g fs) → In g (f ∷ with_file fs x) → (g ≡ x) ⊎ In g (f ∷ fs)
@@ -240,52 +296,84 @@ listed_file (SetUp s ∷ rs) g h = listed_file rs g h
 listed_file (PutStart k name ∷ rs) g h = listed_file rs g h
 listed_file (PutDone k size ∷ rs) g h = by_start (started_as rs k) refl h (listed_file rs g)
   where
-    by_start : (o : Option (List ℕ)) → started_as rs k ≡ o → In g (with_put (files_of rs) o k size (profile_in (setup_of rs))) → (In g (files_of rs) → file_of rs g.name ≡ Some g) →
-        cond (is_start_of g.name (started_as rs k)) (Some (record { name = g.name; id = k; size = size; profile = profile_in (setup_of rs) })) (file_of rs g.name) ≡ Some g
-    by_start None is i rest = cond_false (is_start_of g.name (started_as rs k)) _ (file_of rs g.name) (ap (is_start_of g.name) is) ∙ rest i
-    by_start (Some n) is i rest = elim (in_with (without_file (files_of rs) n) (record { name = n; id = k; size = size; profile = profile_in (setup_of rs) }) g i) [
-      | inl e ↦ (let name_is : g.name ≡ n = ap (λ (x : File). x.name) e in
-          cond_true (is_start_of g.name (started_as rs k)) _ (file_of rs g.name) (ap (is_start_of g.name) is ∙ (ap (λ x. is_same_name n x) name_is ∙ same-refl n))
-          ∙ ap Some (ap (λ (x : List ℕ). record { name = x; id = k; size = size; profile = profile_in (setup_of rs) }) name_is ∙ sym e))
-      | inr j ↦ (let p = in_without (files_of rs) n g j in
-          cond_false (is_start_of g.name (started_as rs k)) _ (file_of rs g.name)
-          (ap (is_start_of g.name) is ∙ other_name n g.name (λ e. false≢true (sym p.1 ∙ (ap (λ x. is_same_name g.name x) e ∙ same-refl g.name))))
-          ∙ rest p.0)
-    ]
+    by_start : (o : Option (List ℕ)) → started_as rs k ≡ o →
+        In g (with_put (files_of rs) o k size (profile_in (setup_of rs))) →
+        (In g (files_of rs) → file_of rs g.name ≡ Some g) →
+        cond (is_start_of g.name (started_as rs k))
+        (Some (record { name = g.name; id = k; size = size; profile = profile_in (setup_of rs) }))
+        (file_of rs g.name) ≡ Some g
+    by_start None is i rest = cond_false (is_start_of g.name (started_as rs k)) _ (file_of rs g.name)
+        (ap (is_start_of g.name) is) ∙ rest i
+    by_start (Some n) is i rest =
+        elim (in_with (without_file (files_of rs) n)
+        (record { name = n; id = k; size = size; profile = profile_in (setup_of rs) }) g i) [
+          | inl e ↦ (let name_is : g.name ≡ n = ap (λ (x : File). x.name) e in
+              cond_true (is_start_of g.name (started_as rs k)) _ (file_of rs g.name)
+              (ap (is_start_of g.name) is ∙ (ap (λ x. is_same_name n x) name_is ∙ same-refl n))
+              ∙ ap Some (ap (λ (x : List ℕ). record {
+                name = x;
+                id = k;
+                size = size;
+                profile = profile_in (setup_of rs);
+              }) name_is ∙ sym e))
+          | inr j ↦ (let p = in_without (files_of rs) n g j in
+              cond_false (is_start_of g.name (started_as rs k)) _ (file_of rs g.name)
+              (ap (is_start_of g.name) is
+              ∙ other_name n g.name
+              (λ e. false≢true (sym p.1 ∙ (ap (λ x. is_same_name g.name x) e ∙ same-refl g.name))))
+              ∙ rest p.0)
+        ]
 listed_file (Drop n ∷ rs) g h =
     (let p = in_without (files_of rs) n g h in
-    cond_false (is_same_name n g.name) None (file_of rs g.name) (other_name n g.name (λ e. false≢true (sym p.1 ∙ (ap (λ x. is_same_name g.name x) e ∙ same-refl g.name))))
+    cond_false (is_same_name n g.name) None (file_of rs g.name)
+    (other_name n g.name (λ e. false≢true (sym p.1 ∙ (ap (λ x. is_same_name g.name x) e ∙ same-refl g.name))))
     ∙ listed_file rs g p.0)
 listed_file (AuditStart number ∷ rs) g h = listed_file rs g h
 listed_file (AuditDone number undecided counts ∷ rs) g h = listed_file rs g h
 listed_file (RepairDone number ∷ rs) g h = listed_file rs g h
 listed_file (PutDoneIn k size profile ∷ rs) g h = by_start (started_as rs k) refl h (listed_file rs g)
   where
-    by_start : (o : Option (List ℕ)) → started_as rs k ≡ o → In g (with_put (files_of rs) o k size profile) → (In g (files_of rs) → file_of rs g.name ≡ Some g) →
-        cond (is_start_of g.name (started_as rs k)) (Some (record { name = g.name; id = k; size = size; profile = profile })) (file_of rs g.name) ≡ Some g
-    by_start None is i rest = cond_false (is_start_of g.name (started_as rs k)) _ (file_of rs g.name) (ap (is_start_of g.name) is) ∙ rest i
-    by_start (Some n) is i rest = elim (in_with (without_file (files_of rs) n) (record { name = n; id = k; size = size; profile = profile }) g i) [
-      | inl e ↦ (let name_is : g.name ≡ n = ap (λ (x : File). x.name) e in
-          cond_true (is_start_of g.name (started_as rs k)) _ (file_of rs g.name) (ap (is_start_of g.name) is ∙ (ap (λ x. is_same_name n x) name_is ∙ same-refl n))
-          ∙ ap Some (ap (λ (x : List ℕ). record { name = x; id = k; size = size; profile = profile }) name_is ∙ sym e))
-      | inr j ↦ (let p = in_without (files_of rs) n g j in
-          cond_false (is_start_of g.name (started_as rs k)) _ (file_of rs g.name)
-          (ap (is_start_of g.name) is ∙ other_name n g.name (λ e. false≢true (sym p.1 ∙ (ap (λ x. is_same_name g.name x) e ∙ same-refl g.name))))
-          ∙ rest p.0)
-    ]
+    by_start : (o : Option (List ℕ)) → started_as rs k ≡ o → In g (with_put (files_of rs) o k size profile) →
+        (In g (files_of rs) → file_of rs g.name ≡ Some g) →
+        cond (is_start_of g.name (started_as rs k))
+        (Some (record { name = g.name; id = k; size = size; profile = profile })) (file_of rs g.name)
+        ≡ Some g
+    by_start None is i rest = cond_false (is_start_of g.name (started_as rs k)) _ (file_of rs g.name)
+        (ap (is_start_of g.name) is) ∙ rest i
+    by_start (Some n) is i rest =
+        elim (in_with (without_file (files_of rs) n)
+        (record { name = n; id = k; size = size; profile = profile }) g i) [
+          | inl e ↦ (let name_is : g.name ≡ n = ap (λ (x : File). x.name) e in
+              cond_true (is_start_of g.name (started_as rs k)) _ (file_of rs g.name)
+              (ap (is_start_of g.name) is ∙ (ap (λ x. is_same_name n x) name_is ∙ same-refl n))
+              ∙ ap Some (ap (λ (x : List ℕ). record { name = x; id = k; size = size; profile = profile }) name_is
+              ∙ sym e))
+          | inr j ↦ (let p = in_without (files_of rs) n g j in
+              cond_false (is_start_of g.name (started_as rs k)) _ (file_of rs g.name)
+              (ap (is_start_of g.name) is
+              ∙ other_name n g.name
+              (λ e. false≢true (sym p.1 ∙ (ap (λ x. is_same_name g.name x) e ∙ same-refl g.name))))
+              ∙ rest p.0)
+        ]
 listed_file (Version ∷ rs) g h = listed_file rs g h
 listed_file (Resume next audit ∷ rs) g h = listed_file rs g h
 listed_file (InEffect k size profile n ∷ rs) g h = kept h (listed_file rs g)
   where
-    kept : In g (with_put (files_of rs) (Some n) k size profile) → (In g (files_of rs) → file_of rs g.name ≡ Some g) →
-        cond (is_same_name n g.name) (Some (record { name = g.name; id = k; size = size; profile = profile })) (file_of rs g.name) ≡ Some g
-    kept i rest = elim (in_with (without_file (files_of rs) n) (record { name = n; id = k; size = size; profile = profile }) g i) [
-      | inl e ↦ (let name_is : g.name ≡ n = ap (λ (x : File). x.name) e in
-          cond_true (is_same_name n g.name) _ (file_of rs g.name) (ap (λ x. is_same_name n x) name_is ∙ same-refl n)
-          ∙ ap Some (ap (λ (x : List ℕ). record { name = x; id = k; size = size; profile = profile }) name_is ∙ sym e))
-      | inr j ↦ (let p = in_without (files_of rs) n g j in
-          cond_false (is_same_name n g.name) _ (file_of rs g.name)
-          (other_name n g.name (λ e. false≢true (sym p.1 ∙ (ap (λ x. is_same_name g.name x) e ∙ same-refl g.name))))
-          ∙ rest p.0)
-    ]
+    kept : In g (with_put (files_of rs) (Some n) k size profile) →
+        (In g (files_of rs) → file_of rs g.name ≡ Some g) →
+        cond (is_same_name n g.name) (Some (record { name = g.name; id = k; size = size; profile = profile }))
+        (file_of rs g.name) ≡ Some g
+    kept i rest = elim (in_with (without_file (files_of rs) n)
+        (record { name = n; id = k; size = size; profile = profile }) g i) [
+          | inl e ↦ (let name_is : g.name ≡ n = ap (λ (x : File). x.name) e in
+              cond_true (is_same_name n g.name) _ (file_of rs g.name)
+              (ap (λ x. is_same_name n x) name_is ∙ same-refl n)
+              ∙ ap Some (ap (λ (x : List ℕ). record { name = x; id = k; size = size; profile = profile }) name_is
+              ∙ sym e))
+          | inr j ↦ (let p = in_without (files_of rs) n g j in
+              cond_false (is_same_name n g.name) _ (file_of rs g.name)
+              (other_name n g.name (λ e. false≢true (sym p.1
+              ∙ (ap (λ x. is_same_name g.name x) e ∙ same-refl g.name))))
+              ∙ rest p.0)
+        ]
 listed_file (RepairDue number counts ∷ rs) g h = listed_file rs g h

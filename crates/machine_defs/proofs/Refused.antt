@@ -10,7 +10,8 @@ use Rattle.machine_defs.specs.Begins.{refusal_of_begin}
 use Rattle.machine_defs.specs.Sights.{sight_of, aims_of, is_busy, are_jobs_in_the_way, is_shut, is_upgrade}
 
 -- a begin that is not refused finds nothing in its way
-pub not_busy : (limit : ℕ) (w : State) (kind : Kind) (profile : Option ℕ) → refusal_of_begin limit w kind profile ≡ None → is_busy limit (sight_of w) (aim_of kind) ≡ false
+pub not_busy : (limit : ℕ) (w : State) (kind : Kind) (profile : Option ℕ) →
+    refusal_of_begin limit w kind profile ≡ None → is_busy limit (sight_of w) (aim_of kind) ≡ false
 not_busy limit w kind profile h = elim (cases_Bool w.is_barred) [
   | inl t ↦ absurd (let e = rw t at h in let f : Some refusal.MustReopen ≡ None = e in cc)
   | inr o ↦ elim (cases_Bool (is_busy limit (sight_of w) (aim_of kind))) [
@@ -35,7 +36,9 @@ none-is None h = refl
 none-is (Some x) h = absurd (false≢true (sym h))
 
 -- where a job begins nothing runs alone
-pub none_lone : (limit : ℕ) (w : State) (kind : Kind) (profile : Option ℕ) → refusal_of_begin limit w kind profile ≡ None → w.alone ≡ None
+pub none_lone : (limit : ℕ) (w : State) (kind : Kind) (profile : Option ℕ) →
+    refusal_of_begin limit w kind profile ≡ None → w.alone ≡ None
 none_lone limit w kind profile h =
     none-is w.alone (left_false (is_some w.alone) (list_any is_upgrade (aims_of w.jobs))
-    (left_false (is_shut (sight_of w)) (are_jobs_in_the_way limit (aims_of w.jobs) (aim_of kind)) (not_busy limit w kind profile h)))
+    (left_false (is_shut (sight_of w)) (are_jobs_in_the_way limit (aims_of w.jobs) (aim_of kind))
+    (not_busy limit w kind profile h)))

@@ -53,7 +53,8 @@ synced w number = moved (going_on w (advanced (job_at w number))) (append_at w)
 
 -- an append has made its third move, and its record is in doubt
 abbrev pub gated : State → ℕ → State
-gated w number = doubted (moved (going_on w (advanced (job_at w number))) (append_at w)) (append_at w) (job_at w number)
+gated w number = doubted (moved (going_on w (advanced (job_at w number))) (append_at w)) (append_at w)
+    (job_at w number)
 
 -- the block that a job stores
 abbrev pub own_block : State → Job → ℕ → ℕ → List ℕ
@@ -64,14 +65,19 @@ abbrev pub with_store : State → Job → ℕ → ℕ → State
 with_store w job j stripe =
     record (going_on w (advanced job)) {
       providers = with_provider w.providers j
-          (record (w.providers j) { held = option_map (with_block job.subject stripe (own_block w job j stripe)) (w.providers j).held });
+          (record (w.providers j) {
+            held = option_map (with_block job.subject stripe (own_block w job j stripe))
+                (w.providers j).held;
+          });
     }
 
 -- by this call
 pub store_call : (w : State) (job : Job) (j stripe : ℕ) →
-    ProviderCall w j (Stores job.subject stripe (own_block w job j stripe)) (going_on w (advanced job)) (with_store w job j stripe)
+    ProviderCall w j (Stores job.subject stripe (own_block w job j stripe)) (going_on w (advanced job))
+    (with_store w job j stripe)
 store_call w job j stripe = (
-  record (w.providers j) { held = option_map (with_block job.subject stripe (own_block w job j stripe)) (w.providers j).held },
+  record (w.providers j)
+      { held = option_map (with_block job.subject stripe (own_block w job j stripe)) (w.providers j).held },
   record { held = refl; counts = record { store_faults = omega arith; other_faults = refl; fetches = refl } },
   refl,
 )

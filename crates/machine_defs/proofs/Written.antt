@@ -19,7 +19,8 @@ IsAppended r = Unit {0}
 
 -- what is in flight or in doubt is such a record
 abbrev pub IsWritten : State → Type 0
-IsWritten w = ((a : Append) → w.append ≡ Some a → IsAppended a.entry) × ((d : Doubt) → w.doubt ≡ Some d → IsAppended d.entry)
+IsWritten w = ((a : Append) → w.append ≡ Some a → IsAppended a.entry) ×
+    ((d : Doubt) → w.doubt ≡ Some d → IsAppended d.entry)
 
 done_appended : (version id size profile : ℕ) → IsAppended (done_record version id size profile)
 done_appended version id size profile = by (version == 2)
@@ -29,10 +30,13 @@ done_appended version id size profile = by (version == 2)
     by false = tt
 
 -- each record that a job writes is such a record
-pub writes_appended : (w : State) (job : Job) (kind : Kind) (entry : Record) → Writes w job kind entry → IsAppended entry
+pub writes_appended : (w : State) (job : Job) (kind : Kind) (entry : Record) → Writes w job kind entry →
+    IsAppended entry
 writes_appended w job (PutJob name bytes) entry h = subst IsAppended (sym h) (by (is_first_append job))
   where
-    by : (b : Bool) → IsAppended (if b then PutStart (next_id w.records) name else done_record (version_of w.records) job.subject (length bytes) job.profile)
+    by : (b : Bool) → IsAppended
+        (if b then PutStart (next_id w.records) name else done_record (version_of w.records) job.subject
+        (length bytes) job.profile)
     by true = tt
     by false = done_appended (version_of w.records) job.subject (length bytes) job.profile
 writes_appended w job (GetJob name) entry h = absurd h
@@ -45,11 +49,13 @@ writes_appended w job RepairJob entry h = subst IsAppended (sym h) tt
 writes_appended w job UpgradeJob entry h = subst IsAppended (sym h) tt
 
 -- after an event, what is in flight or in doubt still is such a record
-pub written_on : (limit moment : ℕ) (old : State) (e : Event) (r : Outcome) (new : State) → Changes limit moment old e r new → IsWritten old → IsWritten new
+pub written_on : (limit moment : ℕ) (old : State) (e : Event) (r : Outcome) (new : State) →
+    Changes limit moment old e r new → IsWritten old → IsWritten new
 written_on limit moment old e r new X W = (
   λ a h. elim (X.append a h) [
     | Append_is.kept b was job entry rec ↦ subst IsAppended (sym entry) (W.0 b was)
-    | Append_is.drew before runs next_is mine writes drawn rec ↦ writes_appended old before before.kind a.entry writes
+    | Append_is.drew before runs next_is mine writes drawn rec ↦
+        writes_appended old before before.kind a.entry writes
   ],
   λ d h. elim (X.doubt d h) [
     | Doubt_is.kept was rec ↦ W.1 d was

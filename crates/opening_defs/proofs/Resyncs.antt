@@ -8,7 +8,8 @@ use Rattle.device_defs.proofs.Lasting.{image-firm}
 use Rattle.opening_defs.specs.Journals.{IsResynced}
 
 -- an image after a sync is one from before it
-pub image-resynced : (old new : Cells) → IsResynced old new → (image : List ℕ) → IsImage new image → IsImage old image
+pub image-resynced : (old new : Cells) → IsResynced old new → (image : List ℕ) → IsImage new image →
+    IsImage old image
 image-resynced old new (inl same) image is = subst (λ (c : Cells). IsImage c image) same is
 image-resynced old new (inr synced_is) image is =
     let same = image-firm (reads old) image (subst (λ (c : Cells). IsImage c image) synced_is is) in
@@ -21,4 +22,5 @@ resynced-same (Some cells) = inl refl
 
 -- the same of two of the same content
 pub resynced-equal : (old new : Option Cells) → new ≡ old → Goes IsResynced old new
-resynced-equal old new is = subst (λ (told : Option Cells). Goes IsResynced old told) (sym is) (resynced-same old)
+resynced-equal old new is =
+    subst (λ (told : Option Cells). Goes IsResynced old told) (sym is) (resynced-same old)

@@ -12,14 +12,21 @@ use Rattle.record_defs.proofs.Sizes.{length-spelling}
 -- what stands before the closing gate is the magic and then the entries
 pub before_gate-entries : (rs : List Record) → before_gate rs ≡ magic ++ entries rs
 before_gate-entries [] = refl
-before_gate-entries (r ∷ rs) = ap (λ l. l ++ 1 ∷ spelling r) (before_gate-entries rs) ∙ append_assoc magic (entries rs) (1 ∷ spelling r)
+before_gate-entries (r ∷ rs) =
+    ap (λ l. l ++ 1 ∷ spelling r) (before_gate-entries rs) ∙ append_assoc magic (entries rs) (1 ∷ spelling r)
 
-length-entries : (rs : List Record) → IsTrue (list_all is_in_grammar rs) → length (entries rs) ≡ entries_size rs
+length-entries : (rs : List Record) → IsTrue (list_all is_in_grammar rs) →
+    length (entries rs) ≡ entries_size rs
 length-entries [] p = refl
 length-entries (r ∷ rs) p =
     let first : IsTrue (is_in_grammar r) = grind (arith, p) in
     let others : IsTrue (list_all is_in_grammar rs) = grind (arith, p) in
-    omega (arith, length-append (entries rs) (1 ∷ spelling r), length-spelling r first, length-entries rs others)
+    omega (
+      arith,
+      length-append (entries rs) (1 ∷ spelling r),
+      length-spelling r first,
+      length-entries rs others,
+    )
 
 -- the text's size in area A is that of the one area of before
 pub text_size-end : (rs : List Record) → end_in A rs ≡ text_size rs
@@ -30,43 +37,61 @@ text_size-end (r ∷ rs) = omega (arith, text_size-end rs)
 pub old_is_active : (bytes : List ℕ) (rs : List Record) → StandsFor bytes rs → StandsActive bytes A rs
 old_is_active bytes rs s = record {
   active = record { switch = 49; front = ap (take 8) is; names = refl };
-  holds = record { in_grammar = s.in_grammar; gate = s.gate; rest = s.rest; closed = s.closed; bytes_are = ap (drop 8) is };
+  holds = record {
+    in_grammar = s.in_grammar;
+    gate = s.gate;
+    rest = s.rest;
+    closed = s.closed;
+    bytes_are = ap (drop 8) is;
+  };
 }
   where
     is : bytes ≡ magic ++ (entries rs ++ s.gate ∷ s.rest)
-    is = s.bytes_are ∙ (ap (λ l. l ++ s.gate ∷ s.rest) (before_gate-entries rs) ∙ append_assoc magic (entries rs) (s.gate ∷ s.rest))
+    is = s.bytes_are ∙ (ap (λ l. l ++ s.gate ∷ s.rest) (before_gate-entries rs)
+        ∙ append_assoc magic (entries rs) (s.gate ∷ s.rest))
 
 -- and one in area A whose switch byte is the digit 1 is a journal of before
-pub active_is_old : (bytes : List ℕ) (rs : List Record) → take 8 bytes ≡ magic → HoldsIn bytes A rs → StandsFor bytes rs
+pub active_is_old : (bytes : List ℕ) (rs : List Record) → take 8 bytes ≡ magic → HoldsIn bytes A rs →
+    StandsFor bytes rs
 active_is_old bytes rs front h = record {
   in_grammar = h.in_grammar;
   gate = h.gate;
   rest = h.rest;
   closed = h.closed;
-  bytes_are = sym (take-append-drop 8 bytes) ∙ (ap (λ l. l ++ drop 8 bytes) front ∙ (ap (λ l. magic ++ l) h.bytes_are
-      ∙ (sym (append_assoc magic (entries rs) (h.gate ∷ h.rest)) ∙ ap (λ l. l ++ h.gate ∷ h.rest) (sym (before_gate-entries rs)))));
+  bytes_are = sym (take-append-drop 8 bytes)
+      ∙ (ap (λ l. l ++ drop 8 bytes) front ∙ (ap (λ l. magic ++ l) h.bytes_are
+      ∙ (sym (append_assoc magic (entries rs) (h.gate ∷ h.rest))
+      ∙ ap (λ l. l ++ h.gate ∷ h.rest) (sym (before_gate-entries rs)))));
 }
 
 -- two disks agree on the front and on the text of an area, its closed gate included
 pub record Agree (area : Area) (rs : List Record) (a b : List ℕ) : Type 0 where
   pub front : take 8 a ≡ take 8 b
-  pub text : take (suc (length (entries rs))) (drop (base_of area) a) ≡ take (suc (length (entries rs))) (drop (base_of area) b)
+  pub text : take (suc (length (entries rs))) (drop (base_of area) a)
+      ≡ take (suc (length (entries rs))) (drop (base_of area) b)
 
 take_text : (xs : List ℕ) (x : ℕ) (rest : List ℕ) → take (suc (length xs)) (xs ++ x ∷ rest) ≡ xs ++ x ∷ []
 take_text [] x rest = refl
 take_text (y ∷ xs) x rest = ap (λ l. y ∷ l) (take_text xs x rest)
 
 -- what bytes stand for rests on these alone
-pub active_again : (area : Area) (rs : List Record) (a b : List ℕ) → Agree area rs a b → StandsActive a area rs → StandsActive b area rs
+pub active_again : (area : Area) (rs : List Record) (a b : List ℕ) → Agree area rs a b →
+    StandsActive a area rs → StandsActive b area rs
 active_again area rs a b agree s = record {
-  active = record { switch = s.active.switch; front = sym agree.front ∙ s.active.front; names = s.active.names };
+  active = record {
+    switch = s.active.switch;
+    front = sym agree.front ∙ s.active.front;
+    names = s.active.names;
+  };
   holds = record {
     in_grammar = s.holds.in_grammar;
     gate = s.holds.gate;
     rest = drop n (drop (base_of area) b);
     closed = s.holds.closed;
     bytes_are = sym (take-append-drop n (drop (base_of area) b))
-        ∙ (ap (λ l. l ++ drop n (drop (base_of area) b)) (sym agree.text ∙ (ap (take n) s.holds.bytes_are ∙ take_text (entries rs) s.holds.gate s.holds.rest))
+        ∙ (ap (λ l. l ++ drop n (drop (base_of area) b))
+        (sym agree.text ∙ (ap (take n) s.holds.bytes_are
+        ∙ take_text (entries rs) s.holds.gate s.holds.rest))
         ∙ append_assoc (entries rs) (s.holds.gate ∷ []) (drop n (drop (base_of area) b)));
   };
 }
@@ -75,20 +100,44 @@ active_again area rs a b agree s = record {
     n = suc (length (entries rs))
 
 -- an area lies behind the switch byte
-behind_switch : (area : Area) (a b : List ℕ) → drop 8 a ≡ drop 8 b → drop (base_of area) a ≡ drop (base_of area) b
+behind_switch : (area : Area) (a b : List ℕ) → drop 8 a ≡ drop 8 b →
+    drop (base_of area) a ≡ drop (base_of area) b
 behind_switch A a b e = e
 behind_switch B a b e = sym (drop-drop 8388600 8 a) ∙ (ap (drop 8388600) e ∙ drop-drop 8388600 8 b)
 
-held_again : (area : Area) (rs : List Record) (a b : List ℕ) → drop 8 a ≡ drop 8 b → HoldsIn a area rs → HoldsIn b area rs
-held_again area rs a b e h = record { in_grammar = h.in_grammar; gate = h.gate; rest = h.rest; closed = h.closed; bytes_are = sym (behind_switch area a b e) ∙ h.bytes_are }
+held_again : (area : Area) (rs : List Record) (a b : List ℕ) → drop 8 a ≡ drop 8 b → HoldsIn a area rs →
+    HoldsIn b area rs
+held_again area rs a b e h =
+    record {
+      in_grammar = h.in_grammar;
+      gate = h.gate;
+      rest = h.rest;
+      closed = h.closed;
+      bytes_are = sym (behind_switch area a b e) ∙ h.bytes_are;
+    }
 
 -- while both areas hold a text, a disk with any switch byte stands for the one or for the other
-pub either_active : (area : Area) (rs qs : List Record) (a b : List ℕ) (switch : ℕ) → HoldsIn a area rs → HoldsIn a (other_area area) qs →
-    take 8 b ≡ magic_front ++ switch ∷ [] → drop 8 a ≡ drop 8 b → StandsActive b area rs ⊎ StandsActive b (other_area area) qs
+pub either_active : (area : Area) (rs qs : List Record) (a b : List ℕ) (switch : ℕ) → HoldsIn a area rs →
+    HoldsIn a (other_area area) qs →
+    take 8 b ≡ magic_front ++ switch ∷ [] → drop 8 a ≡ drop 8 b →
+    StandsActive b area rs ⊎ StandsActive b (other_area area) qs
 either_active area rs qs a b switch h k front same = by (area_of switch) area refl h k
   where
-    by : (named area : Area) → area_of switch ≡ named → HoldsIn a area rs → HoldsIn a (other_area area) qs → StandsActive b area rs ⊎ StandsActive b (other_area area) qs
-    by A A is h k = inl (record { active = record { switch = switch; front = front; names = is }; holds = held_again A rs a b same h })
-    by B A is h k = inr (record { active = record { switch = switch; front = front; names = is }; holds = held_again B qs a b same k })
-    by A B is h k = inr (record { active = record { switch = switch; front = front; names = is }; holds = held_again A qs a b same k })
-    by B B is h k = inl (record { active = record { switch = switch; front = front; names = is }; holds = held_again B rs a b same h })
+    by : (named area : Area) → area_of switch ≡ named → HoldsIn a area rs → HoldsIn a (other_area area) qs →
+        StandsActive b area rs ⊎ StandsActive b (other_area area) qs
+    by A A is h k = inl (record {
+      active = record { switch = switch; front = front; names = is };
+      holds = held_again A rs a b same h;
+    })
+    by B A is h k = inr (record {
+      active = record { switch = switch; front = front; names = is };
+      holds = held_again B qs a b same k;
+    })
+    by A B is h k = inr (record {
+      active = record { switch = switch; front = front; names = is };
+      holds = held_again A qs a b same k;
+    })
+    by B B is h k = inl (record {
+      active = record { switch = switch; front = front; names = is };
+      holds = held_again B rs a b same h;
+    })

@@ -36,7 +36,8 @@ grammar-spelled r p = both-second (is_held r) (is_spelled r) (subst (λ (b : Boo
 
 -- a record with a spelling, of a kind that a journal may hold, is in the grammar
 pub grammar-from : (r : Record) → IsTrue (is_held r) → IsTrue (is_spelled r) → IsTrue (is_in_grammar r)
-grammar-from r held spelled = subst (λ (b : Bool). IsTrue b) (sym (grammar-is r)) (both (is_held r) (is_spelled r) held spelled)
+grammar-from r held spelled =
+    subst (λ (b : Bool). IsTrue b) (sym (grammar-is r)) (both (is_held r) (is_spelled r) held spelled)
   where
     both : (a b : Bool) → IsTrue a → IsTrue b → IsTrue (a && b)
     both true b p q = q

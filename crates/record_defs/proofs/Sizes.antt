@@ -11,12 +11,14 @@ use Rattle.record_defs.specs.Journal.{before_gate, text, text_size}
 
 length-counts : (counts : List ℕ) → length (flat_map (to_le_bytes w32) counts) ≡ 4 * length counts
 length-counts [] = refl
-length-counts (k ∷ counts) = omega (arith, length-append (to_le_bytes w32 k) (flat_map (to_le_bytes w32) counts), length-counts counts)
+length-counts (k ∷ counts) =
+    omega (arith, length-append (to_le_bytes w32 k) (flat_map (to_le_bytes w32) counts), length-counts counts)
 
 -- a spelling has as many bytes as its record is said to take
 pub spelled-length : (r : Record) → IsTrue (is_spelled r) → length (spelling r) ≡ record_size r
 unfolding spelling
-spelled-length (SetUp s) p = let key : length s.master ≡ 32 = grind (arith, nat_tests, p) in omega (arith, key)
+spelled-length (SetUp s) p =
+    let key : length s.master ≡ 32 = grind (arith, nat_tests, p) in omega (arith, key)
 spelled-length (PutStart id name) p = omega arith
 spelled-length (PutDone id size) p = omega arith
 spelled-length (Drop name) p = omega arith
@@ -34,12 +36,18 @@ pub length-spelling : (r : Record) → IsTrue (is_in_grammar r) → length (spel
 length-spelling r p = spelled-length r (grammar-spelled r p)
 
 -- what stands before the closing gate is one byte shorter than the text
-pub length-before_gate : (rs : List Record) → IsTrue (list_all is_in_grammar rs) → length (before_gate rs) + 1 ≡ text_size rs
+pub length-before_gate : (rs : List Record) → IsTrue (list_all is_in_grammar rs) →
+    length (before_gate rs) + 1 ≡ text_size rs
 length-before_gate [] p = refl
 length-before_gate (r ∷ rs) p =
     let first : IsTrue (is_in_grammar r) = grind (arith, p) in
     let others : IsTrue (list_all is_in_grammar rs) = grind (arith, p) in
-    omega (arith, length-append (before_gate rs) (1 ∷ spelling r), length-spelling r first, length-before_gate rs others)
+    omega (
+      arith,
+      length-append (before_gate rs) (1 ∷ spelling r),
+      length-spelling r first,
+      length-before_gate rs others,
+    )
 
 -- the text of records in the grammar has the size that is told of it
 pub length-text : (rs : List Record) → IsTrue (list_all is_in_grammar rs) → length (text rs) ≡ text_size rs

@@ -13,17 +13,20 @@ text_size-least [] = omega arith
 text_size-least (r ∷ rs) = (let l = text_size-least rs in omega (arith, l))
 
 -- bytes whose front stands for records stand for them
-pub stands-front : (n : ℕ) (bytes : List ℕ) (rs : List Record) → StandsFor (take n bytes) rs → StandsFor bytes rs
+pub stands-front : (n : ℕ) (bytes : List ℕ) (rs : List Record) → StandsFor (take n bytes) rs →
+    StandsFor bytes rs
 stands-front n bytes rs is = record {
   in_grammar = is.in_grammar;
   gate = is.gate;
   rest = is.rest ++ drop n bytes;
   closed = is.closed;
-  bytes_are = sym (take-append-drop n bytes) ∙ ap (λ (l : List ℕ). l ++ drop n bytes) is.bytes_are ∙ append_assoc (before_gate rs) (is.gate ∷ is.rest) (drop n bytes);
+  bytes_are = sym (take-append-drop n bytes) ∙ ap (λ (l : List ℕ). l ++ drop n bytes) is.bytes_are
+      ∙ append_assoc (before_gate rs) (is.gate ∷ is.rest) (drop n bytes);
 }
 
 -- a text that fits stands at the front
-pub stands-take : (n : ℕ) (bytes : List ℕ) (rs : List Record) → StandsFor bytes rs → text_size rs ≤ n → StandsFor (take n bytes) rs
+pub stands-take : (n : ℕ) (bytes : List ℕ) (rs : List Record) → StandsFor bytes rs → text_size rs ≤ n →
+    StandsFor (take n bytes) rs
 stands-take n bytes rs is fits =
     let front = before_gate rs in
     let size : length front + 1 ≡ text_size rs = length-before_gate rs is.in_grammar in
@@ -34,12 +37,15 @@ stands-take n bytes rs is fits =
       gate = is.gate;
       rest = take m is.rest;
       closed = is.closed;
-      bytes_are = ap (take n) is.bytes_are ∙ ap (λ (k : ℕ). take k (front ++ is.gate ∷ is.rest)) n_is ∙ take-append-add front (is.gate ∷ is.rest) (suc m);
+      bytes_are = ap (take n) is.bytes_are ∙ ap (λ (k : ℕ). take k (front ++ is.gate ∷ is.rest)) n_is
+          ∙ take-append-add front (is.gate ∷ is.rest) (suc m);
     }
 
 -- a text stands for its records
-pub stands-text : (rs : List Record) → IsTrue (list_all is_in_grammar rs) → (image : List ℕ) → image ≡ text rs → StandsFor image rs
-stands-text rs all image is = record { in_grammar = all; gate = 0; rest = []; closed = λ e. omega (arith, e); bytes_are = is }
+pub stands-text : (rs : List Record) → IsTrue (list_all is_in_grammar rs) → (image : List ℕ) →
+    image ≡ text rs → StandsFor image rs
+stands-text rs all image is =
+    record { in_grammar = all; gate = 0; rest = []; closed = λ e. omega (arith, e); bytes_are = is }
 
 -- bytes that stand for a record are longer than those of an empty disk
 pub stands-long : (bytes : List ℕ) (rs : List Record) → rs ≢ [] → StandsFor bytes rs → 9 < length bytes

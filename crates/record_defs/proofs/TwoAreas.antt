@@ -21,7 +21,8 @@ drop-over front rest n e = ap (λ (k : ℕ). drop k (front ++ rest)) e ∙ over 
 
 -- the text of one record, front first
 text-is : text four_set_up ≡ magic ++ (entries four_set_up ++ 0 ∷ [])
-text-is = ap (λ (l : List ℕ). l ++ 0 ∷ []) (before_gate-entries four_set_up) ∙ append_assoc magic (entries four_set_up) (0 ∷ [])
+text-is = ap (λ (l : List ℕ). l ++ 0 ∷ []) (before_gate-entries four_set_up)
+    ∙ append_assoc magic (entries four_set_up) (0 ∷ [])
 
 -- it has 51 bytes
 text-size : length (text four_set_up) ≡ 51
@@ -42,7 +43,8 @@ filled-first filling = record {
   gate = 0;
   rest = filling ++ 0 ∷ [];
   closed = open-not;
-  bytes_are = ap (λ (l : List ℕ). drop 8 (l ++ (filling ++ 0 ∷ []))) text-is ∙ append_assoc (entries four_set_up) (0 ∷ []) (filling ++ 0 ∷ []);
+  bytes_are = ap (λ (l : List ℕ). drop 8 (l ++ (filling ++ 0 ∷ []))) text-is
+      ∙ append_assoc (entries four_set_up) (0 ∷ []) (filling ++ 0 ∷ []);
 }
 
 -- where the filling ends at the middle of the disk, area B holds the text of no record
@@ -52,7 +54,8 @@ filled-other filling l = record {
   gate = 0;
   rest = [];
   closed = open-not;
-  bytes_are = ap (drop (2 ^ 23)) (sym (append_assoc (text four_set_up) filling (0 ∷ []))) ∙ drop-over (text four_set_up ++ filling) (0 ∷ []) (2 ^ 23) behind;
+  bytes_are = ap (drop (2 ^ 23)) (sym (append_assoc (text four_set_up) filling (0 ∷ [])))
+      ∙ drop-over (text four_set_up ++ filling) (0 ∷ []) (2 ^ 23) behind;
 }
   where
     behind : 2 ^ 23 ≡ length (text four_set_up ++ filling)

@@ -37,8 +37,11 @@ drop-none (suc a) = refl
 padded-append : (a b c : ℕ) (xs : List ℕ) → c ≡ a + b → padded c xs ≡ padded a xs ++ padded b (drop a xs)
 padded-append zero b c xs is = ap (λ n. padded n xs) (let e : c ≡ b = omega (arith, is) in e)
 padded-append (suc a) b zero xs is = absurd (omega (arith, is))
-padded-append (suc a) b (suc c) [] is = ap (λ (l : List ℕ). 0 ∷ l) (padded-append a b c [] (omega (arith, is)) ∙ ap (λ (l : List ℕ). padded a [] ++ padded b l) (drop-none a))
-padded-append (suc a) b (suc c) (x ∷ xs) is = ap (λ (l : List ℕ). x ∷ l) (padded-append a b c xs (omega (arith, is)))
+padded-append (suc a) b (suc c) [] is = ap (λ (l : List ℕ). 0 ∷ l)
+    (padded-append a b c [] (omega (arith, is))
+    ∙ ap (λ (l : List ℕ). padded a [] ++ padded b l) (drop-none a))
+padded-append (suc a) b (suc c) (x ∷ xs) is =
+    ap (λ (l : List ℕ). x ∷ l) (padded-append a b c xs (omega (arith, is)))
 
 take-padded : (xs : List ℕ) (n : ℕ) → length xs ≤ n → take (length xs) (padded n xs) ≡ xs
 take-padded [] n l = refl
@@ -82,13 +85,17 @@ module _ (bytes : List ℕ) (h : Fits bytes) where
   one_symbol m = sixteen (drop (16 * m) bytes) (fits-drop (16 * m) bytes h)
 
   symbols : (n m base at : ℕ) → at ≡ 16 * (base + m) →
-      flat_map (λ x. to_le_bytes w128 x) (map (λ i. symbol_of bytes (base + i)) (range_with_len m n)) ≡ padded (16 * n) (drop at bytes)
+      flat_map (λ x. to_le_bytes w128 x) (map (λ i. symbol_of bytes (base + i)) (range_with_len m n))
+      ≡ padded (16 * n) (drop at bytes)
   symbols zero m base at is = refl
   symbols (suc n) m base at is =
-      let here : to_le_bytes w128 (symbol_of bytes (base + m)) ≡ padded 16 (drop at bytes) = one_symbol (base + m) ∙ ap (λ k. padded 16 (drop k bytes)) (sym is) in
+      let here : to_le_bytes w128 (symbol_of bytes (base + m)) ≡ padded 16 (drop at bytes) =
+      one_symbol (base + m) ∙ ap (λ k. padded 16 (drop k bytes)) (sym is) in
       let rest = symbols n (m + 1) base (at + 16) (omega (arith, is)) in
-      ap (λ (l : List ℕ). l ++ flat_map (λ x. to_le_bytes w128 x) (map (λ i. symbol_of bytes (base + i)) (range_with_len (m + 1) n))) here
-      ∙ (ap (λ (l : List ℕ). padded 16 (drop at bytes) ++ l) (rest ∙ ap (padded (16 * n)) (sym (drop-drop 16 at bytes)))
+      ap (λ (l : List ℕ). l ++ flat_map (λ x. to_le_bytes w128 x)
+      (map (λ i. symbol_of bytes (base + i)) (range_with_len (m + 1) n))) here
+      ∙ (ap (λ (l : List ℕ). padded 16 (drop at bytes) ++ l)
+      (rest ∙ ap (padded (16 * n)) (sym (drop-drop 16 at bytes)))
       ∙ sym (padded-append 16 (16 * n) (16 * suc n) (drop at bytes) (omega arith)))
 
   module _ (o : Object) where
@@ -96,18 +103,26 @@ module _ (bytes : List ℕ) (h : Fits bytes) where
     abbrev width : ℕ
     width = 16 * stripe_symbols o
 
-    one_stripe : (stripe : ℕ) → bytes_of_symbols (symbols_in o bytes stripe) ≡ padded width (drop (width * stripe) bytes)
-    one_stripe stripe = symbols (stripe_symbols o) 0 (stripe * stripe_symbols o) (width * stripe) (let e : width * stripe ≡ 16 * (stripe * stripe_symbols o + 0) = grind arith in e)
+    one_stripe : (stripe : ℕ) → bytes_of_symbols (symbols_in o bytes stripe)
+        ≡ padded width (drop (width * stripe) bytes)
+    one_stripe stripe = symbols (stripe_symbols o) 0 (stripe * stripe_symbols o) (width * stripe)
+        (let e : width * stripe ≡ 16 * (stripe * stripe_symbols o + 0) = grind arith in e)
 
     all_stripes : (n m at : ℕ) → at ≡ width * m →
-        flat_map (λ stripe. bytes_of_symbols (symbols_in o bytes stripe)) (range_with_len m n) ≡ padded (width * n) (drop at bytes)
+        flat_map (λ stripe. bytes_of_symbols (symbols_in o bytes stripe)) (range_with_len m n)
+        ≡ padded (width * n) (drop at bytes)
     all_stripes zero m at is = ap (λ k. padded k (drop at bytes)) (let e : 0 ≡ width * 0 = grind arith in e)
     all_stripes (suc n) m at is =
-        let here : bytes_of_symbols (symbols_in o bytes m) ≡ padded width (drop at bytes) = one_stripe m ∙ ap (λ k. padded width (drop k bytes)) (sym is) in
-        let rest = all_stripes n (m + 1) (at + width) (let e : at + width ≡ width * (m + 1) = grind (arith, is) in e) in
-        ap (λ (l : List ℕ). l ++ flat_map (λ stripe. bytes_of_symbols (symbols_in o bytes stripe)) (range_with_len (m + 1) n)) here
-        ∙ (ap (λ (l : List ℕ). padded width (drop at bytes) ++ l) (rest ∙ ap (padded (width * n)) (sym (drop-drop width at bytes)))
-        ∙ sym (padded-append width (width * n) (width * suc n) (drop at bytes) (let e : width * suc n ≡ width + width * n = grind arith in e)))
+        let here : bytes_of_symbols (symbols_in o bytes m) ≡ padded width (drop at bytes) = one_stripe m
+        ∙ ap (λ k. padded width (drop k bytes)) (sym is) in
+        let rest = all_stripes n (m + 1) (at + width)
+        (let e : at + width ≡ width * (m + 1) = grind (arith, is) in e) in
+        ap (λ (l : List ℕ). l ++ flat_map (λ stripe. bytes_of_symbols (symbols_in o bytes stripe))
+        (range_with_len (m + 1) n)) here
+        ∙ (ap (λ (l : List ℕ). padded width (drop at bytes) ++ l)
+        (rest ∙ ap (padded (width * n)) (sym (drop-drop width at bytes)))
+        ∙ sym (padded-append width (width * n) (width * suc n) (drop at bytes)
+        (let e : width * suc n ≡ width + width * n = grind arith in e)))
 
 -- a number rounded up to a multiple is not below it
 rounded_up : (a w : ℕ) → 1 ≤ w → a ≤ w * ((a + (w - 1)) / w)
@@ -118,9 +133,13 @@ rounded_up a w some =
 
 -- the bytes of a file's symbols, cut to its length, are the file
 pub bytes_back : (o : Object) (bytes : List ℕ) → 1 ≤ o.shape.l → 1 ≤ o.profile.keep → AreBytes bytes →
-    take (length bytes) (flat_map (λ stripe. bytes_of_symbols (symbols_in o bytes stripe)) (upto (stripes o (length bytes)))) ≡ bytes
+    take (length bytes) (flat_map (λ stripe. bytes_of_symbols (symbols_in o bytes stripe))
+    (upto (stripes o (length bytes)))) ≡ bytes
 bytes_back o bytes primary kept all =
     let some : 1 * 1 ≤ o.shape.l * o.profile.keep = mul-le-mul primary kept in
     let wide : 1 ≤ 16 * stripe_symbols o = omega (arith, some) in
-    ap (take (length bytes)) (all_stripes bytes (fits bytes all) o (stripes o (length bytes)) 0 0 (let e : 0 ≡ 16 * stripe_symbols o * 0 = grind arith in e))
-    ∙ take-padded bytes (16 * stripe_symbols o * stripes o (length bytes)) (rounded_up (length bytes) (16 * stripe_symbols o) wide)
+    ap (take (length bytes))
+    (all_stripes bytes (fits bytes all) o (stripes o (length bytes)) 0 0
+    (let e : 0 ≡ 16 * stripe_symbols o * 0 = grind arith in e))
+    ∙ take-padded bytes (16 * stripe_symbols o * stripes o (length bytes))
+    (rounded_up (length bytes) (16 * stripe_symbols o) wide)

@@ -16,7 +16,13 @@ use Rattle.schedule_runs.specs.Left.{devices_left}
 
 -- the text of records stands for them
 text-stands : (rs : List Record) → IsTrue (list_all is_in_grammar rs) → StandsFor (text rs) rs
-text-stands rs all = record { in_grammar = all; gate = 0; rest = []; closed = λ e. omega (arith, e); bytes_are = refl }
+text-stands rs all = record {
+  in_grammar = all;
+  gate = 0;
+  rest = [];
+  closed = λ e. omega (arith, e);
+  bytes_are = refl;
+}
 
 handed : (w : State) → AreHanded (devices_left w).providers w
 handed w = (let long = length-map-range_with_len w.providers 0 w.handed in record {
@@ -28,5 +34,11 @@ handed w = (let long = length-map-range_with_len w.providers 0 w.handed in recor
 pub devices-of : (w : State) → IsSound 8 w → version_of w.records ≡ 1 → AreDevices (devices_left w) w
 devices-of w sound first =
     (let whole = sound.journal.whole first in
-    let stands : StandsFor (text w.records) w.journal = subst (StandsFor (text w.records)) (sym whole.journal) (text-stands w.records (grammar-now 8 w sound first)) in
-    record { images = firm-stands (text w.records) w whole.area (inl stands); faults = refl; providers = handed w })
+    let stands : StandsFor (text w.records) w.journal =
+    subst (StandsFor (text w.records)) (sym whole.journal)
+    (text-stands w.records (grammar-now 8 w sound first)) in
+    record {
+      images = firm-stands (text w.records) w whole.area (inl stands);
+      faults = refl;
+      providers = handed w;
+    })

@@ -28,7 +28,8 @@ abbrev fetched : State → ℕ → Provider
 fetched w j = record (w.providers j) { fetches = one_more (w.providers j).fetches }
 
 abbrev with_fetch : State → ℕ → SeenBlock → State
-with_fetch w j seen = record (going_on w (advanced_with (job_at w 6) (Fetched j 1 0 seen))) { providers = with_provider w.providers j (fetched w j) }
+with_fetch w j seen = record (going_on w (advanced_with (job_at w 6) (Fetched j 1 0 seen)))
+    { providers = with_provider w.providers j (fetched w j) }
 
 abbrev state_58 : State
 state_58 = record (given_up state_57) { doubt = None }
@@ -62,7 +63,13 @@ happens_57 = (state_57.journal, state_57.area, inl (refl, refl), inl refl)
 
 happens_58 : Happens 8 58 state_58 Reopen Opened state_59
 unfolding setup_in
-happens_58 = (state_58, (state_58.journal, state_58.area, inl (refl, refl), inl refl), refl, omega arith, (0, omega arith, refl))
+happens_58 = (
+  state_58,
+  (state_58.journal, state_58.area, inl (refl, refl), inl refl),
+  refl,
+  omega arith,
+  (0, omega arith, refl),
+)
 
 happens_59 : Happens 8 59 state_59 (Begin (GetJob name)) (Begun 6) state_60
 unfolding setup_in actions_of
@@ -70,19 +77,66 @@ happens_59 = (refl, refl, refl, refl)
 
 happens_60 : Happens 8 60 state_60 (Step 6) More state_61
 unfolding setup_in actions_of
-happens_60 = (None, (fetched state_60 0, record { held = refl; counts = record { store_faults = refl; other_faults = omega arith; fetches = refl }; gives = inl refl }, refl))
+happens_60 = (
+  None,
+  (
+    fetched state_60 0,
+    record {
+      held = refl;
+      counts = record { store_faults = refl; other_faults = omega arith; fetches = refl };
+      gives = inl refl;
+    },
+    refl,
+  ),
+)
 
 happens_61 : Happens 8 61 state_61 (Step 6) More state_62
 unfolding setup_in actions_of
-happens_61 = (Some (block 1), (fetched state_61 1, record { held = refl; counts = record { store_faults = refl; other_faults = omega arith; fetches = refl }; gives = inl (block_sized 1) }, refl))
+happens_61 = (
+  Some (block 1),
+  (
+    fetched state_61 1,
+    record {
+      held = refl;
+      counts =
+          record { store_faults = refl; other_faults = omega arith; fetches = refl };
+      gives = inl (block_sized 1);
+    },
+    refl,
+  ),
+)
 
 happens_62 : Happens 8 62 state_62 (Step 6) More state_63
 unfolding setup_in actions_of
-happens_62 = (Some (block 2), (fetched state_62 2, record { held = refl; counts = record { store_faults = refl; other_faults = omega arith; fetches = refl }; gives = inl (block_sized 2) }, refl))
+happens_62 = (
+  Some (block 2),
+  (
+    fetched state_62 2,
+    record {
+      held = refl;
+      counts =
+          record { store_faults = refl; other_faults = omega arith; fetches = refl };
+      gives = inl (block_sized 2);
+    },
+    refl,
+  ),
+)
 
 happens_63 : Happens 8 63 state_63 (Step 6) More state_64
 unfolding setup_in actions_of
-happens_63 = (Some (block 3), (fetched state_63 3, record { held = refl; counts = record { store_faults = refl; other_faults = omega arith; fetches = refl }; gives = inl (block_sized 3) }, refl))
+happens_63 = (
+  Some (block 3),
+  (
+    fetched state_63 3,
+    record {
+      held = refl;
+      counts =
+          record { store_faults = refl; other_faults = omega arith; fetches = refl };
+      gives = inl (block_sized 3);
+    },
+    refl,
+  ),
+)
 
 happens_64 : Happens 8 64 state_64 (Step 6) More state_65
 unfolding setup_in actions_of
@@ -97,7 +151,8 @@ small_6 = omega arith
 
 -- the moments
 abbrev steps : List Moment
-steps = stepped 6 state_65 ∷ stepped 6 state_64 ∷ stepped 6 state_63 ∷ stepped 6 state_62 ∷ stepped 6 state_61 ∷ []
+steps = stepped 6 state_65 ∷ stepped 6 state_64 ∷ stepped 6 state_63 ∷ stepped 6 state_62 ∷ stepped 6
+    state_61 ∷ []
 
 abbrev stopped : List Moment
 stopped = record { event = Stop []; outcome = Stopped; state = state_58 } ∷ moments
@@ -112,31 +167,88 @@ abbrev pub stopped_moments : List Moment
 stopped_moments = record { event = Step 6; outcome = Ended (Got byte); state = state_66 } ∷ (steps ++ getting)
 
 is_stopped_run : IsRun 8 set_up stopped_moments
-is_stopped_run = (small_6, happens_65, (small_6, happens_64, (small_6, happens_63, (small_6, happens_62, (small_6, happens_61, (small_6, happens_60, (refl, happens_59, (tt, happens_58, (refl, happens_57, is_run)))))))))
+is_stopped_run = (
+  small_6,
+  happens_65,
+  (
+    small_6,
+    happens_64,
+    (
+      small_6,
+      happens_63,
+      (
+        small_6,
+        happens_62,
+        (
+          small_6,
+          happens_61,
+          (small_6, happens_60, (refl, happens_59, (tt, happens_58, (refl, happens_57, is_run)))),
+        ),
+      ),
+    ),
+  ),
+)
 
 -- what they write
 abbrev lines_58 : List ℕ
 lines_58 = written_lines ++ (codes "stopped" ++ 10 ∷ [])
 
 writes_58 : CarriesOut (Once (Stop []) ∷ schedule) stopped lines_58
-writes_58 = (record { event = Stop []; outcome = Stopped; state = state_58 }, moments, written_lines, refl, refl, writes, refl)
+writes_58 = (
+  record { event = Stop []; outcome = Stopped; state = state_58 },
+  moments,
+  written_lines,
+  refl,
+  refl,
+  writes,
+  refl,
+)
 
 abbrev lines_59 : List ℕ
 lines_59 = lines_58 ++ (codes "opened" ++ 10 ∷ [])
 
 writes_59 : CarriesOut (Once Reopen ∷ Once (Stop []) ∷ schedule) opened lines_59
-writes_59 = (record { event = Reopen; outcome = Opened; state = state_59 }, stopped, lines_58, refl, refl, writes_58, refl)
+writes_59 = (
+  record { event = Reopen; outcome = Opened; state = state_59 },
+  stopped,
+  lines_58,
+  refl,
+  refl,
+  writes_58,
+  refl,
+)
 
 abbrev lines_60 : List ℕ
 lines_60 = lines_59 ++ (codes "job 6" ++ 10 ∷ [])
 
 writes_60 : CarriesOut (Once (Begin (GetJob name)) ∷ Once Reopen ∷ Once (Stop []) ∷ schedule) getting lines_60
 unfolding digits
-writes_60 = (record { event = Begin (GetJob name); outcome = Begun 6; state = state_60 }, opened, lines_59, refl, refl, writes_59, refl)
+writes_60 = (
+  record { event = Begin (GetJob name); outcome = Begun 6; state = state_60 },
+  opened,
+  lines_59,
+  refl,
+  refl,
+  writes_59,
+  refl,
+)
 
 writes_66 : CarriesOut stopped_schedule stopped_moments stopped_written
 unfolding digits
-writes_66 = (record { event = Step 6; outcome = Ended (Got byte); state = state_66 }, steps, getting, lines_60, refl, record { step = refl; over = not_more (Got byte); before = (refl, refl, (refl, refl, (refl, refl, (refl, refl, (refl, refl, tt))))) }, writes_60, refl)
+writes_66 = (
+  record { event = Step 6; outcome = Ended (Got byte); state = state_66 },
+  steps,
+  getting,
+  lines_60,
+  refl,
+  record {
+    step = refl;
+    over = not_more (Got byte);
+    before = (refl, refl, (refl, refl, (refl, refl, (refl, refl, (refl, refl, tt)))));
+  },
+  writes_60,
+  refl,
+)
 
 -- the moments carry out the schedule with the stop, and the last of them gives the file
 pub is_stopped : IsStoppedRun stopped_moments
@@ -144,5 +256,10 @@ is_stopped = record {
   clean = outright.clean;
   run = is_stopped_run;
   carried_out = writes_66;
-  last = record { moment = record { event = Step 6; outcome = Ended (Got byte); state = state_66 }; is = refl; event = refl; outcome = refl };
+  last = record {
+    moment = record { event = Step 6; outcome = Ended (Got byte); state = state_66 };
+    is = refl;
+    event = refl;
+    outcome = refl;
+  };
 }

@@ -32,7 +32,25 @@ last_commands = Once Reopen ∷ Once (Begin (GetJob name)) ∷ RunJob 6 ∷ []
 last_spell : AreLines last_lines last_commands
 unfolding digits
 last_spell =
-    inr (Once Reopen, _, refl, refl, inr (Once (Begin (GetJob name)), _, refl, refl, inr (RunJob 6, _, refl, (codes "6", refl, digit 32 6 (omega arith) (omega arith)), inl (tt, refl))))
+    inr (
+      Once Reopen,
+      _,
+      refl,
+      refl,
+      inr (
+        Once (Begin (GetJob name)),
+        _,
+        refl,
+        refl,
+        inr (
+          RunJob 6,
+          _,
+          refl,
+          (codes "6", refl, digit 32 6 (omega arith) (omega arith)),
+          inl (tt, refl),
+        ),
+      ),
+    )
 
 -- those from the loss behind the repair on
 abbrev stop_lines : List (List ℕ)
@@ -44,31 +62,159 @@ stop_commands = Once (Lose 0 1 0) ∷ Once (Begin (GetJob name)) ∷ RunJob 5 �
 stop_spell : AreLines stop_lines stop_commands
 unfolding digits
 stop_spell =
-    inr (Once (Lose 0 1 0), _, refl, (codes "0", codes "1", codes "0", refl, digit 32 0 (omega arith) (omega arith), digit 64 1 (omega arith) (omega arith), digit 32 0 (omega arith) (omega arith)), inr (Once (Begin (GetJob name)), _, refl, refl, inr (RunJob 5, _, refl, (codes "5", refl, digit 32 5 (omega arith) (omega arith)), inr (Once (Stop []), _, refl, (codes "-", refl, inl (refl, refl)), last_spell))))
+    inr (
+      Once (Lose 0 1 0),
+      _,
+      refl,
+      (
+        codes "0",
+        codes "1",
+        codes "0",
+        refl,
+        digit 32 0 (omega arith) (omega arith),
+        digit 64 1 (omega arith) (omega arith),
+        digit 32 0 (omega arith) (omega arith),
+      ),
+      inr (
+        Once (Begin (GetJob name)),
+        _,
+        refl,
+        refl,
+        inr (
+          RunJob 5,
+          _,
+          refl,
+          (codes "5", refl, digit 32 5 (omega arith) (omega arith)),
+          inr (Once (Stop []), _, refl, (codes "-", refl, inl (refl, refl)), last_spell),
+        ),
+      ),
+    )
 
 -- those from the audit on
 abbrev audit_lines : List (List ℕ)
-audit_lines = codes "begin audit" ∷ codes "step 3" ∷ codes "run 2" ∷ codes "run 3" ∷ codes "begin repair" ∷ codes "run 4" ∷ stop_lines
+audit_lines = codes "begin audit" ∷ codes "step 3" ∷ codes "run 2" ∷ codes "run 3" ∷ codes
+    "begin repair" ∷ codes "run 4" ∷ stop_lines
 
 abbrev audit_commands : List Instruction
-audit_commands = Once (Begin AuditJob) ∷ Once (Step 3) ∷ RunJob 2 ∷ RunJob 3 ∷ Once (Begin RepairJob) ∷ RunJob 4 ∷ stop_commands
+audit_commands = Once (Begin AuditJob) ∷ Once (Step 3) ∷ RunJob 2 ∷ RunJob 3 ∷ Once
+    (Begin RepairJob) ∷ RunJob 4 ∷ stop_commands
 
 audit_spell : AreLines audit_lines audit_commands
 unfolding digits
 audit_spell =
-    inr (Once (Begin AuditJob), _, refl, refl, inr (Once (Step 3), _, refl, (codes "3", refl, digit 32 3 (omega arith) (omega arith)), inr (RunJob 2, _, refl, (codes "2", refl, digit 32 2 (omega arith) (omega arith)), inr (RunJob 3, _, refl, (codes "3", refl, digit 32 3 (omega arith) (omega arith)), inr (Once (Begin RepairJob), _, refl, refl, inr (RunJob 4, _, refl, (codes "4", refl, digit 32 4 (omega arith) (omega arith)), stop_spell))))))
+    inr (
+      Once (Begin AuditJob),
+      _,
+      refl,
+      refl,
+      inr (
+        Once (Step 3),
+        _,
+        refl,
+        (codes "3", refl, digit 32 3 (omega arith) (omega arith)),
+        inr (
+          RunJob 2,
+          _,
+          refl,
+          (codes "2", refl, digit 32 2 (omega arith) (omega arith)),
+          inr (
+            RunJob 3,
+            _,
+            refl,
+            (codes "3", refl, digit 32 3 (omega arith) (omega arith)),
+            inr (
+              Once (Begin RepairJob),
+              _,
+              refl,
+              refl,
+              inr (
+                RunJob 4,
+                _,
+                refl,
+                (codes "4", refl, digit 32 4 (omega arith) (omega arith)),
+                stop_spell,
+              ),
+            ),
+          ),
+        ),
+      ),
+    )
 
 -- all lines
 abbrev all_lines : List (List ℕ)
-all_lines = codes "reopen" ∷ codes "begin put a 6f" ∷ codes "run 1" ∷ codes "begin get a" ∷ codes "step 2" ∷ codes "step 2" ∷ codes "step 2" ∷ codes "step 2" ∷ codes "lose 2 1 0" ∷ audit_lines
+all_lines = codes "reopen" ∷ codes "begin put a 6f" ∷ codes "run 1" ∷ codes "begin get a" ∷ codes
+    "step 2" ∷ codes "step 2" ∷ codes "step 2" ∷ codes "step 2" ∷ codes "lose 2 1 0" ∷ audit_lines
 
 abbrev all_commands : List Instruction
-all_commands = Once Reopen ∷ Once (Begin (PutJob name byte)) ∷ RunJob 1 ∷ Once (Begin (GetJob name)) ∷ Once (Step 2) ∷ Once (Step 2) ∷ Once (Step 2) ∷ Once (Step 2) ∷ Once (Lose 2 1 0) ∷ audit_commands
+all_commands = Once Reopen ∷ Once (Begin (PutJob name byte)) ∷ RunJob 1 ∷ Once (Begin (GetJob name)) ∷ Once
+    (Step 2) ∷ Once (Step 2) ∷ Once (Step 2) ∷ Once (Step 2) ∷ Once (Lose 2 1 0) ∷ audit_commands
 
 all_spell : AreLines all_lines all_commands
 unfolding digits
 all_spell =
-    inr (Once Reopen, _, refl, refl, inr (Once (Begin (PutJob name byte)), _, refl, (codes "6f", refl, hex-byte), inr (RunJob 1, _, refl, (codes "1", refl, digit 32 1 (omega arith) (omega arith)), inr (Once (Begin (GetJob name)), _, refl, refl, inr (Once (Step 2), _, refl, (codes "2", refl, digit 32 2 (omega arith) (omega arith)), inr (Once (Step 2), _, refl, (codes "2", refl, digit 32 2 (omega arith) (omega arith)), inr (Once (Step 2), _, refl, (codes "2", refl, digit 32 2 (omega arith) (omega arith)), inr (Once (Step 2), _, refl, (codes "2", refl, digit 32 2 (omega arith) (omega arith)), inr (Once (Lose 2 1 0), _, refl, (codes "2", codes "1", codes "0", refl, digit 32 2 (omega arith) (omega arith), digit 64 1 (omega arith) (omega arith), digit 32 0 (omega arith) (omega arith)), audit_spell)))))))))
+    inr (
+      Once Reopen,
+      _,
+      refl,
+      refl,
+      inr (
+        Once (Begin (PutJob name byte)),
+        _,
+        refl,
+        (codes "6f", refl, hex-byte),
+        inr (
+          RunJob 1,
+          _,
+          refl,
+          (codes "1", refl, digit 32 1 (omega arith) (omega arith)),
+          inr (
+            Once (Begin (GetJob name)),
+            _,
+            refl,
+            refl,
+            inr (
+              Once (Step 2),
+              _,
+              refl,
+              (codes "2", refl, digit 32 2 (omega arith) (omega arith)),
+              inr (
+                Once (Step 2),
+                _,
+                refl,
+                (codes "2", refl, digit 32 2 (omega arith) (omega arith)),
+                inr (
+                  Once (Step 2),
+                  _,
+                  refl,
+                  (codes "2", refl, digit 32 2 (omega arith) (omega arith)),
+                  inr (
+                    Once (Step 2),
+                    _,
+                    refl,
+                    (codes "2", refl, digit 32 2 (omega arith) (omega arith)),
+                    inr (
+                      Once (Lose 2 1 0),
+                      _,
+                      refl,
+                      (
+                        codes "2",
+                        codes "1",
+                        codes "0",
+                        refl,
+                        digit 32 2 (omega arith) (omega arith),
+                        digit 64 1 (omega arith) (omega arith),
+                        digit 32 0 (omega arith) (omega arith),
+                      ),
+                      audit_spell,
+                    ),
+                  ),
+                ),
+              ),
+            ),
+          ),
+        ),
+      ),
+    )
 
 -- the lines of the text spell the commands
 pub spells : IsSchedule stopped_text (reverse stopped_schedule)
@@ -80,5 +226,58 @@ named = (omega arith, (((λ e. omega (arith, e)), (λ e. omega (arith, e))), tt)
 
 -- each command of the schedule can be spelled
 pub fits : AllByRecursion CanBeSpelled (reverse stopped_schedule)
-fits =
-    (tt, (((refl, refl), named), (omega arith, ((refl, named), (omega arith, (omega arith, (omega arith, (omega arith, ((omega arith, omega arith, omega arith), ((tt, tt), (omega arith, (omega arith, (omega arith, ((tt, tt), (omega arith, ((omega arith, omega arith, omega arith), ((refl, named), (omega arith, (refl, (tt, ((refl, named), (omega arith, tt))))))))))))))))))))))
+fits = (
+  tt,
+  (
+    ((refl, refl), named),
+    (
+      omega arith,
+      (
+        (refl, named),
+        (
+          omega arith,
+          (
+            omega arith,
+            (
+              omega arith,
+              (
+                omega arith,
+                (
+                  (omega arith, omega arith, omega arith),
+                  (
+                    (tt, tt),
+                    (
+                      omega arith,
+                      (
+                        omega arith,
+                        (
+                          omega arith,
+                          (
+                            (tt, tt),
+                            (
+                              omega arith,
+                              (
+                                (omega arith, omega arith, omega arith),
+                                (
+                                  (refl, named),
+                                  (
+                                    omega arith,
+                                    (refl, (tt, ((refl, named), (omega arith, tt)))),
+                                  ),
+                                ),
+                              ),
+                            ),
+                          ),
+                        ),
+                      ),
+                    ),
+                  ),
+                ),
+              ),
+            ),
+          ),
+        ),
+      ),
+    ),
+  ),
+)

@@ -38,179 +38,288 @@ use Rattle.second_half_laws.proofs.EveryRun.{Always, repair_due}
 
 -- of which damage files in effect are clear while audits run, repairs are due, and repairs run
 pub record Audited (start : State) (ms : List Moment) : Type 0 where
-  pub audit : (k : ℕ) (j : Job) → job_of (now start ms).jobs k ≡ Some j → j.kind ≡ AuditJob → IsClear start ms j.begun (WrongAt start ms j.begun)
-  pub audit_doubt : (d : Doubt) (number u : ℕ) (c : List ℕ) → (now start ms).doubt ≡ Some d → d.entry ≡ AuditDone number u c →
+  pub audit : (k : ℕ) (j : Job) → job_of (now start ms).jobs k ≡ Some j → j.kind ≡ AuditJob →
+      IsClear start ms j.begun (WrongAt start ms j.begun)
+  pub audit_doubt : (d : Doubt) (number u : ℕ) (c : List ℕ) → (now start ms).doubt ≡ Some d →
+      d.entry ≡ AuditDone number u c →
       IsClear start ms ((now start ms).audits number) (WrongAt start ms ((now start ms).audits number))
-  pub due : (u : Due) → due_of (now start ms).records ≡ Some u → IsClear start ms ((now start ms).audits u.number) (IsFlaggedBy (now start ms) u.counts)
-  pub repair : (k : ℕ) (j : Job) → job_of (now start ms).jobs k ≡ Some j → j.kind ≡ RepairJob → IsClear start ms ((now start ms).audits j.subject) (Remains (now start ms) j)
-  pub repair_doubt : (d : Doubt) (number : ℕ) → (now start ms).doubt ≡ Some d → d.entry ≡ RepairDone number → IsClear start ms ((now start ms).audits number) Never
+  pub due : (u : Due) → due_of (now start ms).records ≡ Some u →
+      IsClear start ms ((now start ms).audits u.number) (IsFlaggedBy (now start ms) u.counts)
+  pub repair : (k : ℕ) (j : Job) → job_of (now start ms).jobs k ≡ Some j → j.kind ≡ RepairJob →
+      IsClear start ms ((now start ms).audits j.subject) (Remains (now start ms) j)
+  pub repair_doubt : (d : Doubt) (number : ℕ) → (now start ms).doubt ≡ Some d → d.entry ≡ RepairDone number →
+      IsClear start ms ((now start ms).audits number) Never
 
-module _ (limit : ℕ) (mark : Mark) (start : State) (m : Moment) (ms : List Moment) (clean : IsStart start) (run : IsRun limit start ms) (A : All start ms) (U : num.Facts audits start ms) (I : eff.Facts (now start ms))
-    (E : Always start ms) (F : Facts mark start ms) (R : ScrubsRight (now start ms)) (G : Audited start ms) (X : Changes limit (length ms) (now start ms) m.event m.outcome m.state) (T : Turns (now start ms) m.state) where
+module _ (limit : ℕ) (mark : Mark) (start : State) (m : Moment) (ms : List Moment) (clean : IsStart start)
+    (run : IsRun limit start ms) (A : All start ms) (U : num.Facts audits start ms)
+    (I : eff.Facts (now start ms))
+    (E : Always start ms) (F : Facts mark start ms) (R : ScrubsRight (now start ms)) (G : Audited start ms)
+    (X : Changes limit (length ms) (now start ms) m.event m.outcome m.state)
+    (T : Turns (now start ms) m.state) where
   on : (from : ℕ) (Old New : ℕ → ℕ → ℕ → Type 0) → PrecedesPuts start ms from → IsClear start ms from Old →
-      ((q : List ℕ) (f : File) (i s : ℕ) → file_in (now start ms) q ≡ Some f → file_in m.state q ≡ Some f → setup_in m.state ≡ setup_in (now start ms) → i < (setup_in m.state).n →
-      s < stripes_of (profiled (setup_in m.state) f.profile) (length (m.state.bytes f.id)) → IsBad m.state f.profile f.id i s → Old i f.id s → IsReplaced from i (m ∷ ms) ⊎ New i f.id s) →
+      ((q : List ℕ) (f : File) (i s : ℕ) → file_in (now start ms) q ≡ Some f → file_in m.state q ≡ Some f →
+      setup_in m.state ≡ setup_in (now start ms) → i < (setup_in m.state).n →
+      s < stripes_of (profiled (setup_in m.state) f.profile) (length (m.state.bytes f.id)) →
+      IsBad m.state f.profile f.id i s → Old i f.id s → IsReplaced from i (m ∷ ms) ⊎ New i f.id s) →
       IsClear start (m ∷ ms) from New
   on = pt.clear_on limit mark start m ms clean run A U I E X T (rows_right mark start ms F) R
 
-  audits_below : (number : ℕ) → number < next_audit (now start ms).records → m.state.audits number ≡ (now start ms).audits number
+  audits_below : (number : ℕ) → number < next_audit (now start ms).records →
+      m.state.audits number ≡ (now start ms).audits number
   audits_below = ev.audits_below limit start m ms A U I E X T
 
-  file_below : (q : List ℕ) (f : File) → file_in (now start ms) q ≡ Some f → f.id < next_id (now start ms).records
+  file_below : (q : List ℕ) (f : File) → file_in (now start ms) q ≡ Some f →
+      f.id < next_id (now start ms).records
   file_below = ev.file_below limit start m ms A U I E X T
 
   -- ---- audits
 
-  audit_on : (from : ℕ) → PrecedesPuts start ms from → IsClear start ms from (WrongAt start ms from) → IsClear start (m ∷ ms) from (WrongAt start (m ∷ ms) from)
+  audit_on : (from : ℕ) → PrecedesPuts start ms from → IsClear start ms from (WrongAt start ms from) →
+      IsClear start (m ∷ ms) from (WrongAt start (m ∷ ms) from)
   audit_on from P clear = on from (WrongAt start ms from) (WrongAt start (m ∷ ms) from) P clear
-      (λ q f i s stood h setup l k bad x. inr (subst (λ hs. WasWrong (now start hs) i f.id) (sym (first_more from m ms P.early)) x))
+      (λ q f i s stood h setup l k bad x. inr
+      (subst (λ hs. WasWrong (now start hs) i f.id) (sym (first_more from m ms P.early)) x))
 
-  audit_doubt_step : (d : Doubt) (number u : ℕ) (c : List ℕ) → m.state.doubt ≡ Some d → d.entry ≡ AuditDone number u c → IsClear start (m ∷ ms) (m.state.audits number) (WrongAt start (m ∷ ms) (m.state.audits number))
+  audit_doubt_step : (d : Doubt) (number u : ℕ) (c : List ℕ) → m.state.doubt ≡ Some d →
+      d.entry ≡ AuditDone number u c →
+      IsClear start (m ∷ ms) (m.state.audits number) (WrongAt start (m ∷ ms) (m.state.audits number))
   audit_doubt_step d number u c h e = elim (T.doubt d h) [
-    | Doubt_now.kept was rec ↦ (let P = E.audit_doubt d number u c was e in moved P.0 ((now start ms).audits number) refl P.1 (G.audit_doubt d number u c was e))
+    | Doubt_now.kept was rec ↦
+        (let P = E.audit_doubt d number u c was e in
+        moved P.0 ((now start ms).audits number) refl P.1 (G.audit_doubt d number u c was e))
     | Doubt_now.gated job a runs next_is flight mine entry_is maker rec on_ ↦
-        (let g = ev.audit_gated limit start m ms A U I E X T job a number u c runs flight mine (sym entry_is ∙ e) in
-        moved g.below job.begun (sym g.begins) (E.audit job.number job runs g.kind) (G.audit job.number job runs g.kind))
-    | Doubt_now.set_up t entry_is bare none closed ↦ absurd (let z : SetUp t ≡ AuditDone number u c = sym entry_is ∙ e in cc)
+        (let g = ev.audit_gated limit start m ms A U I E X T job a number u c runs flight mine
+        (sym entry_is ∙ e) in
+        moved g.below job.begun (sym g.begins) (E.audit job.number job runs g.kind)
+        (G.audit job.number job runs g.kind))
+    | Doubt_now.set_up t entry_is bare none closed ↦
+        absurd (let z : SetUp t ≡ AuditDone number u c = sym entry_is ∙ e in cc)
   ]
     where
-      moved : number < next_audit (now start ms).records → (from : ℕ) → from ≡ (now start ms).audits number → PrecedesPuts start ms from → IsClear start ms from (WrongAt start ms from) →
+      moved : number < next_audit (now start ms).records → (from : ℕ) → from ≡ (now start ms).audits number →
+          PrecedesPuts start ms from → IsClear start ms from (WrongAt start ms from) →
           IsClear start (m ∷ ms) (m.state.audits number) (WrongAt start (m ∷ ms) (m.state.audits number))
-      moved below from is P clear = subst (λ n. IsClear start (m ∷ ms) n (WrongAt start (m ∷ ms) n)) (is ∙ sym (audits_below number below)) (audit_on from P clear)
+      moved below from is P clear = subst (λ n. IsClear start (m ∷ ms) n (WrongAt start (m ∷ ms) n))
+          (is ∙ sym (audits_below number below)) (audit_on from P clear)
 
   -- an audit that has just begun
-  audit_new : m.state.records ≡ (now start ms).records → IsClear start (m ∷ ms) (length ms) (WrongAt start (m ∷ ms) (length ms))
+  audit_new : m.state.records ≡ (now start ms).records →
+      IsClear start (m ∷ ms) (length ms) (WrongAt start (m ∷ ms) (length ms))
   audit_new rec q f i s h l b bad =
       (let stood : file_in (now start ms) q ≡ Some f = ap (λ rs. file_of rs q) (sym rec) ∙ h in
       let setup = setup_same m.state (now start ms) (ap setup_of rec) in
       let below = file_below q f stood in
       let n = ev.bounds limit start m ms A U I E X T f.profile f.id i s setup below l b in
-      elim (pt.file_bad limit mark start m ms clean run A U I E X T (rows_right mark start ms F) R q f i s stood setup bad) [
-        | inl old ↦ inr (subst (λ hs. WasWrong (now start hs) i f.id) (sym (first_more (length ms) m ms (omega arith) ∙ first_all ms))
-            (record { name = q; file = f; in_effect = stood; id_is = refl; was = bad_wrong (now start ms) f i s n.1 old }))
+      elim (pt.file_bad limit mark start m ms clean run A U I E X T
+      (rows_right mark start ms F) R q f i s stood setup bad) [
+        | inl old ↦ inr (subst (λ hs. WasWrong (now start hs) i f.id)
+            (sym (first_more (length ms) m ms (omega arith) ∙ first_all ms))
+            (record {
+              name = q;
+              file = f;
+              in_effect = stood;
+              id_is = refl;
+              was = bad_wrong (now start ms) f i s n.1 old;
+            }))
         | inr r ↦ inl (since_now (length ms) i m ms r (omega arith))
       ])
 
-  audit_step : (k : ℕ) (j : Job) → job_of m.state.jobs k ≡ Some j → j.kind ≡ AuditJob → IsClear start (m ∷ ms) j.begun (WrongAt start (m ∷ ms) j.begun)
+  audit_step : (k : ℕ) (j : Job) → job_of m.state.jobs k ≡ Some j → j.kind ≡ AuditJob →
+      IsClear start (m ∷ ms) j.begun (WrongAt start (m ∷ ms) j.begun)
   audit_step k j h kind = elim (pins_is limit start m ms A.numbers A.pins X k j h) [
-    | Pins_is.had x runs pinned kind_x begun g ↦ (let kx = sym kind_x ∙ kind in subst (λ n. IsClear start (m ∷ ms) n (WrongAt start (m ∷ ms) n)) (sym begun) (audit_on x.begun (E.audit k x runs kx) (G.audit k x runs kx)))
-    | Pins_is.new_one kd wish is k_is allowed rec ↦ subst (λ n. IsClear start (m ∷ ms) n (WrongAt start (m ∷ ms) n)) (sym (ap (λ (x : Job). x.begun) is)) (audit_new rec)
+    | Pins_is.had x runs pinned kind_x begun g ↦
+        (let kx = sym kind_x ∙ kind in
+        subst (λ n. IsClear start (m ∷ ms) n (WrongAt start (m ∷ ms) n)) (sym begun)
+        (audit_on x.begun (E.audit k x runs kx) (G.audit k x runs kx)))
+    | Pins_is.new_one kd wish is k_is allowed rec ↦
+        subst (λ n. IsClear start (m ∷ ms) n (WrongAt start (m ∷ ms) n)) (sym (ap (λ (x : Job). x.begun) is))
+        (audit_new rec)
   ]
 
   -- ---- repairs
 
-  rest_on : (x j : Job) (k : ℕ) (action : Action) → job_of (now start ms).jobs k ≡ Some x → next_action (now start ms) x ≡ Some action → x.kind ≡ RepairJob → j.kind ≡ RepairJob → j.pinned ≡ x.pinned → j.flagged ≡ x.flagged →
+  rest_on : (x j : Job) (k : ℕ) (action : Action) → job_of (now start ms).jobs k ≡ Some x →
+      next_action (now start ms) x ≡ Some action → x.kind ≡ RepairJob → j.kind ≡ RepairJob →
+      j.pinned ≡ x.pinned → j.flagged ≡ x.flagged →
       j.subject ≡ x.subject → j.place ≡ x.place + 1 →
-      ((i o s : ℕ) (b : Option (List ℕ)) → action ≡ Store i o s → told_block m.state i o s ≡ Some b → b ≡ Some (block_to_store (now start ms) x x.kind i o s)) →
+      ((i o s : ℕ) (b : Option (List ℕ)) → action ≡ Store i o s → told_block m.state i o s ≡ Some b →
+      b ≡ Some (block_to_store (now start ms) x x.kind i o s)) →
       IsClear start (m ∷ ms) (m.state.audits j.subject) (Remains m.state j)
   rest_on x j k action runs next_is kx kj pinned flagged subject place stores =
       (let P = E.repair k x runs kx in
-      subst (λ n. IsClear start (m ∷ ms) n (Remains m.state j)) (sym (ap m.state.audits subject ∙ audits_below x.subject P.0))
-      (on ((now start ms).audits x.subject) (Remains (now start ms) x) (Remains m.state j) P.1 (G.repair k x runs kx) more))
+      subst (λ n. IsClear start (m ∷ ms) n (Remains m.state j))
+      (sym (ap m.state.audits subject ∙ audits_below x.subject P.0))
+      (on ((now start ms).audits x.subject) (Remains (now start ms) x) (Remains m.state j) P.1
+      (G.repair k x runs kx) more))
     where
       at_number : job_of (now start ms).jobs x.number ≡ Some x
-      at_number = subst (λ n. job_of (now start ms).jobs n ≡ Some x) (sym (number_of (now start ms).jobs k x runs)) runs
+      at_number = subst (λ n. job_of (now start ms).jobs n ≡ Some x)
+          (sym (number_of (now start ms).jobs k x runs)) runs
 
-      more : (q : List ℕ) (f : File) (i s : ℕ) → file_in (now start ms) q ≡ Some f → file_in m.state q ≡ Some f → setup_in m.state ≡ setup_in (now start ms) → i < (setup_in m.state).n →
-          s < stripes_of (profiled (setup_in m.state) f.profile) (length (m.state.bytes f.id)) → IsBad m.state f.profile f.id i s → Remains (now start ms) x i f.id s →
+      more : (q : List ℕ) (f : File) (i s : ℕ) → file_in (now start ms) q ≡ Some f →
+          file_in m.state q ≡ Some f → setup_in m.state ≡ setup_in (now start ms) → i < (setup_in m.state).n →
+          s < stripes_of (profiled (setup_in m.state) f.profile) (length (m.state.bytes f.id)) →
+          IsBad m.state f.profile f.id i s → Remains (now start ms) x i f.id s →
           IsReplaced ((now start ms).audits x.subject) i (m ∷ ms) ⊎ Remains m.state j i f.id s
       more q f i s stood h setup l b bad (marked, (p, low, at)) = elim (cases_eq p x.place) [
         | inl here ↦
-            (let act : action ≡ Store i f.id s = same_value (next_action (now start ms) x) action (Store i f.id s) next_is
-            (next_repairs (now start ms) x kx ∙ subst (λ n. slice_get (actions_of (setup_in (now start ms)) x) n ≡ Some (Store i f.id s)) here at) in
-            absurd (pt.stored_right limit mark start m ms clean run A U I E X T (rows_right mark start ms F) f.profile x i f.id s bad.0 at_number (next_is ∙ ap Some act)
-            (A.pins.sound.file q f stood).1 (λ g in_g e. E.pin_file x.number x g q f at_number in_g stood e) (stores i f.id s bad.0 act bad.1)
-            (pt.wrong_old limit mark start m ms clean run A U I E X T f.profile f.id i s bad.0 setup (X.bytes f.id (file_below q f stood)) bad.2)))
+            (let act : action ≡ Store i f.id s = same_value (next_action (now start ms) x) action
+            (Store i f.id s) next_is
+            (next_repairs (now start ms) x kx
+            ∙ subst (λ n. slice_get (actions_of (setup_in (now start ms)) x) n ≡ Some (Store i f.id s))
+            here at) in
+            absurd (pt.stored_right limit mark start m ms clean run A U I E X T
+            (rows_right mark start ms F) f.profile x i f.id s bad.0 at_number (next_is ∙ ap Some act)
+            (A.pins.sound.file q f stood).1 (λ g in_g e. E.pin_file x.number x g q f at_number in_g stood e)
+            (stores i f.id s bad.0 act bad.1)
+            (pt.wrong_old limit mark start m ms clean run A U I E X T f.profile f.id i s bad.0 setup
+            (X.bytes f.id (file_below q f stood)) bad.2)))
         | inr other ↦ inr (
           ap (λ g. g i) flagged ∙ marked,
           (
             p,
             omega (arith, low, other, place),
-            ap (λ (t : Setup). slice_get (actions_of t j) p) setup ∙ (ap (λ xs. slice_get xs p) (same_actions (setup_in (now start ms)) x j kx kj pinned flagged) ∙ at),
+            ap (λ (t : Setup). slice_get (actions_of t j) p) setup
+                ∙ (ap (λ xs. slice_get xs p) (same_actions (setup_in (now start ms)) x j kx kj pinned flagged)
+                ∙ at),
           ),
         )
       ]
 
   -- a repair that has just begun
-  repair_new : (j : Job) (wish : Option ℕ) → j ≡ beginning (now start ms) (length ms) RepairJob wish → refusal_of_begin limit (now start ms) RepairJob wish ≡ None → m.state.records ≡ (now start ms).records →
+  repair_new : (j : Job) (wish : Option ℕ) → j ≡ beginning (now start ms) (length ms) RepairJob wish →
+      refusal_of_begin limit (now start ms) RepairJob wish ≡ None → m.state.records ≡ (now start ms).records →
       IsClear start (m ∷ ms) (m.state.audits j.subject) (Remains m.state j)
   repair_new j wish is allowed rec =
       (let u = repair_due limit (now start ms) wish (due_of (now start ms).records) refl allowed in
       let P = E.due u.0 u.1 in
       let subject : j.subject ≡ u.0.number = ap (λ (x : Job). x.subject) is ∙ ap due_number u.1 in
-      subst (λ n. IsClear start (m ∷ ms) n (Remains m.state j)) (sym (ap m.state.audits subject ∙ audits_below u.0.number P.0))
-      (on ((now start ms).audits u.0.number) (IsFlaggedBy (now start ms) u.0.counts) (Remains m.state j) P.1 (G.due u.0 u.1) (more u.0 u.1)))
+      subst (λ n. IsClear start (m ∷ ms) n (Remains m.state j))
+      (sym (ap m.state.audits subject ∙ audits_below u.0.number P.0))
+      (on ((now start ms).audits u.0.number) (IsFlaggedBy (now start ms) u.0.counts) (Remains m.state j) P.1
+      (G.due u.0 u.1) (more u.0 u.1)))
     where
-      more : (u : Due) → due_of (now start ms).records ≡ Some u → (q : List ℕ) (f : File) (i s : ℕ) → file_in (now start ms) q ≡ Some f → file_in m.state q ≡ Some f → setup_in m.state ≡ setup_in (now start ms) → i < (setup_in m.state).n →
-          s < stripes_of (profiled (setup_in m.state) f.profile) (length (m.state.bytes f.id)) → IsBad m.state f.profile f.id i s → IsFlaggedBy (now start ms) u.counts i f.id s →
+      more : (u : Due) → due_of (now start ms).records ≡ Some u → (q : List ℕ) (f : File) (i s : ℕ) →
+          file_in (now start ms) q ≡ Some f → file_in m.state q ≡ Some f →
+          setup_in m.state ≡ setup_in (now start ms) → i < (setup_in m.state).n →
+          s < stripes_of (profiled (setup_in m.state) f.profile) (length (m.state.bytes f.id)) →
+          IsBad m.state f.profile f.id i s → IsFlaggedBy (now start ms) u.counts i f.id s →
           IsReplaced ((now start ms).audits u.number) i (m ∷ ms) ⊎ Remains m.state j i f.id s
       more u due q f i s stood h setup l b bad marked =
-          (let flagged : j.flagged i ≡ true = ap (λ (x : Job). x.flagged i) is ∙ (ap (λ o. due_flags (setup_in (now start ms)).tolerance o i) due ∙ marked) in
+          (let flagged : j.flagged i ≡ true = ap (λ (x : Job). x.flagged i) is
+          ∙ (ap (λ o. due_flags (setup_in (now start ms)).tolerance o i) due ∙ marked) in
           let bytes : m.state.bytes f.id ≡ (now start ms).bytes f.id = X.bytes f.id (file_below q f stood) in
-          let st = store_stands (setup_in m.state) j (pinned_file (now start ms) f) i s (ap (λ (x : Job). x.kind) is)
-          (subst (λ (x : Job). In (pinned_file (now start ms) f) x.pinned) (sym is) (all_pinned (now start ms) q f stood)) flagged l
-          (subst (λ (y : List ℕ). s < stripes_of (profiled (setup_in m.state) f.profile) (length y)) bytes b) in
+          let st = store_stands (setup_in m.state) j (pinned_file (now start ms) f) i s
+          (ap (λ (x : Job). x.kind) is)
+          (subst (λ (x : Job). In (pinned_file (now start ms) f) x.pinned) (sym is)
+          (all_pinned (now start ms) q f stood)) flagged l
+          (subst (λ (y : List ℕ). s < stripes_of (profiled (setup_in m.state) f.profile) (length y)) bytes
+          b) in
           inr (flagged, (st.0, (let z : j.place ≡ 0 = ap (λ (x : Job). x.place) is in omega arith), st.1)))
 
-  repair_step : (k : ℕ) (j : Job) → job_of m.state.jobs k ≡ Some j → j.kind ≡ RepairJob → IsClear start (m ∷ ms) (m.state.audits j.subject) (Remains m.state j)
+  repair_step : (k : ℕ) (j : Job) → job_of m.state.jobs k ≡ Some j → j.kind ≡ RepairJob →
+      IsClear start (m ∷ ms) (m.state.audits j.subject) (Remains m.state j)
   repair_step k j h kind = elim (X.job k j h) [
     | Job_is.kept r grown ↦ (let P = E.repair k j r kind in
         subst (λ n. IsClear start (m ∷ ms) n (Remains m.state j)) (sym (audits_below j.subject P.0))
-        (on ((now start ms).audits j.subject) (Remains (now start ms) j) (Remains m.state j) P.1 (G.repair k j r kind)
-        (λ q f i s stood h2 setup l b bad x. inr (x.0, (x.1.0, x.1.1, ap (λ (t : Setup). slice_get (actions_of t j) x.1.0) setup ∙ x.1.2)))))
-    | Job_is.begun kd wish is k_is allowed rec ↦ (let kd_is : kd ≡ RepairJob = sym (ap (λ (x : Job). x.kind) is) ∙ kind in
-        repair_new j wish (is ∙ ap (λ kk. beginning (now start ms) (length ms) kk wish) kd_is) (subst (λ kk. refusal_of_begin limit (now start ms) kk wish ≡ None) kd_is allowed) rec)
-    | Job_is.plain x action runs next_is is_plain goes rec st ↦ rest_on x j k action runs next_is (sym goes.kind ∙ kind) kind goes.pinned goes.flagged goes.subject goes.place st
-    | Job_is.drew x runs next_is free is rec ↦ (let kx : x.kind ≡ RepairJob = sym (ap (λ (y : Job). y.kind) is) ∙ kind in
-        rest_on x j k WriteBody runs next_is kx kind (ap (λ (y : Job). y.pinned) is) (ap (λ (y : Job). y.flagged) is) (ap (λ (y : Job). y.subject) is ∙ ap (subject_drawn (now start ms) x) kx) (ap (λ (y : Job). y.place) is)
+        (on ((now start ms).audits j.subject) (Remains (now start ms) j) (Remains m.state j) P.1
+        (G.repair k j r kind)
+        (λ q f i s stood h2 setup l b bad x. inr
+        (x.0, (x.1.0, x.1.1, ap (λ (t : Setup). slice_get (actions_of t j) x.1.0) setup ∙ x.1.2)))))
+    | Job_is.begun kd wish is k_is allowed rec ↦
+        (let kd_is : kd ≡ RepairJob = sym (ap (λ (x : Job). x.kind) is) ∙ kind in
+        repair_new j wish (is ∙ ap (λ kk. beginning (now start ms) (length ms) kk wish) kd_is)
+        (subst (λ kk. refusal_of_begin limit (now start ms) kk wish ≡ None) kd_is allowed) rec)
+    | Job_is.plain x action runs next_is is_plain goes rec st ↦
+        rest_on x j k action runs next_is (sym goes.kind
+        ∙ kind) kind goes.pinned goes.flagged goes.subject goes.place st
+    | Job_is.drew x runs next_is free is rec ↦
+        (let kx : x.kind ≡ RepairJob = sym (ap (λ (y : Job). y.kind) is) ∙ kind in
+        rest_on x j k WriteBody runs next_is kx kind (ap (λ (y : Job). y.pinned) is)
+        (ap (λ (y : Job). y.flagged) is) (ap (λ (y : Job). y.subject) is
+        ∙ ap (subject_drawn (now start ms) x) kx) (ap (λ (y : Job). y.place) is)
         (λ i o s b e told. absurd (let z : WriteBody ≡ Store i o s = e in cc)))
     | Job_is.finished x a runs next_is flight mine is rec free ↦
-        rest_on x j k SyncGate runs next_is (sym (ap (λ (y : Job). y.kind) is) ∙ kind) kind (ap (λ (y : Job). y.pinned) is) (ap (λ (y : Job). y.flagged) is) (ap (λ (y : Job). y.subject) is) (ap (λ (y : Job). y.place) is)
+        rest_on x j k SyncGate runs next_is (sym (ap (λ (y : Job). y.kind) is) ∙ kind) kind
+        (ap (λ (y : Job). y.pinned) is) (ap (λ (y : Job). y.flagged) is) (ap (λ (y : Job). y.subject) is)
+        (ap (λ (y : Job). y.place) is)
         (λ i o s b e told. absurd (let z : SyncGate ≡ Store i o s = e in cc))
   ]
 
-  repair_doubt_step : (d : Doubt) (number : ℕ) → m.state.doubt ≡ Some d → d.entry ≡ RepairDone number → IsClear start (m ∷ ms) (m.state.audits number) Never
+  repair_doubt_step : (d : Doubt) (number : ℕ) → m.state.doubt ≡ Some d → d.entry ≡ RepairDone number →
+      IsClear start (m ∷ ms) (m.state.audits number) Never
   repair_doubt_step d number h e = elim (T.doubt d h) [
     | Doubt_now.kept was rec ↦ (let P = E.repair_doubt d number was e in
-        subst (λ n. IsClear start (m ∷ ms) n Never) (sym (audits_below number P.0)) (on ((now start ms).audits number) Never Never P.1 (G.repair_doubt d number was e) (λ q f i s stood h2 setup l b bad x. absurd x)))
+        subst (λ n. IsClear start (m ∷ ms) n Never) (sym (audits_below number P.0))
+        (on ((now start ms).audits number) Never Never P.1 (G.repair_doubt d number was e)
+        (λ q f i s stood h2 setup l b bad x. absurd x)))
     | Doubt_now.gated job a runs next_is flight mine entry_is maker rec on_ ↦
-        (let g = ev.repair_gated limit start m ms A U I E X T job a number runs flight mine (sym entry_is ∙ e) in
+        (let g = ev.repair_gated limit start m ms A U I E X T job a number runs flight mine
+        (sym entry_is ∙ e) in
         let P = E.repair job.number job runs g.kind in
-        subst (λ n. IsClear start (m ∷ ms) n Never) (sym (ap m.state.audits g.subject ∙ audits_below job.subject P.0))
-        (on ((now start ms).audits job.subject) (Remains (now start ms) job) Never P.1 (G.repair job.number job runs g.kind)
-        (λ q f i s stood h2 setup l b bad x. absurd (let z = gate_behind (now start ms) job x.1.0 i f.id s g.kind next_is x.1.2 in let low = x.1.1 in omega (arith, z, low)))))
-    | Doubt_now.set_up t entry_is bare none closed ↦ absurd (let z : SetUp t ≡ RepairDone number = sym entry_is ∙ e in cc)
+        subst (λ n. IsClear start (m ∷ ms) n Never)
+        (sym (ap m.state.audits g.subject ∙ audits_below job.subject P.0))
+        (on ((now start ms).audits job.subject) (Remains (now start ms) job) Never P.1
+        (G.repair job.number job runs g.kind)
+        (λ q f i s stood h2 setup l b bad x. absurd
+        (let z = gate_behind (now start ms) job x.1.0 i f.id s g.kind next_is x.1.2 in let low = x.1.1 in
+        omega (arith, z, low)))))
+    | Doubt_now.set_up t entry_is bare none closed ↦
+        absurd (let z : SetUp t ≡ RepairDone number = sym entry_is ∙ e in cc)
   ]
 
   module _ (missed : MissesNone start ms m.state (came (now start ms) m.state)) where
-    -- where the end of an audit comes into effect, one that was wrong at its begin and is not flagged was replaced since
-    unmissed : (number u : ℕ) (c : List ℕ) (i o : ℕ) → came (now start ms) m.state ≡ Some (AuditDone number u c) → number < next_audit (now start ms).records → i < (setup_in (now start ms)).n →
-        is_flagged (setup_in (now start ms)).tolerance c i ≡ false → WasWrong (now start (first_moments ((now start ms).audits number) ms)) i o → IsReplaced ((now start ms).audits number) i ms
-    unmissed number u c i o came_in below l unflagged w = elim (cases_Bool (is_replaced_since ((now start ms).audits number) i ms)) [
-      | inl t ↦ t
-      | inr f ↦ absurd (by_begin (subst (MissesNone start ms m.state) came_in missed i) f)
-    ]
+    -- where the end of an audit comes into effect, one that was wrong at its begin and is not flagged was
+    -- replaced since
+    unmissed : (number u : ℕ) (c : List ℕ) (i o : ℕ) →
+        came (now start ms) m.state ≡ Some (AuditDone number u c) →
+        number < next_audit (now start ms).records → i < (setup_in (now start ms)).n →
+        is_flagged (setup_in (now start ms)).tolerance c i ≡ false →
+        WasWrong (now start (first_moments ((now start ms).audits number) ms)) i o →
+        IsReplaced ((now start ms).audits number) i ms
+    unmissed number u c i o came_in below l unflagged w =
+        elim (cases_Bool (is_replaced_since ((now start ms).audits number) i ms)) [
+          | inl t ↦ t
+          | inr f ↦ absurd (by_begin (subst (MissesNone start ms m.state) came_in missed i) f)
+        ]
       where
-        by_begin : (Misses start ms c (m.state.audits number) i → ⊥) → is_replaced_since ((now start ms).audits number) i ms ≡ false → ⊥
+        by_begin : (Misses start ms c (m.state.audits number) i → ⊥) →
+            is_replaced_since ((now start ms).audits number) i ms ≡ false → ⊥
         by_begin none f = subst (λ n. Misses start ms c n i → ⊥) (audits_below number below) none
-            (record { provider = l; unflagged = unflagged; unreplaced = f; name = w.name; file = w.file; in_effect = w.in_effect; wrong = w.was })
+            (record {
+              provider = l;
+              unflagged = unflagged;
+              unreplaced = f;
+              name = w.name;
+              file = w.file;
+              in_effect = w.in_effect;
+              wrong = w.was;
+            })
 
     -- ---- what is due
 
-    old_due : (u : Due) → due_of (now start ms).records ≡ Some u → IsClear start (m ∷ ms) (m.state.audits u.number) (IsFlaggedBy m.state u.counts)
+    old_due : (u : Due) → due_of (now start ms).records ≡ Some u →
+        IsClear start (m ∷ ms) (m.state.audits u.number) (IsFlaggedBy m.state u.counts)
     old_due u was = (let P = E.due u was in
         subst (λ n. IsClear start (m ∷ ms) n (IsFlaggedBy m.state u.counts)) (sym (audits_below u.number P.0))
-        (on ((now start ms).audits u.number) (IsFlaggedBy (now start ms) u.counts) (IsFlaggedBy m.state u.counts) P.1 (G.due u was)
-        (λ q f i s stood h setup l b bad x. inr (ap (λ (t : Setup). is_flagged t.tolerance u.counts i) setup ∙ x))))
+        (on ((now start ms).audits u.number) (IsFlaggedBy (now start ms) u.counts)
+        (IsFlaggedBy m.state u.counts) P.1 (G.due u was)
+        (λ q f i s stood h setup l b bad x. inr (ap (λ (t : Setup). is_flagged t.tolerance u.counts i) setup
+        ∙ x))))
 
-    new_due : (u : Due) (d : Doubt) (und : ℕ) → (now start ms).doubt ≡ Some d → d.entry ≡ AuditDone u.number und u.counts →
-        ((q : List ℕ) (f : File) (i s : ℕ) → file_in (now start ms) q ≡ Some f → file_in m.state q ≡ Some f → setup_in m.state ≡ setup_in (now start ms) → i < (setup_in m.state).n →
-        s < stripes_of (profiled (setup_in m.state) f.profile) (length (m.state.bytes f.id)) → IsBad m.state f.profile f.id i s → u.number < next_audit (now start ms).records → WrongAt start ms ((now start ms).audits u.number) i f.id s →
+    new_due : (u : Due) (d : Doubt) (und : ℕ) → (now start ms).doubt ≡ Some d →
+        d.entry ≡ AuditDone u.number und u.counts →
+        ((q : List ℕ) (f : File) (i s : ℕ) → file_in (now start ms) q ≡ Some f → file_in m.state q ≡ Some f →
+        setup_in m.state ≡ setup_in (now start ms) → i < (setup_in m.state).n →
+        s < stripes_of (profiled (setup_in m.state) f.profile) (length (m.state.bytes f.id)) →
+        IsBad m.state f.profile f.id i s → u.number < next_audit (now start ms).records →
+        WrongAt start ms ((now start ms).audits u.number) i f.id s →
         IsReplaced ((now start ms).audits u.number) i (m ∷ ms) ⊎ IsFlaggedBy m.state u.counts i f.id s) →
         IsClear start (m ∷ ms) (m.state.audits u.number) (IsFlaggedBy m.state u.counts)
     new_due u d und at e more = (let P = E.audit_doubt d u.number und u.counts at e in
         subst (λ n. IsClear start (m ∷ ms) n (IsFlaggedBy m.state u.counts)) (sym (audits_below u.number P.0))
-        (on ((now start ms).audits u.number) (WrongAt start ms ((now start ms).audits u.number)) (IsFlaggedBy m.state u.counts) P.1 (G.audit_doubt d u.number und u.counts at e)
+        (on ((now start ms).audits u.number) (WrongAt start ms ((now start ms).audits u.number))
+        (IsFlaggedBy m.state u.counts) P.1 (G.audit_doubt d u.number und u.counts at e)
         (λ q f i s stood h setup l b bad x. more q f i s stood h setup l b bad P.0 x)))
 
     due_entered : (u : Due) (d : Doubt) → (now start ms).doubt ≡ Some d →
@@ -218,16 +327,20 @@ module _ (limit : ℕ) (mark : Mark) (start : State) (m : Moment) (ms : List Mom
         (due_of (now start ms).records ≡ Some u) ⊎ ((und : ℕ) × (d.entry ≡ AuditDone u.number und u.counts))
     due_entered u d at h = due_done d.entry (now start ms).records u (A.numbers.written.1 d at) h
 
-    due_step : (u : Due) → due_of m.state.records ≡ Some u → IsClear start (m ∷ ms) (m.state.audits u.number) (IsFlaggedBy m.state u.counts)
+    due_step : (u : Due) → due_of m.state.records ≡ Some u →
+        IsClear start (m ∷ ms) (m.state.audits u.number) (IsFlaggedBy m.state u.counts)
     due_step u h = elim (ev.effect limit start m ms A U I E X T) [
       | ev.Effect_is.nothing rec ↦ old_due u (ap due_of (sym rec) ∙ h)
       | ev.Effect_is.entered d at rec ↦ elim (due_entered u d at (ap due_of (sym rec) ∙ h)) [
         | inl was ↦ old_due u was
         | inr (und, e) ↦ new_due u d und at e
-            (λ q f i s stood h2 setup l b bad below w. elim (cases_Bool (is_flagged (setup_in (now start ms)).tolerance u.counts i)) [
+            (λ q f i s stood h2 setup l b bad below w. elim (cases_Bool
+            (is_flagged (setup_in (now start ms)).tolerance u.counts i)) [
               | inl t ↦ inr (ap (λ (t2 : Setup). is_flagged t2.tolerance u.counts i) setup ∙ t)
               | inr f2 ↦ inl (since_more ((now start ms).audits u.number) i m ms
-                  (unmissed u.number und u.counts i f.id (ev.came_one limit start m ms A U I E X T (now start ms).records d.entry rec refl ∙ ap Some e) below (subst (λ (t2 : Setup). i < t2.n) setup l) f2 w))
+                  (unmissed u.number und u.counts i f.id
+                  (ev.came_one limit start m ms A U I E X T (now start ms).records d.entry rec refl
+                  ∙ ap Some e) below (subst (λ (t2 : Setup). i < t2.n) setup l) f2 w))
             ])
       ]
       | ev.Effect_is.set_up s rs rec none (inl e) ↦ old_due u (ap due_of (sym e) ∙ (ap due_of (sym rec) ∙ h))
@@ -235,13 +348,21 @@ module _ (limit : ℕ) (mark : Mark) (start : State) (m : Moment) (ms : List Mom
           elim (due_entered u d at (ap due_of (sym e) ∙ (ap due_of (sym rec) ∙ h))) [
             | inl was ↦ old_due u was
             | inr (und, e2) ↦ new_due u d und at e2
-                (λ q f i t stood h2 setup l b bad below w. absurd (ev.no_file limit start m ms A U I E X T rs q f none (inr (d, at, e)) (ap (λ l2. file_of l2 q) (sym rec) ∙ h2)))
+                (λ q f i t stood h2 setup l b bad below w. absurd
+                (ev.no_file limit start m ms A U I E X T rs q f none (inr (d, at, e))
+                (ap (λ l2. file_of l2 q) (sym rec) ∙ h2)))
           ]
     ]
 
     -- an event keeps what files in effect are clear of while audits run, repairs are due and repairs run
     pub audited_step : Audited start (m ∷ ms)
-    audited_step = record { audit = audit_step; audit_doubt = audit_doubt_step; due = due_step; repair = repair_step; repair_doubt = repair_doubt_step }
+    audited_step = record {
+      audit = audit_step;
+      audit_doubt = audit_doubt_step;
+      due = due_step;
+      repair = repair_step;
+      repair_doubt = repair_doubt_step;
+    }
 
     -- ---- the mark, as it moves at settled audits
 
@@ -249,23 +370,38 @@ module _ (limit : ℕ) (mark : Mark) (start : State) (m : Moment) (ms : List Mom
       stays : IsClear start (m ∷ ms) (since start ms) Never
       stays = on (since start ms) Never Never E.mark clear (λ q f i s stood h setup l b bad x. absurd x)
 
-      settled_audit : (d : Doubt) (number u : ℕ) (c : List ℕ) → (now start ms).doubt ≡ Some d → d.entry ≡ AuditDone number u c → came (now start ms) m.state ≡ Some (AuditDone number u c) → flags_some (setup_in m.state).tolerance c ≡ false →
+      settled_audit : (d : Doubt) (number u : ℕ) (c : List ℕ) → (now start ms).doubt ≡ Some d →
+          d.entry ≡ AuditDone number u c → came (now start ms) m.state ≡ Some (AuditDone number u c) →
+          flags_some (setup_in m.state).tolerance c ≡ false →
           IsClear start (m ∷ ms) (m.state.audits number) Never
       settled_audit d number u c at e came_in none = (let P = E.audit_doubt d number u c at e in
           subst (λ n. IsClear start (m ∷ ms) n Never) (sym (audits_below number P.0))
-          (on ((now start ms).audits number) (WrongAt start ms ((now start ms).audits number)) Never P.1 (G.audit_doubt d number u c at e)
+          (on ((now start ms).audits number) (WrongAt start ms ((now start ms).audits number)) Never P.1
+          (G.audit_doubt d number u c at e)
           (λ q f i s stood h setup l b bad w. inl (since_more ((now start ms).audits number) i m ms
-          (unmissed number u c i f.id came_in P.0 (subst (λ (t : Setup). i < t.n) setup l) (subst (λ (t : Setup). is_flagged t.tolerance c i ≡ false) setup (none_flagged (setup_in m.state).tolerance c i none)) w)))))
+          (unmissed number u c i f.id came_in P.0 (subst (λ (t : Setup). i < t.n) setup l)
+          (subst (λ (t : Setup). is_flagged t.tolerance c i ≡ false) setup
+          (none_flagged (setup_in m.state).tolerance c i none)) w)))))
 
-      settled_repair : (d : Doubt) (number : ℕ) → (now start ms).doubt ≡ Some d → d.entry ≡ RepairDone number → IsClear start (m ∷ ms) (m.state.audits number) Never
+      settled_repair : (d : Doubt) (number : ℕ) → (now start ms).doubt ≡ Some d →
+          d.entry ≡ RepairDone number → IsClear start (m ∷ ms) (m.state.audits number) Never
       settled_repair d number at e = (let P = E.repair_doubt d number at e in
-          subst (λ n. IsClear start (m ∷ ms) n Never) (sym (audits_below number P.0)) (on ((now start ms).audits number) Never Never P.1 (G.repair_doubt d number at e) (λ q f i s stood h setup l b bad x. absurd x)))
+          subst (λ n. IsClear start (m ∷ ms) n Never) (sym (audits_below number P.0))
+          (on ((now start ms).audits number) Never Never P.1 (G.repair_doubt d number at e)
+          (λ q f i s stood h setup l b bad x. absurd x)))
 
-      by_entry : (d : Doubt) → (now start ms).doubt ≡ Some d → (r : Record) → d.entry ≡ r → came (now start ms) m.state ≡ Some r → IsClear start (m ∷ ms) (mark_after m.state (settled_by (setup_in m.state).tolerance (Some r)) (since start ms)) Never
-      by_entry d at (AuditDone number u c) e came_in = elim (cases_Bool (flags_some (setup_in m.state).tolerance c)) [
-        | inl t ↦ subst (λ z. IsClear start (m ∷ ms) (mark_after m.state z (since start ms)) Never) (sym (cond_true (flags_some (setup_in m.state).tolerance c) None (Some number) t)) stays
-        | inr f ↦ subst (λ z. IsClear start (m ∷ ms) (mark_after m.state z (since start ms)) Never) (sym (cond_false (flags_some (setup_in m.state).tolerance c) None (Some number) f)) (settled_audit d number u c at e came_in f)
-      ]
+      by_entry : (d : Doubt) → (now start ms).doubt ≡ Some d → (r : Record) → d.entry ≡ r →
+          came (now start ms) m.state ≡ Some r →
+          IsClear start (m ∷ ms)
+          (mark_after m.state (settled_by (setup_in m.state).tolerance (Some r)) (since start ms)) Never
+      by_entry d at (AuditDone number u c) e came_in =
+          elim (cases_Bool (flags_some (setup_in m.state).tolerance c)) [
+            | inl t ↦ subst (λ z. IsClear start (m ∷ ms) (mark_after m.state z (since start ms)) Never)
+                (sym (cond_true (flags_some (setup_in m.state).tolerance c) None (Some number) t)) stays
+            | inr f ↦ subst (λ z. IsClear start (m ∷ ms) (mark_after m.state z (since start ms)) Never)
+                (sym (cond_false (flags_some (setup_in m.state).tolerance c) None (Some number) f))
+                (settled_audit d number u c at e came_in f)
+          ]
       by_entry d at (RepairDone number) e came_in = settled_repair d number at e
       by_entry d at (SetUp s) e came_in = stays
       by_entry d at (PutStart k name) e came_in = stays
@@ -286,5 +422,11 @@ module _ (limit : ℕ) (mark : Mark) (start : State) (m : Moment) (ms : List Mom
         | ev.Came_is.doubted d at rec e ↦ as_came (Some d.entry) e (by_entry d at d.entry refl e)
       ]
         where
-          as_came : (o : Option Record) → came (now start ms) m.state ≡ o → IsClear start (m ∷ ms) (mark_after m.state (settled_by (setup_in m.state).tolerance o) (since start ms)) Never → IsClear start (m ∷ ms) (since start (m ∷ ms)) Never
-          as_came o e P = subst (λ z. IsClear start (m ∷ ms) (mark_after m.state (settled_by (setup_in m.state).tolerance z) (since start ms)) Never) (sym e) P
+          as_came : (o : Option Record) → came (now start ms) m.state ≡ o →
+              IsClear start (m ∷ ms)
+              (mark_after m.state (settled_by (setup_in m.state).tolerance o) (since start ms)) Never →
+              IsClear start (m ∷ ms) (since start (m ∷ ms)) Never
+          as_came o e P = subst
+              (λ z. IsClear start (m ∷ ms)
+              (mark_after m.state (settled_by (setup_in m.state).tolerance z) (since start ms)) Never)
+              (sym e) P

@@ -27,52 +27,67 @@ use Rattle.second_half_laws.specs.Marks.{IsEndOfPut}
 -- ---- replacements
 
 -- a provider that was replaced since a moment is so with one more event
-pub since_more : (from j : ℕ) (m : Moment) (ms : List Moment) → IsReplaced from j ms → IsReplaced from j (m ∷ ms)
-since_more from j m ms h = or_right (is_replacement m.event m.outcome j && nat_le from (length ms)) (is_replaced_since from j ms) h
+pub since_more : (from j : ℕ) (m : Moment) (ms : List Moment) → IsReplaced from j ms →
+    IsReplaced from j (m ∷ ms)
+since_more from j m ms h =
+    or_right (is_replacement m.event m.outcome j && nat_le from (length ms)) (is_replaced_since from j ms) h
 
 -- an event that replaces a provider is a replacement since each moment up to it
-pub since_now : (from j : ℕ) (m : Moment) (ms : List Moment) → is_replacement m.event m.outcome j ≡ true → from ≤ length ms → IsReplaced from j (m ∷ ms)
-since_now from j m ms h l = or_left (is_replacement m.event m.outcome j && nat_le from (length ms)) (is_replaced_since from j ms) (and_from _ _ h (le-leb from (length ms) l))
+pub since_now : (from j : ℕ) (m : Moment) (ms : List Moment) → is_replacement m.event m.outcome j ≡ true →
+    from ≤ length ms → IsReplaced from j (m ∷ ms)
+since_now from j m ms h l = or_left (is_replacement m.event m.outcome j && nat_le from (length ms))
+    (is_replaced_since from j ms) (and_from _ _ h (le-leb from (length ms) l))
 
 -- a replacement since a moment is one since each earlier moment
 pub since_earlier : (from to j : ℕ) (ms : List Moment) → from ≤ to → IsReplaced to j ms → IsReplaced from j ms
 since_earlier from to j [] l h = h
 since_earlier from to j (m ∷ ms) l h = elim (or_cases _ _ h) [
-  | inl p ↦ (let q = and_parts _ _ p in since_now from j m ms q.0 (let r : to ≤ length ms = leb-true to (length ms) q.1 in omega arith))
+  | inl p ↦ (let q = and_parts _ _ p in
+      since_now from j m ms q.0 (let r : to ≤ length ms = leb-true to (length ms) q.1 in omega arith))
   | inr q ↦ since_more from j m ms (since_earlier from to j ms l q)
 ]
 
 -- ---- blocks
 
 -- a provider's own column is not wrong
-pub right_block : (o : Object) (bytes : List ℕ) (i s : ℕ) → is_wrong_block o bytes i s (Some (columns o bytes i s)) ≡ true → ⊥
+pub right_block : (o : Object) (bytes : List ℕ) (i s : ℕ) →
+    is_wrong_block o bytes i s (Some (columns o bytes i s)) ≡ true → ⊥
 right_block o bytes i s h = false≢true (sym right ∙ h)
   where
     right : is_wrong_block o bytes i s (Some (columns o bytes i s)) ≡ false
-    right = rw (eq-eqb (length (columns o bytes i s)) o.profile.size (length-column_of_symbols o _ i s), differences-same (columns o bytes i s)) (le-ltb o.profile.fix 0 (omega arith))
+    right = rw (
+      eq-eqb (length (columns o bytes i s)) o.profile.size (length-column_of_symbols o _ i s),
+      differences-same (columns o bytes i s),
+    ) (le-ltb o.profile.fix 0 (omega arith))
 
 -- what a fetch gives is wrong only where what is held is
-pub sized_wrong : (o : Object) (bytes : List ℕ) (i s : ℕ) (b : Option (List ℕ)) → is_wrong_block o bytes i s (sized o.profile.size b) ≡ true → is_wrong_block o bytes i s b ≡ true
+pub sized_wrong : (o : Object) (bytes : List ℕ) (i s : ℕ) (b : Option (List ℕ)) →
+    is_wrong_block o bytes i s (sized o.profile.size b) ≡ true → is_wrong_block o bytes i s b ≡ true
 sized_wrong o bytes i s None h = h
 sized_wrong o bytes i s (Some b) h = elim (cases_Bool (length b == o.profile.size)) [
-  | inl t ↦ subst (λ x. is_wrong_block o bytes i s x ≡ true) (cond_true (length b == o.profile.size) (Some b) None t) h
+  | inl t ↦ subst (λ x. is_wrong_block o bytes i s x ≡ true)
+      (cond_true (length b == o.profile.size) (Some b) None t) h
   | inr f ↦ rw f refl
 ]
 
 -- a provider that tells holds something
-pub telling : (w : State) (i o s : ℕ) (b : Option (List ℕ)) → told_block w i o s ≡ Some b → (held : Held) × ((w.providers i).held ≡ Some held) × (held o s ≡ b)
+pub telling : (w : State) (i o s : ℕ) (b : Option (List ℕ)) → told_block w i o s ≡ Some b →
+    (held : Held) × ((w.providers i).held ≡ Some held) × (held o s ≡ b)
 telling w i o s b h = go (w.providers i).held refl h
   where
-    go : (x : Option Held) → (w.providers i).held ≡ x → option_map (λ held. held o s) x ≡ Some b → (held : Held) × ((w.providers i).held ≡ Some held) × (held o s ≡ b)
+    go : (x : Option Held) → (w.providers i).held ≡ x → option_map (λ held. held o s) x ≡ Some b →
+        (held : Held) × ((w.providers i).held ≡ Some held) × (held o s ≡ b)
     go None is e = absurd (let f : None ≡ Some b = e in cc)
     go (Some held) is e = (held, is, (let f : Some (held o s) ≡ Some b = e in cc))
 
 -- a provider with a bad block of a file is wrong for it
-pub bad_wrong : (w : State) (f : File) (i s : ℕ) → s < stripes (file_object w f) (length (w.bytes f.id)) → IsBad w f.profile f.id i s → is_wrong_now w f i ≡ true
+pub bad_wrong : (w : State) (f : File) (i s : ℕ) → s < stripes (file_object w f) (length (w.bytes f.id)) →
+    IsBad w f.profile f.id i s → is_wrong_now w f i ≡ true
 bad_wrong w f i s below (b, told, wrong) =
     (let t = telling w i f.id s b told in
     ap (is_wrong_told w f i) t.1
-    ∙ wrong-block (file_object w f) (w.bytes f.id) i s (t.0 f.id) below (subst (λ x. is_wrong_block (file_object w f) (w.bytes f.id) i s x ≡ true) (sym t.2) wrong))
+    ∙ wrong-block (file_object w f) (w.bytes f.id) i s (t.0 f.id) below
+    (subst (λ x. is_wrong_block (file_object w f) (w.bytes f.id) i s x ≡ true) (sym t.2) wrong))
 
 -- ---- records
 
@@ -83,31 +98,42 @@ done_put true rest x f h = (let same : x ≡ f = cc in inr same)
 done_put false rest x f h = inl h
 
 -- a record that ends a put, of the first version and of the second
-ends_first : (rs : List Record) (k size : ℕ) (q : List ℕ) (f : File) → file_as q k size (profile_in (setup_of rs)) ≡ f →
+ends_first : (rs : List Record) (k size : ℕ) (q : List ℕ) (f : File) →
+    file_as q k size (profile_in (setup_of rs)) ≡ f →
     IsEndOfPut rs (PutDone k size) f.id f.size f.profile
 ends_first rs k size q f e = subst (λ (x : File). IsEndOfPut rs (PutDone k size) x.id x.size x.profile) e
     (record { version = 1; entry_is = refl; profiled = λ first. refl })
 
 ends_second : (rs : List Record) (k size profile : ℕ) (q : List ℕ) (f : File) → file_as q k size profile ≡ f →
     IsEndOfPut rs (PutDoneIn k size profile) f.id f.size f.profile
-ends_second rs k size profile q f e = subst (λ (x : File). IsEndOfPut rs (PutDoneIn k size profile) x.id x.size x.profile) e
+ends_second rs k size profile q f e =
+    subst (λ (x : File). IsEndOfPut rs (PutDoneIn k size profile) x.id x.size x.profile) e
     (record { version = 2; entry_is = refl; profiled = λ first. absurd (false≢true (sym first)) })
 
 -- it ends the put of its number
-pub ends_ended : (rs : List Record) (r : Record) (id size profile : ℕ) → IsEndOfPut rs r id size profile → put_ended r ≡ Some id
+pub ends_ended : (rs : List Record) (r : Record) (id size profile : ℕ) → IsEndOfPut rs r id size profile →
+    put_ended r ≡ Some id
 ends_ended rs r id size profile e = ap put_ended e.entry_is ∙ done-ended e.version id size profile
 
 -- its profile is told by the record, or by the setup
-pub same_profile : (rs : List Record) (v w a b size length p q : ℕ) → done_record v a size p ≡ done_record w b length q →
-    ((v == 2) ≡ false → p ≡ profile_in (setup_of rs)) → ((w == 2) ≡ false → q ≡ profile_in (setup_of rs)) → p ≡ q
+pub same_profile : (rs : List Record) (v w a b size length p q : ℕ) →
+    done_record v a size p ≡ done_record w b length q →
+    ((v == 2) ≡ false → p ≡ profile_in (setup_of rs)) → ((w == 2) ≡ false → q ≡ profile_in (setup_of rs)) →
+    p ≡ q
 same_profile rs v w a b size length p q e first second = elim (cases_Bool (v == 2)) [
   | inl t ↦ elim (cases_Bool (w == 2)) [
-    | inl u ↦ (let same : PutDoneIn a size p ≡ PutDoneIn b length q = sym (cond_true (v == 2) (PutDoneIn a size p) (PutDone a size) t) ∙ (e ∙ cond_true (w == 2) (PutDoneIn b length q) (PutDone b length) u) in
+    | inl u ↦ (let same : PutDoneIn a size p ≡ PutDoneIn b length q =
+        sym (cond_true (v == 2) (PutDoneIn a size p) (PutDone a size) t)
+        ∙ (e ∙ cond_true (w == 2) (PutDoneIn b length q) (PutDone b length) u) in
         let r : p ≡ q = cc in r)
-    | inr u ↦ absurd (let same : PutDoneIn a size p ≡ PutDone b length = sym (cond_true (v == 2) (PutDoneIn a size p) (PutDone a size) t) ∙ (e ∙ cond_false (w == 2) (PutDoneIn b length q) (PutDone b length) u) in cc)
+    | inr u ↦ absurd (let same : PutDoneIn a size p ≡ PutDone b length =
+        sym (cond_true (v == 2) (PutDoneIn a size p) (PutDone a size) t)
+        ∙ (e ∙ cond_false (w == 2) (PutDoneIn b length q) (PutDone b length) u) in cc)
   ]
   | inr t ↦ elim (cases_Bool (w == 2)) [
-    | inl u ↦ absurd (let same : PutDone a size ≡ PutDoneIn b length q = sym (cond_false (v == 2) (PutDoneIn a size p) (PutDone a size) t) ∙ (e ∙ cond_true (w == 2) (PutDoneIn b length q) (PutDone b length) u) in cc)
+    | inl u ↦ absurd (let same : PutDone a size ≡ PutDoneIn b length q =
+        sym (cond_false (v == 2) (PutDoneIn a size p) (PutDone a size) t)
+        ∙ (e ∙ cond_true (w == 2) (PutDoneIn b length q) (PutDone b length) u) in cc)
     | inr u ↦ first t ∙ sym (second u)
   ]
 ]
@@ -119,9 +145,11 @@ file_done (SetUp s) rs q f good h = inl h
 file_done (PutStart k name) rs q f good h = inl h
 file_done (PutDone k size) rs q f good h =
     elim (done_put (is_start_of q (started_as rs k)) (file_of rs q)
-    (file_as q k size (profile_in (setup_of rs))) f h) [ inl was ↦ inl was | inr e ↦ inr (ends_first rs k size q f e) ]
+    (file_as q k size (profile_in (setup_of rs))) f h)
+    [ inl was ↦ inl was | inr e ↦ inr (ends_first rs k size q f e) ]
 file_done (Drop name) rs q f good h = elim (cases_Bool (is_same_name name q)) [
-  | inl t ↦ absurd (some-not-none (file_of (Drop name ∷ rs) q) f h (cond_true (is_same_name name q) None (file_of rs q) t))
+  | inl t ↦ absurd (some-not-none (file_of (Drop name ∷ rs) q) f h
+      (cond_true (is_same_name name q) None (file_of rs q) t))
   | inr o ↦ inl (sym (cond_false (is_same_name name q) None (file_of rs q) o) ∙ h)
 ]
 file_done (AuditStart number) rs q f good h = inl h
@@ -138,7 +166,8 @@ file_done (InEffect k size profile kept) rs q f good h = absurd good
 file_done (RepairDue number counts) rs q f good h = absurd good
 
 -- a record that is no setup leaves the setup
-pub setup_left : (r : Record) (rs : List Record) → ((s : Setup) → r ≡ SetUp s → ⊥) → setup_of (r ∷ rs) ≡ setup_of rs
+pub setup_left : (r : Record) (rs : List Record) → ((s : Setup) → r ≡ SetUp s → ⊥) →
+    setup_of (r ∷ rs) ≡ setup_of rs
 setup_left (SetUp s) rs other = absurd (other s refl)
 setup_left (PutStart k name) rs other = refl
 setup_left (PutDone k size) rs other = refl
@@ -156,7 +185,8 @@ setup_left (RepairDue number counts) rs other = refl
 pub up_before : (r : Record) (rs : List Record) (q : List ℕ) (f : File) → IsAppended r →
     file_of (r ∷ rs) q ≡ Some f → (file_of rs q ≡ Some f → is_some (setup_of rs) ≡ true) →
     (put_ended r ≡ Some f.id → is_some (setup_of rs) ≡ true) → is_some (setup_of rs) ≡ true
-up_before r rs q f good h old new = elim (file_done r rs q f good h) [ inl was ↦ old was | inr e ↦ new (ends_ended rs r f.id f.size f.profile e) ]
+up_before r rs q f good h old new = elim (file_done r rs q f good h)
+    [ inl was ↦ old was | inr e ↦ new (ends_ended rs r f.id f.size f.profile e) ]
 
 -- a setup that is in effect stays so with one more record
 pub up_more : (r : Record) (rs : List Record) → is_some (setup_of rs) ≡ true → setup_of (r ∷ rs) ≡ None → ⊥
@@ -182,10 +212,13 @@ due_done (PutDone k size) rs u good h = inl h
 due_done (Drop name) rs u good h = inl h
 due_done (AuditStart number) rs u good h = inl h
 due_done (AuditDone number undecided counts) rs u good h = elim (cases_Bool (exceeds (setup_of rs) counts)) [
-  | inl t ↦ (let e : Some (record { number = number; counts = counts }) ≡ Some u = sym (cond_true (exceeds (setup_of rs) counts) (Some (record { number = number; counts = counts })) (due_of rs) t) ∙ h in
+  | inl t ↦ (let e : Some (record { number = number; counts = counts }) ≡ Some u =
+      sym (cond_true (exceeds (setup_of rs) counts) (Some (record { number = number; counts = counts }))
+      (due_of rs) t) ∙ h in
       let same : record { number = number; counts = counts } ≡ u = cc in
       inr (undecided, ap (λ (x : Due). AuditDone x.number undecided x.counts) same))
-  | inr f ↦ inl (sym (cond_false (exceeds (setup_of rs) counts) (Some (record { number = number; counts = counts })) (due_of rs) f) ∙ h)
+  | inr f ↦ inl (sym (cond_false (exceeds (setup_of rs) counts)
+      (Some (record { number = number; counts = counts })) (due_of rs) f) ∙ h)
 ]
 due_done (RepairDone number) rs u good h = absurd (let e : None ≡ Some u = h in cc)
 due_done (PutDoneIn k size profile) rs u good h = inl h
@@ -195,10 +228,19 @@ due_done (InEffect k size profile kept) rs u good h = absurd good
 due_done (RepairDue number counts) rs u good h = absurd good
 
 -- where no count exceeds the tolerance, no provider is flagged
-pub none_flagged : (tolerance : ℕ) (counts : List ℕ) (j : ℕ) → flags_some tolerance counts ≡ false → is_flagged tolerance counts j ≡ false
+pub none_flagged : (tolerance : ℕ) (counts : List ℕ) (j : ℕ) → flags_some tolerance counts ≡ false →
+    is_flagged tolerance counts j ≡ false
 none_flagged tolerance [] j h = le-ltb tolerance 0 (omega arith)
-none_flagged tolerance (c ∷ cs) zero h = elim (cases_Bool (nat_lt tolerance c)) [ inl t ↦ absurd (false≢true (sym h ∙ or_left (nat_lt tolerance c) (flags_some tolerance cs) t)) | inr f ↦ f ]
-none_flagged tolerance (c ∷ cs) (suc j) h = none_flagged tolerance cs j (elim (cases_Bool (flags_some tolerance cs)) [ inl t ↦ absurd (false≢true (sym h ∙ or_right (nat_lt tolerance c) (flags_some tolerance cs) t)) | inr f ↦ f ])
+none_flagged tolerance (c ∷ cs) zero h = elim (cases_Bool (nat_lt tolerance c)) [
+  | inl t ↦ absurd (false≢true (sym h ∙ or_left (nat_lt tolerance c) (flags_some tolerance cs) t))
+  | inr f ↦
+      f
+]
+none_flagged tolerance (c ∷ cs) (suc j) h = none_flagged tolerance cs j
+    (elim (cases_Bool (flags_some tolerance cs)) [
+      | inl t ↦ absurd (false≢true (sym h ∙ or_right (nat_lt tolerance c) (flags_some tolerance cs) t))
+      | inr f ↦ f
+    ])
 
 -- before the first event no file is in effect and nothing is due
 pub no_first_file : (rs : List Record) (q : List ℕ) (f : File) → AreFirst rs → file_of rs q ≡ Some f → ⊥

@@ -14,7 +14,8 @@ use Rattle.second_half_laws.proofs.ByteSteps.{state_16, state_17, state_18, stat
 
 -- the moments, the newest first
 abbrev steps : List Moment
-steps = stepped 2 state_21 ∷ stepped 2 state_20 ∷ stepped 2 state_19 ∷ stepped 2 state_18 ∷ stepped 2 state_17 ∷ []
+steps = stepped 2 state_21 ∷ stepped 2 state_20 ∷ stepped 2 state_19 ∷ stepped 2 state_18 ∷ stepped 2
+    state_17 ∷ []
 
 abbrev begun : List Moment
 begun = record { event = Begin (GetJob (97 ∷ [])); outcome = Begun 2; state = state_16 } ∷ stored
@@ -24,19 +25,43 @@ moments = record { event = Step 2; outcome = Ended (Got (111 ∷ [])); state = s
 
 -- the put of a byte and the get that gives it back are a run
 pub is_run : IsRun 1 set_up moments
-is_run = (fits_two, happens_21, (fits_two, happens_20, (fits_two, happens_19, (fits_two, happens_18, (fits_two, happens_17, (fits_two, happens_16, (refl, happens_15, is_stored)))))))
+is_run = (
+  fits_two,
+  happens_21,
+  (
+    fits_two,
+    happens_20,
+    (
+      fits_two,
+      happens_19,
+      (
+        fits_two,
+        happens_18,
+        (fits_two, happens_17, (fits_two, happens_16, (refl, happens_15, is_stored))),
+      ),
+    ),
+  ),
+)
 
 -- a schedule of the two is carried out by these moments and has this transcript
-pub transcript : CarriesOut (RunJob 2 ∷ Once (Begin (GetJob (97 ∷ []))) ∷ RunJob 1 ∷ Once (Begin (PutJob (97 ∷ []) (111 ∷ []))) ∷ Once Reopen ∷ []) moments
-    (((((codes "opened" ++ 10 ∷ []) ++ (codes "job 1" ++ 10 ∷ [])) ++ (codes "put" ++ 10 ∷ [])) ++ (codes "job 2" ++ 10 ∷ [])) ++ (codes "got 6f" ++ 10 ∷ []))
+pub transcript : CarriesOut
+    (RunJob 2 ∷ Once (Begin (GetJob (97 ∷ []))) ∷ RunJob 1 ∷ Once
+    (Begin (PutJob (97 ∷ []) (111 ∷ []))) ∷ Once Reopen ∷ []) moments
+    (((((codes "opened" ++ 10 ∷ []) ++ (codes "job 1" ++ 10 ∷ [])) ++ (codes "put" ++ 10 ∷ [])) ++ (codes
+    "job 2" ++ 10 ∷ [])) ++ (codes "got 6f" ++ 10 ∷ []))
 unfolding digits
 transcript = (
   record { event = Step 2; outcome = Ended (Got (111 ∷ [])); state = state_22 },
   steps,
   begun,
-  (((codes "opened" ++ 10 ∷ []) ++ (codes "job 1" ++ 10 ∷ [])) ++ (codes "put" ++ 10 ∷ [])) ++ (codes "job 2" ++ 10 ∷ []),
+  (((codes "opened" ++ 10 ∷ []) ++ (codes "job 1" ++ 10 ∷ [])) ++ (codes "put" ++ 10 ∷ [])) ++ (codes
+      "job 2" ++ 10 ∷ []),
   refl,
-  record { step = refl; over = not_more (Got (111 ∷ [])); before = (refl, refl, (refl, refl, (refl, refl, (refl, refl, (refl, refl, tt))))) },
+  record {
+    step = refl;
+    over = not_more (Got (111 ∷ []));
+    before = (refl, refl, (refl, refl, (refl, refl, (refl, refl, (refl, refl, tt)))));
+  },
   (
     record { event = Begin (GetJob (97 ∷ [])); outcome = Begun 2; state = state_16 },
     stored,

@@ -31,12 +31,15 @@ block j = columns (object_of four 1) (111 ∷ []) j 0
 
 -- it has the size
 pub block_sized : (j : ℕ) → Some (block j) ≡ sized 6 (Some (block j))
-block_sized j = sym (cond_true (length (block j) == 6) (Some (block j)) None (eq-eqb (length (block j)) 6 (length-column_of_symbols (object_of four 1) (symbols_in (object_of four 1) (111 ∷ []) 0) j 0)))
+block_sized j = sym (cond_true (length (block j) == 6) (Some (block j)) None
+    (eq-eqb (length (block j)) 6
+    (length-column_of_symbols (object_of four 1) (symbols_in (object_of four 1) (111 ∷ []) 0) j 0)))
 
 -- a block has been fetched
 abbrev with_fetch : State → Job → ℕ → State
 with_fetch w job j = record (going_on w (advanced_with job (Fetched j 1 0 (Some (block j))))) {
-  providers = with_provider w.providers j (record (w.providers j) { fetches = one_more (w.providers j).fetches });
+  providers = with_provider w.providers j
+      (record (w.providers j) { fetches = one_more (w.providers j).fetches });
 }
 
 abbrev pub state_16 : State
@@ -57,7 +60,11 @@ happens_16 = (
   Some (block 0),
   (
     record (state_16.providers 0) { fetches = one_more (state_16.providers 0).fetches },
-    record { held = refl; counts = record { store_faults = refl; other_faults = omega arith; fetches = refl }; gives = inl (block_sized 0) },
+    record {
+      held = refl;
+      counts = record { store_faults = refl; other_faults = omega arith; fetches = refl };
+      gives = inl (block_sized 0);
+    },
     refl,
   ),
 )
@@ -72,7 +79,11 @@ happens_17 = (
   Some (block 1),
   (
     record (state_17.providers 1) { fetches = one_more (state_17.providers 1).fetches },
-    record { held = refl; counts = record { store_faults = refl; other_faults = omega arith; fetches = refl }; gives = inl (block_sized 1) },
+    record {
+      held = refl;
+      counts = record { store_faults = refl; other_faults = omega arith; fetches = refl };
+      gives = inl (block_sized 1);
+    },
     refl,
   ),
 )
@@ -87,7 +98,11 @@ happens_18 = (
   Some (block 2),
   (
     record (state_18.providers 2) { fetches = one_more (state_18.providers 2).fetches },
-    record { held = refl; counts = record { store_faults = refl; other_faults = omega arith; fetches = refl }; gives = inl (block_sized 2) },
+    record {
+      held = refl;
+      counts = record { store_faults = refl; other_faults = omega arith; fetches = refl };
+      gives = inl (block_sized 2);
+    },
     refl,
   ),
 )
@@ -102,7 +117,11 @@ happens_19 = (
   Some (block 3),
   (
     record (state_19.providers 3) { fetches = one_more (state_19.providers 3).fetches },
-    record { held = refl; counts = record { store_faults = refl; other_faults = omega arith; fetches = refl }; gives = inl (block_sized 3) },
+    record {
+      held = refl;
+      counts = record { store_faults = refl; other_faults = omega arith; fetches = refl };
+      gives = inl (block_sized 3);
+    },
     refl,
   ),
 )
@@ -113,7 +132,8 @@ symbols = symbols_in (object_of four 1) (111 ∷ []) 0
 
 -- the own blocks give them
 pub own_work : GivesSymbols (object_of four 1) 0 (own_blocks (object_of four 1) (111 ∷ []) 0) symbols
-own_work = own_give (object_of four 1) (111 ∷ []) 0 0 refl (omega arith, omega arith, omega arith, omega arith, omega arith)
+own_work = own_give (object_of four 1) (111 ∷ []) 0 0 refl
+    (omega arith, omega arith, omega arith, omega arith, omega arith)
 
 abbrev pub state_21 : State
 state_21 = going_on state_20 (advanced_with (job_at state_20 2) (Worked 1 0 symbols))
@@ -127,7 +147,9 @@ abbrev pub state_22 : State
 state_22 = ended state_21 (job_at state_21 2)
 
 -- the bytes of the symbols, cut to the length, are the byte
-pub byte_back : 111 ∷ [] ≡ take 1 (flat_map (λ stripe. bytes_of_symbols (symbols_in (object_of four 1) (111 ∷ []) stripe)) (upto 1))
+pub byte_back : 111 ∷ []
+    ≡ take 1 (flat_map (λ stripe. bytes_of_symbols (symbols_in (object_of four 1) (111 ∷ []) stripe))
+    (upto 1))
 byte_back = sym (bytes_back (object_of four 1) (111 ∷ []) (omega arith) (omega arith) refl)
 
 -- the get ends with the byte

@@ -24,7 +24,9 @@ use Rattle.record_defs.specs.Records.{is_setup}
 use Rattle.second_half_laws.proofs.Onward.{run_onward}
 
 -- a step by a job that makes an action is that action
-made_acts : (limit moment : ℕ) (old : State) (m : Moment) (job : Job) (action : Action) → Makes old m job action → Happens limit moment old m.event m.outcome m.state → Acts old job action m.outcome m.state
+made_acts : (limit moment : ℕ) (old : State) (m : Moment) (job : Job) (action : Action) →
+    Makes old m job action → Happens limit moment old m.event m.outcome m.state →
+    Acts old job action m.outcome m.state
 made_acts limit moment old m job action makes h = waits (holder_of old.append action) makes.unheld
     (subst (λ (a : Option Action). StepsOn old job a m.outcome m.state) makes.next
     (subst (λ (o : Option Job). StepsJob old o m.outcome m.state) makes.runs
@@ -33,7 +35,8 @@ made_acts limit moment old m job action makes h = waits (holder_of old.append ac
     (subst (λ b. Steps old job.number b m.outcome m.state) makes.is_open
     (subst (λ (e : Event). Happens limit moment old e m.outcome m.state) makes.event h))))))
   where
-    waits : (holder : Option ℕ) → holder ≡ None → ActsOrWaits old job action holder m.outcome m.state → Acts old job action m.outcome m.state
+    waits : (holder : Option ℕ) → holder ≡ None → ActsOrWaits old job action holder m.outcome m.state →
+        Acts old job action m.outcome m.state
     waits None is g = g
     waits (Some n) is g = (let e : Some n ≡ None = is in cc)
 
@@ -60,61 +63,85 @@ module _ (old : State) where
   ends_store job UpgradeJob k h = h
 
   module _ (job : Job) where
-    disk_moves : (action : Action) (flight : Option Append) (new : State) → Moves old job action flight (Ended answer.DiskFault) new → Rose old.disk_faults new.disk_faults
-    disk_moves WriteBody flight new (faults, low, rose, is) = subst (Rose old.disk_faults) (sym (ap (λ (w : State). w.disk_faults) is)) rose
-    disk_moves SyncBody (Some a) new (at, (faults, low, rose, is)) = subst (Rose old.disk_faults) (sym (ap (λ (w : State). w.disk_faults) is)) rose
-    disk_moves WriteGate (Some a) new (at, (faults, low, rose, is)) = subst (Rose old.disk_faults) (sym (ap (λ (w : State). w.disk_faults) is)) rose
-    disk_moves SyncGate (Some a) new (at, (faults, low, rose, is)) = subst (Rose old.disk_faults) (sym (ap (λ (w : State). w.disk_faults) is)) rose
+    disk_moves : (action : Action) (flight : Option Append) (new : State) →
+        Moves old job action flight (Ended answer.DiskFault) new → Rose old.disk_faults new.disk_faults
+    disk_moves WriteBody flight new (faults, low, rose, is) =
+        subst (Rose old.disk_faults) (sym (ap (λ (w : State). w.disk_faults) is)) rose
+    disk_moves SyncBody (Some a) new (at, (faults, low, rose, is)) =
+        subst (Rose old.disk_faults) (sym (ap (λ (w : State). w.disk_faults) is)) rose
+    disk_moves WriteGate (Some a) new (at, (faults, low, rose, is)) =
+        subst (Rose old.disk_faults) (sym (ap (λ (w : State). w.disk_faults) is)) rose
+    disk_moves SyncGate (Some a) new (at, (faults, low, rose, is)) =
+        subst (Rose old.disk_faults) (sym (ap (λ (w : State). w.disk_faults) is)) rose
     disk_moves action flight new h = absurd h
 
-    disk_acts : (action : Action) (new : State) → Acts old job action (Ended answer.DiskFault) new → Rose old.disk_faults new.disk_faults
+    disk_acts : (action : Action) (new : State) → Acts old job action (Ended answer.DiskFault) new →
+        Rose old.disk_faults new.disk_faults
     disk_acts End new (ends, is) = absurd (ends_fault job job.kind ends)
     disk_acts action new h = disk_moves action old.append new h
 
     -- a store fails only with its cause
-    store_moves : (action : Action) (flight : Option Append) (k : ℕ) (new : State) → Moves old job action flight (Ended (answer.ProviderFault k)) new → ⊥
+    store_moves : (action : Action) (flight : Option Append) (k : ℕ) (new : State) →
+        Moves old job action flight (Ended (answer.ProviderFault k)) new → ⊥
     store_moves WriteBody flight k new h = h
     store_moves SyncBody (Some a) k new h = h
     store_moves WriteGate (Some a) k new h = h
     store_moves SyncGate (Some a) k new h = h
     store_moves action flight k new h = absurd h
 
-    store_acts : (action : Action) (k : ℕ) (new : State) → Acts old job action (Ended (answer.ProviderFault k)) new → Rose (old.providers k).store_faults (new.providers k).store_faults
-    store_acts (Store j o s) k new (k_is, (p, call, is)) = subst (λ n. Rose (old.providers n).store_faults (new.providers n).store_faults) (sym k_is)
+    store_acts : (action : Action) (k : ℕ) (new : State) →
+        Acts old job action (Ended (answer.ProviderFault k)) new →
+        Rose (old.providers k).store_faults (new.providers k).store_faults
+    store_acts (Store j o s) k new (k_is, (p, call, is)) =
+        subst (λ n. Rose (old.providers n).store_faults (new.providers n).store_faults) (sym k_is)
         (subst (λ (w : State). Rose (old.providers j).store_faults (w.providers j).store_faults) (sym is)
-        (subst (λ (x : Provider). Rose (old.providers j).store_faults x.store_faults) (sym (at_one j p)) call.cause))
+        (subst (λ (x : Provider). Rose (old.providers j).store_faults x.store_faults)
+        (sym (at_one j p)) call.cause))
     store_acts End k new (ends, is) = absurd (ends_store job job.kind k ends)
     store_acts action k new h = absurd (store_moves action old.append k new h)
 
-    disk_or_waits : (action : Action) (holder : Option ℕ) (new : State) → ActsOrWaits old job action holder (Ended answer.DiskFault) new → Rose old.disk_faults new.disk_faults
+    disk_or_waits : (action : Action) (holder : Option ℕ) (new : State) →
+        ActsOrWaits old job action holder (Ended answer.DiskFault) new → Rose old.disk_faults new.disk_faults
     disk_or_waits action None new h = disk_acts action new h
     disk_or_waits action (Some n) new h = absurd h
 
-    disk_on : (action : Option Action) (new : State) → StepsOn old job action (Ended answer.DiskFault) new → Rose old.disk_faults new.disk_faults
+    disk_on : (action : Option Action) (new : State) → StepsOn old job action (Ended answer.DiskFault) new →
+        Rose old.disk_faults new.disk_faults
     disk_on None new h = absurd h
     disk_on (Some action) new h = disk_or_waits action (holder_of old.append action) new h
 
-    store_or_waits : (action : Action) (holder : Option ℕ) (k : ℕ) (new : State) → ActsOrWaits old job action holder (Ended (answer.ProviderFault k)) new → Rose (old.providers k).store_faults (new.providers k).store_faults
+    store_or_waits : (action : Action) (holder : Option ℕ) (k : ℕ) (new : State) →
+        ActsOrWaits old job action holder (Ended (answer.ProviderFault k)) new →
+        Rose (old.providers k).store_faults (new.providers k).store_faults
     store_or_waits action None k new h = store_acts action k new h
     store_or_waits action (Some n) k new h = absurd h
 
-    store_on : (action : Option Action) (k : ℕ) (new : State) → StepsOn old job action (Ended (answer.ProviderFault k)) new → Rose (old.providers k).store_faults (new.providers k).store_faults
+    store_on : (action : Option Action) (k : ℕ) (new : State) →
+        StepsOn old job action (Ended (answer.ProviderFault k)) new →
+        Rose (old.providers k).store_faults (new.providers k).store_faults
     store_on None k new h = absurd h
     store_on (Some action) k new h = store_or_waits action (holder_of old.append action) k new h
 
-  disk_job : (job : Option Job) (new : State) → StepsJob old job (Ended answer.DiskFault) new → Rose old.disk_faults new.disk_faults
+  disk_job : (job : Option Job) (new : State) → StepsJob old job (Ended answer.DiskFault) new →
+      Rose old.disk_faults new.disk_faults
   disk_job None new h = absurd h
   disk_job (Some job) new h = disk_on job (next_action old job) new h
 
-  disk_packs : (pack : Pack) (moves : ℕ) (new : State) → Packs old pack moves (Ended answer.DiskFault) new → Rose old.disk_faults new.disk_faults
-  disk_packs pack zero new (faults, low, rose, is) = subst (Rose old.disk_faults) (sym (ap (λ (w : State). w.disk_faults) is)) rose
-  disk_packs pack (suc zero) new (faults, low, rose, is) = subst (Rose old.disk_faults) (sym (ap (λ (w : State). w.disk_faults) is)) rose
-  disk_packs pack (suc (suc zero)) new (faults, low, rose, is) = subst (Rose old.disk_faults) (sym (ap (λ (w : State). w.disk_faults) is)) rose
-  disk_packs pack (suc (suc (suc zero))) new (faults, low, rose, is) = subst (Rose old.disk_faults) (sym (ap (λ (w : State). w.disk_faults) is)) rose
+  disk_packs : (pack : Pack) (moves : ℕ) (new : State) → Packs old pack moves (Ended answer.DiskFault) new →
+      Rose old.disk_faults new.disk_faults
+  disk_packs pack zero new (faults, low, rose, is) =
+      subst (Rose old.disk_faults) (sym (ap (λ (w : State). w.disk_faults) is)) rose
+  disk_packs pack (suc zero) new (faults, low, rose, is) =
+      subst (Rose old.disk_faults) (sym (ap (λ (w : State). w.disk_faults) is)) rose
+  disk_packs pack (suc (suc zero)) new (faults, low, rose, is) =
+      subst (Rose old.disk_faults) (sym (ap (λ (w : State). w.disk_faults) is)) rose
+  disk_packs pack (suc (suc (suc zero))) new (faults, low, rose, is) =
+      subst (Rose old.disk_faults) (sym (ap (λ (w : State). w.disk_faults) is)) rose
   disk_packs pack (suc (suc (suc (suc zero)))) new h = absurd h
   disk_packs pack (suc (suc (suc (suc (suc moves))))) new h = absurd h
 
-  disk_scrubs : (scrub : Scrub) (todo : List Action) (new : State) → StepsScrub old scrub todo (Ended answer.DiskFault) new → ⊥
+  disk_scrubs : (scrub : Scrub) (todo : List Action) (new : State) →
+      StepsScrub old scrub todo (Ended answer.DiskFault) new → ⊥
   disk_scrubs scrub [] new h = h
   disk_scrubs scrub (Fetch j o s ∷ rest) new h = h
   disk_scrubs scrub (Work o s ∷ rest) new h = h
@@ -127,41 +154,55 @@ module _ (old : State) where
   disk_scrubs scrub (Ask j o round ∷ rest) new h = h
   disk_scrubs scrub (Remove j o ∷ rest) new h = h
 
-  disk_alone : (x : Alone) (new : State) → StepsAlone old x (Ended answer.DiskFault) new → Rose old.disk_faults new.disk_faults
+  disk_alone : (x : Alone) (new : State) → StepsAlone old x (Ended answer.DiskFault) new →
+      Rose old.disk_faults new.disk_faults
   disk_alone (Scrubbing scrub) new h = absurd (disk_scrubs scrub scrub.todo new h)
   disk_alone (Packing pack) new h = disk_packs pack pack.moves new h
 
-  disk_mine : (number : ℕ) (x : Alone) (mine : Bool) (new : State) → StepsMine old number x mine (Ended answer.DiskFault) new → Rose old.disk_faults new.disk_faults
+  disk_mine : (number : ℕ) (x : Alone) (mine : Bool) (new : State) →
+      StepsMine old number x mine (Ended answer.DiskFault) new → Rose old.disk_faults new.disk_faults
   disk_mine number x true new h = disk_alone x new h
   disk_mine number x false new h = disk_job (job_of old.jobs number) new h
 
-  disk_one : (number : ℕ) (alone : Option Alone) (new : State) → StepsOne old number alone (Ended answer.DiskFault) new → Rose old.disk_faults new.disk_faults
+  disk_one : (number : ℕ) (alone : Option Alone) (new : State) →
+      StepsOne old number alone (Ended answer.DiskFault) new → Rose old.disk_faults new.disk_faults
   disk_one number None new h = disk_job (job_of old.jobs number) new h
   disk_one number (Some x) new h = disk_mine number x (number_alone x == number) new h
 
-  disk_open : (number : ℕ) (is_barred : _) (new : State) → StepsOpen old number is_barred (Ended answer.DiskFault) new → Rose old.disk_faults new.disk_faults
+  disk_open : (number : ℕ) (is_barred : _) (new : State) →
+      StepsOpen old number is_barred (Ended answer.DiskFault) new → Rose old.disk_faults new.disk_faults
   disk_open number true new h = absurd h
   disk_open number false new h = disk_one number old.alone new h
 
-  disk_steps : (number : ℕ) (is_open : _) (new : State) → Steps old number is_open (Ended answer.DiskFault) new → Rose old.disk_faults new.disk_faults
+  disk_steps : (number : ℕ) (is_open : _) (new : State) →
+      Steps old number is_open (Ended answer.DiskFault) new → Rose old.disk_faults new.disk_faults
   disk_steps number false new h = absurd h
   disk_steps number true new h = disk_open number old.is_barred new h
 
-  store_job : (job : Option Job) (k : ℕ) (new : State) → StepsJob old job (Ended (answer.ProviderFault k)) new → Rose (old.providers k).store_faults (new.providers k).store_faults
+  store_job : (job : Option Job) (k : ℕ) (new : State) →
+      StepsJob old job (Ended (answer.ProviderFault k)) new →
+      Rose (old.providers k).store_faults (new.providers k).store_faults
   store_job None k new h = absurd h
   store_job (Some job) k new h = store_on job (next_action old job) k new h
 
-  store_scrubs : (scrub : Scrub) (action : Action) (rest : List Action) (k : ℕ) (new : State) → Scrubs old scrub action rest (Ended (answer.ProviderFault k)) new → Rose (old.providers k).store_faults (new.providers k).store_faults
-  store_scrubs scrub (Store j o s) rest k new (k_is, (p, call, is)) = subst (λ n. Rose (old.providers n).store_faults (new.providers n).store_faults) (sym k_is)
+  store_scrubs : (scrub : Scrub) (action : Action) (rest : List Action) (k : ℕ) (new : State) →
+      Scrubs old scrub action rest (Ended (answer.ProviderFault k)) new →
+      Rose (old.providers k).store_faults (new.providers k).store_faults
+  store_scrubs scrub (Store j o s) rest k new (k_is, (p, call, is)) =
+      subst (λ n. Rose (old.providers n).store_faults (new.providers n).store_faults) (sym k_is)
       (subst (λ (w : State). Rose (old.providers j).store_faults (w.providers j).store_faults) (sym is)
-      (subst (λ (x : Provider). Rose (old.providers j).store_faults x.store_faults) (sym (at_one j p)) call.cause))
+      (subst (λ (x : Provider). Rose (old.providers j).store_faults x.store_faults)
+      (sym (at_one j p)) call.cause))
   store_scrubs scrub action rest k new h = absurd h
 
-  store_todo : (scrub : Scrub) (todo : List Action) (k : ℕ) (new : State) → StepsScrub old scrub todo (Ended (answer.ProviderFault k)) new → Rose (old.providers k).store_faults (new.providers k).store_faults
+  store_todo : (scrub : Scrub) (todo : List Action) (k : ℕ) (new : State) →
+      StepsScrub old scrub todo (Ended (answer.ProviderFault k)) new →
+      Rose (old.providers k).store_faults (new.providers k).store_faults
   store_todo scrub [] k new h = absurd h
   store_todo scrub (action ∷ rest) k new h = store_scrubs scrub action rest k new h
 
-  store_packs : (pack : Pack) (moves k : ℕ) (new : State) → Packs old pack moves (Ended (answer.ProviderFault k)) new → ⊥
+  store_packs : (pack : Pack) (moves k : ℕ) (new : State) →
+      Packs old pack moves (Ended (answer.ProviderFault k)) new → ⊥
   store_packs pack zero k new h = h
   store_packs pack (suc zero) k new h = h
   store_packs pack (suc (suc zero)) k new h = h
@@ -169,46 +210,65 @@ module _ (old : State) where
   store_packs pack (suc (suc (suc (suc zero)))) k new h = h
   store_packs pack (suc (suc (suc (suc (suc moves))))) k new h = h
 
-  store_alone : (x : Alone) (k : ℕ) (new : State) → StepsAlone old x (Ended (answer.ProviderFault k)) new → Rose (old.providers k).store_faults (new.providers k).store_faults
+  store_alone : (x : Alone) (k : ℕ) (new : State) → StepsAlone old x (Ended (answer.ProviderFault k)) new →
+      Rose (old.providers k).store_faults (new.providers k).store_faults
   store_alone (Scrubbing scrub) k new h = store_todo scrub scrub.todo k new h
   store_alone (Packing pack) k new h = absurd (store_packs pack pack.moves k new h)
 
-  store_mine : (number : ℕ) (x : Alone) (mine : Bool) (k : ℕ) (new : State) → StepsMine old number x mine (Ended (answer.ProviderFault k)) new → Rose (old.providers k).store_faults (new.providers k).store_faults
+  store_mine : (number : ℕ) (x : Alone) (mine : Bool) (k : ℕ) (new : State) →
+      StepsMine old number x mine (Ended (answer.ProviderFault k)) new →
+      Rose (old.providers k).store_faults (new.providers k).store_faults
   store_mine number x true k new h = store_alone x k new h
   store_mine number x false k new h = store_job (job_of old.jobs number) k new h
 
-  store_one : (number : ℕ) (alone : Option Alone) (k : ℕ) (new : State) → StepsOne old number alone (Ended (answer.ProviderFault k)) new → Rose (old.providers k).store_faults (new.providers k).store_faults
+  store_one : (number : ℕ) (alone : Option Alone) (k : ℕ) (new : State) →
+      StepsOne old number alone (Ended (answer.ProviderFault k)) new →
+      Rose (old.providers k).store_faults (new.providers k).store_faults
   store_one number None k new h = store_job (job_of old.jobs number) k new h
   store_one number (Some x) k new h = store_mine number x (number_alone x == number) k new h
 
-  store_open : (number : ℕ) (is_barred : _) (k : ℕ) (new : State) → StepsOpen old number is_barred (Ended (answer.ProviderFault k)) new → Rose (old.providers k).store_faults (new.providers k).store_faults
+  store_open : (number : ℕ) (is_barred : _) (k : ℕ) (new : State) →
+      StepsOpen old number is_barred (Ended (answer.ProviderFault k)) new →
+      Rose (old.providers k).store_faults (new.providers k).store_faults
   store_open number true k new h = absurd h
   store_open number false k new h = store_one number old.alone k new h
 
-  store_steps : (number : ℕ) (is_open : _) (k : ℕ) (new : State) → Steps old number is_open (Ended (answer.ProviderFault k)) new → Rose (old.providers k).store_faults (new.providers k).store_faults
+  store_steps : (number : ℕ) (is_open : _) (k : ℕ) (new : State) →
+      Steps old number is_open (Ended (answer.ProviderFault k)) new →
+      Rose (old.providers k).store_faults (new.providers k).store_faults
   store_steps number false k new h = absurd h
   store_steps number true k new h = store_open number old.is_barred k new h
 
-  disk_inits : (s : _) (is_open good : _) (new : State) → is_setup s ≡ good → Inits old s is_open (Refused refusal.DiskFault) new → Rose old.disk_faults new.disk_faults
+  disk_inits : (s : _) (is_open good : _) (new : State) → is_setup s ≡ good →
+      Inits old s is_open (Refused refusal.DiskFault) new → Rose old.disk_faults new.disk_faults
   disk_inits s true good new is h = absurd h
-  disk_inits s false good new is h = by good (subst (λ b. InitsBy old s b (Refused refusal.DiskFault) new) is h)
+  disk_inits s false good new is h =
+      by good (subst (λ b. InitsBy old s b (Refused refusal.DiskFault) new) is h)
     where
       by : (b : _) → InitsBy old s b (Refused refusal.DiskFault) new → Rose old.disk_faults new.disk_faults
       by false g = absurd g
-      by true (doubt, leaves_it, (faults, low, rose, is)) = subst (Rose old.disk_faults) (sym (ap (λ (w : State). w.disk_faults) is)) rose
+      by true (doubt, leaves_it, (faults, low, rose, is)) =
+          subst (Rose old.disk_faults) (sym (ap (λ (w : State). w.disk_faults) is)) rose
 
-  disk_reopens : (new : State) → Reopens old (Refused refusal.DiskFault) new → Rose old.disk_faults new.disk_faults
-  disk_reopens new (faults, low, rose, is) = subst (Rose old.disk_faults) (sym (ap (λ (w : State). w.disk_faults) is)) rose
+  disk_reopens : (new : State) → Reopens old (Refused refusal.DiskFault) new →
+      Rose old.disk_faults new.disk_faults
+  disk_reopens new (faults, low, rose, is) =
+      subst (Rose old.disk_faults) (sym (ap (λ (w : State). w.disk_faults) is)) rose
 
-  disk_rose : (limit moment : ℕ) (e : Event) (r : Outcome) (new : State) → IsDiskFault e r → Happens limit moment old e r new → Rose old.disk_faults new.disk_faults
-  disk_rose limit moment (Step number) (Ended answer.DiskFault) new fault h = disk_steps number old.is_open new h
+  disk_rose : (limit moment : ℕ) (e : Event) (r : Outcome) (new : State) → IsDiskFault e r →
+      Happens limit moment old e r new → Rose old.disk_faults new.disk_faults
+  disk_rose limit moment (Step number) (Ended answer.DiskFault) new fault h =
+      disk_steps number old.is_open new h
   disk_rose limit moment Reopen (Refused refusal.DiskFault) new fault h = disk_reopens new h
-  disk_rose limit moment (Init s) (Refused refusal.DiskFault) new fault h = disk_inits s old.is_open (is_setup s) new refl h
+  disk_rose limit moment (Init s) (Refused refusal.DiskFault) new fault h =
+      disk_inits s old.is_open (is_setup s) new refl h
   disk_rose limit moment e r new fault h = absurd fault
 
-  store_rose : (limit moment j : ℕ) (e : Event) (r : Outcome) (new : State) → IsStoreFault j e r → Happens limit moment old e r new → Rose (old.providers j).store_faults (new.providers j).store_faults
+  store_rose : (limit moment j : ℕ) (e : Event) (r : Outcome) (new : State) → IsStoreFault j e r →
+      Happens limit moment old e r new → Rose (old.providers j).store_faults (new.providers j).store_faults
   store_rose limit moment j (Step number) (Ended (answer.ProviderFault k)) new fault h =
-      subst (λ n. Rose (old.providers n).store_faults (new.providers n).store_faults) fault (store_steps number old.is_open k new h)
+      subst (λ n. Rose (old.providers n).store_faults (new.providers n).store_faults) fault
+      (store_steps number old.is_open k new h)
   store_rose limit moment j e r new fault h = absurd fault
 
   -- a call that gave or left something else failed
@@ -216,29 +276,42 @@ module _ (old : State) where
     abbrev Goal : Type 0
     Goal = Rose (old.providers j).other_faults (m.state.providers j).other_faults
 
-    with_call : (p : Provider) (left : State) → m.state ≡ record left { providers = with_provider old.providers j p } → Rose (old.providers j).other_faults p.other_faults → Goal
-    with_call p left is rose = subst (λ (w : State). Rose (old.providers j).other_faults (w.providers j).other_faults) (sym is)
+    with_call : (p : Provider) (left : State) → m.state
+        ≡ record left { providers = with_provider old.providers j p } →
+        Rose (old.providers j).other_faults p.other_faults → Goal
+    with_call p left is rose =
+        subst (λ (w : State). Rose (old.providers j).other_faults (w.providers j).other_faults) (sym is)
         (subst (λ (x : Provider). Rose (old.providers j).other_faults x.other_faults) (sym (at_one j p)) rose)
 
     fetch_rose : (o s : ℕ) → FetchStep old job j o s m.state → GaveAmiss old m job j (Fetch j o s) → Goal
     fetch_rose o s (block, (p, call, is)) amiss = elim call.gives [
-      | inl g ↦ absurd (amiss.1 block (ap (λ (w : State). job_of w.jobs job.number) is ∙ found_itself old.jobs (advanced_with job (Fetched j o s block)) job runs) g)
+      | inl g ↦ absurd (amiss.1 block (ap (λ (w : State). job_of w.jobs job.number) is
+          ∙ found_itself old.jobs (advanced_with job (Fetched j o s block)) job runs) g)
       | inr f ↦ with_call p (going_on old (advanced_with job (Fetched j o s block))) is f.1
     ]
 
-    ask_rose : (o round : ℕ) → AskStep old job j o round m.state → GaveAmiss old m job j (Ask j o round) → Goal
+    ask_rose : (o round : ℕ) → AskStep old job j o round m.state → GaveAmiss old m job j (Ask j o round) →
+        Goal
     ask_rose o round (symbol, (p, call, is)) amiss = elim call.gives [
-      | inl g ↦ absurd (amiss.1 symbol (ap (λ (w : State). job_of w.jobs job.number) is ∙ found_itself old.jobs (advanced_with job (Answered j o round symbol)) job runs) g)
+      | inl g ↦ absurd (amiss.1 symbol (ap (λ (w : State). job_of w.jobs job.number) is
+          ∙ found_itself old.jobs (advanced_with job (Answered j o round symbol)) job runs) g)
       | inr f ↦ with_call p (going_on old (advanced_with job (Answered j o round symbol))) is f.1
     ]
 
-    remove_rose : (o : ℕ) (p : Provider) → m.state ≡ record (going_on old (advanced job)) { providers = with_provider old.providers j p } → Removes o (old.providers j) p → GaveAmiss old m job j (Remove j o) → Goal
-    remove_rose o p is (inl all) amiss = absurd (amiss.1 (ap (λ (w : State). (w.providers j).held) is ∙ (ap (λ (x : Provider). x.held) (at_one j p) ∙ all.held)))
+    remove_rose : (o : ℕ) (p : Provider) →
+        m.state ≡ record (going_on old (advanced job)) { providers = with_provider old.providers j p } →
+        Removes o (old.providers j) p → GaveAmiss old m job j (Remove j o) → Goal
+    remove_rose o p is (inl all) amiss =
+        absurd (amiss.1 (ap (λ (w : State). (w.providers j).held) is
+        ∙ (ap (λ (x : Provider). x.held) (at_one j p) ∙ all.held)))
     remove_rose o p is (inr failed) amiss = with_call p (going_on old (advanced job)) is failed.cause
 
   module _ (j : ℕ) (m : Moment) (job : Job) (runs : job_of old.jobs job.number ≡ Some job) where
-    fetched : (k o s : ℕ) (r : Outcome) → k ≡ j → Acts old job (Fetch k o s) r m.state → GaveAmiss old m job j (Fetch j o s) → Rose (old.providers j).other_faults (m.state.providers j).other_faults
-    fetched k o s More is h amiss = fetch_rose j m job runs o s (subst (λ n. FetchStep old job n o s m.state) is h) amiss
+    fetched : (k o s : ℕ) (r : Outcome) → k ≡ j → Acts old job (Fetch k o s) r m.state →
+        GaveAmiss old m job j (Fetch j o s) →
+        Rose (old.providers j).other_faults (m.state.providers j).other_faults
+    fetched k o s More is h amiss =
+        fetch_rose j m job runs o s (subst (λ n. FetchStep old job n o s m.state) is h) amiss
     fetched k o s Ready is h amiss = absurd h
     fetched k o s (Refused why) is h amiss = absurd h
     fetched k o s Opened is h amiss = absurd h
@@ -255,8 +328,11 @@ module _ (old : State) where
     fetched k o s Closed is h amiss = absurd h
     fetched k o s Continued is h amiss = absurd h
 
-    asked : (k o s : ℕ) (r : Outcome) → k ≡ j → Acts old job (Ask k o s) r m.state → GaveAmiss old m job j (Ask j o s) → Rose (old.providers j).other_faults (m.state.providers j).other_faults
-    asked k o s More is h amiss = ask_rose j m job runs o s (subst (λ n. AskStep old job n o s m.state) is h) amiss
+    asked : (k o s : ℕ) (r : Outcome) → k ≡ j → Acts old job (Ask k o s) r m.state →
+        GaveAmiss old m job j (Ask j o s) →
+        Rose (old.providers j).other_faults (m.state.providers j).other_faults
+    asked k o s More is h amiss =
+        ask_rose j m job runs o s (subst (λ n. AskStep old job n o s m.state) is h) amiss
     asked k o s Ready is h amiss = absurd h
     asked k o s (Refused why) is h amiss = absurd h
     asked k o s Opened is h amiss = absurd h
@@ -273,8 +349,12 @@ module _ (old : State) where
     asked k o s Closed is h amiss = absurd h
     asked k o s Continued is h amiss = absurd h
 
-    removed : (k o : ℕ) (r : Outcome) → k ≡ j → Acts old job (Remove k o) r m.state → GaveAmiss old m job j (Remove j o) → Rose (old.providers j).other_faults (m.state.providers j).other_faults
-    removed k o More is (p, call, e) amiss = remove_rose j m job runs o p (e ∙ ap (λ n. record (going_on old (advanced job)) { providers = with_provider old.providers n p }) is) (subst (λ n. Removes o (old.providers n) p) is call) amiss
+    removed : (k o : ℕ) (r : Outcome) → k ≡ j → Acts old job (Remove k o) r m.state →
+        GaveAmiss old m job j (Remove j o) →
+        Rose (old.providers j).other_faults (m.state.providers j).other_faults
+    removed k o More is (p, call, e) amiss = remove_rose j m job runs o p
+        (e ∙ ap (λ n. record (going_on old (advanced job)) { providers = with_provider old.providers n p })
+        is) (subst (λ n. Removes o (old.providers n) p) is call) amiss
     removed k o Ready is h amiss = absurd h
     removed k o (Refused why) is h amiss = absurd h
     removed k o Opened is h amiss = absurd h
@@ -291,21 +371,26 @@ module _ (old : State) where
     removed k o Closed is h amiss = absurd h
     removed k o Continued is h amiss = absurd h
 
-    other_acts : (action : Action) → Acts old job action m.outcome m.state → GaveAmiss old m job j action → Rose (old.providers j).other_faults (m.state.providers j).other_faults
+    other_acts : (action : Action) → Acts old job action m.outcome m.state → GaveAmiss old m job j action →
+        Rose (old.providers j).other_faults (m.state.providers j).other_faults
     other_acts (Fetch k o s) h amiss = fetched k o s m.outcome amiss.0 h (refl, amiss.1)
     other_acts (Ask k o s) h amiss = asked k o s m.outcome amiss.0 h (refl, amiss.1)
     other_acts (Remove k o) h amiss = removed k o m.outcome amiss.0 h (refl, amiss.1)
     other_acts action h amiss = absurd amiss
 
 -- a failed call has its cause
-failure_rose : (limit moment : ℕ) (count : Count) (old : State) (m : Moment) → IsFailure count old m → Happens limit moment old m.event m.outcome m.state → Rose (count_in count old) (count_in count m.state)
+failure_rose : (limit moment : ℕ) (count : Count) (old : State) (m : Moment) → IsFailure count old m →
+    Happens limit moment old m.event m.outcome m.state → Rose (count_in count old) (count_in count m.state)
 failure_rose limit moment OfDisk old m fault h = disk_rose old limit moment m.event m.outcome m.state fault h
-failure_rose limit moment (OfStores j) old m fault h = store_rose old limit moment j m.event m.outcome m.state fault h
+failure_rose limit moment (OfStores j) old m fault h =
+    store_rose old limit moment j m.event m.outcome m.state fault h
 failure_rose limit moment (OfOthers j) old m fault h =
-    other_acts old j m fault.job fault.makes.runs fault.action (made_acts limit moment old m fault.job fault.action fault.makes h) fault.amiss
+    other_acts old j m fault.job fault.makes.runs fault.action
+    (made_acts limit moment old m fault.job fault.action fault.makes h) fault.amiss
 
 -- counts never fall
-never_falls : (limit : ℕ) (start : State) (count : Count) (m : Moment) (ms : List Moment) → IsRun limit start (m ∷ ms) → count_in count (now start ms) ≤ count_in count m.state
+never_falls : (limit : ℕ) (start : State) (count : Count) (m : Moment) (ms : List Moment) →
+    IsRun limit start (m ∷ ms) → count_in count (now start ms) ≤ count_in count m.state
 never_falls limit start OfDisk m ms run = (run_onward limit start m ms run).disk
 never_falls limit start (OfStores j) m ms run = ((run_onward limit start m ms run).provider j).stores
 never_falls limit start (OfOthers j) m ms run = ((run_onward limit start m ms run).provider j).others
@@ -327,13 +412,19 @@ after_more start [] ms = refl
 after_more start (m ∷ later) ms = refl
 
 -- a count rises by as many as its failed calls, or stands at its last value
-pub failures_rose : (limit : ℕ) (start : State) (later ms : List Moment) (count : Count) (n : ℕ) → IsRun limit start (later ++ ms) → HasFailures count (now start ms) later n →
+pub failures_rose : (limit : ℕ) (start : State) (later ms : List Moment) (count : Count) (n : ℕ) →
+    IsRun limit start (later ++ ms) → HasFailures count (now start ms) later n →
     RoseBy (count_in count (now start ms)) (count_in count (now start (later ++ ms))) n
 failures_rose limit start [] ms count n run none = inl (let e : n ≡ 0 = none in omega (arith, e))
 failures_rose limit start (m ∷ later) ms count n run (inl has) =
-    kept_rose (count_in count (now start ms)) (count_in count (now start (later ++ ms))) (count_in count m.state) n
+    kept_rose (count_in count (now start ms)) (count_in count (now start (later ++ ms)))
+    (count_in count m.state) n
     (failures_rose limit start later ms count n run.2 has) (never_falls limit start count m (later ++ ms) run)
-failures_rose limit start (m ∷ later) ms count n run (inr (fewer, is, fails, has)) = subst (RoseBy (count_in count (now start ms)) (count_in count m.state)) (sym is)
-    (one_rose (count_in count (now start ms)) (count_in count (now start (later ++ ms))) (count_in count m.state) fewer
-    (failures_rose limit start later ms count fewer run.2 has) (never_falls limit start count m (later ++ ms) run)
-    (failure_rose limit (length (later ++ ms)) count (now start (later ++ ms)) m (subst (λ (w : State). IsFailure count w m) (after_more start later ms) fails) run.1))
+failures_rose limit start (m ∷ later) ms count n run (inr (fewer, is, fails, has)) =
+    subst (RoseBy (count_in count (now start ms)) (count_in count m.state)) (sym is)
+    (one_rose (count_in count (now start ms)) (count_in count (now start (later ++ ms)))
+    (count_in count m.state) fewer
+    (failures_rose limit start later ms count fewer run.2 has)
+    (never_falls limit start count m (later ++ ms) run)
+    (failure_rose limit (length (later ++ ms)) count (now start (later ++ ms)) m
+    (subst (λ (w : State). IsFailure count w m) (after_more start later ms) fails) run.1))

@@ -16,17 +16,21 @@ use Rattle.machine_defs.proofs.JobLists.{cond_true, found_itself}
 use Rattle.second_half_laws.specs.Fetching.{GaveFetched}
 
 module _ (old : State) (job : Job) (j object stripe : ℕ) where
-  from_step : (new : State) → job_of old.jobs job.number ≡ Some job → FetchStep old job j object stripe new → GaveFetched old new job j object stripe
-  from_step new runs (block, (p, call, is)) = subst (λ (w : State). GaveFetched old w job j object stripe) (sym is) (record {
-    block = block;
-    goes_on = found_itself old.jobs (advanced_with job (Fetched j object stripe block)) job runs;
-    gives = elim call.gives [
-      | inl g ↦ inl g
-      | inr f ↦ inr (subst (λ (x : Provider). FailsToGive (old.providers j) block x) (sym (cond_true (j == j) p (old.providers j) (eq-eqb j j refl))) f)
-    ];
-  })
+  from_step : (new : State) → job_of old.jobs job.number ≡ Some job → FetchStep old job j object stripe new →
+      GaveFetched old new job j object stripe
+  from_step new runs (block, (p, call, is)) =
+      subst (λ (w : State). GaveFetched old w job j object stripe) (sym is) (record {
+        block = block;
+        goes_on = found_itself old.jobs (advanced_with job (Fetched j object stripe block)) job runs;
+        gives = elim call.gives [
+          | inl g ↦ inl g
+          | inr f ↦ inr (subst (λ (x : Provider). FailsToGive (old.providers j) block x)
+              (sym (cond_true (j == j) p (old.providers j) (eq-eqb j j refl))) f)
+        ];
+      })
 
-  acts : (r : Outcome) (new : State) → job_of old.jobs job.number ≡ Some job → Acts old job (Fetch j object stripe) r new → GaveFetched old new job j object stripe
+  acts : (r : Outcome) (new : State) → job_of old.jobs job.number ≡ Some job →
+      Acts old job (Fetch j object stripe) r new → GaveFetched old new job j object stripe
   acts More new runs h = from_step new runs h
   acts Ready new runs h = absurd h
   acts (Refused why) new runs h = absurd h
@@ -44,16 +48,23 @@ module _ (old : State) (job : Job) (j object stripe : ℕ) where
   acts Closed new runs h = absurd h
   acts Continued new runs h = absurd h
 
-  waits : (holder : Option ℕ) → holder ≡ None → (r : Outcome) (new : State) → job_of old.jobs job.number ≡ Some job → ActsOrWaits old job (Fetch j object stripe) holder r new → GaveFetched old new job j object stripe
+  waits : (holder : Option ℕ) → holder ≡ None → (r : Outcome) (new : State) →
+      job_of old.jobs job.number ≡ Some job → ActsOrWaits old job (Fetch j object stripe) holder r new →
+      GaveFetched old new job j object stripe
   waits None is r new runs h = acts r new runs h
   waits (Some n) is r new runs h = (let e : Some n ≡ None = is in cc)
 
-  on : (r : Outcome) (new : State) → job_of old.jobs job.number ≡ Some job → next_action old job ≡ Some (Fetch j object stripe) → holder_of old.append (Fetch j object stripe) ≡ None →
+  on : (r : Outcome) (new : State) → job_of old.jobs job.number ≡ Some job →
+      next_action old job ≡ Some (Fetch j object stripe) →
+      holder_of old.append (Fetch j object stripe) ≡ None →
       StepsOn old job (next_action old job) r new → GaveFetched old new job j object stripe
-  on r new runs next_is free h = waits (holder_of old.append (Fetch j object stripe)) free r new runs (subst (λ (a : Option Action). StepsOn old job a r new) next_is h)
+  on r new runs next_is free h = waits (holder_of old.append (Fetch j object stripe)) free r new runs
+      (subst (λ (a : Option Action). StepsOn old job a r new) next_is h)
 
-  step_gave : (r : Outcome) (new : State) → old.is_open ≡ true → old.is_barred ≡ false → old.alone ≡ None → job_of old.jobs job.number ≡ Some job → next_action old job ≡ Some (Fetch j object stripe) →
-      holder_of old.append (Fetch j object stripe) ≡ None → Steps old job.number old.is_open r new → GaveFetched old new job j object stripe
+  step_gave : (r : Outcome) (new : State) → old.is_open ≡ true → old.is_barred ≡ false → old.alone ≡ None →
+      job_of old.jobs job.number ≡ Some job → next_action old job ≡ Some (Fetch j object stripe) →
+      holder_of old.append (Fetch j object stripe) ≡ None → Steps old job.number old.is_open r new →
+      GaveFetched old new job j object stripe
   step_gave r new is_open unbarred none_alone runs next_is free h =
       on r new runs next_is free
       (subst (λ (o : Option Job). StepsJob old o r new) runs
@@ -62,8 +73,10 @@ module _ (old : State) (job : Job) (j object stripe : ℕ) where
       (subst (λ b. Steps old job.number b r new) is_open h))))
 
 -- a fetch gives a job what its provider holds then, or none and a count of that provider rises
-pub gave_fetched : (limit : ℕ) (start : State) (m : Moment) (ms : List Moment) (job : Job) (j object stripe : ℕ) → IsRun limit start (m ∷ ms) → Makes (now start ms) m job (Fetch j object stripe) →
+pub gave_fetched : (limit : ℕ) (start : State) (m : Moment) (ms : List Moment) (job : Job)
+    (j object stripe : ℕ) → IsRun limit start (m ∷ ms) → Makes (now start ms) m job (Fetch j object stripe) →
     GaveFetched (now start ms) m.state job j object stripe
 gave_fetched limit start m ms job j object stripe run makes =
-    step_gave (now start ms) job j object stripe m.outcome m.state makes.is_open makes.unbarred makes.none_alone makes.runs makes.next makes.unheld
+    step_gave (now start ms) job j object stripe m.outcome m.state makes.is_open makes.unbarred
+    makes.none_alone makes.runs makes.next makes.unheld
     (subst (λ (e : Event). Happens limit (length ms) (now start ms) e m.outcome m.state) makes.event run.1)

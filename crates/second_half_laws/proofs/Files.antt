@@ -30,7 +30,8 @@ file_named (PutDone k size ∷ rs) name f h =
     named_put (is_start_of name (started_as rs k)) name k size (profile_in (setup_of rs)) (file_of rs name) f
     h (file_named rs name f)
 file_named (Drop n ∷ rs) name f h = elim (cases_Bool (is_same_name n name)) [
-  | inl t ↦ absurd (some-not-none (file_of (Drop n ∷ rs) name) f h (cond_true (is_same_name n name) None (file_of rs name) t))
+  | inl t ↦ absurd (some-not-none (file_of (Drop n ∷ rs) name) f h
+      (cond_true (is_same_name n name) None (file_of rs name) t))
   | inr o ↦ file_named rs name f (sym (cond_false (is_same_name n name) None (file_of rs name) o) ∙ h)
 ]
 file_named (AuditStart number ∷ rs) name f h = file_named rs name f h
@@ -48,23 +49,35 @@ file_named (RepairDue number counts ∷ rs) name f h = file_named rs name f h
 with_new : (fs : List File) (x : File) → In x (with_file fs x)
 with_new [] x = inl refl
 with_new (f ∷ fs) x = elim (cases_Bool (is_name_before f.name x.name)) [
-  | inl t ↦ subst (λ l. In x l) (sym (cond_true (is_name_before f.name x.name) (f ∷ with_file fs x) (x ∷ f ∷ fs) t)) (inr (with_new fs x))
-  | inr o ↦ subst (λ l. In x l) (sym (cond_false (is_name_before f.name x.name) (f ∷ with_file fs x) (x ∷ f ∷ fs) o)) (inl refl)
+  | inl t ↦ subst (λ l. In x l)
+      (sym (cond_true (is_name_before f.name x.name) (f ∷ with_file fs x) (x ∷ f ∷ fs) t))
+      (inr (with_new fs x))
+  | inr o ↦ subst (λ l. In x l)
+      (sym (cond_false (is_name_before f.name x.name) (f ∷ with_file fs x) (x ∷ f ∷ fs) o)) (inl refl)
 ]
 
 with_old : (fs : List File) (x g : File) → In g fs → In g (with_file fs x)
 with_old [] x g h = absurd h
 with_old (f ∷ fs) x g h = elim (cases_Bool (is_name_before f.name x.name)) [
-  | inl t ↦ subst (λ l. In g l) (sym (cond_true (is_name_before f.name x.name) (f ∷ with_file fs x) (x ∷ f ∷ fs) t)) (elim h [ inl e ↦ inl e | inr i ↦ inr (with_old fs x g i) ])
-  | inr o ↦ subst (λ l. In g l) (sym (cond_false (is_name_before f.name x.name) (f ∷ with_file fs x) (x ∷ f ∷ fs) o)) (inr h)
+  | inl t ↦ subst (λ l. In g l)
+      (sym (cond_true (is_name_before f.name x.name) (f ∷ with_file fs x) (x ∷ f ∷ fs) t))
+      (elim h [ inl e ↦ inl e | inr i ↦ inr (with_old fs x g i) ])
+  | inr o ↦ subst (λ l. In g l)
+      (sym (cond_false (is_name_before f.name x.name) (f ∷ with_file fs x) (x ∷ f ∷ fs) o)) (inr h)
 ]
 
-without_old : (fs : List File) (n : List ℕ) (g : File) → In g fs → is_same_name g.name n ≡ false → In g (without_file fs n)
+without_old : (fs : List File) (n : List ℕ) (g : File) → In g fs → is_same_name g.name n ≡ false →
+    In g (without_file fs n)
 without_old [] n g h other = absurd h
 without_old (f ∷ fs) n g h other = elim (cases_Bool (is_same_name f.name n)) [
-  | inl t ↦ subst (λ l. In g l) (sym (cond_true (is_same_name f.name n) (without_file fs n) (f ∷ without_file fs n) t))
-      (elim h [ inl e ↦ absurd (false≢true (sym other ∙ (ap (λ (x : File). is_same_name x.name n) e ∙ t))) | inr i ↦ without_old fs n g i other ])
-  | inr o ↦ subst (λ l. In g l) (sym (cond_false (is_same_name f.name n) (without_file fs n) (f ∷ without_file fs n) o))
+  | inl t ↦ subst (λ l. In g l)
+      (sym (cond_true (is_same_name f.name n) (without_file fs n) (f ∷ without_file fs n) t))
+      (elim h [
+        | inl e ↦ absurd (false≢true (sym other ∙ (ap (λ (x : File). is_same_name x.name n) e ∙ t)))
+        | inr i ↦ without_old fs n g i other
+      ])
+  | inr o ↦ subst (λ l. In g l)
+      (sym (cond_false (is_same_name f.name n) (without_file fs n) (f ∷ without_file fs n) o))
       (elim h [ inl e ↦ inl e | inr i ↦ inr (without_old fs n g i other) ])
 ]
 
@@ -99,9 +112,11 @@ in_files (PutDone k size ∷ rs) name f h =
     in_put (files_of rs) (started_as rs k) name k size (profile_in (setup_of rs)) (file_of rs name) f h
     (file_named rs name f) (in_files rs name f)
 in_files (Drop n ∷ rs) name f h = elim (cases_Bool (is_same_name n name)) [
-  | inl t ↦ absurd (some-not-none (file_of (Drop n ∷ rs) name) f h (cond_true (is_same_name n name) None (file_of rs name) t))
+  | inl t ↦ absurd (some-not-none (file_of (Drop n ∷ rs) name) f h
+      (cond_true (is_same_name n name) None (file_of rs name) t))
   | inr o ↦ (let old = sym (cond_false (is_same_name n name) None (file_of rs name) o) ∙ h in
-      without_old (files_of rs) n f (in_files rs name f old) (ap (λ x. is_same_name x n) (file_named rs name f old) ∙ apart n name o))
+      without_old (files_of rs) n f (in_files rs name f old)
+      (ap (λ x. is_same_name x n) (file_named rs name f old) ∙ apart n name o))
 ]
 in_files (AuditStart number ∷ rs) name f h = in_files rs name f h
 in_files (AuditDone number undecided counts ∷ rs) name f h = in_files rs name f h
@@ -119,22 +134,30 @@ in_files (RepairDue number counts ∷ rs) name f h = in_files rs name f h
 pin_new : (p : Pinned) (ps : List Pinned) → In p (pin_by machine_pins p ps)
 pin_new p [] = inl refl
 pin_new p (q ∷ qs) = elim (cases_Bool (nat_lt p.id q.id)) [
-  | inl t ↦ subst (λ l. In p l) (sym (cond_true (nat_lt p.id q.id) (p ∷ q ∷ qs) (q ∷ pin_by machine_pins p qs) t)) (inl refl)
-  | inr o ↦ subst (λ l. In p l) (sym (cond_false (nat_lt p.id q.id) (p ∷ q ∷ qs) (q ∷ pin_by machine_pins p qs) o)) (inr (pin_new p qs))
+  | inl t ↦ subst (λ l. In p l)
+      (sym (cond_true (nat_lt p.id q.id) (p ∷ q ∷ qs) (q ∷ pin_by machine_pins p qs) t)) (inl refl)
+  | inr o ↦ subst (λ l. In p l)
+      (sym (cond_false (nat_lt p.id q.id) (p ∷ q ∷ qs) (q ∷ pin_by machine_pins p qs) o)) (inr (pin_new p qs))
 ]
 
 pin_old : (p : Pinned) (ps : List Pinned) (g : Pinned) → In g ps → In g (pin_by machine_pins p ps)
 pin_old p [] g h = absurd h
 pin_old p (q ∷ qs) g h = elim (cases_Bool (nat_lt p.id q.id)) [
-  | inl t ↦ subst (λ l. In g l) (sym (cond_true (nat_lt p.id q.id) (p ∷ q ∷ qs) (q ∷ pin_by machine_pins p qs) t)) (inr h)
-  | inr o ↦ subst (λ l. In g l) (sym (cond_false (nat_lt p.id q.id) (p ∷ q ∷ qs) (q ∷ pin_by machine_pins p qs) o)) (elim h [ inl e ↦ inl e | inr i ↦ inr (pin_old p qs g i) ])
+  | inl t ↦ subst (λ l. In g l)
+      (sym (cond_true (nat_lt p.id q.id) (p ∷ q ∷ qs) (q ∷ pin_by machine_pins p qs) t)) (inr h)
+  | inr o ↦ subst (λ l. In g l)
+      (sym (cond_false (nat_lt p.id q.id) (p ∷ q ∷ qs) (q ∷ pin_by machine_pins p qs) o))
+      (elim h [ inl e ↦ inl e | inr i ↦ inr (pin_old p qs g i) ])
 ]
 
 in_all : (w : State) (fs : List File) (f : File) → In f fs → In (pinned_file w f) (pin_all w fs)
 in_all w [] f h = absurd h
-in_all w (g ∷ gs) f (inl e) = subst (λ (x : File). In (pinned_file w f) (pin_by machine_pins (pinned_file w x) (pin_all w gs))) e (pin_new (pinned_file w f) (pin_all w gs))
+in_all w (g ∷ gs) f (inl e) =
+    subst (λ (x : File). In (pinned_file w f) (pin_by machine_pins (pinned_file w x) (pin_all w gs))) e
+    (pin_new (pinned_file w f) (pin_all w gs))
 in_all w (g ∷ gs) f (inr h) = pin_old (pinned_file w g) (pin_all w gs) (pinned_file w f) (in_all w gs f h)
 
 -- a file in effect is among the pins of all files
-pub all_pinned : (w : State) (name : List ℕ) (f : File) → file_in w name ≡ Some f → In (pinned_file w f) (pin_all w (files_of w.records))
+pub all_pinned : (w : State) (name : List ℕ) (f : File) → file_in w name ≡ Some f →
+    In (pinned_file w f) (pin_all w (files_of w.records))
 all_pinned w name f h = in_all w (files_of w.records) f (in_files w.records name f h)

@@ -1,4 +1,5 @@
--- A finished scrub is a mark, and so the second half holds of runs that are calm counted from finished scrubs; where no scrub begins, scrubs
+-- A finished scrub is a mark, and so the second half holds of runs that are calm counted from finished
+-- scrubs; where no scrub begins, scrubs
 -- are calm.
 use Rattle.std.proofs.Common.{◌≡◌, ℕ, ◌<◌, ◌==◌, Bool, true, false, ◌⊎◌, List, [], ◌∷◌, length, Option, Some, None, refl, ap, sym, subst, ◌∙◌, inl, inr, arith}
 use Rattle.std.specs.Prelude.{IsSome, nat_lt}
@@ -49,40 +50,53 @@ pub record HasEnded (old new : State) (scrub : Scrub) : Type 0 where
   pub todo : scrub.todo ≡ End ∷ rest
   pub is : new ≡ unalone old
 
-module _ (moment : ℕ) (old new : State) (lone : IsLone old) (scrub : Scrub) (at : old.alone ≡ Some (Scrubbing scrub)) (a : ℕ) (xs ys : List ℕ) where
-  scrubs : (action : Action) (rest : List Action) → scrub.todo ≡ action ∷ rest → Scrubs old scrub action rest (Ended (answer.Scrubbed a xs ys)) new → HasEnded old new scrub
+module _ (moment : ℕ) (old new : State) (lone : IsLone old) (scrub : Scrub)
+    (at : old.alone ≡ Some (Scrubbing scrub)) (a : ℕ) (xs ys : List ℕ) where
+  scrubs : (action : Action) (rest : List Action) → scrub.todo ≡ action ∷ rest →
+      Scrubs old scrub action rest (Ended (answer.Scrubbed a xs ys)) new → HasEnded old new scrub
   scrubs End rest todo (p, q, r, is) = record { rest = rest; todo = todo; is = is }
   scrubs action rest todo h = absurd h
 
-  steps_scrub : (todo : List Action) → scrub.todo ≡ todo → StepsScrub old scrub todo (Ended (answer.Scrubbed a xs ys)) new → HasEnded old new scrub
+  steps_scrub : (todo : List Action) → scrub.todo ≡ todo →
+      StepsScrub old scrub todo (Ended (answer.Scrubbed a xs ys)) new → HasEnded old new scrub
   steps_scrub [] is h = absurd h
   steps_scrub (action ∷ rest) is h = scrubs action rest is h
 
-  no_job : (job : Option Job) → job ≡ None → StepsJob old job (Ended (answer.Scrubbed a xs ys)) new → HasEnded old new scrub
+  no_job : (job : Option Job) → job ≡ None → StepsJob old job (Ended (answer.Scrubbed a xs ys)) new →
+      HasEnded old new scrub
   no_job None is h = absurd h
   no_job (Some job) is h = absurd (some-not-none (Some job) job refl is)
 
-  steps_mine : (number : ℕ) (mine : Bool) → StepsMine old number (Scrubbing scrub) mine (Ended (answer.Scrubbed a xs ys)) new → HasEnded old new scrub
+  steps_mine : (number : ℕ) (mine : Bool) →
+      StepsMine old number (Scrubbing scrub) mine (Ended (answer.Scrubbed a xs ys)) new →
+      HasEnded old new scrub
   steps_mine number true h = steps_scrub scrub.todo refl h
-  steps_mine number false h = no_job (job_of old.jobs number) (ap (λ l. job_of l number) (lone (Scrubbing scrub) at)) h
+  steps_mine number false h =
+      no_job (job_of old.jobs number) (ap (λ l. job_of l number) (lone (Scrubbing scrub) at)) h
 
-  steps_open : (number : ℕ) (is_barred : Bool) → StepsOpen old number is_barred (Ended (answer.Scrubbed a xs ys)) new → HasEnded old new scrub
+  steps_open : (number : ℕ) (is_barred : Bool) →
+      StepsOpen old number is_barred (Ended (answer.Scrubbed a xs ys)) new → HasEnded old new scrub
   steps_open number true h = absurd h
-  steps_open number false h = steps_mine number (scrub.number == number) (subst (λ x. StepsOne old number x (Ended (answer.Scrubbed a xs ys)) new) at h)
+  steps_open number false h = steps_mine number (scrub.number == number)
+      (subst (λ x. StepsOne old number x (Ended (answer.Scrubbed a xs ys)) new) at h)
 
-  steps : (number : ℕ) (is_open : Bool) → Steps old number is_open (Ended (answer.Scrubbed a xs ys)) new → HasEnded old new scrub
+  steps : (number : ℕ) (is_open : Bool) → Steps old number is_open (Ended (answer.Scrubbed a xs ys)) new →
+      HasEnded old new scrub
   steps number false h = absurd h
   steps number true h = steps_open number old.is_barred h
 
-  inits_by : (s : Setup) (good : Bool) → InitsBy old s good (Ended (answer.Scrubbed a xs ys)) new → HasEnded old new scrub
+  inits_by : (s : Setup) (good : Bool) → InitsBy old s good (Ended (answer.Scrubbed a xs ys)) new →
+      HasEnded old new scrub
   inits_by s true h = absurd h
   inits_by s false h = absurd h
 
-  inits : (s : Setup) (is_open : Bool) → Inits old s is_open (Ended (answer.Scrubbed a xs ys)) new → HasEnded old new scrub
+  inits : (s : Setup) (is_open : Bool) → Inits old s is_open (Ended (answer.Scrubbed a xs ys)) new →
+      HasEnded old new scrub
   inits s true h = absurd h
   inits s false h = inits_by s (is_setup s) h
 
-  replaces_if : (handed : Bool) (j : ℕ) (IsThere : Held → Type 0) (changed : Held → Held) → ReplacesIf handed old j IsThere changed (Ended (answer.Scrubbed a xs ys)) new → HasEnded old new scrub
+  replaces_if : (handed : Bool) (j : ℕ) (IsThere : Held → Type 0) (changed : Held → Held) →
+      ReplacesIf handed old j IsThere changed (Ended (answer.Scrubbed a xs ys)) new → HasEnded old new scrub
   replaces_if true j IsThere changed h = absurd h
   replaces_if false j IsThere changed h = absurd h
 
@@ -90,7 +104,8 @@ module _ (moment : ℕ) (old new : State) (lone : IsLone old) (scrub : Scrub) (a
   lists true h = absurd h
   lists false h = absurd h
 
-  scrub_ends : (limit : ℕ) (e : Event) → Happens limit moment old e (Ended (answer.Scrubbed a xs ys)) new → HasEnded old new scrub
+  scrub_ends : (limit : ℕ) (e : Event) → Happens limit moment old e (Ended (answer.Scrubbed a xs ys)) new →
+      HasEnded old new scrub
   scrub_ends limit (Init s) h = inits s old.is_open h
   scrub_ends limit (Begin kind) h = absurd h
   scrub_ends limit (BeginAt profile name bytes) h = absurd h
@@ -98,9 +113,11 @@ module _ (moment : ℕ) (old new : State) (lone : IsLone old) (scrub : Scrub) (a
   scrub_ends limit BeginPack h = absurd h
   scrub_ends limit (Step number) h = steps number old.is_open h
   scrub_ends limit (Alter j object stripe place symbol) h =
-      replaces_if (nat_lt j old.handed) j (λ held. HasPlace (held object stripe) place) (with_symbol object stripe place symbol) h
+      replaces_if (nat_lt j old.handed) j (λ held. HasPlace (held object stripe) place)
+      (with_symbol object stripe place symbol) h
   scrub_ends limit (Lose j object stripe) h =
-      replaces_if (nat_lt j old.handed) j (λ held. IsSome (held object stripe)) (without_block object stripe) h
+      replaces_if (nat_lt j old.handed) j (λ held. IsSome (held object stripe))
+      (without_block object stripe) h
   scrub_ends limit (Stop picks) h = absurd h
   scrub_ends limit Reopen h = absurd h
   scrub_ends limit Names h = lists old.is_open h
@@ -116,38 +133,51 @@ below_same : (w : State) (i : ℕ) → i < (setup_in (unalone w)).n → i < (set
 unfolding setup_in
 below_same w i h = h
 
-stripe_same : (w : State) (f : File) (s : ℕ) → s < stripes (file_object (unalone w) f) (length ((unalone w).bytes f.id)) → s < pinned_stripes (setup_in w) (pinned_file w f)
+stripe_same : (w : State) (f : File) (s : ℕ) →
+    s < stripes (file_object (unalone w) f) (length ((unalone w).bytes f.id)) →
+    s < pinned_stripes (setup_in w) (pinned_file w f)
 unfolding setup_in
 stripe_same w f s h = h
 
 -- what holds of marks and of the scrub that runs
 pub record Sweep (start : State) (ms : List Moment) : Type 0 where
   pub marks : AreMarks (scrubbed start) start ms
-  pub scrubs : (scrub : Scrub) → (now start ms).alone ≡ Some (Scrubbing scrub) → Scrubbed (scrubbed start) start ms scrub
+  pub scrubs : (scrub : Scrub) → (now start ms).alone ≡ Some (Scrubbing scrub) →
+      Scrubbed (scrubbed start) start ms scrub
   pub swept : (scrub : Scrub) → (now start ms).alone ≡ Some (Scrubbing scrub) → Swept start ms scrub
 
-module _ (limit : ℕ) (start : State) (m : Moment) (ms : List Moment) (clean : IsStart start) (tell : AllTell start) (run : IsRun limit start (m ∷ ms)) (calm : IsCalm relies (scrubbed start) ms) (calm_scrubs : AreScrubsCalm (scrubbed start) ms)
+module _ (limit : ℕ) (start : State) (m : Moment) (ms : List Moment) (clean : IsStart start)
+    (tell : AllTell start) (run : IsRun limit start (m ∷ ms)) (calm : IsCalm relies (scrubbed start) ms)
+    (calm_scrubs : AreScrubsCalm (scrubbed start) ms)
     (W : Sweep start ms) where
   marked : IsMarkedRun limit (scrubbed start) start ms
   marked = record { clean = clean; tell = tell; run = run.2; calm = calm; marks = W.marks }
 
   stays : IsMark start (m ∷ ms) (scrubbed start ms)
-  stays = mark_stays limit (scrubbed start) start m ms marked calm_scrubs run (scrubbed start ms) (mark_now (scrubbed start) start ms W.marks)
+  stays = mark_stays limit (scrubbed start) start m ms marked calm_scrubs run (scrubbed start ms)
+      (mark_now (scrubbed start) start ms W.marks)
 
   lone : IsLone (now start ms)
   lone = (all limit start clean ms run.2).numbers.idle.lone
 
-  finished : (scrub : Scrub) → (now start ms).alone ≡ Some (Scrubbing scrub) → HasEnded (now start ms) m.state scrub → IsMark start (m ∷ ms) scrub.begun
+  finished : (scrub : Scrub) → (now start ms).alone ≡ Some (Scrubbing scrub) →
+      HasEnded (now start ms) m.state scrub → IsMark start (m ∷ ms) scrub.begun
   finished scrub at H = record {
     before = record {
       early = (let l = (W.scrubs scrub at).begun in omega arith);
-      puts = λ number job name bytes runs kind. absurd (found_none m.state.jobs number job (ap (λ (w : State). w.jobs) H.is ∙ lone (Scrubbing scrub) at) runs);
-      doubts = λ d version id size profile in_doubt e. absurd ((always limit start clean ms run.2).lone_sure scrub d at (sym (ap (λ (w : State). w.doubt) H.is) ∙ in_doubt));
+      puts = λ number job name bytes runs kind. absurd
+          (found_none m.state.jobs number job (ap (λ (w : State). w.jobs) H.is
+          ∙ lone (Scrubbing scrub) at) runs);
+      doubts = λ d version id size profile in_doubt e. absurd
+          ((always limit start clean ms run.2).lone_sure scrub d at (sym (ap (λ (w : State). w.doubt) H.is)
+          ∙ in_doubt));
     };
     clear = λ q f i s h l k bad. clear q f i s (sym (ap (λ (w : State). file_in w q) H.is) ∙ h)
         (below_same (now start ms) i (subst (λ (w : State). i < (setup_in w).n) H.is l))
-        (stripe_same (now start ms) f s (subst (λ (w : State). s < stripes (file_object w f) (length (w.bytes f.id))) H.is k))
-        (bad_same (now start ms) f.profile f.id i s (subst (λ (w : State). IsBad w f.profile f.id i s) H.is bad));
+        (stripe_same (now start ms) f s
+        (subst (λ (w : State). s < stripes (file_object w f) (length (w.bytes f.id))) H.is k))
+        (bad_same (now start ms) f.profile f.id i s
+        (subst (λ (w : State). IsBad w f.profile f.id i s) H.is bad));
   }
     where
       C : Swept start ms scrub
@@ -159,60 +189,94 @@ module _ (limit : ℕ) (start : State) (m : Moment) (ms : List Moment) (clean : 
         | inr r ↦ (let none : H.rest ≡ [] = subst IsEnded H.todo C.ended in subst (In x) none r)
       ]
 
-      clear : (q : List ℕ) (f : File) (i s : ℕ) → file_in (now start ms) q ≡ Some f → i < (setup_in (now start ms)).n → s < pinned_stripes (setup_in (now start ms)) (pinned_file (now start ms) f) → IsBad (now start ms) f.profile f.id i s →
+      clear : (q : List ℕ) (f : File) (i s : ℕ) → file_in (now start ms) q ≡ Some f →
+          i < (setup_in (now start ms)).n →
+          s < pinned_stripes (setup_in (now start ms)) (pinned_file (now start ms) f) →
+          IsBad (now start ms) f.profile f.id i s →
           IsReplaced scrub.begun i (m ∷ ms) ⊎ ⊥
       clear q f i s h l k bad = elim (C.left (pinned_file (now start ms) f) i s (C.all q f h) l k bad) [
         | inl r ↦ inl (since_more scrub.begun i m ms r)
         | inr (inl w) ↦ absurd (none_left (Work f.id s) (λ e. (let z : Work f.id s ≡ End = e in cc)) w)
-        | inr (inr st) ↦ absurd (none_left (Store i f.id s) (λ e. (let z : Store i f.id s ≡ End = e in cc)) st)
+        | inr (inr st) ↦ absurd
+            (none_left (Store i f.id s) (λ e. (let z : Store i f.id s ≡ End = e in cc)) st)
       ]
 
-  by_alone : (x : Option Alone) → (now start ms).alone ≡ x → (a : ℕ) (xs ys : List ℕ) → m.outcome ≡ Ended (answer.Scrubbed a xs ys) → IsMark start (m ∷ ms) (scrub_begun x (scrubbed start ms))
+  by_alone : (x : Option Alone) → (now start ms).alone ≡ x → (a : ℕ) (xs ys : List ℕ) →
+      m.outcome ≡ Ended (answer.Scrubbed a xs ys) → IsMark start (m ∷ ms) (scrub_begun x (scrubbed start ms))
   by_alone None at a xs ys is = stays
   by_alone (Some (Packing pack)) at a xs ys is = stays
   by_alone (Some (Scrubbing scrub)) at a xs ys is = finished scrub at
-      (scrub_ends (length ms) (now start ms) m.state lone scrub at a xs ys limit m.event (subst (λ r. Happens limit (length ms) (now start ms) m.event r m.state) is run.1))
+      (scrub_ends (length ms) (now start ms) m.state lone scrub at a xs ys limit m.event
+      (subst (λ r. Happens limit (length ms) (now start ms) m.event r m.state) is run.1))
 
-  by_outcome : (r : Outcome) → m.outcome ≡ r → IsMark start (m ∷ ms) (mark_scrubbed (now start ms).alone r (scrubbed start ms))
+  by_outcome : (r : Outcome) → m.outcome ≡ r →
+      IsMark start (m ∷ ms) (mark_scrubbed (now start ms).alone r (scrubbed start ms))
   by_outcome (Ended (answer.Scrubbed a xs ys)) is = by_alone (now start ms).alone refl a xs ys is
   by_outcome r is = stays
 
   sweep_step : Sweep start (m ∷ ms)
   sweep_step = (let A = all limit start clean ms run.2 in record {
     marks = (by_outcome m.outcome refl, W.marks);
-    scrubs = scrub_on limit (scrubbed start) start m ms clean tell run calm_scrubs (mark_now (scrubbed start) start ms W.marks) W.scrubs;
-    swept = swept_step limit (scrubbed start) start m ms A (eff.facts limit start ms clean run.2) (changes limit (length ms) (now start ms) m.event m.outcome m.state A.numbers.idle run.1) (all_tell limit start ms tell run.2)
-        W.scrubs W.swept (calm_scrub (scrubbed start) start clean ms calm_scrubs) (scrub_was limit start m ms clean run);
+    scrubs = scrub_on limit (scrubbed start) start m ms clean tell run calm_scrubs
+        (mark_now (scrubbed start) start ms W.marks) W.scrubs;
+    swept = swept_step limit (scrubbed start) start m ms A (eff.facts limit start ms clean run.2)
+        (changes limit (length ms) (now start ms) m.event m.outcome m.state A.numbers.idle run.1)
+        (all_tell limit start ms tell run.2)
+        W.scrubs W.swept (calm_scrub (scrubbed start) start clean ms calm_scrubs)
+        (scrub_was limit start m ms clean run);
   })
 
-sweep : (limit : ℕ) (start : State) → IsStart start → AllTell start → (ms : List Moment) → IsRun limit start ms → IsCalm relies (scrubbed start) ms → AreScrubsCalm (scrubbed start) ms → Sweep start ms
+sweep : (limit : ℕ) (start : State) → IsStart start → AllTell start → (ms : List Moment) →
+    IsRun limit start ms → IsCalm relies (scrubbed start) ms → AreScrubsCalm (scrubbed start) ms →
+    Sweep start ms
 sweep limit start clean tell [] run calm scrubs = record {
   marks = start_moment start clean;
   scrubs = λ scrub h. absurd (some-not-none start.alone (Scrubbing scrub) h clean.none_alone);
   swept = λ scrub h. absurd (some-not-none start.alone (Scrubbing scrub) h clean.none_alone);
 }
-sweep limit start clean tell (m ∷ ms) run calm scrubs = sweep_step limit start m ms clean tell run calm.1 scrubs.1 (sweep limit start clean tell ms run.2 calm.1 scrubs.1)
+sweep limit start clean tell (m ∷ ms) run calm scrubs =
+    sweep_step limit start m ms clean tell run calm.1 scrubs.1
+    (sweep limit start clean tell ms run.2 calm.1 scrubs.1)
 
 -- a run that is calm counted from finished scrubs is calm by a mark: the begin of the last of these
-pub scrub_marked : (limit : ℕ) (start : State) (ms : List Moment) → IsStart start → AllTell start → IsRun limit start ms → IsScrubCalm start ms → IsMarkedRun limit (scrubbed start) start ms
-scrub_marked limit start ms clean tell run h = record { clean = clean; tell = tell; run = run; calm = h.jobs; marks = (sweep limit start clean tell ms run h.jobs h.scrubs).marks }
+pub scrub_marked : (limit : ℕ) (start : State) (ms : List Moment) → IsStart start → AllTell start →
+    IsRun limit start ms → IsScrubCalm start ms → IsMarkedRun limit (scrubbed start) start ms
+scrub_marked limit start ms clean tell run h =
+    record {
+      clean = clean;
+      tell = tell;
+      run = run;
+      calm = h.jobs;
+      marks = (sweep limit start clean tell ms run h.jobs h.scrubs).marks;
+    }
 
 -- the second half holds of each run that is calm counted from finished scrubs
-pub half_by_scrubs : (limit : ℕ) (start : State) (ms : List Moment) → IsStart start → AllTell start → IsRun limit start ms → IsScrubCalm start ms → SecondHalf start ms
-half_by_scrubs limit start ms clean tell run h = half_by_mark limit (scrubbed start) start clean tell ms run h.jobs (sweep limit start clean tell ms run h.jobs h.scrubs).marks
+pub half_by_scrubs : (limit : ℕ) (start : State) (ms : List Moment) → IsStart start → AllTell start →
+    IsRun limit start ms → IsScrubCalm start ms → SecondHalf start ms
+half_by_scrubs limit start ms clean tell run h = half_by_mark limit
+    (scrubbed start) start clean tell ms run h.jobs
+    (sweep limit start clean tell ms run h.jobs h.scrubs).marks
 
 -- ---- where no scrub begins
 
-none_runs : (limit : ℕ) (start : State) → IsStart start → (ms : List Moment) → IsRun limit start ms → BeginsNoScrub ms → (scrub : Scrub) → (now start ms).alone ≡ Some (Scrubbing scrub) → ⊥
-none_runs limit start clean [] run none scrub h = some-not-none start.alone (Scrubbing scrub) h clean.none_alone
-none_runs limit start clean (m ∷ ms) run none scrub h = by_scrub (none_runs limit start clean ms run.2 none.1) (scrub_was limit start m ms clean run scrub h)
+none_runs : (limit : ℕ) (start : State) → IsStart start → (ms : List Moment) → IsRun limit start ms →
+    BeginsNoScrub ms → (scrub : Scrub) → (now start ms).alone ≡ Some (Scrubbing scrub) → ⊥
+none_runs limit start clean [] run none scrub h =
+    some-not-none start.alone (Scrubbing scrub) h clean.none_alone
+none_runs limit start clean (m ∷ ms) run none scrub h =
+    by_scrub (none_runs limit start clean ms run.2 none.1) (scrub_was limit start m ms clean run scrub h)
   where
-    by_scrub : ((other : Scrub) → (now start ms).alone ≡ Some (Scrubbing other) → ⊥) → Scrub_is (length ms) m.event (now start ms) m.state scrub → ⊥
+    by_scrub : ((other : Scrub) → (now start ms).alone ≡ Some (Scrubbing other) → ⊥) →
+        Scrub_is (length ms) m.event (now start ms) m.state scrub → ⊥
     by_scrub before (Scrub_is.kept was b) = before scrub was
     by_scrub before (Scrub_is.begun event is alone is_open unbarred b) = none.0 event
     by_scrub before (Scrub_is.went other was goes b) = before other was
 
 -- a run in which no scrub begins is calm for scrubs, by whatever mark
-pub unscrubbed : (limit : ℕ) (mark : Mark) (start : State) (ms : List Moment) → IsStart start → IsRun limit start ms → BeginsNoScrub ms → AreScrubsCalm mark ms
+pub unscrubbed : (limit : ℕ) (mark : Mark) (start : State) (ms : List Moment) → IsStart start →
+    IsRun limit start ms → BeginsNoScrub ms → AreScrubsCalm mark ms
 unscrubbed limit mark start [] clean run none = tt
-unscrubbed limit mark start (m ∷ ms) clean run none = (λ scrub h. absurd (none_runs limit start clean (m ∷ ms) run none scrub h), unscrubbed limit mark start ms clean run.2 none.1)
+unscrubbed limit mark start (m ∷ ms) clean run none = (
+  λ scrub h. absurd (none_runs limit start clean (m ∷ ms) run none scrub h),
+  unscrubbed limit mark start ms clean run.2 none.1,
+)

@@ -49,35 +49,47 @@ abbrev pub begin_of : State → List Moment → Job → State
 begin_of start ms job = now start (first_moments job.begun ms)
 
 abbrev pub HaveFiles : State → List Moment → Type 0
-HaveFiles start ms = (k : ℕ) (j : Job) (name : List ℕ) → job_of (now start ms).jobs k ≡ Some j → j.kind ≡ GetJob name → HasFile (begin_of start ms j) (now start ms) j name
+HaveFiles start ms = (k : ℕ) (j : Job) (name : List ℕ) → job_of (now start ms).jobs k ≡ Some j →
+    j.kind ≡ GetJob name → HasFile (begin_of start ms j) (now start ms) j name
 
-module _ (limit : ℕ) (start : State) (m : Moment) (ms : List Moment) (A : All start ms) (F : HaveFiles start ms) (X : Changes limit (length ms) (now start ms) m.event m.outcome m.state) where
+module _ (limit : ℕ) (start : State) (m : Moment) (ms : List Moment) (A : All start ms)
+    (F : HaveFiles start ms) (X : Changes limit (length ms) (now start ms) m.event m.outcome m.state) where
   file_step : HaveFiles start (m ∷ ms)
   file_step k j name h kind = elim (pins_is limit start m ms A.numbers A.pins X k j h) [
     | Pins_is.had x runs pinned kind_x begun g ↦
         (let f = F k x name runs (sym kind_x ∙ kind) in
-        let same : begin_of start ms x ≡ begin_of start (m ∷ ms) j = ap (now start) (sym (ap (λ n. first_moments n (m ∷ ms)) begun ∙ first_more x.begun m ms (A.held.begun k x runs))) in
+        let same : begin_of start ms x ≡ begin_of start (m ∷ ms) j =
+        ap (now start) (sym (ap (λ n. first_moments n (m ∷ ms)) begun
+        ∙ first_more x.begun m ms (A.held.begun k x runs))) in
         record {
           file = f.file;
           in_effect = ap (λ (b : State). file_in b name) (sym same) ∙ f.in_effect;
           pinned = pinned ∙ (f.pinned ∙ ap (λ (b : State). pinned_file b f.file ∷ []) same);
-          setup = setup_kept limit start m ms A.numbers A.pins X k j h ∙ (f.setup ∙ ap (λ (b : State). setup_of b.records) same);
+          setup = setup_kept limit start m ms A.numbers A.pins X k j h
+              ∙ (f.setup ∙ ap (λ (b : State). setup_of b.records) same);
         })
     | Pins_is.new_one kd wish is k_is allowed rec ↦
         (let kd_is : kd ≡ GetJob name = sym (ap (λ (x : Job). x.kind) is) ∙ kind in
-        let g = get_file limit (now start ms) name wish (file_in (now start ms) name) refl (subst (λ kk. refusal_of_begin limit (now start ms) kk wish ≡ None) kd_is allowed) in
+        let g = get_file limit (now start ms) name wish (file_in (now start ms) name) refl
+        (subst (λ kk. refusal_of_begin limit (now start ms) kk wish ≡ None) kd_is allowed) in
         let begun : j.begun ≡ length ms = ap (λ (x : Job). x.begun) is in
-        let same : now start ms ≡ begin_of start (m ∷ ms) j = ap (now start) (sym (ap (λ n. first_moments n (m ∷ ms)) begun ∙ (first_more (length ms) m ms (omega arith) ∙ first_all ms))) in
+        let same : now start ms ≡ begin_of start (m ∷ ms) j =
+        ap (now start) (sym (ap (λ n. first_moments n (m ∷ ms)) begun
+        ∙ (first_more (length ms) m ms (omega arith) ∙ first_all ms))) in
         record {
           file = g.0;
           in_effect = ap (λ (b : State). file_in b name) (sym same) ∙ g.1;
-          pinned = ap (λ (x : Job). x.pinned) is ∙ (ap (λ kk. pinned_for (now start ms) kk) kd_is ∙ (ap (pin_found (pinned_file (now start ms))) g.1 ∙ ap (λ (b : State). pinned_file b g.0 ∷ []) same));
+          pinned = ap (λ (x : Job). x.pinned) is
+              ∙ (ap (λ kk. pinned_for (now start ms) kk) kd_is
+              ∙ (ap (pin_found (pinned_file (now start ms))) g.1
+              ∙ ap (λ (b : State). pinned_file b g.0 ∷ []) same));
           setup = ap setup_of rec ∙ ap (λ (b : State). setup_of b.records) same;
         })
   ]
 
 -- in every run a running get works on the file that was in effect under its name at its begin
-pub have_files : (limit : ℕ) (start : State) → IsStart start → (ms : List Moment) → IsRun limit start ms → HaveFiles start ms
+pub have_files : (limit : ℕ) (start : State) → IsStart start → (ms : List Moment) → IsRun limit start ms →
+    HaveFiles start ms
 have_files limit start clean [] run = λ k j name h kind. absurd (found_none start.jobs k j clean.jobs h)
 have_files limit start clean (m ∷ ms) run =
     (let A = all limit start clean ms run.2 in
@@ -94,18 +106,25 @@ IsOfGet id action = ⊥
 
 of_get : (t : Setup) (f : Pinned) → Each (IsOfGet f.id) (read_actions t (f ∷ []) ++ End ∷ [])
 of_get t f = each_append (IsOfGet f.id) (read_actions t (f ∷ [])) (End ∷ [])
-    (each_append (IsOfGet f.id) (on_each_stripe (profiled t f.profile) (length f.bytes) (open_actions t f.id)) []
+    (each_append (IsOfGet f.id) (on_each_stripe (profiled t f.profile) (length f.bytes) (open_actions t f.id))
+    []
     (each_flat (IsOfGet f.id) (open_actions t f.id) (upto (pinned_stripes t f))
-    (λ s. each_append (IsOfGet f.id) (on_each_provider t (λ j. Fetch j f.id s)) (Work f.id s ∷ []) (each_map (IsOfGet f.id) (λ j. Fetch j f.id s) (upto t.n) (λ j. refl)) (refl, tt))) tt)
+    (λ s. each_append (IsOfGet f.id) (on_each_provider t (λ j. Fetch j f.id s)) (Work f.id s ∷ [])
+    (each_map (IsOfGet f.id) (λ j. Fetch j f.id s) (upto t.n) (λ j. refl)) (refl, tt))) tt)
     (tt, tt)
 
-get_next : (w : State) (job : Job) (name : List ℕ) (f : Pinned) → job.kind ≡ GetJob name → job.pinned ≡ f ∷ [] → next_action w job ≡ slice_get (read_actions (setup_in w) (f ∷ []) ++ End ∷ []) job.place
+get_next : (w : State) (job : Job) (name : List ℕ) (f : Pinned) → job.kind ≡ GetJob name →
+    job.pinned ≡ f ∷ [] →
+    next_action w job ≡ slice_get (read_actions (setup_in w) (f ∷ []) ++ End ∷ []) job.place
 get_next w job name f kind pinned =
-    next_is_by w job ∙ (ap (λ kd. next_by w job kd job.place) kind ∙ ap (λ p. slice_get (read_actions (setup_in w) p ++ End ∷ []) job.place) pinned)
+    next_is_by w job ∙ (ap (λ kd. next_by w job kd job.place) kind
+    ∙ ap (λ p. slice_get (read_actions (setup_in w) p ++ End ∷ []) job.place) pinned)
 
-is_of_get : (w : State) (job : Job) (name : List ℕ) (f : Pinned) (action : Action) → job.kind ≡ GetJob name → job.pinned ≡ f ∷ [] → next_action w job ≡ Some action → IsOfGet f.id action
+is_of_get : (w : State) (job : Job) (name : List ℕ) (f : Pinned) (action : Action) → job.kind ≡ GetJob name →
+    job.pinned ≡ f ∷ [] → next_action w job ≡ Some action → IsOfGet f.id action
 is_of_get w job name f action kind pinned h =
-    each_get (IsOfGet f.id) (read_actions (setup_in w) (f ∷ []) ++ End ∷ []) job.place action (of_get (setup_in w) f) (sym (get_next w job name f kind pinned) ∙ h)
+    each_get (IsOfGet f.id) (read_actions (setup_in w) (f ∷ []) ++ End ∷ []) job.place action
+    (of_get (setup_in w) f) (sym (get_next w job name f kind pinned) ∙ h)
 
 -- ---- how a get ends
 
@@ -121,9 +140,11 @@ none_beside w k job lone runs = by_alone w.alone refl
 pub data Get_ends (old : State) (job : Job) (f : Pinned) (how : Answer) : Type 0 where
   with_bytes : (bytes : List ℕ) → how ≡ answer.Got bytes → Get_ends old job f how
   is_lost : (stripe row : ℕ) → how ≡ answer.Lost stripe row → next_action old job ≡ Some (Work f.id stripe) →
-      LosesRow (pinned_object old f) stripe (blocks_given job.given (setup_in old).n f.id stripe) row → Get_ends old job f how
+      LosesRow (pinned_object old f) stripe (blocks_given job.given (setup_in old).n f.id stripe) row →
+      Get_ends old job f how
 
-module _ (old : State) (job : Job) (name : List ℕ) (f : Pinned) (new : State) (kind : job.kind ≡ GetJob name) (pinned : job.pinned ≡ f ∷ []) (lone : IsLone old) where
+module _ (old : State) (job : Job) (name : List ℕ) (f : Pinned) (new : State) (kind : job.kind ≡ GetJob name)
+    (pinned : job.pinned ≡ f ∷ []) (lone : IsLone old) where
   at_end : (kd : Kind) → kd ≡ GetJob name → (how : Answer) → Ends old job kd how → Get_ends old job f how
   at_end kd is how h = by_answer how (subst (λ x. Ends old job x how) is h)
     where
@@ -141,13 +162,17 @@ module _ (old : State) (job : Job) (name : List ℕ) (f : Pinned) (new : State) 
       by_answer (answer.Scrubbed t symbols blocks) g = absurd g
       by_answer (answer.Packed before after) g = absurd g
 
-  at_work : (o s : ℕ) → o ≡ f.id → next_action old job ≡ Some (Work o s) → (how : Answer) → Acts old job (Work o s) (Ended how) new → Get_ends old job f how
+  at_work : (o s : ℕ) → o ≡ f.id → next_action old job ≡ Some (Work o s) → (how : Answer) →
+      Acts old job (Work o s) (Ended how) new → Get_ends old job f how
   at_work o s o_is next_is (answer.Lost t row) (t_is, lost, is) =
       Get_ends.is_lost t row refl
       (next_is ∙ (ap (λ n. Some (Work n s)) o_is ∙ ap (λ n. Some (Work f.id n)) (sym t_is)))
-      (subst (λ n. LosesRow (pinned_object old f) n (blocks_given job.given (setup_in old).n f.id n) row) (sym t_is)
-      (subst (λ n. LosesRow (object_in old f.profile n) s (blocks_given job.given (setup_in old).n n s) row) o_is
-      (subst (λ p. LosesRow (object_in old p o) s (blocks_given job.given (setup_in old).n o s) row) (own_profile (setup_in old).profile job.pinned f o pinned o_is) lost)))
+      (subst (λ n. LosesRow (pinned_object old f) n (blocks_given job.given (setup_in old).n f.id n) row)
+      (sym t_is)
+      (subst (λ n. LosesRow (object_in old f.profile n) s (blocks_given job.given (setup_in old).n n s) row)
+      o_is
+      (subst (λ p. LosesRow (object_in old p o) s (blocks_given job.given (setup_in old).n o s) row)
+      (own_profile (setup_in old).profile job.pinned f o pinned o_is) lost)))
   at_work o s o_is next_is (answer.Got bytes) h = absurd h
   at_work o s o_is next_is answer.Put h = absurd h
   at_work o s o_is next_is answer.Dropped h = absurd h
@@ -174,7 +199,8 @@ module _ (old : State) (job : Job) (name : List ℕ) (f : Pinned) (new : State) 
   at_fetch i o s (answer.Scrubbed t symbols blocks) h = h
   at_fetch i o s (answer.Packed before after) h = h
 
-  acts : (action : Action) → IsOfGet f.id action → next_action old job ≡ Some action → (how : Answer) → Acts old job action (Ended how) new → Get_ends old job f how
+  acts : (action : Action) → IsOfGet f.id action → next_action old job ≡ Some action → (how : Answer) →
+      Acts old job action (Ended how) new → Get_ends old job f how
   acts End of next_is how h = at_end job.kind kind how h.0
   acts (Work o s) of next_is how h = at_work o s of next_is how h
   acts (Fetch i o s) of next_is how h = absurd (at_fetch i o s how h)
@@ -186,29 +212,40 @@ module _ (old : State) (job : Job) (name : List ℕ) (f : Pinned) (new : State) 
   acts WriteGate of next_is how h = absurd of
   acts SyncGate of next_is how h = absurd of
 
-  waits : (action : Action) (holder : Option ℕ) (how : Answer) → next_action old job ≡ Some action → ActsOrWaits old job action holder (Ended how) new → Get_ends old job f how
-  waits action None how next_is h = acts action (is_of_get old job name f action kind pinned next_is) next_is how h
+  waits : (action : Action) (holder : Option ℕ) (how : Answer) → next_action old job ≡ Some action →
+      ActsOrWaits old job action holder (Ended how) new → Get_ends old job f how
+  waits action None how next_is h =
+      acts action (is_of_get old job name f action kind pinned next_is) next_is how h
   waits action (Some n) how next_is h = absurd h
 
-  on : (action : Option Action) (how : Answer) → next_action old job ≡ action → StepsOn old job action (Ended how) new → Get_ends old job f how
+  on : (action : Option Action) (how : Answer) → next_action old job ≡ action →
+      StepsOn old job action (Ended how) new → Get_ends old job f how
   on None how is h = absurd h
   on (Some action) how is h = waits action (holder_of old.append action) how is h
 
-  by_job : (found : Option Job) (how : Answer) → found ≡ Some job → StepsJob old found (Ended how) new → Get_ends old job f how
+  by_job : (found : Option Job) (how : Answer) → found ≡ Some job → StepsJob old found (Ended how) new →
+      Get_ends old job f how
   by_job None how is h = absurd h
-  by_job (Some x) how is h = on (next_action old job) how refl (subst (λ (y : Job). StepsOn old y (next_action old y) (Ended how) new) (let e : x ≡ job = cc in e) h)
+  by_job (Some x) how is h = on (next_action old job) how refl
+      (subst (λ (y : Job). StepsOn old y (next_action old y) (Ended how) new) (let e : x ≡ job = cc in e) h)
 
-  by_bar : (is_barred : Bool) (how : Answer) → job_of old.jobs job.number ≡ Some job → StepsOpen old job.number is_barred (Ended how) new → Get_ends old job f how
+  by_bar : (is_barred : Bool) (how : Answer) → job_of old.jobs job.number ≡ Some job →
+      StepsOpen old job.number is_barred (Ended how) new → Get_ends old job f how
   by_bar true how runs h = absurd h
-  by_bar false how runs h = by_job (job_of old.jobs job.number) how runs (subst (λ (x : Option Alone). StepsOne old job.number x (Ended how) new) (none_beside old job.number job lone runs) h)
+  by_bar false how runs h = by_job (job_of old.jobs job.number) how runs
+      (subst (λ (x : Option Alone). StepsOne old job.number x (Ended how) new)
+      (none_beside old job.number job lone runs) h)
 
-  by_step : (is_open : Bool) (how : Answer) → job_of old.jobs job.number ≡ Some job → Steps old job.number is_open (Ended how) new → Get_ends old job f how
+  by_step : (is_open : Bool) (how : Answer) → job_of old.jobs job.number ≡ Some job →
+      Steps old job.number is_open (Ended how) new → Get_ends old job f how
   by_step true how runs h = by_bar old.is_barred how runs h
   by_step false how runs h = absurd h
 
 -- a get that a step ends gave bytes, or is lost at a row of the stripe that it worked on
-pub get_ends : (limit : ℕ) (start : State) (m : Moment) (ms : List Moment) (job : Job) (name : List ℕ) (f : Pinned) (how : Answer) → IsLone (now start ms) → IsRun limit start (m ∷ ms) →
-    m.event ≡ Step job.number → m.outcome ≡ Ended how → job_of (now start ms).jobs job.number ≡ Some job → job.kind ≡ GetJob name → job.pinned ≡ f ∷ [] → Get_ends (now start ms) job f how
+pub get_ends : (limit : ℕ) (start : State) (m : Moment) (ms : List Moment) (job : Job) (name : List ℕ)
+    (f : Pinned) (how : Answer) → IsLone (now start ms) → IsRun limit start (m ∷ ms) →
+    m.event ≡ Step job.number → m.outcome ≡ Ended how → job_of (now start ms).jobs job.number ≡ Some job →
+    job.kind ≡ GetJob name → job.pinned ≡ f ∷ [] → Get_ends (now start ms) job f how
 get_ends limit start m ms job name f how lone run event outcome runs kind pinned =
     (let h : Happens limit (length ms) (now start ms) (Step job.number) (Ended how) m.state =
     subst (λ (x : Event). Happens limit (length ms) (now start ms) x (Ended how) m.state) event
@@ -217,21 +254,31 @@ get_ends limit start m ms job name f how lone run event outcome runs kind pinned
 
 -- ---- few wrong blocks leave the file
 
-shape_of_file : (limit : ℕ) (start : State) (ms : List Moment) (name : List ℕ) (file : File) → IsStart start → IsRun limit start ms → file_in (now start ms) name ≡ Some file →
+shape_of_file : (limit : ℕ) (start : State) (ms : List Moment) (name : List ℕ) (file : File) → IsStart start →
+    IsRun limit start ms → file_in (now start ms) name ≡ Some file →
     IsShape (setup_in (now start ms)).n (setup_in (now start ms)).l (setup_in (now start ms)).b
 shape_of_file limit start ms name file clean run h =
-    shape_in (now start ms) (λ s e. valid_shape s (valid_setup limit start ms s clean run e)) (held_file limit start ms name file clean run h).up
+    shape_in (now start ms) (λ s e. valid_shape s (valid_setup limit start ms s clean run e))
+    (held_file limit start ms name file clean run h).up
 
 few_seen : (o : Object) (bytes : List ℕ) (given : List Given) (object stripe : ℕ) →
-    count_of (λ j. is_wrong_block o bytes j stripe (block_given given object stripe j)) (upto o.shape.n) ≤ o.shape.b →
-    count_of (λ j. is_wrong_block o bytes j stripe (block_at (blocks_given given o.shape.n object stripe) j)) (upto o.shape.n) ≤ o.shape.b
+    count_of (λ j. is_wrong_block o bytes j stripe (block_given given object stripe j))
+    (upto o.shape.n) ≤ o.shape.b →
+    count_of (λ j. is_wrong_block o bytes j stripe (block_at (blocks_given given o.shape.n object stripe) j))
+    (upto o.shape.n) ≤ o.shape.b
 few_seen o bytes given object stripe few =
-    (let w = count_of-within (λ j. is_wrong_block o bytes j stripe (block_at (blocks_given given o.shape.n object stripe) j)) (λ j. is_wrong_block o bytes j stripe (block_given given object stripe j)) 0 o.shape.n
-    (λ j l h. ap (is_wrong_block o bytes j stripe) (sym (block_at-given given o.shape.n object stripe j (omega (arith, l)))) ∙ h) in
+    (let w = count_of-within
+    (λ j. is_wrong_block o bytes j stripe (block_at (blocks_given given o.shape.n object stripe) j))
+    (λ j. is_wrong_block o bytes j stripe (block_given given object stripe j)) 0 o.shape.n
+    (λ j l h. ap (is_wrong_block o bytes j stripe)
+    (sym (block_at-given given o.shape.n object stripe j (omega (arith, l)))) ∙ h) in
     omega (arith, w, few))
 
-module _ (limit : ℕ) (start : State) (m : Moment) (ms : List Moment) (job : Job) (name : List ℕ) (clean : IsStart start) (run : IsRun limit start (m ∷ ms)) (runs : job_of (now start ms).jobs job.number ≡ Some job) (kind : job.kind ≡ GetJob name)
-    (event : m.event ≡ Step job.number) (file : File) (in_effect : file_in (begin_of start ms job) name ≡ Some file) where
+module _ (limit : ℕ) (start : State) (m : Moment) (ms : List Moment) (job : Job) (name : List ℕ)
+    (clean : IsStart start) (run : IsRun limit start (m ∷ ms))
+    (runs : job_of (now start ms).jobs job.number ≡ Some job) (kind : job.kind ≡ GetJob name)
+    (event : m.event ≡ Step job.number) (file : File)
+    (in_effect : file_in (begin_of start ms job) name ≡ Some file) where
   abbrev b : State
   b = begin_of start ms job
 
@@ -240,44 +287,71 @@ module _ (limit : ℕ) (start : State) (m : Moment) (ms : List Moment) (job : Jo
 
   -- a get to which at most b providers gave a wrong block of each stripe gives the file's bytes
   pub few_give : (bytes : List ℕ) → m.outcome ≡ Ended (answer.Got bytes) →
-      ((stripe : ℕ) → stripe < stripes (file_object (begin_of start ms job) file) (length ((begin_of start ms job).bytes file.id)) → IsFewWrong (begin_of start ms job) file job stripe) → bytes ≡ (begin_of start ms job).bytes file.id
+      ((stripe : ℕ) → stripe < stripes (file_object (begin_of start ms job) file)
+      (length ((begin_of start ms job).bytes file.id)) →
+      IsFewWrong (begin_of start ms job) file job stripe) → bytes ≡ (begin_of start ms job).bytes file.id
   few_give bytes outcome few =
-      (let got = got_is_opened limit start m ms job name bytes clean run (record { event = event; outcome = outcome; runs = runs; kind = kind }) in
+      (let got = got_is_opened limit start m ms job name bytes clean run
+      (record { event = event; outcome = outcome; runs = runs; kind = kind }) in
       let same : got.file ≡ file = same_value _ got.file file got.in_effect in_effect in
       by_file got.file same got.opens)
     where
-      by_file : (g : File) → g ≡ file → OpensFile (file_object b g) (length (b.bytes g.id)) (blocks_given (given_to job.number (heard_by (Some job))) (setup_in b).n g.id) bytes → bytes ≡ b.bytes file.id
+      by_file : (g : File) → g ≡ file →
+          OpensFile (file_object b g) (length (b.bytes g.id))
+          (blocks_given (given_to job.number (heard_by (Some job))) (setup_in b).n g.id) bytes →
+          bytes ≡ b.bytes file.id
       by_file g same opens_g =
           (let o = file_object b file in
           let own = b.bytes file.id in
-          let shape = shape_of_file limit start (first_moments job.begun ms) name file clean run_b in_effect in
-          let opens : OpensFile o (length own) (blocks_given (given_to job.number (heard_by (Some job))) (setup_in b).n file.id) bytes =
-          subst (λ (x : File). OpensFile (file_object b x) (length (b.bytes x.id)) (blocks_given (given_to job.number (heard_by (Some job))) (setup_in b).n x.id) bytes) same opens_g in
+          let shape = shape_of_file limit start (first_moments job.begun ms) name file clean run_b
+          in_effect in
+          let opens : OpensFile o (length own)
+          (blocks_given (given_to job.number (heard_by (Some job))) (setup_in b).n file.id) bytes =
+          subst (λ (x : File). OpensFile (file_object b x) (length (b.bytes x.id))
+          (blocks_given (given_to job.number (heard_by (Some job))) (setup_in b).n x.id) bytes) same
+          opens_g in
           opens.cut
-          ∙ (ap (take (length own)) (flat_map-range_same (λ s. bytes_of_symbols (opens.symbols s)) (λ s. bytes_of_symbols (symbols_in o own s)) 0 (stripes o (length own))
-          (λ s l. ap bytes_of_symbols (symbols-right o own file.profile s (blocks_given job.given (setup_in b).n file.id s) (opens.symbols s) refl shape (few_seen o own job.given file.id s (few s (omega (arith, l))))
-          (subst (λ seen. GivesSymbols o s seen (opens.symbols s)) (heard_blocks job name (setup_in b).n file.id s kind) (opens.given s (omega (arith, l)))))))
-          ∙ bytes_back o own shape.2 (some_kept file.profile) (held_file limit start (first_moments job.begun ms) name file clean run_b in_effect).bytes))
+          ∙ (ap (take (length own))
+          (flat_map-range_same (λ s. bytes_of_symbols (opens.symbols s))
+          (λ s. bytes_of_symbols (symbols_in o own s)) 0 (stripes o (length own))
+          (λ s l. ap bytes_of_symbols
+          (symbols-right o own file.profile s (blocks_given job.given (setup_in b).n file.id s)
+          (opens.symbols s) refl shape (few_seen o own job.given file.id s (few s (omega (arith, l))))
+          (subst (λ seen. GivesSymbols o s seen (opens.symbols s))
+          (heard_blocks job name (setup_in b).n file.id s kind) (opens.given s (omega (arith, l)))))))
+          ∙ bytes_back o own shape.2 (some_kept file.profile)
+          (held_file limit start (first_moments job.begun ms) name file clean run_b in_effect).bytes))
 
   -- a get to which at most b providers gave a wrong block of a stripe is not lost there
-  pub few_not_lost : (stripe row : ℕ) → m.outcome ≡ Ended (answer.Lost stripe row) → IsFewWrong (begin_of start ms job) file job stripe → ⊥
+  pub few_not_lost : (stripe row : ℕ) → m.outcome ≡ Ended (answer.Lost stripe row) →
+      IsFewWrong (begin_of start ms job) file job stripe → ⊥
   few_not_lost stripe row outcome few =
       (let H = have_files limit start clean ms run.2 job.number job name runs kind in
       let same : H.file ≡ file = same_value _ H.file file H.in_effect in_effect in
       by_end (setup_same (now start ms) b H.setup)
-      (get_ends limit start m ms job name (pinned_file b file) (answer.Lost stripe row) (all limit start clean ms run.2).numbers.idle.lone run event outcome runs kind (H.pinned ∙ ap (λ (x : File). pinned_file b x ∷ []) same)))
+      (get_ends limit start m ms job name (pinned_file b file) (answer.Lost stripe row)
+      (all limit start clean ms run.2).numbers.idle.lone run event outcome runs kind
+      (H.pinned ∙ ap (λ (x : File). pinned_file b x ∷ []) same)))
     where
-      by_end : setup_in (now start ms) ≡ setup_in b → Get_ends (now start ms) job (pinned_file b file) (answer.Lost stripe row) → ⊥
+      by_end : setup_in (now start ms) ≡ setup_in b →
+          Get_ends (now start ms) job (pinned_file b file) (answer.Lost stripe row) → ⊥
       by_end s (Get_ends.with_bytes bytes e) = (let f : answer.Lost stripe row ≡ answer.Got bytes = e in cc)
       by_end s (Get_ends.is_lost t r e next_is lost) =
           (let t_is : t ≡ stripe = (let f : answer.Lost stripe row ≡ answer.Lost t r = e in cc) in
-          contradicts t_is (subst (λ (u : Setup). LosesRow (object_of (profiled u file.profile) file.id) t (blocks_given job.given u.n file.id t) r) s lost))
+          contradicts t_is (subst
+          (λ (u : Setup). LosesRow (object_of (profiled u file.profile) file.id) t
+          (blocks_given job.given u.n file.id t) r) s lost))
         where
-          contradicts : t ≡ stripe → LosesRow (file_object b file) t (blocks_given job.given (setup_in b).n file.id t) r → ⊥
+          contradicts : t ≡ stripe →
+              LosesRow (file_object b file) t (blocks_given job.given (setup_in b).n file.id t) r → ⊥
           contradicts t_is l =
-              l.lost (row_polynomial (file_object b file) (symbols_in (file_object b file) (b.bytes file.id) t) l.place)
-              (row-right (file_object b file) (b.bytes file.id) file.profile t l.place (blocks_given job.given (setup_in b).n file.id t) l.opened refl
+              l.lost (row_polynomial (file_object b file)
+              (symbols_in (file_object b file) (b.bytes file.id) t) l.place)
+              (row-right (file_object b file) (b.bytes file.id) file.profile t l.place
+              (blocks_given job.given (setup_in b).n file.id t) l.opened refl
               (shape_of_file limit start (first_moments job.begun ms) name file clean run_b in_effect)
-              (few_seen (file_object b file) (b.bytes file.id) job.given file.id t (subst (IsFewWrong b file job) (sym t_is) few))
+              (few_seen (file_object b file) (b.bytes file.id) job.given file.id t
+              (subst (IsFewWrong b file job) (sym t_is) few))
               l.opens
-              (let room = profile-room (file_object b file) file.profile refl in let k = l.kept in omega (arith, room, k)))
+              (let room = profile-room (file_object b file) file.profile refl in let k = l.kept in
+              omega (arith, room, k)))

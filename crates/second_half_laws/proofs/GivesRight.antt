@@ -16,25 +16,40 @@ use Rattle.second_half_laws.proofs.Lists.{get_map_upto}
 
 -- the blocks open to the columns without masks
 all_open : (o : Object) (bytes : List ℕ) (stripe n a : ℕ) → a + n ≤ 256 →
-    AllOpen o stripe a (map (λ j. Some (columns o bytes j stripe)) (range_with_len a n)) (map (λ j. Some (bare o j stripe (columns o bytes j stripe))) (range_with_len a n))
+    AllOpen o stripe a (map (λ j. Some (columns o bytes j stripe)) (range_with_len a n))
+    (map (λ j. Some (bare o j stripe (columns o bytes j stripe))) (range_with_len a n))
 all_open o bytes stripe zero a l = tt
-all_open o bytes stripe (suc n) a l = (opens-own o bytes a stripe (omega (arith, l)), all_open o bytes stripe n (a + 1) (omega (arith, l)))
+all_open o bytes stripe (suc n) a l =
+    (opens-own o bytes a stripe (omega (arith, l)), all_open o bytes stripe n (a + 1) (omega (arith, l)))
 
 -- numbers of a range none of which pass a test
-none_pass : (p : ℕ → Bool) (a n : ℕ) → ((j : ℕ) → j < a + n → p j ≡ false) → count_of p (range_with_len a n) ≡ 0
+none_pass : (p : ℕ → Bool) (a n : ℕ) → ((j : ℕ) → j < a + n → p j ≡ false) →
+    count_of p (range_with_len a n) ≡ 0
 none_pass p a zero h = refl
-none_pass p a (suc n) h = (let e = none_pass p (a + 1) n (λ j l. h j (omega (arith, l))) in rw (h a (omega arith)) (let z : 0 + count_of p (range_with_len (a + 1) n) ≡ 0 = omega (arith, e) in z))
+none_pass p a (suc n) h =
+    (let e = none_pass p (a + 1) n (λ j l. h j (omega (arith, l))) in
+    rw (h a (omega arith)) (let z : 0 + count_of p (range_with_len (a + 1) n) ≡ 0 = omega (arith, e) in
+    z))
 
-block_at_own : (o : Object) (bytes : List ℕ) (stripe j : ℕ) → j < o.shape.n → block_at (own_blocks o bytes stripe) j ≡ Some (columns o bytes j stripe)
-block_at_own o bytes stripe j l = ap (λ (b : Option SeenBlock). option_and_then (λ (c : SeenBlock). c) b) (get_map_upto (λ i. Some (columns o bytes i stripe)) o.shape.n j l)
+block_at_own : (o : Object) (bytes : List ℕ) (stripe j : ℕ) → j < o.shape.n →
+    block_at (own_blocks o bytes stripe) j ≡ Some (columns o bytes j stripe)
+block_at_own o bytes stripe j l = ap (λ (b : Option SeenBlock). option_and_then (λ (c : SeenBlock). c) b)
+    (get_map_upto (λ i. Some (columns o bytes i stripe)) o.shape.n j l)
 
 -- so they give them
-pub own_give : (o : Object) (bytes : List ℕ) (number stripe : ℕ) → o.profile ≡ profile_of number → IsShape o.shape.n o.shape.l o.shape.b → GivesSymbols o stripe (own_blocks o bytes stripe) (symbols_in o bytes stripe)
-own_give o bytes number stripe is shape = given-right o bytes number stripe (own_blocks o bytes stripe) (map (λ j. Some (bare o j stripe (columns o bytes j stripe))) (upto o.shape.n)) is shape few opens
+pub own_give : (o : Object) (bytes : List ℕ) (number stripe : ℕ) → o.profile ≡ profile_of number →
+    IsShape o.shape.n o.shape.l o.shape.b →
+    GivesSymbols o stripe (own_blocks o bytes stripe) (symbols_in o bytes stripe)
+own_give o bytes number stripe is shape = given-right o bytes number stripe (own_blocks o bytes stripe)
+    (map (λ j. Some (bare o j stripe (columns o bytes j stripe))) (upto o.shape.n)) is shape few opens
   where
-    opens : AllOpen o stripe 0 (own_blocks o bytes stripe) (map (λ j. Some (bare o j stripe (columns o bytes j stripe))) (upto o.shape.n))
+    opens : AllOpen o stripe 0 (own_blocks o bytes stripe)
+        (map (λ j. Some (bare o j stripe (columns o bytes j stripe))) (upto o.shape.n))
     opens = all_open o bytes stripe o.shape.n 0 (omega (arith, shape.1))
 
-    few : count_of (λ j. is_wrong_block o bytes j stripe (block_at (own_blocks o bytes stripe) j)) (upto o.shape.n) ≤ o.shape.b
-    few = (let e = none_pass (λ j. is_wrong_block o bytes j stripe (block_at (own_blocks o bytes stripe) j)) 0 o.shape.n
-        (λ j l. ap (is_wrong_block o bytes j stripe) (block_at_own o bytes stripe j (omega (arith, l))) ∙ column-right o bytes j stripe) in omega (arith, e))
+    few : count_of (λ j. is_wrong_block o bytes j stripe (block_at (own_blocks o bytes stripe) j))
+        (upto o.shape.n) ≤ o.shape.b
+    few = (let e = none_pass (λ j. is_wrong_block o bytes j stripe (block_at (own_blocks o bytes stripe) j)) 0
+        o.shape.n
+        (λ j l. ap (is_wrong_block o bytes j stripe) (block_at_own o bytes stripe j (omega (arith, l)))
+        ∙ column-right o bytes j stripe) in omega (arith, e))

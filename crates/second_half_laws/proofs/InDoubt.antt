@@ -47,77 +47,115 @@ at_rest_or w = elim (cases_Bool w.is_open) [
 
 -- in every run
 pub record Kept (start : State) (ms : List Moment) : Type 0 where
-  pub begun : (d : Doubt) (job : Job) → (now start ms).doubt ≡ Some d → d.maker ≡ Some job → job.begun ≤ length ms
-  pub below : (d : Doubt) (job : Job) (f : Pinned) → (now start ms).doubt ≡ Some d → d.maker ≡ Some job → In f job.pinned → f.id < next_id (now start ms).records
-  pub audited : (d : Doubt) (job : Job) (f : Pinned) (i s : ℕ) → (now start ms).doubt ≡ Some d → d.maker ≡ Some job → job.kind ≡ AuditJob → In f job.pinned → is_replaced_since job.begun i ms ≡ false →
+  pub begun : (d : Doubt) (job : Job) → (now start ms).doubt ≡ Some d → d.maker ≡ Some job →
+      job.begun ≤ length ms
+  pub below : (d : Doubt) (job : Job) (f : Pinned) → (now start ms).doubt ≡ Some d → d.maker ≡ Some job →
+      In f job.pinned → f.id < next_id (now start ms).records
+  pub audited : (d : Doubt) (job : Job) (f : Pinned) (i s : ℕ) → (now start ms).doubt ≡ Some d →
+      d.maker ≡ Some job → job.kind ≡ AuditJob → In f job.pinned → is_replaced_since job.begun i ms ≡ false →
       told_block (now start ms) i f.id s ≡ told_block (now start (first_moments job.begun ms)) i f.id s
 
-module _ (limit : ℕ) (start : State) (m : Moment) (ms : List Moment) (A : All start ms) (E : Always start ms) (K : Kept start ms)
-    (X : Changes limit (length ms) (now start ms) m.event m.outcome m.state) (T : Turns (now start ms) m.state)
-    (Q : IsAtRest (now start ms) → (i o s : ℕ) → (told_block m.state i o s ≡ told_block (now start ms) i o s) ⊎ (is_replacement m.event m.outcome i ≡ true)) where
+module _ (limit : ℕ) (start : State) (m : Moment) (ms : List Moment) (A : All start ms) (E : Always start ms)
+    (K : Kept start ms)
+    (X : Changes limit (length ms) (now start ms) m.event m.outcome m.state)
+    (T : Turns (now start ms) m.state)
+    (Q : IsAtRest (now start ms) → (i o s : ℕ) →
+    (told_block m.state i o s ≡ told_block (now start ms) i o s) ⊎
+    (is_replacement m.event m.outcome i ≡ true)) where
   -- a file of a running audit
-  running_block : (x : Job) (f : Pinned) (i s : ℕ) → job_of (now start ms).jobs x.number ≡ Some x → x.kind ≡ AuditJob → In f x.pinned →
-      (told_block m.state i f.id s ≡ told_block (now start ms) i f.id s) ⊎ (is_replacement m.event m.outcome i ≡ true)
+  running_block : (x : Job) (f : Pinned) (i s : ℕ) → job_of (now start ms).jobs x.number ≡ Some x →
+      x.kind ≡ AuditJob → In f x.pinned →
+      (told_block m.state i f.id s ≡ told_block (now start ms) i f.id s) ⊎
+      (is_replacement m.event m.outcome i ≡ true)
   running_block x f i s runs kind in_f = elim (X.block i f.id s) [
     | Block_is.same e ↦ inl e
     | Block_is.replaced r ↦ inr r
-    | Block_is.stored y runs_y next_y is ↦ absurd (elim (store_kinds y y.kind i f.id s refl (is_fair (now start ms) y (Store i f.id s) next_y)) [
-      | inl (name, bytes, kind_y, o_is) ↦
-          (let place = store_place (now start ms) y name bytes i f.id s kind_y next_y in
-          some-not-none (started_as (now start ms).records f.id) name (ap (started_as (now start ms).records) o_is ∙ A.pins.started y.number y name bytes runs_y kind_y place.0 (let l = place.1 in omega arith)) (A.pins.pins x.number x f runs in_f).1)
-      | inr (repairs, pin) ↦
-          (let n : y.number ≡ x.number = A.pins.checks y.number x.number y x runs_y runs (ap (λ kd. is_check (aim_of kd)) repairs) (ap (λ kd. is_check (aim_of kd)) kind) in
-          let e : y ≡ x = same_value _ y x (subst (λ z. job_of (now start ms).jobs z ≡ Some y) n runs_y) runs in
-          let z : RepairJob ≡ AuditJob = sym repairs ∙ (ap (λ (q : Job). q.kind) e ∙ kind) in cc)
-    ])
-    | Block_is.scrubbed scrub rest at next_is is ↦ absurd (found_none (now start ms).jobs x.number x (A.numbers.idle.lone (Scrubbing scrub) at) runs)
-    | Block_is.removed y runs_y next_y ↦ absurd (A.pins.older_free y.number x.number y x f.id f runs_y (remove_kinds y y.kind i f.id refl (is_fair (now start ms) y (Remove i f.id) next_y)) runs in_f refl)
+    | Block_is.stored y runs_y next_y is ↦
+        absurd (elim (store_kinds y y.kind i f.id s refl (is_fair (now start ms) y (Store i f.id s) next_y)) [
+          | inl (name, bytes, kind_y, o_is) ↦
+              (let place = store_place (now start ms) y name bytes i f.id s kind_y next_y in
+              some-not-none (started_as (now start ms).records f.id) name
+              (ap (started_as (now start ms).records) o_is
+              ∙ A.pins.started y.number y name bytes runs_y kind_y place.0
+              (let l = place.1 in omega arith)) (A.pins.pins x.number x f runs in_f).1)
+          | inr (repairs, pin) ↦
+              (let n : y.number ≡ x.number = A.pins.checks y.number x.number y x runs_y runs
+              (ap (λ kd. is_check (aim_of kd)) repairs) (ap (λ kd. is_check (aim_of kd)) kind) in
+              let e : y ≡ x = same_value _ y x (subst (λ z. job_of (now start ms).jobs z ≡ Some y) n runs_y)
+              runs in
+              let z : RepairJob ≡ AuditJob = sym repairs ∙ (ap (λ (q : Job). q.kind) e ∙ kind) in cc)
+        ])
+    | Block_is.scrubbed scrub rest at next_is is ↦ absurd
+        (found_none (now start ms).jobs x.number x (A.numbers.idle.lone (Scrubbing scrub) at) runs)
+    | Block_is.removed y runs_y next_y ↦
+        absurd (A.pins.older_free y.number x.number y x f.id f runs_y
+        (remove_kinds y y.kind i f.id refl (is_fair (now start ms) y (Remove i f.id) next_y)) runs in_f
+        refl)
   ]
 
   -- a file of the audit whose record was in doubt before the event
-  doubted_block : (d : Doubt) (job : Job) (f : Pinned) (i s : ℕ) → (now start ms).doubt ≡ Some d → d.maker ≡ Some job → job.kind ≡ AuditJob → In f job.pinned →
-      (told_block m.state i f.id s ≡ told_block (now start ms) i f.id s) ⊎ (is_replacement m.event m.outcome i ≡ true)
+  doubted_block : (d : Doubt) (job : Job) (f : Pinned) (i s : ℕ) → (now start ms).doubt ≡ Some d →
+      d.maker ≡ Some job → job.kind ≡ AuditJob → In f job.pinned →
+      (told_block m.state i f.id s ≡ told_block (now start ms) i f.id s) ⊎
+      (is_replacement m.event m.outcome i ≡ true)
   doubted_block d job f i s at maker kind in_f = elim (at_rest_or (now start ms)) [
     | inr rest ↦ Q rest i f.id s
     | inl (open_, unbarred) ↦ (let g = E.doubt_runs d open_ unbarred at in
         let e : g.job ≡ job = same_value d.maker g.job job g.maker maker in
-        running_block job f i s (subst (λ (y : Job). job_of (now start ms).jobs y.number ≡ Some y) e g.runs) kind in_f)
+        running_block job f i s (subst (λ (y : Job). job_of (now start ms).jobs y.number ≡ Some y) e g.runs)
+        kind in_f)
   ]
 
-  begun_step : (d : Doubt) (job : Job) → m.state.doubt ≡ Some d → d.maker ≡ Some job → job.begun ≤ suc (length ms)
+  begun_step : (d : Doubt) (job : Job) → m.state.doubt ≡ Some d → d.maker ≡ Some job →
+      job.begun ≤ suc (length ms)
   begun_step d job h maker = elim (T.doubt d h) [
     | Doubt_now.kept was rec ↦ (let l = K.begun d job was maker in omega arith)
-    | Doubt_now.gated x a runs next_is flight mine entry_is maker_is rec on ↦ (let e : job ≡ advanced x = same_value d.maker job (advanced x) maker maker_is in let b : job.begun ≡ x.begun = ap (λ (y : Job). y.begun) e in let l = A.held.begun x.number x runs in omega arith)
-    | Doubt_now.set_up t entry_is bare none closed ↦ absurd (some-not-none d.maker job maker bare)
-  ]
-
-  below_step : (d : Doubt) (job : Job) (f : Pinned) → m.state.doubt ≡ Some d → d.maker ≡ Some job → In f job.pinned → f.id < next_id m.state.records
-  below_step d job f h maker in_f = elim (T.doubt d h) [
-    | Doubt_now.kept was rec ↦ (let l = K.below d job f was maker in_f in let e = ap next_id rec in omega arith)
     | Doubt_now.gated x a runs next_is flight mine entry_is maker_is rec on ↦
         (let e : job ≡ advanced x = same_value d.maker job (advanced x) maker maker_is in
-        let l = (A.pins.pins x.number x f runs (subst (λ (y : Job). In f y.pinned) e in_f)).0 in let r = ap next_id rec in omega arith)
+        let b : job.begun ≡ x.begun = ap (λ (y : Job). y.begun) e in
+        let l = A.held.begun x.number x runs in omega arith)
     | Doubt_now.set_up t entry_is bare none closed ↦ absurd (some-not-none d.maker job maker bare)
   ]
 
-  audited_step : (d : Doubt) (job : Job) (f : Pinned) (i s : ℕ) → m.state.doubt ≡ Some d → d.maker ≡ Some job → job.kind ≡ AuditJob → In f job.pinned → is_replaced_since job.begun i (m ∷ ms) ≡ false →
+  below_step : (d : Doubt) (job : Job) (f : Pinned) → m.state.doubt ≡ Some d → d.maker ≡ Some job →
+      In f job.pinned → f.id < next_id m.state.records
+  below_step d job f h maker in_f = elim (T.doubt d h) [
+    | Doubt_now.kept was rec ↦
+        (let l = K.below d job f was maker in_f in let e = ap next_id rec in omega arith)
+    | Doubt_now.gated x a runs next_is flight mine entry_is maker_is rec on ↦
+        (let e : job ≡ advanced x = same_value d.maker job (advanced x) maker maker_is in
+        let l = (A.pins.pins x.number x f runs (subst (λ (y : Job). In f y.pinned) e in_f)).0 in
+        let r = ap next_id rec in omega arith)
+    | Doubt_now.set_up t entry_is bare none closed ↦ absurd (some-not-none d.maker job maker bare)
+  ]
+
+  audited_step : (d : Doubt) (job : Job) (f : Pinned) (i s : ℕ) → m.state.doubt ≡ Some d →
+      d.maker ≡ Some job → job.kind ≡ AuditJob → In f job.pinned →
+      is_replaced_since job.begun i (m ∷ ms) ≡ false →
       told_block m.state i f.id s ≡ told_block (now start (first_moments job.begun (m ∷ ms))) i f.id s
   audited_step d job f i s h maker kind in_f none = elim (T.doubt d h) [
-    | Doubt_now.kept was rec ↦ behind (K.begun d job was maker) (doubted_block d job f i s was maker kind in_f) (K.audited d job f i s was maker kind in_f (replaced_before job.begun i m ms none))
+    | Doubt_now.kept was rec ↦ behind (K.begun d job was maker)
+        (doubted_block d job f i s was maker kind in_f)
+        (K.audited d job f i s was maker kind in_f (replaced_before job.begun i m ms none))
     | Doubt_now.gated x a runs next_is flight mine entry_is maker_is rec on ↦
         (let e : job ≡ advanced x = same_value d.maker job (advanced x) maker maker_is in
         let begun : job.begun ≡ x.begun = ap (λ (y : Job). y.begun) e in
         let kx : x.kind ≡ AuditJob = sym (ap (λ (y : Job). y.kind) e) ∙ kind in
         let in_x = subst (λ (y : Job). In f y.pinned) e in_f in
         behind (let l = A.held.begun x.number x runs in omega arith) (running_block x f i s runs kx in_x)
-        (A.held.audited x.number x f i s runs kx in_x (subst (λ n. is_replaced_since n i ms ≡ false) begun (replaced_before job.begun i m ms none)) ∙ ap (λ n. told_block (now start (first_moments n ms)) i f.id s) (sym begun)))
+        (A.held.audited x.number x f i s runs kx in_x
+        (subst (λ n. is_replaced_since n i ms ≡ false) begun (replaced_before job.begun i m ms none))
+        ∙ ap (λ n. told_block (now start (first_moments n ms)) i f.id s) (sym begun)))
     | Doubt_now.set_up t entry_is bare none_up closed ↦ absurd (some-not-none d.maker job maker bare)
   ]
     where
-      behind : job.begun ≤ length ms → (told_block m.state i f.id s ≡ told_block (now start ms) i f.id s) ⊎ (is_replacement m.event m.outcome i ≡ true) →
-          told_block (now start ms) i f.id s ≡ told_block (now start (first_moments job.begun ms)) i f.id s → told_block m.state i f.id s ≡ told_block (now start (first_moments job.begun (m ∷ ms))) i f.id s
+      behind : job.begun ≤ length ms → (told_block m.state i f.id s ≡ told_block (now start ms) i f.id s) ⊎
+          (is_replacement m.event m.outcome i ≡ true) →
+          told_block (now start ms) i f.id s ≡ told_block (now start (first_moments job.begun ms)) i f.id s →
+          told_block m.state i f.id s ≡ told_block (now start (first_moments job.begun (m ∷ ms))) i f.id s
       behind l block before = elim block [
-        | inl e ↦ e ∙ (before ∙ ap (λ hs. told_block (now start hs) i f.id s) (sym (first_more job.begun m ms l)))
+        | inl e ↦ e ∙ (before
+            ∙ ap (λ hs. told_block (now start hs) i f.id s) (sym (first_more job.begun m ms l)))
         | inr r ↦ absurd (false≢true (sym none ∙ since_now job.begun i m ms r l))
       ]
 
@@ -125,7 +163,8 @@ module _ (limit : ℕ) (start : State) (m : Moment) (ms : List Moment) (A : All 
   kept_step = record { begun = begun_step; below = below_step; audited = audited_step }
 
 -- in every run the blocks of an audit whose record is in doubt are those at its begin, but for replacements
-pub kept : (limit : ℕ) (start : State) → IsStart start → (ms : List Moment) → IsRun limit start ms → Kept start ms
+pub kept : (limit : ℕ) (start : State) → IsStart start → (ms : List Moment) → IsRun limit start ms →
+    Kept start ms
 kept limit start clean [] run = record {
   begun = λ d job h. absurd (some-not-none start.doubt d h clean.doubt);
   below = λ d job f h. absurd (some-not-none start.doubt d h clean.doubt);
@@ -133,34 +172,50 @@ kept limit start clean [] run = record {
 }
 kept limit start clean (m ∷ ms) run =
     (let A = all limit start clean ms run.2 in
-    kept_step limit start m ms A (always limit start clean ms run.2) (kept limit start clean ms run.2) (changes limit (length ms) (now start ms) m.event m.outcome m.state A.numbers.idle run.1)
-    (turns (now start ms) limit (length ms) m.event m.outcome m.state run.1) (λ rest. quiet_blocks (now start ms) limit (length ms) m.event m.outcome m.state rest run.1))
+    kept_step limit start m ms A (always limit start clean ms run.2) (kept limit start clean ms run.2)
+    (changes limit (length ms) (now start ms) m.event m.outcome m.state A.numbers.idle run.1)
+    (turns (now start ms) limit (length ms) m.event m.outcome m.state run.1)
+    (λ rest. quiet_blocks (now start ms) limit (length ms) m.event m.outcome m.state rest run.1))
 
 -- ---- repairs, in a run that is calm by a mark
 
 abbrev pub Rewritten : State → List Moment → Type 0
-Rewritten start ms = (d : Doubt) (job : Job) (i o s : ℕ) (b : Option (List ℕ)) → (now start ms).doubt ≡ Some d → d.maker ≡ Some job → job.kind ≡ RepairJob → HasMadeStore (setup_in (now start ms)) job i o s →
-    is_replaced_since job.begun i ms ≡ false → told_block (now start ms) i o s ≡ Some b → b ≡ Some (columns (worked_object (now start ms) job o) ((now start ms).bytes o) i s)
+Rewritten start ms = (d : Doubt) (job : Job) (i o s : ℕ) (b : Option (List ℕ)) →
+    (now start ms).doubt ≡ Some d → d.maker ≡ Some job → job.kind ≡ RepairJob →
+    HasMadeStore (setup_in (now start ms)) job i o s →
+    is_replaced_since job.begun i ms ≡ false → told_block (now start ms) i o s ≡ Some b →
+    b ≡ Some (columns (worked_object (now start ms) job o) ((now start ms).bytes o) i s)
 
 -- the stores of a repair before its third move were made before
-made_before : (t : Setup) (w : State) (x job : Job) (i o s : ℕ) → t ≡ setup_in w → job ≡ advanced x → next_action w x ≡ Some WriteGate → HasMadeStore t job i o s → HasMadeStore (setup_in w) x i o s
+made_before : (t : Setup) (w : State) (x job : Job) (i o s : ℕ) → t ≡ setup_in w → job ≡ advanced x →
+    next_action w x ≡ Some WriteGate → HasMadeStore t job i o s → HasMadeStore (setup_in w) x i o s
 made_before t w x job i o s setup e next_is made = record { place = made.place; made = early; action = at_x }
   where
     at_x : slice_get (actions_of (setup_in w) x) made.place ≡ Some (Store i o s)
-    at_x = ap (λ l. slice_get l made.place) (sym (ap (λ (y : Job). actions_of t y) e ∙ (ap (λ u. actions_of u (advanced x)) setup
-        ∙ (actions_are (setup_in w) (advanced x) x.kind refl ∙ (actions_by-advanced (setup_in w) x x.kind ∙ sym (actions_are (setup_in w) x x.kind refl)))))) ∙ made.action
+    at_x = ap (λ l. slice_get l made.place)
+        (sym (ap (λ (y : Job). actions_of t y) e ∙ (ap (λ u. actions_of u (advanced x)) setup
+        ∙ (actions_are (setup_in w) (advanced x) x.kind refl
+        ∙ (actions_by-advanced (setup_in w) x x.kind ∙ sym (actions_are (setup_in w) x x.kind refl))))))
+        ∙ made.action
 
     early : made.place < x.place
-    early = (let l = made.made in let p : job.place ≡ x.place + 1 = ap (λ (y : Job). y.place) e in elim (cases_lt made.place x.place) [
-      | inl k ↦ k
-      | inr k ↦ absurd (let here : made.place ≡ x.place = omega arith in
-          let z : WriteGate ≡ Store i o s = same_value _ WriteGate (Store i o s) (next_stands w x WriteGate next_is (λ q. cc)) (subst (λ n. slice_get (actions_of (setup_in w) x) n ≡ Some (Store i o s)) here at_x) in cc)
-    ])
+    early = (let l = made.made in let p : job.place ≡ x.place + 1 = ap (λ (y : Job). y.place) e in
+        elim (cases_lt made.place x.place) [
+          | inl k ↦ k
+          | inr k ↦ absurd (let here : made.place ≡ x.place = omega arith in
+              let z : WriteGate ≡ Store i o s = same_value _ WriteGate (Store i o s)
+              (next_stands w x WriteGate next_is (λ q. cc))
+              (subst (λ n. slice_get (actions_of (setup_in w) x) n ≡ Some (Store i o s)) here at_x) in cc)
+        ])
 
 -- what a repair stored whose record is in doubt is the file's own, but for replacements
-pub rewritten : (limit : ℕ) (mark : Mark) (start : State) → IsStart start → AllTell start → (ms : List Moment) → IsRun limit start ms → IsCalm relies mark ms → AreMarks mark start ms → Rewritten start ms
-rewritten limit mark start clean tell [] run calm marks = λ d job i o s b h. absurd (some-not-none start.doubt d h clean.doubt)
-rewritten limit mark start clean tell (m ∷ ms) run calm marks = step (rewritten limit mark start clean tell ms run.2 calm.1 marks.1)
+pub rewritten : (limit : ℕ) (mark : Mark) (start : State) → IsStart start → AllTell start →
+    (ms : List Moment) → IsRun limit start ms → IsCalm relies mark ms → AreMarks mark start ms →
+    Rewritten start ms
+rewritten limit mark start clean tell [] run calm marks =
+    λ d job i o s b h. absurd (some-not-none start.doubt d h clean.doubt)
+rewritten limit mark start clean tell (m ∷ ms) run calm marks =
+    step (rewritten limit mark start clean tell ms run.2 calm.1 marks.1)
   where
     A : All start ms
     A = all limit start clean ms run.2
@@ -169,49 +224,88 @@ rewritten limit mark start clean tell (m ∷ ms) run calm marks = step (rewritte
     E = always limit start clean ms run.2
 
     X : Changes limit (length ms) (now start ms) m.event m.outcome m.state
-    X = changes limit (length ms) (now start ms) m.event m.outcome m.state (all limit start clean ms run.2).numbers.idle run.1
+    X = changes limit (length ms) (now start ms) m.event m.outcome m.state
+        (all limit start clean ms run.2).numbers.idle run.1
 
     -- while the repair runs
-    while_running : (x : Job) (i o s : ℕ) (b : Option (List ℕ)) → job_of (now start ms).jobs x.number ≡ Some x → x.kind ≡ RepairJob → HasMadeStore (setup_in (now start ms)) x i o s → is_replaced_since x.begun i (m ∷ ms) ≡ false →
-        told_block m.state i o s ≡ Some b → b ≡ Some (columns (worked_object (now start ms) x o) ((now start ms).bytes o) i s)
+    while_running : (x : Job) (i o s : ℕ) (b : Option (List ℕ)) →
+        job_of (now start ms).jobs x.number ≡ Some x → x.kind ≡ RepairJob →
+        HasMadeStore (setup_in (now start ms)) x i o s → is_replaced_since x.begun i (m ∷ ms) ≡ false →
+        told_block m.state i o s ≡ Some b →
+        b ≡ Some (columns (worked_object (now start ms) x o) ((now start ms).bytes o) i s)
     while_running x i o s b runs kind made none told =
-        rd.carry limit mark start m ms clean run.2 A (num.facts audits limit start clean ms run.2) (eff.facts limit start ms clean run.2) E (marked_facts limit mark start clean tell ms run.2 calm.1 marks.1) X
-        (turns (now start ms) limit (length ms) m.event m.outcome m.state run.1) (walked (length ms) (now start ms) limit m.event m.outcome m.state (all limit start clean ms run.2).numbers.idle.lone run.1) (run_onward limit start m ms run) (all_tell limit start ms tell run.2) (calm_now mark start clean ms calm.1) x.number x i o s b runs kind made none told
+        rd.carry limit mark start m ms clean run.2 A (num.facts audits limit start clean ms run.2)
+        (eff.facts limit start ms clean run.2) E
+        (marked_facts limit mark start clean tell ms run.2 calm.1 marks.1) X
+        (turns (now start ms) limit (length ms) m.event m.outcome m.state run.1)
+        (walked (length ms) (now start ms) limit m.event m.outcome m.state
+        (all limit start clean ms run.2).numbers.idle.lone run.1) (run_onward limit start m ms run)
+        (all_tell limit start ms tell run.2) (calm_now mark start clean ms calm.1) x.number x i o s b
+        runs kind made none told
 
-    pin : (x : Job) (i o s : ℕ) → x.kind ≡ RepairJob → HasMadeStore (setup_in (now start ms)) x i o s → HasPin x o
+    pin : (x : Job) (i o s : ℕ) → x.kind ≡ RepairJob → HasMadeStore (setup_in (now start ms)) x i o s →
+        HasPin x o
     pin x i o s kind made =
-        rd.made_pin limit mark start m ms clean run.2 A (num.facts audits limit start clean ms run.2) (eff.facts limit start ms clean run.2) E (marked_facts limit mark start clean tell ms run.2 calm.1 marks.1) X
-        (turns (now start ms) limit (length ms) m.event m.outcome m.state run.1) (walked (length ms) (now start ms) limit m.event m.outcome m.state (all limit start clean ms run.2).numbers.idle.lone run.1) (run_onward limit start m ms run) (all_tell limit start ms tell run.2) (calm_now mark start clean ms calm.1) x i o s kind made
+        rd.made_pin limit mark start m ms clean run.2 A (num.facts audits limit start clean ms run.2)
+        (eff.facts limit start ms clean run.2) E
+        (marked_facts limit mark start clean tell ms run.2 calm.1 marks.1) X
+        (turns (now start ms) limit (length ms) m.event m.outcome m.state run.1)
+        (walked (length ms) (now start ms) limit m.event m.outcome m.state
+        (all limit start clean ms run.2).numbers.idle.lone run.1) (run_onward limit start m ms run)
+        (all_tell limit start ms tell run.2) (calm_now mark start clean ms calm.1) x i o s kind made
 
     step : Rewritten start ms → Rewritten start (m ∷ ms)
-    step before d job i o s b h maker kind made none told = elim ((turns (now start ms) limit (length ms) m.event m.outcome m.state run.1).doubt d h) [
-      | Doubt_now.kept was rec ↦
-          (let setup = setup_same m.state (now start ms) (ap setup_of rec) in
-          let old : HasMadeStore (setup_in (now start ms)) job i o s = record { place = made.place; made = made.made; action = ap (λ t. slice_get (actions_of t job) made.place) (sym setup) ∙ made.action } in
-          let p = pin job i o s kind old in
-          let below : o < next_id (now start ms).records = subst (λ n. n < next_id (now start ms).records) p.id_is ((kept limit start clean ms run.2).below d job p.file was maker p.pinned) in
-          on below setup (elim (at_rest_or (now start ms)) [
-            | inl (open_, unbarred) ↦ (let g = E.doubt_runs d open_ unbarred was in
-                let e : g.job ≡ job = same_value d.maker g.job job g.maker maker in
-                while_running job i o s b (subst (λ (y : Job). job_of (now start ms).jobs y.number ≡ Some y) e g.runs) kind old none told)
-            | inr rest ↦ elim (quiet_blocks (now start ms) limit (length ms) m.event m.outcome m.state rest run.1 i o s) [
-              | inl e ↦ before d job i o s b was maker kind old (replaced_before job.begun i m ms none) (sym e ∙ told)
-              | inr r ↦ absurd (false≢true (sym none ∙ since_now job.begun i m ms r ((kept limit start clean ms run.2).begun d job was maker)))
-            ]
-          ]))
-      | Doubt_now.gated x a runs next_is flight mine entry_is maker_is rec on_ ↦
-          (let setup = setup_same m.state (now start ms) (ap setup_of rec) in
-          let e : job ≡ advanced x = same_value d.maker job (advanced x) maker maker_is in
-          let begun : job.begun ≡ x.begun = ap (λ (y : Job). y.begun) e in
-          let kx : x.kind ≡ RepairJob = sym (ap (λ (y : Job). y.kind) e) ∙ kind in
-          let old = made_before (setup_in m.state) (now start ms) x job i o s setup e next_is made in
-          let p = pin x i o s kx old in
-          let below : o < next_id (now start ms).records = subst (λ n. n < next_id (now start ms).records) p.id_is (A.pins.pins x.number x p.file runs p.pinned).0 in
-          on below setup (while_running x i o s b runs kx old (subst (λ n. is_replaced_since n i (m ∷ ms) ≡ false) begun none) told
-          ∙ ap (λ ps. Some (columns (object_among (now start ms) ps o) ((now start ms).bytes o) i s)) (sym (ap (λ (y : Job). y.pinned) e))))
-      | Doubt_now.set_up t entry_is bare none_up closed ↦ absurd (some-not-none d.maker job maker bare)
-    ]
+    step before d job i o s b h maker kind made none told =
+        elim ((turns (now start ms) limit (length ms) m.event m.outcome m.state run.1).doubt d h) [
+          | Doubt_now.kept was rec ↦
+              (let setup = setup_same m.state (now start ms) (ap setup_of rec) in
+              let old : HasMadeStore (setup_in (now start ms)) job i o s =
+              record {
+                place = made.place;
+                made = made.made;
+                action = ap (λ t. slice_get (actions_of t job) made.place) (sym setup) ∙ made.action;
+              } in
+              let p = pin job i o s kind old in
+              let below : o < next_id (now start ms).records =
+              subst (λ n. n < next_id (now start ms).records) p.id_is
+              ((kept limit start clean ms run.2).below d job p.file was maker p.pinned) in
+              on below setup (elim (at_rest_or (now start ms)) [
+                | inl (open_, unbarred) ↦ (let g = E.doubt_runs d open_ unbarred was in
+                    let e : g.job ≡ job = same_value d.maker g.job job g.maker maker in
+                    while_running job i o s b
+                    (subst (λ (y : Job). job_of (now start ms).jobs y.number ≡ Some y) e g.runs) kind old none
+                    told)
+                | inr rest ↦ elim (quiet_blocks (now start ms) limit
+                    (length ms) m.event m.outcome m.state rest run.1 i o s) [
+                      | inl e ↦ before d job i o s b was maker kind old (replaced_before job.begun i m ms none)
+                          (sym e ∙ told)
+                      | inr r ↦ absurd (false≢true
+                          (sym none ∙ since_now job.begun i m ms r
+                          ((kept limit start clean ms run.2).begun d job was maker)))
+                    ]
+              ]))
+          | Doubt_now.gated x a runs next_is flight mine entry_is maker_is rec on_ ↦
+              (let setup = setup_same m.state (now start ms) (ap setup_of rec) in
+              let e : job ≡ advanced x = same_value d.maker job (advanced x) maker maker_is in
+              let begun : job.begun ≡ x.begun = ap (λ (y : Job). y.begun) e in
+              let kx : x.kind ≡ RepairJob = sym (ap (λ (y : Job). y.kind) e) ∙ kind in
+              let old = made_before (setup_in m.state) (now start ms) x job i o s setup e next_is made in
+              let p = pin x i o s kx old in
+              let below : o < next_id (now start ms).records =
+              subst (λ n. n < next_id (now start ms).records) p.id_is
+              (A.pins.pins x.number x p.file runs p.pinned).0 in
+              on below setup (while_running x i o s b runs kx old
+              (subst (λ n. is_replaced_since n i (m ∷ ms) ≡ false) begun none) told
+              ∙ ap (λ ps. Some (columns (object_among (now start ms) ps o) ((now start ms).bytes o) i s))
+              (sym (ap (λ (y : Job). y.pinned) e))))
+          | Doubt_now.set_up t entry_is bare none_up closed ↦ absurd (some-not-none d.maker job maker bare)
+        ]
       where
-        on : o < next_id (now start ms).records → setup_in m.state ≡ setup_in (now start ms) → b ≡ Some (columns (worked_object (now start ms) job o) ((now start ms).bytes o) i s) → b ≡ Some (columns (worked_object m.state job o) (m.state.bytes o) i s)
-        on below setup e = e ∙ (ap (λ y. Some (columns (worked_object (now start ms) job o) y i s)) (sym (X.bytes o below))
-            ∙ ap (λ (t : Setup). Some (columns (object_of (profiled t (pinned_profile t.profile job.pinned o)) o) (m.state.bytes o) i s)) (sym setup))
+        on : o < next_id (now start ms).records → setup_in m.state ≡ setup_in (now start ms) →
+            b ≡ Some (columns (worked_object (now start ms) job o) ((now start ms).bytes o) i s) →
+            b ≡ Some (columns (worked_object m.state job o) (m.state.bytes o) i s)
+        on below setup e = e ∙ (ap (λ y. Some (columns (worked_object (now start ms) job o) y i s))
+            (sym (X.bytes o below))
+            ∙ ap (λ (t : Setup). Some
+            (columns (object_of (profiled t (pinned_profile t.profile job.pinned o)) o)
+            (m.state.bytes o) i s)) (sym setup))

@@ -35,14 +35,16 @@ stands_map f (b ∷ as_) a (inl e) = (0, ap (λ c. Some (f c)) (sym e))
 stands_map f (b ∷ as_) a (inr i) = (let r = stands_map f as_ a i in (suc r.0, r.1))
 
 -- what stands in the list made of an element stands in all such lists put together
-pub stands_flat : {A X : Type 0} (f : A → List X) (as_ : List A) (a : A) (x : X) → In a as_ → Stands x (f a) → Stands x (flat_map f as_)
+pub stands_flat : {A X : Type 0} (f : A → List X) (as_ : List A) (a : A) (x : X) → In a as_ → Stands x (f a) →
+    Stands x (flat_map f as_)
 stands_flat f [] a x i h = absurd i
 stands_flat f (b ∷ as_) a x (inl e) h = stands_left (f b) (flat_map f as_) x (subst (λ c. Stands x (f c)) e h)
 stands_flat f (b ∷ as_) a x (inr i) h = stands_right (f b) (flat_map f as_) x (stands_flat f as_ a x i h)
 
 in_range : (n a t : ℕ) → a ≤ t → t < a + n → In t (range_with_len a n)
 in_range zero a t l h = absurd (omega arith)
-in_range (suc n) a t l h = elim (cases_eq t a) [ inl e ↦ inl e | inr o ↦ inr (in_range n (a + 1) t (omega arith) (omega arith)) ]
+in_range (suc n) a t l h =
+    elim (cases_eq t a) [ inl e ↦ inl e | inr o ↦ inr (in_range n (a + 1) t (omega arith) (omega arith)) ]
 
 range_in : (n a t : ℕ) → In t (range_with_len a n) → t < a + n
 range_in zero a t i = absurd i
@@ -66,22 +68,31 @@ pub behind_none : {X : Type 0} (a b : X) (xs : List X) → Each (λ x. x ≡ b �
 behind_none a b xs h p e = absurd (each_get (λ x. x ≡ b → ⊥) xs p b h e refl)
 
 -- what holds in two lists holds in both put together: the first one stands before the second
-pub behind_append : {X : Type 0} (a b : X) (xs ys : List X) → Behind a b xs → Behind a b ys → Behind a b (xs ++ ys)
+pub behind_append : {X : Type 0} (a b : X) (xs ys : List X) → Behind a b xs → Behind a b ys →
+    Behind a b (xs ++ ys)
 behind_append a b xs ys f g p e = elim (split_get xs ys p b e) [
   | inl u ↦ (let r = f p u.1 in (r.0, r.1, get_left xs ys r.0 a r.2))
-  | inr u ↦ (let r = g (p - length xs) u.1 in (length xs + r.0, (let l = r.1 in let k = u.0 in omega arith), get_behind xs ys r.0 a r.2))
+  | inr u ↦ (let r = g (p - length xs) u.1 in
+      (length xs + r.0, (let l = r.1 in let k = u.0 in omega arith), get_behind xs ys r.0 a r.2))
 ]
 
 -- what holds in each list holds in all put together: the first one stands before the second
-pub behind_flat : {A X : Type 0} (a b : X) (f : A → List X) (as_ : List A) → ((c : A) → In c as_ → Behind a b (f c)) → Behind a b (flat_map f as_)
+pub behind_flat : {A X : Type 0} (a b : X) (f : A → List X) (as_ : List A) →
+    ((c : A) → In c as_ → Behind a b (f c)) → Behind a b (flat_map f as_)
 behind_flat a b f [] h p e = (let n : None ≡ Some b = e in cc)
-behind_flat a b f (c ∷ as_) h p e = behind_append a b (f c) (flat_map f as_) (h c (inl refl)) (behind_flat a b f as_ (λ x i. h x (inr i))) p e
+behind_flat a b f (c ∷ as_) h p e =
+    behind_append a b (f c) (flat_map f as_) (h c (inl refl)) (behind_flat a b f as_ (λ x i. h x (inr i))) p e
 
 -- an element of a part stands before what the part behind it has
-pub stands_before : {X : Type 0} (xs ys : List X) (a b : X) (p : ℕ) → Stands a xs → Each (λ x. x ≡ b → ⊥) xs → slice_get (xs ++ ys) p ≡ Some b → (q : ℕ) × (q < p) × (slice_get (xs ++ ys) q ≡ Some a)
+pub stands_before : {X : Type 0} (xs ys : List X) (a b : X) (p : ℕ) → Stands a xs → Each (λ x. x ≡ b → ⊥) xs →
+    slice_get (xs ++ ys) p ≡ Some b → (q : ℕ) × (q < p) × (slice_get (xs ++ ys) q ≡ Some a)
 stands_before xs ys a b p s none e = elim (split_get xs ys p b e) [
   | inl u ↦ absurd (each_get (λ x. x ≡ b → ⊥) xs p b none u.1 refl)
-  | inr u ↦ (s.0, (let l = slice_get_within xs s.0 a s.1 in let k = u.0 in omega arith), get_left xs ys s.0 a s.1)
+  | inr u ↦ (
+    s.0,
+    (let l = slice_get_within xs s.0 a s.1 in let k = u.0 in omega arith),
+    get_left xs ys s.0 a s.1,
+  )
 ]
 
 -- what stands at a place of a list that a function makes of 0 to n - 1

@@ -40,7 +40,8 @@ gate_third (suc (suc (suc zero))) h = absurd (let e : Some SyncGate ≡ Some Wri
 gate_third (suc (suc (suc (suc q)))) h = absurd (let e : None ≡ Some WriteGate = h in cc)
 
 -- a third move of a put's last append stands behind its stores and two more
-pub write_gate_place : (w : State) (job : Job) (name bytes : List ℕ) → job.kind ≡ PutJob name bytes → next_action w job ≡ Some WriteGate → 4 ≤ job.place → job.place ≡ 6 + stores_count w job bytes
+pub write_gate_place : (w : State) (job : Job) (name bytes : List ℕ) → job.kind ≡ PutJob name bytes →
+    next_action w job ≡ Some WriteGate → 4 ≤ job.place → job.place ≡ 6 + stores_count w job bytes
 write_gate_place w job name bytes kind h later = elim (put_next w job name bytes WriteGate kind h) [
   | PutAt.first l e ↦ absurd (omega arith)
   | PutAt.store l k is ↦ absurd is
@@ -49,23 +50,31 @@ write_gate_place w job name bytes kind h later = elim (put_next w job name bytes
 ]
   where
     at : slice_get (actions_by (setup_in w) job (PutJob name bytes)) job.place ≡ Some WriteGate
-    at = by_kind (setup_in w) job (PutJob name bytes) job.place WriteGate kind (next_stands w job WriteGate h (λ e. cc))
+    at = by_kind (setup_in w) job (PutJob name bytes) job.place WriteGate kind
+        (next_stands w job WriteGate h (λ e. cc))
 
     none_late : Each NotGate (remove_actions (setup_in w) job ++ End ∷ [])
     none_late = each_append NotGate (remove_actions (setup_in w) job) (End ∷ [])
-        (each_flat NotGate (λ object. on_each_provider (setup_in w) (λ j. Remove j object)) job.older (λ o. each_map NotGate (λ j. Remove j o) (upto (setup_in w).n) (λ j. tt))) (tt, tt)
+        (each_flat NotGate (λ object. on_each_provider (setup_in w) (λ j. Remove j object)) job.older
+        (λ o. each_map NotGate (λ j. Remove j o) (upto (setup_in w).n) (λ j. tt))) (tt, tt)
 
     late_gate : 8 + stores_count w job bytes ≤ job.place → ⊥
-    late_gate l = elim (split_get append_actions (store_actions (setup_in w) job bytes ++ (append_actions ++ (remove_actions (setup_in w) job ++ End ∷ []))) job.place WriteGate at) [
-      | inl a ↦ (let z = a.0 in omega arith)
-      | inr b ↦ elim (split_get (store_actions (setup_in w) job bytes) (append_actions ++ (remove_actions (setup_in w) job ++ End ∷ [])) (job.place - 4) WriteGate b.1) [
-        | inl c ↦ (let z = c.0 in omega arith)
-        | inr d ↦ elim (split_get append_actions (remove_actions (setup_in w) job ++ End ∷ []) (job.place - 4 - stores_count w job bytes) WriteGate d.1) [
-          | inl e ↦ (let z = e.0 in omega arith)
-          | inr f ↦ each_get NotGate (remove_actions (setup_in w) job ++ End ∷ []) (job.place - 4 - stores_count w job bytes - 4) WriteGate none_late f.1
+    late_gate l = elim (split_get append_actions
+        (store_actions (setup_in w) job
+        bytes ++ (append_actions ++ (remove_actions (setup_in w) job ++ End ∷ []))) job.place WriteGate
+        at) [
+          | inl a ↦ (let z = a.0 in omega arith)
+          | inr b ↦ elim (split_get (store_actions (setup_in w) job bytes)
+              (append_actions ++ (remove_actions (setup_in w) job ++ End ∷ [])) (job.place - 4) WriteGate b.1) [
+                | inl c ↦ (let z = c.0 in omega arith)
+                | inr d ↦ elim (split_get append_actions (remove_actions (setup_in w) job ++ End ∷ [])
+                    (job.place - 4 - stores_count w job bytes) WriteGate d.1) [
+                      | inl e ↦ (let z = e.0 in omega arith)
+                      | inr f ↦ each_get NotGate (remove_actions (setup_in w) job ++ End ∷ [])
+                          (job.place - 4 - stores_count w job bytes - 4) WriteGate none_late f.1
+                    ]
+              ]
         ]
-      ]
-    ]
 
 -- ---- repairs
 
@@ -74,28 +83,40 @@ IsWithin t job (Work o s) = (f : Pinned) × In f job.pinned × (f.id ≡ o) × (
 IsWithin t job action = Unit {0}
 
 -- the work of a repair is on a stripe of one of its files
-work_within : (w : State) (job : Job) (o s : ℕ) → job.kind ≡ RepairJob → next_action w job ≡ Some (Work o s) → (f : Pinned) × In f job.pinned × (f.id ≡ o) × (s < pinned_stripes (setup_in w) f)
+work_within : (w : State) (job : Job) (o s : ℕ) → job.kind ≡ RepairJob → next_action w job ≡ Some (Work o s) →
+    (f : Pinned) × In f job.pinned × (f.id ≡ o) × (s < pinned_stripes (setup_in w) f)
 work_within w job o s kind h =
     each_get (IsWithin (setup_in w) job) (actions_by (setup_in w) job RepairJob) job.place (Work o s)
     (each_append (IsWithin (setup_in w) job) (repair_actions (setup_in w) job) (append_actions ++ End ∷ [])
-    (repairs_all (setup_in w) job (IsWithin (setup_in w) job) (λ f st in_f l. (λ j. tt, (f, in_f, refl, l), λ j. tt)))
+    (repairs_all (setup_in w) job (IsWithin (setup_in w) job)
+    (λ f st in_f l. (λ j. tt, (f, in_f, refl, l), λ j. tt)))
     (tt, (tt, (tt, (tt, (tt, tt))))))
     (by_kind (setup_in w) job RepairJob job.place (Work o s) kind (next_stands w job (Work o s) h (λ e. cc)))
 
 -- so is that of a get
-pub read_within : (w : State) (job : Job) (name : List ℕ) (o s : ℕ) → job.kind ≡ GetJob name → next_action w job ≡ Some (Work o s) → (f : Pinned) × In f job.pinned × (f.id ≡ o) × (s < pinned_stripes (setup_in w) f)
+pub read_within : (w : State) (job : Job) (name : List ℕ) (o s : ℕ) → job.kind ≡ GetJob name →
+    next_action w job ≡ Some (Work o s) → (f : Pinned) × In f job.pinned × (f.id ≡ o) ×
+    (s < pinned_stripes (setup_in w) f)
 read_within w job name o s kind h =
     each_get (IsWithin (setup_in w) job) (actions_by (setup_in w) job (GetJob name)) job.place (Work o s)
     (each_append (IsWithin (setup_in w) job) (read_actions (setup_in w) job.pinned) (End ∷ [])
-    (each_flat_in (IsWithin (setup_in w) job) (λ (f : Pinned). on_each_stripe (profiled (setup_in w) f.profile) (length f.bytes) (open_actions (setup_in w) f.id)) job.pinned
-    (λ f i. each_flat_in (IsWithin (setup_in w) job) (open_actions (setup_in w) f.id) (upto (pinned_stripes (setup_in w) f))
-    (λ st l. each_append (IsWithin (setup_in w) job) (on_each_provider (setup_in w) (λ j. Fetch j f.id st)) (Work f.id st ∷ []) (each_map (IsWithin (setup_in w) job) (λ j. Fetch j f.id st) (upto (setup_in w).n) (λ j. tt))
+    (each_flat_in (IsWithin (setup_in w) job)
+    (λ (f : Pinned). on_each_stripe (profiled (setup_in w) f.profile) (length f.bytes)
+    (open_actions (setup_in w) f.id)) job.pinned
+    (λ f i. each_flat_in (IsWithin (setup_in w) job) (open_actions (setup_in w) f.id)
+    (upto (pinned_stripes (setup_in w) f))
+    (λ st l. each_append (IsWithin (setup_in w) job) (on_each_provider (setup_in w) (λ j. Fetch j f.id st))
+    (Work f.id st ∷ []) (each_map (IsWithin (setup_in w) job) (λ j. Fetch j f.id st) (upto (setup_in w).n)
+    (λ j. tt))
     ((f, i, refl, upto_in (pinned_stripes (setup_in w) f) st l), tt))))
     (tt, tt))
-    (by_kind (setup_in w) job (GetJob name) job.place (Work o s) kind (next_stands w job (Work o s) h (λ e. cc)))
+    (by_kind (setup_in w) job (GetJob name) job.place (Work o s) kind
+    (next_stands w job (Work o s) h (λ e. cc)))
 
 -- so is that of each job that relies on providers
-pub works_within : (w : State) (job : Job) (o s : ℕ) (kind : Kind) → job.kind ≡ kind → relies kind ≡ true → next_action w job ≡ Some (Work o s) → (f : Pinned) × In f job.pinned × (f.id ≡ o) × (s < pinned_stripes (setup_in w) f)
+pub works_within : (w : State) (job : Job) (o s : ℕ) (kind : Kind) → job.kind ≡ kind → relies kind ≡ true →
+    next_action w job ≡ Some (Work o s) → (f : Pinned) × In f job.pinned × (f.id ≡ o) ×
+    (s < pinned_stripes (setup_in w) f)
 works_within w job o s (GetJob name) is reads h = read_within w job name o s is h
 works_within w job o s RepairJob is reads h = work_within w job o s is h
 works_within w job o s (PutJob name bytes) is reads h = absurd (false≢true reads)
@@ -106,19 +127,30 @@ works_within w job o s UpgradeJob is reads h = absurd (false≢true reads)
 -- the actions of a repair hang on its files and on what it flags
 abbrev repair_list : Setup → (ℕ → Bool) → List Pinned → List Action
 repair_list t flagged pinned =
-    flat_map (λ (f : Pinned). on_each_stripe (profiled t f.profile) (length f.bytes) (λ stripe. open_actions t f.id stripe ++ flat_map (λ j. cond (flagged j) (Store j f.id stripe ∷ []) []) (upto t.n))) pinned ++ (append_actions ++ End ∷ [])
+    flat_map (λ (f : Pinned). on_each_stripe (profiled t f.profile) (length f.bytes)
+    (λ stripe. open_actions t f.id stripe ++ flat_map
+    (λ j. cond (flagged j) (Store j f.id stripe ∷ []) []) (upto t.n)))
+    pinned ++ (append_actions ++ End ∷ [])
 
 repair_list_is : (t : Setup) (job : Job) → actions_by t job RepairJob ≡ repair_list t job.flagged job.pinned
 repair_list_is t job = refl
 
 -- repairs with the same files and the same flags have the same actions
-pub same_actions : (t : Setup) (x j : Job) → x.kind ≡ RepairJob → j.kind ≡ RepairJob → j.pinned ≡ x.pinned → j.flagged ≡ x.flagged → actions_of t j ≡ actions_of t x
+pub same_actions : (t : Setup) (x j : Job) → x.kind ≡ RepairJob → j.kind ≡ RepairJob → j.pinned ≡ x.pinned →
+    j.flagged ≡ x.flagged → actions_of t j ≡ actions_of t x
 same_actions t x j kx kj pinned flagged =
-    actions_are t j RepairJob kj ∙ (repair_list_is t j ∙ (ap (λ g. repair_list t g j.pinned) flagged ∙ (ap (repair_list t x.flagged) pinned ∙ sym (actions_are t x RepairJob kx ∙ repair_list_is t x))))
+    actions_are t j RepairJob kj
+    ∙ (repair_list_is t j
+    ∙ (ap (λ g. repair_list t g j.pinned) flagged
+    ∙ (ap (repair_list t x.flagged) pinned
+    ∙ sym (actions_are t x RepairJob kx ∙ repair_list_is t x))))
 
 -- the next action of a repair is the one at its place
-pub next_repairs : (w : State) (job : Job) → job.kind ≡ RepairJob → next_action w job ≡ slice_get (actions_of (setup_in w) job) job.place
-next_repairs w job is = next_is_by w job ∙ (ap (λ kd. next_by w job kd job.place) is ∙ ap (λ l. slice_get l job.place) (sym (actions_are (setup_in w) job RepairJob is)))
+pub next_repairs : (w : State) (job : Job) → job.kind ≡ RepairJob →
+    next_action w job ≡ slice_get (actions_of (setup_in w) job) job.place
+next_repairs w job is = next_is_by w job
+    ∙ (ap (λ kd. next_by w job kd job.place) is
+    ∙ ap (λ l. slice_get l job.place) (sym (actions_are (setup_in w) job RepairJob is)))
 
 -- ---- a third move is followed by a fourth
 
@@ -128,7 +160,9 @@ Followed xs = (k : ℕ) → slice_get xs k ≡ Some WriteGate → slice_get xs (
 followed_append : (xs ys : List Action) → Followed xs → Followed ys → Followed (xs ++ ys)
 followed_append xs ys p q k h = elim (split_get xs ys k WriteGate h) [
   | inl x ↦ get_left xs ys (suc k) SyncGate (p k x.1)
-  | inr y ↦ subst (λ n. slice_get (xs ++ ys) n ≡ Some SyncGate) (let l = y.0 in let e : length xs + suc (k - length xs) ≡ suc k = omega arith in e) (get_behind xs ys (suc (k - length xs)) SyncGate (q (k - length xs) y.1))
+  | inr y ↦ subst (λ n. slice_get (xs ++ ys) n ≡ Some SyncGate)
+      (let l = y.0 in let e : length xs + suc (k - length xs) ≡ suc k = omega arith in e)
+      (get_behind xs ys (suc (k - length xs)) SyncGate (q (k - length xs) y.1))
 ]
 
 followed_none : (xs : List Action) → Each NotGate xs → Followed xs
@@ -144,45 +178,69 @@ followed_moves (suc (suc (suc (suc k)))) h = absurd (let e : None ≡ Some Write
 followed_by : (t : Setup) (job : Job) (kind : Kind) → Followed (actions_by t job kind)
 followed_by t job (PutJob name bytes) =
     followed_append append_actions _ followed_moves
-    (followed_append (store_actions t job bytes) _ (followed_none (store_actions t job bytes) (stores_all t job bytes NotGate (λ j s. tt)))
-    (followed_append append_actions _ followed_moves (followed_none _ (tail_all t job NotGate (λ j o. tt) tt))))
-followed_by t job (GetJob name) = followed_append (read_actions t job.pinned) (End ∷ []) (followed_none (read_actions t job.pinned) (reads_all t job.pinned NotGate (λ j o s. tt) (λ o s. tt))) (followed_none (End ∷ []) (tt, tt))
-followed_by t job (DropJob name) = followed_append append_actions _ followed_moves (followed_none _ (tail_all t job NotGate (λ j o. tt) tt))
+    (followed_append (store_actions t job bytes) _
+    (followed_none (store_actions t job bytes) (stores_all t job bytes NotGate (λ j s. tt)))
+    (followed_append append_actions _ followed_moves
+    (followed_none _ (tail_all t job NotGate (λ j o. tt) tt))))
+followed_by t job (GetJob name) = followed_append (read_actions t job.pinned) (End ∷ [])
+    (followed_none (read_actions t job.pinned) (reads_all t job.pinned NotGate (λ j o s. tt) (λ o s. tt)))
+    (followed_none (End ∷ []) (tt, tt))
+followed_by t job (DropJob name) =
+    followed_append append_actions _ followed_moves (followed_none _ (tail_all t job NotGate (λ j o. tt) tt))
 followed_by t job AuditJob =
     followed_append append_actions _ followed_moves
-    (followed_append (ask_actions t job) _ (followed_none (ask_actions t job) (asks_all t job NotGate (λ j o r. tt))) (followed_append append_actions (End ∷ []) followed_moves (followed_none (End ∷ []) (tt, tt))))
+    (followed_append (ask_actions t job) _
+    (followed_none (ask_actions t job) (asks_all t job NotGate (λ j o r. tt)))
+    (followed_append append_actions (End ∷ []) followed_moves (followed_none (End ∷ []) (tt, tt))))
 followed_by t job RepairJob =
-    followed_append (repair_actions t job) _ (followed_none (repair_actions t job) (repairs_all t job NotGate (λ f st in_f l. (λ j. tt, tt, λ j. tt))))
+    followed_append (repair_actions t job) _
+    (followed_none (repair_actions t job) (repairs_all t job NotGate (λ f st in_f l. (λ j. tt, tt, λ j. tt))))
     (followed_append append_actions (End ∷ []) followed_moves (followed_none (End ∷ []) (tt, tt)))
-followed_by t job UpgradeJob = followed_append append_actions (End ∷ []) followed_moves (followed_none (End ∷ []) (tt, tt))
+followed_by t job UpgradeJob =
+    followed_append append_actions (End ∷ []) followed_moves (followed_none (End ∷ []) (tt, tt))
 
 -- a job that has made an action is no idle drop
 not_idle : (w : State) (job : Job) (kind : Kind) → is_idle_drop w (advanced job) kind ≡ false
 not_idle w job (PutJob name bytes) = refl
 not_idle w job (GetJob name) = refl
-not_idle w job (DropJob name) = and_left (job.place + 1 == 0) (not (is_some (file_in w name))) (ne_eqb (job.place + 1) 0 (λ e. omega arith))
+not_idle w job (DropJob name) = and_left (job.place + 1 == 0) (not (is_some (file_in w name)))
+    (ne_eqb (job.place + 1) 0 (λ e. omega arith))
 not_idle w job AuditJob = refl
 not_idle w job RepairJob = refl
 not_idle w job UpgradeJob = refl
 
 -- behind a third move comes the fourth
-pub gate_next : (w : State) (job : Job) → next_action w job ≡ Some WriteGate → next_action w (advanced job) ≡ Some SyncGate
+pub gate_next : (w : State) (job : Job) → next_action w job ≡ Some WriteGate →
+    next_action w (advanced job) ≡ Some SyncGate
 gate_next w job h =
-    (let here : slice_get (actions_by (setup_in w) job job.kind) job.place ≡ Some WriteGate = by_kind (setup_in w) job job.kind job.place WriteGate refl (next_stands w job WriteGate h (λ e. cc)) in
+    (let here : slice_get (actions_by (setup_in w) job job.kind) job.place ≡ Some WriteGate =
+    by_kind (setup_in w) job job.kind job.place WriteGate refl
+    (next_stands w job WriteGate h (λ e. cc)) in
     let one : suc job.place ≡ job.place + 1 = omega arith in
     next_is_by w (advanced job)
-    ∙ (cond_false (is_idle_drop w (advanced job) job.kind) (Some End) (slice_get (actions_by (setup_in w) (advanced job) job.kind) (job.place + 1)) (not_idle w job job.kind)
-    ∙ (ap (λ l. slice_get l (job.place + 1)) (actions_by-advanced (setup_in w) job job.kind) ∙ subst (λ n. slice_get (actions_by (setup_in w) job job.kind) n ≡ Some SyncGate) one (followed_by (setup_in w) job job.kind job.place here))))
+    ∙ (cond_false (is_idle_drop w (advanced job) job.kind) (Some End)
+    (slice_get (actions_by (setup_in w) (advanced job) job.kind) (job.place + 1))
+    (not_idle w job job.kind)
+    ∙ (ap (λ l. slice_get l (job.place + 1)) (actions_by-advanced (setup_in w) job job.kind)
+    ∙ subst (λ n. slice_get (actions_by (setup_in w) job job.kind) n ≡ Some SyncGate) one
+    (followed_by (setup_in w) job job.kind job.place here))))
 
 -- the next action hangs on the records alone
-same_by : (v w : State) (job : Job) (kind : Kind) (place : ℕ) → v.records ≡ w.records → next_by v job kind place ≡ next_by w job kind place
-same_by v w job (PutJob name bytes) place e = ap (λ t. slice_get (actions_by t job (PutJob name bytes)) place) (setup_same v w (ap setup_of e))
-same_by v w job (GetJob name) place e = ap (λ t. slice_get (actions_by t job (GetJob name)) place) (setup_same v w (ap setup_of e))
+same_by : (v w : State) (job : Job) (kind : Kind) (place : ℕ) → v.records ≡ w.records →
+    next_by v job kind place ≡ next_by w job kind place
+same_by v w job (PutJob name bytes) place e =
+    ap (λ t. slice_get (actions_by t job (PutJob name bytes)) place) (setup_same v w (ap setup_of e))
+same_by v w job (GetJob name) place e =
+    ap (λ t. slice_get (actions_by t job (GetJob name)) place) (setup_same v w (ap setup_of e))
 same_by v w job (DropJob name) place e =
-    ap (λ rs. cond ((job.place == 0) && not (is_some (file_of rs name))) (Some End) (slice_get (actions_by (setup_in v) job (DropJob name)) place)) e
-    ∙ ap (λ t. cond ((job.place == 0) && not (is_some (file_in w name))) (Some End) (slice_get (actions_by t job (DropJob name)) place)) (setup_same v w (ap setup_of e))
-same_by v w job AuditJob place e = ap (λ t. slice_get (actions_by t job AuditJob) place) (setup_same v w (ap setup_of e))
-same_by v w job RepairJob place e = ap (λ t. slice_get (actions_by t job RepairJob) place) (setup_same v w (ap setup_of e))
+    ap (λ rs. cond ((job.place == 0) && not (is_some (file_of rs name))) (Some End)
+    (slice_get (actions_by (setup_in v) job (DropJob name)) place)) e
+    ∙ ap (λ t. cond ((job.place == 0) && not (is_some (file_in w name))) (Some End)
+    (slice_get (actions_by t job (DropJob name)) place)) (setup_same v w (ap setup_of e))
+same_by v w job AuditJob place e =
+    ap (λ t. slice_get (actions_by t job AuditJob) place) (setup_same v w (ap setup_of e))
+same_by v w job RepairJob place e =
+    ap (λ t. slice_get (actions_by t job RepairJob) place) (setup_same v w (ap setup_of e))
 same_by v w job UpgradeJob place e = refl
 
 -- a job has the same next action wherever the records are the same

@@ -39,11 +39,13 @@ abbrev IsNamedJob : Kind → Type 0
 IsNamedJob (PutJob name bytes) = is_name name ≡ true
 IsNamedJob kind = Unit {0}
 
-started_named : (rs : List Record) (id : ℕ) (name : List ℕ) → AreNamed rs → started_as rs id ≡ Some name → is_name name ≡ true
+started_named : (rs : List Record) (id : ℕ) (name : List ℕ) → AreNamed rs → started_as rs id ≡ Some name →
+    is_name name ≡ true
 started_named [] id name named h = let e : None ≡ Some name = h in cc
 started_named (SetUp s ∷ rs) id name named h = started_named rs id name named.1 h
 started_named (PutStart k n ∷ rs) id name named h = elim (cases_Bool (k == id)) [
-  | inl t ↦ (let e : n ≡ name = same_value _ n name (cond_true (k == id) (Some n) (started_as rs id) t) h in subst (λ x. is_name x ≡ true) e named.0)
+  | inl t ↦ (let e : n ≡ name = same_value _ n name (cond_true (k == id) (Some n) (started_as rs id) t) h in
+      subst (λ x. is_name x ≡ true) e named.0)
   | inr f ↦ started_named rs id name named.1 (sym (cond_false (k == id) (Some n) (started_as rs id) f) ∙ h)
 ]
 started_named (PutDone k size ∷ rs) id name named h = elim (cases_Bool (k == id)) [
@@ -63,21 +65,26 @@ started_named (Resume next audit ∷ rs) id name named h = started_named rs id n
 started_named (InEffect k size profile kept ∷ rs) id name named h = started_named rs id name named.1 h
 started_named (RepairDue number counts ∷ rs) id name named h = started_named rs id name named.1 h
 
-start_named : (o : Option (List ℕ)) (name : List ℕ) → is_start_of name o ≡ true → ((x : List ℕ) → o ≡ Some x → is_name x ≡ true) → is_name name ≡ true
+start_named : (o : Option (List ℕ)) (name : List ℕ) → is_start_of name o ≡ true →
+    ((x : List ℕ) → o ≡ Some x → is_name x ≡ true) → is_name name ≡ true
 start_named None name h f = absurd (false≢true h)
 start_named (Some x) name h f = subst (λ y. is_name y ≡ true) (same-eq x name h) (f x refl)
 
-file_named : (rs : List Record) (name : List ℕ) (file : File) → AreNamed rs → file_of rs name ≡ Some file → is_name name ≡ true
+file_named : (rs : List Record) (name : List ℕ) (file : File) → AreNamed rs → file_of rs name ≡ Some file →
+    is_name name ≡ true
 file_named [] name file named h = let e : None ≡ Some file = h in cc
 file_named (SetUp s ∷ rs) name file named h = file_named rs name file named.1 h
 file_named (PutStart k n ∷ rs) name file named h = file_named rs name file named.1 h
 file_named (PutDone k size ∷ rs) name file named h = elim (cases_Bool (is_start_of name (started_as rs k))) [
   | inl t ↦ start_named (started_as rs k) name t (λ x e. started_named rs k x named.1 e)
-  | inr f ↦ file_named rs name file named.1 (sym (cond_false (is_start_of name (started_as rs k)) _ (file_of rs name) f) ∙ h)
+  | inr f ↦ file_named rs name file named.1
+      (sym (cond_false (is_start_of name (started_as rs k)) _ (file_of rs name) f) ∙ h)
 ]
 file_named (Drop n ∷ rs) name file named h = elim (cases_Bool (is_same_name n name)) [
-  | inl t ↦ (let e : None ≡ Some file = sym (cond_true (is_same_name n name) None (file_of rs name) t) ∙ h in cc)
-  | inr f ↦ file_named rs name file named.1 (sym (cond_false (is_same_name n name) None (file_of rs name) f) ∙ h)
+  | inl t ↦ (let e : None ≡ Some file = sym (cond_true (is_same_name n name) None (file_of rs name) t) ∙ h in
+      cc)
+  | inr f ↦ file_named rs name file named.1 (sym (cond_false (is_same_name n name) None (file_of rs name) f)
+      ∙ h)
 ]
 file_named (AuditStart number ∷ rs) name file named h = file_named rs name file named.1 h
 file_named (AuditDone number undecided counts ∷ rs) name file named h = file_named rs name file named.1 h
@@ -98,10 +105,15 @@ file_named (InEffect k size profile kept ∷ rs) name file named h =
     ]
 file_named (RepairDue number counts ∷ rs) name file named h = file_named rs name file named.1 h
 
-writes_named : (w : State) (job : Job) (kind : Kind) (entry : Record) → IsNamedJob kind → Writes w job kind entry → IsNamed entry
+writes_named : (w : State) (job : Job) (kind : Kind) (entry : Record) → IsNamedJob kind →
+    Writes w job kind entry → IsNamed entry
 writes_named w job (PutJob name bytes) entry named h = elim (cases_Bool (is_first_append job)) [
-  | inl t ↦ subst IsNamed (sym (h ∙ cond_true (is_first_append job) (PutStart (next_id w.records) name) (done_record (version_of w.records) job.subject (length bytes) job.profile) t)) named
-  | inr f ↦ subst IsNamed (sym (h ∙ cond_false (is_first_append job) (PutStart (next_id w.records) name) (done_record (version_of w.records) job.subject (length bytes) job.profile) f))
+  | inl t ↦ subst IsNamed
+      (sym (h ∙ cond_true (is_first_append job) (PutStart (next_id w.records) name)
+      (done_record (version_of w.records) job.subject (length bytes) job.profile) t)) named
+  | inr f ↦ subst IsNamed
+      (sym (h ∙ cond_false (is_first_append job) (PutStart (next_id w.records) name)
+      (done_record (version_of w.records) job.subject (length bytes) job.profile) f))
       (by_version (version_of w.records) job.subject (length bytes) job.profile IsNamed tt tt)
 ]
 writes_named w job (GetJob name) entry named h = absurd h
@@ -118,10 +130,14 @@ some_none : {X : Type 0} (o : Option X) (x : X) → o ≡ None → o ≡ Some x 
 some_none o x a b = (let e : None ≡ Some x = sym a ∙ b in cc)
 
 -- a begun put has a name
-begun_named : (limit : ℕ) (w : State) (kind : Kind) (wish : Option ℕ) → refusal_of_begin limit w kind wish ≡ None → IsNamedJob kind
-begun_named limit w (PutJob name bytes) wish h = go w.is_barred (is_busy limit (sight_of w) (aim_of (PutJob name bytes))) (is_name name) _ h
+begun_named : (limit : ℕ) (w : State) (kind : Kind) (wish : Option ℕ) →
+    refusal_of_begin limit w kind wish ≡ None → IsNamedJob kind
+begun_named limit w (PutJob name bytes) wish h =
+    go w.is_barred (is_busy limit (sight_of w) (aim_of (PutJob name bytes))) (is_name name) _ h
   where
-    go : (barred busy ok : Bool) (rest : Option Refusal) → cond barred (Some refusal.MustReopen) (cond busy (Some refusal.Busy) (cond (not ok) (Some refusal.BadName) rest)) ≡ None → ok ≡ true
+    go : (barred busy ok : Bool) (rest : Option Refusal) →
+        cond barred (Some refusal.MustReopen)
+        (cond busy (Some refusal.Busy) (cond (not ok) (Some refusal.BadName) rest)) ≡ None → ok ≡ true
     go true busy ok rest e = absurd (some_none _ refusal.MustReopen e refl)
     go false true ok rest e = absurd (some_none _ refusal.Busy e refl)
     go false false false rest e = absurd (some_none _ refusal.BadName e refl)
@@ -138,25 +154,33 @@ record Facts (w : State) : Type 0 where
   append : (a : Append) → w.append ≡ Some a → IsNamed a.entry
   doubt : (d : Doubt) → w.doubt ≡ Some d → IsNamed d.entry
 
-step_facts : (limit moment : ℕ) (old : State) (e : Event) (r : Outcome) (new : State) → Facts old → Changes limit moment old e r new → Facts new
+step_facts : (limit moment : ℕ) (old : State) (e : Event) (r : Outcome) (new : State) → Facts old →
+    Changes limit moment old e r new → Facts new
 step_facts limit moment old e r new F X = record {
   records = elim X.records [
     | Records_is.same rec ↦ subst AreNamed (sym rec) F.records
-    | Records_is.finished x a runs next_is flight mine moves rec ↦ subst AreNamed (sym rec) (F.append a flight, F.records)
+    | Records_is.finished x a runs next_is flight mine moves rec ↦
+        subst AreNamed (sym rec) (F.append a flight, F.records)
     | Records_is.settled d in_doubt rec ↦ subst AreNamed (sym rec) (F.doubt d in_doubt, F.records)
     | Records_is.set_up s out rec ↦ subst AreNamed (sym rec) (tt, F.records)
-    | Records_is.settled_set_up s d in_doubt out rec ↦ subst AreNamed (sym rec) (tt, (F.doubt d in_doubt, F.records))
+    | Records_is.settled_set_up s d in_doubt out rec ↦
+        subst AreNamed (sym rec) (tt, (F.doubt d in_doubt, F.records))
   ];
   jobs = λ k j h. elim (X.job k j h) [
     | Job_is.kept x grown ↦ F.jobs k j x
-    | Job_is.begun kind wish is k_is allowed rec ↦ subst (λ (z : Job). IsNamedJob z.kind) (sym is) (begun_named limit old kind wish allowed)
-    | Job_is.plain x action runs next_is is_plain goes rec st ↦ subst IsNamedJob (sym goes.kind) (F.jobs k x runs)
-    | Job_is.drew x runs next_is free is rec ↦ subst (λ (z : Job). IsNamedJob z.kind) (sym is) (F.jobs k x runs)
-    | Job_is.finished x a runs next_is flight mine is rec free ↦ subst (λ (z : Job). IsNamedJob z.kind) (sym is) (F.jobs k x runs)
+    | Job_is.begun kind wish is k_is allowed rec ↦ subst (λ (z : Job). IsNamedJob z.kind) (sym is)
+        (begun_named limit old kind wish allowed)
+    | Job_is.plain x action runs next_is is_plain goes rec st ↦
+        subst IsNamedJob (sym goes.kind) (F.jobs k x runs)
+    | Job_is.drew x runs next_is free is rec ↦ subst (λ (z : Job). IsNamedJob z.kind) (sym is)
+        (F.jobs k x runs)
+    | Job_is.finished x a runs next_is flight mine is rec free ↦
+        subst (λ (z : Job). IsNamedJob z.kind) (sym is) (F.jobs k x runs)
   ];
   append = λ a h. elim (X.append a h) [
     | Append_is.kept b flight job_is entry rec ↦ subst IsNamed (sym entry) (F.append b flight)
-    | Append_is.drew x runs next_is mine writes found rec ↦ writes_named old x x.kind a.entry (F.jobs x.number x runs) writes
+    | Append_is.drew x runs next_is mine writes found rec ↦
+        writes_named old x x.kind a.entry (F.jobs x.number x runs) writes
   ];
   doubt = λ d h. elim (X.doubt d h) [
     | Doubt_is.kept before rec ↦ F.doubt d before
@@ -169,7 +193,8 @@ first_named : (rs : List Record) → AreFirst rs → AreNamed rs
 first_named rs (inl e) = subst AreNamed (sym e) tt
 first_named rs (inr p) = subst AreNamed (sym p.2) (tt, tt)
 
-facts : (limit : ℕ) (start : State) (ms : List Moment) → IsStart start → IsRun limit start ms → Facts (now start ms)
+facts : (limit : ℕ) (start : State) (ms : List Moment) → IsStart start → IsRun limit start ms →
+    Facts (now start ms)
 facts limit start [] clean run = record {
   records = first_named start.records clean.records;
   jobs = λ k j h. absurd (found_none start.jobs k j clean.jobs h);
@@ -178,18 +203,27 @@ facts limit start [] clean run = record {
 }
 facts limit start (m ∷ ms) clean run =
     step_facts limit (length ms) (now start ms) m.event m.outcome m.state (facts limit start ms clean run.2)
-    (changes limit (length ms) (now start ms) m.event m.outcome m.state (num.facts objects limit start clean ms run.2).idle run.1)
+    (changes limit (length ms) (now start ms) m.event m.outcome m.state
+    (num.facts objects limit start clean ms run.2).idle run.1)
 
 -- a name under which a file is in effect is a name of the grammar
-pub stored_named : (limit : ℕ) (start : State) (ms : List Moment) (name : List ℕ) (file : File) → IsStart start → IsRun limit start ms → file_in (now start ms) name ≡ Some file → IsTrue (is_name name)
-stored_named limit start ms name file clean run h = file_named (now start ms).records name file (facts limit start ms clean run).records h
+pub stored_named : (limit : ℕ) (start : State) (ms : List Moment) (name : List ℕ) (file : File) →
+    IsStart start → IsRun limit start ms → file_in (now start ms) name ≡ Some file → IsTrue (is_name name)
+stored_named limit start ms name file clean run h =
+    file_named (now start ms).records name file (facts limit start ms clean run).records h
 
 -- why a get of a name that is a name and in effect is refused
-get_refusal : (limit : ℕ) (w : State) (name : List ℕ) (file : File) (why : Refusal) → is_name name ≡ true → file_in w name ≡ Some file → begin_refusal limit w (GetJob name) ≡ Some why → IsGetRefusal why
-get_refusal limit w name file why named h e = go w.is_barred (is_busy limit (sight_of w) (aim_of (GetJob name))) (is_name name) (is_stored (sight_of w) name) named (stored-file w name ∙ ap is_some h) e
+get_refusal : (limit : ℕ) (w : State) (name : List ℕ) (file : File) (why : Refusal) → is_name name ≡ true →
+    file_in w name ≡ Some file → begin_refusal limit w (GetJob name) ≡ Some why → IsGetRefusal why
+get_refusal limit w name file why named h e = go w.is_barred
+    (is_busy limit (sight_of w) (aim_of (GetJob name))) (is_name name) (is_stored (sight_of w) name) named
+    (stored-file w name ∙ ap is_some h) e
   where
     go : (barred busy ok there : Bool) → ok ≡ true → there ≡ true →
-        cond barred (Some refusal.MustReopen) (cond busy (Some refusal.Busy) (cond (not ok) (Some refusal.BadName) (cond (not there) (Some refusal.NoSuchName) None))) ≡ Some why → IsGetRefusal why
+        cond barred (Some refusal.MustReopen)
+        (cond busy (Some refusal.Busy)
+        (cond (not ok) (Some refusal.BadName) (cond (not there) (Some refusal.NoSuchName) None)))
+        ≡ Some why → IsGetRefusal why
     go true busy ok there a b c = inl (let d : refusal.MustReopen ≡ why = cc in sym d)
     go false true ok there a b c = inr (inl (let d : refusal.Busy ≡ why = cc in sym d))
     go false false true true a b c = (let d : None ≡ Some why = c in cc)
@@ -197,13 +231,16 @@ get_refusal limit w name file why named h e = go w.is_barred (is_busy limit (sig
     go false false false there a b c = absurd (false≢true a)
 
 -- a get of a name in effect is refused for MustReopen, Busy or Memory alone
-pub begins_stored : (limit : ℕ) (start : State) (m : Moment) (ms : List Moment) (name : List ℕ) (file : File) (why : Refusal) → IsStart start → IsRun limit start (m ∷ ms) →
-    m.event ≡ Begin (GetJob name) → m.outcome ≡ Refused why → file_in (now start ms) name ≡ Some file → IsGetRefusal why
+pub begins_stored : (limit : ℕ) (start : State) (m : Moment) (ms : List Moment) (name : List ℕ) (file : File)
+    (why : Refusal) → IsStart start → IsRun limit start (m ∷ ms) →
+    m.event ≡ Begin (GetJob name) → m.outcome ≡ Refused why → file_in (now start ms) name ≡ Some file →
+    IsGetRefusal why
 begins_stored limit start m ms name file why clean run event outcome h =
     (let g : Begins limit (length ms) (now start ms) (GetJob name) (Refused why) m.state =
     subst (λ (x : Event). Happens limit (length ms) (now start ms) x (Refused why) m.state) event
     (subst (λ (r : Outcome). Happens limit (length ms) (now start ms) m.event r m.state) outcome run.1) in
     elim g.1 [
-      | inl e ↦ get_refusal limit (now start ms) name file why (stored_named limit start ms name file clean run.2 h) h e
+      | inl e ↦ get_refusal limit (now start ms) name file why
+          (stored_named limit start ms name file clean run.2 h) h e
       | inr e ↦ inr (inr e)
     ])

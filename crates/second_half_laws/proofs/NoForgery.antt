@@ -26,13 +26,19 @@ use Rattle.second_half_laws.proofs.Points.{Facts, begin_of, mark_of}
 use Rattle.second_half_laws.proofs.Readers.{few_there}
 
 -- no running get of a run that is calm by a mark has fetched a forgery against its file
-pub no_forgery : (limit : ℕ) (mark : Mark) (start : State) (ms : List Moment) → IsStart start → IsRun limit start ms → Facts mark start ms →
-    ((k : ℕ) (j : Job) → job_of (now start ms).jobs k ≡ Some j → IsTrue (relies j.kind) → replaced_count (now start ms) (mark_of mark ms j) ms ≤ (setup_in (now start ms)).b) →
-    (number : ℕ) (job : Job) (name : List ℕ) (file : File) → job_of (now start ms).jobs number ≡ Some job → job.kind ≡ GetJob name → file_in (begin_of start ms job) name ≡ Some file →
-    HoldsForgery (file_object (begin_of start ms job) file) ((begin_of start ms job).bytes file.id) job.number (heard_by (Some job)) → ⊥
+pub no_forgery : (limit : ℕ) (mark : Mark) (start : State) (ms : List Moment) → IsStart start →
+    IsRun limit start ms → Facts mark start ms →
+    ((k : ℕ) (j : Job) → job_of (now start ms).jobs k ≡ Some j → IsTrue (relies j.kind) →
+    replaced_count (now start ms) (mark_of mark ms j) ms ≤ (setup_in (now start ms)).b) →
+    (number : ℕ) (job : Job) (name : List ℕ) (file : File) → job_of (now start ms).jobs number ≡ Some job →
+    job.kind ≡ GetJob name → file_in (begin_of start ms job) name ≡ Some file →
+    HoldsForgery (file_object (begin_of start ms job) file) ((begin_of start ms job).bytes file.id) job.number
+    (heard_by (Some job)) → ⊥
 no_forgery limit mark start ms clean run F calm number job name file runs kind in_effect forged =
-    of_now (subst (λ (t : Setup). HoldsForgery (object_of (profiled t file.profile) file.id) ((now start ms).bytes file.id) job.number (heard_by (Some job))) (sym setup)
-    (subst (λ (y : List ℕ). HoldsForgery (file_object (begin_of start ms job) file) y job.number (heard_by (Some job))) own_bytes forged))
+    of_now (subst (λ (t : Setup). HoldsForgery (object_of (profiled t file.profile) file.id)
+    ((now start ms).bytes file.id) job.number (heard_by (Some job))) (sym setup)
+    (subst (λ (y : List ℕ). HoldsForgery (file_object (begin_of start ms job) file) y job.number
+    (heard_by (Some job))) own_bytes forged))
   where
     H : HasFile (begin_of start ms job) (now start ms) job name
     H = have_files limit start clean ms run number job name runs kind
@@ -41,24 +47,36 @@ no_forgery limit mark start ms clean run F calm number job name file runs kind i
     setup = setup_same (now start ms) (begin_of start ms job) H.setup
 
     pinned : job.pinned ≡ pinned_file (begin_of start ms job) file ∷ []
-    pinned = H.pinned ∙ ap (λ (f : File). pinned_file (begin_of start ms job) f ∷ []) (same_value _ H.file file H.in_effect in_effect)
+    pinned = H.pinned ∙ ap (λ (f : File). pinned_file (begin_of start ms job) f ∷ [])
+        (same_value _ H.file file H.in_effect in_effect)
 
     in_file : In (pinned_file (begin_of start ms job) file) job.pinned
     in_file = subst (In (pinned_file (begin_of start ms job) file)) (sym pinned) (inl refl)
 
     own_bytes : (begin_of start ms job).bytes file.id ≡ (now start ms).bytes file.id
-    own_bytes = (always limit start clean ms run).pinned number job (pinned_file (begin_of start ms job) file) runs in_file
+    own_bytes = (always limit start clean ms run).pinned number job
+        (pinned_file (begin_of start ms job) file) runs in_file
 
     shape : IsShape (setup_in (now start ms)).n (setup_in (now start ms)).l (setup_in (now start ms)).b
     shape = subst (λ (t : Setup). IsShape t.n t.l t.b) (sym setup)
-        (shape_in (begin_of start ms job) (λ s h. valid_shape s (valid_setup limit start (first_moments job.begun ms) s clean (first_run limit start job.begun ms run) h))
-        (held_file limit start (first_moments job.begun ms) name file clean (first_run limit start job.begun ms run) in_effect).up)
+        (shape_in (begin_of start ms job)
+        (λ s h. valid_shape s
+        (valid_setup limit start (first_moments job.begun ms) s clean
+        (first_run limit start job.begun ms run) h))
+        (held_file limit start (first_moments job.begun ms) name file clean
+        (first_run limit start job.begun ms run) in_effect).up)
 
-    of_now : HoldsForgery (file_object (now start ms) file) ((now start ms).bytes file.id) job.number (heard_by (Some job)) → ⊥
+    of_now : HoldsForgery (file_object (now start ms) file) ((now start ms).bytes file.id) job.number
+        (heard_by (Some job)) → ⊥
     of_now h =
         (let f = h.forgery in
-        let few = few_there mark start ms F calm number job (pinned_file (begin_of start ms job) file) h.stripe runs (ap relies kind) in_file f.row_in.stripe_in in
-        f.forged.other (own_row (file_object (now start ms) file) ((now start ms).bytes file.id) file.profile h.stripe h.place
-        (blocks_given job.given (setup_in (now start ms)).n file.id h.stripe) f.opened f.row refl shape f.row_in few
-        (subst (λ (seen : List SeenBlock). AllOpen (file_object (now start ms) file) h.stripe 0 seen f.opened) (heard_blocks job name (setup_in (now start ms)).n file.id h.stripe kind) f.opens)
+        let few = few_there mark start ms F calm number job
+        (pinned_file (begin_of start ms job) file) h.stripe runs
+        (ap relies kind) in_file f.row_in.stripe_in in
+        f.forged.other (own_row (file_object (now start ms) file)
+        ((now start ms).bytes file.id) file.profile h.stripe h.place
+        (blocks_given job.given (setup_in (now start ms)).n file.id h.stripe) f.opened f.row refl shape
+        f.row_in few
+        (subst (λ (seen : List SeenBlock). AllOpen (file_object (now start ms) file) h.stripe 0 seen f.opened)
+        (heard_blocks job name (setup_in (now start ms)).n file.id h.stripe kind) f.opens)
         f.forged.accepted))

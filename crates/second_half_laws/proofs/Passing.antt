@@ -32,17 +32,53 @@ pub record Later (x j : Job) : Type 0 where
 
 -- each job is itself, at a later moment
 pub later_same : (x : Job) → Later x x
-later_same x = record { number = refl; kind = refl; profile = refl; begun = refl; pinned = refl; flagged = refl; subject = λ l. refl; place = omega arith; more = []; given = refl }
+later_same x = record {
+  number = refl;
+  kind = refl;
+  profile = refl;
+  begun = refl;
+  pinned = refl;
+  flagged = refl;
+  subject = λ l. refl;
+  place = omega arith;
+  more = [];
+  given = refl;
+}
 
 on_to : (x y j : Job) → j ≡ y → Later x y → Later x j
 on_to x y j is h = subst (Later x) (sym is) h
 
 -- a job that has made an action is the same job, later
-pub passed_later : (old : State) (x : Job) (action : Action) (new : State) (j : Job) → Passed old x action new j → Later x j
+pub passed_later : (old : State) (x : Job) (action : Action) (new : State) (j : Job) →
+    Passed old x action new j → Later x j
 passed_later old x action new j (Passed.silent quiet is rec) =
-    on_to x (advanced x) j is (record { number = refl; kind = refl; profile = refl; begun = refl; pinned = refl; flagged = refl; subject = λ l. refl; place = omega arith; more = []; given = refl })
+    on_to x (advanced x) j is
+    (record {
+      number = refl;
+      kind = refl;
+      profile = refl;
+      begun = refl;
+      pinned = refl;
+      flagged = refl;
+      subject = λ l. refl;
+      place = omega arith;
+      more = [];
+      given = refl;
+    })
 passed_later old x action new j (Passed.gave gift is_gift is rec) =
-    on_to x (advanced_with x gift) j is (record { number = refl; kind = refl; profile = refl; begun = refl; pinned = refl; flagged = refl; subject = λ l. refl; place = omega arith; more = gift ∷ []; given = refl })
+    on_to x (advanced_with x gift) j is
+    (record {
+      number = refl;
+      kind = refl;
+      profile = refl;
+      begun = refl;
+      pinned = refl;
+      flagged = refl;
+      subject = λ l. refl;
+      place = omega arith;
+      more = gift ∷ [];
+      given = refl;
+    })
 passed_later old x action new j (Passed.drew act is rec) =
     on_to x (record (advanced x) { subject = subject_drawn old x x.kind }) j is (record {
       number = refl;
@@ -57,42 +93,65 @@ passed_later old x action new j (Passed.drew act is rec) =
       given = refl;
     })
 passed_later old x action new j (Passed.finished a act flight mine is rec) =
-    on_to x (record (advanced x) { older = taken_out old x x.kind }) j is (record { number = refl; kind = refl; profile = refl; begun = refl; pinned = refl; flagged = refl; subject = λ l. refl; place = omega arith; more = []; given = refl })
+    on_to x (record (advanced x) { older = taken_out old x x.kind }) j is
+    (record {
+      number = refl;
+      kind = refl;
+      profile = refl;
+      begun = refl;
+      pinned = refl;
+      flagged = refl;
+      subject = λ l. refl;
+      place = omega arith;
+      more = [];
+      given = refl;
+    })
 
 -- a job that has made an action stands at the next place
-pub passed_place : (old : State) (x : Job) (action : Action) (new : State) (j : Job) → Passed old x action new j → j.place ≡ x.place + 1
+pub passed_place : (old : State) (x : Job) (action : Action) (new : State) (j : Job) →
+    Passed old x action new j → j.place ≡ x.place + 1
 passed_place old x action new j (Passed.silent quiet is rec) = ap (λ (y : Job). y.place) is
 passed_place old x action new j (Passed.gave gift is_gift is rec) = ap (λ (y : Job). y.place) is
 passed_place old x action new j (Passed.drew act is rec) = ap (λ (y : Job). y.place) is
 passed_place old x action new j (Passed.finished a act flight mine is rec) = ap (λ (y : Job). y.place) is
 
 -- an end is not passed
-pub passed_not_end : (old : State) (x : Job) (action : Action) (new : State) (j : Job) → Passed old x action new j → action ≡ End → ⊥
+pub passed_not_end : (old : State) (x : Job) (action : Action) (new : State) (j : Job) →
+    Passed old x action new j → action ≡ End → ⊥
 passed_not_end old x action new j (Passed.silent quiet is rec) e = subst IsSilent e quiet
-passed_not_end old x action new j (Passed.gave gift is_gift is rec) e = subst (λ (a : Action). IsGift old x new a gift) e is_gift
+passed_not_end old x action new j (Passed.gave gift is_gift is rec) e =
+    subst (λ (a : Action). IsGift old x new a gift) e is_gift
 passed_not_end old x action new j (Passed.drew act is rec) e = (let f : WriteBody ≡ End = sym act ∙ e in cc)
-passed_not_end old x action new j (Passed.finished a act flight mine is rec) e = (let f : SyncGate ≡ End = sym act ∙ e in cc)
+passed_not_end old x action new j (Passed.finished a act flight mine is rec) e =
+    (let f : SyncGate ≡ End = sym act ∙ e in cc)
 
 -- ---- lists that begin alike
 
-same_front : {X : Type 0} (xs ys zs : List X) (p n : ℕ) → p < length xs + n → ((q : ℕ) → q < n → slice_get ys q ≡ slice_get zs q) → slice_get (xs ++ ys) p ≡ slice_get (xs ++ zs) p
+same_front : {X : Type 0} (xs ys zs : List X) (p n : ℕ) → p < length xs + n →
+    ((q : ℕ) → q < n → slice_get ys q ≡ slice_get zs q) → slice_get (xs ++ ys) p ≡ slice_get (xs ++ zs) p
 same_front [] ys zs p n l h = h p (omega (arith, l))
 same_front (x ∷ xs) ys zs zero n l h = refl
 same_front (x ∷ xs) ys zs (suc p) n l h = same_front xs ys zs p n (omega (arith, l)) h
 
 -- the first four moves, whatever follows
-four_same : (ys zs : List Action) (p : ℕ) → p < 4 → slice_get (append_actions ++ ys) p ≡ slice_get (append_actions ++ zs) p
-four_same ys zs p l = same_front append_actions ys zs p 0 (omega (arith, l)) (λ q k. absurd (omega (arith, k)))
+four_same : (ys zs : List Action) (p : ℕ) → p < 4 →
+    slice_get (append_actions ++ ys) p ≡ slice_get (append_actions ++ zs) p
+four_same ys zs p l =
+    same_front append_actions ys zs p 0 (omega (arith, l)) (λ q k. absurd (omega (arith, k)))
 
 -- up to the end of a put's second append
-eight_same : (ss ys zs : List Action) (p : ℕ) → p < 8 + length ss → slice_get (append_actions ++ (ss ++ (append_actions ++ ys))) p ≡ slice_get (append_actions ++ (ss ++ (append_actions ++ zs))) p
-eight_same ss ys zs p l = same_front append_actions (ss ++ (append_actions ++ ys)) (ss ++ (append_actions ++ zs)) p (length ss + 4) (omega (arith, l))
+eight_same : (ss ys zs : List Action) (p : ℕ) → p < 8 + length ss →
+    slice_get (append_actions ++ (ss ++ (append_actions ++ ys))) p
+    ≡ slice_get (append_actions ++ (ss ++ (append_actions ++ zs))) p
+eight_same ss ys zs p l = same_front append_actions (ss ++ (append_actions ++ ys))
+    (ss ++ (append_actions ++ zs)) p (length ss + 4) (omega (arith, l))
     (λ q k. same_front ss (append_actions ++ ys) (append_actions ++ zs) q 4 k (λ i m. four_same ys zs i m))
 
 -- ---- the list of a job that went on
 
 -- what a job is given leaves its list of actions
-pub same_given : (s : Setup) (x : Job) (gift : Given) (kind : Kind) → actions_by s (advanced_with x gift) kind ≡ actions_by s x kind
+pub same_given : (s : Setup) (x : Job) (gift : Given) (kind : Kind) →
+    actions_by s (advanced_with x gift) kind ≡ actions_by s x kind
 same_given s x gift (PutJob name bytes) = refl
 same_given s x gift (GetJob name) = refl
 same_given s x gift (DropJob name) = refl
@@ -108,7 +167,8 @@ with_subject x n = record (advanced x) { subject = n }
 abbrev with_older : Job → List ℕ → Job
 with_older x l = record (advanced x) { older = l }
 
-subject_first : (s : Setup) (x : Job) (n p : ℕ) (kind : Kind) → p < 4 → slice_get (actions_by s (with_subject x n) kind) p ≡ slice_get (actions_by s x kind) p
+subject_first : (s : Setup) (x : Job) (n p : ℕ) (kind : Kind) → p < 4 →
+    slice_get (actions_by s (with_subject x n) kind) p ≡ slice_get (actions_by s x kind) p
 subject_first s x n p (PutJob name bytes) l = four_same _ _ p l
 subject_first s x n p (GetJob name) l = refl
 subject_first s x n p (DropJob name) l = refl
@@ -116,10 +176,14 @@ subject_first s x n p AuditJob l = refl
 subject_first s x n p RepairJob l = refl
 subject_first s x n p UpgradeJob l = refl
 
-subject_same : (s : Setup) (x : Job) (n p : ℕ) (kind : Kind) → n ≡ x.subject → slice_get (actions_by s (with_subject x n) kind) p ≡ slice_get (actions_by s x kind) p
-subject_same s x n p kind e = subst (λ m. slice_get (actions_by s (with_subject x m) kind) p ≡ slice_get (actions_by s x kind) p) (sym e) (ap (λ l. slice_get l p) (actions_by-advanced s x kind))
+subject_same : (s : Setup) (x : Job) (n p : ℕ) (kind : Kind) → n ≡ x.subject →
+    slice_get (actions_by s (with_subject x n) kind) p ≡ slice_get (actions_by s x kind) p
+subject_same s x n p kind e =
+    subst (λ m. slice_get (actions_by s (with_subject x m) kind) p ≡ slice_get (actions_by s x kind) p)
+    (sym e) (ap (λ l. slice_get l p) (actions_by-advanced s x kind))
 
-older_first : (s : Setup) (x : Job) (l : List ℕ) (p : ℕ) (kind : Kind) → p < 4 → slice_get (actions_by s (with_older x l) kind) p ≡ slice_get (actions_by s x kind) p
+older_first : (s : Setup) (x : Job) (l : List ℕ) (p : ℕ) (kind : Kind) → p < 4 →
+    slice_get (actions_by s (with_older x l) kind) p ≡ slice_get (actions_by s x kind) p
 older_first s x l p (PutJob name bytes) k = four_same _ _ p k
 older_first s x l p (GetJob name) k = refl
 older_first s x l p (DropJob name) k = four_same _ _ p k
@@ -128,7 +192,9 @@ older_first s x l p RepairJob k = refl
 older_first s x l p UpgradeJob k = refl
 
 -- where the fourth moves of a put and a drop stand
-gate_within : (w : State) (x : Job) (name bytes : List ℕ) → x.kind ≡ PutJob name bytes → next_action w x ≡ Some SyncGate → (x.place < 4) ⊎ (x.place < 8 + length (store_actions (setup_in w) x bytes))
+gate_within : (w : State) (x : Job) (name bytes : List ℕ) → x.kind ≡ PutJob name bytes →
+    next_action w x ≡ Some SyncGate → (x.place < 4) ⊎
+    (x.place < 8 + length (store_actions (setup_in w) x bytes))
 gate_within w x name bytes kind h = elim (put_next w x name bytes SyncGate kind h) [
   | PutAt.first l e ↦ inl l
   | PutAt.store l m is ↦ absurd is
@@ -141,21 +207,27 @@ abbrev NoGate : Action → Type 0
 NoGate SyncGate = ⊥
 NoGate action = Unit {0}
 
-drop_gate : (s : Setup) (x : Job) (name : List ℕ) (p : ℕ) → slice_get (actions_by s x (DropJob name)) p ≡ Some SyncGate → p < 4
+drop_gate : (s : Setup) (x : Job) (name : List ℕ) (p : ℕ) →
+    slice_get (actions_by s x (DropJob name)) p ≡ Some SyncGate → p < 4
 drop_gate s x name p h = elim (split_get append_actions (remove_actions s x ++ End ∷ []) p SyncGate h) [
   | inl a ↦ a.0
-  | inr b ↦ absurd (each_get NoGate (remove_actions s x ++ End ∷ []) (p - 4) SyncGate (tail_all s x NoGate (λ j o. tt) tt) b.1)
+  | inr b ↦ absurd (each_get NoGate (remove_actions s x ++ End ∷ []) (p - 4) SyncGate
+      (tail_all s x NoGate (λ j o. tt) tt) b.1)
 ]
 
-older_same : (w : State) (x : Job) (l : List ℕ) (p : ℕ) (kind : Kind) → x.kind ≡ kind → next_action w x ≡ Some SyncGate → p ≤ x.place → slice_get (actions_by (setup_in w) (with_older x l) kind) p ≡ slice_get (actions_by (setup_in w) x kind) p
+older_same : (w : State) (x : Job) (l : List ℕ) (p : ℕ) (kind : Kind) → x.kind ≡ kind →
+    next_action w x ≡ Some SyncGate → p ≤ x.place →
+    slice_get (actions_by (setup_in w) (with_older x l) kind) p ≡ slice_get (actions_by (setup_in w) x kind) p
 older_same w x l p (PutJob name bytes) kind h k = elim (gate_within w x name bytes kind h) [
   | inl a ↦ older_first (setup_in w) x l p (PutJob name bytes) (omega (arith, a, k))
   | inr b ↦ eight_same (store_actions (setup_in w) x bytes) _ _ p (omega (arith, b, k))
 ]
 older_same w x l p (GetJob name) kind h k = refl
 older_same w x l p (DropJob name) kind h k =
-    (let at = by_kind (setup_in w) x (DropJob name) x.place SyncGate kind (next_stands w x SyncGate h (λ e. cc)) in
-    let a = drop_gate (setup_in w) x name x.place at in older_first (setup_in w) x l p (DropJob name) (omega (arith, a, k)))
+    (let at = by_kind (setup_in w) x (DropJob name) x.place SyncGate kind
+    (next_stands w x SyncGate h (λ e. cc)) in
+    let a = drop_gate (setup_in w) x name x.place at in
+    older_first (setup_in w) x l p (DropJob name) (omega (arith, a, k)))
 older_same w x l p AuditJob kind h k = refl
 older_same w x l p RepairJob kind h k = refl
 older_same w x l p UpgradeJob kind h k = refl
@@ -164,28 +236,44 @@ older_same w x l p UpgradeJob kind h k = refl
 pub list_is : (s : Setup) (x : Job) → actions_of s x ≡ actions_by s x x.kind
 list_is s x = actions_are s x x.kind refl
 
-list_of : (s : Setup) (x y j : Job) (p : ℕ) → j ≡ y → slice_get (actions_of s y) p ≡ slice_get (actions_of s x) p → slice_get (actions_of s j) p ≡ slice_get (actions_of s x) p
+list_of : (s : Setup) (x y j : Job) (p : ℕ) → j ≡ y →
+    slice_get (actions_of s y) p ≡ slice_get (actions_of s x) p →
+    slice_get (actions_of s j) p ≡ slice_get (actions_of s x) p
 list_of s x y j p is h = ap (λ (z : Job). slice_get (actions_of s z) p) is ∙ h
 
-by_lists : (s : Setup) (x y : Job) (p : ℕ) → y.kind ≡ x.kind → slice_get (actions_by s y x.kind) p ≡ slice_get (actions_by s x x.kind) p → slice_get (actions_of s y) p ≡ slice_get (actions_of s x) p
-by_lists s x y p is h = ap (λ l. slice_get l p) (actions_are s y x.kind is) ∙ (h ∙ ap (λ l. slice_get l p) (sym (list_is s x)))
+by_lists : (s : Setup) (x y : Job) (p : ℕ) → y.kind ≡ x.kind →
+    slice_get (actions_by s y x.kind) p ≡ slice_get (actions_by s x x.kind) p →
+    slice_get (actions_of s y) p ≡ slice_get (actions_of s x) p
+by_lists s x y p is h =
+    ap (λ l. slice_get l p) (actions_are s y x.kind is) ∙ (h ∙ ap (λ l. slice_get l p) (sym (list_is s x)))
 
 -- up to the place of what it has just made, the list is as before
-pub list_before : (old : State) (x : Job) (action : Action) (new : State) (j : Job) (p : ℕ) → next_action old x ≡ Some action → Passed old x action new j → p ≤ x.place →
+pub list_before : (old : State) (x : Job) (action : Action) (new : State) (j : Job) (p : ℕ) →
+    next_action old x ≡ Some action → Passed old x action new j → p ≤ x.place →
     slice_get (actions_of (setup_in old) j) p ≡ slice_get (actions_of (setup_in old) x) p
 list_before old x action new j p next_is (Passed.silent quiet is rec) l =
-    list_of (setup_in old) x (advanced x) j p is (by_lists (setup_in old) x (advanced x) p refl (ap (λ l. slice_get l p) (actions_by-advanced (setup_in old) x x.kind)))
+    list_of (setup_in old) x (advanced x) j p is
+    (by_lists (setup_in old) x (advanced x) p refl
+    (ap (λ l. slice_get l p) (actions_by-advanced (setup_in old) x x.kind)))
 list_before old x action new j p next_is (Passed.gave gift is_gift is rec) l =
-    list_of (setup_in old) x (advanced_with x gift) j p is (by_lists (setup_in old) x (advanced_with x gift) p refl (ap (λ l. slice_get l p) (same_given (setup_in old) x gift x.kind)))
+    list_of (setup_in old) x (advanced_with x gift) j p is
+    (by_lists (setup_in old) x (advanced_with x gift) p refl
+    (ap (λ l. slice_get l p) (same_given (setup_in old) x gift x.kind)))
 list_before old x action new j p next_is (Passed.drew act is rec) l =
-    list_of (setup_in old) x (with_subject x (subject_drawn old x x.kind)) j p is (by_lists (setup_in old) x (with_subject x (subject_drawn old x x.kind)) p refl (elim (cases_lt p 4) [
+    list_of (setup_in old) x (with_subject x (subject_drawn old x x.kind)) j p is
+    (by_lists (setup_in old) x (with_subject x (subject_drawn old x x.kind)) p refl (elim (cases_lt p 4) [
       | inl k ↦ subject_first (setup_in old) x (subject_drawn old x x.kind) p x.kind k
-      | inr k ↦ subject_same (setup_in old) x (subject_drawn old x x.kind) p x.kind (drawn_later old x x.kind (first_above x (omega (arith, k, l))))
+      | inr k ↦ subject_same (setup_in old) x (subject_drawn old x x.kind) p x.kind
+          (drawn_later old x x.kind (first_above x (omega (arith, k, l))))
     ]))
 list_before old x action new j p next_is (Passed.finished a act flight mine is rec) l =
-    list_of (setup_in old) x (with_older x (taken_out old x x.kind)) j p is (by_lists (setup_in old) x (with_older x (taken_out old x x.kind)) p refl
+    list_of (setup_in old) x (with_older x (taken_out old x x.kind)) j p is
+    (by_lists (setup_in old) x (with_older x (taken_out old x x.kind)) p refl
     (older_same old x (taken_out old x x.kind) p x.kind refl (next_is ∙ ap Some act) l))
 
 -- and there stands what it has made
-pub list_now : (old : State) (x : Job) (action : Action) (new : State) (j : Job) → next_action old x ≡ Some action → Passed old x action new j → slice_get (actions_of (setup_in old) x) x.place ≡ Some action
-list_now old x action new j next_is passed = next_stands old x action next_is (passed_not_end old x action new j passed)
+pub list_now : (old : State) (x : Job) (action : Action) (new : State) (j : Job) →
+    next_action old x ≡ Some action → Passed old x action new j →
+    slice_get (actions_of (setup_in old) x) x.place ≡ Some action
+list_now old x action new j next_is passed =
+    next_stands old x action next_is (passed_not_end old x action new j passed)

@@ -24,11 +24,13 @@ use Rattle.second_half_laws.specs.Behind.{HasMade}
 use Rattle.second_half_laws.proofs.Lists.{only, Stands, stands_left, stands_right, stands_map, stands_flat, in_upto, upto_in, Behind, behind_none, behind_append, behind_flat, stands_before}
 
 -- what stands at a place of a job's list stands there in the list of its kind
-pub by_kind : (s : Setup) (job : Job) (kind : Kind) (p : ℕ) (action : Action) → job.kind ≡ kind → slice_get (actions_of s job) p ≡ Some action → slice_get (actions_by s job kind) p ≡ Some action
+pub by_kind : (s : Setup) (job : Job) (kind : Kind) (p : ℕ) (action : Action) → job.kind ≡ kind →
+    slice_get (actions_of s job) p ≡ Some action → slice_get (actions_by s job kind) p ≡ Some action
 by_kind s job kind p action is h = ap (λ l. slice_get l p) (sym (actions_are s job kind is)) ∙ h
 
 -- what stands at a place of the list of a job's kind stands there in the job's list
-pub of_kind : (s : Setup) (job : Job) (kind : Kind) (p : ℕ) (action : Action) → job.kind ≡ kind → slice_get (actions_by s job kind) p ≡ Some action → slice_get (actions_of s job) p ≡ Some action
+pub of_kind : (s : Setup) (job : Job) (kind : Kind) (p : ℕ) (action : Action) → job.kind ≡ kind →
+    slice_get (actions_by s job kind) p ≡ Some action → slice_get (actions_of s job) p ≡ Some action
 of_kind s job kind p action is h = ap (λ l. slice_get l p) (actions_are s job kind is) ∙ h
 
 -- ---- kinds of actions
@@ -51,28 +53,39 @@ IsCall SyncGate = ⊥
 IsCall End = ⊥
 IsCall action = Unit {0}
 
-each_not : (P : Action → Type 0) (a : Action) (xs : List Action) → (P a → ⊥) → Each P xs → Each (λ x. x ≡ a → ⊥) xs
+each_not : (P : Action → Type 0) (a : Action) (xs : List Action) → (P a → ⊥) → Each P xs →
+    Each (λ x. x ≡ a → ⊥) xs
 each_not P a [] bad h = tt
 each_not P a (x ∷ xs) bad h = (λ e. bad (subst P e h.0), each_not P a xs bad h.1)
 
 -- ---- the opening of a stripe
 
-fetches_stand : (t : Setup) (id st i : ℕ) → i < t.n → Stands (Fetch i id st) (on_each_provider t (λ j. Fetch j id st))
+fetches_stand : (t : Setup) (id st i : ℕ) → i < t.n →
+    Stands (Fetch i id st) (on_each_provider t (λ j. Fetch j id st))
 fetches_stand t id st i l = stands_map (λ j. Fetch j id st) (upto t.n) i (in_upto t.n i l)
 
 open_behind : (t : Setup) (id st i o s : ℕ) → i < t.n → Behind (Fetch i o s) (Work o s) (open_actions t id st)
-open_behind t id st i o s l p h = elim (split_get (on_each_provider t (λ j. Fetch j id st)) (Work id st ∷ []) p (Work o s) h) [
-  | inl x ↦ absurd (each_get NoWork (on_each_provider t (λ j. Fetch j id st)) p (Work o s) (each_map NoWork (λ j. Fetch j id st) (upto t.n) (λ j. tt)) x.1)
-  | inr x ↦ (let e : Work id st ≡ Work o s = only (Work id st) (Work o s) (p - length (on_each_provider t (λ j. Fetch j id st))) x.1 in
-      let at = fetches_stand t id st i l in
-      let early = slice_get_within (on_each_provider t (λ j. Fetch j id st)) at.0 (Fetch i id st) at.1 in
-      let late = x.0 in
-      let same : Fetch i id st ≡ Fetch i o s = (let a : id ≡ o = cc in let b : st ≡ s = cc in cc) in
-      (at.0, omega arith, get_left (on_each_provider t (λ j. Fetch j id st)) (Work id st ∷ []) at.0 (Fetch i id st) at.1 ∙ ap Some same))
-]
+open_behind t id st i o s l p h =
+    elim (split_get (on_each_provider t (λ j. Fetch j id st)) (Work id st ∷ []) p (Work o s) h) [
+      | inl x ↦ absurd (each_get NoWork (on_each_provider t (λ j. Fetch j id st)) p (Work o s)
+          (each_map NoWork (λ j. Fetch j id st) (upto t.n) (λ j. tt)) x.1)
+      | inr x ↦ (let e : Work id st ≡ Work o s = only (Work id st) (Work o s)
+          (p - length (on_each_provider t (λ j. Fetch j id st))) x.1 in
+          let at = fetches_stand t id st i l in
+          let early = slice_get_within (on_each_provider t (λ j. Fetch j id st)) at.0 (Fetch i id st) at.1 in
+          let late = x.0 in
+          let same : Fetch i id st ≡ Fetch i o s = (let a : id ≡ o = cc in let b : st ≡ s = cc in cc) in (
+            at.0,
+            omega arith,
+            get_left (on_each_provider t (λ j. Fetch j id st)) (Work id st ∷ []) at.0
+                (Fetch i id st) at.1 ∙ ap Some same,
+          ))
+    ]
 
-rewrites_fair : (t : Setup) (job : Job) (P : Action → Type 0) (id st : ℕ) → ((j : ℕ) → P (Store j id st)) → Each P (rewrite_actions t job id st)
-rewrites_fair t job P id st h = each_flat P (λ j. cond (job.flagged j) (Store j id st ∷ []) []) (upto t.n) (λ j. one (job.flagged j) (Store j id st) (h j))
+rewrites_fair : (t : Setup) (job : Job) (P : Action → Type 0) (id st : ℕ) → ((j : ℕ) → P (Store j id st)) →
+    Each P (rewrite_actions t job id st)
+rewrites_fair t job P id st h = each_flat P (λ j. cond (job.flagged j) (Store j id st ∷ []) []) (upto t.n)
+    (λ j. one (job.flagged j) (Store j id st) (h j))
   where
     one : (b : Bool) (a : Action) → P a → Each P (cond b (a ∷ []) [])
     one true a g = (g, tt)
@@ -81,28 +94,43 @@ rewrites_fair t job P id st h = each_flat P (λ j. cond (job.flagged j) (Store j
 abbrev repair_piece : Setup → Job → ℕ → ℕ → List Action
 repair_piece t job id st = open_actions t id st ++ rewrite_actions t job id st
 
-piece_opens : (t : Setup) (job : Job) (id st i o s : ℕ) → i < t.n → Behind (Fetch i o s) (Work o s) (repair_piece t job id st)
-piece_opens t job id st i o s l = behind_append (Fetch i o s) (Work o s) (open_actions t id st) (rewrite_actions t job id st) (open_behind t id st i o s l)
-    (behind_none (Fetch i o s) (Work o s) (rewrite_actions t job id st) (each_not NoWork (Work o s) (rewrite_actions t job id st) (λ z. z) (rewrites_fair t job NoWork id st (λ j. tt))))
+piece_opens : (t : Setup) (job : Job) (id st i o s : ℕ) → i < t.n →
+    Behind (Fetch i o s) (Work o s) (repair_piece t job id st)
+piece_opens t job id st i o s l = behind_append (Fetch i o s) (Work o s) (open_actions t id st)
+    (rewrite_actions t job id st) (open_behind t id st i o s l)
+    (behind_none (Fetch i o s) (Work o s) (rewrite_actions t job id st)
+    (each_not NoWork (Work o s) (rewrite_actions t job id st) (λ z. z)
+    (rewrites_fair t job NoWork id st (λ j. tt))))
 
 -- a store of this stripe of this object
 abbrev IsOf : ℕ → ℕ → Action → Type 0
 IsOf id st (Store j o s) = (o ≡ id) × (s ≡ st)
 IsOf id st action = Unit {0}
 
-opens_nothing : (t : Setup) (P : Action → Type 0) (id st : ℕ) → ((j : ℕ) → P (Fetch j id st)) → P (Work id st) → Each P (open_actions t id st)
-opens_nothing t P id st f g = each_append P (on_each_provider t (λ j. Fetch j id st)) (Work id st ∷ []) (each_map P (λ j. Fetch j id st) (upto t.n) f) (g, tt)
+opens_nothing : (t : Setup) (P : Action → Type 0) (id st : ℕ) → ((j : ℕ) → P (Fetch j id st)) →
+    P (Work id st) → Each P (open_actions t id st)
+opens_nothing t P id st f g = each_append P (on_each_provider t (λ j. Fetch j id st)) (Work id st ∷ [])
+    (each_map P (λ j. Fetch j id st) (upto t.n) f) (g, tt)
 
-piece_stores : (t : Setup) (job : Job) (id st i o s : ℕ) → Behind (Work o s) (Store i o s) (repair_piece t job id st)
-piece_stores t job id st i o s p h = elim (split_get (open_actions t id st) (rewrite_actions t job id st) p (Store i o s) h) [
-  | inl x ↦ absurd (each_get NoStore (open_actions t id st) p (Store i o s) (opens_nothing t NoStore id st (λ j. tt) tt) x.1)
-  | inr x ↦ (let of = each_get (IsOf id st) (rewrite_actions t job id st) (p - length (open_actions t id st)) (Store i o s) (rewrites_fair t job (IsOf id st) id st (λ j. (refl, refl))) x.1 in
-      let at : Stands (Work id st) (open_actions t id st) = stands_right (on_each_provider t (λ j. Fetch j id st)) (Work id st ∷ []) (Work id st) (0, refl) in
-      let early = slice_get_within (open_actions t id st) at.0 (Work id st) at.1 in
-      let late = x.0 in
-      let same : Work id st ≡ Work o s = (let a = of.0 in let b = of.1 in cc) in
-      (at.0, omega arith, get_left (open_actions t id st) (rewrite_actions t job id st) at.0 (Work id st) at.1 ∙ ap Some same))
-]
+piece_stores : (t : Setup) (job : Job) (id st i o s : ℕ) →
+    Behind (Work o s) (Store i o s) (repair_piece t job id st)
+piece_stores t job id st i o s p h =
+    elim (split_get (open_actions t id st) (rewrite_actions t job id st) p (Store i o s) h) [
+      | inl x ↦ absurd (each_get NoStore (open_actions t id st) p (Store i o s)
+          (opens_nothing t NoStore id st (λ j. tt) tt) x.1)
+      | inr x ↦ (let of = each_get (IsOf id st) (rewrite_actions t job id st) (p - length (open_actions t id st))
+          (Store i o s) (rewrites_fair t job (IsOf id st) id st (λ j. (refl, refl))) x.1 in
+          let at : Stands (Work id st) (open_actions t id st) =
+          stands_right (on_each_provider t (λ j. Fetch j id st)) (Work id st ∷ []) (Work id st) (0, refl) in
+          let early = slice_get_within (open_actions t id st) at.0 (Work id st) at.1 in
+          let late = x.0 in
+          let same : Work id st ≡ Work o s = (let a = of.0 in let b = of.1 in cc) in (
+            at.0,
+            omega arith,
+            get_left (open_actions t id st) (rewrite_actions t job id st) at.0 (Work id st) at.1
+                ∙ ap Some same,
+          ))
+    ]
 
 -- ---- lists without work
 
@@ -110,85 +138,143 @@ no_work_moves : Each NoWork append_actions
 no_work_moves = (tt, (tt, (tt, (tt, tt))))
 
 -- what holds of every removal holds of those of a job
-pub removals : (t : Setup) (job : Job) (P : Action → Type 0) → ((j o : ℕ) → P (Remove j o)) → Each P (remove_actions t job)
-removals t job P h = each_flat P (λ object. on_each_provider t (λ j. Remove j object)) job.older (λ o. each_map P (λ j. Remove j o) (upto t.n) (λ j. h j o))
+pub removals : (t : Setup) (job : Job) (P : Action → Type 0) → ((j o : ℕ) → P (Remove j o)) →
+    Each P (remove_actions t job)
+removals t job P h = each_flat P (λ object. on_each_provider t (λ j. Remove j object)) job.older
+    (λ o. each_map P (λ j. Remove j o) (upto t.n) (λ j. h j o))
 
 -- what holds of every store under its number holds of those of a put
-pub stores_all : (t : Setup) (job : Job) (bytes : List ℕ) (P : Action → Type 0) → ((j s : ℕ) → P (Store j job.subject s)) → Each P (store_actions t job bytes)
-stores_all t job bytes P h = each_flat P (λ stripe. on_each_provider t (λ j. Store j job.subject stripe)) (upto (put_stripes t job bytes))
+pub stores_all : (t : Setup) (job : Job) (bytes : List ℕ) (P : Action → Type 0) →
+    ((j s : ℕ) → P (Store j job.subject s)) → Each P (store_actions t job bytes)
+stores_all t job bytes P h = each_flat P (λ stripe. on_each_provider t (λ j. Store j job.subject stripe))
+    (upto (put_stripes t job bytes))
     (λ stripe. each_map P (λ j. Store j job.subject stripe) (upto t.n) (λ j. h j stripe))
 
 -- what holds of every ask holds of those of an audit
-pub asks_all : (t : Setup) (job : Job) (P : Action → Type 0) → ((j o r : ℕ) → P (Ask j o r)) → Each P (ask_actions t job)
-asks_all t job P h = each_flat P (λ (f : Pinned). flat_map (λ round. on_each_provider t (λ j. Ask j f.id round)) (rounds_of (profiled t f.profile) (length f.bytes))) job.pinned
-    (λ f. each_flat P (λ round. on_each_provider t (λ j. Ask j f.id round)) (rounds_of (profiled t f.profile) (length f.bytes))
+pub asks_all : (t : Setup) (job : Job) (P : Action → Type 0) → ((j o r : ℕ) → P (Ask j o r)) →
+    Each P (ask_actions t job)
+asks_all t job P h = each_flat P
+    (λ (f : Pinned). flat_map (λ round. on_each_provider t (λ j. Ask j f.id round))
+    (rounds_of (profiled t f.profile) (length f.bytes))) job.pinned
+    (λ f. each_flat P (λ round. on_each_provider t (λ j. Ask j f.id round))
+    (rounds_of (profiled t f.profile) (length f.bytes))
     (λ round. each_map P (λ j. Ask j f.id round) (upto t.n) (λ j. h j f.id round)))
 
 -- what holds of every removal and of the end holds of the last actions of a put or a drop
-pub tail_all : (t : Setup) (job : Job) (P : Action → Type 0) → ((j o : ℕ) → P (Remove j o)) → P End → Each P (remove_actions t job ++ End ∷ [])
+pub tail_all : (t : Setup) (job : Job) (P : Action → Type 0) → ((j o : ℕ) → P (Remove j o)) → P End →
+    Each P (remove_actions t job ++ End ∷ [])
 tail_all t job P h e = each_append P (remove_actions t job) (End ∷ []) (removals t job P h) (e, tt)
 
 -- what holds of an append and of what follows holds of both together
-pub moves_all : (P : Action → Type 0) (more : List Action) → Each P append_actions → Each P more → Each P (append_actions ++ more)
+pub moves_all : (P : Action → Type 0) (more : List Action) → Each P append_actions → Each P more →
+    Each P (append_actions ++ more)
 moves_all P more a b = each_append P append_actions more a b
 
 -- ---- what stands before the work on a stripe
 
-work_behind : (t : Setup) (job : Job) (kind : Kind) (i o s : ℕ) → i < t.n → Behind (Fetch i o s) (Work o s) (actions_by t job kind)
-work_behind t job (PutJob name bytes) i o s l = behind_none (Fetch i o s) (Work o s) (actions_by t job (PutJob name bytes)) (each_not NoWork (Work o s) (actions_by t job (PutJob name bytes)) (λ z. z)
-    (moves_all NoWork (store_actions t job bytes ++ (append_actions ++ (remove_actions t job ++ End ∷ []))) no_work_moves
-    (each_append NoWork (store_actions t job bytes) (append_actions ++ (remove_actions t job ++ End ∷ [])) (stores_all t job bytes NoWork (λ j st. tt))
-    (moves_all NoWork (remove_actions t job ++ End ∷ []) no_work_moves (tail_all t job NoWork (λ j st. tt) tt)))))
-work_behind t job (GetJob name) i o s l = behind_append (Fetch i o s) (Work o s) (read_actions t job.pinned) (End ∷ [])
-    (behind_flat (Fetch i o s) (Work o s) (λ (f : Pinned). on_each_stripe (profiled t f.profile) (length f.bytes) (open_actions t f.id)) job.pinned
-    (λ f in_f. behind_flat (Fetch i o s) (Work o s) (open_actions t f.id) (upto (pinned_stripes t f)) (λ st in_st. open_behind t f.id st i o s l)))
-    (behind_none (Fetch i o s) (Work o s) (End ∷ []) (each_not NoWork (Work o s) (End ∷ []) (λ z. z) (tt, tt)))
-work_behind t job (DropJob name) i o s l = behind_none (Fetch i o s) (Work o s) (actions_by t job (DropJob name)) (each_not NoWork (Work o s) (actions_by t job (DropJob name)) (λ z. z)
-    (moves_all NoWork (remove_actions t job ++ End ∷ []) no_work_moves (tail_all t job NoWork (λ j st. tt) tt)))
-work_behind t job AuditJob i o s l = behind_none (Fetch i o s) (Work o s) (actions_by t job AuditJob) (each_not NoWork (Work o s) (actions_by t job AuditJob) (λ z. z)
+work_behind : (t : Setup) (job : Job) (kind : Kind) (i o s : ℕ) → i < t.n →
+    Behind (Fetch i o s) (Work o s) (actions_by t job kind)
+work_behind t job (PutJob name bytes) i o s l = behind_none (Fetch i o s) (Work o s)
+    (actions_by t job (PutJob name bytes))
+    (each_not NoWork (Work o s) (actions_by t job (PutJob name bytes)) (λ z. z)
+    (moves_all NoWork (store_actions t job bytes ++ (append_actions ++ (remove_actions t job ++ End ∷ [])))
+    no_work_moves
+    (each_append NoWork (store_actions t job bytes) (append_actions ++ (remove_actions t job ++ End ∷ []))
+    (stores_all t job bytes NoWork (λ j st. tt))
+    (moves_all NoWork (remove_actions t job ++ End ∷ []) no_work_moves
+    (tail_all t job NoWork (λ j st. tt) tt)))))
+work_behind t job (GetJob name) i o s l =
+    behind_append (Fetch i o s) (Work o s) (read_actions t job.pinned) (End ∷ [])
+    (behind_flat (Fetch i o s) (Work o s)
+    (λ (f : Pinned). on_each_stripe (profiled t f.profile) (length f.bytes) (open_actions t f.id))
+    job.pinned
+    (λ f in_f. behind_flat (Fetch i o s) (Work o s) (open_actions t f.id) (upto (pinned_stripes t f))
+    (λ st in_st. open_behind t f.id st i o s l)))
+    (behind_none (Fetch i o s) (Work o s) (End ∷ [])
+    (each_not NoWork (Work o s) (End ∷ []) (λ z. z) (tt, tt)))
+work_behind t job (DropJob name) i o s l = behind_none (Fetch i o s) (Work o s)
+    (actions_by t job (DropJob name)) (each_not NoWork (Work o s) (actions_by t job (DropJob name)) (λ z. z)
+    (moves_all NoWork (remove_actions t job ++ End ∷ []) no_work_moves
+    (tail_all t job NoWork (λ j st. tt) tt)))
+work_behind t job AuditJob i o s l = behind_none (Fetch i o s) (Work o s) (actions_by t job AuditJob)
+    (each_not NoWork (Work o s) (actions_by t job AuditJob) (λ z. z)
     (moves_all NoWork (ask_actions t job ++ (append_actions ++ End ∷ [])) no_work_moves
-    (each_append NoWork (ask_actions t job) (append_actions ++ End ∷ []) (asks_all t job NoWork (λ j st r. tt)) (moves_all NoWork (End ∷ []) no_work_moves (tt, tt)))))
-work_behind t job RepairJob i o s l = behind_append (Fetch i o s) (Work o s) (repair_actions t job) (append_actions ++ End ∷ [])
-    (behind_flat (Fetch i o s) (Work o s) (λ (f : Pinned). on_each_stripe (profiled t f.profile) (length f.bytes) (λ stripe. open_actions t f.id stripe ++ rewrite_actions t job f.id stripe)) job.pinned
-    (λ f in_f. behind_flat (Fetch i o s) (Work o s) (λ stripe. open_actions t f.id stripe ++ rewrite_actions t job f.id stripe) (upto (pinned_stripes t f)) (λ st in_st. piece_opens t job f.id st i o s l)))
-    (behind_none (Fetch i o s) (Work o s) (append_actions ++ End ∷ []) (each_not NoWork (Work o s) (append_actions ++ End ∷ []) (λ z. z) (tt, (tt, (tt, (tt, (tt, tt)))))))
+    (each_append NoWork (ask_actions t job) (append_actions ++ End ∷ [])
+    (asks_all t job NoWork (λ j st r. tt)) (moves_all NoWork (End ∷ []) no_work_moves (tt, tt)))))
+work_behind t job RepairJob i o s l =
+    behind_append (Fetch i o s) (Work o s) (repair_actions t job) (append_actions ++ End ∷ [])
+    (behind_flat (Fetch i o s) (Work o s)
+    (λ (f : Pinned). on_each_stripe (profiled t f.profile) (length f.bytes)
+    (λ stripe. open_actions t f.id stripe ++ rewrite_actions t job f.id stripe)) job.pinned
+    (λ f in_f. behind_flat (Fetch i o s) (Work o s)
+    (λ stripe. open_actions t f.id stripe ++ rewrite_actions t job f.id stripe)
+    (upto (pinned_stripes t f)) (λ st in_st. piece_opens t job f.id st i o s l)))
+    (behind_none (Fetch i o s) (Work o s) (append_actions ++ End ∷ [])
+    (each_not NoWork (Work o s) (append_actions ++ End ∷ []) (λ z. z) (tt, (tt, (tt, (tt, (tt, tt)))))))
 work_behind t job UpgradeJob i o s l = behind_none (Fetch i o s) (Work o s) (append_actions ++ End ∷ [])
     (each_not NoWork (Work o s) (append_actions ++ End ∷ []) (λ z. z) (tt, (tt, (tt, (tt, (tt, tt))))))
 
 -- before each place of the work on a stripe stands each fetch of it
-pub fetch_before_work : (t : Setup) (job : Job) (p i o s : ℕ) → slice_get (actions_of t job) p ≡ Some (Work o s) → i < t.n → (q : ℕ) × (q < p) × (slice_get (actions_of t job) q ≡ Some (Fetch i o s))
-fetch_before_work t job p i o s h l = (let r = work_behind t job job.kind i o s l p (by_kind t job job.kind p (Work o s) refl h) in (r.0, r.1, of_kind t job job.kind r.0 (Fetch i o s) refl r.2))
+pub fetch_before_work : (t : Setup) (job : Job) (p i o s : ℕ) →
+    slice_get (actions_of t job) p ≡ Some (Work o s) → i < t.n →
+    (q : ℕ) × (q < p) × (slice_get (actions_of t job) q ≡ Some (Fetch i o s))
+fetch_before_work t job p i o s h l =
+    (let r = work_behind t job job.kind i o s l p (by_kind t job job.kind p (Work o s) refl h) in
+    (r.0, r.1, of_kind t job job.kind r.0 (Fetch i o s) refl r.2))
 
 -- a job that comes to the work on a stripe has fetched it from each provider
-pub fetched_before_work : (w : State) (job : Job) (o s i : ℕ) → next_action w job ≡ Some (Work o s) → i < (setup_in w).n → HasMade (setup_in w) job (Fetch i o s)
-fetched_before_work w job o s i h l = (let r = fetch_before_work (setup_in w) job job.place i o s (next_stands w job (Work o s) h (λ e. cc)) l in record { place = r.0; made = r.1; action = r.2 })
+pub fetched_before_work : (w : State) (job : Job) (o s i : ℕ) → next_action w job ≡ Some (Work o s) →
+    i < (setup_in w).n → HasMade (setup_in w) job (Fetch i o s)
+fetched_before_work w job o s i h l =
+    (let r = fetch_before_work (setup_in w) job job.place i o s
+    (next_stands w job (Work o s) h (λ e. cc)) l in record { place = r.0; made = r.1; action = r.2 })
 
 -- ---- what stands before the end of a get
 
 -- what holds of every fetch and of all work holds of what a get reads
-pub reads_all : (t : Setup) (pinned : List Pinned) (P : Action → Type 0) → ((j o st : ℕ) → P (Fetch j o st)) → ((o st : ℕ) → P (Work o st)) → Each P (read_actions t pinned)
-reads_all t pinned P f g = each_flat P (λ (f : Pinned). on_each_stripe (profiled t f.profile) (length f.bytes) (open_actions t f.id)) pinned
-    (λ h. each_flat P (open_actions t h.id) (upto (pinned_stripes t h)) (λ st. opens_nothing t P h.id st (λ j. f j h.id st) (g h.id st)))
+pub reads_all : (t : Setup) (pinned : List Pinned) (P : Action → Type 0) → ((j o st : ℕ) → P (Fetch j o st)) →
+    ((o st : ℕ) → P (Work o st)) → Each P (read_actions t pinned)
+reads_all t pinned P f g =
+    each_flat P (λ (f : Pinned). on_each_stripe (profiled t f.profile) (length f.bytes) (open_actions t f.id))
+    pinned
+    (λ h. each_flat P (open_actions t h.id) (upto (pinned_stripes t h))
+    (λ st. opens_nothing t P h.id st (λ j. f j h.id st) (g h.id st)))
 
 reads_call : (t : Setup) (pinned : List Pinned) → Each IsCall (read_actions t pinned)
 reads_call t pinned = reads_all t pinned IsCall (λ j o st. tt) (λ o st. tt)
 
-fetch_stands : (t : Setup) (job : Job) (name : List ℕ) (f : Pinned) (s i : ℕ) → In f job.pinned → s < pinned_stripes t f → i < t.n → Stands (Fetch i f.id s) (read_actions t job.pinned)
-fetch_stands t job name f s i in_f l k = stands_flat (λ (g : Pinned). on_each_stripe (profiled t g.profile) (length g.bytes) (open_actions t g.id)) job.pinned f (Fetch i f.id s) in_f
-    (stands_flat (open_actions t f.id) (upto (pinned_stripes t f)) s (Fetch i f.id s) (in_upto (pinned_stripes t f) s l)
-    (stands_left (on_each_provider t (λ j. Fetch j f.id s)) (Work f.id s ∷ []) (Fetch i f.id s) (fetches_stand t f.id s i k)))
+fetch_stands : (t : Setup) (job : Job) (name : List ℕ) (f : Pinned) (s i : ℕ) → In f job.pinned →
+    s < pinned_stripes t f → i < t.n → Stands (Fetch i f.id s) (read_actions t job.pinned)
+fetch_stands t job name f s i in_f l k = stands_flat
+    (λ (g : Pinned). on_each_stripe (profiled t g.profile) (length g.bytes) (open_actions t g.id)) job.pinned
+    f (Fetch i f.id s) in_f
+    (stands_flat (open_actions t f.id) (upto (pinned_stripes t f)) s (Fetch i f.id s)
+    (in_upto (pinned_stripes t f) s l)
+    (stands_left (on_each_provider t (λ j. Fetch j f.id s)) (Work f.id s ∷ []) (Fetch i f.id s)
+    (fetches_stand t f.id s i k)))
 
 -- the next action of a get is the one at its place
-get_stands : (w : State) (job : Job) (name : List ℕ) (action : Action) → job.kind ≡ GetJob name → next_action w job ≡ Some action → slice_get (actions_of (setup_in w) job) job.place ≡ Some action
-get_stands w job name action kind h = sym (cond_false (is_idle_drop w job job.kind) (Some End) (slice_get (actions_of (setup_in w) job) job.place) (ap (is_idle_drop w job) kind)) ∙ h
+get_stands : (w : State) (job : Job) (name : List ℕ) (action : Action) → job.kind ≡ GetJob name →
+    next_action w job ≡ Some action → slice_get (actions_of (setup_in w) job) job.place ≡ Some action
+get_stands w job name action kind h =
+    sym (cond_false (is_idle_drop w job job.kind) (Some End)
+    (slice_get (actions_of (setup_in w) job) job.place) (ap (is_idle_drop w job) kind)) ∙ h
 
 -- a get that comes to its end has fetched each stripe of its file from each provider
-pub fetched_before_end : (w : State) (job : Job) (name : List ℕ) (f : Pinned) (s i : ℕ) → job.kind ≡ GetJob name → next_action w job ≡ Some End → In f job.pinned → s < pinned_stripes (setup_in w) f → i < (setup_in w).n →
+pub fetched_before_end : (w : State) (job : Job) (name : List ℕ) (f : Pinned) (s i : ℕ) →
+    job.kind ≡ GetJob name → next_action w job ≡ Some End → In f job.pinned →
+    s < pinned_stripes (setup_in w) f → i < (setup_in w).n →
     HasMade (setup_in w) job (Fetch i f.id s)
 fetched_before_end w job name f s i kind h in_f l k =
-    (let r = stands_before (read_actions (setup_in w) job.pinned) (End ∷ []) (Fetch i f.id s) End job.place (fetch_stands (setup_in w) job name f s i in_f l k)
-    (each_not IsCall End (read_actions (setup_in w) job.pinned) (λ z. z) (reads_call (setup_in w) job.pinned)) (by_kind (setup_in w) job (GetJob name) job.place End kind (get_stands w job name End kind h)) in
-    record { place = r.0; made = r.1; action = of_kind (setup_in w) job (GetJob name) r.0 (Fetch i f.id s) kind r.2 })
+    (let r = stands_before (read_actions (setup_in w) job.pinned) (End ∷ []) (Fetch i f.id s) End job.place
+    (fetch_stands (setup_in w) job name f s i in_f l k)
+    (each_not IsCall End (read_actions (setup_in w) job.pinned) (λ z. z) (reads_call (setup_in w) job.pinned))
+    (by_kind (setup_in w) job (GetJob name) job.place End kind (get_stands w job name End kind h)) in
+    record {
+      place = r.0;
+      made = r.1;
+      action = of_kind (setup_in w) job (GetJob name) r.0 (Fetch i f.id s) kind r.2;
+    })
 
 -- ---- the stores of a repair
 
@@ -198,89 +284,144 @@ IsPinnedStore t job (Store j o s) = (f : Pinned) × In f job.pinned × (f.id ≡
 IsPinnedStore t job action = Unit {0}
 
 -- what holds of fetches, work and stores on stripes of its files holds of those of a repair
-pub repairs_all : (t : Setup) (job : Job) (P : Action → Type 0) → ((f : Pinned) (st : ℕ) → In f job.pinned → st < pinned_stripes t f → ((j : ℕ) → P (Fetch j f.id st)) × P (Work f.id st) × ((j : ℕ) → P (Store j f.id st))) → Each P (repair_actions t job)
-repairs_all t job P h = each_flat_in P (λ (f : Pinned). on_each_stripe (profiled t f.profile) (length f.bytes) (λ stripe. open_actions t f.id stripe ++ rewrite_actions t job f.id stripe)) job.pinned
-    (λ f in_f. each_flat_in P (λ stripe. open_actions t f.id stripe ++ rewrite_actions t job f.id stripe) (upto (pinned_stripes t f))
+pub repairs_all : (t : Setup) (job : Job) (P : Action → Type 0) →
+    ((f : Pinned) (st : ℕ) → In f job.pinned → st < pinned_stripes t f →
+    ((j : ℕ) → P (Fetch j f.id st)) × P (Work f.id st) × ((j : ℕ) → P (Store j f.id st))) →
+    Each P (repair_actions t job)
+repairs_all t job P h =
+    each_flat_in P (λ (f : Pinned). on_each_stripe (profiled t f.profile) (length f.bytes)
+    (λ stripe. open_actions t f.id stripe ++ rewrite_actions t job f.id stripe)) job.pinned
+    (λ f in_f. each_flat_in P (λ stripe. open_actions t f.id stripe ++ rewrite_actions t job f.id stripe)
+    (upto (pinned_stripes t f))
     (λ st in_st. (let g = h f st in_f (upto_in (pinned_stripes t f) st in_st) in
-    each_append P (open_actions t f.id st) (rewrite_actions t job f.id st) (opens_nothing t P f.id st g.0 g.1) (rewrites_fair t job P f.id st g.2))))
+    each_append P (open_actions t f.id st) (rewrite_actions t job f.id st) (opens_nothing t P f.id st g.0 g.1)
+    (rewrites_fair t job P f.id st g.2))))
 
 store_pinned : (t : Setup) (job : Job) → Each (IsPinnedStore t job) (actions_by t job RepairJob)
 store_pinned t job = each_append (IsPinnedStore t job) (repair_actions t job) (append_actions ++ End ∷ [])
     (repairs_all t job (IsPinnedStore t job) (λ f st in_f l. (λ j. tt, tt, λ j. (f, in_f, refl, l))))
     (tt, (tt, (tt, (tt, (tt, tt)))))
 
-stores_behind : (t : Setup) (job : Job) (i o s : ℕ) → Behind (Work o s) (Store i o s) (actions_by t job RepairJob)
-stores_behind t job i o s = behind_append (Work o s) (Store i o s) (repair_actions t job) (append_actions ++ End ∷ [])
-    (behind_flat (Work o s) (Store i o s) (λ (f : Pinned). on_each_stripe (profiled t f.profile) (length f.bytes) (λ stripe. open_actions t f.id stripe ++ rewrite_actions t job f.id stripe)) job.pinned
-    (λ f in_f. behind_flat (Work o s) (Store i o s) (λ stripe. open_actions t f.id stripe ++ rewrite_actions t job f.id stripe) (upto (pinned_stripes t f)) (λ st in_st. piece_stores t job f.id st i o s)))
-    (behind_none (Work o s) (Store i o s) (append_actions ++ End ∷ []) (each_not NoStore (Store i o s) (append_actions ++ End ∷ []) (λ z. z) (tt, (tt, (tt, (tt, (tt, tt)))))))
+stores_behind : (t : Setup) (job : Job) (i o s : ℕ) →
+    Behind (Work o s) (Store i o s) (actions_by t job RepairJob)
+stores_behind t job i o s =
+    behind_append (Work o s) (Store i o s) (repair_actions t job) (append_actions ++ End ∷ [])
+    (behind_flat (Work o s) (Store i o s)
+    (λ (f : Pinned). on_each_stripe (profiled t f.profile) (length f.bytes)
+    (λ stripe. open_actions t f.id stripe ++ rewrite_actions t job f.id stripe)) job.pinned
+    (λ f in_f. behind_flat (Work o s) (Store i o s)
+    (λ stripe. open_actions t f.id stripe ++ rewrite_actions t job f.id stripe)
+    (upto (pinned_stripes t f)) (λ st in_st. piece_stores t job f.id st i o s)))
+    (behind_none (Work o s) (Store i o s) (append_actions ++ End ∷ [])
+    (each_not NoStore (Store i o s) (append_actions ++ End ∷ []) (λ z. z)
+    (tt, (tt, (tt, (tt, (tt, tt)))))))
 
 -- before each place of a store of a repair stands the work on its stripe
-work_before_store : (t : Setup) (job : Job) (p i o s : ℕ) → job.kind ≡ RepairJob → slice_get (actions_of t job) p ≡ Some (Store i o s) → (q : ℕ) × (q < p) × (slice_get (actions_of t job) q ≡ Some (Work o s))
-work_before_store t job p i o s kind h = (let r = stores_behind t job i o s p (by_kind t job RepairJob p (Store i o s) kind h) in (r.0, r.1, of_kind t job RepairJob r.0 (Work o s) kind r.2))
+work_before_store : (t : Setup) (job : Job) (p i o s : ℕ) → job.kind ≡ RepairJob →
+    slice_get (actions_of t job) p ≡ Some (Store i o s) →
+    (q : ℕ) × (q < p) × (slice_get (actions_of t job) q ≡ Some (Work o s))
+work_before_store t job p i o s kind h =
+    (let r = stores_behind t job i o s p (by_kind t job RepairJob p (Store i o s) kind h) in
+    (r.0, r.1, of_kind t job RepairJob r.0 (Work o s) kind r.2))
 
 -- a repair that comes to a store has worked on its stripe, which is one of its files'
-pub worked_before_store : (w : State) (job : Job) (i o s : ℕ) → job.kind ≡ RepairJob → next_action w job ≡ Some (Store i o s) →
-    HasMade (setup_in w) job (Work o s) × ((f : Pinned) × In f job.pinned × (f.id ≡ o) × (s < pinned_stripes (setup_in w) f))
+pub worked_before_store : (w : State) (job : Job) (i o s : ℕ) → job.kind ≡ RepairJob →
+    next_action w job ≡ Some (Store i o s) →
+    HasMade (setup_in w) job (Work o s) ×
+    ((f : Pinned) × In f job.pinned × (f.id ≡ o) × (s < pinned_stripes (setup_in w) f))
 worked_before_store w job i o s kind h =
     (let at = next_stands w job (Store i o s) h (λ e. cc) in
-    let r = work_before_store (setup_in w) job job.place i o s kind at in
-    (record { place = r.0; made = r.1; action = r.2 }, each_get (IsPinnedStore (setup_in w) job) (actions_by (setup_in w) job RepairJob) job.place (Store i o s) (store_pinned (setup_in w) job) (by_kind (setup_in w) job RepairJob job.place (Store i o s) kind at)))
+    let r = work_before_store (setup_in w) job job.place i o s kind at in (
+      record { place = r.0; made = r.1; action = r.2 },
+      each_get (IsPinnedStore (setup_in w) job) (actions_by (setup_in w) job RepairJob) job.place
+          (Store i o s) (store_pinned (setup_in w) job)
+          (by_kind (setup_in w) job RepairJob job.place (Store i o s) kind at),
+    ))
 
 repair_calls : (t : Setup) (job : Job) → Each IsCall (repair_actions t job)
 repair_calls t job = repairs_all t job IsCall (λ f st in_f l. (λ j. tt, tt, λ j. tt))
 
 -- each store of its files on a flagged provider is among those of a repair
-pub store_in_repair : (t : Setup) (job : Job) (f : Pinned) (i s : ℕ) → In f job.pinned → job.flagged i ≡ true → i < t.n → s < pinned_stripes t f → Stands (Store i f.id s) (repair_actions t job)
-store_in_repair t job f i s in_f flag k l = stands_flat (λ (g : Pinned). on_each_stripe (profiled t g.profile) (length g.bytes) (λ stripe. open_actions t g.id stripe ++ rewrite_actions t job g.id stripe)) job.pinned f (Store i f.id s) in_f
-    (stands_flat (λ stripe. open_actions t f.id stripe ++ rewrite_actions t job f.id stripe) (upto (pinned_stripes t f)) s (Store i f.id s) (in_upto (pinned_stripes t f) s l)
+pub store_in_repair : (t : Setup) (job : Job) (f : Pinned) (i s : ℕ) → In f job.pinned →
+    job.flagged i ≡ true → i < t.n → s < pinned_stripes t f → Stands (Store i f.id s) (repair_actions t job)
+store_in_repair t job f i s in_f flag k l = stands_flat
+    (λ (g : Pinned). on_each_stripe (profiled t g.profile) (length g.bytes)
+    (λ stripe. open_actions t g.id stripe ++ rewrite_actions t job g.id stripe)) job.pinned f
+    (Store i f.id s) in_f
+    (stands_flat (λ stripe. open_actions t f.id stripe ++ rewrite_actions t job f.id stripe)
+    (upto (pinned_stripes t f)) s (Store i f.id s) (in_upto (pinned_stripes t f) s l)
     (stands_right (open_actions t f.id s) (rewrite_actions t job f.id s) (Store i f.id s)
-    (stands_flat (λ j. cond (job.flagged j) (Store j f.id s ∷ []) []) (upto t.n) i (Store i f.id s) (in_upto t.n i k)
+    (stands_flat (λ j. cond (job.flagged j) (Store j f.id s ∷ []) []) (upto t.n) i (Store i f.id s)
+    (in_upto t.n i k)
     (0, ap (λ l. slice_get l 0) (cond_true (job.flagged i) (Store i f.id s ∷ []) [] flag)))))
 
 -- each store of its files on a flagged provider stands in a repair's list of actions
-pub store_stands : (t : Setup) (job : Job) (f : Pinned) (i s : ℕ) → job.kind ≡ RepairJob → In f job.pinned → job.flagged i ≡ true → i < t.n → s < pinned_stripes t f →
+pub store_stands : (t : Setup) (job : Job) (f : Pinned) (i s : ℕ) → job.kind ≡ RepairJob → In f job.pinned →
+    job.flagged i ≡ true → i < t.n → s < pinned_stripes t f →
     (p : ℕ) × (slice_get (actions_of t job) p ≡ Some (Store i f.id s))
-store_stands t job f i s kind in_f flag k l = (let r = stands_left (repair_actions t job) (append_actions ++ End ∷ []) (Store i f.id s) (store_in_repair t job f i s in_f flag k l) in (r.0, of_kind t job RepairJob r.0 (Store i f.id s) kind r.1))
+store_stands t job f i s kind in_f flag k l =
+    (let r = stands_left (repair_actions t job) (append_actions ++ End ∷ []) (Store i f.id s)
+    (store_in_repair t job f i s in_f flag k l) in
+    (r.0, of_kind t job RepairJob r.0 (Store i f.id s) kind r.1))
 
 -- a move of a repair stands behind its stores
-pub move_behind : (t : Setup) (job : Job) (p : ℕ) (action : Action) → job.kind ≡ RepairJob → slice_get (actions_of t job) p ≡ Some action → (IsCall action → ⊥) → length (repair_actions t job) ≤ p
-move_behind t job p action kind h bad = elim (split_get (repair_actions t job) (append_actions ++ End ∷ []) p action (by_kind t job RepairJob p action kind h)) [
-  | inl x ↦ absurd (bad (each_get IsCall (repair_actions t job) p action (repair_calls t job) x.1))
-  | inr x ↦ x.0
-]
+pub move_behind : (t : Setup) (job : Job) (p : ℕ) (action : Action) → job.kind ≡ RepairJob →
+    slice_get (actions_of t job) p ≡ Some action → (IsCall action → ⊥) → length (repair_actions t job) ≤ p
+move_behind t job p action kind h bad =
+    elim (split_get (repair_actions t job) (append_actions ++ End ∷ []) p action
+    (by_kind t job RepairJob p action kind h)) [
+      | inl x ↦ absurd (bad (each_get IsCall (repair_actions t job) p action (repair_calls t job) x.1))
+      | inr x ↦ x.0
+    ]
 
-store_within : (t : Setup) (job : Job) (p i o s : ℕ) → job.kind ≡ RepairJob → slice_get (actions_of t job) p ≡ Some (Store i o s) → p < length (repair_actions t job)
-store_within t job p i o s kind h = elim (split_get (repair_actions t job) (append_actions ++ End ∷ []) p (Store i o s) (by_kind t job RepairJob p (Store i o s) kind h)) [
-  | inl x ↦ x.0
-  | inr x ↦ absurd (each_get NoStore (append_actions ++ End ∷ []) (p - length (repair_actions t job)) (Store i o s) (tt, (tt, (tt, (tt, (tt, tt))))) x.1)
-]
+store_within : (t : Setup) (job : Job) (p i o s : ℕ) → job.kind ≡ RepairJob →
+    slice_get (actions_of t job) p ≡ Some (Store i o s) → p < length (repair_actions t job)
+store_within t job p i o s kind h =
+    elim (split_get (repair_actions t job) (append_actions ++ End ∷ []) p (Store i o s)
+    (by_kind t job RepairJob p (Store i o s) kind h)) [
+      | inl x ↦ x.0
+      | inr x ↦ absurd (each_get NoStore (append_actions ++ End ∷ []) (p - length (repair_actions t job))
+          (Store i o s) (tt, (tt, (tt, (tt, (tt, tt))))) x.1)
+    ]
 
 -- a repair that comes to the third move of its append has made each of its stores
-pub gate_behind : (w : State) (job : Job) (p i o s : ℕ) → job.kind ≡ RepairJob → next_action w job ≡ Some WriteGate → slice_get (actions_of (setup_in w) job) p ≡ Some (Store i o s) → p < job.place
+pub gate_behind : (w : State) (job : Job) (p i o s : ℕ) → job.kind ≡ RepairJob →
+    next_action w job ≡ Some WriteGate → slice_get (actions_of (setup_in w) job) p ≡ Some (Store i o s) →
+    p < job.place
 gate_behind w job p i o s kind h at =
-    (let late = move_behind (setup_in w) job job.place WriteGate kind (next_stands w job WriteGate h (λ e. cc)) (λ z. z) in
+    (let late = move_behind (setup_in w) job job.place WriteGate kind
+    (next_stands w job WriteGate h (λ e. cc)) (λ z. z) in
     let early = store_within (setup_in w) job p i o s kind at in omega arith)
 
 -- ---- the stores of a put
 
 -- each store of a put stands in its list, before its second append
-pub put_store_at : (t : Setup) (job : Job) (name bytes : List ℕ) (i s : ℕ) → job.kind ≡ PutJob name bytes → i < t.n → s < put_stripes t job bytes →
-    (p : ℕ) × (p < 4 + length (store_actions t job bytes)) × (slice_get (actions_of t job) p ≡ Some (Store i job.subject s))
+pub put_store_at : (t : Setup) (job : Job) (name bytes : List ℕ) (i s : ℕ) → job.kind ≡ PutJob name bytes →
+    i < t.n → s < put_stripes t job bytes →
+    (p : ℕ) × (p < 4 + length (store_actions t job bytes)) ×
+    (slice_get (actions_of t job) p ≡ Some (Store i job.subject s))
 put_store_at t job name bytes i s kind k l =
-    (let at = stands_flat (λ stripe. on_each_provider t (λ j. Store j job.subject stripe)) (upto (put_stripes t job bytes)) s (Store i job.subject s) (in_upto (put_stripes t job bytes) s l)
+    (let at = stands_flat (λ stripe. on_each_provider t (λ j. Store j job.subject stripe))
+    (upto (put_stripes t job bytes)) s (Store i job.subject s) (in_upto (put_stripes t job bytes) s l)
     (stands_map (λ j. Store j job.subject s) (upto t.n) i (in_upto t.n i k)) in
     let early = slice_get_within (store_actions t job bytes) at.0 (Store i job.subject s) at.1 in (
       length append_actions + at.0,
       omega (arith, early),
       of_kind t job (PutJob name bytes) (length append_actions + at.0) (Store i job.subject s) kind
-          (get_behind append_actions (store_actions t job bytes ++ (append_actions ++ (remove_actions t job ++ End ∷ []))) at.0 (Store i job.subject s)
-          (get_left (store_actions t job bytes) (append_actions ++ (remove_actions t job ++ End ∷ [])) at.0 (Store i job.subject s) at.1)),
+          (get_behind append_actions
+          (store_actions t job bytes ++ (append_actions ++ (remove_actions t job ++ End ∷ []))) at.0
+          (Store i job.subject s)
+          (get_left (store_actions t job bytes) (append_actions ++ (remove_actions t job ++ End ∷ [])) at.0
+          (Store i job.subject s) at.1)),
     ))
 
 -- a put that is past its stores has made each of them
-pub put_stores : (t : Setup) (job : Job) (name bytes : List ℕ) (i s : ℕ) → job.kind ≡ PutJob name bytes → 4 + length (store_actions t job bytes) ≤ job.place → i < t.n → s < put_stripes t job bytes → HasMadeStore t job i job.subject s
-put_stores t job name bytes i s kind late k l = (let at = put_store_at t job name bytes i s kind k l in let e = at.1 in record { place = at.0; made = omega (arith, e, late); action = at.2 })
+pub put_stores : (t : Setup) (job : Job) (name bytes : List ℕ) (i s : ℕ) → job.kind ≡ PutJob name bytes →
+    4 + length (store_actions t job bytes) ≤ job.place → i < t.n → s < put_stripes t job bytes →
+    HasMadeStore t job i job.subject s
+put_stores t job name bytes i s kind late k l =
+    (let at = put_store_at t job name bytes i s kind k l in let e = at.1 in
+    record { place = at.0; made = omega (arith, e, late); action = at.2 })
 
 -- a store
 abbrev pub IsStore : Action → Type 0
@@ -288,7 +429,9 @@ IsStore (Store j o s) = Unit {0}
 IsStore a = ⊥
 
 -- a move of a put's second append, and what follows it, stands behind its stores
-put_late_at : (w : State) (job : Job) (name bytes : List ℕ) (p : ℕ) (action : Action) → slice_get (actions_by (setup_in w) job (PutJob name bytes)) p ≡ Some action → 4 ≤ p → (IsStore action → ⊥) → 4 + stores_count w job bytes ≤ p
+put_late_at : (w : State) (job : Job) (name bytes : List ℕ) (p : ℕ) (action : Action) →
+    slice_get (actions_by (setup_in w) job (PutJob name bytes)) p ≡ Some action → 4 ≤ p →
+    (IsStore action → ⊥) → 4 + stores_count w job bytes ≤ p
 put_late_at w job name bytes p action h late none = elim (put_at w job name bytes p action h) [
   | PutAt.first l e ↦ absurd (omega (arith, l, late))
   | PutAt.store l m is ↦ absurd (none is)
@@ -297,22 +440,35 @@ put_late_at w job name bytes p action h late none = elim (put_at w job name byte
 ]
 
 -- past its first append a put that comes to neither a store nor its end is past its stores
-pub put_late : (w : State) (job : Job) (name bytes : List ℕ) (action : Action) → job.kind ≡ PutJob name bytes → next_action w job ≡ Some action → 4 ≤ job.place → (IsStore action → ⊥) → (action ≡ End → ⊥) → 4 + stores_count w job bytes ≤ job.place
-put_late w job name bytes action kind h late none other = put_late_at w job name bytes job.place action (by_kind (setup_in w) job (PutJob name bytes) job.place action kind (next_stands w job action h other)) late none
+pub put_late : (w : State) (job : Job) (name bytes : List ℕ) (action : Action) →
+    job.kind ≡ PutJob name bytes → next_action w job ≡ Some action → 4 ≤ job.place → (IsStore action → ⊥) →
+    (action ≡ End → ⊥) → 4 + stores_count w job bytes ≤ job.place
+put_late w job name bytes action kind h late none other =
+    put_late_at w job name bytes job.place action
+    (by_kind (setup_in w) job (PutJob name bytes) job.place action kind (next_stands w job action h other))
+    late none
 
 -- a put that comes to the third move of its second append has made each store
-pub stored_before_gate : (w : State) (job : Job) (name bytes : List ℕ) (i s : ℕ) → job.kind ≡ PutJob name bytes → next_action w job ≡ Some WriteGate → 4 ≤ job.place → i < (setup_in w).n → s < put_stripes (setup_in w) job bytes →
+pub stored_before_gate : (w : State) (job : Job) (name bytes : List ℕ) (i s : ℕ) →
+    job.kind ≡ PutJob name bytes → next_action w job ≡ Some WriteGate → 4 ≤ job.place → i < (setup_in w).n →
+    s < put_stripes (setup_in w) job bytes →
     HasMadeStore (setup_in w) job i job.subject s
-stored_before_gate w job name bytes i s kind h late k l = put_stores (setup_in w) job name bytes i s kind (put_late w job name bytes WriteGate kind h late (λ z. z) (λ e. cc)) k l
+stored_before_gate w job name bytes i s kind h late k l =
+    put_stores (setup_in w) job name bytes i s kind
+    (put_late w job name bytes WriteGate kind h late (λ z. z) (λ e. cc)) k l
 
 -- ---- the asks of an audit
 
 -- each ask of an audit stands in its list, before its second append
-pub ask_at : (t : Setup) (job : Job) (f : Pinned) (i r : ℕ) → job.kind ≡ AuditJob → In f job.pinned → i < t.n → In r (rounds_of (profiled t f.profile) (length f.bytes)) →
+pub ask_at : (t : Setup) (job : Job) (f : Pinned) (i r : ℕ) → job.kind ≡ AuditJob → In f job.pinned →
+    i < t.n → In r (rounds_of (profiled t f.profile) (length f.bytes)) →
     (p : ℕ) × (p < 4 + length (ask_actions t job)) × (slice_get (actions_of t job) p ≡ Some (Ask i f.id r))
 ask_at t job f i r kind in_f k in_r =
-    (let at = stands_flat (λ (g : Pinned). flat_map (λ round. on_each_provider t (λ j. Ask j g.id round)) (rounds_of (profiled t g.profile) (length g.bytes))) job.pinned f (Ask i f.id r) in_f
-    (stands_flat (λ round. on_each_provider t (λ j. Ask j f.id round)) (rounds_of (profiled t f.profile) (length f.bytes)) r (Ask i f.id r) in_r
+    (let at = stands_flat
+    (λ (g : Pinned). flat_map (λ round. on_each_provider t (λ j. Ask j g.id round))
+    (rounds_of (profiled t g.profile) (length g.bytes))) job.pinned f (Ask i f.id r) in_f
+    (stands_flat (λ round. on_each_provider t (λ j. Ask j f.id round))
+    (rounds_of (profiled t f.profile) (length f.bytes)) r (Ask i f.id r) in_r
     (stands_map (λ j. Ask j f.id r) (upto t.n) i (in_upto t.n i k))) in
     let early = slice_get_within (ask_actions t job) at.0 (Ask i f.id r) at.1 in (
       length append_actions + at.0,
@@ -331,14 +487,19 @@ NotMove SyncGate = ⊥
 NotMove action = Unit {0}
 
 -- a move of an audit past the first four stands behind its asks
-pub audit_late : (t : Setup) (job : Job) (p : ℕ) (action : Action) → job.kind ≡ AuditJob → slice_get (actions_of t job) p ≡ Some action → 4 ≤ p → (NotMove action → ⊥) → 4 + length (ask_actions t job) ≤ p
-audit_late t job p action kind h late moves = elim (split_get append_actions (ask_actions t job ++ (append_actions ++ End ∷ [])) p action (by_kind t job AuditJob p action kind h)) [
-  | inl a ↦ absurd (let l = a.0 in omega (arith, l, late))
-  | inr b ↦ elim (split_get (ask_actions t job) (append_actions ++ End ∷ []) (p - 4) action b.1) [
-    | inl c ↦ absurd (moves (each_get NotMove (ask_actions t job) (p - 4) action (asks_all t job NotMove (λ j o r. tt)) c.1))
-    | inr d ↦ (let l = b.0 in let k = d.0 in omega (arith, l, k))
-  ]
-]
+pub audit_late : (t : Setup) (job : Job) (p : ℕ) (action : Action) → job.kind ≡ AuditJob →
+    slice_get (actions_of t job) p ≡ Some action → 4 ≤ p → (NotMove action → ⊥) →
+    4 + length (ask_actions t job) ≤ p
+audit_late t job p action kind h late moves =
+    elim (split_get append_actions (ask_actions t job ++ (append_actions ++ End ∷ [])) p action
+    (by_kind t job AuditJob p action kind h)) [
+      | inl a ↦ absurd (let l = a.0 in omega (arith, l, late))
+      | inr b ↦ elim (split_get (ask_actions t job) (append_actions ++ End ∷ []) (p - 4) action b.1) [
+        | inl c ↦ absurd (moves
+            (each_get NotMove (ask_actions t job) (p - 4) action (asks_all t job NotMove (λ j o r. tt)) c.1))
+        | inr d ↦ (let l = b.0 in let k = d.0 in omega (arith, l, k))
+      ]
+    ]
 
 -- neither an ask nor a fetch nor work
 abbrev pub IsMute : Action → Type 0
@@ -348,11 +509,15 @@ IsMute (Work o s) = ⊥
 IsMute action = Unit {0}
 
 -- behind its asks an audit is given nothing
-pub audit_mute : (t : Setup) (job : Job) (p : ℕ) (action : Action) → job.kind ≡ AuditJob → slice_get (actions_of t job) p ≡ Some action → 4 + length (ask_actions t job) ≤ p → IsMute action
-audit_mute t job p action kind h late = elim (split_get append_actions (ask_actions t job ++ (append_actions ++ End ∷ [])) p action (by_kind t job AuditJob p action kind h)) [
-  | inl a ↦ absurd (let l = a.0 in omega (arith, l, late))
-  | inr b ↦ elim (split_get (ask_actions t job) (append_actions ++ End ∷ []) (p - 4) action b.1) [
-    | inl c ↦ absurd (let l = c.0 in omega (arith, l, late))
-    | inr d ↦ each_get IsMute (append_actions ++ End ∷ []) (p - 4 - length (ask_actions t job)) action (tt, (tt, (tt, (tt, (tt, tt))))) d.1
-  ]
-]
+pub audit_mute : (t : Setup) (job : Job) (p : ℕ) (action : Action) → job.kind ≡ AuditJob →
+    slice_get (actions_of t job) p ≡ Some action → 4 + length (ask_actions t job) ≤ p → IsMute action
+audit_mute t job p action kind h late =
+    elim (split_get append_actions (ask_actions t job ++ (append_actions ++ End ∷ [])) p action
+    (by_kind t job AuditJob p action kind h)) [
+      | inl a ↦ absurd (let l = a.0 in omega (arith, l, late))
+      | inr b ↦ elim (split_get (ask_actions t job) (append_actions ++ End ∷ []) (p - 4) action b.1) [
+        | inl c ↦ absurd (let l = c.0 in omega (arith, l, late))
+        | inr d ↦ each_get IsMute (append_actions ++ End ∷ []) (p - 4 - length (ask_actions t job)) action
+            (tt, (tt, (tt, (tt, (tt, tt))))) d.1
+      ]
+    ]

@@ -1,4 +1,5 @@
--- What holds in a run that is calm by a mark: blocks that are stored are right, and a moment since which all damage is new stays one.
+-- What holds in a run that is calm by a mark: blocks that are stored are right, and a moment since which all
+-- damage is new stays one.
 use Rattle.std.proofs.Common.{◌≡◌, ℕ, ◌≤◌, ◌<◌, true, false, ◌⊎◌, List, ◌∷◌, length, Option, Some, None, refl, ap, sym, subst, ◌∙◌, inl, inr, arith}
 use Rattle.std.proofs.lemmas.Bool.{cases_Bool}
 use Rattle.algebra_laws.specs.Lists.{In}
@@ -47,118 +48,180 @@ mark_of mark ms j = mark (first_moments j.begun ms)
 pub record Facts (mark : Mark) (start : State) (ms : List Moment) : Type 0 where
   pub moment : IsMark start ms (mark ms)
   pub marked : (k : ℕ) (j : Job) → job_of (now start ms).jobs k ≡ Some j → mark_of mark ms j ≤ length ms
-  pub reads : (k : ℕ) (j : Job) (f : Pinned) (i s : ℕ) → job_of (now start ms).jobs k ≡ Some j → In f j.pinned → i < (setup_in (now start ms)).n →
-      s < stripes_of (profiled (setup_in (now start ms)) f.profile) (length ((now start ms).bytes f.id)) → IsBad (now start ms) f.profile f.id i s → IsReplaced (mark_of mark ms j) i ms
-  pub counts : (k : ℕ) (j : Job) (i : ℕ) → job_of (now start ms).jobs k ≡ Some j → ((begin_of start ms j).providers i).other_faults ≤ ((now start ms).providers i).other_faults
-  pub gave : (k : ℕ) (j : Job) (f : Pinned) (i s : ℕ) (block : Option (List ℕ)) → job_of (now start ms).jobs k ≡ Some j → In f j.pinned → i < (setup_in (now start ms)).n →
-      s < stripes_of (profiled (setup_in (now start ms)) f.profile) (length ((now start ms).bytes f.id)) → In (Fetched i f.id s block) j.given →
+  pub reads : (k : ℕ) (j : Job) (f : Pinned) (i s : ℕ) → job_of (now start ms).jobs k ≡ Some j →
+      In f j.pinned → i < (setup_in (now start ms)).n →
+      s < stripes_of (profiled (setup_in (now start ms)) f.profile) (length ((now start ms).bytes f.id)) →
+      IsBad (now start ms) f.profile f.id i s → IsReplaced (mark_of mark ms j) i ms
+  pub counts : (k : ℕ) (j : Job) (i : ℕ) → job_of (now start ms).jobs k ≡ Some j →
+      ((begin_of start ms j).providers i).other_faults ≤ ((now start ms).providers i).other_faults
+  pub gave : (k : ℕ) (j : Job) (f : Pinned) (i s : ℕ) (block : Option (List ℕ)) →
+      job_of (now start ms).jobs k ≡ Some j → In f j.pinned → i < (setup_in (now start ms)).n →
+      s < stripes_of (profiled (setup_in (now start ms)) f.profile) (length ((now start ms).bytes f.id)) →
+      In (Fetched i f.id s block) j.given →
       is_wrong_block (pinned_object (now start ms) f) ((now start ms).bytes f.id) i s block ≡ true →
-      IsReplaced (mark_of mark ms j) i ms ⊎ ((block ≡ None) × RoseSince (begin_of start ms j) (now start ms) i)
-  pub rows : (k : ℕ) (j : Job) (o s : ℕ) (symbols : List ℕ) → job_of (now start ms).jobs k ≡ Some j → relies j.kind ≡ true → In (Worked o s symbols) j.given →
-      (o < next_id (now start ms).records) × (symbols ≡ symbols_in (worked_object (now start ms) j o) ((now start ms).bytes o) s)
-  pub rewrote : (k : ℕ) (j : Job) (i o s : ℕ) (b : Option (List ℕ)) → job_of (now start ms).jobs k ≡ Some j → j.kind ≡ RepairJob → HasMadeStore (setup_in (now start ms)) j i o s →
-      is_replaced_since j.begun i ms ≡ false → told_block (now start ms) i o s ≡ Some b → b ≡ Some (columns (worked_object (now start ms) j o) ((now start ms).bytes o) i s)
+      IsReplaced (mark_of mark ms j) i ms ⊎
+      ((block ≡ None) × RoseSince (begin_of start ms j) (now start ms) i)
+  pub rows : (k : ℕ) (j : Job) (o s : ℕ) (symbols : List ℕ) → job_of (now start ms).jobs k ≡ Some j →
+      relies j.kind ≡ true → In (Worked o s symbols) j.given →
+      (o < next_id (now start ms).records) ×
+      (symbols ≡ symbols_in (worked_object (now start ms) j o) ((now start ms).bytes o) s)
+  pub rewrote : (k : ℕ) (j : Job) (i o s : ℕ) (b : Option (List ℕ)) → job_of (now start ms).jobs k ≡ Some j →
+      j.kind ≡ RepairJob → HasMadeStore (setup_in (now start ms)) j i o s →
+      is_replaced_since j.begun i ms ≡ false → told_block (now start ms) i o s ≡ Some b →
+      b ≡ Some (columns (worked_object (now start ms) j o) ((now start ms).bytes o) i s)
 
 -- the symbols of what gets and repairs opened are the file's
 abbrev pub RowsRight : State → Type 0
-RowsRight w = (x : Job) (o s : ℕ) (symbols : List ℕ) → job_of w.jobs x.number ≡ Some x → relies x.kind ≡ true → In (Worked o s symbols) x.given → symbols ≡ symbols_in (worked_object w x o) (w.bytes o) s
+RowsRight w = (x : Job) (o s : ℕ) (symbols : List ℕ) → job_of w.jobs x.number ≡ Some x →
+    relies x.kind ≡ true → In (Worked o s symbols) x.given →
+    symbols ≡ symbols_in (worked_object w x o) (w.bytes o) s
 
 -- the next store of a scrub, under the number of a file in effect, is of the provider's own column
 abbrev pub ScrubsRight : State → Type 0
-ScrubsRight w = (scrub : Scrub) (rest : List Action) (i s : ℕ) (q : List ℕ) (f : File) → w.alone ≡ Some (Scrubbing scrub) → scrub.todo ≡ Store i f.id s ∷ rest → file_in w q ≡ Some f →
+ScrubsRight w = (scrub : Scrub) (rest : List Action) (i s : ℕ) (q : List ℕ) (f : File) →
+    w.alone ≡ Some (Scrubbing scrub) → scrub.todo ≡ Store i f.id s ∷ rest → file_in w q ≡ Some f →
     block_to_scrub w scrub i f.id s ≡ columns (file_object w f) (w.bytes f.id) i s
 
 -- from what holds by a mark
-pub rows_right : (mark : Mark) (start : State) (ms : List Moment) → Facts mark start ms → RowsRight (now start ms)
+pub rows_right : (mark : Mark) (start : State) (ms : List Moment) → Facts mark start ms →
+    RowsRight (now start ms)
 rows_right mark start ms F x o s symbols runs kind given = (F.rows x.number x o s symbols runs kind given).1
 
-module _ (limit : ℕ) (mark : Mark) (start : State) (m : Moment) (ms : List Moment) (clean : IsStart start) (run : IsRun limit start ms) (A : All start ms) (U : num.Facts audits start ms) (I : eff.Facts (now start ms))
-    (E : Always start ms) (X : Changes limit (length ms) (now start ms) m.event m.outcome m.state) (T : Turns (now start ms) m.state) where
+module _ (limit : ℕ) (mark : Mark) (start : State) (m : Moment) (ms : List Moment) (clean : IsStart start)
+    (run : IsRun limit start ms) (A : All start ms) (U : num.Facts audits start ms)
+    (I : eff.Facts (now start ms))
+    (E : Always start ms) (X : Changes limit (length ms) (now start ms) m.event m.outcome m.state)
+    (T : Turns (now start ms) m.state) where
   -- a block that is wrong after an event was so before, where setup and bytes are the same
-  pub wrong_old : (p o i s : ℕ) (b : Option (List ℕ)) → setup_in m.state ≡ setup_in (now start ms) → m.state.bytes o ≡ (now start ms).bytes o → is_wrong_block (object_in m.state p o) (m.state.bytes o) i s b ≡ true →
+  pub wrong_old : (p o i s : ℕ) (b : Option (List ℕ)) → setup_in m.state ≡ setup_in (now start ms) →
+      m.state.bytes o ≡ (now start ms).bytes o →
+      is_wrong_block (object_in m.state p o) (m.state.bytes o) i s b ≡ true →
       is_wrong_block (object_in (now start ms) p o) ((now start ms).bytes o) i s b ≡ true
   wrong_old p o i s b setup bytes h =
       subst (λ t. is_wrong_block (object_of (profiled t p) o) ((now start ms).bytes o) i s b ≡ true) setup
       (subst (λ l. is_wrong_block (object_in m.state p o) l i s b ≡ true) bytes h)
 
   -- a number under which a running put stores is started
-  pub unstored : (x : Job) (name bytes : List ℕ) (i o s : ℕ) → job_of (now start ms).jobs x.number ≡ Some x → x.kind ≡ PutJob name bytes → next_action (now start ms) x ≡ Some (Store i o s) → o ≡ x.subject →
+  pub unstored : (x : Job) (name bytes : List ℕ) (i o s : ℕ) → job_of (now start ms).jobs x.number ≡ Some x →
+      x.kind ≡ PutJob name bytes → next_action (now start ms) x ≡ Some (Store i o s) → o ≡ x.subject →
       started_as (now start ms).records o ≡ None → ⊥
   unstored x name bytes i o s runs kind next_is o_is none =
       (let place = store_place (now start ms) x name bytes i o s kind next_is in
-      some-not-none (started_as (now start ms).records o) name (ap (started_as (now start ms).records) o_is ∙ A.pins.started x.number x name bytes runs kind place.0 (let l = place.1 in omega arith)) none)
+      some-not-none (started_as (now start ms).records o) name
+      (ap (started_as (now start ms).records) o_is
+      ∙ A.pins.started x.number x name bytes runs kind place.0 (let l = place.1 in omega arith)) none)
 
   -- a block that a repair stores is the column
-  pub stored_column : RowsRight (now start ms) → (x : Job) (i o s : ℕ) (b : Option (List ℕ)) → job_of (now start ms).jobs x.number ≡ Some x → next_action (now start ms) x ≡ Some (Store i o s) → x.kind ≡ RepairJob →
-      b ≡ Some (block_to_store (now start ms) x x.kind i o s) → b ≡ Some (columns (worked_object (now start ms) x o) ((now start ms).bytes o) i s)
+  pub stored_column : RowsRight (now start ms) → (x : Job) (i o s : ℕ) (b : Option (List ℕ)) →
+      job_of (now start ms).jobs x.number ≡ Some x → next_action (now start ms) x ≡ Some (Store i o s) →
+      x.kind ≡ RepairJob →
+      b ≡ Some (block_to_store (now start ms) x x.kind i o s) →
+      b ≡ Some (columns (worked_object (now start ms) x o) ((now start ms).bytes o) i s)
   stored_column W x i o s b runs next_is repairs b_is =
-      (let g = made_work_gave limit start clean ms run x.number x o s runs (worked_before_store (now start ms) x i o s repairs next_is).0 in
-      let rows = W x o s (symbols_given x.given o s) runs (ap relies repairs) (given_symbols x.given o s g.0 g.1) in
-      b_is ∙ (ap (λ kd. Some (block_to_store (now start ms) x kd i o s)) repairs ∙ ap (λ l. Some (column_of_symbols (worked_object (now start ms) x o) l i s)) rows))
+      (let g = made_work_gave limit start clean ms run x.number x o s runs
+      (worked_before_store (now start ms) x i o s repairs next_is).0 in
+      let rows = W x o s (symbols_given x.given o s) runs (ap relies repairs)
+      (given_symbols x.given o s g.0 g.1) in
+      b_is ∙ (ap (λ kd. Some (block_to_store (now start ms) x kd i o s)) repairs
+      ∙ ap (λ l. Some (column_of_symbols (worked_object (now start ms) x o) l i s)) rows))
 
   -- so it is right, of a number that is not started and whose file has this profile
-  pub stored_right : RowsRight (now start ms) → (p : ℕ) (x : Job) (i o s : ℕ) (b : Option (List ℕ)) → job_of (now start ms).jobs x.number ≡ Some x → next_action (now start ms) x ≡ Some (Store i o s) →
+  pub stored_right : RowsRight (now start ms) → (p : ℕ) (x : Job) (i o s : ℕ) (b : Option (List ℕ)) →
+      job_of (now start ms).jobs x.number ≡ Some x → next_action (now start ms) x ≡ Some (Store i o s) →
       started_as (now start ms).records o ≡ None → ((f : Pinned) → In f x.pinned → f.id ≡ o → f.profile ≡ p) →
-      b ≡ Some (block_to_store (now start ms) x x.kind i o s) → is_wrong_block (object_in (now start ms) p o) ((now start ms).bytes o) i s b ≡ true → ⊥
-  stored_right W p x i o s b runs next_is none own b_is wrong = elim (store_kinds x x.kind i o s refl (is_fair (now start ms) x (Store i o s) next_is)) [
-    | inl (name, bytes, kind, o_is) ↦ unstored x name bytes i o s runs kind next_is o_is none
-    | inr (repairs, pin) ↦
-        (let column = stored_column W x i o s b runs next_is repairs b_is in
-        let object = worked_is start ms E x o runs pin ∙ ap (λ q. object_in (now start ms) q o) (own pin.file pin.pinned pin.id_is) in
-        right_block (object_in (now start ms) p o) ((now start ms).bytes o) i s
-        (subst (λ y. is_wrong_block (object_in (now start ms) p o) ((now start ms).bytes o) i s y ≡ true) (column ∙ ap (λ ob. Some (columns ob ((now start ms).bytes o) i s)) object) wrong))
-  ]
+      b ≡ Some (block_to_store (now start ms) x x.kind i o s) →
+      is_wrong_block (object_in (now start ms) p o) ((now start ms).bytes o) i s b ≡ true → ⊥
+  stored_right W p x i o s b runs next_is none own b_is wrong =
+      elim (store_kinds x x.kind i o s refl (is_fair (now start ms) x (Store i o s) next_is)) [
+        | inl (name, bytes, kind, o_is) ↦ unstored x name bytes i o s runs kind next_is o_is none
+        | inr (repairs, pin) ↦
+            (let column = stored_column W x i o s b runs next_is repairs b_is in
+            let object = worked_is start ms E x o runs pin
+            ∙ ap (λ q. object_in (now start ms) q o) (own pin.file pin.pinned pin.id_is) in
+            right_block (object_in (now start ms) p o) ((now start ms).bytes o) i s
+            (subst (λ y. is_wrong_block (object_in (now start ms) p o) ((now start ms).bytes o) i s y ≡ true)
+            (column ∙ ap (λ ob. Some (columns ob ((now start ms).bytes o) i s)) object) wrong))
+      ]
 
   -- a block that is bad was so before, or its provider is replaced now
-  bad_before : RowsRight (now start ms) → (p o i s : ℕ) → setup_in m.state ≡ setup_in (now start ms) → o < next_id (now start ms).records → started_as (now start ms).records o ≡ None →
-      ((x : Job) (f : Pinned) → job_of (now start ms).jobs x.number ≡ Some x → In f x.pinned → f.id ≡ o → f.profile ≡ p) →
+  bad_before : RowsRight (now start ms) → (p o i s : ℕ) → setup_in m.state ≡ setup_in (now start ms) →
+      o < next_id (now start ms).records → started_as (now start ms).records o ≡ None →
+      ((x : Job) (f : Pinned) → job_of (now start ms).jobs x.number ≡ Some x → In f x.pinned → f.id ≡ o →
+      f.profile ≡ p) →
       ((x : Job) → job_of (now start ms).jobs x.number ≡ Some x → In o x.older → ⊥) →
-      ((scrub : Scrub) (rest : List Action) → (now start ms).alone ≡ Some (Scrubbing scrub) → scrub.todo ≡ Store i o s ∷ rest → block_to_scrub (now start ms) scrub i o s ≡ columns (object_in (now start ms) p o) ((now start ms).bytes o) i s) →
+      ((scrub : Scrub) (rest : List Action) → (now start ms).alone ≡ Some (Scrubbing scrub) →
+      scrub.todo ≡ Store i o s ∷ rest → block_to_scrub (now start ms) scrub i o s
+      ≡ columns (object_in (now start ms) p o) ((now start ms).bytes o) i s) →
       IsBad m.state p o i s → IsBad (now start ms) p o i s ⊎ (is_replacement m.event m.outcome i ≡ true)
   bad_before W p o i s setup below none own no_older scrubs (b, told, wrong) =
       (let w = wrong_old p o i s b setup (X.bytes o below) wrong in
       elim (X.block i o s) [
         | Block_is.same e ↦ inl (b, sym e ∙ told, w)
         | Block_is.replaced r ↦ inr r
-        | Block_is.stored x runs next_is is ↦ absurd (stored_right W p x i o s b runs next_is none (λ f in_f e. own x f runs in_f e) (some_told (block_to_store (now start ms) x x.kind i o s) ((now start ms).providers i).held b (sym is ∙ told)) w)
-        | Block_is.scrubbed scrub rest at next_is is ↦ absurd (right_block (object_in (now start ms) p o) ((now start ms).bytes o) i s
+        | Block_is.stored x runs next_is is ↦
+            absurd (stored_right W p x i o s b runs next_is none (λ f in_f e. own x f runs in_f e)
+            (some_told (block_to_store (now start ms) x x.kind i o s) ((now start ms).providers i).held b
+            (sym is ∙ told)) w)
+        | Block_is.scrubbed scrub rest at next_is is ↦
+            absurd (right_block (object_in (now start ms) p o) ((now start ms).bytes o) i s
             (subst (λ y. is_wrong_block (object_in (now start ms) p o) ((now start ms).bytes o) i s y ≡ true)
-            (some_told (block_to_scrub (now start ms) scrub i o s) ((now start ms).providers i).held b (sym is ∙ told) ∙ ap Some (scrubs scrub rest at next_is)) w))
-        | Block_is.removed x runs next_is ↦ absurd (no_older x runs (remove_kinds x x.kind i o refl (is_fair (now start ms) x (Remove i o) next_is)))
+            (some_told (block_to_scrub (now start ms) scrub i o s) ((now start ms).providers i).held b
+            (sym is ∙ told) ∙ ap Some (scrubs scrub rest at next_is)) w))
+        | Block_is.removed x runs next_is ↦
+            absurd (no_older x runs
+            (remove_kinds x x.kind i o refl (is_fair (now start ms) x (Remove i o) next_is)))
       ])
 
   -- while a job runs no scrub does
-  pub no_scrub : (k : ℕ) (x : Job) → job_of (now start ms).jobs k ≡ Some x → {B : Type 0} → (scrub : Scrub) → (now start ms).alone ≡ Some (Scrubbing scrub) → B
-  no_scrub k x runs scrub at = absurd (found_none (now start ms).jobs k x (A.numbers.idle.lone (Scrubbing scrub) at) runs)
+  pub no_scrub : (k : ℕ) (x : Job) → job_of (now start ms).jobs k ≡ Some x → {B : Type 0} → (scrub : Scrub) →
+      (now start ms).alone ≡ Some (Scrubbing scrub) → B
+  no_scrub k x runs scrub at =
+      absurd (found_none (now start ms).jobs k x (A.numbers.idle.lone (Scrubbing scrub) at) runs)
 
   -- of a file that a running job works on
-  pub pinned_bad : RowsRight (now start ms) → (k : ℕ) (x : Job) (f : Pinned) (i s : ℕ) → job_of (now start ms).jobs k ≡ Some x → In f x.pinned → setup_in m.state ≡ setup_in (now start ms) →
-      IsBad m.state f.profile f.id i s → IsBad (now start ms) f.profile f.id i s ⊎ (is_replacement m.event m.outcome i ≡ true)
+  pub pinned_bad : RowsRight (now start ms) → (k : ℕ) (x : Job) (f : Pinned) (i s : ℕ) →
+      job_of (now start ms).jobs k ≡ Some x → In f x.pinned → setup_in m.state ≡ setup_in (now start ms) →
+      IsBad m.state f.profile f.id i s → IsBad (now start ms) f.profile f.id i s ⊎
+      (is_replacement m.event m.outcome i ≡ true)
   pinned_bad W k x f i s runs in_x setup bad =
       (let quiet = A.pins.pins k x f runs in_x in
-      bad_before W f.profile f.id i s setup quiet.0 quiet.1 (λ y g runs_y in_g e. E.one_pin y.number k y x g f runs_y runs in_g in_x e)
-      (λ y runs_y o. A.pins.older_free y.number k y x f.id f runs_y o runs in_x refl) (λ scrub rest at. no_scrub k x runs scrub at) bad)
+      bad_before W f.profile f.id i s setup quiet.0 quiet.1
+      (λ y g runs_y in_g e. E.one_pin y.number k y x g f runs_y runs in_g in_x e)
+      (λ y runs_y o. A.pins.older_free y.number k y x f.id f runs_y o runs in_x refl)
+      (λ scrub rest at. no_scrub k x runs scrub at) bad)
 
   -- of a file in effect
-  pub file_bad : RowsRight (now start ms) → ScrubsRight (now start ms) → (q : List ℕ) (f : File) (i s : ℕ) → file_in (now start ms) q ≡ Some f → setup_in m.state ≡ setup_in (now start ms) →
-      IsBad m.state f.profile f.id i s → IsBad (now start ms) f.profile f.id i s ⊎ (is_replacement m.event m.outcome i ≡ true)
+  pub file_bad : RowsRight (now start ms) → ScrubsRight (now start ms) → (q : List ℕ) (f : File) (i s : ℕ) →
+      file_in (now start ms) q ≡ Some f → setup_in m.state ≡ setup_in (now start ms) →
+      IsBad m.state f.profile f.id i s → IsBad (now start ms) f.profile f.id i s ⊎
+      (is_replacement m.event m.outcome i ≡ true)
   file_bad W R q f i s stood setup bad =
-      bad_before W f.profile f.id i s setup (ev.file_below limit start m ms A U I E X T q f stood) (A.pins.sound.file q f stood).1 (λ y g runs_y in_g e. E.pin_file y.number y g q f runs_y in_g stood e)
-      (ev.no_remover limit start m ms A U I E X T q f stood) (λ scrub rest at next_is. R scrub rest i s q f at next_is stood) bad
+      bad_before W f.profile f.id i s setup (ev.file_below limit start m ms A U I E X T q f stood)
+      (A.pins.sound.file q f stood).1 (λ y g runs_y in_g e. E.pin_file y.number y g q f runs_y in_g stood e)
+      (ev.no_remover limit start m ms A U I E X T q f stood)
+      (λ scrub rest at next_is. R scrub rest i s q f at next_is stood) bad
 
   -- of the put whose record was in doubt
-  put_bad : (d : Doubt) (id size p i s : ℕ) → (now start ms).doubt ≡ Some d → IsEndOfPut (now start ms).records d.entry id size p → setup_in m.state ≡ setup_in (now start ms) → i < (setup_in m.state).n →
-      s < stripes_of (profiled (setup_in m.state) p) (length (m.state.bytes id)) → IsBad m.state p id i s → IsReplaced (begun_of d.maker) i (m ∷ ms)
-  put_bad d id size p i s at e setup l k (b, told, wrong) = elim (cases_Bool (is_replaced_since (begun_of d.maker) i (m ∷ ms))) [
-    | inl t ↦ t
-    | inr f ↦ absurd (right_block (object_in m.state p id) (m.state.bytes id) i s
-        (subst (λ y. is_wrong_block (object_in m.state p id) (m.state.bytes id) i s y ≡ true) (ev.put_right limit start m ms A U I E X T d id size p i s b at e setup l k f told) wrong))
-  ]
+  put_bad : (d : Doubt) (id size p i s : ℕ) → (now start ms).doubt ≡ Some d →
+      IsEndOfPut (now start ms).records d.entry id size p → setup_in m.state ≡ setup_in (now start ms) →
+      i < (setup_in m.state).n →
+      s < stripes_of (profiled (setup_in m.state) p) (length (m.state.bytes id)) → IsBad m.state p id i s →
+      IsReplaced (begun_of d.maker) i (m ∷ ms)
+  put_bad d id size p i s at e setup l k (b, told, wrong) =
+      elim (cases_Bool (is_replaced_since (begun_of d.maker) i (m ∷ ms))) [
+        | inl t ↦ t
+        | inr f ↦ absurd (right_block (object_in m.state p id) (m.state.bytes id) i s
+            (subst (λ y. is_wrong_block (object_in m.state p id) (m.state.bytes id) i s y ≡ true)
+            (ev.put_right limit start m ms A U I E X T d id size p i s b at e setup l k f told) wrong))
+      ]
 
   -- files stay clear since a moment before which no put began that works
-  pub clear_on : RowsRight (now start ms) → ScrubsRight (now start ms) → (from : ℕ) (Old New : ℕ → ℕ → ℕ → Type 0) → PrecedesPuts start ms from → IsClear start ms from Old →
-      ((q : List ℕ) (f : File) (i s : ℕ) → file_in (now start ms) q ≡ Some f → file_in m.state q ≡ Some f → setup_in m.state ≡ setup_in (now start ms) → i < (setup_in m.state).n →
-      s < stripes_of (profiled (setup_in m.state) f.profile) (length (m.state.bytes f.id)) → IsBad m.state f.profile f.id i s → Old i f.id s → IsReplaced from i (m ∷ ms) ⊎ New i f.id s) →
+  pub clear_on : RowsRight (now start ms) → ScrubsRight (now start ms) →
+      (from : ℕ) (Old New : ℕ → ℕ → ℕ → Type 0) → PrecedesPuts start ms from → IsClear start ms from Old →
+      ((q : List ℕ) (f : File) (i s : ℕ) → file_in (now start ms) q ≡ Some f → file_in m.state q ≡ Some f →
+      setup_in m.state ≡ setup_in (now start ms) → i < (setup_in m.state).n →
+      s < stripes_of (profiled (setup_in m.state) f.profile) (length (m.state.bytes f.id)) →
+      IsBad m.state f.profile f.id i s → Old i f.id s → IsReplaced from i (m ∷ ms) ⊎ New i f.id s) →
       IsClear start (m ∷ ms) from New
   clear_on W R from Old New P clear more q f i s h l k bad =
       (let c = ev.comes limit start m ms A U I E X T q f h in
@@ -168,14 +231,19 @@ module _ (limit : ℕ) (mark : Mark) (start : State) (m : Moment) (ms : List Mom
             (let below = ev.file_below limit start m ms A U I E X T q f stood in
             let n = ev.bounds limit start m ms A U I E X T f.profile f.id i s setup below l k in
             elim (file_bad W R q f i s stood setup bad) [
-              | inl old ↦ elim (clear q f i s stood n.0 n.1 old) [ inl r ↦ inl (since_more from i m ms r) | inr x ↦ more q f i s stood h setup l k bad x ]
+              | inl old ↦ elim (clear q f i s stood n.0 n.1 old)
+                  [ inl r ↦ inl (since_more from i m ms r) | inr x ↦ more q f i s stood h setup l k bad x ]
               | inr r ↦ inl (since_now from i m ms r P.early)
             ])
-        | inr (d, at, e) ↦ inl (since_earlier from (begun_of d.maker) i (m ∷ ms) (P.doubts d e.version f.id f.size f.profile at e.entry_is) (put_bad d f.id f.size f.profile i s at e setup l k bad))
+        | inr (d, at, e) ↦ inl
+            (since_earlier from (begun_of d.maker) i (m ∷ ms)
+            (P.doubts d e.version f.id f.size f.profile at e.entry_is)
+            (put_bad d f.id f.size f.profile i s at e setup l k bad))
       ])
 
   -- an event keeps a mark: damage of files in effect is still new since then
-  pub mark_on : RowsRight (now start ms) → ScrubsRight (now start ms) → (from : ℕ) → IsMark start ms from → IsMark start (m ∷ ms) from
+  pub mark_on : RowsRight (now start ms) → ScrubsRight (now start ms) → (from : ℕ) → IsMark start ms from →
+      IsMark start (m ∷ ms) from
   mark_on W R from P = record {
     before = ev.before_on limit start m ms A U I E X T from P.before;
     clear = clear_on W R from Never Never P.before P.clear (λ q f i s stood h setup l k bad x. absurd x);

@@ -1,4 +1,5 @@
--- What a scrub has swept: of a stripe that it has opened and rewritten, each provider with a bad block was replaced since the scrub's begin.
+-- What a scrub has swept: of a stripe that it has opened and rewritten, each provider with a bad block was
+-- replaced since the scrub's begin.
 use Rattle.std.proofs.Common.{◌≡◌, ℕ, zero, suc, ◌≤◌, ◌<◌, ◌==◌, Bool, true, false, cond, ◌⊎◌, List, [], ◌∷◌, ◌++◌, length, Option, Some, None, refl, ap, sym, subst, ◌∙◌, inl, inr, arith}
 use Rattle.std.specs.List.{flat_map}
 use Rattle.std.proofs.lemmas.Bool.{cases_Bool, eqb-true, false≢true}
@@ -67,26 +68,38 @@ opens_on t f = on_each_stripe (profiled t f.profile) (length f.bytes) (open_acti
 first_ended : (t : Setup) (files : List Pinned) → IsEnded (scrub_actions t files)
 unfolding opens_on
 first_ended t files = ended_append (flat_map (opens_on t) files) (End ∷ [])
-    (each_flat NotEnd (opens_on t) files (λ f. each_flat NotEnd (open_actions t f.id) (upto (pinned_stripes t f))
-    (λ st. each_append NotEnd (on_each_provider t (λ j. Fetch j f.id st)) (Work f.id st ∷ []) (each_map NotEnd (λ j. Fetch j f.id st) (upto t.n) (λ j. tt)) (tt, tt))))
+    (each_flat NotEnd (opens_on t) files
+    (λ f. each_flat NotEnd (open_actions t f.id) (upto (pinned_stripes t f))
+    (λ st. each_append NotEnd (on_each_provider t (λ j. Fetch j f.id st)) (Work f.id st ∷ [])
+    (each_map NotEnd (λ j. Fetch j f.id st) (upto t.n) (λ j. tt)) (tt, tt))))
     refl
 
-first_work : (t : Setup) (files : List Pinned) (f : Pinned) (s : ℕ) → In f files → s < pinned_stripes t f → In (Work f.id s) (scrub_actions t files)
+first_work : (t : Setup) (files : List Pinned) (f : Pinned) (s : ℕ) → In f files → s < pinned_stripes t f →
+    In (Work f.id s) (scrub_actions t files)
 unfolding opens_on
 first_work t files f s in_f l = in_left (flat_map (opens_on t) files) (End ∷ []) (Work f.id s)
-    (in_flat (opens_on t) files f (Work f.id s) in_f (in_flat (open_actions t f.id) (upto (pinned_stripes t f)) s (Work f.id s) (in_upto (pinned_stripes t f) s l)
+    (in_flat (opens_on t) files f (Work f.id s) in_f
+    (in_flat (open_actions t f.id) (upto (pinned_stripes t f)) s (Work f.id s)
+    (in_upto (pinned_stripes t f) s l)
     (in_right (on_each_provider t (λ j. Fetch j f.id s)) (Work f.id s ∷ []) (Work f.id s) (inl refl))))
 
-stores_not_end : (w : State) (scrub : Scrub) (o s : ℕ) (symbols : List ℕ) → Each NotEnd (scrub_stores w scrub o s symbols)
-stores_not_end w scrub o s symbols = each_flat NotEnd (λ j. cond (off_by w scrub o s symbols j == 0) [] (Store j o s ∷ [])) (upto (setup_in w).n) (λ j. one (off_by w scrub o s symbols j == 0) j)
+stores_not_end : (w : State) (scrub : Scrub) (o s : ℕ) (symbols : List ℕ) →
+    Each NotEnd (scrub_stores w scrub o s symbols)
+stores_not_end w scrub o s symbols = each_flat NotEnd
+    (λ j. cond (off_by w scrub o s symbols j == 0) [] (Store j o s ∷ [])) (upto (setup_in w).n)
+    (λ j. one (off_by w scrub o s symbols j == 0) j)
   where
     one : (b : Bool) (j : ℕ) → Each NotEnd (cond b [] (Store j o s ∷ []))
     one true j = tt
     one false j = (tt, tt)
 
-in_stores : (w : State) (scrub : Scrub) (o s : ℕ) (symbols : List ℕ) (i : ℕ) → i < (setup_in w).n → (off_by w scrub o s symbols i == 0) ≡ false → In (Store i o s) (scrub_stores w scrub o s symbols)
-in_stores w scrub o s symbols i l off = in_flat (λ j. cond (off_by w scrub o s symbols j == 0) [] (Store j o s ∷ [])) (upto (setup_in w).n) i (Store i o s) (in_upto (setup_in w).n i l)
-    (subst (In (Store i o s)) (sym (cond_false (off_by w scrub o s symbols i == 0) [] (Store i o s ∷ []) off)) (inl refl))
+in_stores : (w : State) (scrub : Scrub) (o s : ℕ) (symbols : List ℕ) (i : ℕ) → i < (setup_in w).n →
+    (off_by w scrub o s symbols i == 0) ≡ false → In (Store i o s) (scrub_stores w scrub o s symbols)
+in_stores w scrub o s symbols i l off =
+    in_flat (λ j. cond (off_by w scrub o s symbols j == 0) [] (Store j o s ∷ [])) (upto (setup_in w).n) i
+    (Store i o s) (in_upto (setup_in w).n i l)
+    (subst (In (Store i o s)) (sym (cond_false (off_by w scrub o s symbols i == 0) [] (Store i o s ∷ []) off))
+    (inl refl))
 
 -- blocks that differ in no place are one
 places_same : (xs ys : List ℕ) → length xs ≡ length ys → differences xs ys ≡ 0 → xs ≡ ys
@@ -94,15 +107,20 @@ places_same [] [] e h = refl
 places_same [] (y ∷ ys) e h = absurd (omega (arith, e))
 places_same (x ∷ xs) [] e h = absurd (omega (arith, e))
 places_same (x ∷ xs) (y ∷ ys) e h = elim (cases_Bool (x == y)) [
-  | inl t ↦ ap (λ a. a ∷ xs) (eqb-true x y t) ∙ ap (λ l. y ∷ l) (places_same xs ys (omega (arith, e)) (sym (cond_true (x == y) (differences xs ys) (suc (differences xs ys)) t) ∙ h))
-  | inr f ↦ absurd (let z : suc (differences xs ys) ≡ 0 = sym (cond_false (x == y) (differences xs ys) (suc (differences xs ys)) f) ∙ h in omega (arith, z))
+  | inl t ↦ ap (λ a. a ∷ xs) (eqb-true x y t)
+      ∙ ap (λ l. y ∷ l) (places_same xs ys (omega (arith, e))
+      (sym (cond_true (x == y) (differences xs ys) (suc (differences xs ys)) t) ∙ h))
+  | inr f ↦ absurd (let z : suc (differences xs ys) ≡ 0 =
+      sym (cond_false (x == y) (differences xs ys) (suc (differences xs ys)) f) ∙ h in omega (arith, z))
 ]
 
 -- a block of the size is there whole
-sized_is : (size : ℕ) (b : Option (List ℕ)) (c : List ℕ) → sized size b ≡ Some c → (b ≡ Some c) × (length c ≡ size)
+sized_is : (size : ℕ) (b : Option (List ℕ)) (c : List ℕ) → sized size b ≡ Some c →
+    (b ≡ Some c) × (length c ≡ size)
 sized_is size None c h = absurd (let z : None ≡ Some c = h in cc)
 sized_is size (Some x) c h = elim (cases_Bool (length x == size)) [
-  | inl t ↦ (let z : Some x ≡ Some c = sym (cond_true (length x == size) (Some x) None t) ∙ h in let y : x ≡ c = cc in (ap Some y, ap length (sym y) ∙ eqb-true (length x) size t))
+  | inl t ↦ (let z : Some x ≡ Some c = sym (cond_true (length x == size) (Some x) None t) ∙ h in
+      let y : x ≡ c = cc in (ap Some y, ap length (sym y) ∙ eqb-true (length x) size t))
   | inr f ↦ absurd (let z : None ≡ Some c = sym (cond_false (length x == size) (Some x) None f) ∙ h in cc)
 ]
 
@@ -117,14 +135,21 @@ some_size (suc (suc (suc (suc more)))) h = omega (arith, h)
 -- ---- what a scrub has swept
 
 pub record Swept (start : State) (ms : List Moment) (scrub : Scrub) : Type 0 where
-  pub all : (q : List ℕ) (f : File) → file_in (now start ms) q ≡ Some f → In (pinned_file (now start ms) f) scrub.files
-  pub seen : (f : Pinned) (i s : ℕ) (block : List ℕ) (b : Option (List ℕ)) → In f scrub.files → In (Fetched i f.id s (Some block)) scrub.given → is_replaced_since scrub.begun i ms ≡ false →
-      told_block (now start ms) i f.id s ≡ Some b → (sized (pinned_object (now start ms) f).profile.size b ≡ Some block) ⊎ (b ≡ Some (columns (pinned_object (now start ms) f) ((now start ms).bytes f.id) i s))
-  pub left : (f : Pinned) (i s : ℕ) → In f scrub.files → i < (setup_in (now start ms)).n → s < pinned_stripes (setup_in (now start ms)) f → IsBad (now start ms) f.profile f.id i s →
+  pub all : (q : List ℕ) (f : File) → file_in (now start ms) q ≡ Some f →
+      In (pinned_file (now start ms) f) scrub.files
+  pub seen : (f : Pinned) (i s : ℕ) (block : List ℕ) (b : Option (List ℕ)) → In f scrub.files →
+      In (Fetched i f.id s (Some block)) scrub.given → is_replaced_since scrub.begun i ms ≡ false →
+      told_block (now start ms) i f.id s ≡ Some b →
+      (sized (pinned_object (now start ms) f).profile.size b ≡ Some block) ⊎
+      (b ≡ Some (columns (pinned_object (now start ms) f) ((now start ms).bytes f.id) i s))
+  pub left : (f : Pinned) (i s : ℕ) → In f scrub.files → i < (setup_in (now start ms)).n →
+      s < pinned_stripes (setup_in (now start ms)) f → IsBad (now start ms) f.profile f.id i s →
       IsReplaced scrub.begun i ms ⊎ (In (Work f.id s) scrub.todo ⊎ In (Store i f.id s) scrub.todo)
   pub ended : IsEnded scrub.todo
 
-module _ (limit : ℕ) (mark : Mark) (start : State) (m : Moment) (ms : List Moment) (A : All start ms) (I : eff.Facts (now start ms)) (X : Changes limit (length ms) (now start ms) m.event m.outcome m.state) (tell : AllTell (now start ms))
+module _ (limit : ℕ) (mark : Mark) (start : State) (m : Moment) (ms : List Moment) (A : All start ms)
+    (I : eff.Facts (now start ms)) (X : Changes limit (length ms) (now start ms) m.event m.outcome m.state)
+    (tell : AllTell (now start ms))
     (none : (now start ms).jobs ≡ []) (b : Beside (now start ms) m.state) where
   setup : setup_in m.state ≡ setup_in (now start ms)
   setup = setup_same m.state (now start ms) (ap setup_of b.records)
@@ -138,57 +163,89 @@ module _ (limit : ℕ) (mark : Mark) (start : State) (m : Moment) (ms : List Mom
   file_is : (f : File) → pinned_file (now start ms) f ≡ pinned_file m.state f
   file_is f = ap (λ l. record { id = f.id; profile = f.profile; bytes = l }) (sym (bytes_are f.id))
 
-  columns_are : (f : Pinned) (i s : ℕ) → columns (pinned_object (now start ms) f) ((now start ms).bytes f.id) i s ≡ columns (pinned_object m.state f) (m.state.bytes f.id) i s
-  columns_are f i s = ap (λ y. columns (pinned_object (now start ms) f) y i s) (sym (bytes_are f.id)) ∙ ap (λ (t : Setup). columns (object_of (profiled t f.profile) f.id) (m.state.bytes f.id) i s) (sym setup)
+  columns_are : (f : Pinned) (i s : ℕ) →
+      columns (pinned_object (now start ms) f) ((now start ms).bytes f.id) i s
+      ≡ columns (pinned_object m.state f) (m.state.bytes f.id) i s
+  columns_are f i s = ap (λ y. columns (pinned_object (now start ms) f) y i s) (sym (bytes_are f.id))
+      ∙ ap (λ (t : Setup). columns (object_of (profiled t f.profile) f.id) (m.state.bytes f.id) i s)
+      (sym setup)
 
-  module _ (scrub : Scrub) (at : (now start ms).alone ≡ Some (Scrubbing scrub)) (K : Scrubbed mark start ms scrub) (C : Swept start ms scrub) where
-    mine : (f : Pinned) (i s : ℕ) → In f scrub.files → (other : Scrub) (rest : List Action) → (now start ms).alone ≡ Some (Scrubbing other) → other.todo ≡ Store i f.id s ∷ rest →
-        block_to_scrub (now start ms) other i f.id s ≡ columns (pinned_object (now start ms) f) ((now start ms).bytes f.id) i s
+  module _ (scrub : Scrub) (at : (now start ms).alone ≡ Some (Scrubbing scrub))
+      (K : Scrubbed mark start ms scrub) (C : Swept start ms scrub) where
+    mine : (f : Pinned) (i s : ℕ) → In f scrub.files → (other : Scrub) (rest : List Action) →
+        (now start ms).alone ≡ Some (Scrubbing other) → other.todo ≡ Store i f.id s ∷ rest →
+        block_to_scrub (now start ms) other i f.id s ≡ columns (pinned_object (now start ms) f)
+        ((now start ms).bytes f.id) i s
     mine f i s in_f other rest at_other next_is =
         (let same = same_scrub (now start ms) scrub other at at_other in
-        subst (λ (x : Scrub). block_to_scrub (now start ms) x i f.id s ≡ columns (pinned_object (now start ms) f) ((now start ms).bytes f.id) i s) same
+        subst (λ (x : Scrub). block_to_scrub (now start ms) x i f.id s
+        ≡ columns (pinned_object (now start ms) f) ((now start ms).bytes f.id) i s) same
         (right mark start ms A scrub K f rest i s in_f (ap (λ (x : Scrub). x.todo) same ∙ next_is)))
 
     -- what is seen of a block, before the event
     abbrev Seen : Pinned → ℕ → ℕ → List ℕ → Option (List ℕ) → Type 0
-    Seen f i s block c = (sized (pinned_object (now start ms) f).profile.size c ≡ Some block) ⊎ (c ≡ Some (columns (pinned_object (now start ms) f) ((now start ms).bytes f.id) i s))
+    Seen f i s block c = (sized (pinned_object (now start ms) f).profile.size c ≡ Some block) ⊎
+        (c ≡ Some (columns (pinned_object (now start ms) f) ((now start ms).bytes f.id) i s))
 
     sweeps : (next : Scrub) → next.files ≡ scrub.files → next.begun ≡ scrub.begun →
-        ((f : Pinned) (i s : ℕ) (block : List ℕ) (c : Option (List ℕ)) → In f scrub.files → In (Fetched i f.id s (Some block)) next.given → is_replaced_since scrub.begun i ms ≡ false → told_block (now start ms) i f.id s ≡ Some c → Seen f i s block c) →
-        ((f : Pinned) (i s : ℕ) → In f scrub.files → i < (setup_in (now start ms)).n → s < pinned_stripes (setup_in (now start ms)) f → IsBad m.state f.profile f.id i s → IsBad (now start ms) f.profile f.id i s →
-        IsReplaced scrub.begun i (m ∷ ms) ⊎ (In (Work f.id s) next.todo ⊎ In (Store i f.id s) next.todo)) → IsEnded next.todo → Swept start (m ∷ ms) next
+        ((f : Pinned) (i s : ℕ) (block : List ℕ) (c : Option (List ℕ)) → In f scrub.files →
+        In (Fetched i f.id s (Some block)) next.given → is_replaced_since scrub.begun i ms ≡ false →
+        told_block (now start ms) i f.id s ≡ Some c → Seen f i s block c) →
+        ((f : Pinned) (i s : ℕ) → In f scrub.files → i < (setup_in (now start ms)).n →
+        s < pinned_stripes (setup_in (now start ms)) f → IsBad m.state f.profile f.id i s →
+        IsBad (now start ms) f.profile f.id i s →
+        IsReplaced scrub.begun i (m ∷ ms) ⊎ (In (Work f.id s) next.todo ⊎ In (Store i f.id s) next.todo)) →
+        IsEnded next.todo → Swept start (m ∷ ms) next
     sweeps next files begun seen left ended = record {
-      all = λ q f h. subst (In (pinned_file m.state f)) (sym files) (subst (λ (x : Pinned). In x scrub.files) (file_is f) (C.all q f (ap (λ rs. file_of rs q) (sym b.records) ∙ h)));
-      seen = λ f i s block c in_f given unreplaced told. see f i s block c (subst (In f) files in_f) given (subst (λ n. is_replaced_since n i (m ∷ ms) ≡ false) begun unreplaced) told;
-      left = λ f i s in_f l k bad. subst (λ n. IsReplaced n i (m ∷ ms) ⊎ (In (Work f.id s) next.todo ⊎ In (Store i f.id s) next.todo)) (sym begun)
-          (leave f i s (subst (In f) files in_f) (subst (λ (t : Setup). i < t.n) setup l) (subst (λ (t : Setup). s < pinned_stripes t f) setup k) bad);
+      all = λ q f h. subst (In (pinned_file m.state f)) (sym files)
+          (subst (λ (x : Pinned). In x scrub.files) (file_is f)
+          (C.all q f (ap (λ rs. file_of rs q) (sym b.records) ∙ h)));
+      seen = λ f i s block c in_f given unreplaced told. see f i s block c (subst (In f) files in_f) given
+          (subst (λ n. is_replaced_since n i (m ∷ ms) ≡ false) begun unreplaced) told;
+      left = λ f i s in_f l k bad. subst
+          (λ n. IsReplaced n i (m ∷ ms) ⊎ (In (Work f.id s) next.todo ⊎ In (Store i f.id s) next.todo))
+          (sym begun)
+          (leave f i s (subst (In f) files in_f) (subst (λ (t : Setup). i < t.n) setup l)
+          (subst (λ (t : Setup). s < pinned_stripes t f) setup k) bad);
       ended = ended;
     }
       where
-        see : (f : Pinned) (i s : ℕ) (block : List ℕ) (c : Option (List ℕ)) → In f scrub.files → In (Fetched i f.id s (Some block)) next.given → is_replaced_since scrub.begun i (m ∷ ms) ≡ false → told_block m.state i f.id s ≡ Some c →
-            (sized (pinned_object m.state f).profile.size c ≡ Some block) ⊎ (c ≡ Some (columns (pinned_object m.state f) (m.state.bytes f.id) i s))
+        see : (f : Pinned) (i s : ℕ) (block : List ℕ) (c : Option (List ℕ)) → In f scrub.files →
+            In (Fetched i f.id s (Some block)) next.given → is_replaced_since scrub.begun i (m ∷ ms) ≡ false →
+            told_block m.state i f.id s ≡ Some c →
+            (sized (pinned_object m.state f).profile.size c ≡ Some block) ⊎
+            (c ≡ Some (columns (pinned_object m.state f) (m.state.bytes f.id) i s))
         see f i s block c in_f given unreplaced told = elim (X.block i f.id s) [
-          | Block_is.same e ↦ elim (seen f i s block c in_f given (replaced_before scrub.begun i m ms unreplaced) (sym e ∙ told)) [
-            | inl whole ↦ inl whole
-            | inr column ↦ inr (column ∙ ap Some (columns_are f i s))
-          ]
-          | Block_is.replaced r ↦ absurd (false≢true (sym unreplaced ∙ since_now scrub.begun i m ms r K.begun))
+          | Block_is.same e ↦ elim (seen f i s block c in_f given
+              (replaced_before scrub.begun i m ms unreplaced) (sym e ∙ told)) [
+                | inl whole ↦ inl whole
+                | inr column ↦ inr (column ∙ ap Some (columns_are f i s))
+              ]
+          | Block_is.replaced r ↦
+              absurd (false≢true (sym unreplaced ∙ since_now scrub.begun i m ms r K.begun))
           | Block_is.stored x runs next_is is ↦ absurd (no_job x runs)
-          | Block_is.scrubbed other rest at_other next_is is ↦ inr (some_told (block_to_scrub (now start ms) other i f.id s) ((now start ms).providers i).held c (sym is ∙ told)
+          | Block_is.scrubbed other rest at_other next_is is ↦
+              inr (some_told (block_to_scrub (now start ms) other i f.id s)
+              ((now start ms).providers i).held c (sym is ∙ told)
               ∙ ap Some (mine f i s in_f other rest at_other next_is ∙ columns_are f i s))
           | Block_is.removed x runs next_is ↦ absurd (no_job x runs)
         ]
 
-        leave : (f : Pinned) (i s : ℕ) → In f scrub.files → i < (setup_in (now start ms)).n → s < pinned_stripes (setup_in (now start ms)) f → IsBad m.state f.profile f.id i s →
+        leave : (f : Pinned) (i s : ℕ) → In f scrub.files → i < (setup_in (now start ms)).n →
+            s < pinned_stripes (setup_in (now start ms)) f → IsBad m.state f.profile f.id i s →
             IsReplaced scrub.begun i (m ∷ ms) ⊎ (In (Work f.id s) next.todo ⊎ In (Store i f.id s) next.todo)
-        leave f i s in_f l k bad = elim (bad_was limit mark start m ms A I X tell none b f i s (mine f i s in_f) bad) [
-          | inl old ↦ left f i s in_f l k bad old
-          | inr r ↦ inl (since_now scrub.begun i m ms r K.begun)
-        ]
+        leave f i s in_f l k bad =
+            elim (bad_was limit mark start m ms A I X tell none b f i s (mine f i s in_f) bad) [
+              | inl old ↦ left f i s in_f l k bad old
+              | inr r ↦ inl (since_now scrub.begun i m ms r K.begun)
+            ]
 
     -- where it was left before, with what is still to do
-    left_by : (f : Pinned) (i s : ℕ) (todo : List Action) → In f scrub.files → i < (setup_in (now start ms)).n → s < pinned_stripes (setup_in (now start ms)) f → IsBad (now start ms) f.profile f.id i s → scrub.todo ≡ todo →
-        (R : Type 0) → (IsReplaced scrub.begun i (m ∷ ms) → R) → (In (Work f.id s) todo → R) → (In (Store i f.id s) todo → R) → R
+    left_by : (f : Pinned) (i s : ℕ) (todo : List Action) → In f scrub.files →
+        i < (setup_in (now start ms)).n → s < pinned_stripes (setup_in (now start ms)) f →
+        IsBad (now start ms) f.profile f.id i s → scrub.todo ≡ todo →
+        (R : Type 0) → (IsReplaced scrub.begun i (m ∷ ms) → R) → (In (Work f.id s) todo → R) →
+        (In (Store i f.id s) todo → R) → R
     left_by f i s todo in_f l k old is R replaced work store = elim (C.left f i s in_f l k old) [
       | inl r ↦ replaced (since_more scrub.begun i m ms r)
       | inr (inl w) ↦ work (subst (In (Work f.id s)) is w)
@@ -198,153 +255,276 @@ module _ (limit : ℕ) (mark : Mark) (start : State) (m : Moment) (ms : List Mom
     -- nothing of the scrub changes
     swept_kept : Swept start (m ∷ ms) scrub
     swept_kept = sweeps scrub refl refl C.seen
-        (λ f i s in_f l k bad old. left_by f i s scrub.todo in_f l k old refl (IsReplaced scrub.begun i (m ∷ ms) ⊎ (In (Work f.id s) scrub.todo ⊎ In (Store i f.id s) scrub.todo)) (λ r. inl r) (λ w. inr (inl w)) (λ st. inr (inr st)))
+        (λ f i s in_f l k bad old. left_by f i s scrub.todo in_f l k old refl
+        (IsReplaced scrub.begun i (m ∷ ms) ⊎
+        (In (Work f.id s) scrub.todo ⊎ In (Store i f.id s) scrub.todo)) (λ r. inl r)
+        (λ w. inr (inl w)) (λ st. inr (inr st)))
         C.ended
 
-    swept_stored : (i o s : ℕ) (rest : List Action) → scrub.todo ≡ Store i o s ∷ rest → ((c : Option (List ℕ)) → told_block m.state i o s ≡ Some c → c ≡ Some (block_to_scrub (now start ms) scrub i o s)) → Swept start (m ∷ ms) (record scrub { todo = rest })
-    swept_stored i o s rest todo told = sweeps (record scrub { todo = rest }) refl refl C.seen leave (ended_tail (Store i o s) rest tt (subst IsEnded todo C.ended))
+    swept_stored : (i o s : ℕ) (rest : List Action) → scrub.todo ≡ Store i o s ∷ rest →
+        ((c : Option (List ℕ)) → told_block m.state i o s ≡ Some c →
+        c ≡ Some (block_to_scrub (now start ms) scrub i o s)) →
+        Swept start (m ∷ ms) (record scrub { todo = rest })
+    swept_stored i o s rest todo told = sweeps (record scrub { todo = rest }) refl refl C.seen leave
+        (ended_tail (Store i o s) rest tt (subst IsEnded todo C.ended))
       where
         Told : ℕ → ℕ → ℕ → Type 0
-        Told a p q = (c : Option (List ℕ)) → told_block m.state a p q ≡ Some c → c ≡ Some (block_to_scrub (now start ms) scrub a p q)
+        Told a p q = (c : Option (List ℕ)) → told_block m.state a p q ≡ Some c →
+            c ≡ Some (block_to_scrub (now start ms) scrub a p q)
 
-        stored_now : (f : Pinned) (j t : ℕ) → In f scrub.files → j ≡ i → f.id ≡ o → t ≡ s → scrub.todo ≡ Store j f.id t ∷ rest → IsBad m.state f.profile f.id j t → ⊥
+        stored_now : (f : Pinned) (j t : ℕ) → In f scrub.files → j ≡ i → f.id ≡ o → t ≡ s →
+            scrub.todo ≡ Store j f.id t ∷ rest → IsBad m.state f.profile f.id j t → ⊥
         stored_now f j t in_f ji fo ts next_is (block, told_b, wrong) =
-            (let own : Told j f.id t = subst (λ a. Told a f.id t) (sym ji) (subst (λ p. Told i p t) (sym fo) (subst (λ q. Told i o q) (sym ts) told)) in
+            (let own : Told j f.id t = subst (λ a. Told a f.id t) (sym ji)
+            (subst (λ p. Told i p t) (sym fo) (subst (λ q. Told i o q) (sym ts) told)) in
             right_block (pinned_object m.state f) (m.state.bytes f.id) j t
-            (subst (λ y. is_wrong_block (pinned_object m.state f) (m.state.bytes f.id) j t y ≡ true) (own block told_b ∙ ap Some (right mark start ms A scrub K f rest j t in_f next_is ∙ columns_are f j t)) wrong))
+            (subst (λ y. is_wrong_block (pinned_object m.state f) (m.state.bytes f.id) j t y ≡ true)
+            (own block told_b ∙ ap Some (right mark start ms A scrub K f rest j t in_f next_is
+            ∙ columns_are f j t)) wrong))
 
-        leave : (f : Pinned) (j t : ℕ) → In f scrub.files → j < (setup_in (now start ms)).n → t < pinned_stripes (setup_in (now start ms)) f → IsBad m.state f.profile f.id j t → IsBad (now start ms) f.profile f.id j t →
+        leave : (f : Pinned) (j t : ℕ) → In f scrub.files → j < (setup_in (now start ms)).n →
+            t < pinned_stripes (setup_in (now start ms)) f → IsBad m.state f.profile f.id j t →
+            IsBad (now start ms) f.profile f.id j t →
             IsReplaced scrub.begun j (m ∷ ms) ⊎ (In (Work f.id t) rest ⊎ In (Store j f.id t) rest)
-        leave f j t in_f l k bad old = left_by f j t (Store i o s ∷ rest) in_f l k old todo (IsReplaced scrub.begun j (m ∷ ms) ⊎ (In (Work f.id t) rest ⊎ In (Store j f.id t) rest)) (λ r. inl r) by_work by_store
+        leave f j t in_f l k bad old = left_by f j t (Store i o s ∷ rest) in_f l k old todo
+            (IsReplaced scrub.begun j (m ∷ ms) ⊎ (In (Work f.id t) rest ⊎ In (Store j f.id t) rest))
+            (λ r. inl r) by_work by_store
           where
-            by_work : In (Work f.id t) (Store i o s ∷ rest) → IsReplaced scrub.begun j (m ∷ ms) ⊎ (In (Work f.id t) rest ⊎ In (Store j f.id t) rest)
+            by_work : In (Work f.id t) (Store i o s ∷ rest) →
+                IsReplaced scrub.begun j (m ∷ ms) ⊎ (In (Work f.id t) rest ⊎ In (Store j f.id t) rest)
             by_work (inl e) = absurd (let z : Work f.id t ≡ Store i o s = e in cc)
             by_work (inr h) = inr (inl h)
 
-            by_store : In (Store j f.id t) (Store i o s ∷ rest) → IsReplaced scrub.begun j (m ∷ ms) ⊎ (In (Work f.id t) rest ⊎ In (Store j f.id t) rest)
-            by_store (inl e) = absurd (let z : Store j f.id t ≡ Store i o s = e in let ji : j ≡ i = cc in let fo : f.id ≡ o = cc in let ts : t ≡ s = cc in stored_now f j t in_f ji fo ts (todo ∙ ap (λ a. a ∷ rest) (sym z)) bad)
+            by_store : In (Store j f.id t) (Store i o s ∷ rest) →
+                IsReplaced scrub.begun j (m ∷ ms) ⊎ (In (Work f.id t) rest ⊎ In (Store j f.id t) rest)
+            by_store (inl e) = absurd (let z : Store j f.id t ≡ Store i o s = e in let ji : j ≡ i = cc in
+                let fo : f.id ≡ o = cc in let ts : t ≡ s = cc in
+                stored_now f j t in_f ji fo ts (todo ∙ ap (λ a. a ∷ rest) (sym z)) bad)
             by_store (inr h) = inr (inr h)
 
-    swept_fetched : (i o s : ℕ) (rest : List Action) (block : Option (List ℕ)) → scrub.todo ≡ Fetch i o s ∷ rest →
-        FetchGives (scrubbed_object (now start ms) scrub o).profile.size o s ((now start ms).providers i).held block ⊎ (block ≡ None) → Swept start (m ∷ ms) (record scrub { todo = rest; given = Fetched i o s block ∷ scrub.given })
-    swept_fetched i o s rest block todo got = sweeps (record scrub { todo = rest; given = Fetched i o s block ∷ scrub.given }) refl refl seen leave (ended_tail (Fetch i o s) rest tt (subst IsEnded todo C.ended))
+    swept_fetched : (i o s : ℕ) (rest : List Action) (block : Option (List ℕ)) →
+        scrub.todo ≡ Fetch i o s ∷ rest →
+        FetchGives (scrubbed_object (now start ms) scrub o).profile.size o s
+        ((now start ms).providers i).held block ⊎ (block ≡ None) →
+        Swept start (m ∷ ms) (record scrub { todo = rest; given = Fetched i o s block ∷ scrub.given })
+    swept_fetched i o s rest block todo got = sweeps
+        (record scrub { todo = rest; given = Fetched i o s block ∷ scrub.given }) refl refl seen leave
+        (ended_tail (Fetch i o s) rest tt (subst IsEnded todo C.ended))
       where
-        newest : (f : Pinned) (j t : ℕ) (c : List ℕ) → j ≡ i → f.id ≡ o → t ≡ s → Some c ≡ block → FetchGives (scrubbed_object (now start ms) scrub o).profile.size o s ((now start ms).providers i).held block ⊎ (block ≡ None) →
-            FetchGives (scrubbed_object (now start ms) scrub f.id).profile.size f.id t ((now start ms).providers j).held (Some c)
+        newest : (f : Pinned) (j t : ℕ) (c : List ℕ) → j ≡ i → f.id ≡ o → t ≡ s → Some c ≡ block →
+            FetchGives (scrubbed_object (now start ms) scrub o).profile.size o s
+            ((now start ms).providers i).held block ⊎ (block ≡ None) →
+            FetchGives (scrubbed_object (now start ms) scrub f.id).profile.size f.id t
+            ((now start ms).providers j).held (Some c)
         newest f j t c ji fo ts cb (inr gone) = absurd (let z : Some c ≡ None = cb ∙ gone in cc)
         newest f j t c ji fo ts cb (inl g) =
-            subst (λ n. FetchGives (scrubbed_object (now start ms) scrub f.id).profile.size f.id t ((now start ms).providers n).held (Some c)) (sym ji)
-            (subst (λ n. FetchGives (scrubbed_object (now start ms) scrub n).profile.size n t ((now start ms).providers i).held (Some c)) (sym fo)
-            (subst (λ n. FetchGives (scrubbed_object (now start ms) scrub o).profile.size o n ((now start ms).providers i).held (Some c)) (sym ts)
-            (subst (FetchGives (scrubbed_object (now start ms) scrub o).profile.size o s ((now start ms).providers i).held) (sym cb) g)))
+            subst (λ n. FetchGives (scrubbed_object (now start ms) scrub f.id).profile.size f.id t
+            ((now start ms).providers n).held (Some c)) (sym ji)
+            (subst (λ n. FetchGives (scrubbed_object (now start ms) scrub n).profile.size n t
+            ((now start ms).providers i).held (Some c)) (sym fo)
+            (subst (λ n. FetchGives (scrubbed_object (now start ms) scrub o).profile.size o n
+            ((now start ms).providers i).held (Some c)) (sym ts)
+            (subst (FetchGives (scrubbed_object (now start ms) scrub o).profile.size o s
+            ((now start ms).providers i).held) (sym cb) g)))
 
-        seen : (f : Pinned) (j t : ℕ) (c : List ℕ) (d : Option (List ℕ)) → In f scrub.files → In (Fetched j f.id t (Some c)) (Fetched i o s block ∷ scrub.given) → is_replaced_since scrub.begun j ms ≡ false → told_block (now start ms) j f.id t ≡ Some d → Seen f j t c d
+        seen : (f : Pinned) (j t : ℕ) (c : List ℕ) (d : Option (List ℕ)) → In f scrub.files →
+            In (Fetched j f.id t (Some c)) (Fetched i o s block ∷ scrub.given) →
+            is_replaced_since scrub.begun j ms ≡ false → told_block (now start ms) j f.id t ≡ Some d →
+            Seen f j t c d
         seen f j t c d in_f (inr old) unreplaced told = C.seen f j t c d in_f old unreplaced told
-        seen f j t c d in_f (inl e) unreplaced told = (let z : Fetched j f.id t (Some c) ≡ Fetched i o s block = e in
-            let ji : j ≡ i = cc in let fo : f.id ≡ o = cc in let ts : t ≡ s = cc in let cb : Some c ≡ block = cc in
+        seen f j t c d in_f (inl e) unreplaced told =
+            (let z : Fetched j f.id t (Some c) ≡ Fetched i o s block = e in
+            let ji : j ≡ i = cc in let fo : f.id ≡ o = cc in let ts : t ≡ s = cc in
+            let cb : Some c ≡ block = cc in
             let h = telling (now start ms) j f.id t d told in
-            let gives = subst (λ (held : Option Held). FetchGives (pinned_object (now start ms) f).profile.size f.id t held (Some c)) h.1
-            (subst (λ (ob : Object). FetchGives ob.profile.size f.id t ((now start ms).providers j).held (Some c)) (object_is mark start ms A scrub K f in_f) (newest f j t c ji fo ts cb got)) in
+            let gives = subst (λ (held : Option Held). FetchGives
+            (pinned_object (now start ms) f).profile.size f.id t held (Some c)) h.1
+            (subst (λ (ob : Object). FetchGives ob.profile.size f.id t ((now start ms).providers j).held
+            (Some c)) (object_is mark start ms A scrub K f in_f) (newest f j t c ji fo ts cb got)) in
             inl (ap (sized (pinned_object (now start ms) f).profile.size) (sym h.2) ∙ sym gives))
 
-        leave : (f : Pinned) (j t : ℕ) → In f scrub.files → j < (setup_in (now start ms)).n → t < pinned_stripes (setup_in (now start ms)) f → IsBad m.state f.profile f.id j t → IsBad (now start ms) f.profile f.id j t →
+        leave : (f : Pinned) (j t : ℕ) → In f scrub.files → j < (setup_in (now start ms)).n →
+            t < pinned_stripes (setup_in (now start ms)) f → IsBad m.state f.profile f.id j t →
+            IsBad (now start ms) f.profile f.id j t →
             IsReplaced scrub.begun j (m ∷ ms) ⊎ (In (Work f.id t) rest ⊎ In (Store j f.id t) rest)
-        leave f j t in_f l k bad old = left_by f j t (Fetch i o s ∷ rest) in_f l k old todo (IsReplaced scrub.begun j (m ∷ ms) ⊎ (In (Work f.id t) rest ⊎ In (Store j f.id t) rest)) (λ r. inl r) by_work by_store
+        leave f j t in_f l k bad old = left_by f j t (Fetch i o s ∷ rest) in_f l k old todo
+            (IsReplaced scrub.begun j (m ∷ ms) ⊎ (In (Work f.id t) rest ⊎ In (Store j f.id t) rest))
+            (λ r. inl r) by_work by_store
           where
-            by_work : In (Work f.id t) (Fetch i o s ∷ rest) → IsReplaced scrub.begun j (m ∷ ms) ⊎ (In (Work f.id t) rest ⊎ In (Store j f.id t) rest)
+            by_work : In (Work f.id t) (Fetch i o s ∷ rest) →
+                IsReplaced scrub.begun j (m ∷ ms) ⊎ (In (Work f.id t) rest ⊎ In (Store j f.id t) rest)
             by_work (inl e) = absurd (let z : Work f.id t ≡ Fetch i o s = e in cc)
             by_work (inr h) = inr (inl h)
 
-            by_store : In (Store j f.id t) (Fetch i o s ∷ rest) → IsReplaced scrub.begun j (m ∷ ms) ⊎ (In (Work f.id t) rest ⊎ In (Store j f.id t) rest)
+            by_store : In (Store j f.id t) (Fetch i o s ∷ rest) →
+                IsReplaced scrub.begun j (m ∷ ms) ⊎ (In (Work f.id t) rest ⊎ In (Store j f.id t) rest)
             by_store (inl e) = absurd (let z : Store j f.id t ≡ Fetch i o s = e in cc)
             by_store (inr h) = inr (inr h)
 
-    swept_worked : replaced_count (now start ms) (scrub_mark mark ms scrub) ms ≤ (setup_in (now start ms)).b → (o s : ℕ) (rest : List Action) (symbols : List ℕ) → scrub.todo ≡ Work o s ∷ rest →
-        GivesSymbols (scrubbed_object (now start ms) scrub o) s (blocks_given scrub.given (setup_in (now start ms)).n o s) symbols → Swept start (m ∷ ms) (opened_scrub (now start ms) scrub o s rest symbols)
-    swept_worked calm o s rest symbols todo gives = sweeps (opened_scrub (now start ms) scrub o s rest symbols) refl refl seen leave
-        (ended_append (scrub_stores (now start ms) scrub o s symbols) rest (stores_not_end (now start ms) scrub o s symbols) (ended_tail (Work o s) rest tt (subst IsEnded todo C.ended)))
-      where
-        seen : (f : Pinned) (j t : ℕ) (c : List ℕ) (d : Option (List ℕ)) → In f scrub.files → In (Fetched j f.id t (Some c)) (Worked o s symbols ∷ scrub.given) → is_replaced_since scrub.begun j ms ≡ false → told_block (now start ms) j f.id t ≡ Some d → Seen f j t c d
-        seen f j t c d in_f (inl e) unreplaced told = absurd (let z : Fetched j f.id t (Some c) ≡ Worked o s symbols = e in cc)
-        seen f j t c d in_f (inr old) unreplaced told = C.seen f j t c d in_f old unreplaced told
+    -- a stripe that the scrub opened just now
+    module _ (calm : replaced_count (now start ms) (scrub_mark mark ms scrub) ms ≤ (setup_in (now start ms)).b)
+        (o s : ℕ) (rest : List Action) (symbols : List ℕ) (todo : scrub.todo ≡ Work o s ∷ rest)
+        (gives : GivesSymbols (scrubbed_object (now start ms) scrub o) s
+        (blocks_given scrub.given (setup_in (now start ms)).n o s) symbols) where
+      seen : (f : Pinned) (j t : ℕ) (c : List ℕ) (d : Option (List ℕ)) → In f scrub.files →
+          In (Fetched j f.id t (Some c)) (Worked o s symbols ∷ scrub.given) →
+          is_replaced_since scrub.begun j ms ≡ false → told_block (now start ms) j f.id t ≡ Some d →
+          Seen f j t c d
+      seen f j t c d in_f (inl e) unreplaced told =
+          absurd (let z : Fetched j f.id t (Some c) ≡ Worked o s symbols = e in cc)
+      seen f j t c d in_f (inr old) unreplaced told = C.seen f j t c d in_f old unreplaced told
 
-        -- a block that does not differ is right
-        same_block : (f : Pinned) (j t : ℕ) → In f scrub.files → t < pinned_stripes (setup_in (now start ms)) f → f.id ≡ o → t ≡ s → (off_by (now start ms) scrub f.id t symbols j == 0) ≡ true → is_replaced_since scrub.begun j ms ≡ false →
-            IsBad (now start ms) f.profile f.id j t → ⊥
-        same_block f j t in_f k fo ts off unreplaced (block, told, wrong) = by_given (block_given scrub.given f.id t j) refl (eqb-true (off_by (now start ms) scrub f.id t symbols j) 0 off)
-          where
-            own_gives : GivesSymbols (scrubbed_object (now start ms) scrub f.id) t (blocks_given scrub.given (setup_in (now start ms)).n f.id t) symbols
-            own_gives = subst (λ q. GivesSymbols (scrubbed_object (now start ms) scrub f.id) q (blocks_given scrub.given (setup_in (now start ms)).n f.id q) symbols) (sym ts)
-                (subst (λ p. GivesSymbols (scrubbed_object (now start ms) scrub p) s (blocks_given scrub.given (setup_in (now start ms)).n p s) symbols) (sym fo) gives)
+      -- a block that does not differ is right
+      same_block : (f : Pinned) (j t : ℕ) → In f scrub.files →
+          t < pinned_stripes (setup_in (now start ms)) f → f.id ≡ o → t ≡ s →
+          (off_by (now start ms) scrub f.id t symbols j == 0) ≡ true →
+          is_replaced_since scrub.begun j ms ≡ false →
+          IsBad (now start ms) f.profile f.id j t → ⊥
+      same_block f j t in_f k fo ts off unreplaced (block, told, wrong) =
+          by_given (block_given scrub.given f.id t j) refl
+          (eqb-true (off_by (now start ms) scrub f.id t symbols j) 0 off)
+        where
+          own_gives : GivesSymbols (scrubbed_object (now start ms) scrub f.id) t
+              (blocks_given scrub.given (setup_in (now start ms)).n f.id t) symbols
+          own_gives = subst (λ q. GivesSymbols (scrubbed_object (now start ms) scrub f.id) q
+              (blocks_given scrub.given (setup_in (now start ms)).n f.id q) symbols) (sym ts)
+              (subst (λ p. GivesSymbols (scrubbed_object (now start ms) scrub p) s
+              (blocks_given scrub.given (setup_in (now start ms)).n p s) symbols) (sym fo) gives)
 
-            column_is : column_of_symbols (scrubbed_object (now start ms) scrub f.id) symbols j t ≡ columns (pinned_object (now start ms) f) ((now start ms).bytes f.id) j t
-            column_is = ap (λ (ob : Object). column_of_symbols ob symbols j t) (object_is mark start ms A scrub K f in_f)
-                ∙ ap (λ l. column_of_symbols (pinned_object (now start ms) f) l j t) (opened_right limit mark start m ms A I X tell none b scrub at K calm f t symbols in_f k own_gives)
+          column_is : column_of_symbols (scrubbed_object (now start ms) scrub f.id) symbols j t
+              ≡ columns (pinned_object (now start ms) f) ((now start ms).bytes f.id) j t
+          column_is = ap (λ (ob : Object). column_of_symbols ob symbols j t)
+              (object_is mark start ms A scrub K f in_f)
+              ∙ ap (λ l. column_of_symbols (pinned_object (now start ms) f) l j t)
+              (opened_right limit mark start m ms A I X tell none b scrub at K calm f t symbols in_f k
+              own_gives)
 
-            size_is : length (column_of_symbols (scrubbed_object (now start ms) scrub f.id) symbols j t) ≡ (pinned_object (now start ms) f).profile.size
-            size_is = ap (λ (ob : Object). length (column_of_symbols ob symbols j t)) (object_is mark start ms A scrub K f in_f) ∙ length-column_of_symbols (pinned_object (now start ms) f) symbols j t
+          size_is : length (column_of_symbols (scrubbed_object (now start ms) scrub f.id) symbols j t)
+              ≡ (pinned_object (now start ms) f).profile.size
+          size_is = ap (λ (ob : Object). length (column_of_symbols ob symbols j t))
+              (object_is mark start ms A scrub K f in_f)
+              ∙ length-column_of_symbols (pinned_object (now start ms) f) symbols j t
 
-            as_column : block ≡ Some (columns (pinned_object (now start ms) f) ((now start ms).bytes f.id) j t) → ⊥
-            as_column e = right_block (pinned_object (now start ms) f) ((now start ms).bytes f.id) j t (subst (λ y. is_wrong_block (pinned_object (now start ms) f) ((now start ms).bytes f.id) j t y ≡ true) e wrong)
+          as_column : block ≡ Some
+              (columns (pinned_object (now start ms) f) ((now start ms).bytes f.id) j t) → ⊥
+          as_column e = right_block (pinned_object (now start ms) f) ((now start ms).bytes f.id) j t
+              (subst (λ y. is_wrong_block (pinned_object (now start ms) f) ((now start ms).bytes f.id) j t y
+              ≡ true) e wrong)
 
-            by_given : (g : Option (List ℕ)) → block_given scrub.given f.id t j ≡ g → differs (block_given scrub.given f.id t j) (column_of_symbols (scrubbed_object (now start ms) scrub f.id) symbols j t) ≡ 0 → ⊥
-            by_given None is h = (let z : differs None (column_of_symbols (scrubbed_object (now start ms) scrub f.id) symbols j t) ≡ 0 = subst (λ g. differs g (column_of_symbols (scrubbed_object (now start ms) scrub f.id) symbols j t) ≡ 0) is h in
-                some_size f.profile (sym size_is ∙ z))
-            by_given (Some c) is h = (let z : differs (Some c) (column_of_symbols (scrubbed_object (now start ms) scrub f.id) symbols j t) ≡ 0 = subst (λ g. differs g (column_of_symbols (scrubbed_object (now start ms) scrub f.id) symbols j t) ≡ 0) is h in
-                elim (C.seen f j t c block in_f (block_in scrub.given f.id t j c is) unreplaced told) [
-                  | inl whole ↦ (let p = sized_is (pinned_object (now start ms) f).profile.size block c whole in
-                      as_column (p.0 ∙ ap Some (places_same c (column_of_symbols (scrubbed_object (now start ms) scrub f.id) symbols j t) (p.1 ∙ sym size_is) z ∙ column_is)))
-                  | inr e ↦ as_column e
-                ])
+          by_given : (g : Option (List ℕ)) → block_given scrub.given f.id t j ≡ g →
+              differs (block_given scrub.given f.id t j)
+              (column_of_symbols (scrubbed_object (now start ms) scrub f.id) symbols j t) ≡ 0 → ⊥
+          by_given None is h = (let z : differs None
+              (column_of_symbols (scrubbed_object (now start ms) scrub f.id) symbols j t) ≡ 0 =
+              subst (λ g. differs g
+              (column_of_symbols (scrubbed_object (now start ms) scrub f.id) symbols j t) ≡ 0) is h in
+              some_size f.profile (sym size_is ∙ z))
+          by_given (Some c) is h =
+              (let z : differs (Some c)
+              (column_of_symbols (scrubbed_object (now start ms) scrub f.id) symbols j t) ≡ 0 =
+              subst (λ g. differs g
+              (column_of_symbols (scrubbed_object (now start ms) scrub f.id) symbols j t) ≡ 0) is
+              h in
+              elim (C.seen f j t c block in_f (block_in scrub.given f.id t j c is) unreplaced told) [
+                | inl whole ↦ (let p =
+                    sized_is (pinned_object (now start ms) f).profile.size block c whole in
+                    as_column (p.0 ∙ ap Some
+                    (places_same c (column_of_symbols (scrubbed_object (now start ms) scrub f.id)
+                    symbols j t) (p.1 ∙ sym size_is) z ∙ column_is)))
+                | inr e ↦ as_column e
+              ])
 
-        leave : (f : Pinned) (j t : ℕ) → In f scrub.files → j < (setup_in (now start ms)).n → t < pinned_stripes (setup_in (now start ms)) f → IsBad m.state f.profile f.id j t → IsBad (now start ms) f.profile f.id j t →
-            IsReplaced scrub.begun j (m ∷ ms) ⊎ (In (Work f.id t) (scrub_stores (now start ms) scrub o s symbols ++ rest) ⊎ In (Store j f.id t) (scrub_stores (now start ms) scrub o s symbols ++ rest))
-        leave f j t in_f l k bad old = left_by f j t (Work o s ∷ rest) in_f l k old todo
-            (IsReplaced scrub.begun j (m ∷ ms) ⊎ (In (Work f.id t) (scrub_stores (now start ms) scrub o s symbols ++ rest) ⊎ In (Store j f.id t) (scrub_stores (now start ms) scrub o s symbols ++ rest))) (λ r. inl r) by_work by_store
-          where
-            now_open : f.id ≡ o → t ≡ s → IsReplaced scrub.begun j (m ∷ ms) ⊎ (In (Work f.id t) (scrub_stores (now start ms) scrub o s symbols ++ rest) ⊎ In (Store j f.id t) (scrub_stores (now start ms) scrub o s symbols ++ rest))
-            now_open fo ts = elim (cases_Bool (off_by (now start ms) scrub f.id t symbols j == 0)) [
-              | inl off ↦ elim (cases_Bool (is_replaced_since scrub.begun j ms)) [
-                | inl r ↦ inl (since_more scrub.begun j m ms r)
-                | inr unreplaced ↦ absurd (same_block f j t in_f k fo ts off unreplaced old)
-              ]
-              | inr off ↦ inr (inr (in_left (scrub_stores (now start ms) scrub o s symbols) rest (Store j f.id t)
-                  (subst (λ q. In (Store j f.id t) (scrub_stores (now start ms) scrub o q symbols)) ts
-                  (subst (λ p. In (Store j f.id t) (scrub_stores (now start ms) scrub p t symbols)) fo (in_stores (now start ms) scrub f.id t symbols j l off)))))
+      leave : (f : Pinned) (j t : ℕ) → In f scrub.files → j < (setup_in (now start ms)).n →
+          t < pinned_stripes (setup_in (now start ms)) f → IsBad m.state f.profile f.id j t →
+          IsBad (now start ms) f.profile f.id j t →
+          IsReplaced scrub.begun j (m ∷ ms) ⊎
+          (In (Work f.id t) (scrub_stores (now start ms) scrub o s symbols ++ rest) ⊎
+          In (Store j f.id t) (scrub_stores (now start ms) scrub o s symbols ++ rest))
+      leave f j t in_f l k bad old = left_by f j t (Work o s ∷ rest) in_f l k old todo
+          (IsReplaced scrub.begun j (m ∷ ms) ⊎
+          (In (Work f.id t) (scrub_stores (now start ms) scrub o s symbols ++ rest) ⊎
+          In (Store j f.id t) (scrub_stores (now start ms) scrub o s symbols ++ rest)))
+          (λ r. inl r) by_work by_store
+        where
+          now_open : f.id ≡ o → t ≡ s → IsReplaced scrub.begun j (m ∷ ms) ⊎
+              (In (Work f.id t) (scrub_stores (now start ms) scrub o s symbols ++ rest) ⊎
+              In (Store j f.id t) (scrub_stores (now start ms) scrub o s symbols ++ rest))
+          now_open fo ts = elim (cases_Bool (off_by (now start ms) scrub f.id t symbols j == 0)) [
+            | inl off ↦ elim (cases_Bool (is_replaced_since scrub.begun j ms)) [
+              | inl r ↦ inl (since_more scrub.begun j m ms r)
+              | inr unreplaced ↦ absurd (same_block f j t in_f k fo ts off unreplaced old)
             ]
+            | inr off ↦ inr (inr (in_left (scrub_stores (now start ms) scrub o s symbols) rest
+                (Store j f.id t)
+                (subst (λ q. In (Store j f.id t) (scrub_stores (now start ms) scrub o q symbols)) ts
+                (subst (λ p. In (Store j f.id t) (scrub_stores (now start ms) scrub p t symbols)) fo
+                (in_stores (now start ms) scrub f.id t symbols j l off)))))
+          ]
 
-            by_work : In (Work f.id t) (Work o s ∷ rest) → IsReplaced scrub.begun j (m ∷ ms) ⊎ (In (Work f.id t) (scrub_stores (now start ms) scrub o s symbols ++ rest) ⊎ In (Store j f.id t) (scrub_stores (now start ms) scrub o s symbols ++ rest))
-            by_work (inl e) = (let z : Work f.id t ≡ Work o s = e in let fo : f.id ≡ o = cc in let ts : t ≡ s = cc in now_open fo ts)
-            by_work (inr h) = inr (inl (in_right (scrub_stores (now start ms) scrub o s symbols) rest (Work f.id t) h))
+          by_work : In (Work f.id t) (Work o s ∷ rest) →
+              IsReplaced scrub.begun j (m ∷ ms) ⊎
+              (In (Work f.id t) (scrub_stores (now start ms) scrub o s symbols ++ rest) ⊎
+              In (Store j f.id t) (scrub_stores (now start ms) scrub o s symbols ++ rest))
+          by_work (inl e) = (let z : Work f.id t ≡ Work o s = e in let fo : f.id ≡ o = cc in
+              let ts : t ≡ s = cc in now_open fo ts)
+          by_work (inr h) = inr
+              (inl (in_right (scrub_stores (now start ms) scrub o s symbols) rest (Work f.id t) h))
 
-            by_store : In (Store j f.id t) (Work o s ∷ rest) → IsReplaced scrub.begun j (m ∷ ms) ⊎ (In (Work f.id t) (scrub_stores (now start ms) scrub o s symbols ++ rest) ⊎ In (Store j f.id t) (scrub_stores (now start ms) scrub o s symbols ++ rest))
-            by_store (inl e) = absurd (let z : Store j f.id t ≡ Work o s = e in cc)
-            by_store (inr h) = inr (inr (in_right (scrub_stores (now start ms) scrub o s symbols) rest (Store j f.id t) h))
+          by_store : In (Store j f.id t) (Work o s ∷ rest) →
+              IsReplaced scrub.begun j (m ∷ ms) ⊎
+              (In (Work f.id t) (scrub_stores (now start ms) scrub o s symbols ++ rest) ⊎
+              In (Store j f.id t) (scrub_stores (now start ms) scrub o s symbols ++ rest))
+          by_store (inl e) = absurd (let z : Store j f.id t ≡ Work o s = e in cc)
+          by_store (inr h) = inr
+              (inr (in_right (scrub_stores (now start ms) scrub o s symbols) rest (Store j f.id t) h))
 
-    swept_went : replaced_count (now start ms) (scrub_mark mark ms scrub) ms ≤ (setup_in (now start ms)).b → (next : Scrub) → Scrub_goes (now start ms) m.state scrub next → Swept start (m ∷ ms) next
-    swept_went calm next (Scrub_goes.stored i o s rest todo is told) = subst (λ (x : Scrub). Swept start (m ∷ ms) x) (sym is) (swept_stored i o s rest todo told)
-    swept_went calm next (Scrub_goes.fetched i o s rest block todo is got) = subst (λ (x : Scrub). Swept start (m ∷ ms) x) (sym is) (swept_fetched i o s rest block todo got)
-    swept_went calm next (Scrub_goes.worked o s rest symbols todo gives is) = subst (λ (x : Scrub). Swept start (m ∷ ms) x) (sym is) (swept_worked calm o s rest symbols todo gives)
+      swept_worked : Swept start (m ∷ ms) (opened_scrub (now start ms) scrub o s rest symbols)
+      swept_worked =
+          sweeps (opened_scrub (now start ms) scrub o s rest symbols) refl refl seen leave
+          (ended_append (scrub_stores (now start ms) scrub o s symbols) rest
+          (stores_not_end (now start ms) scrub o s symbols)
+          (ended_tail (Work o s) rest tt (subst IsEnded todo C.ended)))
+
+    swept_went : replaced_count (now start ms) (scrub_mark mark ms scrub) ms ≤ (setup_in (now start ms)).b →
+        (next : Scrub) → Scrub_goes (now start ms) m.state scrub next → Swept start (m ∷ ms) next
+    swept_went calm next (Scrub_goes.stored i o s rest todo is told) =
+        subst (λ (x : Scrub). Swept start (m ∷ ms) x) (sym is) (swept_stored i o s rest todo told)
+    swept_went calm next (Scrub_goes.fetched i o s rest block todo is got) =
+        subst (λ (x : Scrub). Swept start (m ∷ ms) x) (sym is) (swept_fetched i o s rest block todo got)
+    swept_went calm next (Scrub_goes.worked o s rest symbols todo gives is) =
+        subst (λ (x : Scrub). Swept start (m ∷ ms) x) (sym is) (swept_worked calm o s rest symbols todo gives)
 
   swept_begun : (next : Scrub) → next ≡ new_scrub (now start ms) (length ms) → Swept start (m ∷ ms) next
   swept_begun next is = subst (λ (x : Scrub). Swept start (m ∷ ms) x) (sym is) (record {
-    all = λ q f h. subst (λ (x : Pinned). In x (new_scrub (now start ms) (length ms)).files) (file_is f) (all_pinned (now start ms) q f (ap (λ rs. file_of rs q) (sym b.records) ∙ h));
+    all = λ q f h. subst (λ (x : Pinned). In x (new_scrub (now start ms) (length ms)).files) (file_is f)
+        (all_pinned (now start ms) q f (ap (λ rs. file_of rs q) (sym b.records) ∙ h));
     seen = λ f i s block c in_f given unreplaced told. absurd given;
-    left = λ f i s in_f l k bad. inr (inl (first_work (setup_in (now start ms)) (new_scrub (now start ms) (length ms)).files f s in_f (subst (λ (t : Setup). s < pinned_stripes t f) setup k)));
+    left = λ f i s in_f l k bad. inr
+        (inl (first_work (setup_in (now start ms)) (new_scrub (now start ms) (length ms)).files f s in_f
+        (subst (λ (t : Setup). s < pinned_stripes t f) setup k)));
     ended = first_ended (setup_in (now start ms)) (new_scrub (now start ms) (length ms)).files;
   })
 
 -- one event more
-pub swept_step : (limit : ℕ) (mark : Mark) (start : State) (m : Moment) (ms : List Moment) → All start ms → eff.Facts (now start ms) → Changes limit (length ms) (now start ms) m.event m.outcome m.state → AllTell (now start ms) →
-    ((scrub : Scrub) → (now start ms).alone ≡ Some (Scrubbing scrub) → Scrubbed mark start ms scrub) → ((scrub : Scrub) → (now start ms).alone ≡ Some (Scrubbing scrub) → Swept start ms scrub) →
-    ((scrub : Scrub) → (now start ms).alone ≡ Some (Scrubbing scrub) → replaced_count (now start ms) (scrub_mark mark ms scrub) ms ≤ (setup_in (now start ms)).b) →
-    ((scrub : Scrub) → m.state.alone ≡ Some (Scrubbing scrub) → Scrub_is (length ms) m.event (now start ms) m.state scrub) → (next : Scrub) → m.state.alone ≡ Some (Scrubbing next) → Swept start (m ∷ ms) next
+pub swept_step : (limit : ℕ) (mark : Mark) (start : State) (m : Moment) (ms : List Moment) → All start ms →
+    eff.Facts (now start ms) → Changes limit (length ms) (now start ms) m.event m.outcome m.state →
+    AllTell (now start ms) →
+    ((scrub : Scrub) → (now start ms).alone ≡ Some (Scrubbing scrub) → Scrubbed mark start ms scrub) →
+    ((scrub : Scrub) → (now start ms).alone ≡ Some (Scrubbing scrub) → Swept start ms scrub) →
+    ((scrub : Scrub) → (now start ms).alone ≡ Some (Scrubbing scrub) →
+    replaced_count (now start ms) (scrub_mark mark ms scrub) ms ≤ (setup_in (now start ms)).b) →
+    ((scrub : Scrub) → m.state.alone ≡ Some (Scrubbing scrub) →
+    Scrub_is (length ms) m.event (now start ms) m.state scrub) → (next : Scrub) →
+    m.state.alone ≡ Some (Scrubbing next) → Swept start (m ∷ ms) next
 swept_step limit mark start m ms A I X tell K C calm S next h = by_scrub (S next h)
   where
     none_new : m.state.jobs ≡ []
     none_new = X.lone A.numbers.idle.lone (Scrubbing next) h
 
     by_scrub : Scrub_is (length ms) m.event (now start ms) m.state next → Swept start (m ∷ ms) next
-    by_scrub (Scrub_is.kept was b) = swept_kept limit mark start m ms A I X tell (sym b.jobs ∙ none_new) b next was (K next was) (C next was)
-    by_scrub (Scrub_is.begun event is alone is_open unbarred b) = swept_begun limit mark start m ms A I X tell (sym b.jobs ∙ none_new) b next is
-    by_scrub (Scrub_is.went scrub was goes b) = swept_went limit mark start m ms A I X tell (sym b.jobs ∙ none_new) b scrub was (K scrub was) (C scrub was) (calm scrub was) next goes
+    by_scrub (Scrub_is.kept was b) = swept_kept limit mark start m ms A I X tell
+        (sym b.jobs ∙ none_new) b next was (K next was) (C next was)
+    by_scrub (Scrub_is.begun event is alone is_open unbarred b) =
+        swept_begun limit mark start m ms A I X tell (sym b.jobs ∙ none_new) b next is
+    by_scrub (Scrub_is.went scrub was goes b) = swept_went limit mark start m ms A I X tell
+        (sym b.jobs ∙ none_new) b scrub was (K scrub was) (C scrub was) (calm scrub was) next goes

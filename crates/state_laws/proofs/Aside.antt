@@ -39,7 +39,8 @@ record IsBeside (old new : State) : Type 0 where
   is_open : new.is_open ≡ old.is_open
   handed : new.handed ≡ old.handed
 
-module _ (limit : ℕ) (old : State) (S : IsSound limit old) (opened : old.is_open ≡ true) (unbarred : old.is_barred ≡ false) (lone : old.jobs ≡ []) where
+module _ (limit : ℕ) (old : State) (S : IsSound limit old) (opened : old.is_open ≡ true)
+    (unbarred : old.is_barred ≡ false) (lone : old.jobs ≡ []) where
   no-append : old.append ≡ None
   no-append = by old.append refl
     where
@@ -50,7 +51,8 @@ module _ (limit : ℕ) (old : State) (S : IsSound limit old) (opened : old.is_op
   no-doubt : old.doubt ≡ None
   no-doubt = subst (λ f. IsDoubtOf f old.doubt) no-append (S.undoubted opened unbarred)
 
-  beside-sound : (new : State) → IsBeside old new → IsSoundJournal new → journal_end new ≤ largest_journal → ((p : Pack) → new.alone ≡ Some (Packing p) → version_of old.records ≡ 2) →
+  beside-sound : (new : State) → IsBeside old new → IsSoundJournal new → journal_end new ≤ largest_journal →
+      ((p : Pack) → new.alone ≡ Some (Packing p) → version_of old.records ≡ 2) →
       (new.is_switching ≡ true → IsSwitchable new) → IsSound limit new
   beside-sound new B J room packing switching =
       (let none : new.jobs ≡ [] = B.jobs ∙ lone in
@@ -60,15 +62,21 @@ module _ (limit : ℕ) (old : State) (S : IsSound limit old) (opened : old.is_op
         accepted = subst AreAccepted (sym B.records) S.accepted;
         spelled = subst AreSpelled (sym B.records) S.spelled;
         journal = J;
-        room = (let a = ap (sum_by (reserved (version_of new.records) (setup_in new))) none in omega (arith, a, room));
-        files = subst (λ b. AreHeld b new.records) (sym B.bytes) (subst (AreHeld old.bytes) (sym B.records) S.files);
-        names = (let a = ap (λ js. length (taken_by new.records js)) none in let b = length-names_in (files_of new.records) in
-            let c = few-files_of new.records (subst AreAccepted (sym B.records) S.accepted) in omega (arith, a, b, c));
+        room = (let a = ap (sum_by (reserved (version_of new.records) (setup_in new))) none in
+            omega (arith, a, room));
+        files = subst (λ b. AreHeld b new.records) (sym B.bytes)
+            (subst (AreHeld old.bytes) (sym B.records) S.files);
+        names = (let a = ap (λ js. length (taken_by new.records js)) none in
+            let b = length-names_in (files_of new.records) in
+            let c = few-files_of new.records (subst AreAccepted (sym B.records) S.accepted) in
+            omega (arith, a, b, c));
         ids = λ l. absurd (let a = ap (sum_by starts_left) none in omega (arith, l, a));
         audits = λ k j h is_audit l. absurd (found_none new.jobs k j none h);
         closed = λ c. absurd (false≢true (sym c ∙ (B.is_open ∙ opened)));
         set_up = λ o. ap (λ rs. is_some (setup_of rs)) B.records ∙ S.set_up opened;
-        handed = λ o. (let a = S.handed opened in let b = ap (λ (s : Setup). s.n) (setup_same new old (ap setup_of B.records)) in let c = B.handed in omega (arith, a, b, c));
+        handed = λ o. (let a = S.handed opened in let b =
+            ap (λ (s : Setup). s.n) (setup_same new old (ap setup_of B.records)) in let c = B.handed in
+            omega (arith, a, b, c));
         few = (let a = ap length none in omega (arith, a));
         numbered = subst (λ js. AreNumbered 0 js new.next_job) (sym none) (omega arith);
         jobs = λ k j h. absurd (found_none new.jobs k j none h);
@@ -88,13 +96,18 @@ module _ (limit : ℕ) (old : State) (S : IsSound limit old) (opened : old.is_op
   old-room : journal_end old ≤ largest_journal
   old-room = (let a = S.room in omega (arith, a))
 
-  same-room : (new : State) → new.journal ≡ old.journal → new.area ≡ old.area → journal_end new ≤ largest_journal
-  same-room new ej ea = (let e = ap (λ area. end_in area new.journal) ea ∙ ap (end_in old.area) ej in let r = old-room in omega (arith, e, r))
+  same-room : (new : State) → new.journal ≡ old.journal → new.area ≡ old.area →
+      journal_end new ≤ largest_journal
+  same-room new ej ea =
+      (let e = ap (λ area. end_in area new.journal) ea ∙ ap (end_in old.area) ej in let r = old-room in
+      omega (arith, e, r))
 
   -- the journal stays where it is
-  calm : (new : State) → IsBeside old new → new.journal ≡ old.journal → new.area ≡ old.area → new.is_switching ≡ old.is_switching → old.is_switching ≡ false →
+  calm : (new : State) → IsBeside old new → new.journal ≡ old.journal → new.area ≡ old.area →
+      new.is_switching ≡ old.is_switching → old.is_switching ≡ false →
       ((p : Pack) → new.alone ≡ Some (Packing p) → version_of old.records ≡ 2) → IsSound limit new
-  calm new B ej ea es still packing = beside-sound new B (journal-same old new B.records ej ea es S.journal) (same-room new ej ea) packing (λ e. absurd (false≢true (sym (es ∙ still) ∙ e)))
+  calm new B ej ea es still packing = beside-sound new B (journal-same old new B.records ej ea es S.journal)
+      (same-room new ej ea) packing (λ e. absurd (false≢true (sym (es ∙ still) ∙ e)))
 
   -- the byte that names the area is in doubt only after the third move of a pack
   still-where : ((p : Pack) → old.alone ≡ Some (Packing p) → p.moves ≡ 3 → ⊥) → old.is_switching ≡ false
@@ -104,7 +117,15 @@ module _ (limit : ℕ) (old : State) (S : IsSound limit old) (opened : old.is_op
   ]
 
   beside : (new : State) → IsAside old new → IsBeside old new
-  beside new a = record { jobs = a.jobs; append = a.append; records = a.records; doubt = a.doubt; bytes = a.bytes; is_open = a.is_open; handed = a.handed }
+  beside new a = record {
+    jobs = a.jobs;
+    append = a.append;
+    records = a.records;
+    doubt = a.doubt;
+    bytes = a.bytes;
+    is_open = a.is_open;
+    handed = a.handed;
+  }
 
   -- ---- a scrub
 
@@ -119,19 +140,33 @@ module _ (limit : ℕ) (old : State) (S : IsSound limit old) (opened : old.is_op
   none-packs p e = cc
 
   scrub-packs : (scrub : Scrub) (p : Pack) → Some (Scrubbing scrub) ≡ Some (Packing p) → ⊥
-  scrub-packs scrub p e = (let f : Scrubbing scrub ≡ Packing p = same_value (Some (Scrubbing scrub)) (Scrubbing scrub) (Packing p) refl e in cc)
+  scrub-packs scrub p e =
+      (let f : Scrubbing scrub ≡ Packing p = same_value (Some (Scrubbing scrub)) (Scrubbing scrub)
+      (Packing p) refl e in cc)
 
-  scrubs : (scrub : Scrub) (action : Action) (rest : List Action) (r : Outcome) (new : State) → Scrubs old scrub action rest r new → IsScrubbed new
-  scrubs scrub (Fetch j object stripe) rest More new (block, (p, call, is)) = subst IsScrubbed (sym is) (record { journal = refl; area = refl; switching = refl; alone = λ q e. scrub-packs _ q e })
-  scrubs scrub (Work object stripe) rest More new (symbols, gives, is) = subst IsScrubbed (sym is) (record { journal = refl; area = refl; switching = refl; alone = λ q e. scrub-packs _ q e })
-  scrubs scrub (Work object stripe) rest (Ended (answer.Lost s row)) new (s_is, lost, is) = subst IsScrubbed (sym is) (record { journal = refl; area = refl; switching = refl; alone = none-packs })
-  scrubs scrub (Store j object stripe) rest More new (p, call, is) = subst IsScrubbed (sym is) (record { journal = refl; area = refl; switching = refl; alone = λ q e. scrub-packs _ q e })
-  scrubs scrub (Store j object stripe) rest (Ended (answer.ProviderFault k)) new (k_is, (p, call, is)) = subst IsScrubbed (sym is) (record { journal = refl; area = refl; switching = refl; alone = none-packs })
-  scrubs scrub (Store j object stripe) rest (Ended answer.Memory) new (p, call, is) = subst IsScrubbed (sym is) (record { journal = refl; area = refl; switching = refl; alone = none-packs })
-  scrubs scrub End rest (Ended (answer.Scrubbed stripes symbols blocks)) new (a, b, c, is) = subst IsScrubbed (sym is) (record { journal = refl; area = refl; switching = refl; alone = none-packs })
+  scrubs : (scrub : Scrub) (action : Action) (rest : List Action) (r : Outcome) (new : State) →
+      Scrubs old scrub action rest r new → IsScrubbed new
+  scrubs scrub (Fetch j object stripe) rest More new (block, (p, call, is)) =
+      subst IsScrubbed (sym is)
+      (record { journal = refl; area = refl; switching = refl; alone = λ q e. scrub-packs _ q e })
+  scrubs scrub (Work object stripe) rest More new (symbols, gives, is) =
+      subst IsScrubbed (sym is)
+      (record { journal = refl; area = refl; switching = refl; alone = λ q e. scrub-packs _ q e })
+  scrubs scrub (Work object stripe) rest (Ended (answer.Lost s row)) new (s_is, lost, is) =
+      subst IsScrubbed (sym is) (record { journal = refl; area = refl; switching = refl; alone = none-packs })
+  scrubs scrub (Store j object stripe) rest More new (p, call, is) =
+      subst IsScrubbed (sym is)
+      (record { journal = refl; area = refl; switching = refl; alone = λ q e. scrub-packs _ q e })
+  scrubs scrub (Store j object stripe) rest (Ended (answer.ProviderFault k)) new (k_is, (p, call, is)) =
+      subst IsScrubbed (sym is) (record { journal = refl; area = refl; switching = refl; alone = none-packs })
+  scrubs scrub (Store j object stripe) rest (Ended answer.Memory) new (p, call, is) =
+      subst IsScrubbed (sym is) (record { journal = refl; area = refl; switching = refl; alone = none-packs })
+  scrubs scrub End rest (Ended (answer.Scrubbed stripes symbols blocks)) new (a, b, c, is) =
+      subst IsScrubbed (sym is) (record { journal = refl; area = refl; switching = refl; alone = none-packs })
   scrubs scrub action rest r new h = absurd h
 
-  steps_scrub : (scrub : Scrub) (todo : List Action) (r : Outcome) (new : State) → StepsScrub old scrub todo r new → IsScrubbed new
+  steps_scrub : (scrub : Scrub) (todo : List Action) (r : Outcome) (new : State) →
+      StepsScrub old scrub todo r new → IsScrubbed new
   steps_scrub scrub [] r new h = absurd h
   steps_scrub scrub (action ∷ rest) r new h = scrubs scrub action rest r new h
 
@@ -143,51 +178,89 @@ module _ (limit : ℕ) (old : State) (S : IsSound limit old) (opened : old.is_op
 
     -- before its third move and after its fourth no switch is under way
     still-at : (pack.moves ≡ 3 → ⊥) → old.is_switching ≡ false
-    still-at n = still-where (λ p e three. n (sym (ap moves-of (same_value old.alone (Packing p) (Packing pack) e runs)) ∙ three))
+    still-at n = still-where
+        (λ p e three. n (sym (ap moves-of (same_value old.alone (Packing p) (Packing pack) e runs)) ∙ three))
       where
         moves-of : Alone → ℕ
         moves-of (Packing q) = q.moves
         moves-of (Scrubbing s) = 0
 
     -- a switch is under way
-    switchable : (new : State) → IsBeside old new → (new.is_open ≡ true → new.is_barred ≡ false → (p : Pack) × (new.alone ≡ Some (Packing p)) × (p.moves ≡ 3)) → IsSwitchable new
-    switchable new B packing = record { version = ap version_of B.records ∙ second; undoubted = B.doubt ∙ no-doubt; jobs = B.jobs ∙ lone; packing = packing }
+    switchable : (new : State) → IsBeside old new →
+        (new.is_open ≡ true → new.is_barred ≡ false →
+        (p : Pack) × (new.alone ≡ Some (Packing p)) × (p.moves ≡ 3)) → IsSwitchable new
+    switchable new B packing =
+        record {
+          version = ap version_of B.records ∙ second;
+          undoubted = B.doubt ∙ no-doubt;
+          jobs = B.jobs
+              ∙ lone;
+          packing = packing;
+        }
 
-    packs : (moves : ℕ) (r : Outcome) (new : State) → pack.moves ≡ moves → IsBeside old new → Packs old pack moves r new → IsSound limit new
-    packs zero More new at B (faults, low, is) = calm new B (ap (λ (w : State). w.journal) is) (ap (λ (w : State). w.area) is) (ap (λ (w : State). w.is_switching) is) (still-at (λ e. omega (arith, e, at))) (λ p e. second)
-    packs zero (Ended answer.DiskFault) new at B (faults, low, rose, is) = calm new B (ap (λ (w : State). w.journal) is) (ap (λ (w : State). w.area) is) (ap (λ (w : State). w.is_switching) is) (still-at (λ e. omega (arith, e, at))) (λ p e. second)
-    packs zero (Ended answer.Memory) new at B (faults, low, is) = calm new B (ap (λ (w : State). w.journal) is) (ap (λ (w : State). w.area) is) (ap (λ (w : State). w.is_switching) is) (still-at (λ e. omega (arith, e, at))) (λ p e. second)
-    packs (suc zero) More new at B (faults, low, is) = calm new B (ap (λ (w : State). w.journal) is) (ap (λ (w : State). w.area) is) (ap (λ (w : State). w.is_switching) is) (still-at (λ e. omega (arith, e, at))) (λ p e. second)
-    packs (suc zero) (Ended answer.DiskFault) new at B (faults, low, rose, is) = calm new B (ap (λ (w : State). w.journal) is) (ap (λ (w : State). w.area) is) (ap (λ (w : State). w.is_switching) is) (still-at (λ e. omega (arith, e, at))) (λ p e. second)
+    packs : (moves : ℕ) (r : Outcome) (new : State) → pack.moves ≡ moves → IsBeside old new →
+        Packs old pack moves r new → IsSound limit new
+    packs zero More new at B (faults, low, is) = calm new B (ap (λ (w : State). w.journal) is)
+        (ap (λ (w : State). w.area) is) (ap (λ (w : State). w.is_switching) is)
+        (still-at (λ e. omega (arith, e, at))) (λ p e. second)
+    packs zero (Ended answer.DiskFault) new at B (faults, low, rose, is) =
+        calm new B (ap (λ (w : State). w.journal) is) (ap (λ (w : State). w.area) is)
+        (ap (λ (w : State). w.is_switching) is) (still-at (λ e. omega (arith, e, at))) (λ p e. second)
+    packs zero (Ended answer.Memory) new at B (faults, low, is) =
+        calm new B (ap (λ (w : State). w.journal) is) (ap (λ (w : State). w.area) is)
+        (ap (λ (w : State). w.is_switching) is) (still-at (λ e. omega (arith, e, at))) (λ p e. second)
+    packs (suc zero) More new at B (faults, low, is) =
+        calm new B (ap (λ (w : State). w.journal) is) (ap (λ (w : State). w.area) is)
+        (ap (λ (w : State). w.is_switching) is) (still-at (λ e. omega (arith, e, at))) (λ p e. second)
+    packs (suc zero) (Ended answer.DiskFault) new at B (faults, low, rose, is) =
+        calm new B (ap (λ (w : State). w.journal) is) (ap (λ (w : State). w.area) is)
+        (ap (λ (w : State). w.is_switching) is) (still-at (λ e. omega (arith, e, at))) (λ p e. second)
     packs (suc (suc zero)) More new at B (faults, low, is) =
         (let ej = ap (λ (w : State). w.journal) is in
-        beside-sound new B (journal-second old new B.records ej second S.journal) (same-room new ej (ap (λ (w : State). w.area) is)) (λ p e. second)
-        (λ e. switchable new B (λ o b. (record pack { moves = pack.moves + 1 }, ap (λ (w : State). w.alone) is, omega (arith, at)))))
+        beside-sound new B (journal-second old new B.records ej second S.journal)
+        (same-room new ej (ap (λ (w : State). w.area) is)) (λ p e. second)
+        (λ e. switchable new B
+        (λ o b. (
+          record pack { moves = pack.moves + 1 },
+          ap (λ (w : State). w.alone) is,
+          omega (arith, at),
+        ))))
     packs (suc (suc zero)) (Ended answer.DiskFault) new at B (faults, low, rose, is) =
         (let ej = ap (λ (w : State). w.journal) is in
-        beside-sound new B (journal-second old new B.records ej second S.journal) (same-room new ej (ap (λ (w : State). w.area) is)) (λ p e. second)
+        beside-sound new B (journal-second old new B.records ej second S.journal)
+        (same-room new ej (ap (λ (w : State). w.area) is)) (λ p e. second)
         (λ e. switchable new B (λ o b. absurd (false≢true (sym b ∙ ap (λ (w : State). w.is_barred) is)))))
-    packs (suc (suc zero)) (Ended answer.Memory) new at B (faults, low, is) = calm new B (ap (λ (w : State). w.journal) is) (ap (λ (w : State). w.area) is) (ap (λ (w : State). w.is_switching) is) (still-at (λ e. omega (arith, e, at))) (λ p e. second)
+    packs (suc (suc zero)) (Ended answer.Memory) new at B (faults, low, is) =
+        calm new B (ap (λ (w : State). w.journal) is) (ap (λ (w : State). w.area) is)
+        (ap (λ (w : State). w.is_switching) is) (still-at (λ e. omega (arith, e, at))) (λ p e. second)
     packs (suc (suc (suc zero))) More new at B (faults, low, is) =
         (let ej = ap (λ (w : State). w.journal) is in
         let ea = ap (λ (w : State). w.area) is in
         beside-sound new B (journal-packed old new B.records ej second S.journal)
-        (let e = ap (λ area. end_in area new.journal) ea ∙ ap (end_in (other_area old.area)) ej in let r = switched-room old.journal old.area S.journal.accepted S.journal.spelled in omega (arith, e, r))
+        (let e = ap (λ area. end_in area new.journal) ea ∙ ap (end_in (other_area old.area)) ej in
+        let r = switched-room old.journal old.area S.journal.accepted S.journal.spelled in
+        omega (arith, e, r))
         (λ p e. second) (λ e. absurd (false≢true (sym (ap (λ (w : State). w.is_switching) is) ∙ e))))
     packs (suc (suc (suc zero))) (Ended answer.DiskFault) new at B (faults, low, rose, is) =
         (let ej = ap (λ (w : State). w.journal) is in
-        beside-sound new B (journal-second old new B.records ej second S.journal) (same-room new ej (ap (λ (w : State). w.area) is)) (λ p e. second)
+        beside-sound new B (journal-second old new B.records ej second S.journal)
+        (same-room new ej (ap (λ (w : State). w.area) is)) (λ p e. second)
         (λ e. switchable new B (λ o b. absurd (false≢true (sym b ∙ ap (λ (w : State). w.is_barred) is)))))
-    packs (suc (suc (suc (suc zero)))) (Ended (answer.Packed before after)) new at B (b, a, is) = calm new B (ap (λ (w : State). w.journal) is) (ap (λ (w : State). w.area) is) (ap (λ (w : State). w.is_switching) is) (still-at (λ e. omega (arith, e, at))) (λ p e. second)
+    packs (suc (suc (suc (suc zero)))) (Ended (answer.Packed before after)) new at B (b, a, is) =
+        calm new B (ap (λ (w : State). w.journal) is) (ap (λ (w : State). w.area) is)
+        (ap (λ (w : State). w.is_switching) is) (still-at (λ e. omega (arith, e, at))) (λ p e. second)
     packs moves r new at B h = absurd h
 
   -- each step of what runs alone
-  pub alone-sound : (x : Alone) (r : Outcome) (new : State) → old.alone ≡ Some x → StepsAlone old x r new → IsSound limit new
+  pub alone-sound : (x : Alone) (r : Outcome) (new : State) → old.alone ≡ Some x → StepsAlone old x r new →
+      IsSound limit new
   alone-sound (Scrubbing scrub) r new runs h =
       (let s = steps_scrub scrub scrub.todo r new h in
       let still = still-where (λ p e three. scrub-packs scrub p (sym runs ∙ e)) in
-      calm new (beside new (steps_aside old (Scrubbing scrub) r new h)) s.journal s.area s.switching still (λ p e. absurd (s.alone p e)))
-  alone-sound (Packing pack) r new runs h = packs pack runs pack.moves r new refl (beside new (steps_aside old (Packing pack) r new h)) h
+      calm new (beside new (steps_aside old (Scrubbing scrub) r new h)) s.journal s.area s.switching still
+      (λ p e. absurd (s.alone p e)))
+  alone-sound (Packing pack) r new runs h =
+      packs pack runs pack.moves r new refl (beside new (steps_aside old (Packing pack) r new h)) h
 
 -- ---- begins
 
@@ -210,26 +283,44 @@ causes_pack w =
     ∷ record { applies = is_too_long w w.area; refusal = refusal.PackTooLong } ∷ []
 
 module _ (limit : ℕ) (old : State) (S : IsSound limit old) where
-  begins : (more : List Cause) (x : Alone) (r : Outcome) (new : State) → (alone_refusal old more ≡ None → (p : Pack) → x ≡ Packing p → version_of old.records ≡ 2) → BeginsAlone old (alone_refusal old more) x r new → IsSound limit new
+  begins : (more : List Cause) (x : Alone) (r : Outcome) (new : State) →
+      (alone_refusal old more ≡ None → (p : Pack) → x ≡ Packing p → version_of old.records ≡ 2) →
+      BeginsAlone old (alone_refusal old more) x r new → IsSound limit new
   begins more x Closed new packing h = subst (IsSound limit) (sym h.1) S
   begins more x (Refused why) new packing h = subst (IsSound limit) (sym h.2) S
   begins more x (Begun number) new packing (opened, allowed, number_is, is) =
       (let a = none-applies (causes_alone old more) allowed in
-      let lone : old.jobs ≡ [] = not-more old.jobs (left_false (nat_lt 0 (length old.jobs)) (is_some old.alone) a.1.0) in
-      let none : old.alone ≡ None = none-is old.alone (right_false (nat_lt 0 (length old.jobs)) (is_some old.alone) a.1.0) in
-      let still = still-where limit old S opened a.0 lone (λ p e three. some-not-none old.alone (Packing p) e none) in
-      subst (IsSound limit) (sym is) (calm limit old S opened a.0 lone (record old { alone = Some x; next_job = old.next_job + 1 })
-      (record { jobs = refl; append = refl; records = refl; doubt = refl; bytes = refl; is_open = refl; handed = refl }) refl refl refl still
+      let lone : old.jobs ≡ [] =
+      not-more old.jobs (left_false (nat_lt 0 (length old.jobs)) (is_some old.alone) a.1.0) in
+      let none : old.alone ≡ None = none-is old.alone
+      (right_false (nat_lt 0 (length old.jobs)) (is_some old.alone) a.1.0) in
+      let still = still-where limit old S opened a.0 lone
+      (λ p e three. some-not-none old.alone (Packing p) e none) in
+      subst (IsSound limit) (sym is)
+      (calm limit old S opened a.0 lone (record old { alone = Some x; next_job = old.next_job + 1 })
+      (record {
+        jobs = refl;
+        append = refl;
+        records = refl;
+        doubt = refl;
+        bytes = refl;
+        is_open = refl;
+        handed = refl;
+      }) refl refl refl still
       (λ p e. packing allowed p (same_value (Some x) x (Packing p) refl e))))
   begins more x r new packing h = absurd h
 
   -- a begin of a scrub, refused or not, leaves a sound state
-  pub scrub-begins : (moment : ℕ) (r : Outcome) (new : State) → BeginsScrub moment old r new → IsSound limit new
-  scrub-begins moment r new h = begins [] (Scrubbing (new_scrub old moment)) r new (λ a p e. absurd (let f : Some (Scrubbing (new_scrub old moment)) ≡ Some (Packing p) = ap Some e in cc)) h
+  pub scrub-begins : (moment : ℕ) (r : Outcome) (new : State) → BeginsScrub moment old r new →
+      IsSound limit new
+  scrub-begins moment r new h = begins [] (Scrubbing (new_scrub old moment)) r new
+      (λ a p e. absurd (let f : Some (Scrubbing (new_scrub old moment)) ≡ Some (Packing p) = ap Some e in cc))
+      h
 
   -- a begin of a pack, refused or not, leaves a sound state
   pub pack-begins : (r : Outcome) (new : State) → BeginsPack old r new → IsSound limit new
-  pack-begins r new h = begins (causes_pack old) (Packing (new_pack old)) r new (λ a p e. second (none-applies (causes_alone old (causes_pack old)) a).1.1.0) h
+  pack-begins r new h = begins (causes_pack old) (Packing (new_pack old)) r new
+      (λ a p e. second (none-applies (causes_alone old (causes_pack old)) a).1.1.0) h
     where
       second : (version_of old.records == 1) ≡ false → version_of old.records ≡ 2
       second f = elim (version-either old.records) [

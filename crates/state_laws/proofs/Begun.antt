@@ -59,28 +59,37 @@ record IsPutBegun (limit : ℕ) (old : State) (name bytes : List ℕ) (wish : Op
   place : is_crowded_for (sight_of old) name ≡ false
   full : is_full (sight_of old) (aim_of (PutJob name bytes)) ≡ false
 
-put-begun : (limit : ℕ) (old : State) (name bytes : List ℕ) (wish : Option ℕ) → refusal_of_begin limit old (PutJob name bytes) wish ≡ None → IsPutBegun limit old name bytes wish
-put-begun limit old name bytes None allowed = (let a = none-applies (causes limit (sight_of old) (aim_of (PutJob name bytes)) None) allowed in record {
-  named = not-false (is_name name) a.1.1.0;
-  short = at-most largest_file (length bytes) a.1.1.1.0;
-  known = λ p e. absurd (let k : None ≡ Some p = e in cc);
-  place = a.1.1.1.1.0;
-  full = a.1.1.1.1.1.0;
-})
-put-begun limit old name bytes (Some q) allowed = (let a = none-applies (causes limit (sight_of old) (aim_of (PutJob name bytes)) (Some q)) allowed in record {
-  named = not-false (is_name name) a.1.1.0;
-  short = at-most largest_file (length bytes) a.1.1.1.1.0;
-  known = λ p e. (let same : q ≡ p = same_value (Some q) q p refl e in ((let l = below all_profiles q a.1.1.1.0 in omega (arith, l, same)), a.1.1.1.1.1.0));
-  place = a.1.1.1.1.1.1.0;
-  full = a.1.1.1.1.1.1.1.0;
-})
+put-begun : (limit : ℕ) (old : State) (name bytes : List ℕ) (wish : Option ℕ) →
+    refusal_of_begin limit old (PutJob name bytes) wish ≡ None → IsPutBegun limit old name bytes wish
+put-begun limit old name bytes None allowed =
+    (let a = none-applies (causes limit (sight_of old) (aim_of (PutJob name bytes)) None) allowed in record {
+      named = not-false (is_name name) a.1.1.0;
+      short = at-most largest_file (length bytes) a.1.1.1.0;
+      known = λ p e. absurd (let k : None ≡ Some p = e in cc);
+      place = a.1.1.1.1.0;
+      full = a.1.1.1.1.1.0;
+    })
+put-begun limit old name bytes (Some q) allowed =
+    (let a = none-applies (causes limit (sight_of old) (aim_of (PutJob name bytes)) (Some q)) allowed in
+    record {
+      named = not-false (is_name name) a.1.1.0;
+      short = at-most largest_file (length bytes) a.1.1.1.1.0;
+      known = λ p e. (let same : q ≡ p = same_value (Some q) q p refl e in
+          ((let l = below all_profiles q a.1.1.1.0 in omega (arith, l, same)), a.1.1.1.1.1.0));
+      place = a.1.1.1.1.1.1.0;
+      full = a.1.1.1.1.1.1.1.0;
+    })
 
-module _ (limit : ℕ) (old : State) (kind : Kind) (wish : Option ℕ) (allowed : refusal_of_begin limit old kind wish ≡ None) where
-  none-of : (kd : Kind) → kind ≡ kd → Each (λ (c : Cause). c.applies ≡ false) (causes limit (sight_of old) (aim_of kd) wish)
-  none-of kd e = none-applies (causes limit (sight_of old) (aim_of kd) wish) (ap (λ k. refusal_of_begin limit old k wish) (sym e) ∙ allowed)
+module _ (limit : ℕ) (old : State) (kind : Kind) (wish : Option ℕ)
+    (allowed : refusal_of_begin limit old kind wish ≡ None) where
+  none-of : (kd : Kind) → kind ≡ kd →
+      Each (λ (c : Cause). c.applies ≡ false) (causes limit (sight_of old) (aim_of kd) wish)
+  none-of kd e = none-applies (causes limit (sight_of old) (aim_of kd) wish)
+      (ap (λ k. refusal_of_begin limit old k wish) (sym e) ∙ allowed)
 
   begun-put : (name bytes : List ℕ) → kind ≡ PutJob name bytes → IsPutBegun limit old name bytes wish
-  begun-put name bytes e = put-begun limit old name bytes wish (ap (λ k. refusal_of_begin limit old k wish) (sym e) ∙ allowed)
+  begun-put name bytes e =
+      put-begun limit old name bytes wish (ap (λ k. refusal_of_begin limit old k wish) (sym e) ∙ allowed)
 
   begun-unbarred : old.is_barred ≡ false
   begun-unbarred = (none-of kind refl).0
@@ -94,14 +103,17 @@ module _ (limit : ℕ) (old : State) (kind : Kind) (wish : Option ℕ) (allowed 
   begun-wish UpgradeJob e = tt
 
   begun-found : (name : List ℕ) → kind ≡ GetJob name → is_some (file_in old name) ≡ true
-  begun-found name e = sym (stored-file old name) ∙ not-false (is_stored (sight_of old) name) (none-of (GetJob name) e).1.1.1.0
+  begun-found name e = sym (stored-file old name)
+      ∙ not-false (is_stored (sight_of old) name) (none-of (GetJob name) e).1.1.1.0
 
   begun-clear : are_jobs_in_the_way limit (aims_of old.jobs) (aim_of kind) ≡ false
-  begun-clear = right_false (is_shut (sight_of old)) (are_jobs_in_the_way limit (aims_of old.jobs) (aim_of kind)) (not_busy limit old kind wish allowed)
+  begun-clear = right_false (is_shut (sight_of old))
+      (are_jobs_in_the_way limit (aims_of old.jobs) (aim_of kind)) (not_busy limit old kind wish allowed)
 
   -- an upgrade begins where no job runs
   begun-lone : kind ≡ UpgradeJob → old.jobs ≡ []
-  begun-lone e = none old.jobs (ap (λ kd. are_jobs_in_the_way limit (aims_of old.jobs) (aim_of kd)) (sym e) ∙ begun-clear)
+  begun-lone e = none old.jobs (ap (λ kd. are_jobs_in_the_way limit (aims_of old.jobs) (aim_of kd)) (sym e)
+      ∙ begun-clear)
     where
       none : (js : List Job) → nat_lt 0 (length (aims_of js)) ≡ false → js ≡ []
       none [] h = refl
@@ -110,26 +122,35 @@ module _ (limit : ℕ) (old : State) (kind : Kind) (wish : Option ℕ) (allowed 
   -- and nothing begins beside it
   begun-unshut : (k : ℕ) (j : Job) → job_of old.jobs k ≡ Some j → IsTrue (is_upgrade (aim_of j.kind)) → ⊥
   begun-unshut k j runs u = false≢true (sym (any_aim is_upgrade old.jobs k j runs
-      (right_false (is_some old.alone) (list_any is_upgrade (aims_of old.jobs)) (left_false (is_shut (sight_of old)) (are_jobs_in_the_way limit (aims_of old.jobs) (aim_of kind)) (not_busy limit old kind wish allowed)))) ∙ u)
+      (right_false (is_some old.alone) (list_any is_upgrade (aims_of old.jobs))
+      (left_false (is_shut (sight_of old)) (are_jobs_in_the_way limit (aims_of old.jobs) (aim_of kind))
+      (not_busy limit old kind wish allowed)))) ∙ u)
 
   begun-few : 1 ≤ limit → length old.jobs < limit
-  begun-few least = (let a = by_kind kind refl begun-clear in let b = length-aims old.jobs in omega (arith, a, b))
+  begun-few least = (let a = by_kind kind refl begun-clear in let b = length-aims old.jobs in
+      omega (arith, a, b))
     where
-      by_kind : (kd : Kind) → kind ≡ kd → are_jobs_in_the_way limit (aims_of old.jobs) (aim_of kd) ≡ false → length (aims_of old.jobs) < limit
+      by_kind : (kd : Kind) → kind ≡ kd → are_jobs_in_the_way limit (aims_of old.jobs) (aim_of kd) ≡ false →
+          length (aims_of old.jobs) < limit
       by_kind (PutJob name bytes) e h = below limit (length (aims_of old.jobs)) h
       by_kind (GetJob name) e h = below limit (length (aims_of old.jobs)) h
       by_kind (DropJob name) e h = below limit (length (aims_of old.jobs)) h
-      by_kind AuditJob e h = below limit (length (aims_of old.jobs)) (left_false (nat_le limit (length (aims_of old.jobs))) _ h)
-      by_kind RepairJob e h = below limit (length (aims_of old.jobs)) (left_false (nat_le limit (length (aims_of old.jobs))) _ h)
-      by_kind UpgradeJob e h = (let z = ap length (begun-lone e) in let b = length-aims old.jobs in omega (arith, z, b, least))
+      by_kind AuditJob e h =
+          below limit (length (aims_of old.jobs)) (left_false (nat_le limit (length (aims_of old.jobs))) _ h)
+      by_kind RepairJob e h =
+          below limit (length (aims_of old.jobs)) (left_false (nat_le limit (length (aims_of old.jobs))) _ h)
+      by_kind UpgradeJob e h =
+          (let z = ap length (begun-lone e) in let b = length-aims old.jobs in omega (arith, z, b, least))
 
   begun-full : is_full (sight_of old) (aim_of kind) ≡ false
   begun-full = by_kind kind refl
     where
       by_kind : (kd : Kind) → kind ≡ kd → is_full (sight_of old) (aim_of kind) ≡ false
-      by_kind (PutJob name bytes) e = ap (λ k. is_full (sight_of old) (aim_of k)) e ∙ (begun-put name bytes e).full
+      by_kind (PutJob name bytes) e =
+          ap (λ k. is_full (sight_of old) (aim_of k)) e ∙ (begun-put name bytes e).full
       by_kind (GetJob name) e = ap (λ k. is_full (sight_of old) (aim_of k)) e ∙ refl
-      by_kind (DropJob name) e = ap (λ k. is_full (sight_of old) (aim_of k)) e ∙ (none-of (DropJob name) e).1.1.1.1.0
+      by_kind (DropJob name) e =
+          ap (λ k. is_full (sight_of old) (aim_of k)) e ∙ (none-of (DropJob name) e).1.1.1.1.0
       by_kind AuditJob e = ap (λ k. is_full (sight_of old) (aim_of k)) e ∙ (none-of AuditJob e).1.1.1.0
       by_kind RepairJob e = ap (λ k. is_full (sight_of old) (aim_of k)) e ∙ (none-of RepairJob e).1.1.1.0
       by_kind UpgradeJob e = ap (λ k. is_full (sight_of old) (aim_of k)) e ∙ (none-of UpgradeJob e).1.1.1.0
@@ -137,11 +158,15 @@ module _ (limit : ℕ) (old : State) (kind : Kind) (wish : Option ℕ) (allowed 
   -- numbers are left for a put and for an audit
   begun-id : (name bytes : List ℕ) → kind ≡ PutJob name bytes → next_id old.records ≤ 2 ^ 64 - 32
   begun-id name bytes e = at-most (2 ^ 64 - 32) (next_id old.records)
-      (right_false (is_too_full (sight_of old) (aim_of (PutJob name bytes))) (are_numbers_used_up (sight_of old) (aim_of (PutJob name bytes))) (ap (λ k. is_full (sight_of old) (aim_of k)) (sym e) ∙ begun-full))
+      (right_false (is_too_full (sight_of old) (aim_of (PutJob name bytes)))
+      (are_numbers_used_up (sight_of old) (aim_of (PutJob name bytes)))
+      (ap (λ k. is_full (sight_of old) (aim_of k)) (sym e) ∙ begun-full))
 
   begun-audit : kind ≡ AuditJob → next_audit old.records ≤ 2 ^ 64 - 32
   begun-audit e = at-most (2 ^ 64 - 32) (next_audit old.records)
-      (right_false (is_too_full (sight_of old) (aim_of AuditJob)) (are_numbers_used_up (sight_of old) (aim_of AuditJob)) (ap (λ k. is_full (sight_of old) (aim_of k)) (sym e) ∙ begun-full))
+      (right_false (is_too_full (sight_of old) (aim_of AuditJob))
+      (are_numbers_used_up (sight_of old) (aim_of AuditJob))
+      (ap (λ k. is_full (sight_of old) (aim_of k)) (sym e) ∙ begun-full))
 
   begun-due : kind ≡ AuditJob → due_of old.records ≡ None
   begun-due e = none (due_of old.records) (none-of AuditJob e).1.1.0
@@ -170,10 +195,15 @@ module _ (limit : ℕ) (old : State) (kind : Kind) (wish : Option ℕ) (allowed 
   begun-room : room_now + sizes_all kind ≤ largest_journal ⊎ (sizes_all kind ≡ 0)
   begun-room = by_kind kind begun-full
     where
-      enough : (kd : Kind) → (is_too_full (sight_of old) (aim_of kd) || are_numbers_used_up (sight_of old) (aim_of kd)) ≡ false → room_now + sizes_all kd ≤ largest_journal
-      enough kd h = at-most largest_journal (room_now + sizes_all kd) (left_false (is_too_full (sight_of old) (aim_of kd)) (are_numbers_used_up (sight_of old) (aim_of kd)) h)
+      enough : (kd : Kind) →
+          (is_too_full (sight_of old) (aim_of kd) || are_numbers_used_up (sight_of old) (aim_of kd)) ≡ false →
+          room_now + sizes_all kd ≤ largest_journal
+      enough kd h = at-most largest_journal (room_now + sizes_all kd)
+          (left_false (is_too_full (sight_of old) (aim_of kd))
+          (are_numbers_used_up (sight_of old) (aim_of kd)) h)
 
-      by_kind : (kd : Kind) → is_full (sight_of old) (aim_of kd) ≡ false → room_now + sizes_all kd ≤ largest_journal ⊎ (sizes_all kd ≡ 0)
+      by_kind : (kd : Kind) → is_full (sight_of old) (aim_of kd) ≡ false →
+          room_now + sizes_all kd ≤ largest_journal ⊎ (sizes_all kd ≡ 0)
       by_kind (PutJob name bytes) h = inl (enough (PutJob name bytes) h)
       by_kind (GetJob name) h = inr refl
       by_kind (DropJob name) h = inl (enough (DropJob name) h)
@@ -182,17 +212,22 @@ module _ (limit : ℕ) (old : State) (kind : Kind) (wish : Option ℕ) (allowed 
       by_kind UpgradeJob h = inl (enough UpgradeJob h)
 
   -- its name finds a place
-  begun-name : (name bytes : List ℕ) → kind ≡ PutJob name bytes → (is_name_among (names_taken (sight_of old)) name ≡ true) ⊎ (length (names_taken (sight_of old)) + 1 ≤ most_files)
-  begun-name name bytes e = crowd (is_name_among (names_taken (sight_of old)) name) (length (names_taken (sight_of old))) (begun-put name bytes e).place
+  begun-name : (name bytes : List ℕ) → kind ≡ PutJob name bytes →
+      (is_name_among (names_taken (sight_of old)) name ≡ true) ⊎
+      (length (names_taken (sight_of old)) + 1 ≤ most_files)
+  begun-name name bytes e = crowd (is_name_among (names_taken (sight_of old)) name)
+      (length (names_taken (sight_of old))) (begun-put name bytes e).place
     where
-      crowd : (there : Bool) (n : ℕ) → (nat_le most_files n && not there) ≡ false → (there ≡ true) ⊎ (n + 1 ≤ most_files)
+      crowd : (there : Bool) (n : ℕ) → (nat_le most_files n && not there) ≡ false →
+          (there ≡ true) ⊎ (n + 1 ≤ most_files)
       crowd true n h = inl refl
       crowd false n h = inr (grind (arith, nat_tests, h))
 
 -- each job has at most one number to draw
 starts-few : (js : List Job) → sum_by starts_left js ≤ length js
 starts-few [] = omega arith
-starts-few (j ∷ js) = (let a = sum_by-cons starts_left j js in let b = starts-few js in let c = one j in omega (arith, a, b, c))
+starts-few (j ∷ js) =
+    (let a = sum_by-cons starts_left j js in let b = starts-few js in let c = one j in omega (arith, a, b, c))
   where
     one : (j : Job) → starts_left j ≤ 1
     one j = elim (cases_lt j.place 4) [
@@ -208,8 +243,10 @@ starts-few (j ∷ js) = (let a = sum_by-cons starts_left j js in let b = starts-
         by RepairJob e l = (let z : starts_left j ≡ 0 = rw e refl in omega (arith, z))
         by UpgradeJob e l = (let z : starts_left j ≡ 0 = rw e refl in omega (arith, z))
 
-module _ (limit moment : ℕ) (old : State) (S : IsSound limit old) (kind : Kind) (wish : Option ℕ) (by_put : (p : ℕ) → wish ≡ Some p → (name : List ℕ) × (bytes : List ℕ) × (kind ≡ PutJob name bytes))
-    (opened : old.is_open ≡ true) (allowed : refusal_of_begin limit old kind wish ≡ None) (spelled : IsSpelledKind kind) where
+module _ (limit moment : ℕ) (old : State) (S : IsSound limit old) (kind : Kind) (wish : Option ℕ)
+    (by_put : (p : ℕ) → wish ≡ Some p → (name : List ℕ) × (bytes : List ℕ) × (kind ≡ PutJob name bytes))
+    (opened : old.is_open ≡ true) (allowed : refusal_of_begin limit old kind wish ≡ None)
+    (spelled : IsSpelledKind kind) where
   abbrev added : Job
   added = beginning old moment kind wish
 
@@ -232,13 +269,15 @@ module _ (limit moment : ℕ) (old : State) (S : IsSound limit old) (kind : Kind
   added-ready (GetJob name) e = tt
   added-ready (DropJob name) e = tt
   added-ready AuditJob e = (λ l. begun-due limit old kind wish allowed e, λ l k. absurd (omega (arith, l)))
-  added-ready RepairJob e = λ k. (let d = is_some-at (due_of old.records) (begun-repair limit old kind wish allowed e) in
+  added-ready RepairJob e =
+      λ k. (let d = is_some-at (due_of old.records) (begun-repair limit old kind wish allowed e) in
       ap (λ kd. is_due (subject_at_begin old kd) (due_of old.records)) e
       ∙ (ap (λ o. is_due (due_number o) o) d.1 ∙ eq-eqb d.0.number d.0.number refl))
   added-ready UpgradeJob e = λ k. begun-first limit old kind wish allowed e
 
   -- so it does in the journal
-  added-journal : (kd : Kind) → IsReady (setup_in old) old.records old.bytes added kd → IsReady (setup_in old) old.journal old.bytes added kd
+  added-journal : (kd : Kind) → IsReady (setup_in old) old.records old.bytes added kd →
+      IsReady (setup_in old) old.journal old.bytes added kd
   added-journal (PutJob name bytes) r = λ l. absurd (omega (arith, l))
   added-journal (GetJob name) r = tt
   added-journal (DropJob name) r = tt
@@ -268,9 +307,11 @@ module _ (limit moment : ℕ) (old : State) (S : IsSound limit old) (kind : Kind
       fits s g = grind (arith, nat_tests, g)
   added-profile (Some p) e = (named p e).0
 
-  added-own : version_of old.records ≡ 1 → (o : Option ℕ) → wish ≡ o → chosen (setup_in old) o ≡ (setup_in old).profile
+  added-own : version_of old.records ≡ 1 → (o : Option ℕ) → wish ≡ o →
+      chosen (setup_in old) o ≡ (setup_in old).profile
   added-own first None e = refl
-  added-own first (Some p) e = absurd (false≢true (sym (named p e).1 ∙ eq-eqb (version_of old.records) 1 first))
+  added-own first (Some p) e =
+      absurd (false≢true (sym (named p e).1 ∙ eq-eqb (version_of old.records) 1 first))
 
   added-job : IsSoundJob (setup_in old) old.records old.bytes 0 added
   added-job = record {
@@ -288,28 +329,40 @@ module _ (limit moment : ℕ) (old : State) (S : IsSound limit old) (kind : Kind
     profile = added-profile wish refl;
     plain = λ first. record {
       own = added-own first wish refl;
-      pinned = λ f i. pins-plain old S.accepted S.spelled S.files first kind f i ∙ ap profile_in (set_up-in limit old S opened);
+      pinned = λ f i. pins-plain old S.accepted S.spelled S.files first kind f i
+          ∙ ap profile_in (set_up-in limit old S opened);
     };
   }
 
   -- a job needs no more room than all its records
-  added-reserved : reserved (version_of old.records) (setup_in old) added ≤ sum (append_sizes (version_of old.records) (setup_in old) (aim_of kind))
-  added-reserved = (let a = sum_by-take-drop (λ (x : ℕ). x) (append_sizes (version_of old.records) (setup_in old) (aim_of kind)) (length (append_sizes (version_of old.records) (setup_in old) (aim_of kind)) - appends_left (setup_in old) added) in omega (arith, a))
+  added-reserved : reserved (version_of old.records) (setup_in old) added ≤ sum
+      (append_sizes (version_of old.records) (setup_in old) (aim_of kind))
+  added-reserved = (let a = sum_by-take-drop (λ (x : ℕ). x)
+      (append_sizes (version_of old.records) (setup_in old) (aim_of kind))
+      (length (append_sizes (version_of old.records) (setup_in old) (aim_of kind)) - appends_left
+      (setup_in old) added) in omega (arith, a))
 
-  added-room : journal_end old + sum_by (reserved (version_of old.records) (setup_in old)) (old.jobs ++ added ∷ []) ≤ largest_journal
-  added-room = (let a = sum-more (reserved (version_of old.records) (setup_in old)) old.jobs added in let b = added-reserved in elim (begun-room limit old kind wish allowed) [
-    | inl l ↦ omega (arith, a, b, l)
-    | inr z ↦ (let c = S.room in omega (arith, a, b, z, c))
-  ])
+  added-room : journal_end old + sum_by (reserved (version_of old.records) (setup_in old))
+      (old.jobs ++ added ∷ []) ≤ largest_journal
+  added-room = (let a = sum-more (reserved (version_of old.records) (setup_in old)) old.jobs added in
+      let b = added-reserved in elim (begun-room limit old kind wish allowed) [
+        | inl l ↦ omega (arith, a, b, l)
+        | inr z ↦ (let c = S.room in omega (arith, a, b, z, c))
+      ])
 
-  put-more : (n : List ℕ) → are_put n (old.jobs ++ added ∷ []) ≡ (are_put n old.jobs || (puts_name n (aim_of kind) || false))
+  put-more : (n : List ℕ) → are_put n (old.jobs ++ added ∷ [])
+      ≡ (are_put n old.jobs || (puts_name n (aim_of kind) || false))
   put-more n = list_any-append (λ (j : Job). puts_name n (aim_of j.kind)) old.jobs (added ∷ [])
 
   added-names : length (taken_by old.records (old.jobs ++ added ∷ [])) ≤ most_files
   added-names = by_kind kind refl
     where
-      plain : ((n : List ℕ) → puts_name n (aim_of kind) ≡ false) → length (taken_by old.records (old.jobs ++ added ∷ [])) ≤ most_files
-      plain h = (let f = taken-fewer old.records old.records old.jobs (old.jobs ++ added ∷ []) (λ n g. ap (λ b. b || is_some (file_of old.records n)) (sym (put-more n ∙ (ap (λ b. are_put n old.jobs || (b || false)) (h n) ∙ or-none (are_put n old.jobs)))) ∙ g) in
+      plain : ((n : List ℕ) → puts_name n (aim_of kind) ≡ false) →
+          length (taken_by old.records (old.jobs ++ added ∷ [])) ≤ most_files
+      plain h = (let f = taken-fewer old.records old.records old.jobs (old.jobs ++ added ∷ [])
+          (λ n g. ap (λ b. b || is_some (file_of old.records n))
+          (sym (put-more n ∙ (ap (λ b. are_put n old.jobs || (b || false)) (h n)
+          ∙ or-none (are_put n old.jobs)))) ∙ g) in
           let b = S.names in omega (arith, f, b))
         where
           or-none : (a : Bool) → (a || false) ≡ a
@@ -318,9 +371,13 @@ module _ (limit moment : ℕ) (old : State) (S : IsSound limit old) (kind : Kind
 
       by_kind : (kd : Kind) → kind ≡ kd → length (taken_by old.records (old.jobs ++ added ∷ [])) ≤ most_files
       by_kind (PutJob name bytes) e = elim (begun-name limit old kind wish allowed name bytes e) [
-        | inl there ↦ (let f = fewer (taken_by old.records (old.jobs ++ added ∷ [])) (names_taken (sight_of old)) (once-taken old.records (old.jobs ++ added ∷ [])) (λ n g. among n there (more n g)) in
+        | inl there ↦ (let f = fewer (taken_by old.records (old.jobs ++ added ∷ []))
+            (names_taken (sight_of old)) (once-taken old.records (old.jobs ++ added ∷ []))
+            (λ n g. among n there (more n g)) in
             let b = S.names in omega (arith, f, b))
-        | inr room ↦ (let f = fewer (taken_by old.records (old.jobs ++ added ∷ [])) (name ∷ names_taken (sight_of old)) (once-taken old.records (old.jobs ++ added ∷ [])) (λ n g. with-name n (more n g)) in
+        | inr room ↦ (let f = fewer (taken_by old.records (old.jobs ++ added ∷ []))
+            (name ∷ names_taken (sight_of old)) (once-taken old.records (old.jobs ++ added ∷ []))
+            (λ n g. with-name n (more n g)) in
             omega (arith, f, room))
       ]
         where
@@ -329,18 +386,26 @@ module _ (limit moment : ℕ) (old : State) (S : IsSound limit old) (kind : Kind
           split true false c h = inr refl
           split false false c h = inr h
 
-          more : (n : List ℕ) → is_name_among (taken_by old.records (old.jobs ++ added ∷ [])) n ≡ true → (is_same_name n name ≡ true) ⊎ (is_name_among (names_taken (sight_of old)) n ≡ true)
-          more n g = (let h = sym (listed-taken old.records (old.jobs ++ added ∷ []) n ∙ ap (λ b. b || is_some (file_of old.records n)) (put-more n ∙ ap (λ kd. are_put n old.jobs || (puts_name n (aim_of kd) || false)) e)) ∙ g in
+          more : (n : List ℕ) → is_name_among (taken_by old.records (old.jobs ++ added ∷ [])) n ≡ true →
+              (is_same_name n name ≡ true) ⊎ (is_name_among (names_taken (sight_of old)) n ≡ true)
+          more n g = (let h = sym (listed-taken old.records (old.jobs ++ added ∷ []) n
+              ∙ ap (λ b. b || is_some (file_of old.records n))
+              (put-more n ∙ ap (λ kd. are_put n old.jobs || (puts_name n (aim_of kd) || false)) e)) ∙ g in
               elim (split (are_put n old.jobs) (is_same_name n name) (is_some (file_of old.records n)) h) [
                 | inl same ↦ inl same
                 | inr was ↦ inr (listed-taken old.records old.jobs n ∙ was)
               ])
 
-          among : (n : List ℕ) → is_name_among (names_taken (sight_of old)) name ≡ true → (is_same_name n name ≡ true) ⊎ (is_name_among (names_taken (sight_of old)) n ≡ true) → is_name_among (names_taken (sight_of old)) n ≡ true
-          among n there (inl same) = subst (λ m. is_name_among (names_taken (sight_of old)) m ≡ true) (sym (same-eq n name same)) there
+          among : (n : List ℕ) → is_name_among (names_taken (sight_of old)) name ≡ true →
+              (is_same_name n name ≡ true) ⊎ (is_name_among (names_taken (sight_of old)) n ≡ true) →
+              is_name_among (names_taken (sight_of old)) n ≡ true
+          among n there (inl same) = subst (λ m. is_name_among (names_taken (sight_of old)) m ≡ true)
+              (sym (same-eq n name same)) there
           among n there (inr was) = was
 
-          with-name : (n : List ℕ) → (is_same_name n name ≡ true) ⊎ (is_name_among (names_taken (sight_of old)) n ≡ true) → (is_same_name n name || is_name_among (names_taken (sight_of old)) n) ≡ true
+          with-name : (n : List ℕ) → (is_same_name n name ≡ true) ⊎
+              (is_name_among (names_taken (sight_of old)) n ≡ true) →
+              (is_same_name n name || is_name_among (names_taken (sight_of old)) n) ≡ true
           with-name n (inl same) = ap (λ b. b || is_name_among (names_taken (sight_of old)) n) same
           with-name n (inr was) = ap (λ b. is_same_name n name || b) was ∙ or-true (is_same_name n name)
             where
@@ -354,13 +419,17 @@ module _ (limit moment : ℕ) (old : State) (S : IsSound limit old) (kind : Kind
       by_kind UpgradeJob e = plain (λ n. ap (λ kd. puts_name n (aim_of kd)) e)
 
   -- numbers are left
-  added-ids : IsLimit limit → 0 < sum_by starts_left (old.jobs ++ added ∷ []) → next_id old.records + sum_by starts_left (old.jobs ++ added ∷ []) ≤ 2 ^ 64 - 1
+  added-ids : IsLimit limit → 0 < sum_by starts_left (old.jobs ++ added ∷ []) →
+      next_id old.records + sum_by starts_left (old.jobs ++ added ∷ []) ≤ 2 ^ 64 - 1
   added-ids fits l = by_kind kind refl
     where
-      none : starts_left added ≡ 0 → next_id old.records + sum_by starts_left (old.jobs ++ added ∷ []) ≤ 2 ^ 64 - 1
-      none z = (let a = sum-more starts_left old.jobs added in let s = S.ids (omega (arith, l, a, z)) in omega (arith, a, z, s))
+      none : starts_left added ≡ 0 →
+          next_id old.records + sum_by starts_left (old.jobs ++ added ∷ []) ≤ 2 ^ 64 - 1
+      none z = (let a = sum-more starts_left old.jobs added in let s = S.ids (omega (arith, l, a, z)) in
+          omega (arith, a, z, s))
 
-      by_kind : (kd : Kind) → kind ≡ kd → next_id old.records + sum_by starts_left (old.jobs ++ added ∷ []) ≤ 2 ^ 64 - 1
+      by_kind : (kd : Kind) → kind ≡ kd →
+          next_id old.records + sum_by starts_left (old.jobs ++ added ∷ []) ≤ 2 ^ 64 - 1
       by_kind (PutJob name bytes) e =
           (let i = begun-id limit old kind wish allowed name bytes e in
           let f = starts-few (old.jobs ++ added ∷ []) in
@@ -411,31 +480,44 @@ module _ (limit moment : ℕ) (old : State) (S : IsSound limit old) (kind : Kind
     closed = λ c. absurd (false≢true (sym c ∙ opened));
     set_up = S.set_up;
     handed = S.handed;
-    few = (let a = length-append old.jobs (added ∷ []) in let b = begun-few limit old kind wish allowed fits.0 in omega (arith, a, b));
+    few = (let a = length-append old.jobs (added ∷ []) in
+        let b = begun-few limit old kind wish allowed fits.0 in omega (arith, a, b));
     numbered = numbered-more 0 old.jobs old.next_job added refl S.numbered;
     jobs = λ k j h. elim (found_more old.jobs added k j h) [
-      | inl p ↦ subst (λ (z : Job). IsSoundJob (setup_in old) old.records old.bytes (moves_made old.append k) z) (sym p.1)
-          (subst (λ m. IsSoundJob (setup_in old) old.records old.bytes m added) (sym (ap (moves_made old.append) p.0 ∙ none-made)) added-job)
+      | inl p ↦ subst (λ (z : Job). IsSoundJob (setup_in old) old.records old.bytes
+          (moves_made old.append k) z) (sym p.1)
+          (subst (λ m. IsSoundJob (setup_in old) old.records old.bytes m added)
+          (sym (ap (moves_made old.append) p.0 ∙ none-made)) added-job)
       | inr q ↦ S.jobs k j q
     ];
     in_journal = λ k j h. elim (found_more old.jobs added k j h) [
-      | inl p ↦ subst (λ (z : Job). IsReady (setup_in old) old.journal old.bytes z z.kind) (sym p.1) (added-journal kind (added-ready kind refl))
+      | inl p ↦ subst (λ (z : Job). IsReady (setup_in old) old.journal old.bytes z z.kind) (sym p.1)
+          (added-journal kind (added-ready kind refl))
       | inr q ↦ S.in_journal k j q
     ];
     lone = λ x e. absurd (some-not-none old.alone x e (none_lone limit old kind wish allowed));
     packing = S.packing;
-    switching = λ e. absurd (let p = (S.switching e).packing opened (begun-unbarred limit old kind wish allowed) in some-not-none old.alone (Packing p.0) p.1 (none_lone limit old kind wish allowed));
+    switching = λ e. absurd
+        (let p = (S.switching e).packing opened (begun-unbarred limit old kind wish allowed) in
+        some-not-none old.alone (Packing p.0) p.1 (none_lone limit old kind wish allowed));
     upgrade = λ k j h u. elim (found_more old.jobs added k j h) [
-      | inl p ↦ ap (λ js. js ++ added ∷ []) (begun-lone limit old kind wish allowed (upgrade-is kind (subst (λ (z : Job). IsTrue (is_upgrade (aim_of z.kind))) p.1 u))) ∙ ap (λ (x : Job). x ∷ []) (sym p.1)
+      | inl p ↦ ap (λ js. js ++ added ∷ [])
+          (begun-lone limit old kind wish allowed
+          (upgrade-is kind (subst (λ (z : Job). IsTrue (is_upgrade (aim_of z.kind))) p.1 u)))
+          ∙ ap (λ (x : Job). x ∷ []) (sym p.1)
       | inr q ↦ absurd (begun-unshut limit old kind wish allowed k j q u)
     ];
     one_check = λ k l i j hi hj ci cj. elim (found_more old.jobs added k i hi) [
       | inl p ↦ elim (found_more old.jobs added l j hj) [
         | inl q ↦ p.0 ∙ sym q.0
-        | inr q ↦ absurd (false≢true (sym (check_alone limit old kind wish allowed (subst (λ (z : Job). IsTrue (is_check (aim_of z.kind))) p.1 ci) l j q) ∙ cj))
+        | inr q ↦ absurd (false≢true
+            (sym (check_alone limit old kind wish allowed
+            (subst (λ (z : Job). IsTrue (is_check (aim_of z.kind))) p.1 ci) l j q) ∙ cj))
       ]
       | inr p ↦ elim (found_more old.jobs added l j hj) [
-        | inl q ↦ absurd (false≢true (sym (check_alone limit old kind wish allowed (subst (λ (z : Job). IsTrue (is_check (aim_of z.kind))) q.1 cj) k i p) ∙ ci))
+        | inl q ↦ absurd (false≢true
+            (sym (check_alone limit old kind wish allowed
+            (subst (λ (z : Job). IsTrue (is_check (aim_of z.kind))) q.1 cj) k i p) ∙ ci))
         | inr q ↦ S.one_check k l i j p q ci cj
       ]
     ];

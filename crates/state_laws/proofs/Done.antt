@@ -73,10 +73,12 @@ due-same (InEffect id size profile kept) rs h = refl
 due-same (RepairDue number counts) rs h = absurd h
 
 -- a job that is no check writes no such record
-no-check : (w : State) (job : Job) (kind : Kind) (entry : Record) → (is_check (aim_of kind) ≡ true → ⊥) → Writes w job kind entry → IsNoCheck entry
+no-check : (w : State) (job : Job) (kind : Kind) (entry : Record) → (is_check (aim_of kind) ≡ true → ⊥) →
+    Writes w job kind entry → IsNoCheck entry
 no-check w job (PutJob name bytes) entry n h = elim (cases_lt job.place 4) [
   | inl l ↦ subst IsNoCheck (sym (put-writes_first w job name bytes entry l h)) tt
-  | inr l ↦ subst IsNoCheck (sym (put-writes_later w job name bytes entry l h)) (by_version (version_of w.records) job.subject (length bytes) job.profile IsNoCheck tt tt)
+  | inr l ↦ subst IsNoCheck (sym (put-writes_later w job name bytes entry l h))
+      (by_version (version_of w.records) job.subject (length bytes) job.profile IsNoCheck tt tt)
 ]
 no-check w job (GetJob name) entry n h = absurd h
 no-check w job (DropJob name) entry n h = subst IsNoCheck (sym h) tt
@@ -85,11 +87,13 @@ no-check w job RepairJob entry n h = absurd (n refl)
 no-check w job UpgradeJob entry n h = subst IsNoCheck (sym h) tt
 
 -- nor one that draws an audit number
-no-audit : (w : State) (job : Job) (kind : Kind) (entry : Record) (rs : List Record) → (is_check (aim_of kind) ≡ true → ⊥) → Writes w job kind entry → next_audit (entry ∷ rs) ≡ next_audit rs
+no-audit : (w : State) (job : Job) (kind : Kind) (entry : Record) (rs : List Record) →
+    (is_check (aim_of kind) ≡ true → ⊥) → Writes w job kind entry → next_audit (entry ∷ rs) ≡ next_audit rs
 no-audit w job (PutJob name bytes) entry rs n h = elim (cases_lt job.place 4) [
   | inl l ↦ ap (λ r. next_audit (r ∷ rs)) (put-writes_first w job name bytes entry l h)
   | inr l ↦ ap (λ r. next_audit (r ∷ rs)) (put-writes_later w job name bytes entry l h)
-      ∙ by_version (version_of w.records) job.subject (length bytes) job.profile (λ r. next_audit (r ∷ rs) ≡ next_audit rs) refl refl
+      ∙ by_version (version_of w.records) job.subject (length bytes) job.profile
+      (λ r. next_audit (r ∷ rs) ≡ next_audit rs) refl refl
 ]
 no-audit w job (GetJob name) entry rs n h = absurd h
 no-audit w job (DropJob name) entry rs n h = ap (λ r. next_audit (r ∷ rs)) h
@@ -98,11 +102,13 @@ no-audit w job RepairJob entry rs n h = absurd (n refl)
 no-audit w job UpgradeJob entry rs n h = ap (λ r. next_audit (r ∷ rs)) h
 
 -- only an upgrade changes the version
-version-kept : (w : State) (job : Job) (kind : Kind) (entry : Record) (rs : List Record) → Writes w job kind entry → (version_of (entry ∷ rs) ≡ version_of rs) ⊎ (kind ≡ UpgradeJob)
+version-kept : (w : State) (job : Job) (kind : Kind) (entry : Record) (rs : List Record) →
+    Writes w job kind entry → (version_of (entry ∷ rs) ≡ version_of rs) ⊎ (kind ≡ UpgradeJob)
 version-kept w job (PutJob name bytes) entry rs h = elim (cases_lt job.place 4) [
   | inl l ↦ inl (ap (λ r. version_of (r ∷ rs)) (put-writes_first w job name bytes entry l h))
   | inr l ↦ inl (ap (λ r. version_of (r ∷ rs)) (put-writes_later w job name bytes entry l h)
-      ∙ by_version (version_of w.records) job.subject (length bytes) job.profile (λ r. version_of (r ∷ rs) ≡ version_of rs) refl refl)
+      ∙ by_version (version_of w.records) job.subject (length bytes) job.profile
+      (λ r. version_of (r ∷ rs) ≡ version_of rs) refl refl)
 ]
 version-kept w job (GetJob name) entry rs h = absurd h
 version-kept w job (DropJob name) entry rs h = inl (ap (λ r. version_of (r ∷ rs)) h)
@@ -114,7 +120,8 @@ version-kept w job RepairJob entry rs h = inl (ap (λ r. version_of (r ∷ rs)) 
 version-kept w job UpgradeJob entry rs h = inr refl
 
 -- the fourth move of a first append stands at place 3
-pub gate-within : (rest : List Action) (p : ℕ) → p < 4 → slice_get (append_actions ++ rest) p ≡ Some SyncGate → p ≡ 3
+pub gate-within : (rest : List Action) (p : ℕ) → p < 4 →
+    slice_get (append_actions ++ rest) p ≡ Some SyncGate → p ≡ 3
 gate-within rest zero l h = absurd (let e : Some WriteBody ≡ Some SyncGate = h in cc)
 gate-within rest (suc zero) l h = absurd (let e : Some SyncBody ≡ Some SyncGate = h in cc)
 gate-within rest (suc (suc zero)) l h = absurd (let e : Some WriteGate ≡ Some SyncGate = h in cc)
@@ -130,7 +137,9 @@ done-by w job (PutJob name bytes) entry id h e = elim (cases_lt job.place 4) [
   | inr l ↦ (
     l,
     (let wrote = put-writes_later w job name bytes entry l h in
-        let f : Some job.subject ≡ Some id = sym (done-ended (version_of w.records) job.subject (length bytes) job.profile) ∙ (sym (ap put_ended wrote) ∙ e) in cc),
+        let f : Some job.subject ≡ Some id =
+        sym (done-ended (version_of w.records) job.subject (length bytes) job.profile)
+        ∙ (sym (ap put_ended wrote) ∙ e) in cc),
   )
 ]
 done-by w job (GetJob name) entry id h e = absurd h
@@ -145,7 +154,8 @@ done-by w job RepairJob entry id h e = absurd (let f : None ≡ Some id = sym (a
 done-by w job UpgradeJob entry id h e = absurd (let f : None ≡ Some id = sym (ap put_ended h) ∙ e in cc)
 
 -- a started put stays so until its own end
-started-stays : (rs : List Record) (r : Record) (id : ℕ) (name : List ℕ) → refused rs r ≡ None → id < next_id rs →
+started-stays : (rs : List Record) (r : Record) (id : ℕ) (name : List ℕ) → refused rs r ≡ None →
+    id < next_id rs →
     (put_ended r ≡ Some id → ⊥) → started_as rs id ≡ Some name → started_as (r ∷ rs) id ≡ Some name
 started-stays rs (SetUp s) id name a l n h = h
 started-stays rs (PutStart k m) id name a l n h =
@@ -182,8 +192,10 @@ module _ (s : Setup) (rs : List Record) (bytes : ℕ → List ℕ) (entry : Reco
   older-more older (inr (id, e, l)) = inr (id, e, (let b = grows in omega (arith, l, b)))
 
   -- what stands ready for another job, whose record this is not
-  kept-ready_more : (job : Job) (kind : Kind) → (IsPutUnderWay job kind → put_ended entry ≡ Some job.subject → ⊥) →
-      (IsTrue (is_check (aim_of kind)) → IsNoCheck entry) → (IsTrue (is_upgrade (aim_of kind)) → ⊥) → IsReady s rs bytes job kind → IsReady s (entry ∷ rs) bytes job kind
+  kept-ready_more : (job : Job) (kind : Kind) →
+      (IsPutUnderWay job kind → put_ended entry ≡ Some job.subject → ⊥) →
+      (IsTrue (is_check (aim_of kind)) → IsNoCheck entry) → (IsTrue (is_upgrade (aim_of kind)) → ⊥) →
+      IsReady s rs bytes job kind → IsReady s (entry ∷ rs) bytes job kind
   kept-ready_more job (PutJob name content) apart quiet lone r = λ l. (let d = r l in record {
     drawn = (let a = d.drawn in let b = grows in omega (arith, a, b));
     bytes_are = d.bytes_are;
@@ -191,12 +203,15 @@ module _ (s : Setup) (rs : List Record) (bytes : ℕ → List ℕ) (entry : Reco
   })
   kept-ready_more job (GetJob name) apart quiet lone r = tt
   kept-ready_more job (DropJob name) apart quiet lone r = tt
-  kept-ready_more job AuditJob apart quiet lone r = (λ l. due-same entry rs (quiet refl) ∙ r.0 l, λ l k. running-same entry rs (quiet refl) ∙ r.1 l k)
-  kept-ready_more job RepairJob apart quiet lone r = λ k. ap (is_due job.subject) (due-same entry rs (quiet refl)) ∙ r k
+  kept-ready_more job AuditJob apart quiet lone r =
+      (λ l. due-same entry rs (quiet refl) ∙ r.0 l, λ l k. running-same entry rs (quiet refl) ∙ r.1 l k)
+  kept-ready_more job RepairJob apart quiet lone r =
+      λ k. ap (is_due job.subject) (due-same entry rs (quiet refl)) ∙ r k
   kept-ready_more job UpgradeJob apart quiet lone r = absurd (lone refl)
 
   -- another job
-  kept-more : (moves : ℕ) (job : Job) → moves ≡ 0 → IsReady s (entry ∷ rs) bytes job job.kind → IsSoundJob s rs bytes moves job → IsSoundJob s (entry ∷ rs) bytes 0 job
+  kept-more : (moves : ℕ) (job : Job) → moves ≡ 0 → IsReady s (entry ∷ rs) bytes job job.kind →
+      IsSoundJob s rs bytes moves job → IsSoundJob s (entry ∷ rs) bytes 0 job
   kept-more moves job none ready J = record {
     spelled = J.spelled;
     wish = J.wish;
@@ -215,14 +230,17 @@ module _ (s : Setup) (rs : List Record) (bytes : ℕ → List ℕ) (entry : Reco
 
 -- ---- the object that a job has decided to take away
 
-removable-older : (w : State) (f : Option File) → ((file : File) → f ≡ Some file → file.id < next_id w.records) → IsOlder w.records (removable w f)
+removable-older : (w : State) (f : Option File) →
+    ((file : File) → f ≡ Some file → file.id < next_id w.records) → IsOlder w.records (removable w f)
 removable-older w None h = inl refl
 removable-older w (Some f) h = elim (cases_Bool (is_pinned w f.id)) [
   | inl t ↦ inl (cond_true (is_pinned w f.id) [] (f.id ∷ []) t)
   | inr n ↦ inr (f.id, cond_false (is_pinned w f.id) [] (f.id ∷ []) n, h f refl)
 ]
 
-taken-older : (w : State) (job : Job) (kind : Kind) → ((name : List ℕ) (file : File) → file_in w name ≡ Some file → file.id < next_id w.records) → IsOlder w.records (taken_out w job kind)
+taken-older : (w : State) (job : Job) (kind : Kind) →
+    ((name : List ℕ) (file : File) → file_in w name ≡ Some file → file.id < next_id w.records) →
+    IsOlder w.records (taken_out w job kind)
 taken-older w job (PutJob name bytes) h = by_first (is_first_append job)
   where
     by_first : (b : Bool) → IsOlder w.records (cond b [] (removable w (file_in w name)))
@@ -236,7 +254,8 @@ taken-older w job UpgradeJob h = inl refl
 
 -- ---- the job whose append is done
 
-module _ (limit : ℕ) (old : State) (S : IsSound limit old) (job : Job) (runs : job_of old.jobs job.number ≡ Some job) (next : next_action old job ≡ Some SyncGate)
+module _ (limit : ℕ) (old : State) (S : IsSound limit old) (job : Job)
+    (runs : job_of old.jobs job.number ≡ Some job) (next : next_action old job ≡ Some SyncGate)
     (a : Append) (flight : old.append ≡ Some a) (own : a.job ≡ job.number) (three : a.moves ≡ 3) where
   -- the setup in effect
   abbrev pub s : Setup
@@ -260,7 +279,8 @@ module _ (limit : ℕ) (old : State) (S : IsSound limit old) (job : Job) (runs :
   A = S.append a flight
 
   is_job : (S.append a flight).job ≡ job
-  is_job = same_value (job_of old.jobs job.number) (S.append a flight).job job (subst (λ n. job_of old.jobs n ≡ Some (S.append a flight).job) own (S.append a flight).runs) runs
+  is_job = same_value (job_of old.jobs job.number) (S.append a flight).job job
+      (subst (λ n. job_of old.jobs n ≡ Some (S.append a flight).job) own (S.append a flight).runs) runs
 
   -- the record in flight is the one that the job writes
   pub done-writes : Writes old job job.kind a.entry
@@ -270,29 +290,36 @@ module _ (limit : ℕ) (old : State) (S : IsSound limit old) (job : Job) (runs :
   done-drawn = subst (λ (x : Job). subject_drawn old x x.kind ≡ x.subject) is_job (S.append a flight).drawn
 
   done-bytes : (id : ℕ) → bytes_drawn old job job.kind id ≡ old.bytes id
-  done-bytes id = subst (λ (x : Job). bytes_drawn old x x.kind id ≡ old.bytes id) is_job ((S.append a flight).bytes id)
+  done-bytes id = subst (λ (x : Job). bytes_drawn old x x.kind id ≡ old.bytes id) is_job
+      ((S.append a flight).bytes id)
 
   accepted : AreAccepted rs_now
   accepted = ((S.append a flight).follows.accepted, S.accepted)
 
   -- three moves of the job's append are made, and the rest is in order
   pub gate-order : IsInOrder 3 (actions_left s job)
-  gate-order = subst (λ m. IsInOrder m (actions_left s job)) (ap (λ f. moves_made f job.number) flight ∙ (mine a job.number own ∙ three)) (S.jobs job.number job runs).order
+  gate-order = subst (λ m. IsInOrder m (actions_left s job))
+      (ap (λ f. moves_made f job.number) flight ∙ (mine a job.number own ∙ three))
+      (S.jobs job.number job runs).order
 
   older-is : (kind : Kind) → job.kind ≡ kind → older_now ≡ taken_out old job kind
   older-is kind e = ap (taken_out old job) e
 
   first-older : (name bytes : List ℕ) → job.kind ≡ PutJob name bytes → job.place < 4 → older_now ≡ []
-  first-older name bytes kind l = older-is (PutJob name bytes) kind ∙ cond_true (is_first_append job) [] (removable old (file_in old name)) (first_below job l)
+  first-older name bytes kind l = older-is (PutJob name bytes) kind
+      ∙ cond_true (is_first_append job) [] (removable old (file_in old name)) (first_below job l)
 
   -- what the job has left goes on in order, with one append less
   pub goes : GoesOn old job older_now next gate-order
   goes = by_kind job.kind refl done-writes
     where
-      by_kind : (kind : Kind) → job.kind ≡ kind → Writes old job kind a.entry → GoesOn old job older_now next gate-order
+      by_kind : (kind : Kind) → job.kind ≡ kind → Writes old job kind a.entry →
+          GoesOn old job older_now next gate-order
       by_kind (PutJob name bytes) kind h = elim (cases_lt job.place 4) [
         | inl l ↦ put-first_gate old job older_now next gate-order name bytes kind
-            (first-older name bytes kind l ∙ sym ((S.jobs job.number job runs).undecided (let e = put-first s job name bytes kind l in omega (arith, e))))
+            (first-older name bytes kind l
+            ∙ sym ((S.jobs job.number job runs).undecided
+            (let e = put-first s job name bytes kind l in omega (arith, e))))
         | inr l ↦ put-later_gate old job older_now next gate-order name bytes kind l
       ]
       by_kind (GetJob name) kind h = absurd h
@@ -305,19 +332,27 @@ module _ (limit : ℕ) (old : State) (S : IsSound limit old) (job : Job) (runs :
   pub one-less : appends_left s job ≡ 1 + appends_left s after
   one-less = goes.1
 
-  drawn-first_put : (name bytes : List ℕ) → job.kind ≡ PutJob name bytes → job.place < 4 → job.subject ≡ next_id old.records
-  drawn-first_put name bytes kind l = sym (subst (λ kd. subject_drawn old job kd ≡ job.subject) kind done-drawn) ∙ cond_true (is_first_append job) (next_id old.records) job.subject (first_below job l)
+  drawn-first_put : (name bytes : List ℕ) → job.kind ≡ PutJob name bytes → job.place < 4 →
+      job.subject ≡ next_id old.records
+  drawn-first_put name bytes kind l =
+      sym (subst (λ kd. subject_drawn old job kd ≡ job.subject) kind done-drawn)
+      ∙ cond_true (is_first_append job) (next_id old.records) job.subject (first_below job l)
 
   drawn-first_audit : job.kind ≡ AuditJob → job.place < 4 → job.subject ≡ next_audit old.records
-  drawn-first_audit kind l = sym (subst (λ kd. subject_drawn old job kd ≡ job.subject) kind done-drawn) ∙ cond_true (is_first_append job) (next_audit old.records) job.subject (first_below job l)
+  drawn-first_audit kind l = sym (subst (λ kd. subject_drawn old job kd ≡ job.subject) kind done-drawn)
+      ∙ cond_true (is_first_append job) (next_audit old.records) job.subject (first_below job l)
 
-  drawn-first_bytes : (name bytes : List ℕ) → job.kind ≡ PutJob name bytes → job.place < 4 → old.bytes job.subject ≡ bytes
+  drawn-first_bytes : (name bytes : List ℕ) → job.kind ≡ PutJob name bytes → job.place < 4 →
+      old.bytes job.subject ≡ bytes
   drawn-first_bytes name bytes kind l =
-      sym (subst (λ kd. bytes_drawn old job kd job.subject ≡ old.bytes job.subject) kind (done-bytes job.subject))
+      sym (subst (λ kd. bytes_drawn old job kd job.subject ≡ old.bytes job.subject) kind
+      (done-bytes job.subject))
       ∙ cond_true (is_first_append job && (job.subject == next_id old.records)) bytes (old.bytes job.subject)
-      (and_from (is_first_append job) (job.subject == next_id old.records) (first_below job l) (eq-eqb job.subject (next_id old.records) (drawn-first_put name bytes kind l)))
+      (and_from (is_first_append job) (job.subject == next_id old.records) (first_below job l)
+      (eq-eqb job.subject (next_id old.records) (drawn-first_put name bytes kind l)))
 
-  after-ready : (rs : List Record) → AreAccepted (a.entry ∷ rs) → next_id rs ≡ next_id old.records → (kind : Kind) → job.kind ≡ kind → Writes old job kind a.entry →
+  after-ready : (rs : List Record) → AreAccepted (a.entry ∷ rs) → next_id rs ≡ next_id old.records →
+      (kind : Kind) → job.kind ≡ kind → Writes old job kind a.entry →
       IsReady s rs old.bytes job kind → IsReady s (a.entry ∷ rs) old.bytes after kind
   after-ready rs acc same (PutJob name bytes) kind h r = λ l. elim (cases_lt job.place 4) [
     | inl f ↦ (let e = put-writes_first old job name bytes a.entry f h in
@@ -325,31 +360,42 @@ module _ (limit : ℕ) (old : State) (S : IsSound limit old) (job : Job) (runs :
         subst (λ x. HasDrawn s (x ∷ rs) old.bytes after name bytes) (sym e) (record {
           drawn = omega (arith, n, same);
           bytes_are = drawn-first_bytes name bytes kind f;
-          started = λ k. cond_true (next_id old.records == job.subject) (Some name) (started_as rs job.subject) (eq-eqb (next_id old.records) job.subject (sym n));
+          started = λ k. cond_true (next_id old.records == job.subject) (Some name)
+              (started_as rs job.subject) (eq-eqb (next_id old.records) job.subject (sym n));
         }))
     | inr f ↦ (let d = r f in record {
       drawn = (let b = d.drawn in let c = next_id-grows a.entry rs acc in omega (arith, b, c));
       bytes_are = d.bytes_are;
-      started = λ k. absurd (let b = put-later s job name bytes kind f in let c = one-less in omega (arith, k, b, c));
+      started = λ k. absurd (let b = put-later s job name bytes kind f in let c = one-less in
+          omega (arith, k, b, c));
     })
   ]
   after-ready rs acc same (GetJob name) kind h r = tt
   after-ready rs acc same (DropJob name) kind h r = tt
   after-ready rs acc same AuditJob kind h r = elim (cases_lt job.place 4) [
     | inl f ↦ (let e = audit-writes_first old job a.entry f h in
-        subst (λ x. IsReady s (x ∷ rs) old.bytes after AuditJob) (sym e) (λ l. r.0 f, λ l k. ap Some (sym (drawn-first_audit kind f))))
-    | inr f ↦ (λ l. absurd (omega (arith, l, f)), λ l k. absurd (let b = audit-later s job kind f in let c = one-less in omega (arith, k, b, c)))
+        subst (λ x. IsReady s (x ∷ rs) old.bytes after AuditJob) (sym e)
+        (λ l. r.0 f, λ l k. ap Some (sym (drawn-first_audit kind f))))
+    | inr f ↦ (
+      λ l. absurd (omega (arith, l, f)),
+      λ l k. absurd
+          (let b = audit-later s job kind f in let c = one-less in omega (arith, k, b, c)),
+    )
   ]
-  after-ready rs acc same RepairJob kind h r = λ k. absurd (let b = repair-first s job kind in let c = one-less in omega (arith, k, b, c))
-  after-ready rs acc same UpgradeJob kind h r = λ k. absurd (let b = upgrade-first s job kind in let c = one-less in omega (arith, k, b, c))
+  after-ready rs acc same RepairJob kind h r =
+      λ k. absurd (let b = repair-first s job kind in let c = one-less in omega (arith, k, b, c))
+  after-ready rs acc same UpgradeJob kind h r =
+      λ k. absurd (let b = upgrade-first s job kind in let c = one-less in omega (arith, k, b, c))
 
-  after-undecided : (kind : Kind) → job.kind ≡ kind → Writes old job kind a.entry → 0 < appends_left s after → older_now ≡ []
+  after-undecided : (kind : Kind) → job.kind ≡ kind → Writes old job kind a.entry → 0 < appends_left s after →
+      older_now ≡ []
   after-undecided (PutJob name bytes) kind h k = elim (cases_lt job.place 4) [
     | inl f ↦ first-older name bytes kind f
     | inr f ↦ absurd (let b = put-later s job name bytes kind f in let c = one-less in omega (arith, k, b, c))
   ]
   after-undecided (GetJob name) kind h k = absurd h
-  after-undecided (DropJob name) kind h k = absurd (let b = drop-first s job name kind in let c = one-less in omega (arith, k, b, c))
+  after-undecided (DropJob name) kind h k =
+      absurd (let b = drop-first s job name kind in let c = one-less in omega (arith, k, b, c))
   after-undecided AuditJob kind h k = older-is AuditJob kind
   after-undecided RepairJob kind h k = older-is RepairJob kind
   after-undecided UpgradeJob kind h k = older-is UpgradeJob kind
@@ -361,69 +407,89 @@ module _ (limit : ℕ) (old : State) (S : IsSound limit old) (job : Job) (runs :
     pins = (S.jobs job.number job runs).pins;
     few = (S.jobs job.number job runs).few;
     ascending = (S.jobs job.number job runs).ascending;
-    pinned = λ f i. pin-more s old.records old.bytes a.entry accepted f ((S.jobs job.number job runs).pinned f i);
+    pinned = λ f i. pin-more s old.records old.bytes a.entry accepted f
+        ((S.jobs job.number job runs).pinned f i);
     subject = (S.jobs job.number job runs).subject;
     older = older-more s old.records old.bytes a.entry accepted older_now
-        (taken-older old job job.kind (λ name file e. ((sound-accepted old.records S.accepted).file name file e).0));
+        (taken-older old job job.kind
+        (λ name file e. ((sound-accepted old.records S.accepted).file name file e).0));
     undecided = after-undecided job.kind refl done-writes;
     order = goes.0;
-    ready = after-ready old.records accepted refl job.kind refl done-writes (S.jobs job.number job runs).ready;
+    ready = after-ready old.records accepted refl job.kind refl done-writes
+        (S.jobs job.number job runs).ready;
     profile = (S.jobs job.number job runs).profile;
-    plain = λ v. (let p = (S.jobs job.number job runs).plain (version-before a.entry old.records v) in record { own = p.own; pinned = p.pinned });
+    plain = λ v. (let p = (S.jobs job.number job runs).plain (version-before a.entry old.records v) in
+        record { own = p.own; pinned = p.pinned });
   }
 
   -- another job
-  other-ready : (k : ℕ) (j : Job) → (k ≡ job.number → ⊥) → job_of old.jobs k ≡ Some j → (rs : List Record) → AreAccepted (a.entry ∷ rs) → IsReady s rs old.bytes j j.kind → IsReady s (a.entry ∷ rs) old.bytes j j.kind
+  other-ready : (k : ℕ) (j : Job) → (k ≡ job.number → ⊥) → job_of old.jobs k ≡ Some j → (rs : List Record) →
+      AreAccepted (a.entry ∷ rs) → IsReady s rs old.bytes j j.kind →
+      IsReady s (a.entry ∷ rs) old.bytes j j.kind
   other-ready k j n r rs acc ready = kept-ready_more s rs old.bytes a.entry acc j j.kind
       (λ u e. (let d = done-by old job job.kind a.entry j.subject done-writes e in
       n (S.apart k job.number j job r runs u d.0 (sym d.1))))
-      (λ c. no-check old job job.kind a.entry (λ d. n (S.one_check k job.number j job r runs c d)) done-writes)
+      (λ c. no-check old job job.kind a.entry (λ d. n (S.one_check k job.number j job r runs c d))
+      done-writes)
       (λ u. n (only-number old.jobs j (S.upgrade k j r u) k job.number j job r runs))
       ready
 
-  other-job : (k : ℕ) (j : Job) → (k ≡ job.number → ⊥) → job_of old.jobs k ≡ Some j → IsSoundJob s rs_now old.bytes 0 j
+  other-job : (k : ℕ) (j : Job) → (k ≡ job.number → ⊥) → job_of old.jobs k ≡ Some j →
+      IsSoundJob s rs_now old.bytes 0 j
   other-job k j n r = kept-more s old.records old.bytes a.entry accepted (moves_made old.append k) j
       (ap (λ f. moves_made f k) flight ∙ other a k (λ e. n (sym e ∙ own)))
       (other-ready k j n r old.records accepted (S.jobs k j r).ready)
       (S.jobs k j r)
 
   -- the name of a file that comes in is that of the put
-  done-name : (n : List ℕ) (id : ℕ) → put_ended a.entry ≡ Some id → started_as old.records id ≡ Some n → are_put n old.jobs ≡ true
+  done-name : (n : List ℕ) (id : ℕ) → put_ended a.entry ≡ Some id → started_as old.records id ≡ Some n →
+      are_put n old.jobs ≡ true
   done-name n id e started = by_kind job.kind refl done-writes (S.jobs job.number job runs).ready
     where
-      by_kind : (kind : Kind) → job.kind ≡ kind → Writes old job kind a.entry → IsReady s old.records old.bytes job kind → are_put n old.jobs ≡ true
+      by_kind : (kind : Kind) → job.kind ≡ kind → Writes old job kind a.entry →
+          IsReady s old.records old.bytes job kind → are_put n old.jobs ≡ true
       by_kind (PutJob name bytes) kind h r =
           (let d = done-by old job (PutJob name bytes) a.entry id h e in
           let left : 0 < appends_left s job = (let c = one-less in omega (arith, c)) in
           let st : started_as old.records job.subject ≡ Some name = (r d.0).started left in
-          let is : n ≡ name = same_value (started_as old.records id) n name started (ap (started_as old.records) (sym d.1) ∙ st) in
-          put-in n old.jobs job.number job runs (ap (λ kd. puts_name n (aim_of kd)) kind ∙ (ap (is_same_name n) (sym is) ∙ same-refl n)))
+          let is : n ≡ name = same_value (started_as old.records id) n name started
+          (ap (started_as old.records) (sym d.1) ∙ st) in
+          put-in n old.jobs job.number job runs (ap (λ kd. puts_name n (aim_of kd)) kind
+          ∙ (ap (is_same_name n) (sym is) ∙ same-refl n)))
       by_kind (GetJob name) kind h r = absurd h
       by_kind (DropJob name) kind h r = absurd (done-by old job (DropJob name) a.entry id h e).0
       by_kind AuditJob kind h r = absurd (done-by old job AuditJob a.entry id h e).0
       by_kind RepairJob kind h r = absurd (done-by old job RepairJob a.entry id h e).0
       by_kind UpgradeJob kind h r = absurd (done-by old job UpgradeJob a.entry id h e).0
 
-  names-were : (n : List ℕ) → (are_put n (with_job old.jobs after) || is_some (file_of rs_now n)) ≡ true → (are_put n old.jobs || is_some (file_of old.records n)) ≡ true
+  names-were : (n : List ℕ) → (are_put n (with_job old.jobs after) || is_some (file_of rs_now n)) ≡ true →
+      (are_put n old.jobs || is_some (file_of old.records n)) ≡ true
   names-were n h = elim (cases_Bool (are_put n old.jobs)) [
     | inl t ↦ ap (λ b. b || is_some (file_of old.records n)) t
-    | inr f ↦ (let g : is_some (file_of rs_now n) ≡ true = sym (ap (λ b. b || is_some (file_of rs_now n)) (put-with n old.jobs after job runs refl ∙ f)) ∙ h in
+    | inr f ↦ (let g : is_some (file_of rs_now n) ≡ true =
+        sym (ap (λ b. b || is_some (file_of rs_now n)) (put-with n old.jobs after job runs refl ∙ f)) ∙ h in
         let file = is_some-at (file_of rs_now n) g in
-        ap (λ b. b || is_some (file_of old.records n)) f ∙ elim (file-came a.entry old.records n file.0 file.1) [
+        ap (λ b. b || is_some (file_of old.records n)) f
+        ∙ elim (file-came a.entry old.records n file.0 file.1) [
           | inl was ↦ ap is_some was
           | inr new ↦ elim new [
-            | Came.done is started profile ↦ absurd (false≢true (sym f ∙ done-name n file.0.id (ap put_ended is) started))
-            | Came.done_in is started ↦ absurd (false≢true (sym f ∙ done-name n file.0.id (ap put_ended is) started))
-            | Came.brought is ↦ absurd (subst IsAppended is (writes_appended old job job.kind a.entry done-writes))
+            | Came.done is started profile ↦
+                absurd (false≢true (sym f ∙ done-name n file.0.id (ap put_ended is) started))
+            | Came.done_in is started ↦
+                absurd (false≢true (sym f ∙ done-name n file.0.id (ap put_ended is) started))
+            | Came.brought is ↦ absurd
+                (subst IsAppended is (writes_appended old job job.kind a.entry done-writes))
           ]
         ])
   ]
 
   -- a put under way has a number below the next, or the one that its append just drew
-  under-after : IsPutUnderWay after job.kind → IsPutUnderWay job job.kind ⊎ (job.subject ≡ next_id old.records)
+  under-after : IsPutUnderWay after job.kind → IsPutUnderWay job job.kind ⊎
+      (job.subject ≡ next_id old.records)
   under-after u = by_kind job.kind refl u
     where
-      by_kind : (kind : Kind) → job.kind ≡ kind → IsPutUnderWay after kind → IsPutUnderWay job kind ⊎ (job.subject ≡ next_id old.records)
+      by_kind : (kind : Kind) → job.kind ≡ kind → IsPutUnderWay after kind →
+          IsPutUnderWay job kind ⊎ (job.subject ≡ next_id old.records)
       by_kind (PutJob name bytes) kind u = elim (cases_lt job.place 4) [
         | inl f ↦ inr (drawn-first_put name bytes kind f)
         | inr f ↦ inl f
@@ -434,10 +500,12 @@ module _ (limit : ℕ) (old : State) (S : IsSound limit old) (job : Job) (runs :
       by_kind RepairJob kind u = absurd u
       by_kind UpgradeJob kind u = absurd u
 
-  under-below : (k : ℕ) (j : Job) → job_of old.jobs k ≡ Some j → IsPutUnderWay j j.kind → j.subject < next_id old.records
+  under-below : (k : ℕ) (j : Job) → job_of old.jobs k ≡ Some j → IsPutUnderWay j j.kind →
+      j.subject < next_id old.records
   under-below k j r u = by_kind j.kind u (S.jobs k j r).ready
     where
-      by_kind : (kind : Kind) → IsPutUnderWay j kind → IsReady s old.records old.bytes j kind → j.subject < next_id old.records
+      by_kind : (kind : Kind) → IsPutUnderWay j kind → IsReady s old.records old.bytes j kind →
+          j.subject < next_id old.records
       by_kind (PutJob name bytes) u r = (r u).drawn
       by_kind (GetJob name) u r = absurd u
       by_kind (DropJob name) u r = absurd u
@@ -449,36 +517,54 @@ module _ (limit : ℕ) (old : State) (S : IsSound limit old) (job : Job) (runs :
   new = done_append old job a
 
   setup-stays : setup_in new ≡ s
-  setup-stays = setup_same new old (setup-more a.entry old.records (S.set_up (runs-open limit old S job.number job runs)) (S.append a flight).follows.accepted)
+  setup-stays = setup_same new old
+      (setup-more a.entry old.records (S.set_up (runs-open limit old S job.number job runs))
+      (S.append a flight).follows.accepted)
 
-  done-room : journal_end new + sum_by (reserved (version_of old.records) s) (with_job old.jobs after) ≤ largest_journal
+  done-room : journal_end new + sum_by (reserved (version_of old.records) s)
+      (with_job old.jobs after) ≤ largest_journal
   done-room =
       (let total = sum-with (reserved (version_of old.records) s) old.jobs after job runs in
       let k = appends_left s after in
       let left : appends_left s job ≡ k + 1 = (let c = one-less in omega (arith, c)) in
-      let step = room-step old job job.kind a.entry k refl done-writes left (sizes limit old S job.number job runs) in
-      let before : reserved (version_of old.records) s job ≡ room_of (version_of old.records) s job.kind (k + 1) = ap (room_of (version_of old.records) s job.kind) left in
-      let now : reserved (version_of old.records) s after ≡ room_of (version_of old.records) s job.kind k = refl in
+      let step = room-step old job job.kind a.entry k refl done-writes left
+      (sizes limit old S job.number job runs) in
+      let before : reserved (version_of old.records) s job
+      ≡ room_of (version_of old.records) s job.kind (k + 1) =
+      ap (room_of (version_of old.records) s job.kind) left in
+      let now : reserved (version_of old.records) s after ≡ room_of (version_of old.records) s job.kind k =
+      refl in
       let room = S.room in omega (arith, total, step, before, now, room))
 
   -- an upgrade runs alone, and has no further record to write
-  done-reserved : sum_by (reserved (version_of rs_now) s) (with_job old.jobs after) ≤ sum_by (reserved (version_of old.records) s) (with_job old.jobs after)
+  done-reserved : sum_by (reserved (version_of rs_now) s) (with_job old.jobs after) ≤ sum_by
+      (reserved (version_of old.records) s) (with_job old.jobs after)
   done-reserved = elim (version-kept old job job.kind a.entry old.records done-writes) [
     | inl same ↦ (let e = ap (λ v. sum_by (reserved v s) (with_job old.jobs after)) same in omega (arith, e))
-    | inr kind ↦ (let one = only-with old.jobs after job job runs (S.upgrade job.number job runs (subst (λ kd. IsTrue (is_upgrade (aim_of kd))) (sym kind) refl)) after.number after (found_itself old.jobs after job runs) in
-        let none : appends_left s after ≡ 0 = (let b = upgrade-first s job kind in let c = one-less in omega (arith, b, c)) in
-        let free : reserved (version_of rs_now) s after ≡ 0 = ap (λ kd. room_of (version_of rs_now) s kd (appends_left s after)) kind ∙ ap (room_of (version_of rs_now) s UpgradeJob) none in
-        let all = ap (sum_by (reserved (version_of rs_now) s)) one ∙ sum_by-cons (reserved (version_of rs_now) s) after [] in
+    | inr kind ↦ (let one = only-with old.jobs after job job runs
+        (S.upgrade job.number job runs (subst (λ kd. IsTrue (is_upgrade (aim_of kd))) (sym kind) refl))
+        after.number after (found_itself old.jobs after job runs) in
+        let none : appends_left s after ≡ 0 =
+        (let b = upgrade-first s job kind in let c = one-less in omega (arith, b, c)) in
+        let free : reserved (version_of rs_now) s after ≡ 0 =
+        ap (λ kd. room_of (version_of rs_now) s kd (appends_left s after)) kind
+        ∙ ap (room_of (version_of rs_now) s UpgradeJob) none in
+        let all = ap (sum_by (reserved (version_of rs_now) s)) one
+        ∙ sum_by-cons (reserved (version_of rs_now) s) after [] in
         omega (arith, all, free))
   ]
 
   -- ---- the numbers that are left
 
   put-gate : (name bytes : List ℕ) → job.kind ≡ PutJob name bytes → job.place < 4 → job.place ≡ 3
-  put-gate name bytes kind l = gate-within (put_rest s job bytes) job.place l (ap (λ xs. slice_get xs job.place) (sym (put-list s job name bytes kind)) ∙ next_stands old job SyncGate next (λ e. cc))
+  put-gate name bytes kind l = gate-within (put_rest s job bytes) job.place l
+      (ap (λ xs. slice_get xs job.place) (sym (put-list s job name bytes kind))
+      ∙ next_stands old job SyncGate next (λ e. cc))
 
   audit-gate_place : job.kind ≡ AuditJob → job.place < 4 → job.place ≡ 3
-  audit-gate_place kind l = gate-within (audit_rest s job) job.place l (ap (λ xs. slice_get xs job.place) (sym (audit-list s job kind)) ∙ next_stands old job SyncGate next (λ e. cc))
+  audit-gate_place kind l = gate-within (audit_rest s job) job.place l
+      (ap (λ xs. slice_get xs job.place) (sym (audit-list s job kind))
+      ∙ next_stands old job SyncGate next (λ e. cc))
 
   starts-less : starts_left after ≤ starts_left job
   starts-less = starts-on job after refl (omega arith)
@@ -486,17 +572,21 @@ module _ (limit : ℕ) (old : State) (S : IsSound limit old) (job : Job) (runs :
   ids-after : next_id rs_now + starts_left after ≤ next_id old.records + starts_left job
   ids-after = by_kind job.kind refl done-writes
     where
-      same : next_id rs_now ≡ next_id old.records → next_id rs_now + starts_left after ≤ next_id old.records + starts_left job
+      same : next_id rs_now ≡ next_id old.records →
+          next_id rs_now + starts_left after ≤ next_id old.records + starts_left job
       same e = (let l = starts-less in omega (arith, e, l))
 
-      by_kind : (kind : Kind) → job.kind ≡ kind → Writes old job kind a.entry → next_id rs_now + starts_left after ≤ next_id old.records + starts_left job
+      by_kind : (kind : Kind) → job.kind ≡ kind → Writes old job kind a.entry →
+          next_id rs_now + starts_left after ≤ next_id old.records + starts_left job
       by_kind (PutJob name bytes) kind h = elim (cases_lt job.place 4) [
-        | inl l ↦ (let e = ap (λ r. next_id (r ∷ old.records)) (put-writes_first old job name bytes a.entry l h) in
+        | inl l ↦ (let e = ap (λ r. next_id (r ∷ old.records))
+            (put-writes_first old job name bytes a.entry l h) in
             let one = starts-first job name bytes kind l in
             let p = put-gate name bytes kind l in
             let none = starts-later after (omega (arith, p)) in omega (arith, e, one, none))
         | inr l ↦ same (ap (λ r. next_id (r ∷ old.records)) (put-writes_later old job name bytes a.entry l h)
-            ∙ by_version (version_of old.records) job.subject (length bytes) job.profile (λ r. next_id (r ∷ old.records) ≡ next_id old.records) refl refl)
+            ∙ by_version (version_of old.records) job.subject (length bytes) job.profile
+            (λ r. next_id (r ∷ old.records) ≡ next_id old.records) refl refl)
       ]
       by_kind (GetJob name) kind h = absurd h
       by_kind (DropJob name) kind h = same (ap (λ r. next_id (r ∷ old.records)) h)
@@ -507,34 +597,44 @@ module _ (limit : ℕ) (old : State) (S : IsSound limit old) (job : Job) (runs :
       by_kind RepairJob kind h = same (ap (λ r. next_id (r ∷ old.records)) h)
       by_kind UpgradeJob kind h = same (ap (λ r. next_id (r ∷ old.records)) h)
 
-  audits-after : (k : ℕ) (j : Job) → job_of (with_job old.jobs after) k ≡ Some j → j.kind ≡ AuditJob → j.place < 4 → next_audit rs_now ≤ 2 ^ 64 - 32
+  audits-after : (k : ℕ) (j : Job) → job_of (with_job old.jobs after) k ≡ Some j → j.kind ≡ AuditJob →
+      j.place < 4 → next_audit rs_now ≤ 2 ^ 64 - 32
   audits-after k j h kind l = elim (found_with old.jobs after k j h) [
     | inl p ↦ absurd (let e : j.place ≡ job.place + 1 = ap (λ (z : Job). z.place) p.1 in
-        let three = audit-gate_place (sym (ap (λ (z : Job). z.kind) p.1) ∙ kind) (omega (arith, e, l)) in omega (arith, e, l, three))
+        let three = audit-gate_place (sym (ap (λ (z : Job). z.kind) p.1) ∙ kind) (omega (arith, e, l)) in
+        omega (arith, e, l, three))
     | inr q ↦ (let b = S.audits k j q.1 kind l in
-        let e = no-audit old job job.kind a.entry old.records (λ d. q.0 (S.one_check k job.number j job q.1 runs (ap (λ kd. is_check (aim_of kd)) kind) d)) done-writes in
+        let e = no-audit old job job.kind a.entry old.records
+        (λ d. q.0 (S.one_check k job.number j job q.1 runs (ap (λ kd. is_check (aim_of kd)) kind) d))
+        done-writes in
         omega (arith, b, e))
   ]
 
-  back : (k : ℕ) (j : Job) → job_of (with_job old.jobs after) k ≡ Some j → (i : Job) × (job_of old.jobs k ≡ Some i) × (j.kind ≡ i.kind)
+  back : (k : ℕ) (j : Job) → job_of (with_job old.jobs after) k ≡ Some j →
+      (i : Job) × (job_of old.jobs k ≡ Some i) × (j.kind ≡ i.kind)
   back k j h = elim (found_with old.jobs after k j h) [
     | inl p ↦ (job, subst (λ n. job_of old.jobs n ≡ Some job) (sym p.0) runs, ap (λ (z : Job). z.kind) p.1)
     | inr q ↦ (j, q.1, refl)
   ]
 
-  done-apart : (k l : ℕ) (i j : Job) → job_of (with_job old.jobs after) k ≡ Some i → job_of (with_job old.jobs after) l ≡ Some j → IsPutUnderWay i i.kind → IsPutUnderWay j j.kind → i.subject ≡ j.subject → k ≡ l
+  done-apart : (k l : ℕ) (i j : Job) → job_of (with_job old.jobs after) k ≡ Some i →
+      job_of (with_job old.jobs after) l ≡ Some j → IsPutUnderWay i i.kind → IsPutUnderWay j j.kind →
+      i.subject ≡ j.subject → k ≡ l
   done-apart k l i j hi hj ui uj same = elim (found_with old.jobs after k i hi) [
     | inl p ↦ elim (found_with old.jobs after l j hj) [
       | inl q ↦ p.0 ∙ sym q.0
-      | inr q ↦ p.0 ∙ sym (with-own l j q.1 uj (subst (λ (z : Job). IsPutUnderWay z z.kind) p.1 ui) (ap (λ (z : Job). z.subject) (sym p.1) ∙ same))
+      | inr q ↦ p.0 ∙ sym (with-own l j q.1 uj (subst (λ (z : Job). IsPutUnderWay z z.kind) p.1 ui)
+          (ap (λ (z : Job). z.subject) (sym p.1) ∙ same))
     ]
     | inr p ↦ elim (found_with old.jobs after l j hj) [
-      | inl q ↦ with-own k i p.1 ui (subst (λ (z : Job). IsPutUnderWay z z.kind) q.1 uj) (ap (λ (z : Job). z.subject) (sym q.1) ∙ sym same) ∙ sym q.0
+      | inl q ↦ with-own k i p.1 ui (subst (λ (z : Job). IsPutUnderWay z z.kind) q.1 uj)
+          (ap (λ (z : Job). z.subject) (sym q.1) ∙ sym same) ∙ sym q.0
       | inr q ↦ S.apart k l i j p.1 q.1 ui uj same
     ]
   ]
     where
-      with-own : (l : ℕ) (j : Job) → job_of old.jobs l ≡ Some j → IsPutUnderWay j j.kind → IsPutUnderWay after job.kind → job.subject ≡ j.subject → l ≡ job.number
+      with-own : (l : ℕ) (j : Job) → job_of old.jobs l ≡ Some j → IsPutUnderWay j j.kind →
+          IsPutUnderWay after job.kind → job.subject ≡ j.subject → l ≡ job.number
       with-own l j r u v same = elim (under-after v) [
         | inl w ↦ S.apart l job.number j job r runs u w (sym same)
         | inr e ↦ absurd (let b = under-below l j r u in omega (arith, b, e, same))
@@ -545,33 +645,44 @@ module _ (limit : ℕ) (old : State) (S : IsSound limit old) (job : Job) (runs :
   done-sound = record {
     accepted = accepted;
     spelled = spelled-more a.entry old.records (S.append a flight).follows.spelled S.spelled;
-    journal = journal-brought old new a.entry refl refl refl refl (S.append a flight).follows.spelled (S.append a flight).follows.in_journal S.journal;
-    room = (let e = ap (λ t. sum_by (reserved (version_of rs_now) t) (with_job old.jobs after)) setup-stays in let r = done-room in let d = done-reserved in omega (arith, e, r, d));
+    journal = journal-brought old new a.entry refl refl refl refl (S.append a flight).follows.spelled
+        (S.append a flight).follows.in_journal S.journal;
+    room = (let e = ap (λ t. sum_by (reserved (version_of rs_now) t) (with_job old.jobs after)) setup-stays in
+        let r = done-room in let d = done-reserved in omega (arith, e, r, d));
     files = (let follows = (S.append a flight).follows in
         held-more old.bytes a.entry old.records follows.held S.files);
-    names = (let f = taken-fewer old.records rs_now old.jobs (with_job old.jobs after) names-were in let b = S.names in omega (arith, f, b));
-    ids = λ l. (let total = sum-with starts_left old.jobs after job runs in let less = starts-less in let now = ids-after in let left = S.ids (omega (arith, l, total, less)) in omega (arith, total, now, left));
+    names = (let f = taken-fewer old.records rs_now old.jobs (with_job old.jobs after) names-were in
+        let b = S.names in omega (arith, f, b));
+    ids = λ l. (let total = sum-with starts_left old.jobs after job runs in let less = starts-less in
+        let now = ids-after in let left = S.ids (omega (arith, l, total, less)) in
+        omega (arith, total, now, left));
     audits = audits-after;
     closed = λ closed. absurd (found_some (S.closed closed).0);
     set_up = λ o. up-more a.entry old.records (S.set_up o);
     handed = λ o. (let h = S.handed o in let e = ap (λ (t : Setup). t.n) setup-stays in omega (arith, h, e));
     few = (let f = length-with old.jobs after in let b = S.few in omega (arith, f, b));
     numbered = numbered-with 0 old.jobs old.next_job after S.numbered;
-    jobs = λ k j h. subst (λ t. IsSoundJob t rs_now old.bytes 0 j) (sym setup-stays) (elim (found_with old.jobs after k j h) [
-      | inl p ↦ subst (λ (z : Job). IsSoundJob s rs_now old.bytes 0 z) (sym p.1) after-job
-      | inr q ↦ other-job k j q.0 q.1
-    ]);
-    in_journal = λ k j h. subst (λ t. IsReady t (a.entry ∷ old.journal) old.bytes j j.kind) (sym setup-stays) (elim (found_with old.jobs after k j h) [
-      | inl p ↦ subst (λ (z : Job). IsReady s (a.entry ∷ old.journal) old.bytes z z.kind) (sym p.1)
-          (after-ready old.journal journal_accepted S.journal.alike.id job.kind refl done-writes (S.in_journal job.number job runs))
-      | inr q ↦ other-ready k j q.0 q.1 old.journal journal_accepted (S.in_journal k j q.1)
-    ]);
+    jobs = λ k j h. subst (λ t. IsSoundJob t rs_now old.bytes 0 j) (sym setup-stays)
+        (elim (found_with old.jobs after k j h) [
+          | inl p ↦ subst (λ (z : Job). IsSoundJob s rs_now old.bytes 0 z) (sym p.1) after-job
+          | inr q ↦ other-job k j q.0 q.1
+        ]);
+    in_journal = λ k j h. subst (λ t. IsReady t (a.entry ∷ old.journal) old.bytes j j.kind) (sym setup-stays)
+        (elim (found_with old.jobs after k j h) [
+          | inl p ↦ subst (λ (z : Job). IsReady s (a.entry ∷ old.journal) old.bytes z z.kind) (sym p.1)
+              (after-ready old.journal journal_accepted S.journal.alike.id job.kind refl done-writes
+              (S.in_journal job.number job runs))
+          | inr q ↦ other-ready k j q.0 q.1 old.journal journal_accepted (S.in_journal k j q.1)
+        ]);
     lone = λ x e. absurd (found_some (S.lone x e));
     packing = λ p e. absurd (found_some (S.lone (Packing p) e));
     switching = λ e. absurd (found_some (S.switching e).jobs);
-    upgrade = λ k j h u. (let b = back k j h in only-with old.jobs after job b.0 runs (S.upgrade k b.0 b.1 (subst (λ kd. IsTrue (is_upgrade (aim_of kd))) b.2 u)) k j h);
+    upgrade = λ k j h u. (let b = back k j h in
+        only-with old.jobs after job b.0 runs
+        (S.upgrade k b.0 b.1 (subst (λ kd. IsTrue (is_upgrade (aim_of kd))) b.2 u)) k j h);
     one_check = λ k l i j hi hj ci cj. (let x = back k i hi in let y = back l j hj in
-        S.one_check k l x.0 y.0 x.1 y.1 (subst (λ kd. IsTrue (is_check (aim_of kd))) x.2 ci) (subst (λ kd. IsTrue (is_check (aim_of kd))) y.2 cj));
+        S.one_check k l x.0 y.0 x.1 y.1 (subst (λ kd. IsTrue (is_check (aim_of kd))) x.2 ci)
+        (subst (λ kd. IsTrue (is_check (aim_of kd))) y.2 cj));
     apart = done-apart;
     append = λ b h. absurd (let e : None ≡ Some b = h in cc);
     barred = λ b. refl;

@@ -28,8 +28,12 @@ or-left false b false f h = h
 put-without : (n : List ℕ) (js : List Job) (m : ℕ) → are_put n (without_job js m) ≡ true → are_put n js ≡ true
 put-without n [] m h = h
 put-without n (x ∷ js) m h = elim (cases_Bool (x.number == m)) [
-  | inl t ↦ later (puts_name n (aim_of x.kind)) (put-without n js m (ap (are_put n) (sym (cond_true (x.number == m) (without_job js m) (x ∷ without_job js m) t)) ∙ h))
-  | inr f ↦ or-right (puts_name n (aim_of x.kind)) (are_put n (without_job js m)) (are_put n js) (put-without n js m) (ap (are_put n) (sym (cond_false (x.number == m) (without_job js m) (x ∷ without_job js m) f)) ∙ h)
+  | inl t ↦ later (puts_name n (aim_of x.kind))
+      (put-without n js m (ap (are_put n)
+      (sym (cond_true (x.number == m) (without_job js m) (x ∷ without_job js m) t)) ∙ h))
+  | inr f ↦ or-right (puts_name n (aim_of x.kind)) (are_put n (without_job js m)) (are_put n js)
+      (put-without n js m) (ap (are_put n)
+      (sym (cond_false (x.number == m) (without_job js m) (x ∷ without_job js m) f)) ∙ h)
 ]
   where
     later : (a : Bool) → are_put n js ≡ true → (a || are_put n js) ≡ true
@@ -38,9 +42,11 @@ put-without n (x ∷ js) m h = elim (cases_Bool (x.number == m)) [
 
 -- a state without a job, with this append and doubt, and barred or not
 abbrev pub left_by : State → Job → Option Append → Option Doubt → Bool → State
-left_by old job flight doubt barred = record (ended old job) { append = flight; doubt = doubt; is_barred = barred }
+left_by old job flight doubt barred =
+    record (ended old job) { append = flight; doubt = doubt; is_barred = barred }
 
-module _ (limit : ℕ) (old : State) (S : IsSound limit old) (job : Job) (runs : job_of old.jobs job.number ≡ Some job) where
+module _ (limit : ℕ) (old : State) (S : IsSound limit old) (job : Job)
+    (runs : job_of old.jobs job.number ≡ Some job) where
   ended-sound : (flight : Option Append) (doubt : Option Doubt) (barred : Bool) →
       ((k : ℕ) → (k ≡ job.number → ⊥) → moves_made flight k ≡ moves_made old.append k) →
       ((a : Append) → flight ≡ Some a → IsSoundAppend old a × (a.job ≡ job.number → ⊥)) →
@@ -53,10 +59,15 @@ module _ (limit : ℕ) (old : State) (S : IsSound limit old) (job : Job) (runs :
     accepted = S.accepted;
     spelled = S.spelled;
     journal = journal-same old (left_by old job flight doubt barred) refl refl refl refl S.journal;
-    room = (let a = sum-without (reserved (version_of old.records) (setup_in old)) old.jobs job.number job runs in let c = S.room in omega (arith, a, c));
+    room = (let a = sum-without (reserved (version_of old.records) (setup_in old)) old.jobs job.number job
+        runs in let c = S.room in omega (arith, a, c));
     files = S.files;
-    names = (let a = taken-fewer old.records old.records old.jobs (without_job old.jobs job.number) (λ n h. or-left (are_put n (without_job old.jobs job.number)) (is_some (file_of old.records n)) (are_put n old.jobs) (put-without n old.jobs job.number) h) in let b = S.names in omega (arith, a, b));
-    ids = λ l. (let a = sum-without starts_left old.jobs job.number job runs in let c = S.ids (omega (arith, l, a)) in omega (arith, a, c));
+    names = (let a = taken-fewer old.records old.records old.jobs (without_job old.jobs job.number)
+        (λ n h. or-left (are_put n (without_job old.jobs job.number)) (is_some (file_of old.records n))
+        (are_put n old.jobs) (put-without n old.jobs job.number) h) in let b = S.names in
+        omega (arith, a, b));
+    ids = λ l. (let a = sum-without starts_left old.jobs job.number job runs in
+        let c = S.ids (omega (arith, l, a)) in omega (arith, a, c));
     audits = λ k j h is_audit l. S.audits k j (found_without old.jobs job.number k j h).1 is_audit l;
     closed = λ closed. absurd (found_some (S.closed closed).0);
     set_up = S.set_up;
@@ -64,14 +75,19 @@ module _ (limit : ℕ) (old : State) (S : IsSound limit old) (job : Job) (runs :
     few = (let a = length-without old.jobs job.number in let b = S.few in omega (arith, a, b));
     numbered = numbered-without 0 old.jobs old.next_job job.number S.numbered;
     jobs = λ k j h. (let q = found_without old.jobs job.number k j h in
-        kept (setup_in old) old.records old.bytes old.bytes (λ id l. refl) (moves_made old.append k) (moves_made flight k) j (others k q.0) (S.jobs k j q.1));
+        kept (setup_in old) old.records old.bytes old.bytes (λ id l. refl) (moves_made old.append k)
+        (moves_made flight k) j (others k q.0) (S.jobs k j q.1));
     in_journal = λ k j h. S.in_journal k j (found_without old.jobs job.number k j h).1;
     lone = λ x e. absurd (found_some (S.lone x e));
     packing = S.packing;
     switching = λ e. absurd (found_some (S.switching e).jobs);
-    upgrade = λ k j h u. absurd (only-without old.jobs job.number job j runs (S.upgrade k j (found_without old.jobs job.number k j h).1 u) k j h);
-    one_check = λ k l i j hi hj ci cj. S.one_check k l i j (found_without old.jobs job.number k i hi).1 (found_without old.jobs job.number l j hj).1 ci cj;
-    apart = λ k l i j hi hj ui uj same. S.apart k l i j (found_without old.jobs job.number k i hi).1 (found_without old.jobs job.number l j hj).1 ui uj same;
+    upgrade = λ k j h u. absurd
+        (only-without old.jobs job.number job j runs
+        (S.upgrade k j (found_without old.jobs job.number k j h).1 u) k j h);
+    one_check = λ k l i j hi hj ci cj. S.one_check k l i j (found_without old.jobs job.number k i hi).1
+        (found_without old.jobs job.number l j hj).1 ci cj;
+    apart = λ k l i j hi hj ui uj same. S.apart k l i j (found_without old.jobs job.number k i hi).1
+        (found_without old.jobs job.number l j hj).1 ui uj same;
     append = λ a h. (let p = append a h in record {
       job = p.0.job;
       runs = still-without old.jobs job.number a.job p.0.job p.1 p.0.runs;
@@ -91,21 +107,31 @@ module _ (limit : ℕ) (old : State) (S : IsSound limit old) (job : Job) (runs :
       found_some e = some-not-none (job_of old.jobs job.number) job runs (ap (λ l. job_of l job.number) e)
 
   -- a job of whose append no move is made ends
-  pub plain-ended : moves_made old.append job.number ≡ 0 → IsSound limit (left_by old job old.append old.doubt old.is_barred)
+  pub plain-ended : moves_made old.append job.number ≡ 0 →
+      IsSound limit (left_by old job old.append old.doubt old.is_barred)
   plain-ended none = ended-sound old.append old.doubt old.is_barred (λ k n. refl)
       (λ a flight. (S.append a flight, λ e. not-mine a flight none e)) S.barred S.undoubted S.doubt
     where
-      not-mine : (a : Append) → old.append ≡ Some a → moves_made old.append job.number ≡ 0 → a.job ≡ job.number → ⊥
-      not-mine a flight none e = (let b = (S.append a flight).begun in let c = ap (λ f. moves_made f job.number) (sym flight) ∙ none in let d = mine a job.number e in omega (arith, b, c, d))
+      not-mine : (a : Append) → old.append ≡ Some a → moves_made old.append job.number ≡ 0 →
+          a.job ≡ job.number → ⊥
+      not-mine a flight none e =
+          (let b = (S.append a flight).begun in let c = ap (λ f. moves_made f job.number) (sym flight)
+          ∙ none in let d = mine a job.number e in omega (arith, b, c, d))
 
   -- a job ends whose append is given up, or none was in flight
-  pub append-ended : (doubt : Option Doubt) (barred : Bool) → ((a : Append) → old.append ≡ Some a → a.job ≡ job.number) → (old.is_open ≡ true → barred ≡ false → doubt ≡ None) →
-      ((d : Doubt) → doubt ≡ Some d → MayFollowIn old d.entry) → IsSound limit (left_by old job None doubt barred)
-  append-ended doubt barred own undoubted doubts = ended-sound None doubt barred (λ k n. others k n old.append refl) (λ a h. absurd (none-some a h)) (λ b. refl) undoubted doubts
+  pub append-ended : (doubt : Option Doubt) (barred : Bool) →
+      ((a : Append) → old.append ≡ Some a → a.job ≡ job.number) →
+      (old.is_open ≡ true → barred ≡ false → doubt ≡ None) →
+      ((d : Doubt) → doubt ≡ Some d → MayFollowIn old d.entry) →
+      IsSound limit (left_by old job None doubt barred)
+  append-ended doubt barred own undoubted doubts =
+      ended-sound None doubt barred (λ k n. others k n old.append refl) (λ a h. absurd (none-some a h))
+      (λ b. refl) undoubted doubts
     where
       none-some : (a : Append) → None ≡ Some a → ⊥
       none-some a h = cc
 
-      others : (k : ℕ) → (k ≡ job.number → ⊥) → (flight : Option Append) → old.append ≡ flight → 0 ≡ moves_made flight k
+      others : (k : ℕ) → (k ≡ job.number → ⊥) → (flight : Option Append) → old.append ≡ flight →
+          0 ≡ moves_made flight k
       others k n None e = refl
       others k n (Some a) e = sym (other a k (λ f. n (sym f ∙ own a e)))

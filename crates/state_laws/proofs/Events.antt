@@ -35,12 +35,14 @@ use Rattle.state_laws.proofs.Aside.{alone-sound, scrub-begins, pack-begins}
 use Rattle.state_laws.proofs.Resting.{start-sound, stops-sound, continues-sound, reopens-sound, inits-sound}
 
 -- what providers hold and count, and the count of the disk, are no part of it
-pub devices-sound : (limit : ℕ) (w : State) (providers : ℕ → Provider) (faults : ℕ) → IsSound limit w → IsSound limit (record w { providers = providers; disk_faults = faults })
+pub devices-sound : (limit : ℕ) (w : State) (providers : ℕ → Provider) (faults : ℕ) → IsSound limit w →
+    IsSound limit (record w { providers = providers; disk_faults = faults })
 unfolding setup_in
 devices-sound limit w providers faults S = record {
   accepted = S.accepted;
   spelled = S.spelled;
-  journal = journal-same w (record w { providers = providers; disk_faults = faults }) refl refl refl refl S.journal;
+  journal = journal-same w (record w { providers = providers; disk_faults = faults }) refl refl refl refl
+      S.journal;
   room = S.room;
   files = S.files;
   names = S.names;
@@ -55,7 +57,8 @@ devices-sound limit w providers faults S = record {
   in_journal = S.in_journal;
   lone = S.lone;
   packing = S.packing;
-  switching = λ e. (let s = S.switching e in record { version = s.version; undoubted = s.undoubted; jobs = s.jobs; packing = s.packing });
+  switching = λ e. (let s = S.switching e in
+      record { version = s.version; undoubted = s.undoubted; jobs = s.jobs; packing = s.packing });
   upgrade = S.upgrade;
   one_check = S.one_check;
   apart = S.apart;
@@ -79,10 +82,12 @@ abbrev IsOn : Action → Type 0
 IsOn action = (ends_append action ≡ false) × (moves_before action ≡ 0) × (moves_after action ≡ 0)
 
 -- an idle drop is a drop at its start
-idle-drop : (w : State) (job : Job) → is_idle_drop w job job.kind ≡ true → ((name : List ℕ) × (job.kind ≡ DropJob name)) × (job.place ≡ 0)
+idle-drop : (w : State) (job : Job) → is_idle_drop w job job.kind ≡ true →
+    ((name : List ℕ) × (job.kind ≡ DropJob name)) × (job.place ≡ 0)
 idle-drop w job h = by_kind job.kind refl h
   where
-    by_kind : (kind : Kind) → job.kind ≡ kind → is_idle_drop w job kind ≡ true → ((name : List ℕ) × (job.kind ≡ DropJob name)) × (job.place ≡ 0)
+    by_kind : (kind : Kind) → job.kind ≡ kind → is_idle_drop w job kind ≡ true →
+        ((name : List ℕ) × (job.kind ≡ DropJob name)) × (job.place ≡ 0)
     by_kind (DropJob name) e h = ((name, e), eqb-true job.place 0 (and_parts (job.place == 0) _ h).0)
     by_kind (PutJob name bytes) e h = absurd (false≢true h)
     by_kind (GetJob name) e h = absurd (false≢true h)
@@ -91,139 +96,225 @@ idle-drop w job h = by_kind job.kind refl h
     by_kind UpgradeJob e h = absurd (false≢true h)
 
 -- the next action tells how many moves of an append are made
-pub moves-next : (w : State) (job : Job) (action : Action) (moves : ℕ) → next_action w job ≡ Some action → IsInOrder moves (actions_left (setup_in w) job) → moves ≡ moves_before action
+pub moves-next : (w : State) (job : Job) (action : Action) (moves : ℕ) → next_action w job ≡ Some action →
+    IsInOrder moves (actions_left (setup_in w) job) → moves ≡ moves_before action
 moves-next w job action moves next order = elim (cases_Bool (is_idle_drop w job job.kind)) [
   | inl t ↦ (let d = idle-drop w job t in
       let first : slice_get (actions_of (setup_in w) job) job.place ≡ Some WriteBody =
-      ap (slice_get (actions_of (setup_in w) job)) d.1 ∙ ap (λ xs. slice_get xs 0) (drop-list (setup_in w) job d.0.0 d.0.1) in
-      let e : Some End ≡ Some action = sym (cond_true (is_idle_drop w job job.kind) (Some End) (slice_get (actions_of (setup_in w) job) job.place) t) ∙ next in
+      ap (slice_get (actions_of (setup_in w) job)) d.1
+      ∙ ap (λ xs. slice_get xs 0) (drop-list (setup_in w) job d.0.0 d.0.1) in
+      let e : Some End ≡ Some action =
+      sym (cond_true (is_idle_drop w job job.kind) (Some End)
+      (slice_get (actions_of (setup_in w) job) job.place) t) ∙ next in
       let f : End ≡ action = cc in at WriteBody first ∙ ap moves_before f)
-  | inr f ↦ at action (sym (cond_false (is_idle_drop w job job.kind) (Some End) (slice_get (actions_of (setup_in w) job) job.place) f) ∙ next)
+  | inr f ↦ at action (sym
+      (cond_false (is_idle_drop w job job.kind) (Some End)
+      (slice_get (actions_of (setup_in w) job) job.place) f) ∙ next)
 ]
   where
     at : (x : Action) → slice_get (actions_of (setup_in w) job) job.place ≡ Some x → moves ≡ moves_before x
-    at x h = moves-first moves x (drop (job.place + 1) (actions_of (setup_in w) job)) (subst (IsInOrder moves) (drop-get (actions_of (setup_in w) job) job.place x h) order)
+    at x h = moves-first moves x (drop (job.place + 1) (actions_of (setup_in w) job))
+        (subst (IsInOrder moves) (drop-get (actions_of (setup_in w) job) job.place x h) order)
 
 module _ (limit moment : ℕ) (old : State) (S : IsSound limit old) where
   same-sound : (new : State) → new ≡ old → IsSound limit new
   same-sound new is = subst (IsSound limit) (sym is) S
 
-  module _ (opened : old.is_open ≡ true) (unbarred : old.is_barred ≡ false) (job : Job) (runs : job_of old.jobs job.number ≡ Some job) where
-    none-made : (action : Action) → next_action old job ≡ Some action → moves_before action ≡ 0 → moves_made old.append job.number ≡ 0
-    none-made action next none = moves-next old job action (moves_made old.append job.number) next (S.jobs job.number job runs).order ∙ none
+  module _ (opened : old.is_open ≡ true) (unbarred : old.is_barred ≡ false) (job : Job)
+      (runs : job_of old.jobs job.number ≡ Some job) where
+    none-made : (action : Action) → next_action old job ≡ Some action → moves_before action ≡ 0 →
+        moves_made old.append job.number ≡ 0
+    none-made action next none = moves-next old job action (moves_made old.append job.number) next
+        (S.jobs job.number job runs).order ∙ none
 
     -- an action between appends, with which a provider is called
-    called : (j : ℕ) (p : Provider) (action : Action) (given : List Given) (new : State) → next_action old job ≡ Some action → (action ≡ End → ⊥) → IsOn action →
-        new ≡ record (going_on old (onward job job.subject given)) { providers = with_provider old.providers j p } → IsSound limit new
+    called : (j : ℕ) (p : Provider) (action : Action) (given : List Given) (new : State) →
+        next_action old job ≡ Some action → (action ≡ End → ⊥) → IsOn action →
+        new ≡ record (going_on old (onward job job.subject given))
+        { providers = with_provider old.providers j p } → IsSound limit new
     called j p action given new next n on is =
-        subst (IsSound limit) (sym is) (devices-sound limit (gone_on old (onward job job.subject given) old.append old.doubt old.bytes old.audits) (with_provider old.providers j p) old.disk_faults
+        subst (IsSound limit) (sym is)
+        (devices-sound limit (gone_on old (onward job job.subject given) old.append old.doubt old.bytes
+        old.audits) (with_provider old.providers j p) old.disk_faults
         (plain-sound limit old S job runs action given next n on.0 on.1 on.2))
 
     -- the job ends at an action between appends
-    ends : (action : Action) (providers : ℕ → Provider) (faults : ℕ) (new : State) → next_action old job ≡ Some action → moves_before action ≡ 0 → new ≡ record (ended old job) { providers = providers; disk_faults = faults } → IsSound limit new
-    ends action providers faults new next none is = subst (IsSound limit) (sym is) (devices-sound limit (left_by old job old.append old.doubt old.is_barred) providers faults (plain-ended limit old S job runs (none-made action next none)))
+    ends : (action : Action) (providers : ℕ → Provider) (faults : ℕ) (new : State) →
+        next_action old job ≡ Some action → moves_before action ≡ 0 →
+        new ≡ record (ended old job) { providers = providers; disk_faults = faults } → IsSound limit new
+    ends action providers faults new next none is =
+        subst (IsSound limit) (sym is)
+        (devices-sound limit (left_by old job old.append old.doubt old.is_barred) providers faults
+        (plain-ended limit old S job runs (none-made action next none)))
 
-    in-flight : (a : Append) → old.append ≡ Some a → a.job ≡ job.number → (b : Append) → old.append ≡ Some b → b.job ≡ job.number
+    in-flight : (a : Append) → old.append ≡ Some a → a.job ≡ job.number → (b : Append) → old.append ≡ Some b →
+        b.job ≡ job.number
     in-flight a flight own b h = ap (λ (x : Append). x.job) (same_value old.append b a h flight) ∙ own
 
     -- nothing is in doubt before the third move
     not-doubted : (a : Append) → old.append ≡ Some a → (a.moves == 3) ≡ false → old.doubt ≡ None
-    not-doubted a flight early = subst (λ b. IsGatedDoubt a b old.doubt) early (subst (λ f. IsDoubtOf f old.doubt) flight (S.undoubted opened unbarred))
+    not-doubted a flight early = subst (λ b. IsGatedDoubt a b old.doubt) early
+        (subst (λ f. IsDoubtOf f old.doubt) flight (S.undoubted opened unbarred))
 
     -- the job ends and bars the vault
-    bars : (doubt : Option Doubt) (faults : ℕ) (new : State) → ((a : Append) → old.append ≡ Some a → a.job ≡ job.number) → ((d : Doubt) → doubt ≡ Some d → MayFollowIn old d.entry) →
+    bars : (doubt : Option Doubt) (faults : ℕ) (new : State) →
+        ((a : Append) → old.append ≡ Some a → a.job ≡ job.number) →
+        ((d : Doubt) → doubt ≡ Some d → MayFollowIn old d.entry) →
         new ≡ record (left_by old job None doubt true) { disk_faults = faults } → IsSound limit new
-    bars doubt faults new own doubts is = subst (IsSound limit) (sym is) (devices-sound limit (left_by old job None doubt true) old.providers faults
+    bars doubt faults new own doubts is = subst (IsSound limit) (sym is)
+        (devices-sound limit (left_by old job None doubt true) old.providers faults
         (append-ended limit old S job runs doubt true own (λ o b. absurd (false≢true (sym b))) doubts))
 
-    gated : (a : Append) → old.append ≡ Some a → (d : Doubt) → Some (record { entry = a.entry; maker = Some (advanced job) }) ≡ Some d → MayFollowIn old d.entry
-    gated a flight d h = (let e : record { entry = a.entry; maker = Some (advanced job) } ≡ d = cc in subst (λ (x : Doubt). MayFollowIn old x.entry) e (S.append a flight).follows)
+    gated : (a : Append) → old.append ≡ Some a → (d : Doubt) →
+        Some (record { entry = a.entry; maker = Some (advanced job) }) ≡ Some d → MayFollowIn old d.entry
+    gated a flight d h = (let e : record { entry = a.entry; maker = Some (advanced job) } ≡ d = cc in
+        subst (λ (x : Doubt). MayFollowIn old x.entry) e (S.append a flight).follows)
 
     none-flies : old.append ≡ None → (a : Append) → old.append ≡ Some a → a.job ≡ job.number
     none-flies none a h = absurd (some-not-none old.append a h none)
 
-    moves : (action : Action) (flight : Option Append) (r : Outcome) (new : State) → old.append ≡ flight → next_action old job ≡ Some action → holder_of flight action ≡ None → Moves old job action flight r new → IsSound limit new
-    moves WriteBody None More new flight next free (entry, writes, (faults, low, is)) = subst (IsSound limit) (sym is)
-        (devices-sound limit _ old.providers faults (begun-sound limit old S job runs entry opened unbarred flight next writes))
+    moves : (action : Action) (flight : Option Append) (r : Outcome) (new : State) → old.append ≡ flight →
+        next_action old job ≡ Some action → holder_of flight action ≡ None →
+        Moves old job action flight r new → IsSound limit new
+    moves WriteBody None More new flight next free (entry, writes, (faults, low, is)) =
+        subst (IsSound limit) (sym is)
+        (devices-sound limit _ old.providers faults
+        (begun-sound limit old S job runs entry opened unbarred flight next writes))
     moves WriteBody (Some a) r new flight next free h = absurd (some-not-none (Some a.job) a.job refl free)
-    moves WriteBody None (Ended answer.DiskFault) new flight next free (faults, low, rose, is) = bars old.doubt faults new (none-flies flight) S.doubt is
-    moves WriteBody None (Ended answer.Memory) new flight next free (faults, low, is) = ends WriteBody old.providers faults new next refl is
+    moves WriteBody None (Ended answer.DiskFault) new flight next free (faults, low, rose, is) =
+        bars old.doubt faults new (none-flies flight) S.doubt is
+    moves WriteBody None (Ended answer.Memory) new flight next free (faults, low, is) =
+        ends WriteBody old.providers faults new next refl is
     moves SyncBody (Some a) More new flight next free (at, (faults, low, is)) = subst (IsSound limit) (sym is)
-        (devices-sound limit (gone_on old (onward job job.subject job.given) (Some (record a { moves = a.moves + 1 })) old.doubt old.bytes old.audits) old.providers faults
-        (moved-sound limit old S job runs a flight at.0 SyncBody old.doubt next (λ e. cc) refl (let e = at.1 in omega (arith, e)) (let e = at.1 in omega (arith, e)) unbarred
-        (subst (λ n. IsGatedDoubt (record a { moves = a.moves + 1 }) (n + 1 == 3) old.doubt) (sym at.1) (not-doubted a flight (ap (λ n. n == 3) at.1))) S.doubt))
-    moves SyncBody (Some a) (Ended answer.DiskFault) new flight next free (at, (faults, low, rose, is)) = bars old.doubt faults new (in-flight a flight at.0) S.doubt is
-    moves WriteGate (Some a) More new flight next free (at, (faults, low, is)) = subst (IsSound limit) (sym is)
-        (devices-sound limit (gone_on old (onward job job.subject job.given) (Some (record a { moves = a.moves + 1 })) (Some (record { entry = a.entry; maker = Some (advanced job) })) old.bytes old.audits) old.providers faults
-        (moved-sound limit old S job runs a flight at.0 WriteGate (Some (record { entry = a.entry; maker = Some (advanced job) })) next (λ e. cc) refl (let e = at.1 in omega (arith, e)) (let e = at.1 in omega (arith, e)) unbarred
-        (subst (λ n. IsGatedDoubt (record a { moves = a.moves + 1 }) (n + 1 == 3) (Some (record { entry = a.entry; maker = Some (advanced job) }))) (sym at.1) (record { entry = a.entry; maker = Some (advanced job) }, refl, refl)) (gated a flight)))
-    moves WriteGate (Some a) (Ended answer.DiskFault) new flight next free (at, (faults, low, rose, is)) = bars (Some (record { entry = a.entry; maker = Some (advanced job) })) faults new (in-flight a flight at.0) (gated a flight) is
-    moves WriteGate (Some a) (Ended answer.Memory) new flight next free (at, (faults, low, is)) = subst (IsSound limit) (sym is)
+        (devices-sound limit (gone_on old (onward job job.subject job.given)
+        (Some (record a { moves = a.moves + 1 })) old.doubt old.bytes old.audits) old.providers faults
+        (moved-sound limit old S job runs a flight at.0 SyncBody old.doubt next (λ e. cc) refl
+        (let e = at.1 in omega (arith, e)) (let e = at.1 in omega (arith, e)) unbarred
+        (subst (λ n. IsGatedDoubt (record a { moves = a.moves + 1 }) (n + 1 == 3) old.doubt) (sym at.1)
+        (not-doubted a flight (ap (λ n. n == 3) at.1))) S.doubt))
+    moves SyncBody (Some a) (Ended answer.DiskFault) new flight next free (at, (faults, low, rose, is)) =
+        bars old.doubt faults new (in-flight a flight at.0) S.doubt is
+    moves WriteGate (Some a) More new flight next free (at, (faults, low, is)) =
+        subst (IsSound limit) (sym is)
+        (devices-sound limit (gone_on old (onward job job.subject job.given)
+        (Some (record a { moves = a.moves + 1 }))
+        (Some (record { entry = a.entry; maker = Some (advanced job) })) old.bytes old.audits)
+        old.providers faults
+        (moved-sound limit old S job runs a flight at.0 WriteGate
+        (Some (record { entry = a.entry; maker = Some (advanced job) })) next (λ e. cc) refl
+        (let e = at.1 in omega (arith, e)) (let e = at.1 in omega (arith, e)) unbarred
+        (subst (λ n. IsGatedDoubt (record a { moves = a.moves + 1 }) (n + 1 == 3)
+        (Some (record { entry = a.entry; maker = Some (advanced job) }))) (sym at.1)
+        (record { entry = a.entry; maker = Some (advanced job) }, refl, refl)) (gated a flight)))
+    moves WriteGate (Some a) (Ended answer.DiskFault) new flight next free (at, (faults, low, rose, is)) =
+        bars (Some (record { entry = a.entry; maker = Some (advanced job) })) faults new
+        (in-flight a flight at.0) (gated a flight) is
+    moves WriteGate (Some a) (Ended answer.Memory) new flight next free (at, (faults, low, is)) =
+        subst (IsSound limit) (sym is)
         (devices-sound limit (left_by old job None old.doubt old.is_barred) old.providers faults
-        (append-ended limit old S job runs old.doubt old.is_barred (in-flight a flight at.0) (λ o b. not-doubted a flight (ap (λ n. n == 3) at.1)) S.doubt))
+        (append-ended limit old S job runs old.doubt old.is_barred (in-flight a flight at.0)
+        (λ o b. not-doubted a flight (ap (λ n. n == 3) at.1)) S.doubt))
     moves SyncGate (Some a) More new flight next free (at, (faults, low, is)) = subst (IsSound limit) (sym is)
         (devices-sound limit _ old.providers faults (done-sound limit old S job runs next a flight at.0 at.1))
-    moves SyncGate (Some a) (Ended answer.DiskFault) new flight next free (at, (faults, low, rose, is)) = bars old.doubt faults new (in-flight a flight at.0) S.doubt is
+    moves SyncGate (Some a) (Ended answer.DiskFault) new flight next free (at, (faults, low, rose, is)) =
+        bars old.doubt faults new (in-flight a flight at.0) S.doubt is
     moves action flight r new e next free h = absurd h
 
-    acts : (action : Action) (r : Outcome) (new : State) → next_action old job ≡ Some action → holder_of old.append action ≡ None → Acts old job action r new → IsSound limit new
-    acts (Store j object stripe) More new next free (p, made, is) = called j p (Store j object stripe) job.given new next (λ e. cc) (refl, refl, refl) is
-    acts (Store j object stripe) (Ended (answer.ProviderFault k)) new next free (same, (p, made, is)) = ends (Store j object stripe) (with_provider old.providers j p) old.disk_faults new next refl is
-    acts (Store j object stripe) (Ended answer.Memory) new next free (p, made, is) = ends (Store j object stripe) (with_provider old.providers j p) old.disk_faults new next refl is
-    acts (Fetch j object stripe) More new next free (block, (p, made, is)) = called j p (Fetch j object stripe) (Fetched j object stripe block ∷ job.given) new next (λ e. cc) (refl, refl, refl) is
-    acts (Ask j object round) More new next free (symbol, (p, made, is)) = called j p (Ask j object round) (Answered j object round symbol ∷ job.given) new next (λ e. cc) (refl, refl, refl) is
+    acts : (action : Action) (r : Outcome) (new : State) → next_action old job ≡ Some action →
+        holder_of old.append action ≡ None → Acts old job action r new → IsSound limit new
+    acts (Store j object stripe) More new next free (p, made, is) =
+        called j p (Store j object stripe) job.given new next (λ e. cc) (refl, refl, refl) is
+    acts (Store j object stripe) (Ended (answer.ProviderFault k)) new next free (same, (p, made, is)) =
+        ends (Store j object stripe) (with_provider old.providers j p) old.disk_faults new next refl is
+    acts (Store j object stripe) (Ended answer.Memory) new next free (p, made, is) =
+        ends (Store j object stripe) (with_provider old.providers j p) old.disk_faults new next refl is
+    acts (Fetch j object stripe) More new next free (block, (p, made, is)) =
+        called j p (Fetch j object stripe) (Fetched j object stripe block ∷ job.given) new next (λ e. cc)
+        (refl, refl, refl) is
+    acts (Ask j object round) More new next free (symbol, (p, made, is)) =
+        called j p (Ask j object round) (Answered j object round symbol ∷ job.given) new next (λ e. cc)
+        (refl, refl, refl) is
     acts (Work object stripe) More new next free (symbols, gives, is) = subst (IsSound limit) (sym is)
-        (plain-sound limit old S job runs (Work object stripe) (Worked object stripe symbols ∷ job.given) next (λ e. cc) refl refl refl)
-    acts (Work object stripe) (Ended (answer.Lost s row)) new next free (same, loses, is) = ends (Work object stripe) old.providers old.disk_faults new next refl is
-    acts (Remove j object) More new next free (p, made, is) = called j p (Remove j object) job.given new next (λ e. cc) (refl, refl, refl) is
-    acts End (Ended how) new next free (ended_so, is) = ends End old.providers old.disk_faults new next refl is
+        (plain-sound limit old S job runs (Work object stripe) (Worked object stripe symbols ∷ job.given) next
+        (λ e. cc) refl refl refl)
+    acts (Work object stripe) (Ended (answer.Lost s row)) new next free (same, loses, is) =
+        ends (Work object stripe) old.providers old.disk_faults new next refl is
+    acts (Remove j object) More new next free (p, made, is) =
+        called j p (Remove j object) job.given new next (λ e. cc) (refl, refl, refl) is
+    acts End (Ended how) new next free (ended_so, is) =
+        ends End old.providers old.disk_faults new next refl is
     acts action r new next free h = moves action old.append r new refl next free h
 
-    acts_or_waits : (action : Action) (holder : Option ℕ) (r : Outcome) (new : State) → next_action old job ≡ Some action → holder_of old.append action ≡ holder → ActsOrWaits old job action holder r new → IsSound limit new
+    acts_or_waits : (action : Action) (holder : Option ℕ) (r : Outcome) (new : State) →
+        next_action old job ≡ Some action → holder_of old.append action ≡ holder →
+        ActsOrWaits old job action holder r new → IsSound limit new
     acts_or_waits action (Some n) (Waiting h) new next free w = same-sound new w.1
     acts_or_waits action None r new next free h = acts action r new next free h
     acts_or_waits action (Some n) r new next free h = absurd h
 
-    steps_on : (action : Option Action) (r : Outcome) (new : State) → next_action old job ≡ action → StepsOn old job action r new → IsSound limit new
+    steps_on : (action : Option Action) (r : Outcome) (new : State) → next_action old job ≡ action →
+        StepsOn old job action r new → IsSound limit new
     steps_on None r new next h = absurd h
     steps_on (Some action) r new next h = acts_or_waits action (holder_of old.append action) r new next refl h
 
-  steps_job : (number : ℕ) (job : Option Job) (r : Outcome) (new : State) → old.is_open ≡ true → old.is_barred ≡ false → job_of old.jobs number ≡ job → StepsJob old job r new → IsSound limit new
+  steps_job : (number : ℕ) (job : Option Job) (r : Outcome) (new : State) → old.is_open ≡ true →
+      old.is_barred ≡ false → job_of old.jobs number ≡ job → StepsJob old job r new → IsSound limit new
   steps_job number None (Refused refusal.NoSuchJob) new opened unbarred is h = same-sound new h
-  steps_job number (Some job) r new opened unbarred is h = steps_on opened unbarred job (subst (λ n. job_of old.jobs n ≡ Some job) (sym (number_of old.jobs number job is)) is) (next_action old job) r new refl h
+  steps_job number (Some job) r new opened unbarred is h =
+      steps_on opened unbarred job
+      (subst (λ n. job_of old.jobs n ≡ Some job) (sym (number_of old.jobs number job is)) is)
+      (next_action old job) r new refl h
   steps_job number None r new opened unbarred is h = absurd h
 
-  steps_mine : (number : ℕ) (x : Alone) (mine : Bool) (r : Outcome) (new : State) → old.is_open ≡ true → old.is_barred ≡ false → old.alone ≡ Some x → StepsMine old number x mine r new → IsSound limit new
-  steps_mine number x true r new opened unbarred runs h = alone-sound limit old S opened unbarred (S.lone x runs) x r new runs h
-  steps_mine number x false r new opened unbarred runs h = steps_job number (job_of old.jobs number) r new opened unbarred refl h
+  steps_mine : (number : ℕ) (x : Alone) (mine : Bool) (r : Outcome) (new : State) → old.is_open ≡ true →
+      old.is_barred ≡ false → old.alone ≡ Some x → StepsMine old number x mine r new → IsSound limit new
+  steps_mine number x true r new opened unbarred runs h =
+      alone-sound limit old S opened unbarred (S.lone x runs) x r new runs h
+  steps_mine number x false r new opened unbarred runs h =
+      steps_job number (job_of old.jobs number) r new opened unbarred refl h
 
-  steps_one : (number : ℕ) (x : Option Alone) (r : Outcome) (new : State) → old.is_open ≡ true → old.is_barred ≡ false → old.alone ≡ x → StepsOne old number x r new → IsSound limit new
-  steps_one number None r new opened unbarred none h = steps_job number (job_of old.jobs number) r new opened unbarred refl h
-  steps_one number (Some x) r new opened unbarred runs h = steps_mine number x (number_alone x == number) r new opened unbarred runs h
+  steps_one : (number : ℕ) (x : Option Alone) (r : Outcome) (new : State) → old.is_open ≡ true →
+      old.is_barred ≡ false → old.alone ≡ x → StepsOne old number x r new → IsSound limit new
+  steps_one number None r new opened unbarred none h =
+      steps_job number (job_of old.jobs number) r new opened unbarred refl h
+  steps_one number (Some x) r new opened unbarred runs h =
+      steps_mine number x (number_alone x == number) r new opened unbarred runs h
 
-  steps_open : (number : ℕ) (is_barred : Bool) (r : Outcome) (new : State) → old.is_open ≡ true → old.is_barred ≡ is_barred → StepsOpen old number is_barred r new → IsSound limit new
+  steps_open : (number : ℕ) (is_barred : Bool) (r : Outcome) (new : State) → old.is_open ≡ true →
+      old.is_barred ≡ is_barred → StepsOpen old number is_barred r new → IsSound limit new
   steps_open number true (Refused refusal.MustReopen) new opened e h = same-sound new h
   steps_open number false r new opened e h = steps_one number old.alone r new opened e refl h
   steps_open number true r new opened e h = absurd h
 
-  steps : (number : ℕ) (is_open : Bool) (r : Outcome) (new : State) → old.is_open ≡ is_open → Steps old number is_open r new → IsSound limit new
+  steps : (number : ℕ) (is_open : Bool) (r : Outcome) (new : State) → old.is_open ≡ is_open →
+      Steps old number is_open r new → IsSound limit new
   steps number false Closed new e h = same-sound new h
   steps number true r new e h = steps_open number old.is_barred r new e refl h
   steps number false r new e h = absurd h
 
-  begins : (kind : Kind) (wish : Option ℕ) → ((p : ℕ) → wish ≡ Some p → (name : List ℕ) × (bytes : List ℕ) × (kind ≡ PutJob name bytes)) → IsLimit limit →
-      (r : Outcome) (new : State) → IsSpelledKind kind → BeginsAt limit moment old kind wish r new → IsSound limit new
+  begins : (kind : Kind) (wish : Option ℕ) →
+      ((p : ℕ) → wish ≡ Some p → (name : List ℕ) × (bytes : List ℕ) × (kind ≡ PutJob name bytes)) →
+      IsLimit limit →
+      (r : Outcome) (new : State) → IsSpelledKind kind → BeginsAt limit moment old kind wish r new →
+      IsSound limit new
   begins kind wish named fits Closed new spelled h = same-sound new h.1
   begins kind wish named fits (Refused why) new spelled h = same-sound new h.2
-  begins kind wish named fits (Begun job) new spelled h = subst (IsSound limit) (sym h.3) (begun-job limit moment old S kind wish named h.0 h.1 spelled fits)
+  begins kind wish named fits (Begun job) new spelled h =
+      subst (IsSound limit) (sym h.3) (begun-job limit moment old S kind wish named h.0 h.1 spelled fits)
   begins kind wish named fits r new spelled h = absurd h
 
-  replaces : (j : ℕ) (IsThere : Held → Type 0) (changed : Held → Held) (r : Outcome) (new : State) → ReplacesAt old j IsThere changed r new → IsSound limit new
-  replaces j IsThere changed Replaced new (p, made, is) = subst (IsSound limit) (sym is) (devices-sound limit old (with_provider old.providers j p) old.disk_faults S)
-  replaces j IsThere changed NothingHeld new (p, made, is) = subst (IsSound limit) (sym is) (devices-sound limit old (with_provider old.providers j p) old.disk_faults S)
+  replaces : (j : ℕ) (IsThere : Held → Type 0) (changed : Held → Held) (r : Outcome) (new : State) →
+      ReplacesAt old j IsThere changed r new → IsSound limit new
+  replaces j IsThere changed Replaced new (p, made, is) =
+      subst (IsSound limit) (sym is)
+      (devices-sound limit old (with_provider old.providers j p) old.disk_faults S)
+  replaces j IsThere changed NothingHeld new (p, made, is) =
+      subst (IsSound limit) (sym is)
+      (devices-sound limit old (with_provider old.providers j p) old.disk_faults S)
   replaces j IsThere changed r new h = absurd h
 
-  replaces_if : (handed : Bool) (j : ℕ) (IsThere : Held → Type 0) (changed : Held → Held) (r : Outcome) (new : State) → ReplacesIf handed old j IsThere changed r new → IsSound limit new
+  replaces_if : (handed : Bool) (j : ℕ) (IsThere : Held → Type 0) (changed : Held → Held) (r : Outcome)
+      (new : State) → ReplacesIf handed old j IsThere changed r new → IsSound limit new
   replaces_if true j IsThere changed r new h = replaces j IsThere changed r new h
   replaces_if false j IsThere changed NothingHeld new h = same-sound new h
   replaces_if false j IsThere changed r new h = absurd h
@@ -235,22 +326,31 @@ module _ (limit moment : ℕ) (old : State) (S : IsSound limit old) where
   lists false r new h = absurd h
 
   -- whatever event happens, a sound state stays sound
-  pub events-sound : IsLimit limit → (event : Event) (outcome : Outcome) (new : State) → IsSpelled event → Happens limit moment old event outcome new → IsSound limit new
+  pub events-sound : IsLimit limit → (event : Event) (outcome : Outcome) (new : State) → IsSpelled event →
+      Happens limit moment old event outcome new → IsSound limit new
   events-sound fits (Init s) r new spelled h = inits-sound limit old S s old.is_open r new refl spelled.7 h
-  events-sound fits (Begin kind) r new spelled h = begins kind None (λ p e. absurd (let f : None ≡ Some p = e in cc)) fits r new spelled h
-  events-sound fits (BeginAt profile name bytes) r new spelled h = begins (PutJob name bytes) (Some profile) (λ p e. (name, bytes, refl)) fits r new spelled.1 h
+  events-sound fits (Begin kind) r new spelled h =
+      begins kind None (λ p e. absurd (let f : None ≡ Some p = e in cc)) fits r new spelled h
+  events-sound fits (BeginAt profile name bytes) r new spelled h =
+      begins (PutJob name bytes) (Some profile) (λ p e. (name, bytes, refl)) fits r new spelled.1 h
   events-sound fits BeginScrub r new spelled h = scrub-begins limit old S moment r new h
   events-sound fits BeginPack r new spelled h = pack-begins limit old S r new h
   events-sound fits (Step number) r new spelled h = steps number old.is_open r new refl h
-  events-sound fits (Alter j object stripe place symbol) r new spelled h = replaces_if (nat_lt j old.handed) j (λ held. HasPlace (held object stripe) place) (with_symbol object stripe place symbol) r new h
-  events-sound fits (Lose j object stripe) r new spelled h = replaces_if (nat_lt j old.handed) j (λ held. IsSome (held object stripe)) (without_block object stripe) r new h
+  events-sound fits (Alter j object stripe place symbol) r new spelled h =
+      replaces_if (nat_lt j old.handed) j (λ held. HasPlace (held object stripe) place)
+      (with_symbol object stripe place symbol) r new h
+  events-sound fits (Lose j object stripe) r new spelled h =
+      replaces_if (nat_lt j old.handed) j (λ held. IsSome (held object stripe))
+      (without_block object stripe) r new h
   events-sound fits (Stop picks) r new spelled h = stops-sound limit old S r new h
   events-sound fits Reopen r new spelled h = reopens-sound limit old S r new h
   events-sound fits Names r new spelled h = lists old.is_open r new h
   events-sound fits Continue r new spelled h = continues-sound limit old S r new h
 
 -- so every state of a run is sound
-pub run-sound : (limit : ℕ) (start : State) (ms : List Moment) → IsLimit limit → IsStart start → IsRun limit start ms → IsSound limit (now start ms)
+pub run-sound : (limit : ℕ) (start : State) (ms : List Moment) → IsLimit limit → IsStart start →
+    IsRun limit start ms → IsSound limit (now start ms)
 run-sound limit start [] fits clean run = start-sound limit start clean
 run-sound limit start (m ∷ ms) fits clean run =
-    events-sound limit (length ms) (now start ms) (run-sound limit start ms fits clean run.2) fits m.event m.outcome m.state run.0 run.1
+    events-sound limit (length ms) (now start ms) (run-sound limit start ms fits clean run.2) fits m.event
+    m.outcome m.state run.0 run.1

@@ -21,19 +21,23 @@ use Rattle.state_laws.proofs.Events.{moves-next}
 
 -- the numbers of a setup in the grammar are a shape of the code
 pub valid-shape : (s : Setup) → IsTrue (is_in_grammar (SetUp s)) → IsShape s.n s.l s.b
-valid-shape s h = let good : is_setup s ≡ true = (and_parts (is_setup s) (is_master s.master) h).0 in grind (arith, good)
+valid-shape s h = let good : is_setup s ≡ true =
+    (and_parts (is_setup s) (is_master s.master) h).0 in grind (arith, good)
 
 module _ (limit : ℕ) (w : State) (S : IsSound limit w) where
   -- until the second version no begin is refused for want of numbers
-  pub numbers-left : (kind : Kind) → version_of w.records ≡ 1 → are_numbers_used_up (sight_of w) (aim_of kind) ≡ false
-  numbers-left (PutJob name bytes) first = not-above (next_id w.records) (let a = ids-small limit w S first in omega (arith, a))
+  pub numbers-left : (kind : Kind) → version_of w.records ≡ 1 →
+      are_numbers_used_up (sight_of w) (aim_of kind) ≡ false
+  numbers-left (PutJob name bytes) first =
+      not-above (next_id w.records) (let a = ids-small limit w S first in omega (arith, a))
     where
       not-above : (n : ℕ) → n ≤ 2 ^ 64 - 32 → nat_lt (2 ^ 64 - 32) n ≡ false
       not-above n l = elim (cases_Bool (nat_lt (2 ^ 64 - 32) n)) [
         | inl t ↦ absurd (let a = ltb-true (2 ^ 64 - 32) n t in omega (arith, a, l))
         | inr f ↦ f
       ]
-  numbers-left AuditJob first = not-above (next_audit w.records) (let a = audits-small limit w S first in omega (arith, a))
+  numbers-left AuditJob first =
+      not-above (next_audit w.records) (let a = audits-small limit w S first in omega (arith, a))
     where
       not-above : (n : ℕ) → n ≤ 2 ^ 64 - 32 → nat_lt (2 ^ 64 - 32) n ≡ false
       not-above n l = elim (cases_Bool (nat_lt (2 ^ 64 - 32) n)) [
@@ -46,22 +50,35 @@ module _ (limit : ℕ) (w : State) (S : IsSound limit w) where
   numbers-left UpgradeJob first = refl
 
   -- a job that runs has a next action
-  pub next-some : (number : ℕ) (job : Job) → job_of w.jobs number ≡ Some job → (action : Action) × (next_action w job ≡ Some action)
+  pub next-some : (number : ℕ) (job : Job) → job_of w.jobs number ≡ Some job →
+      (action : Action) × (next_action w job ≡ Some action)
   next-some number job runs = elim (cases_Bool (is_idle_drop w job job.kind)) [
-    | inl t ↦ (End, cond_true (is_idle_drop w job job.kind) (Some End) (slice_get (actions_of (setup_in w) job) job.place) t)
-    | inr f ↦ (let x = in_order-first (moves_made w.append number) (actions_left (setup_in w) job) (S.jobs number job runs).order in
-        (x.0, cond_false (is_idle_drop w job job.kind) (Some End) (slice_get (actions_of (setup_in w) job) job.place) f ∙ (sym (get-drop (actions_of (setup_in w) job) job.place) ∙ x.1)))
+    | inl t ↦ (
+      End,
+      cond_true (is_idle_drop w job job.kind) (Some End)
+          (slice_get (actions_of (setup_in w) job) job.place) t,
+    )
+    | inr f ↦ (let x = in_order-first (moves_made w.append number) (actions_left (setup_in w) job)
+        (S.jobs number job runs).order in (
+          x.0,
+          cond_false (is_idle_drop w job job.kind) (Some End)
+              (slice_get (actions_of (setup_in w) job) job.place) f
+              ∙ (sym (get-drop (actions_of (setup_in w) job) job.place) ∙ x.1),
+        ))
   ]
 
   -- a job at a later move of an append has its own append in flight, at that move
-  pub mover : (number : ℕ) (job : Job) (action : Action) → job_of w.jobs number ≡ Some job → next_action w job ≡ Some action → 0 < moves_before action → (a : Append) × (w.append ≡ Some a) × IsAt a job (moves_before action)
+  pub mover : (number : ℕ) (job : Job) (action : Action) → job_of w.jobs number ≡ Some job →
+      next_action w job ≡ Some action → 0 < moves_before action →
+      (a : Append) × (w.append ≡ Some a) × IsAt a job (moves_before action)
   mover number job action runs next l =
       (let e = moves-next w job action (moves_made w.append number) next (S.jobs number job runs).order in
       let m = made-some w.append number (omega (arith, l, e)) in
       (m.0, m.1, (m.2 ∙ sym (number_of w.jobs number job runs), m.3 ∙ e)))
 
   -- the append in flight is of a job that runs, at the move that comes next
-  pub holder : (a : Append) → w.append ≡ Some a → (job : Job) × (job_of w.jobs a.job ≡ Some job) × ((action : Action) × (next_action w job ≡ Some action) × (a.moves ≡ moves_before action))
+  pub holder : (a : Append) → w.append ≡ Some a → (job : Job) × (job_of w.jobs a.job ≡ Some job) ×
+      ((action : Action) × (next_action w job ≡ Some action) × (a.moves ≡ moves_before action))
   holder a flight =
       (let A = S.append a flight in
       let n = next-some a.job A.job A.runs in

@@ -33,27 +33,33 @@ length-without_le : (ys : List (List ℕ)) (x : List ℕ) → length (names_with
 length-without_le [] x = omega arith
 length-without_le (y ∷ ys) x = grind (arith, length-without_le ys x)
 
-length-without_listed : (ys : List (List ℕ)) (x : List ℕ) → is_name_among ys x ≡ true → length (names_without ys x) + 1 ≤ length ys
+length-without_listed : (ys : List (List ℕ)) (x : List ℕ) → is_name_among ys x ≡ true →
+    length (names_without ys x) + 1 ≤ length ys
 length-without_listed [] x h = absurd (false≢true h)
 length-without_listed (y ∷ ys) x h = grind (arith, h, length-without_listed ys x, length-without_le ys x)
 
-listed-without : (ys : List (List ℕ)) (x n : List ℕ) → is_same_name x n ≡ false → is_name_among (names_without ys x) n ≡ is_name_among ys n
+listed-without : (ys : List (List ℕ)) (x n : List ℕ) → is_same_name x n ≡ false →
+    is_name_among (names_without ys x) n ≡ is_name_among ys n
 listed-without [] x n f = refl
 listed-without (y ∷ ys) x n f = grind (arith, f, listed-without ys x n f, same-eq x y, same-sym n x)
 
 -- names that stand once each and all stand among others are no more than those
-pub fewer : (xs ys : List (List ℕ)) → AreOnce xs → ((n : List ℕ) → is_name_among xs n ≡ true → is_name_among ys n ≡ true) → length xs ≤ length ys
+pub fewer : (xs ys : List (List ℕ)) → AreOnce xs →
+    ((n : List ℕ) → is_name_among xs n ≡ true → is_name_among ys n ≡ true) → length xs ≤ length ys
 fewer [] ys o h = omega arith
 fewer (x ∷ xs) ys o h =
     (let here : is_name_among ys x ≡ true = h x (grind (arith, same-refl x)) in
     let r = fewer xs (names_without ys x) o.1 (λ n i. later n i (cases_Bool (is_same_name x n))) in
     let l = length-without_listed ys x here in omega (arith, r, l))
   where
-    later : (n : List ℕ) → is_name_among xs n ≡ true → (is_same_name x n ≡ true) ⊎ (is_same_name x n ≡ false) → is_name_among (names_without ys x) n ≡ true
-    later n i (inl t) = absurd (false≢true (sym o.0 ∙ subst (λ m. is_name_among xs m ≡ true) (sym (same-eq x n t)) i))
+    later : (n : List ℕ) → is_name_among xs n ≡ true →
+        (is_same_name x n ≡ true) ⊎ (is_same_name x n ≡ false) → is_name_among (names_without ys x) n ≡ true
+    later n i (inl t) = absurd
+        (false≢true (sym o.0 ∙ subst (λ m. is_name_among xs m ≡ true) (sym (same-eq x n t)) i))
     later n i (inr f) = listed-without ys x n f ∙ h n (grind (arith, i))
 
-listed-with_name : (names : List (List ℕ)) (name n : List ℕ) → is_name_among (with_name names name) n ≡ (is_same_name n name || is_name_among names n)
+listed-with_name : (names : List (List ℕ)) (name n : List ℕ) →
+    is_name_among (with_name names name) n ≡ (is_same_name n name || is_name_among names n)
 listed-with_name names name n = grind (arith, same-eq n name)
 
 once-with_name : (names : List (List ℕ)) (name : List ℕ) → AreOnce names → AreOnce (with_name names name)
@@ -96,7 +102,8 @@ are_put n js = list_any (λ (j : Job). puts_name n (aim_of j.kind)) js
 
 -- ---- the names of files
 
-below-listed : (fs : List File) (name : List ℕ) → is_below name fs ≡ true → is_name_among (names_in fs) name ≡ false
+below-listed : (fs : List File) (name : List ℕ) → is_below name fs ≡ true →
+    is_name_among (names_in fs) name ≡ false
 below-listed [] name h = refl
 below-listed (f ∷ fs) name h = grind (arith, h, below-listed fs name, same-eq name f.name, before-irrefl name)
 
@@ -114,7 +121,8 @@ listed-files [] n = refl
 listed-files (f ∷ fs) n = grind (arith, listed-files fs n, same-sym n f.name)
 
 -- a name is listed exactly if a file of it is in effect
-pub listed-files_of : (rs : List Record) (n : List ℕ) → is_name_among (names_in (files_of rs)) n ≡ is_some (file_of rs n)
+pub listed-files_of : (rs : List Record) (n : List ℕ) →
+    is_name_among (names_in (files_of rs)) n ≡ is_some (file_of rs n)
 listed-files_of rs n = listed-files (files_of rs) n ∙ ap is_some (find-files_of rs n)
 
 -- there are as many names as files
@@ -133,18 +141,23 @@ pub once-taken : (rs : List Record) (js : List Job) → AreOnce (taken_by rs js)
 once-taken rs js = once-with_puts (names_in (files_of rs)) (aims_of js) (once-files rs)
 
 -- a name is taken exactly if a put has it or a file of it is in effect
-pub listed-taken : (rs : List Record) (js : List Job) (n : List ℕ) → is_name_among (taken_by rs js) n ≡ (are_put n js || is_some (file_of rs n))
+pub listed-taken : (rs : List Record) (js : List Job) (n : List ℕ) →
+    is_name_among (taken_by rs js) n ≡ (are_put n js || is_some (file_of rs n))
 listed-taken rs js n = listed-with_puts (names_in (files_of rs)) (aims_of js) n
     ∙ (ap (λ b. b || is_name_among (names_in (files_of rs)) n) (any-aims (puts_name n) js)
     ∙ ap (λ b. are_put n js || b) (listed-files_of rs n))
 
 -- names that are taken now and were taken before are no more than before
-pub taken-fewer : (rs more : List Record) (js now : List Job) → ((n : List ℕ) → (are_put n now || is_some (file_of more n)) ≡ true → (are_put n js || is_some (file_of rs n)) ≡ true) →
+pub taken-fewer : (rs more : List Record) (js now : List Job) →
+    ((n : List ℕ) → (are_put n now || is_some (file_of more n)) ≡ true →
+    (are_put n js || is_some (file_of rs n)) ≡ true) →
     length (taken_by more now) ≤ length (taken_by rs js)
-taken-fewer rs more js now h = fewer (taken_by more now) (taken_by rs js) (once-taken more now) (λ n i. listed-taken rs js n ∙ h n (sym (listed-taken more now n) ∙ i))
+taken-fewer rs more js now h = fewer (taken_by more now) (taken_by rs js) (once-taken more now)
+    (λ n i. listed-taken rs js n ∙ h n (sym (listed-taken more now n) ∙ i))
 
 -- a job that runs puts under its name
-pub put-in : (n : List ℕ) (js : List Job) (k : ℕ) (j : Job) → job_of js k ≡ Some j → puts_name n (aim_of j.kind) ≡ true → are_put n js ≡ true
+pub put-in : (n : List ℕ) (js : List Job) (k : ℕ) (j : Job) → job_of js k ≡ Some j →
+    puts_name n (aim_of j.kind) ≡ true → are_put n js ≡ true
 put-in n js k j runs h = elim (cases_Bool (are_put n js)) [
   | inl t ↦ t
   | inr f ↦ absurd (false≢true (sym (any_job (λ (x : Job). puts_name n (aim_of x.kind)) js k j runs f) ∙ h))

@@ -48,7 +48,8 @@ in_order-end : IsInOrder 0 (End ∷ [])
 in_order-end = (refl, refl)
 
 -- an action that is not the End goes on in the order
-pub in_order-step : (moves : ℕ) (action : Action) (actions : List Action) → (action ≡ End → ⊥) → IsInOrder moves (action ∷ actions) →
+pub in_order-step : (moves : ℕ) (action : Action) (actions : List Action) → (action ≡ End → ⊥) →
+    IsInOrder moves (action ∷ actions) →
     (moves ≡ moves_before action) × IsInOrder (moves_after action) actions
 in_order-step moves WriteBody actions n o = o
 in_order-step moves SyncBody actions n o = o
@@ -62,7 +63,8 @@ in_order-step moves (Remove j object) actions n o = o
 in_order-step moves End actions n o = absurd (n refl)
 
 -- in a list in order, the moves made are those before its first action
-pub moves-first : (moves : ℕ) (action : Action) (actions : List Action) → IsInOrder moves (action ∷ actions) → moves ≡ moves_before action
+pub moves-first : (moves : ℕ) (action : Action) (actions : List Action) → IsInOrder moves (action ∷ actions) →
+    moves ≡ moves_before action
 moves-first moves WriteBody actions o = o.0
 moves-first moves SyncBody actions o = o.0
 moves-first moves WriteGate actions o = o.0
@@ -75,7 +77,8 @@ moves-first moves (Remove j object) actions o = o.0
 moves-first moves End actions o = o.0
 
 -- some action is first
-pub in_order-first : (moves : ℕ) (actions : List Action) → IsInOrder moves actions → (action : Action) × (slice_get actions 0 ≡ Some action)
+pub in_order-first : (moves : ℕ) (actions : List Action) → IsInOrder moves actions →
+    (action : Action) × (slice_get actions 0 ≡ Some action)
 in_order-first moves [] o = absurd o
 in_order-first moves (action ∷ actions) o = (action, refl)
 
@@ -90,18 +93,24 @@ get-drop (x ∷ xs) (suc p) = get-drop xs p
 
 -- no removal is a move of an append or an End
 pub others-removals : (s : Setup) (job : Job) → Each IsOther (remove_actions s job)
-others-removals s job = each_flat IsOther (λ object. on_each_provider s (λ j. Remove j object)) job.older (λ object. each_map IsOther (λ j. Remove j object) (upto s.n) (λ j. tt))
+others-removals s job = each_flat IsOther (λ object. on_each_provider s (λ j. Remove j object)) job.older
+    (λ object. each_map IsOther (λ j. Remove j object) (upto s.n) (λ j. tt))
 
 others-stores : (s : Setup) (job : Job) (bytes : List ℕ) → Each IsOther (store_actions s job bytes)
-others-stores s job bytes = each_flat IsOther (λ stripe. on_each_provider s (λ j. Store j job.subject stripe)) (upto (stripes_of (profiled s job.profile) (length bytes)))
+others-stores s job bytes = each_flat IsOther (λ stripe. on_each_provider s (λ j. Store j job.subject stripe))
+    (upto (stripes_of (profiled s job.profile) (length bytes)))
     (λ stripe. each_map IsOther (λ j. Store j job.subject stripe) (upto s.n) (λ j. tt))
 
 others-open : (s : Setup) (object stripe : ℕ) → Each IsOther (open_actions s object stripe)
-others-open s object stripe = each_append IsOther (on_each_provider s (λ j. Fetch j object stripe)) (Work object stripe ∷ []) (each_map IsOther (λ j. Fetch j object stripe) (upto s.n) (λ j. tt)) (tt, tt)
+others-open s object stripe = each_append IsOther (on_each_provider s (λ j. Fetch j object stripe))
+    (Work object stripe ∷ []) (each_map IsOther (λ j. Fetch j object stripe) (upto s.n) (λ j. tt)) (tt, tt)
 
 others-reads : (s : Setup) (pinned : List Pinned) → Each IsOther (read_actions s pinned)
-others-reads s pinned = each_flat IsOther (λ (f : Pinned). on_each_stripe (profiled s f.profile) (length f.bytes) (open_actions s f.id)) pinned
-    (λ f. each_flat IsOther (open_actions s f.id) (upto (stripes_of (profiled s f.profile) (length f.bytes))) (λ stripe. others-open s f.id stripe))
+others-reads s pinned =
+    each_flat IsOther (λ (f : Pinned). on_each_stripe (profiled s f.profile) (length f.bytes)
+    (open_actions s f.id)) pinned
+    (λ f. each_flat IsOther (open_actions s f.id) (upto (stripes_of (profiled s f.profile) (length f.bytes)))
+    (λ stripe. others-open s f.id stripe))
 
 others-cond : (b : _) (action : Action) → IsOther action → Each IsOther (cond b (action ∷ []) [])
 others-cond true action h = (h, tt)
@@ -109,15 +118,25 @@ others-cond false action h = tt
 
 -- nothing that a repair does on its files is a move of an append or an End
 pub others-repairs : (s : Setup) (job : Job) → Each IsOther (repair_actions s job)
-others-repairs s job = each_flat IsOther (λ (f : Pinned). on_each_stripe (profiled s f.profile) (length f.bytes) (λ stripe. open_actions s f.id stripe ++ rewrite_actions s job f.id stripe)) job.pinned
-    (λ f. each_flat IsOther (λ stripe. open_actions s f.id stripe ++ rewrite_actions s job f.id stripe) (upto (stripes_of (profiled s f.profile) (length f.bytes)))
-    (λ stripe. each_append IsOther (open_actions s f.id stripe) (rewrite_actions s job f.id stripe) (others-open s f.id stripe)
-    (each_flat IsOther (λ j. cond (job.flagged j) (Store j f.id stripe ∷ []) []) (upto s.n) (λ j. others-cond (job.flagged j) (Store j f.id stripe) tt))))
+others-repairs s job =
+    each_flat IsOther (λ (f : Pinned). on_each_stripe (profiled s f.profile) (length f.bytes)
+    (λ stripe. open_actions s f.id stripe ++ rewrite_actions s job f.id stripe)) job.pinned
+    (λ f. each_flat IsOther (λ stripe. open_actions s f.id stripe ++ rewrite_actions s job f.id stripe)
+    (upto (stripes_of (profiled s f.profile) (length f.bytes)))
+    (λ stripe. each_append IsOther (open_actions s f.id stripe) (rewrite_actions s job f.id stripe)
+    (others-open s f.id stripe)
+    (each_flat IsOther (λ j. cond (job.flagged j) (Store j f.id stripe ∷ []) []) (upto s.n)
+    (λ j. others-cond (job.flagged j) (Store j f.id stripe) tt))))
 
 -- what each ask is, those of a job are
-pub each-ask : (P : Action → Type 0) → ((j object round : ℕ) → P (Ask j object round)) → (s : Setup) (job : Job) → Each P (ask_actions s job)
-each-ask P h s job = each_flat P (λ (f : Pinned). flat_map (λ round. on_each_provider s (λ j. Ask j f.id round)) (rounds_of (profiled s f.profile) (length f.bytes))) job.pinned
-    (λ f. each_flat P (λ round. on_each_provider s (λ j. Ask j f.id round)) (rounds_of (profiled s f.profile) (length f.bytes)) (λ round. each_map P (λ j. Ask j f.id round) (upto s.n) (λ j. h j f.id round)))
+pub each-ask : (P : Action → Type 0) → ((j object round : ℕ) → P (Ask j object round)) →
+    (s : Setup) (job : Job) → Each P (ask_actions s job)
+each-ask P h s job = each_flat P
+    (λ (f : Pinned). flat_map (λ round. on_each_provider s (λ j. Ask j f.id round))
+    (rounds_of (profiled s f.profile) (length f.bytes))) job.pinned
+    (λ f. each_flat P (λ round. on_each_provider s (λ j. Ask j f.id round))
+    (rounds_of (profiled s f.profile) (length f.bytes))
+    (λ round. each_map P (λ j. Ask j f.id round) (upto s.n) (λ j. h j f.id round)))
 
 others-asks : (s : Setup) (job : Job) → Each IsOther (ask_actions s job)
 others-asks s job = each-ask IsOther (λ j object round. tt) s job
@@ -136,15 +155,21 @@ audit_rest s job = ask_actions s job ++ (append_actions ++ End ∷ [])
 
 -- removals and an end are in order
 pub in_order-removals : (s : Setup) (job : Job) → IsInOrder 0 (drop_rest s job)
-in_order-removals s job = in_order-others (remove_actions s job) (End ∷ []) (others-removals s job) in_order-end
+in_order-removals s job =
+    in_order-others (remove_actions s job) (End ∷ []) (others-removals s job) in_order-end
 
 in_order-by : (s : Setup) (job : Job) (kind : Kind) → IsInOrder 0 (actions_by s job kind)
 in_order-by s job (PutJob name bytes) = in_order-append (put_rest s job bytes)
-    (in_order-others (store_actions s job bytes) (append_actions ++ drop_rest s job) (others-stores s job bytes) (in_order-append (drop_rest s job) (in_order-removals s job)))
-in_order-by s job (GetJob name) = in_order-others (read_actions s job.pinned) (End ∷ []) (others-reads s job.pinned) in_order-end
+    (in_order-others (store_actions s job bytes) (append_actions ++ drop_rest s job)
+    (others-stores s job bytes) (in_order-append (drop_rest s job) (in_order-removals s job)))
+in_order-by s job (GetJob name) =
+    in_order-others (read_actions s job.pinned) (End ∷ []) (others-reads s job.pinned) in_order-end
 in_order-by s job (DropJob name) = in_order-append (drop_rest s job) (in_order-removals s job)
-in_order-by s job AuditJob = in_order-append (audit_rest s job) (in_order-others (ask_actions s job) (append_actions ++ End ∷ []) (others-asks s job) (in_order-append (End ∷ []) in_order-end))
-in_order-by s job RepairJob = in_order-others (repair_actions s job) (append_actions ++ End ∷ []) (others-repairs s job) (in_order-append (End ∷ []) in_order-end)
+in_order-by s job AuditJob = in_order-append (audit_rest s job)
+    (in_order-others (ask_actions s job) (append_actions ++ End ∷ []) (others-asks s job)
+    (in_order-append (End ∷ []) in_order-end))
+in_order-by s job RepairJob = in_order-others (repair_actions s job) (append_actions ++ End ∷ [])
+    (others-repairs s job) (in_order-append (End ∷ []) in_order-end)
 in_order-by s job UpgradeJob = in_order-append (End ∷ []) in_order-end
 
 -- the actions of a job are in order
@@ -165,7 +190,8 @@ appends_in actions = count_by ends_append actions
 -- where no action is a move of an append, no append ends
 pub appends-others : (xs : List Action) → Each IsOther xs → appends_in xs ≡ 0
 appends-others [] h = refl
-appends-others (x ∷ xs) h = sum_by-cons gates x xs ∙ (let e = first x h.0 in let r = appends-others xs h.1 in omega (arith, e, r))
+appends-others (x ∷ xs) h =
+    sum_by-cons gates x xs ∙ (let e = first x h.0 in let r = appends-others xs h.1 in omega (arith, e, r))
   where
     first : (x : Action) → IsOther x → gates x ≡ 0
     first (Store j object stripe) i = refl
@@ -180,15 +206,21 @@ appends-others (x ∷ xs) h = sum_by-cons gates x xs ∙ (let e = first x h.0 in
     first End i = absurd i
 
 -- one action more in front adds an append exactly if it is a fourth move
-pub appends-cons : (action : Action) (actions : List Action) → appends_in (action ∷ actions) ≡ gates action + appends_in actions
+pub appends-cons : (action : Action) (actions : List Action) →
+    appends_in (action ∷ actions) ≡ gates action + appends_in actions
 appends-cons action actions = sum_by-cons gates action actions
 
 -- within an append its fourth move is left
-pub appends-order : (moves : ℕ) (actions : List Action) → 0 < moves → IsInOrder moves actions → 0 < appends_in actions
+pub appends-order : (moves : ℕ) (actions : List Action) → 0 < moves → IsInOrder moves actions →
+    0 < appends_in actions
 appends-order moves [] l o = absurd o
 appends-order moves (WriteBody ∷ actions) l o = absurd (let e = o.0 in omega (arith, l, e))
-appends-order moves (SyncBody ∷ actions) l o = (let r = appends-order 2 actions (omega arith) o.1 in let c = appends-cons SyncBody actions in omega (arith, r, c))
-appends-order moves (WriteGate ∷ actions) l o = (let r = appends-order 3 actions (omega arith) o.1 in let c = appends-cons WriteGate actions in omega (arith, r, c))
+appends-order moves (SyncBody ∷ actions) l o =
+    (let r = appends-order 2 actions (omega arith) o.1 in let c = appends-cons SyncBody actions in
+    omega (arith, r, c))
+appends-order moves (WriteGate ∷ actions) l o =
+    (let r = appends-order 3 actions (omega arith) o.1 in let c = appends-cons WriteGate actions in
+    omega (arith, r, c))
 appends-order moves (SyncGate ∷ actions) l o = (let c = appends-cons SyncGate actions in omega (arith, c))
 appends-order moves (Store j object stripe ∷ actions) l o = absurd (let e = o.0 in omega (arith, l, e))
 appends-order moves (Fetch j object stripe ∷ actions) l o = absurd (let e = o.0 in omega (arith, l, e))
@@ -210,27 +242,32 @@ appends-move ys = appends-append append_actions ys
 
 -- among removals and an end no append ends
 pub appends-removals : (s : Setup) (job : Job) → appends_in (drop_rest s job) ≡ 0
-appends-removals s job = appends-append (remove_actions s job) (End ∷ []) ∙ (let e = appends-others (remove_actions s job) (others-removals s job) in omega (arith, e))
+appends-removals s job = appends-append (remove_actions s job) (End ∷ [])
+    ∙ (let e = appends-others (remove_actions s job) (others-removals s job) in omega (arith, e))
 
 appends-put_rest : (s : Setup) (job : Job) (bytes : List ℕ) → appends_in (put_rest s job bytes) ≡ 1
 appends-put_rest s job bytes =
     appends-append (store_actions s job bytes) (append_actions ++ drop_rest s job)
-    ∙ (let e = appends-others (store_actions s job bytes) (others-stores s job bytes) in let f = appends-move (drop_rest s job) in let g = appends-removals s job in omega (arith, e, f, g))
+    ∙ (let e = appends-others (store_actions s job bytes) (others-stores s job bytes) in
+    let f = appends-move (drop_rest s job) in let g = appends-removals s job in omega (arith, e, f, g))
 
 appends-audit_rest : (s : Setup) (job : Job) → appends_in (audit_rest s job) ≡ 1
 appends-audit_rest s job =
     appends-append (ask_actions s job) (append_actions ++ End ∷ [])
-    ∙ (let e = appends-others (ask_actions s job) (others-asks s job) in let f = appends-move (End ∷ []) in omega (arith, e, f))
+    ∙ (let e = appends-others (ask_actions s job) (others-asks s job) in let f = appends-move (End ∷ []) in
+    omega (arith, e, f))
 
 -- within the first append of a list, and behind it
-appends-within : (ys : List Action) (p : ℕ) → p < 4 → appends_in (drop p (append_actions ++ ys)) ≡ 1 + appends_in ys
+appends-within : (ys : List Action) (p : ℕ) → p < 4 →
+    appends_in (drop p (append_actions ++ ys)) ≡ 1 + appends_in ys
 appends-within ys zero l = appends-move ys
 appends-within ys (suc zero) l = appends-append (SyncBody ∷ WriteGate ∷ SyncGate ∷ []) ys
 appends-within ys (suc (suc zero)) l = appends-append (WriteGate ∷ SyncGate ∷ []) ys
 appends-within ys (suc (suc (suc zero))) l = appends-append (SyncGate ∷ []) ys
 appends-within ys (suc (suc (suc (suc p)))) l = absurd (omega (arith, l))
 
-appends-behind : (ys : List Action) (p : ℕ) → 4 ≤ p → appends_in (drop p (append_actions ++ ys)) ≤ appends_in ys
+appends-behind : (ys : List Action) (p : ℕ) → 4 ≤ p →
+    appends_in (drop p (append_actions ++ ys)) ≤ appends_in ys
 appends-behind ys zero l = absurd (omega (arith, l))
 appends-behind ys (suc zero) l = absurd (omega (arith, l))
 appends-behind ys (suc (suc zero)) l = absurd (omega (arith, l))
@@ -247,40 +284,61 @@ appends_left-by s job = refl
 
 module _ (s : Setup) (job : Job) where
   -- a put has two appends left until its first one is done
-  pub put-first : (name bytes : List ℕ) → job.kind ≡ PutJob name bytes → job.place < 4 → appends_left s job ≡ 2
-  put-first name bytes kind l = appends_left-by s job ∙ (ap (appends_by s job) kind ∙ (appends-within (put_rest s job bytes) job.place l ∙ ap (λ n. 1 + n) (appends-put_rest s job bytes)))
+  pub put-first : (name bytes : List ℕ) → job.kind ≡ PutJob name bytes → job.place < 4 →
+      appends_left s job ≡ 2
+  put-first name bytes kind l = appends_left-by s job
+      ∙ (ap (appends_by s job) kind
+      ∙ (appends-within (put_rest s job bytes) job.place l
+      ∙ ap (λ n. 1 + n) (appends-put_rest s job bytes)))
 
   -- a put has at most one append left once its first one is done
-  pub put-later : (name bytes : List ℕ) → job.kind ≡ PutJob name bytes → 4 ≤ job.place → appends_left s job ≤ 1
-  put-later name bytes kind l = (let e = appends_left-by s job ∙ ap (appends_by s job) kind in let b = appends-behind (put_rest s job bytes) job.place l in let r = appends-put_rest s job bytes in omega (arith, e, b, r))
+  pub put-later : (name bytes : List ℕ) → job.kind ≡ PutJob name bytes → 4 ≤ job.place →
+      appends_left s job ≤ 1
+  put-later name bytes kind l =
+      (let e = appends_left-by s job ∙ ap (appends_by s job) kind in
+      let b = appends-behind (put_rest s job bytes) job.place l in let r = appends-put_rest s job bytes in
+      omega (arith, e, b, r))
 
   -- an audit has two appends left until its first one is done
   pub audit-first : job.kind ≡ AuditJob → job.place < 4 → appends_left s job ≡ 2
-  audit-first kind l = appends_left-by s job ∙ (ap (appends_by s job) kind ∙ (appends-within (audit_rest s job) job.place l ∙ ap (λ n. 1 + n) (appends-audit_rest s job)))
+  audit-first kind l = appends_left-by s job
+      ∙ (ap (appends_by s job) kind
+      ∙ (appends-within (audit_rest s job) job.place l ∙ ap (λ n. 1 + n) (appends-audit_rest s job)))
 
   -- an audit has at most one append left once its first one is done
   pub audit-later : job.kind ≡ AuditJob → 4 ≤ job.place → appends_left s job ≤ 1
-  audit-later kind l = (let e = appends_left-by s job ∙ ap (appends_by s job) kind in let b = appends-behind (audit_rest s job) job.place l in let r = appends-audit_rest s job in omega (arith, e, b, r))
+  audit-later kind l = (let e = appends_left-by s job ∙ ap (appends_by s job) kind in
+      let b = appends-behind (audit_rest s job) job.place l in let r = appends-audit_rest s job in
+      omega (arith, e, b, r))
 
   -- a drop has at most one append left
   pub drop-first : (name : List ℕ) → job.kind ≡ DropJob name → appends_left s job ≤ 1
-  drop-first name kind = (let e = appends_left-by s job ∙ ap (appends_by s job) kind in let b = appends-drop (append_actions ++ drop_rest s job) job.place in
+  drop-first name kind =
+      (let e = appends_left-by s job ∙ ap (appends_by s job) kind in
+      let b = appends-drop (append_actions ++ drop_rest s job) job.place in
       let m = appends-move (drop_rest s job) in let r = appends-removals s job in omega (arith, e, b, m, r))
 
   -- a repair has at most one append left
   pub repair-first : job.kind ≡ RepairJob → appends_left s job ≤ 1
-  repair-first kind = (let e = appends_left-by s job ∙ ap (appends_by s job) kind in let b = appends-drop (repair_actions s job ++ (append_actions ++ End ∷ [])) job.place in
-      let m = appends-append (repair_actions s job) (append_actions ++ End ∷ []) in let o = appends-others (repair_actions s job) (others-repairs s job) in let f = appends-move (End ∷ []) in omega (arith, e, b, m, o, f))
+  repair-first kind = (let e = appends_left-by s job ∙ ap (appends_by s job) kind in
+      let b = appends-drop (repair_actions s job ++ (append_actions ++ End ∷ [])) job.place in
+      let m = appends-append (repair_actions s job) (append_actions ++ End ∷ []) in
+      let o = appends-others (repair_actions s job) (others-repairs s job) in
+      let f = appends-move (End ∷ []) in omega (arith, e, b, m, o, f))
 
   -- an upgrade has at most one append left
   pub upgrade-first : job.kind ≡ UpgradeJob → appends_left s job ≤ 1
-  upgrade-first kind = (let e = appends_left-by s job ∙ ap (appends_by s job) kind in let b = appends-drop (append_actions ++ End ∷ []) job.place in
+  upgrade-first kind = (let e = appends_left-by s job ∙ ap (appends_by s job) kind in
+      let b = appends-drop (append_actions ++ End ∷ []) job.place in
       let f = appends-move (End ∷ []) in omega (arith, e, b, f))
 
   -- a get has no append
   pub get-none : (name : List ℕ) → job.kind ≡ GetJob name → appends_left s job ≡ 0
-  get-none name kind = (let e = appends_left-by s job ∙ ap (appends_by s job) kind in let b = appends-drop (read_actions s job.pinned ++ End ∷ []) job.place in
-      let m = appends-append (read_actions s job.pinned) (End ∷ []) in let o = appends-others (read_actions s job.pinned) (others-reads s job.pinned) in omega (arith, e, b, m, o))
+  get-none name kind = (let e = appends_left-by s job ∙ ap (appends_by s job) kind in
+      let b = appends-drop (read_actions s job.pinned ++ End ∷ []) job.place in
+      let m = appends-append (read_actions s job.pinned) (End ∷ []) in
+      let o = appends-others (read_actions s job.pinned) (others-reads s job.pinned) in
+      omega (arith, e, b, m, o))
 
 -- not the first move of an append
 abbrev IsLater : Action → Type 0
@@ -288,10 +346,13 @@ IsLater WriteBody = ⊥
 IsLater action = Unit {0}
 
 -- the first move of a drop's append stands at the start of its list
-pub drop-body : (s : Setup) (job : Job) (p : ℕ) → slice_get (append_actions ++ drop_rest s job) p ≡ Some WriteBody → p ≡ 0
+pub drop-body : (s : Setup) (job : Job) (p : ℕ) →
+    slice_get (append_actions ++ drop_rest s job) p ≡ Some WriteBody → p ≡ 0
 drop-body s job p h = elim (split_get append_actions (drop_rest s job) p WriteBody h) [
   | inl a ↦ within p a.1
-  | inr b ↦ absurd (each_get IsLater (drop_rest s job) (p - 4) WriteBody (each_append IsLater (remove_actions s job) (End ∷ []) (later (remove_actions s job) (others-removals s job)) (tt, tt)) b.1)
+  | inr b ↦ absurd (each_get IsLater (drop_rest s job) (p - 4) WriteBody
+      (each_append IsLater (remove_actions s job) (End ∷ [])
+      (later (remove_actions s job) (others-removals s job)) (tt, tt)) b.1)
 ]
   where
     within : (p : ℕ) → slice_get append_actions p ≡ Some WriteBody → p ≡ 0
@@ -320,13 +381,17 @@ drop-body s job p h = elim (split_get append_actions (drop_rest s job) p WriteBo
 -- ---- the next action
 
 -- so what is left begins with it
-pub next-left : (w : State) (job : Job) (action : Action) → next_action w job ≡ Some action → (action ≡ End → ⊥) → actions_left (setup_in w) job ≡ action ∷ drop (job.place + 1) (actions_of (setup_in w) job)
-next-left w job action h n = drop-get (actions_of (setup_in w) job) job.place action (next_stands w job action h n)
+pub next-left : (w : State) (job : Job) (action : Action) → next_action w job ≡ Some action →
+    (action ≡ End → ⊥) → actions_left (setup_in w) job
+    ≡ action ∷ drop (job.place + 1) (actions_of (setup_in w) job)
+next-left w job action h n =
+    drop-get (actions_of (setup_in w) job) job.place action (next_stands w job action h n)
 
 -- ---- the first move of a first append
 
 -- within the first four actions of a list that begins with an append the first move is the first
-pub body-within : (rest : List Action) (p : ℕ) → p < 4 → slice_get (append_actions ++ rest) p ≡ Some WriteBody → p ≡ 0
+pub body-within : (rest : List Action) (p : ℕ) → p < 4 →
+    slice_get (append_actions ++ rest) p ≡ Some WriteBody → p ≡ 0
 body-within rest zero l h = refl
 body-within rest (suc zero) l h = absurd (let e : Some SyncBody ≡ Some WriteBody = h in cc)
 body-within rest (suc (suc zero)) l h = absurd (let e : Some WriteGate ≡ Some WriteBody = h in cc)
@@ -334,38 +399,54 @@ body-within rest (suc (suc (suc zero))) l h = absurd (let e : Some SyncGate ≡ 
 body-within rest (suc (suc (suc (suc p)))) l h = absurd (omega (arith, l))
 
 -- the list of a put, and of an audit
-pub put-list : (s : Setup) (job : Job) (name bytes : List ℕ) → job.kind ≡ PutJob name bytes → actions_of s job ≡ append_actions ++ put_rest s job bytes
+pub put-list : (s : Setup) (job : Job) (name bytes : List ℕ) → job.kind ≡ PutJob name bytes →
+    actions_of s job ≡ append_actions ++ put_rest s job bytes
 unfolding actions_of
 put-list s job name bytes kind = ap (actions_by s job) kind
 
 -- an audit makes an append, and then its asks, its second append and the end
-pub audit-list : (s : Setup) (job : Job) → job.kind ≡ AuditJob → actions_of s job ≡ append_actions ++ audit_rest s job
+pub audit-list : (s : Setup) (job : Job) → job.kind ≡ AuditJob →
+    actions_of s job ≡ append_actions ++ audit_rest s job
 unfolding actions_of
 audit-list s job kind = ap (actions_by s job) kind
 
 -- a job whose list begins with an append and whose place is the second is in its order
-second-order : (s : Setup) (job : Job) (rest : List Action) → actions_of s job ≡ append_actions ++ rest → job.place ≡ 1 → IsInOrder 1 (actions_left s job)
+second-order : (s : Setup) (job : Job) (rest : List Action) → actions_of s job ≡ append_actions ++ rest →
+    job.place ≡ 1 → IsInOrder 1 (actions_left s job)
 second-order s job rest e one =
     (let o : IsInOrder 0 (append_actions ++ rest) = subst (IsInOrder 0) e (in_order s job) in
     let t = in_order-step 0 WriteBody (SyncBody ∷ (WriteGate ∷ (SyncGate ∷ rest))) (λ f. cc) o in
-    subst (λ p. IsInOrder 1 (drop p (actions_of s job))) (sym one) (subst (λ xs. IsInOrder 1 (drop 1 xs)) (sym e) t.1))
+    subst (λ p. IsInOrder 1 (drop p (actions_of s job))) (sym one)
+    (subst (λ xs. IsInOrder 1 (drop 1 xs)) (sym e) t.1))
 
 -- the first append's first move leaves this, whatever number it draws
-pub put-second : (w : State) (job next : Job) (name bytes : List ℕ) → job.kind ≡ PutJob name bytes → next_action w job ≡ Some WriteBody → job.place < 4 → next.kind ≡ job.kind → next.place ≡ job.place + 1 →
-    IsInOrder 1 (actions_left (setup_in w) next) × (appends_left (setup_in w) next ≡ appends_left (setup_in w) job)
+pub put-second : (w : State) (job next : Job) (name bytes : List ℕ) → job.kind ≡ PutJob name bytes →
+    next_action w job ≡ Some WriteBody → job.place < 4 → next.kind ≡ job.kind → next.place ≡ job.place + 1 →
+    IsInOrder 1 (actions_left (setup_in w) next) ×
+    (appends_left (setup_in w) next ≡ appends_left (setup_in w) job)
 put-second w job next name bytes kind is l same place =
-    (let zero_place = body-within (put_rest (setup_in w) job bytes) job.place l (ap (λ xs. slice_get xs job.place) (sym (put-list (setup_in w) job name bytes kind)) ∙ next_stands w job WriteBody is (λ e. cc)) in
+    (let zero_place = body-within (put_rest (setup_in w) job bytes) job.place l
+    (ap (λ xs. slice_get xs job.place) (sym (put-list (setup_in w) job name bytes kind))
+    ∙ next_stands w job WriteBody is (λ e. cc)) in
     let one : next.place ≡ 1 = omega (arith, zero_place, place) in (
-      second-order (setup_in w) next (put_rest (setup_in w) next bytes) (put-list (setup_in w) next name bytes (same ∙ kind)) one,
-      put-first (setup_in w) next name bytes (same ∙ kind) (omega (arith, one)) ∙ sym (put-first (setup_in w) job name bytes kind l),
+      second-order (setup_in w) next (put_rest (setup_in w) next bytes)
+          (put-list (setup_in w) next name bytes (same ∙ kind)) one,
+      put-first (setup_in w) next name bytes (same ∙ kind) (omega (arith, one))
+          ∙ sym (put-first (setup_in w) job name bytes kind l),
     ))
 
 -- the first move of an audit's first append leaves the same, whatever number it draws
-pub audit-second : (w : State) (job next : Job) → job.kind ≡ AuditJob → next_action w job ≡ Some WriteBody → job.place < 4 → next.kind ≡ job.kind → next.place ≡ job.place + 1 →
-    IsInOrder 1 (actions_left (setup_in w) next) × (appends_left (setup_in w) next ≡ appends_left (setup_in w) job)
+pub audit-second : (w : State) (job next : Job) → job.kind ≡ AuditJob → next_action w job ≡ Some WriteBody →
+    job.place < 4 → next.kind ≡ job.kind → next.place ≡ job.place + 1 →
+    IsInOrder 1 (actions_left (setup_in w) next) ×
+    (appends_left (setup_in w) next ≡ appends_left (setup_in w) job)
 audit-second w job next kind is l same place =
-    (let zero_place = body-within (audit_rest (setup_in w) job) job.place l (ap (λ xs. slice_get xs job.place) (sym (audit-list (setup_in w) job kind)) ∙ next_stands w job WriteBody is (λ e. cc)) in
+    (let zero_place = body-within (audit_rest (setup_in w) job) job.place l
+    (ap (λ xs. slice_get xs job.place) (sym (audit-list (setup_in w) job kind))
+    ∙ next_stands w job WriteBody is (λ e. cc)) in
     let one : next.place ≡ 1 = omega (arith, zero_place, place) in (
-      second-order (setup_in w) next (audit_rest (setup_in w) next) (audit-list (setup_in w) next (same ∙ kind)) one,
-      audit-first (setup_in w) next (same ∙ kind) (omega (arith, one)) ∙ sym (audit-first (setup_in w) job kind l),
+      second-order (setup_in w) next (audit_rest (setup_in w) next)
+          (audit-list (setup_in w) next (same ∙ kind)) one,
+      audit-first (setup_in w) next (same ∙ kind) (omega (arith, one))
+          ∙ sym (audit-first (setup_in w) job kind l),
     ))

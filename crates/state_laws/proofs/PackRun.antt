@@ -20,7 +20,13 @@ state_1 = reopened set_up
 
 happens_0 : Happens 8 0 set_up Reopen Opened state_1
 unfolding setup_in actions_of
-happens_0 = (record (given_up set_up) { doubt = None }, (set_up.journal, set_up.area, inl (refl, refl), inl refl), refl, omega arith, (set_up.disk_faults, omega arith, refl))
+happens_0 = (
+  record (given_up set_up) { doubt = None },
+  (set_up.journal, set_up.area, inl (refl, refl), inl refl),
+  refl,
+  omega arith,
+  (set_up.disk_faults, omega arith, refl),
+)
 
 -- ---- an upgrade
 
@@ -122,8 +128,11 @@ moment event outcome state = record { event = event; outcome = outcome; state = 
 -- the opening of the vault, the upgrade and the pack
 abbrev pub moments : List Moment
 moments =
-    moment (Step 2) (Ended (Packed 54 64)) state_13 ∷ moment (Step 2) More state_12 ∷ moment (Step 2) More state_11 ∷ moment (Step 2) More state_10 ∷ moment (Step 2) More state_9 ∷ moment BeginPack (Begun 2) state_8
-    ∷ moment (Step 1) (Ended Upgraded) state_7 ∷ moment (Step 1) More state_6 ∷ moment (Step 1) More state_5 ∷ moment (Step 1) More state_4 ∷ moment (Step 1) More state_3
+    moment (Step 2) (Ended (Packed 54 64)) state_13 ∷ moment (Step 2) More state_12 ∷ moment
+    (Step 2) More state_11 ∷ moment (Step 2) More state_10 ∷ moment (Step 2) More state_9 ∷ moment BeginPack
+    (Begun 2) state_8
+    ∷ moment (Step 1) (Ended Upgraded) state_7 ∷ moment (Step 1) More state_6 ∷ moment
+    (Step 1) More state_5 ∷ moment (Step 1) More state_4 ∷ moment (Step 1) More state_3
     ∷ moment (Begin UpgradeJob) (Begun 1) state_2 ∷ moment Reopen Opened state_1 ∷ []
 
 -- the upgrade and the pack are a run

@@ -1,4 +1,5 @@
--- The journal that a pack writes has a spelling and fits in either area; and what links a journal to its history goes on with one record more.
+-- The journal that a pack writes has a spelling and fits in either area; and what links a journal to its
+-- history goes on with one record more.
 use Rattle.std.proofs.Common.{◌≡◌, ℕ, ◌+◌, ◌*◌, ◌^◌, ◌<◌, ◌≤◌, ◌==◌, true, false, cond, ◌&&◌, List, [], ◌∷◌, length, Option, Some, None, refl, ap, sym, subst, ◌∙◌, inl, inr, arith}
 use Rattle.std.specs.Prelude.{is_some, not, IsTrue, nat_lt, nat_le}
 use Rattle.std.proofs.lemmas.Bool.{cases_Bool, and_from, lt-ltb}
@@ -23,9 +24,11 @@ use Rattle.state_laws.proofs.Records.{is_some-at, AreSpelled, spelled-more, IsFi
 
 -- ---- the packed journal is spelled
 
-spelled-files : (fs : List File) (rs : List Record) → ((f : File) → In f fs → IsTrue (is_spelled (as_record f))) → AreSpelled rs → AreSpelled (with_files fs rs)
+spelled-files : (fs : List File) (rs : List Record) →
+    ((f : File) → In f fs → IsTrue (is_spelled (as_record f))) → AreSpelled rs → AreSpelled (with_files fs rs)
 spelled-files [] rs each g = g
-spelled-files (f ∷ fs) rs each g = spelled-files fs (as_record f ∷ rs) (λ x i. each x (inr i)) (spelled-more (as_record f) rs (each f (inl refl)) g)
+spelled-files (f ∷ fs) rs each g = spelled-files fs (as_record f ∷ rs) (λ x i. each x (inr i))
+    (spelled-more (as_record f) rs (each f (inl refl)) g)
 
 module _ (rs : List Record) (a : AreAccepted rs) (g : AreSpelled rs) where
   file-fits : (f : File) → In f (files_of rs) → IsFit f.name f
@@ -38,7 +41,8 @@ module _ (rs : List Record) (a : AreAccepted rs) (g : AreSpelled rs) where
       let l = next_id-fits rs a in
       fit f.id f.size f.profile f.name (omega (arith, below, l)) t.1 t.2 t.0)
     where
-      fit : (id size profile : ℕ) (name : List ℕ) → id < 2 ^ 64 → size ≤ largest_file → profile < all_profiles → is_name name ≡ true → IsTrue (is_spelled (InEffect id size profile name))
+      fit : (id size profile : ℕ) (name : List ℕ) → id < 2 ^ 64 → size ≤ largest_file →
+          profile < all_profiles → is_name name ≡ true → IsTrue (is_spelled (InEffect id size profile name))
       fit id size profile name l s p n = grind (arith, nat_tests, l, s, p, n)
 
   abbrev base : List Record
@@ -46,7 +50,9 @@ module _ (rs : List Record) (a : AreAccepted rs) (g : AreSpelled rs) where
 
   base-spelled : AreSpelled base
   base-spelled = spelled-more (Resume (next_id rs) (next_audit rs)) (Version ∷ with_setup (setup_of rs))
-      (and_from (nat_lt (next_id rs) (2 ^ 64)) (nat_lt (next_audit rs) (2 ^ 64)) (lt-ltb (next_id rs) (2 ^ 64) (next_id-fits rs a)) (lt-ltb (next_audit rs) (2 ^ 64) (next_audit-fits rs a)))
+      (and_from (nat_lt (next_id rs) (2 ^ 64)) (nat_lt (next_audit rs) (2 ^ 64))
+      (lt-ltb (next_id rs) (2 ^ 64) (next_id-fits rs a))
+      (lt-ltb (next_audit rs) (2 ^ 64) (next_audit-fits rs a)))
       (spelled-more Version (with_setup (setup_of rs)) refl (set_up (setup_of rs) refl))
     where
       set_up : (o : Option Setup) → setup_of rs ≡ o → AreSpelled (with_setup o)
@@ -61,13 +67,17 @@ module _ (rs : List Record) (a : AreAccepted rs) (g : AreSpelled rs) where
 
       on_top : (o : Option Due) → due_of rs ≡ o → AreSpelled (with_due o (with_files (files_of rs) base))
       on_top None e = files
-      on_top (Some d) e = spelled-more (RepairDue d.number d.counts) (with_files (files_of rs) base) (due-spelled rs d g e) files
+      on_top (Some d) e = spelled-more (RepairDue d.number d.counts) (with_files (files_of rs) base)
+          (due-spelled rs d g e) files
 
   -- ---- and short
 
-  files-size : (fs : List File) (qs : List Record) → ((f : File) → In f fs → length f.name ≤ 64) → entries_size (with_files fs qs) ≤ entries_size qs + 80 * length fs
+  files-size : (fs : List File) (qs : List Record) → ((f : File) → In f fs → length f.name ≤ 64) →
+      entries_size (with_files fs qs) ≤ entries_size qs + 80 * length fs
   files-size [] qs each = omega arith
-  files-size (f ∷ fs) qs each = (let more = files-size fs (as_record f ∷ qs) (λ x i. each x (inr i)) in let one = each f (inl refl) in omega (arith, more, one))
+  files-size (f ∷ fs) qs each =
+      (let more = files-size fs (as_record f ∷ qs) (λ x i. each x (inr i)) in let one = each f (inl refl) in
+      omega (arith, more, one))
 
   name-short : (f : File) → In f (files_of rs) → length f.name ≤ 64
   name-short f i = short f.name (file-fits f i).0
@@ -78,7 +88,8 @@ module _ (rs : List Record) (a : AreAccepted rs) (g : AreSpelled rs) where
   base-size : entries_size base ≤ 63
   base-size = by (setup_of rs)
     where
-      by : (o : Option Setup) → entries_size (Resume (next_id rs) (next_audit rs) ∷ Version ∷ with_setup o) ≤ 63
+      by : (o : Option Setup) →
+          entries_size (Resume (next_id rs) (next_audit rs) ∷ Version ∷ with_setup o) ≤ 63
       by None = omega arith
       by (Some s) = omega arith
 
@@ -86,12 +97,14 @@ module _ (rs : List Record) (a : AreAccepted rs) (g : AreSpelled rs) where
   packed-size = on_top (due_of rs) refl
     where
       files : entries_size (with_files (files_of rs) base) ≤ 81983
-      files = (let b = base-size in let f = files-size (files_of rs) base name-short in let n = few-files_of rs a in omega (arith, b, f, n))
+      files = (let b = base-size in let f = files-size (files_of rs) base name-short in
+          let n = few-files_of rs a in omega (arith, b, f, n))
 
       few : (d : Due) → IsTrue (is_spelled (RepairDue d.number d.counts)) → length d.counts ≤ 16
       few d h = grind (arith, nat_tests, h)
 
-      on_top : (o : Option Due) → due_of rs ≡ o → entries_size (with_due o (with_files (files_of rs) base)) ≤ 2 ^ 17
+      on_top : (o : Option Due) → due_of rs ≡ o →
+          entries_size (with_due o (with_files (files_of rs) base)) ≤ 2 ^ 17
       on_top None e = (let f = files in omega (arith, f))
       on_top (Some d) e = (let f = files in let c = few d (due-spelled rs d g e) in omega (arith, f, c))
 
@@ -104,14 +117,19 @@ module _ (rs : List Record) (a : AreAccepted rs) (g : AreSpelled rs) where
 
 -- the file in effect under a name is the same
 pub file-alike : (rs qs : List Record) (name : List ℕ) → AreAlike rs qs → file_of rs name ≡ file_of qs name
-file-alike rs qs name a = sym (find-files_of rs name) ∙ (ap (λ fs. find_file fs name) a.files ∙ find-files_of qs name)
+file-alike rs qs name a =
+    sym (find-files_of rs name) ∙ (ap (λ fs. find_file fs name) a.files ∙ find-files_of qs name)
 
 -- where tables are alike, a name is one file too many in both or in neither
-pub crowded-alike : (rs qs : List Record) (name : List ℕ) → AreAlike rs qs → is_crowded rs name ≡ is_crowded qs name
-crowded-alike rs qs name a = ap (λ fs. nat_le most_files (length fs) && not (is_some (file_of rs name))) a.files ∙ ap (λ o. nat_le most_files (length (files_of qs)) && not (is_some o)) (file-alike rs qs name a)
+pub crowded-alike : (rs qs : List Record) (name : List ℕ) → AreAlike rs qs →
+    is_crowded rs name ≡ is_crowded qs name
+crowded-alike rs qs name a =
+    ap (λ fs. nat_le most_files (length fs) && not (is_some (file_of rs name))) a.files
+    ∙ ap (λ o. nat_le most_files (length (files_of qs)) && not (is_some o)) (file-alike rs qs name a)
 
 -- the start of a put's end that is accepted
-pub started-in : (rs : List Record) (o : Option (List ℕ)) → put_done_refused rs o ≡ None → (name : List ℕ) × (o ≡ Some name)
+pub started-in : (rs : List Record) (o : Option (List ℕ)) → put_done_refused rs o ≡ None →
+    (name : List ℕ) × (o ≡ Some name)
 started-in rs None h = absurd (some-not-none _ no.NotStarted refl h)
 started-in rs (Some name) h = (name, refl)
 
@@ -119,7 +137,8 @@ started-in rs (Some name) h = (name, refl)
 abbrev AreStarted : List Record → List Record → Type 0
 AreStarted rs qs = (id : ℕ) (name : List ℕ) → started_as rs id ≡ Some name → started_as qs id ≡ Some name
 
-starts-alike : (rs qs : List Record) (r : Record) → refused rs r ≡ None → AreStarted rs qs → StartsAlike rs qs r
+starts-alike : (rs qs : List Record) (r : Record) → refused rs r ≡ None → AreStarted rs qs →
+    StartsAlike rs qs r
 starts-alike rs qs (SetUp s) h f k e = absurd (let x : None ≡ Some k = e in cc)
 starts-alike rs qs (PutStart id name) h f k e = absurd (let x : None ≡ Some k = e in cc)
 starts-alike rs qs (PutDone id size) h f k e =
@@ -140,27 +159,42 @@ starts-alike rs qs (InEffect id size profile name) h f k e = absurd (let x : Non
 starts-alike rs qs (RepairDue number counts) h f k e = absurd (let x : None ≡ Some k = e in cc)
 
 -- tables stay alike with any record more
-alike-any : (rs qs : List Record) (r : Record) → StartsAlike rs qs r → AreAlike rs qs → AreAlike (r ∷ rs) (r ∷ qs)
+alike-any : (rs qs : List Record) (r : Record) → StartsAlike rs qs r → AreAlike rs qs →
+    AreAlike (r ∷ rs) (r ∷ qs)
 alike-any rs qs (SetUp s) f a = alike-more rs qs (SetUp s) tt f a
 alike-any rs qs (PutStart id name) f a = alike-more rs qs (PutStart id name) tt f a
 alike-any rs qs (PutDone id size) f a = alike-more rs qs (PutDone id size) tt f a
 alike-any rs qs (Drop name) f a = alike-more rs qs (Drop name) tt f a
 alike-any rs qs (AuditStart number) f a = alike-more rs qs (AuditStart number) tt f a
-alike-any rs qs (AuditDone number undecided counts) f a = alike-more rs qs (AuditDone number undecided counts) tt f a
+alike-any rs qs (AuditDone number undecided counts) f a =
+    alike-more rs qs (AuditDone number undecided counts) tt f a
 alike-any rs qs (RepairDone number) f a = alike-more rs qs (RepairDone number) tt f a
 alike-any rs qs (PutDoneIn id size profile) f a = alike-more rs qs (PutDoneIn id size profile) tt f a
 alike-any rs qs Version f a = alike-more rs qs Version tt f a
-alike-any rs qs (Resume next audit) f a = record { setup = a.setup; version = a.version; id = refl; audit = refl; files = a.files; due = a.due }
+alike-any rs qs (Resume next audit) f a =
+    record { setup = a.setup; version = a.version; id = refl; audit = refl; files = a.files; due = a.due }
 alike-any rs qs (InEffect id size profile name) f a =
-    record { setup = a.setup; version = a.version; id = a.id; audit = a.audit; files = ap (λ fs. with_put fs (Some name) id size profile) a.files; due = a.due }
-alike-any rs qs (RepairDue number counts) f a = record { setup = a.setup; version = a.version; id = a.id; audit = a.audit; files = a.files; due = refl }
+    record {
+      setup = a.setup;
+      version = a.version;
+      id = a.id;
+      audit = a.audit;
+      files = ap (λ fs. with_put fs (Some name) id size profile) a.files;
+      due = a.due;
+    }
+alike-any rs qs (RepairDue number counts) f a =
+    record { setup = a.setup; version = a.version; id = a.id; audit = a.audit; files = a.files; due = refl }
 
 -- a number that one more record of a put starts or ends
-started-both : (rs qs : List Record) (number k : ℕ) (now : Option (List ℕ)) (name : List ℕ) → (started_as rs k ≡ Some name → started_as qs k ≡ Some name) →
-    cond (number == k) now (started_as rs k) ≡ Some name → cond (number == k) now (started_as qs k) ≡ Some name
+started-both : (rs qs : List Record) (number k : ℕ) (now : Option (List ℕ)) (name : List ℕ) →
+    (started_as rs k ≡ Some name → started_as qs k ≡ Some name) →
+    cond (number == k) now (started_as rs k) ≡ Some name →
+    cond (number == k) now (started_as qs k) ≡ Some name
 started-both rs qs number k now name f h = elim (cases_Bool (number == k)) [
-  | inl t ↦ cond_true (number == k) now (started_as qs k) t ∙ (sym (cond_true (number == k) now (started_as rs k) t) ∙ h)
-  | inr o ↦ cond_false (number == k) now (started_as qs k) o ∙ f (sym (cond_false (number == k) now (started_as rs k) o) ∙ h)
+  | inl t ↦ cond_true (number == k) now (started_as qs k) t
+      ∙ (sym (cond_true (number == k) now (started_as rs k) t) ∙ h)
+  | inr o ↦ cond_false (number == k) now (started_as qs k) o
+      ∙ f (sym (cond_false (number == k) now (started_as rs k) o) ∙ h)
 ]
 
 started-any : (rs qs : List Record) (r : Record) → AreStarted rs qs → AreStarted (r ∷ rs) (r ∷ qs)
@@ -180,66 +214,86 @@ started-any rs qs (RepairDue number counts) f k name h = f k name h
 -- ---- what a state has of both
 
 -- a state with the same records, journal and area
-pub journal-kept : (old new : State) → new.records ≡ old.records → new.journal ≡ old.journal → new.area ≡ old.area → (old.is_switching ≡ false → new.is_switching ≡ false) → IsSoundJournal old → IsSoundJournal new
+pub journal-kept : (old new : State) → new.records ≡ old.records → new.journal ≡ old.journal →
+    new.area ≡ old.area → (old.is_switching ≡ false → new.is_switching ≡ false) → IsSoundJournal old →
+    IsSoundJournal new
 journal-kept old new er ej ea es J = record {
   accepted = subst AreAccepted (sym ej) J.accepted;
   spelled = subst AreSpelled (sym ej) J.spelled;
   alike = subst (λ l. AreAlike l new.records) (sym ej) (subst (λ l. AreAlike old.journal l) (sym er) J.alike);
-  started = λ id name h. ap (λ l. started_as l id) er ∙ J.started id name (sym (ap (λ l. started_as l id) ej) ∙ h);
-  whole = λ v. (let W = J.whole (sym (ap version_of er) ∙ v) in record { journal = ej ∙ (W.journal ∙ sym er); area = ea ∙ W.area; unswitched = es W.unswitched });
+  started = λ id name h. ap (λ l. started_as l id) er
+      ∙ J.started id name (sym (ap (λ l. started_as l id) ej) ∙ h);
+  whole = λ v. (let W = J.whole (sym (ap version_of er) ∙ v) in
+      record { journal = ej ∙ (W.journal ∙ sym er); area = ea ∙ W.area; unswitched = es W.unswitched });
 }
 
 -- a state with the same records, journal, area and byte that names it has a sound journal too
-pub journal-same : (old new : State) → new.records ≡ old.records → new.journal ≡ old.journal → new.area ≡ old.area → new.is_switching ≡ old.is_switching → IsSoundJournal old → IsSoundJournal new
+pub journal-same : (old new : State) → new.records ≡ old.records → new.journal ≡ old.journal →
+    new.area ≡ old.area → new.is_switching ≡ old.is_switching → IsSoundJournal old → IsSoundJournal new
 journal-same old new er ej ea es J = journal-kept old new er ej ea (λ f. es ∙ f) J
 
 -- the same of the second version, wherever the disk holds it
-pub journal-second : (old new : State) → new.records ≡ old.records → new.journal ≡ old.journal → version_of old.records ≡ 2 → IsSoundJournal old → IsSoundJournal new
+pub journal-second : (old new : State) → new.records ≡ old.records → new.journal ≡ old.journal →
+    version_of old.records ≡ 2 → IsSoundJournal old → IsSoundJournal new
 journal-second old new er ej second J = record {
   accepted = subst AreAccepted (sym ej) J.accepted;
   spelled = subst AreSpelled (sym ej) J.spelled;
   alike = subst (λ l. AreAlike l new.records) (sym ej) (subst (λ l. AreAlike old.journal l) (sym er) J.alike);
-  started = λ id name h. ap (λ l. started_as l id) er ∙ J.started id name (sym (ap (λ l. started_as l id) ej) ∙ h);
+  started = λ id name h. ap (λ l. started_as l id) er
+      ∙ J.started id name (sym (ap (λ l. started_as l id) ej) ∙ h);
   whole = λ v. absurd (let e = ap version_of er in omega (arith, v, e, second));
 }
 
 -- one more record on both
-pub journal-brought : (old new : State) (r : Record) → new.records ≡ r ∷ old.records → new.journal ≡ r ∷ old.journal → new.area ≡ old.area → new.is_switching ≡ old.is_switching →
+pub journal-brought : (old new : State) (r : Record) → new.records ≡ r ∷ old.records →
+    new.journal ≡ r ∷ old.journal → new.area ≡ old.area → new.is_switching ≡ old.is_switching →
     IsTrue (is_spelled r) → refused old.journal r ≡ None → IsSoundJournal old → IsSoundJournal new
 journal-brought old new r er ej ea es g a J = record {
   accepted = subst AreAccepted (sym ej) (a, J.accepted);
   spelled = subst AreSpelled (sym ej) (spelled-more r old.journal g J.spelled);
   alike = subst (λ l. AreAlike l new.records) (sym ej) (subst (λ l. AreAlike (r ∷ old.journal) l) (sym er)
       (alike-any old.journal old.records r (starts-alike old.journal old.records r a J.started) J.alike));
-  started = λ id name h. ap (λ l. started_as l id) er ∙ started-any old.journal old.records r J.started id name (sym (ap (λ l. started_as l id) ej) ∙ h);
+  started = λ id name h. ap (λ l. started_as l id) er
+      ∙ started-any old.journal old.records r J.started id name (sym (ap (λ l. started_as l id) ej) ∙ h);
   whole = λ v. (let W = J.whole (version-before r old.records (sym (ap version_of er) ∙ v)) in
-      record { journal = ej ∙ (ap (λ l. r ∷ l) W.journal ∙ sym er); area = ea ∙ W.area; unswitched = es ∙ W.unswitched });
+      record {
+        journal = ej ∙ (ap (λ l. r ∷ l) W.journal ∙ sym er);
+        area = ea ∙ W.area;
+        unswitched = es
+            ∙ W.unswitched;
+      });
 }
 
 -- the packed journal in place of that of the second version
-pub journal-packed : (old new : State) → new.records ≡ old.records → new.journal ≡ packed old.journal → version_of old.records ≡ 2 → IsSoundJournal old → IsSoundJournal new
+pub journal-packed : (old new : State) → new.records ≡ old.records → new.journal ≡ packed old.journal →
+    version_of old.records ≡ 2 → IsSoundJournal old → IsSoundJournal new
 journal-packed old new er ej second J =
     (let second_too : version_of old.journal ≡ 2 = J.alike.version ∙ second in
     let s = is_some-at (setup_of old.journal) (second-set_up old.journal J.accepted second_too) in
     record {
       accepted = subst AreAccepted (sym ej) (packed_are old.journal J.accepted s.0 s.1 second_too).0;
       spelled = subst AreSpelled (sym ej) (packed-spelled old.journal J.accepted J.spelled);
-      alike = subst (λ l. AreAlike l new.records) (sym ej) (subst (λ l. AreAlike (packed old.journal) l) (sym er)
+      alike = subst (λ l. AreAlike l new.records) (sym ej)
+          (subst (λ l. AreAlike (packed old.journal) l) (sym er)
           (packed-alike old.journal old.records s.0 J.accepted s.1 second_too J.alike));
-      started = λ id name h. absurd (some-not-none _ name h (ap (λ l. started_as l id) ej ∙ (packed_is_idle old.journal).0 id));
+      started = λ id name h. absurd
+          (some-not-none _ name h (ap (λ l. started_as l id) ej ∙ (packed_is_idle old.journal).0 id));
       whole = λ v. absurd (let e = ap version_of er in omega (arith, v, e, second));
     })
 
 -- a disk that holds the whole history
-pub journal-whole : (w : State) → IsWholeJournal w → AreAccepted w.records → AreSpelled w.records → IsSoundJournal w
+pub journal-whole : (w : State) → IsWholeJournal w → AreAccepted w.records → AreSpelled w.records →
+    IsSoundJournal w
 journal-whole w W a g = record {
   accepted = subst AreAccepted (sym W.journal) a;
   spelled = subst AreSpelled (sym W.journal) g;
-  alike = subst (λ l. AreAlike l w.records) (sym W.journal) (record { setup = refl; version = refl; id = refl; audit = refl; files = refl; due = refl });
+  alike = subst (λ l. AreAlike l w.records) (sym W.journal)
+      (record { setup = refl; version = refl; id = refl; audit = refl; files = refl; due = refl });
   started = λ id name h. ap (λ l. started_as l id) (sym W.journal) ∙ h;
   whole = λ v. W;
 }
 
 -- what a disk may hold that is read again fits in its area
-pub switched-room : (journal : List Record) (area : Area) → AreAccepted journal → AreSpelled journal → end_in (other_area area) (packed journal) ≤ largest_journal
+pub switched-room : (journal : List Record) (area : Area) → AreAccepted journal → AreSpelled journal →
+    end_in (other_area area) (packed journal) ≤ largest_journal
 switched-room journal area a g = packed-room journal a g (other_area area)

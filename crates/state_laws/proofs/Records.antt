@@ -36,7 +36,8 @@ spelled-rest : (r : Record) (rs : List Record) → AreSpelled (r ∷ rs) → Are
 spelled-rest r rs h = (and_parts (is_spelled r) (list_all is_spelled rs) h).1
 
 -- records with a spelling, and one more with one, have spellings
-pub spelled-more : (r : Record) (rs : List Record) → IsTrue (is_spelled r) → AreSpelled rs → AreSpelled (r ∷ rs)
+pub spelled-more : (r : Record) (rs : List Record) → IsTrue (is_spelled r) → AreSpelled rs →
+    AreSpelled (r ∷ rs)
 spelled-more r rs g h = and_from (is_spelled r) (list_all is_spelled rs) g h
 
 -- each record is in the grammar
@@ -53,10 +54,12 @@ grammar-rest r rs h = (and_parts (is_in_grammar r) (list_all is_in_grammar rs) h
 -- records in the grammar have a spelling
 pub all-spelled : (rs : List Record) → AreInGrammar rs → AreSpelled rs
 all-spelled [] g = refl
-all-spelled (r ∷ rs) g = spelled-more r rs (grammar-spelled r (grammar-first r rs g)) (all-spelled rs (grammar-rest r rs g))
+all-spelled (r ∷ rs) g =
+    spelled-more r rs (grammar-spelled r (grammar-first r rs g)) (all-spelled rs (grammar-rest r rs g))
 
 -- records in the grammar are of the first version
-version-more : (r : Record) (rs : List Record) → IsTrue (is_in_grammar r) → version_of (r ∷ rs) ≡ version_of rs
+version-more : (r : Record) (rs : List Record) → IsTrue (is_in_grammar r) →
+    version_of (r ∷ rs) ≡ version_of rs
 version-more (SetUp s) rs g = refl
 version-more (PutStart id name) rs g = refl
 version-more (PutDone id size) rs g = refl
@@ -130,7 +133,8 @@ next_id-le (r ∷ rs) g =
     let one = next_id-one r rs (grammar-first r rs g) in
     omega (arith, l, one)
 
-next_audit-one : (r : Record) (rs : List Record) → IsTrue (is_in_grammar r) → next_audit (r ∷ rs) ≤ next_audit rs + 1
+next_audit-one : (r : Record) (rs : List Record) → IsTrue (is_in_grammar r) →
+    next_audit (r ∷ rs) ≤ next_audit rs + 1
 next_audit-one (SetUp s) rs g = omega arith
 next_audit-one (PutStart id name) rs g = omega arith
 next_audit-one (PutDone id size) rs g = omega arith
@@ -158,10 +162,12 @@ next_id-grows r rs a = next_id-more rs r (are_sound rs a.1) a.0
 
 -- ---- acceptance
 
-refused-up : (rs : List Record) (r : Record) → is_some (setup_of rs) ≡ true → refused rs r ≡ no.refused_after rs r
+refused-up : (rs : List Record) (r : Record) → is_some (setup_of rs) ≡ true →
+    refused rs r ≡ no.refused_after rs r
 refused-up rs r up = cond_true (is_some (setup_of rs)) (no.refused_after rs r) (no.refused_first r) up
 
-refused-empty : (rs : List Record) (r : Record) → is_some (setup_of rs) ≡ false → refused rs r ≡ no.refused_first r
+refused-empty : (rs : List Record) (r : Record) → is_some (setup_of rs) ≡ false →
+    refused rs r ≡ no.refused_first r
 refused-empty rs r up = cond_false (is_some (setup_of rs)) (no.refused_after rs r) (no.refused_first r) up
 
 -- only a setup comes first
@@ -180,7 +186,8 @@ first-is (InEffect id size profile kept) h = absurd (some-not-none _ no.NoSetup 
 first-is (RepairDue number counts) h = absurd (some-not-none _ no.NoSetup refl h)
 
 -- a store that is set up stays so with any record more
-pub up-more : (r : Record) (rs : List Record) → is_some (setup_of rs) ≡ true → is_some (setup_of (r ∷ rs)) ≡ true
+pub up-more : (r : Record) (rs : List Record) → is_some (setup_of rs) ≡ true →
+    is_some (setup_of (r ∷ rs)) ≡ true
 up-more (SetUp s) rs h = refl
 up-more (PutStart id name) rs h = h
 up-more (PutDone id size) rs h = h
@@ -199,12 +206,15 @@ pub none-set_up : (rs : List Record) → AreAccepted rs → is_some (setup_of rs
 none-set_up [] a h = refl
 none-set_up (r ∷ rs) a h = elim (cases_Bool (is_some (setup_of rs))) [
   | inl t ↦ absurd (false≢true (sym h ∙ up-more r rs t))
-  | inr f ↦ absurd (let s = first-is r (sym (refused-empty rs r f) ∙ a.0) in false≢true (sym h ∙ ap (λ x. is_some (setup_of (x ∷ rs))) s.1))
+  | inr f ↦ absurd (let s = first-is r (sym (refused-empty rs r f) ∙ a.0) in
+      false≢true (sym h ∙ ap (λ x. is_some (setup_of (x ∷ rs))) s.1))
 ]
 
 -- a setup in effect stays
-pub setup-more : (r : Record) (rs : List Record) → is_some (setup_of rs) ≡ true → refused rs r ≡ None → setup_of (r ∷ rs) ≡ setup_of rs
-setup-more (SetUp s) rs up h = absurd (some-not-none _ no.SecondSetup refl (sym (refused-up rs (SetUp s) up) ∙ h))
+pub setup-more : (r : Record) (rs : List Record) → is_some (setup_of rs) ≡ true → refused rs r ≡ None →
+    setup_of (r ∷ rs) ≡ setup_of rs
+setup-more (SetUp s) rs up h =
+    absurd (some-not-none _ no.SecondSetup refl (sym (refused-up rs (SetUp s) up) ∙ h))
 setup-more (PutStart id name) rs up h = refl
 setup-more (PutDone id size) rs up h = refl
 setup-more (Drop name) rs up h = refl
@@ -229,7 +239,8 @@ sound-accepted rs a =
 
 -- ---- records of the first version
 
-first-held : (r : Record) (rs : List Record) → version_of (r ∷ rs) ≡ 1 → refused rs r ≡ None → IsTrue (is_held r)
+first-held : (r : Record) (rs : List Record) → version_of (r ∷ rs) ≡ 1 → refused rs r ≡ None →
+    IsTrue (is_held r)
 first-held (SetUp s) rs v h = refl
 first-held (PutStart id name) rs v h = refl
 first-held (PutDone id size) rs v h = refl
@@ -260,14 +271,17 @@ second-set_up rs a v = elim (cases_Bool (is_some (setup_of rs))) [
 -- ---- setups, names, sizes and numbers of records that have a spelling
 
 -- the setup in effect is in the grammar
-pub setup-spelled : (rs : List Record) (s : Setup) → AreSpelled rs → setup_of rs ≡ Some s → IsTrue (is_in_grammar (SetUp s))
+pub setup-spelled : (rs : List Record) (s : Setup) → AreSpelled rs → setup_of rs ≡ Some s →
+    IsTrue (is_in_grammar (SetUp s))
 setup-spelled [] s g h = absurd (some-not-none _ s h refl)
-setup-spelled (SetUp t ∷ rs) s g h = (let e : t ≡ s = cc in subst (λ x. IsTrue (is_in_grammar (SetUp x))) e (spelled-first (SetUp t) rs g))
+setup-spelled (SetUp t ∷ rs) s g h =
+    (let e : t ≡ s = cc in subst (λ x. IsTrue (is_in_grammar (SetUp x))) e (spelled-first (SetUp t) rs g))
 setup-spelled (PutStart id name ∷ rs) s g h = setup-spelled rs s (spelled-rest (PutStart id name) rs g) h
 setup-spelled (PutDone id size ∷ rs) s g h = setup-spelled rs s (spelled-rest (PutDone id size) rs g) h
 setup-spelled (Drop name ∷ rs) s g h = setup-spelled rs s (spelled-rest (Drop name) rs g) h
 setup-spelled (AuditStart number ∷ rs) s g h = setup-spelled rs s (spelled-rest (AuditStart number) rs g) h
-setup-spelled (AuditDone number undecided counts ∷ rs) s g h = setup-spelled rs s (spelled-rest (AuditDone number undecided counts) rs g) h
+setup-spelled (AuditDone number undecided counts ∷ rs) s g h =
+    setup-spelled rs s (spelled-rest (AuditDone number undecided counts) rs g) h
 setup-spelled (RepairDone number ∷ rs) s g h = setup-spelled rs s (spelled-rest (RepairDone number) rs g) h
 setup-spelled (PutDoneIn id size profile ∷ rs) s g h =
     setup-spelled rs s (spelled-rest (PutDoneIn id size profile) rs g) h
@@ -279,21 +293,28 @@ setup-spelled (RepairDue number counts ∷ rs) s g h =
     setup-spelled rs s (spelled-rest (RepairDue number counts) rs g) h
 
 -- a name that a put was started under is a name
-started-spelled : (rs : List Record) (id : ℕ) (name : List ℕ) → AreSpelled rs → started_as rs id ≡ Some name → is_name name ≡ true
+started-spelled : (rs : List Record) (id : ℕ) (name : List ℕ) → AreSpelled rs → started_as rs id ≡ Some name →
+    is_name name ≡ true
 started-spelled [] id name g h = absurd (some-not-none _ name h refl)
 started-spelled (SetUp s ∷ rs) id name g h = started-spelled rs id name (spelled-rest (SetUp s) rs g) h
 started-spelled (PutStart k n ∷ rs) id name g h = elim (cases_Bool (k == id)) [
-  | inl t ↦ (let e : n ≡ name = same_value _ n name (cond_true (k == id) (Some n) (started_as rs id) t) h in subst (λ x. is_name x ≡ true) e (grind (arith, spelled-first (PutStart k n) rs g)))
-  | inr f ↦ started-spelled rs id name (spelled-rest (PutStart k n) rs g) (sym (cond_false (k == id) (Some n) (started_as rs id) f) ∙ h)
+  | inl t ↦ (let e : n ≡ name = same_value _ n name (cond_true (k == id) (Some n) (started_as rs id) t) h in
+      subst (λ x. is_name x ≡ true) e (grind (arith, spelled-first (PutStart k n) rs g)))
+  | inr f ↦ started-spelled rs id name (spelled-rest (PutStart k n) rs g)
+      (sym (cond_false (k == id) (Some n) (started_as rs id) f) ∙ h)
 ]
 started-spelled (PutDone k size ∷ rs) id name g h = elim (cases_Bool (k == id)) [
   | inl t ↦ absurd (some-not-none _ name h (cond_true (k == id) None (started_as rs id) t))
-  | inr f ↦ started-spelled rs id name (spelled-rest (PutDone k size) rs g) (sym (cond_false (k == id) None (started_as rs id) f) ∙ h)
+  | inr f ↦ started-spelled rs id name (spelled-rest (PutDone k size) rs g)
+      (sym (cond_false (k == id) None (started_as rs id) f) ∙ h)
 ]
 started-spelled (Drop n ∷ rs) id name g h = started-spelled rs id name (spelled-rest (Drop n) rs g) h
-started-spelled (AuditStart number ∷ rs) id name g h = started-spelled rs id name (spelled-rest (AuditStart number) rs g) h
-started-spelled (AuditDone number undecided counts ∷ rs) id name g h = started-spelled rs id name (spelled-rest (AuditDone number undecided counts) rs g) h
-started-spelled (RepairDone number ∷ rs) id name g h = started-spelled rs id name (spelled-rest (RepairDone number) rs g) h
+started-spelled (AuditStart number ∷ rs) id name g h =
+    started-spelled rs id name (spelled-rest (AuditStart number) rs g) h
+started-spelled (AuditDone number undecided counts ∷ rs) id name g h =
+    started-spelled rs id name (spelled-rest (AuditDone number undecided counts) rs g) h
+started-spelled (RepairDone number ∷ rs) id name g h =
+    started-spelled rs id name (spelled-rest (RepairDone number) rs g) h
 started-spelled (PutDoneIn k size profile ∷ rs) id name g h = elim (cases_Bool (k == id)) [
   | inl t ↦ absurd (some-not-none _ name h (cond_true (k == id) None (started_as rs id) t))
   | inr f ↦ started-spelled rs id name (spelled-rest (PutDoneIn k size profile) rs g)
@@ -314,12 +335,15 @@ start-named q (Some name) h = ap Some (same-eq name q h)
 
 -- the records that bring a file in effect: the end of a put of its name, or a packed journal's own
 pub data Came (rs : List Record) (r : Record) (name : List ℕ) (file : File) : Type 0 where
-  done : r ≡ PutDone file.id file.size → started_as rs file.id ≡ Some name → file.profile ≡ profile_in (setup_of rs) → Came rs r name file
-  done_in : r ≡ PutDoneIn file.id file.size file.profile → started_as rs file.id ≡ Some name → Came rs r name file
+  done : r ≡ PutDone file.id file.size → started_as rs file.id ≡ Some name →
+      file.profile ≡ profile_in (setup_of rs) → Came rs r name file
+  done_in : r ≡ PutDoneIn file.id file.size file.profile → started_as rs file.id ≡ Some name →
+      Came rs r name file
   brought : r ≡ InEffect file.id file.size file.profile name → Came rs r name file
 
 -- a file in effect was so before, or came with the record
-pub file-came : (r : Record) (rs : List Record) (name : List ℕ) (file : File) → file_of (r ∷ rs) name ≡ Some file →
+pub file-came : (r : Record) (rs : List Record) (name : List ℕ) (file : File) →
+    file_of (r ∷ rs) name ≡ Some file →
     (file_of rs name ≡ Some file) ⊎ Came rs r name file
 file-came (SetUp s) rs name file h = inl h
 file-came (PutStart k n) rs name file h = inl h
@@ -328,7 +352,8 @@ file-came (PutDone k size) rs name file h =
     elim (cases_Bool (is_start_of name (started_as rs k))) [
       | inl t ↦ (let same : new ≡ file = same_value _ new file
           (cond_true (is_start_of name (started_as rs k)) (Some new) (file_of rs name) t) h in
-          inr (Came.done (ap (λ (f : File). PutDone f.id f.size) same) (ap (λ (f : File). started_as rs f.id) (sym same) ∙ start-named name (started_as rs k) t)
+          inr (Came.done (ap (λ (f : File). PutDone f.id f.size) same)
+          (ap (λ (f : File). started_as rs f.id) (sym same) ∙ start-named name (started_as rs k) t)
           (ap (λ (f : File). f.profile) (sym same))))
       | inr f ↦ inl (sym (cond_false (is_start_of name (started_as rs k)) (Some new) (file_of rs name) f) ∙ h)
     ]
@@ -355,7 +380,8 @@ file-came (InEffect k size profile n) rs name file h =
     elim (cases_Bool (is_same_name n name)) [
       | inl t ↦ (let same : new ≡ file = same_value _ new file
           (cond_true (is_same_name n name) (Some new) (file_of rs name) t) h in
-          inr (Came.brought (ap (λ m. InEffect k size profile m) (same-eq n name t) ∙ ap (λ (f : File). InEffect f.id f.size f.profile name) same)))
+          inr (Came.brought (ap (λ m. InEffect k size profile m) (same-eq n name t)
+          ∙ ap (λ (f : File). InEffect f.id f.size f.profile name) same)))
       | inr f ↦ inl (sym (cond_false (is_same_name n name) (Some new) (file_of rs name) f) ∙ h)
     ]
 file-came (RepairDue number counts) rs name file h = inl h
@@ -376,7 +402,8 @@ abbrev pub IsFit : List ℕ → File → Type 0
 IsFit name file = (is_name name ≡ true) × (file.size ≤ largest_file) × (file.profile < all_profiles)
 
 -- each file in effect is within the limits
-pub file-spelled : (rs : List Record) (name : List ℕ) (file : File) → AreSpelled rs → file_of rs name ≡ Some file → IsFit name file
+pub file-spelled : (rs : List Record) (name : List ℕ) (file : File) → AreSpelled rs →
+    file_of rs name ≡ Some file → IsFit name file
 file-spelled [] name file g h = absurd (some-not-none _ file h refl)
 file-spelled (r ∷ rs) name file g h = elim (file-came r rs name file h) [
   | inl was ↦ file-spelled rs name file (spelled-rest r rs g) was
@@ -386,7 +413,8 @@ file-spelled (r ∷ rs) name file g h = elim (file-came r rs name file h) [
       done-size (subst (λ x. IsTrue (is_spelled x)) is (spelled-first r rs g)),
       (let l = profile-fits rs (spelled-rest r rs g) in omega (arith, l, profile)),
     )
-    | Came.done_in is started ↦ (let f = in-fits (subst (λ x. IsTrue (is_spelled x)) is (spelled-first r rs g)) in
+    | Came.done_in is started ↦
+        (let f = in-fits (subst (λ x. IsTrue (is_spelled x)) is (spelled-first r rs g)) in
         (started-spelled rs file.id name (spelled-rest r rs g) started, f.0, f.1))
     | Came.brought is ↦ kept-fits (subst (λ x. IsTrue (is_spelled x)) is (spelled-first r rs g))
   ]
@@ -395,21 +423,30 @@ file-spelled (r ∷ rs) name file g h = elim (file-came r rs name file h) [
     done-size : IsTrue (is_spelled (PutDone file.id file.size)) → file.size ≤ largest_file
     done-size h = grind (arith, nat_tests, h)
 
-    in-fits : IsTrue (is_spelled (PutDoneIn file.id file.size file.profile)) → (file.size ≤ largest_file) × (file.profile < all_profiles)
+    in-fits : IsTrue (is_spelled (PutDoneIn file.id file.size file.profile)) →
+        (file.size ≤ largest_file) × (file.profile < all_profiles)
     in-fits h = (grind (arith, nat_tests, h), grind (arith, nat_tests, h))
 
-    kept-fits : IsTrue (is_spelled (InEffect file.id file.size file.profile name)) → (is_name name ≡ true) × (file.size ≤ largest_file) × (file.profile < all_profiles)
+    kept-fits : IsTrue (is_spelled (InEffect file.id file.size file.profile name)) →
+        (is_name name ≡ true) × (file.size ≤ largest_file) × (file.profile < all_profiles)
     kept-fits h = (grind (arith, nat_tests, h), grind (arith, nat_tests, h), grind (arith, nat_tests, h))
 
 -- in the first version each file has the setup's profile
-pub file-plain : (rs : List Record) (name : List ℕ) (file : File) → AreAccepted rs → version_of rs ≡ 1 → file_of rs name ≡ Some file → file.profile ≡ profile_in (setup_of rs)
+pub file-plain : (rs : List Record) (name : List ℕ) (file : File) → AreAccepted rs → version_of rs ≡ 1 →
+    file_of rs name ≡ Some file → file.profile ≡ profile_in (setup_of rs)
 file-plain [] name file a v h = absurd (some-not-none _ file h refl)
 file-plain (r ∷ rs) name file a v h = elim (file-came r rs name file h) [
-  | inl was ↦ file-plain rs name file a.1 (version-before r rs v) was ∙ ap profile_in (sym (setup-more r rs (up was) a.0))
+  | inl was ↦ file-plain rs name file a.1 (version-before r rs v) was
+      ∙ ap profile_in (sym (setup-more r rs (up was) a.0))
   | inr new ↦ elim new [
-    | Came.done is started profile ↦ profile ∙ ap profile_in (sym (subst (λ x. setup_of (x ∷ rs) ≡ setup_of rs) (sym is) refl))
-    | Came.done_in is started ↦ absurd (let k : IsTrue (is_held (PutDoneIn file.id file.size file.profile)) = subst (λ x. IsTrue (is_held x)) is (first-held r rs v a.0) in false≢true k)
-    | Came.brought is ↦ absurd (let k : IsTrue (is_held (InEffect file.id file.size file.profile name)) = subst (λ x. IsTrue (is_held x)) is (first-held r rs v a.0) in false≢true k)
+    | Came.done is started profile ↦ profile
+        ∙ ap profile_in (sym (subst (λ x. setup_of (x ∷ rs) ≡ setup_of rs) (sym is) refl))
+    | Came.done_in is started ↦
+        absurd (let k : IsTrue (is_held (PutDoneIn file.id file.size file.profile)) =
+        subst (λ x. IsTrue (is_held x)) is (first-held r rs v a.0) in false≢true k)
+    | Came.brought is ↦ absurd
+        (let k : IsTrue (is_held (InEffect file.id file.size file.profile name)) =
+        subst (λ x. IsTrue (is_held x)) is (first-held r rs v a.0) in false≢true k)
   ]
 ]
   where
@@ -420,29 +457,43 @@ file-plain (r ∷ rs) name file a v h = elim (file-came r rs name file h) [
     ]
 
 -- a due audit has a number and counts within their limits
-pub due-spelled : (rs : List Record) (due : Due) → AreSpelled rs → due_of rs ≡ Some due → IsTrue (is_spelled (RepairDue due.number due.counts))
+pub due-spelled : (rs : List Record) (due : Due) → AreSpelled rs → due_of rs ≡ Some due →
+    IsTrue (is_spelled (RepairDue due.number due.counts))
 due-spelled [] due g h = absurd (some-not-none _ due h refl)
 due-spelled (SetUp s ∷ rs) due g h = due-spelled rs due (spelled-rest (SetUp s) rs g) h
 due-spelled (PutStart id name ∷ rs) due g h = due-spelled rs due (spelled-rest (PutStart id name) rs g) h
 due-spelled (PutDone id size ∷ rs) due g h = due-spelled rs due (spelled-rest (PutDone id size) rs g) h
 due-spelled (Drop name ∷ rs) due g h = due-spelled rs due (spelled-rest (Drop name) rs g) h
 due-spelled (AuditStart number ∷ rs) due g h = due-spelled rs due (spelled-rest (AuditStart number) rs g) h
-due-spelled (AuditDone number undecided counts ∷ rs) due g h = elim (cases_Bool (exceeds (setup_of rs) counts)) [
-  | inl t ↦ (let same : record { number = number; counts = counts } ≡ due = same_value _ (record { number = number; counts = counts }) due (cond_true (exceeds (setup_of rs) counts) (Some (record { number = number; counts = counts })) (due_of rs) t) h in
-      subst (λ (d : Due). IsTrue (is_spelled (RepairDue d.number d.counts))) same (fits (spelled-first (AuditDone number undecided counts) rs g)))
-  | inr f ↦ due-spelled rs due (spelled-rest (AuditDone number undecided counts) rs g) (sym (cond_false (exceeds (setup_of rs) counts) (Some (record { number = number; counts = counts })) (due_of rs) f) ∙ h)
-]
+due-spelled (AuditDone number undecided counts ∷ rs) due g h =
+    elim (cases_Bool (exceeds (setup_of rs) counts)) [
+      | inl t ↦ (let same : record { number = number; counts = counts } ≡ due =
+          same_value _ (record { number = number; counts = counts }) due
+          (cond_true (exceeds (setup_of rs) counts) (Some (record { number = number; counts = counts }))
+          (due_of rs) t) h in
+          subst (λ (d : Due). IsTrue (is_spelled (RepairDue d.number d.counts))) same
+          (fits (spelled-first (AuditDone number undecided counts) rs g)))
+      | inr f ↦ due-spelled rs due (spelled-rest (AuditDone number undecided counts) rs g)
+          (sym (cond_false (exceeds (setup_of rs) counts) (Some (record { number = number; counts = counts }))
+          (due_of rs) f) ∙ h)
+    ]
   where
-    fits : IsTrue (is_spelled (AuditDone number undecided counts)) → IsTrue (is_spelled (RepairDue number counts))
+    fits : IsTrue (is_spelled (AuditDone number undecided counts)) →
+        IsTrue (is_spelled (RepairDue number counts))
     fits h = grind (arith, nat_tests, h)
 due-spelled (RepairDone number ∷ rs) due g h = absurd (some-not-none _ due h refl)
-due-spelled (PutDoneIn id size profile ∷ rs) due g h = due-spelled rs due (spelled-rest (PutDoneIn id size profile) rs g) h
+due-spelled (PutDoneIn id size profile ∷ rs) due g h =
+    due-spelled rs due (spelled-rest (PutDoneIn id size profile) rs g) h
 due-spelled (Version ∷ rs) due g h = due-spelled rs due (spelled-rest Version rs g) h
 due-spelled (Resume next audit ∷ rs) due g h = due-spelled rs due (spelled-rest (Resume next audit) rs g) h
-due-spelled (InEffect id size profile kept ∷ rs) due g h = due-spelled rs due (spelled-rest (InEffect id size profile kept) rs g) h
+due-spelled (InEffect id size profile kept ∷ rs) due g h =
+    due-spelled rs due (spelled-rest (InEffect id size profile kept) rs g) h
 due-spelled (RepairDue number counts ∷ rs) due g h =
-    (let same : record { number = number; counts = counts } ≡ due = same_value (Some (record { number = number; counts = counts })) (record { number = number; counts = counts }) due refl h in
-    subst (λ (d : Due). IsTrue (is_spelled (RepairDue d.number d.counts))) same (spelled-first (RepairDue number counts) rs g))
+    (let same : record { number = number; counts = counts } ≡ due =
+    same_value (Some (record { number = number; counts = counts }))
+    (record { number = number; counts = counts }) due refl h in
+    subst (λ (d : Due). IsTrue (is_spelled (RepairDue d.number d.counts))) same
+    (spelled-first (RepairDue number counts) rs g))
 
 -- the number of a due audit fits 64 bits
 pub due-number : (due : Due) → IsTrue (is_spelled (RepairDue due.number due.counts)) → due.number < 2 ^ 64
@@ -451,7 +502,8 @@ due-number due h = grind (arith, nat_tests, h)
 -- ---- files and their bytes
 
 -- files in effect have their bytes with one record more, whose file has its own
-pub held-more : (bytes : ℕ → List ℕ) (r : Record) (rs : List Record) → BringsHeld bytes r → AreHeld bytes rs → AreHeld bytes (r ∷ rs)
+pub held-more : (bytes : ℕ → List ℕ) (r : Record) (rs : List Record) → BringsHeld bytes r → AreHeld bytes rs →
+    AreHeld bytes (r ∷ rs)
 held-more bytes r rs brings held name file h = elim (file-came r rs name file h) [
   | inl was ↦ held name file was
   | inr new ↦ elim new [
@@ -462,9 +514,12 @@ held-more bytes r rs brings held name file h = elim (file-came r rs name file h)
 ]
 
 -- bytes that stay below the next number
-pub held-same : (bytes now : ℕ → List ℕ) (id size : ℕ) → now id ≡ bytes id → IsHeld bytes id size → IsHeld now id size
+pub held-same : (bytes now : ℕ → List ℕ) (id size : ℕ) → now id ≡ bytes id → IsHeld bytes id size →
+    IsHeld now id size
 held-same bytes now id size e h = (subst AreBytes (sym e) h.0, ap length e ∙ h.1)
 
 -- files in effect keep their bytes where those of all drawn numbers stay
-pub held-on : (bytes now : ℕ → List ℕ) (rs : List Record) → AreAccepted rs → ((id : ℕ) → id < next_id rs → now id ≡ bytes id) → AreHeld bytes rs → AreHeld now rs
-held-on bytes now rs a stay held name file h = held-same bytes now file.id file.size (stay file.id ((sound-accepted rs a).file name file h).0) (held name file h)
+pub held-on : (bytes now : ℕ → List ℕ) (rs : List Record) → AreAccepted rs →
+    ((id : ℕ) → id < next_id rs → now id ≡ bytes id) → AreHeld bytes rs → AreHeld now rs
+held-on bytes now rs a stay held name file h = held-same bytes now file.id file.size
+    (stay file.id ((sound-accepted rs a).file name file h).0) (held name file h)

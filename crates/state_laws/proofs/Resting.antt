@@ -1,4 +1,5 @@
--- Sound states in which no job runs: at a start, at rest, and after stops, reopenings, inits and later calls of the program.
+-- Sound states in which no job runs: at a start, at rest, and after stops, reopenings, inits and later calls
+-- of the program.
 use Rattle.std.proofs.Common.{◌≡◌, ℕ, ◌≤◌, Bool, true, false, List, [], ◌∷◌, length, Option, Some, None, refl, ap, sym, subst, ◌∙◌, inl, inr, arith, sum_by}
 use Rattle.std.specs.Prelude.{is_some, IsTrue}
 use Rattle.std.proofs.lemmas.Bool.{false≢true, and_from}
@@ -35,27 +36,32 @@ pub record IsKept (w : State) : Type 0 where
   pub doubt : (d : Doubt) → w.doubt ≡ Some d → MayFollowIn w d.entry
 
 -- a record comes into effect
-kept-brought : (w v : State) (r : Record) → v.records ≡ r ∷ w.records → v.journal ≡ r ∷ w.journal → v.area ≡ w.area → v.is_switching ≡ w.is_switching → v.bytes ≡ w.bytes → v.doubt ≡ None →
+kept-brought : (w v : State) (r : Record) → v.records ≡ r ∷ w.records → v.journal ≡ r ∷ w.journal →
+    v.area ≡ w.area → v.is_switching ≡ w.is_switching → v.bytes ≡ w.bytes → v.doubt ≡ None →
     (w.is_switching ≡ true → ⊥) → MayFollowIn w r → IsKept w → IsKept v
 kept-brought w v r er ej ea es eb none still m K = record {
   accepted = subst AreAccepted (sym er) (m.accepted, K.accepted);
   spelled = subst AreSpelled (sym er) (spelled-more r w.records m.spelled K.spelled);
-  files = subst (λ b. AreHeld b v.records) (sym eb) (subst (AreHeld w.bytes) (sym er) (held-more w.bytes r w.records m.held K.files));
+  files = subst (λ b. AreHeld b v.records) (sym eb)
+      (subst (AreHeld w.bytes) (sym er) (held-more w.bytes r w.records m.held K.files));
   journal = journal-brought w v r er ej ea es m.spelled m.in_journal K.journal;
-  room = (let e = ap (λ area. end_in area v.journal) ea ∙ ap (end_in w.area) ej in let a = m.room in omega (arith, a, e));
+  room = (let e = ap (λ area. end_in area v.journal) ea ∙ ap (end_in w.area) ej in let a = m.room in
+      omega (arith, a, e));
   switching = λ e. absurd (still (sym es ∙ e));
   doubt = λ d h. absurd (some-not-none v.doubt d h none);
 }
 
 -- a setup may follow where there is none
-setup-follows : (w : State) (s : Setup) → IsKept w → is_some (setup_of w.records) ≡ false → IsTrue (is_in_grammar (SetUp s)) → MayFollowIn w (SetUp s)
+setup-follows : (w : State) (s : Setup) → IsKept w → is_some (setup_of w.records) ≡ false →
+    IsTrue (is_in_grammar (SetUp s)) → MayFollowIn w (SetUp s)
 setup-follows w s K none valid = record {
   spelled = valid;
   accepted = cond_false (is_some (setup_of w.records)) _ _ none;
   in_journal = cond_false (is_some (setup_of w.journal)) _ _ (ap is_some K.journal.alike.setup ∙ none);
   room = (let empty = none-set_up w.records K.accepted none in
       let W = K.journal.whole (ap version_of empty) in
-      let e : journal_end w ≡ end_in A [] = ap (λ area. end_in area w.journal) W.area ∙ ap (end_in A) (W.journal ∙ empty) in omega (arith, e));
+      let e : journal_end w ≡ end_in A [] = ap (λ area. end_in area w.journal) W.area
+      ∙ ap (end_in A) (W.journal ∙ empty) in omega (arith, e));
   held = tt;
 }
 
@@ -64,14 +70,18 @@ not-switching : (w : State) → IsKept w → is_some (setup_of w.records) ≡ fa
 not-switching w K none e = false≢true (sym none ∙ second-set_up w.records K.accepted (K.switching e).version)
 
 module _ (limit : ℕ) where
-  idle-sound : (w : State) → IsIdle w → IsKept w → (w.is_open ≡ true → IsSetUp w) → (w.is_open ≡ true → (setup_in w).n ≤ w.handed) → (w.is_open ≡ true → w.doubt ≡ None) → IsSound limit w
+  idle-sound : (w : State) → IsIdle w → IsKept w → (w.is_open ≡ true → IsSetUp w) →
+      (w.is_open ≡ true → (setup_in w).n ≤ w.handed) → (w.is_open ≡ true → w.doubt ≡ None) → IsSound limit w
   idle-sound w idle K set_up handed undoubted = record {
     accepted = K.accepted;
     spelled = K.spelled;
     journal = K.journal;
-    room = (let a = ap (sum_by (reserved (version_of w.records) (setup_in w))) idle.0 in let b = K.room in omega (arith, a, b));
+    room = (let a = ap (sum_by (reserved (version_of w.records) (setup_in w))) idle.0 in let b = K.room in
+        omega (arith, a, b));
     files = K.files;
-    names = (let a = ap (λ js. length (taken_by w.records js)) idle.0 in let b = length-names_in (files_of w.records) in let c = few-files_of w.records K.accepted in omega (arith, a, b, c));
+    names = (let a = ap (λ js. length (taken_by w.records js)) idle.0 in
+        let b = length-names_in (files_of w.records) in let c = few-files_of w.records K.accepted in
+        omega (arith, a, b, c));
     ids = λ l. absurd (let a = ap (sum_by starts_left) idle.0 in omega (arith, l, a));
     audits = λ k j h is_audit l. absurd (found_none w.jobs k j idle.0 h);
     closed = λ c. idle;
@@ -94,23 +104,29 @@ module _ (limit : ℕ) where
   }
 
   -- a state over a whole journal in which nothing is in doubt
-  whole-kept : (w : State) → IsWholeJournal w → AreAccepted w.records → AreSpelled w.records → text_size w.records ≤ largest_journal → AreHeld w.bytes w.records → w.doubt ≡ None → IsKept w
+  whole-kept : (w : State) → IsWholeJournal w → AreAccepted w.records → AreSpelled w.records →
+      text_size w.records ≤ largest_journal → AreHeld w.bytes w.records → w.doubt ≡ None → IsKept w
   whole-kept w W accepted spelled room files none = record {
     accepted = accepted;
     spelled = spelled;
     files = files;
     journal = journal-whole w W accepted spelled;
-    room = (let e = ap (λ area. end_in area w.journal) W.area ∙ (ap (end_in A) W.journal ∙ text_size-end w.records) in omega (arith, e, room));
+    room = (let e = ap (λ area. end_in area w.journal) W.area
+        ∙ (ap (end_in A) W.journal ∙ text_size-end w.records) in omega (arith, e, room));
     switching = λ e. absurd (false≢true (sym W.unswitched ∙ e));
     doubt = λ d h. absurd (some-not-none w.doubt d h none);
   }
 
   -- a state at rest is sound
   pub rest-sound : (w : State) → IsAtRest w → IsSound limit w
-  rest-sound w r = idle-sound w r.idle (whole-kept w r.whole r.accepted (all-spelled w.records r.in_grammar) r.room r.files r.undoubted) r.set_up r.handed (λ o. r.undoubted)
+  rest-sound w r = idle-sound w r.idle
+      (whole-kept w r.whole r.accepted (all-spelled w.records r.in_grammar) r.room r.files r.undoubted)
+      r.set_up r.handed (λ o. r.undoubted)
 
   first-kept : (w : State) → IsStart w → IsKept w
-  first-kept w r = whole-kept w (record { journal = r.journal; area = r.first_area; unswitched = r.unswitched }) (accepted r.records) (spelled r.records) (room r.records) (held r.records) r.doubt
+  first-kept w r = whole-kept w
+      (record { journal = r.journal; area = r.first_area; unswitched = r.unswitched }) (accepted r.records)
+      (spelled r.records) (room r.records) (held r.records) r.doubt
     where
       accepted : AreFirst w.records → AreAccepted w.records
       accepted (inl e) = subst AreAccepted (sym e) tt
@@ -126,56 +142,81 @@ module _ (limit : ℕ) where
 
       held : AreFirst w.records → AreHeld w.bytes w.records
       held (inl e) = subst (AreHeld w.bytes) (sym e) (λ name file h. absurd (some-not-none _ file h refl))
-      held (inr (s, valid, e)) = subst (AreHeld w.bytes) (sym e) (λ name file h. absurd (some-not-none _ file h refl))
+      held (inr (s, valid, e)) =
+          subst (AreHeld w.bytes) (sym e) (λ name file h. absurd (some-not-none _ file h refl))
 
   -- a start is sound
   pub start-sound : (w : State) → IsStart w → IsSound limit w
   start-sound w r = idle-sound w (r.jobs, r.append, r.unbarred, r.none_alone) (first-kept w r)
-      (λ o. absurd (false≢true (sym r.closed ∙ o))) (λ o. absurd (false≢true (sym r.closed ∙ o))) (λ o. r.doubt)
+      (λ o. absurd (false≢true (sym r.closed ∙ o))) (λ o. absurd (false≢true (sym r.closed ∙ o)))
+      (λ o. r.doubt)
 
   -- ---- after stops, reopenings, inits and later calls
 
   module _ (old : State) (S : IsSound limit old) where
     kept : IsKept old
-    kept = record { accepted = S.accepted; spelled = S.spelled; files = S.files; journal = S.journal; room = (let a = S.room in omega (arith, a)); switching = S.switching; doubt = S.doubt }
+    kept = record {
+      accepted = S.accepted;
+      spelled = S.spelled;
+      files = S.files;
+      journal = S.journal;
+      room = (let a = S.room in omega (arith, a));
+      switching = S.switching;
+      doubt = S.doubt;
+    }
 
     -- a closed state of the same records, journal and doubt
-    kept-closed : (v : State) → v.records ≡ old.records → v.journal ≡ old.journal → v.area ≡ old.area → v.is_switching ≡ old.is_switching → v.bytes ≡ old.bytes → v.doubt ≡ old.doubt → v.jobs ≡ [] → v.is_open ≡ false → IsKept v
+    kept-closed : (v : State) → v.records ≡ old.records → v.journal ≡ old.journal → v.area ≡ old.area →
+        v.is_switching ≡ old.is_switching → v.bytes ≡ old.bytes → v.doubt ≡ old.doubt → v.jobs ≡ [] →
+        v.is_open ≡ false → IsKept v
     kept-closed v er ej ea es eb ed none closed = record {
       accepted = subst AreAccepted (sym er) S.accepted;
       spelled = subst AreSpelled (sym er) S.spelled;
       files = subst (λ b. AreHeld b v.records) (sym eb) (subst (AreHeld old.bytes) (sym er) S.files);
       journal = journal-same old v er ej ea es S.journal;
-      room = (let e = ap (λ area. end_in area v.journal) ea ∙ ap (end_in old.area) ej in let a = S.room in omega (arith, a, e));
+      room = (let e = ap (λ area. end_in area v.journal) ea ∙ ap (end_in old.area) ej in let a = S.room in
+          omega (arith, a, e));
       switching = λ e. (let s = S.switching (sym es ∙ e) in
-          record { version = ap version_of er ∙ s.version; undoubted = ed ∙ s.undoubted; jobs = none; packing = λ o. absurd (false≢true (sym closed ∙ o)) });
+          record {
+            version = ap version_of er ∙ s.version;
+            undoubted = ed ∙ s.undoubted;
+            jobs = none;
+            packing = λ o. absurd (false≢true (sym closed ∙ o));
+          });
       doubt = λ d h. follows-in old v d.entry er ej ea eb (S.doubt d (sym ed ∙ h));
     }
       where
-        follows-in : (w u : State) (r : Record) → u.records ≡ w.records → u.journal ≡ w.journal → u.area ≡ w.area → u.bytes ≡ w.bytes → MayFollowIn w r → MayFollowIn u r
-        follows-in w u r er ej ea eb m = subst (λ rs. MayFollow rs u.journal (end_in u.area u.journal) u.bytes r) (sym er)
+        follows-in : (w u : State) (r : Record) → u.records ≡ w.records → u.journal ≡ w.journal →
+            u.area ≡ w.area → u.bytes ≡ w.bytes → MayFollowIn w r → MayFollowIn u r
+        follows-in w u r er ej ea eb m =
+            subst (λ rs. MayFollow rs u.journal (end_in u.area u.journal) u.bytes r) (sym er)
             (subst (λ js. MayFollow w.records js (end_in u.area js) u.bytes r) (sym ej)
             (subst (λ area. MayFollow w.records w.journal (end_in area w.journal) u.bytes r) (sym ea)
             (subst (λ b. MayFollow w.records w.journal (journal_end w) b r) (sym eb) m)))
 
     -- what a disk holds that is read again
-    reread-kept : (journal : List Record) (area : Area) → MayHold old journal area → IsKept (reread old journal area)
+    reread-kept : (journal : List Record) (area : Area) → MayHold old journal area →
+        IsKept (reread old journal area)
     reread-kept journal area (inl (ej, ea)) = record {
       accepted = S.accepted;
       spelled = S.spelled;
       files = S.files;
       journal = journal-kept old (reread old journal area) refl ej ea (λ f. refl) S.journal;
-      room = (let e = ap (λ a. end_in a journal) ea ∙ ap (end_in old.area) ej in let a = S.room in omega (arith, a, e));
+      room = (let e = ap (λ a. end_in a journal) ea ∙ ap (end_in old.area) ej in let a = S.room in
+          omega (arith, a, e));
       switching = λ e. absurd (false≢true e);
       doubt = λ d h. subst (λ js. MayFollow old.records js (end_in area js) old.bytes d.entry) (sym ej)
-          (subst (λ a. MayFollow old.records old.journal (end_in a old.journal) old.bytes d.entry) (sym ea) (S.doubt d h));
+          (subst (λ a. MayFollow old.records old.journal (end_in a old.journal) old.bytes d.entry) (sym ea)
+          (S.doubt d h));
     }
     reread-kept journal area (inr (switching, ej, ea)) = (let W = S.switching switching in record {
       accepted = S.accepted;
       spelled = S.spelled;
       files = S.files;
       journal = journal-packed old (reread old journal area) refl ej W.version S.journal;
-      room = (let e = ap (λ a. end_in a journal) ea ∙ ap (end_in (other_area old.area)) ej in let r = switched-room old.journal old.area S.journal.accepted S.journal.spelled in omega (arith, e, r));
+      room = (let e = ap (λ a. end_in a journal) ea ∙ ap (end_in (other_area old.area)) ej in
+          let r = switched-room old.journal old.area S.journal.accepted S.journal.spelled in
+          omega (arith, e, r));
       switching = λ e. absurd (false≢true e);
       doubt = λ d h. absurd (some-not-none old.doubt d h W.undoubted);
     })
@@ -204,7 +245,8 @@ module _ (limit : ℕ) where
         files = K.files;
         journal = journal-same left (record left { doubt = None }) refl refl refl refl K.journal;
         room = K.room;
-        switching = λ e. (let s = K.switching e in record { version = s.version; undoubted = refl; jobs = s.jobs; packing = s.packing });
+        switching = λ e. (let s = K.switching e in
+            record { version = s.version; undoubted = refl; jobs = s.jobs; packing = s.packing });
         doubt = λ d h. absurd (let e : None ≡ Some d = h in cc);
       };
     })
@@ -215,7 +257,8 @@ module _ (limit : ℕ) where
       is_open = refl;
       alone = refl;
       doubt = refl;
-      kept = kept-brought left (record (brought left d.entry) { doubt = None }) d.entry refl refl refl refl refl refl
+      kept = kept-brought left (record (brought left d.entry) { doubt = None }) d.entry refl refl refl refl
+          refl refl
           (λ e. some-not-none left.doubt d in_doubt (K.switching e).undoubted) (K.doubt d in_doubt) K;
     })
 
@@ -227,36 +270,55 @@ module _ (limit : ℕ) where
       files = K.files;
       journal = journal-same w (record w { disk_faults = faults }) refl refl refl refl K.journal;
       room = K.room;
-      switching = λ e. (let s = K.switching e in record { version = s.version; undoubted = s.undoubted; jobs = s.jobs; packing = s.packing });
+      switching = λ e. (let s = K.switching e in
+          record { version = s.version; undoubted = s.undoubted; jobs = s.jobs; packing = s.packing });
       doubt = K.doubt;
     }
 
     -- a state that is not open, in which nothing is under way
     shut : (w : State) → IsIdle w → IsKept w → w.is_open ≡ false → IsSound limit w
-    shut w idle K closed = idle-sound w idle K (λ o. absurd (false≢true (sym closed ∙ o))) (λ o. absurd (false≢true (sym closed ∙ o))) (λ o. absurd (false≢true (sym closed ∙ o)))
+    shut w idle K closed = idle-sound w idle K (λ o. absurd (false≢true (sym closed ∙ o)))
+        (λ o. absurd (false≢true (sym closed ∙ o))) (λ o. absurd (false≢true (sym closed ∙ o)))
 
     -- the disk is read again
-    again : (mid : State) → Rereads old mid → (left : State) × (IsSettled left mid × (left.jobs ≡ []) × (left.append ≡ None) × (left.is_barred ≡ false) × (left.is_open ≡ false) × (left.alone ≡ None))
-    again mid (journal, area, holds, h) = (reread old journal area, (settled (reread old journal area) mid (reread-kept journal area holds) h, refl, refl, refl, refl, refl))
+    again : (mid : State) → Rereads old mid → (left : State) ×
+        (IsSettled left mid × (left.jobs ≡ []) × (left.append ≡ None) × (left.is_barred ≡ false) ×
+        (left.is_open ≡ false) × (left.alone ≡ None))
+    again mid (journal, area, holds, h) = (
+      reread old journal area,
+      (
+        settled (reread old journal area) mid (reread-kept journal area holds) h,
+        refl,
+        refl,
+        refl,
+        refl,
+        refl,
+      ),
+    )
 
     -- a stop leaves a sound state
     pub stops-sound : (r : Outcome) (new : State) → Stops old r new → IsSound limit new
     stops-sound Stopped new h = (let g = again new h in let s = g.1.0 in
-        shut new (s.jobs ∙ g.1.1, s.append ∙ g.1.2, s.barred ∙ g.1.3, s.alone ∙ g.1.5) s.kept (s.is_open ∙ g.1.4))
+        shut new (s.jobs ∙ g.1.1, s.append ∙ g.1.2, s.barred ∙ g.1.3, s.alone ∙ g.1.5) s.kept
+        (s.is_open ∙ g.1.4))
     stops-sound r new h = absurd h
 
     -- a later call of the program begins with a sound state
     pub continues-sound : (r : Outcome) (new : State) → Continues old r new → IsSound limit new
-    continues-sound Continued new is = subst (IsSound limit) (sym is) (shut (continued old) (refl, refl, refl, refl) (kept-closed (continued old) refl refl refl refl refl refl refl refl) refl)
+    continues-sound Continued new is = subst (IsSound limit) (sym is)
+        (shut (continued old) (refl, refl, refl, refl)
+        (kept-closed (continued old) refl refl refl refl refl refl refl refl) refl)
     continues-sound r new h = absurd h
 
     -- the vault is open again
-    opened : (mid : State) (faults : ℕ) → IsKept mid → mid.is_open ≡ false → mid.jobs ≡ [] → mid.is_switching ≡ false → IsKept (record mid { is_open = true; disk_faults = faults })
+    opened : (mid : State) (faults : ℕ) → IsKept mid → mid.is_open ≡ false → mid.jobs ≡ [] →
+        mid.is_switching ≡ false → IsKept (record mid { is_open = true; disk_faults = faults })
     opened mid faults K closed none still = record {
       accepted = K.accepted;
       spelled = K.spelled;
       files = K.files;
-      journal = journal-same mid (record mid { is_open = true; disk_faults = faults }) refl refl refl refl K.journal;
+      journal = journal-same mid (record mid { is_open = true; disk_faults = faults }) refl refl refl refl
+          K.journal;
       room = K.room;
       switching = λ e. absurd (false≢true (sym still ∙ e));
       doubt = K.doubt;
@@ -272,29 +334,57 @@ module _ (limit : ℕ) where
         (let g = again mid h in
         let s = g.1.0 in
         let w : State = record mid { is_open = true; disk_faults = faults } in
-        subst (IsSound limit) (sym is) (idle-sound w (s.jobs ∙ g.1.1, s.append ∙ g.1.2, s.barred ∙ g.1.3, s.alone ∙ g.1.5) (opened mid faults s.kept (s.is_open ∙ g.1.4) (s.jobs ∙ g.1.1) (still-mid mid h))
-        (λ o. up) (λ o. subst (λ (t : Setup). t.n ≤ mid.handed) (sym (setup_same w mid refl)) enough) (λ o. s.doubt)))
+        subst (IsSound limit) (sym is)
+        (idle-sound w (s.jobs ∙ g.1.1, s.append ∙ g.1.2, s.barred ∙ g.1.3, s.alone ∙ g.1.5)
+        (opened mid faults s.kept (s.is_open ∙ g.1.4) (s.jobs ∙ g.1.1) (still-mid mid h))
+        (λ o. up) (λ o. subst (λ (t : Setup). t.n ≤ mid.handed) (sym (setup_same w mid refl)) enough)
+        (λ o. s.doubt)))
     reopens-sound (Refused refusal.NotSetUp) new (mid, h, none, (faults, low, is)) =
         (let g = again mid h in
         let s = g.1.0 in
-        subst (IsSound limit) (sym is) (shut (record mid { disk_faults = faults }) (s.jobs ∙ g.1.1, s.append ∙ g.1.2, s.barred ∙ g.1.3, s.alone ∙ g.1.5) (kept-devices mid faults s.kept) (s.is_open ∙ g.1.4)))
+        subst (IsSound limit) (sym is)
+        (shut (record mid { disk_faults = faults }) (
+          s.jobs ∙ g.1.1,
+          s.append ∙ g.1.2,
+          s.barred
+              ∙ g.1.3,
+          s.alone ∙ g.1.5,
+        ) (kept-devices mid faults s.kept) (s.is_open ∙ g.1.4)))
     reopens-sound (Refused refusal.TooFewProviders) new (mid, h, up, few, (faults, low, is)) =
         (let g = again mid h in
         let s = g.1.0 in
-        subst (IsSound limit) (sym is) (shut (record mid { disk_faults = faults }) (s.jobs ∙ g.1.1, s.append ∙ g.1.2, s.barred ∙ g.1.3, s.alone ∙ g.1.5) (kept-devices mid faults s.kept) (s.is_open ∙ g.1.4)))
-    reopens-sound (Refused refusal.DiskFault) new (faults, low, rose, is) = subst (IsSound limit) (sym is) (shut (record (given_up old) { disk_faults = faults }) (refl, refl, refl, refl) (kept-closed (record (given_up old) { disk_faults = faults }) refl refl refl refl refl refl refl refl) refl)
-    reopens-sound (Refused refusal.Memory) new (faults, low, is) = subst (IsSound limit) (sym is) (shut (record (given_up old) { disk_faults = faults }) (refl, refl, refl, refl) (kept-closed (record (given_up old) { disk_faults = faults }) refl refl refl refl refl refl refl refl) refl)
+        subst (IsSound limit) (sym is)
+        (shut (record mid { disk_faults = faults }) (
+          s.jobs ∙ g.1.1,
+          s.append ∙ g.1.2,
+          s.barred
+              ∙ g.1.3,
+          s.alone ∙ g.1.5,
+        ) (kept-devices mid faults s.kept) (s.is_open ∙ g.1.4)))
+    reopens-sound (Refused refusal.DiskFault) new (faults, low, rose, is) =
+        subst (IsSound limit) (sym is)
+        (shut (record (given_up old) { disk_faults = faults }) (refl, refl, refl, refl)
+        (kept-closed (record (given_up old) { disk_faults = faults }) refl refl refl refl refl refl refl
+        refl) refl)
+    reopens-sound (Refused refusal.Memory) new (faults, low, is) =
+        subst (IsSound limit) (sym is)
+        (shut (record (given_up old) { disk_faults = faults }) (refl, refl, refl, refl)
+        (kept-closed (record (given_up old) { disk_faults = faults }) refl refl refl refl refl refl refl
+        refl) refl)
     reopens-sound r new h = absurd h
 
     -- what is in doubt after an init that failed
-    left-kept : (s : Setup) (doubt : Option Doubt) (faults : ℕ) → IsTrue (is_in_grammar (SetUp s)) → LeavesDoubt old s doubt → IsKept (record old { doubt = doubt; disk_faults = faults })
+    left-kept : (s : Setup) (doubt : Option Doubt) (faults : ℕ) → IsTrue (is_in_grammar (SetUp s)) →
+        LeavesDoubt old s doubt → IsKept (record old { doubt = doubt; disk_faults = faults })
     left-kept s doubt faults valid leaves = record {
       accepted = S.accepted;
       spelled = S.spelled;
       files = S.files;
-      journal = journal-same old (record old { doubt = doubt; disk_faults = faults }) refl refl refl refl S.journal;
+      journal = journal-same old (record old { doubt = doubt; disk_faults = faults }) refl refl refl refl
+          S.journal;
       room = kept.room;
-      switching = λ e. (let s = S.switching e in record { version = s.version; undoubted = none e leaves; jobs = s.jobs; packing = s.packing });
+      switching = λ e. (let s = S.switching e in
+          record { version = s.version; undoubted = none e leaves; jobs = s.jobs; packing = s.packing });
       doubt = follows leaves;
     }
       where
@@ -305,31 +395,50 @@ module _ (limit : ℕ) where
         follows : LeavesDoubt old s doubt → (d : Doubt) → doubt ≡ Some d → MayFollowIn old d.entry
         follows (inl is) d h = S.doubt d (sym is ∙ h)
         follows (inr (unset, is)) d h =
-            (let f : record { entry = SetUp s; maker = None } ≡ d = same_value doubt (record { entry = SetUp s; maker = None }) d is h in
+            (let f : record { entry = SetUp s; maker = None } ≡ d =
+            same_value doubt (record { entry = SetUp s; maker = None }) d is h in
             subst (λ (x : Doubt). MayFollowIn old x.entry) f (setup-follows old s kept unset valid))
 
-    inits-closed : (s : Setup) (r : Outcome) (new : State) → IsIdle old → old.is_open ≡ false → IsTrue (is_in_grammar (SetUp s)) → InitsClosed old s r new → IsSound limit new
+    inits-closed : (s : Setup) (r : Outcome) (new : State) → IsIdle old → old.is_open ≡ false →
+        IsTrue (is_in_grammar (SetUp s)) → InitsClosed old s r new → IsSound limit new
     inits-closed s (Refused refusal.DiskFault) new idle closed valid (doubt, leaves, (faults, low, rose, is)) =
-        subst (IsSound limit) (sym is) (shut (record old { doubt = doubt; disk_faults = faults }) idle (left-kept s doubt faults valid leaves) closed)
+        subst (IsSound limit) (sym is)
+        (shut (record old { doubt = doubt; disk_faults = faults }) idle
+        (left-kept s doubt faults valid leaves) closed)
     inits-closed s (Refused refusal.Memory) new idle closed valid (doubt, leaves, (faults, low, is)) =
-        subst (IsSound limit) (sym is) (shut (record old { doubt = doubt; disk_faults = faults }) idle (left-kept s doubt faults valid leaves) closed)
+        subst (IsSound limit) (sym is)
+        (shut (record old { doubt = doubt; disk_faults = faults }) idle
+        (left-kept s doubt faults valid leaves) closed)
     inits-closed s (Refused refusal.Already) new idle closed valid (mid, h, up, (faults, low, is)) =
         (let t = settled old mid kept h in
-        subst (IsSound limit) (sym is) (shut (record mid { disk_faults = faults }) (t.jobs ∙ idle.0, t.append ∙ idle.1, t.barred ∙ idle.2, t.alone ∙ idle.3) (kept-devices mid faults t.kept) (t.is_open ∙ closed)))
+        subst (IsSound limit) (sym is)
+        (shut (record mid { disk_faults = faults }) (
+          t.jobs ∙ idle.0,
+          t.append ∙ idle.1,
+          t.barred
+              ∙ idle.2,
+          t.alone ∙ idle.3,
+        ) (kept-devices mid faults t.kept) (t.is_open ∙ closed)))
     inits-closed s Ready new idle closed valid (mid, h, none, (faults, low, is)) =
         (let t = settled old mid kept h in
         let w : State = record (brought mid (SetUp s)) { disk_faults = faults } in
-        subst (IsSound limit) (sym is) (shut w (t.jobs ∙ idle.0, t.append ∙ idle.1, t.barred ∙ idle.2, t.alone ∙ idle.3)
-        (kept-brought mid w (SetUp s) refl refl refl refl refl t.doubt (not-switching mid t.kept none) (setup-follows mid s t.kept none valid) t.kept) (t.is_open ∙ closed)))
+        subst (IsSound limit) (sym is)
+        (shut w (t.jobs ∙ idle.0, t.append ∙ idle.1, t.barred ∙ idle.2, t.alone ∙ idle.3)
+        (kept-brought mid w (SetUp s) refl refl refl refl refl t.doubt (not-switching mid t.kept none)
+        (setup-follows mid s t.kept none valid) t.kept) (t.is_open ∙ closed)))
     inits-closed s r new idle closed valid h = absurd h
 
-    inits-by : (s : Setup) (checked : Bool) (r : Outcome) (new : State) → is_setup s ≡ checked → IsTrue (is_master s.master) → IsIdle old → old.is_open ≡ false → InitsBy old s checked r new → IsSound limit new
+    inits-by : (s : Setup) (checked : Bool) (r : Outcome) (new : State) → is_setup s ≡ checked →
+        IsTrue (is_master s.master) → IsIdle old → old.is_open ≡ false → InitsBy old s checked r new →
+        IsSound limit new
     inits-by s false (Refused refusal.BadSetup) new e master idle closed is = subst (IsSound limit) (sym is) S
-    inits-by s true r new e master idle closed h = inits-closed s r new idle closed (and_from (is_setup s) (is_master s.master) e master) h
+    inits-by s true r new e master idle closed h =
+        inits-closed s r new idle closed (and_from (is_setup s) (is_master s.master) e master) h
     inits-by s false r new e master idle closed h = absurd h
 
     -- an init, refused or not, leaves a sound state
-    pub inits-sound : (s : Setup) (is_open : Bool) (r : Outcome) (new : State) → old.is_open ≡ is_open → IsTrue (is_master s.master) → Inits old s is_open r new → IsSound limit new
+    pub inits-sound : (s : Setup) (is_open : Bool) (r : Outcome) (new : State) → old.is_open ≡ is_open →
+        IsTrue (is_master s.master) → Inits old s is_open r new → IsSound limit new
     inits-sound s true (Refused refusal.Already) new e master is = subst (IsSound limit) (sym is) S
     inits-sound s false r new e master h = inits-by s (is_setup s) r new refl master (S.closed e) e h
     inits-sound s true r new e master h = absurd h

@@ -19,64 +19,91 @@ abbrev pub room_of : ℕ → Setup → Kind → ℕ → ℕ
 room_of version s kind k = room_left version s (aim_of kind) k
 
 -- jobs of one kind with equally many appends left need the same room
-pub room-same : (version : ℕ) (s : Setup) (i j : Job) → j.kind ≡ i.kind → appends_left s j ≡ appends_left s i → reserved version s j ≡ reserved version s i
-room-same version s i j kind left = ap (λ kd. room_of version s kd (appends_left s j)) kind ∙ ap (room_of version s i.kind) left
+pub room-same : (version : ℕ) (s : Setup) (i j : Job) → j.kind ≡ i.kind →
+    appends_left s j ≡ appends_left s i → reserved version s j ≡ reserved version s i
+room-same version s i j kind left =
+    ap (λ kd. room_of version s kd (appends_left s j)) kind ∙ ap (room_of version s i.kind) left
 
 -- the record that ends a put takes what is kept for it
-size-done : (version id size profile : ℕ) → 1 + record_size (done_record version id size profile) ≡ cond (version == 2) 15 14
+size-done : (version id size profile : ℕ) → 1 + record_size (done_record version id size profile)
+    ≡ cond (version == 2) 15 14
 size-done version id size profile = elim (cases_Bool (version == 2)) [
   | inl t ↦ rw t refl
   | inr f ↦ rw f refl
 ]
 
 -- the record that a put writes, and that an audit writes
-pub put-writes_first : (w : State) (job : Job) (name bytes : List ℕ) (entry : Record) → job.place < 4 → Writes w job (PutJob name bytes) entry → entry ≡ PutStart (next_id w.records) name
-put-writes_first w job name bytes entry l h = h ∙ cond_true (is_first_append job) (PutStart (next_id w.records) name) (done_record (version_of w.records) job.subject (length bytes) job.profile) (first_below job l)
+pub put-writes_first : (w : State) (job : Job) (name bytes : List ℕ) (entry : Record) → job.place < 4 →
+    Writes w job (PutJob name bytes) entry → entry ≡ PutStart (next_id w.records) name
+put-writes_first w job name bytes entry l h = h
+    ∙ cond_true (is_first_append job) (PutStart (next_id w.records) name)
+    (done_record (version_of w.records) job.subject (length bytes) job.profile) (first_below job l)
 
 -- a put writes its end from its second append on
-pub put-writes_later : (w : State) (job : Job) (name bytes : List ℕ) (entry : Record) → 4 ≤ job.place → Writes w job (PutJob name bytes) entry → entry ≡ done_record (version_of w.records) job.subject (length bytes) job.profile
-put-writes_later w job name bytes entry l h = h ∙ cond_false (is_first_append job) (PutStart (next_id w.records) name) (done_record (version_of w.records) job.subject (length bytes) job.profile) (first_above job l)
+pub put-writes_later : (w : State) (job : Job) (name bytes : List ℕ) (entry : Record) → 4 ≤ job.place →
+    Writes w job (PutJob name bytes) entry →
+    entry ≡ done_record (version_of w.records) job.subject (length bytes) job.profile
+put-writes_later w job name bytes entry l h = h
+    ∙ cond_false (is_first_append job) (PutStart (next_id w.records) name)
+    (done_record (version_of w.records) job.subject (length bytes) job.profile) (first_above job l)
 
 -- an audit writes its start with its first append
-pub audit-writes_first : (w : State) (job : Job) (entry : Record) → job.place < 4 → Writes w job AuditJob entry → entry ≡ AuditStart (next_audit w.records)
+pub audit-writes_first : (w : State) (job : Job) (entry : Record) → job.place < 4 →
+    Writes w job AuditJob entry → entry ≡ AuditStart (next_audit w.records)
 audit-writes_first w job entry l h = (let g = rw (first_below job l) at h in g)
 
 -- an audit writes its end from its second append on, with its sums
-pub audit-writes_later : (w : State) (job : Job) (entry : Record) → 4 ≤ job.place → Writes w job AuditJob entry →
+pub audit-writes_later : (w : State) (job : Job) (entry : Record) → 4 ≤ job.place →
+    Writes w job AuditJob entry →
     (sums : Sums) × HasSums (setup_in w) job sums × (entry ≡ AuditDone job.subject sums.undecided sums.counts)
 audit-writes_later w job entry l h = (let g = rw (first_above job l) at h in g)
 
 -- the record that a job writes is the first of those that are left
-pub room-step : (w : State) (job : Job) (kind : Kind) (entry : Record) (k : ℕ) → job.kind ≡ kind → Writes w job kind entry → appends_left (setup_in w) job ≡ k + 1 →
+pub room-step : (w : State) (job : Job) (kind : Kind) (entry : Record) (k : ℕ) → job.kind ≡ kind →
+    Writes w job kind entry → appends_left (setup_in w) job ≡ k + 1 →
     ((sums : Sums) → HasSums (setup_in w) job sums → length sums.counts ≡ (setup_in w).n) →
-    room_of (version_of w.records) (setup_in w) kind (k + 1) ≡ (1 + record_size entry) + room_of (version_of w.records) (setup_in w) kind k
+    room_of (version_of w.records) (setup_in w) kind (k + 1)
+    ≡ (1 + record_size entry) + room_of (version_of w.records) (setup_in w) kind k
 room-step w job (PutJob name bytes) entry k kind h left sizes = elim (cases_lt job.place 4) [
-  | inl l ↦ (let one : k ≡ 1 = (let e = put-first (setup_in w) job name bytes kind l in omega (arith, e, left)) in
-      subst (λ n. room_of (version_of w.records) (setup_in w) (PutJob name bytes) (n + 1) ≡ (1 + record_size entry) + room_of (version_of w.records) (setup_in w) (PutJob name bytes) n) (sym one)
+  | inl l ↦ (let one : k ≡ 1 =
+      (let e = put-first (setup_in w) job name bytes kind l in omega (arith, e, left)) in
+      subst (λ n. room_of (version_of w.records) (setup_in w) (PutJob name bytes) (n + 1)
+      ≡ (1 + record_size entry) + room_of (version_of w.records) (setup_in w) (PutJob name bytes) n)
+      (sym one)
       (let e = ap record_size (put-writes_first w job name bytes entry l h) in omega (arith, e)))
-  | inr l ↦ (let none : k ≡ 0 = (let e = put-later (setup_in w) job name bytes kind l in omega (arith, e, left)) in
-      subst (λ n. room_of (version_of w.records) (setup_in w) (PutJob name bytes) (n + 1) ≡ (1 + record_size entry) + room_of (version_of w.records) (setup_in w) (PutJob name bytes) n) (sym none)
-      (let e = ap record_size (put-writes_later w job name bytes entry l h) in let f = size-done (version_of w.records) job.subject (length bytes) job.profile in omega (arith, e, f)))
+  | inr l ↦ (let none : k ≡ 0 =
+      (let e = put-later (setup_in w) job name bytes kind l in omega (arith, e, left)) in
+      subst (λ n. room_of (version_of w.records) (setup_in w) (PutJob name bytes) (n + 1)
+      ≡ (1 + record_size entry) + room_of (version_of w.records) (setup_in w) (PutJob name bytes) n)
+      (sym none)
+      (let e = ap record_size (put-writes_later w job name bytes entry l h) in
+      let f = size-done (version_of w.records) job.subject (length bytes) job.profile in
+      omega (arith, e, f)))
 ]
 room-step w job (GetJob name) entry k kind h left sizes = absurd h
 room-step w job (DropJob name) entry k kind h left sizes =
     (let none : k ≡ 0 = (let e = drop-first (setup_in w) job name kind in omega (arith, e, left)) in
-    subst (λ n. room_of (version_of w.records) (setup_in w) (DropJob name) (n + 1) ≡ (1 + record_size entry) + room_of (version_of w.records) (setup_in w) (DropJob name) n) (sym none)
+    subst (λ n. room_of (version_of w.records) (setup_in w) (DropJob name) (n + 1)
+    ≡ (1 + record_size entry) + room_of (version_of w.records) (setup_in w) (DropJob name) n) (sym none)
     (let e = ap record_size h in omega (arith, e)))
 room-step w job AuditJob entry k kind h left sizes = elim (cases_lt job.place 4) [
   | inl l ↦ (let one : k ≡ 1 = (let e = audit-first (setup_in w) job kind l in omega (arith, e, left)) in
-      subst (λ n. room_of (version_of w.records) (setup_in w) AuditJob (n + 1) ≡ (1 + record_size entry) + room_of (version_of w.records) (setup_in w) AuditJob n) (sym one)
+      subst (λ n. room_of (version_of w.records) (setup_in w) AuditJob (n + 1)
+      ≡ (1 + record_size entry) + room_of (version_of w.records) (setup_in w) AuditJob n) (sym one)
       (let e = ap record_size (audit-writes_first w job entry l h) in omega (arith, e)))
   | inr l ↦ (let none : k ≡ 0 = (let e = audit-later (setup_in w) job kind l in omega (arith, e, left)) in
-      subst (λ n. room_of (version_of w.records) (setup_in w) AuditJob (n + 1) ≡ (1 + record_size entry) + room_of (version_of w.records) (setup_in w) AuditJob n) (sym none)
+      subst (λ n. room_of (version_of w.records) (setup_in w) AuditJob (n + 1)
+      ≡ (1 + record_size entry) + room_of (version_of w.records) (setup_in w) AuditJob n) (sym none)
       (let wrote = audit-writes_later w job entry l h in
       let e = ap record_size wrote.2 in let f = sizes wrote.0 wrote.1 in omega (arith, e, f)))
 ]
 room-step w job RepairJob entry k kind h left sizes =
     (let none : k ≡ 0 = (let e = repair-first (setup_in w) job kind in omega (arith, e, left)) in
-    subst (λ n. room_of (version_of w.records) (setup_in w) RepairJob (n + 1) ≡ (1 + record_size entry) + room_of (version_of w.records) (setup_in w) RepairJob n) (sym none)
+    subst (λ n. room_of (version_of w.records) (setup_in w) RepairJob (n + 1)
+    ≡ (1 + record_size entry) + room_of (version_of w.records) (setup_in w) RepairJob n) (sym none)
     (let e = ap record_size h in omega (arith, e)))
 room-step w job UpgradeJob entry k kind h left sizes =
     (let none : k ≡ 0 = (let e = upgrade-first (setup_in w) job kind in omega (arith, e, left)) in
-    subst (λ n. room_of (version_of w.records) (setup_in w) UpgradeJob (n + 1) ≡ (1 + record_size entry) + room_of (version_of w.records) (setup_in w) UpgradeJob n) (sym none)
+    subst (λ n. room_of (version_of w.records) (setup_in w) UpgradeJob (n + 1)
+    ≡ (1 + record_size entry) + room_of (version_of w.records) (setup_in w) UpgradeJob n) (sym none)
     (let e = ap record_size h in omega (arith, e)))

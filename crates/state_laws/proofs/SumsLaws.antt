@@ -26,10 +26,17 @@ record Within (n : ℕ) (rounds : ℕ) (sums : Sums) : Type 0 where
   undecided : sums.undecided ≤ rounds
 
 module _ (s : Setup) (job : Job) where
-  judged : (n k : ℕ) (f : Pinned) (round : ℕ) (old new : Sums) → Within n k old → JudgesRound s job f round old new → Within n (k + 1) new
+  judged : (n k : ℕ) (f : Pinned) (round : ℕ) (old new : Sums) → Within n k old →
+      JudgesRound s job f round old new → Within n (k + 1) new
   judged n k f round old new w (inl (p, decides, is)) = subst (Within n (k + 1)) (sym is) (record {
-    size = length-counts_after p (points (object_of (profiled s f.profile) f.id)) (bare_answers (object_of (profiled s f.profile) f.id) (challenge_in (profiled s f.profile) job f.id (length f.bytes) round) 0 (answers_given job.given s.n f.id round)) old.counts ∙ w.size;
-    counts = counts_after-within k p (points (object_of (profiled s f.profile) f.id)) (bare_answers (object_of (profiled s f.profile) f.id) (challenge_in (profiled s f.profile) job f.id (length f.bytes) round) 0 (answers_given job.given s.n f.id round)) old.counts w.counts;
+    size = length-counts_after p (points (object_of (profiled s f.profile) f.id))
+        (bare_answers (object_of (profiled s f.profile) f.id)
+        (challenge_in (profiled s f.profile) job f.id (length f.bytes) round) 0
+        (answers_given job.given s.n f.id round)) old.counts ∙ w.size;
+    counts = counts_after-within k p (points (object_of (profiled s f.profile) f.id))
+        (bare_answers (object_of (profiled s f.profile) f.id)
+        (challenge_in (profiled s f.profile) job f.id (length f.bytes) round) 0
+        (answers_given job.given s.n f.id round)) old.counts w.counts;
     undecided = (let u = w.undecided in omega (arith, u));
   })
   judged n k f round old new w (inr (none, is)) = subst (Within n (k + 1)) (sym is) (record {
@@ -39,27 +46,43 @@ module _ (s : Setup) (job : Job) where
   })
 
   within-higher : (n low high : ℕ) (sums : Sums) → low ≤ high → Within n low sums → Within n high sums
-  within-higher n low high sums l w = record { size = w.size; counts = each_at_most low high sums.counts l w.counts; undecided = (let u = w.undecided in omega (arith, u, l)) }
+  within-higher n low high sums l w =
+      record {
+        size = w.size;
+        counts = each_at_most low high sums.counts l w.counts;
+        undecided = (let u = w.undecided in omega (arith, u, l));
+      }
 
-  judged-rounds : (n k : ℕ) (f : Pinned) (rounds : List ℕ) (old new : Sums) → Within n k old → JudgesRounds s job f rounds old new → Within n (k + length rounds) new
-  judged-rounds n k f [] old new w is = subst (Within n (k + 0)) (sym is) (within-higher n k (k + 0) old (omega arith) w)
+  judged-rounds : (n k : ℕ) (f : Pinned) (rounds : List ℕ) (old new : Sums) → Within n k old →
+      JudgesRounds s job f rounds old new → Within n (k + length rounds) new
+  judged-rounds n k f [] old new w is =
+      subst (Within n (k + 0)) (sym is) (within-higher n k (k + 0) old (omega arith) w)
   judged-rounds n k f (round ∷ more) old new w (mid, j, js) =
-      within-higher n (k + 1 + length more) (k + length (round ∷ more)) new (omega arith) (judged-rounds n (k + 1) f more mid new (judged n k f round old mid w j) js)
+      within-higher n (k + 1 + length more) (k + length (round ∷ more)) new (omega arith)
+      (judged-rounds n (k + 1) f more mid new (judged n k f round old mid w j) js)
 
   rounds-size : (profile size : ℕ) → length (rounds_of (profiled s profile) size) ≤ s.rounds
   rounds-size profile size = elim (cases_Bool (stripes_of (profiled s profile) size == 0)) [
-    | inl t ↦ (let e = ap length (cond_true (stripes_of (profiled s profile) size == 0) [] (upto s.rounds) t) in omega (arith, e))
-    | inr f ↦ (let e = ap length (cond_false (stripes_of (profiled s profile) size == 0) [] (upto s.rounds) f) in let l = length-range_with_len 0 s.rounds in omega (arith, e, l))
+    | inl t ↦ (let e = ap length
+        (cond_true (stripes_of (profiled s profile) size == 0) [] (upto s.rounds) t) in omega (arith, e))
+    | inr f ↦ (let e = ap length
+        (cond_false (stripes_of (profiled s profile) size == 0) [] (upto s.rounds) f) in
+        let l = length-range_with_len 0 s.rounds in omega (arith, e, l))
   ]
 
-  judged-files : (n k : ℕ) (fs : List Pinned) (old new : Sums) → Within n k old → JudgesFiles s job fs old new → Within n (k + length fs * s.rounds) new
-  judged-files n k [] old new w is = subst (Within n (k + 0 * s.rounds)) (sym is) (within-higher n k (k + 0 * s.rounds) old (omega arith) w)
+  judged-files : (n k : ℕ) (fs : List Pinned) (old new : Sums) → Within n k old →
+      JudgesFiles s job fs old new → Within n (k + length fs * s.rounds) new
+  judged-files n k [] old new w is =
+      subst (Within n (k + 0 * s.rounds)) (sym is) (within-higher n k (k + 0 * s.rounds) old (omega arith) w)
   judged-files n k (f ∷ fs) old new w (mid, j, js) =
       (let m = judged-rounds n k f (rounds_of (profiled s f.profile) (length f.bytes)) old mid w j in
       let r = rounds-size f.profile (length f.bytes) in
       let e : (1 + length fs) * s.rounds ≡ s.rounds + length fs * s.rounds = grind arith in
-      within-higher n (k + s.rounds + length fs * s.rounds) (k + length (f ∷ fs) * s.rounds) new (omega (arith, e))
-      (judged-files n (k + s.rounds) fs mid new (within-higher n (k + length (rounds_of (profiled s f.profile) (length f.bytes))) (k + s.rounds) mid (omega (arith, r)) m) js))
+      within-higher n (k + s.rounds + length fs * s.rounds) (k + length (f ∷ fs) * s.rounds) new
+      (omega (arith, e))
+      (judged-files n (k + s.rounds) fs mid new
+      (within-higher n (k + length (rounds_of (profiled s f.profile) (length f.bytes))) (k + s.rounds) mid
+      (omega (arith, r)) m) js))
 
 -- what the sums of an audit over so few files are
 pub record AreSmall (n : ℕ) (sums : Sums) : Type 0 where
@@ -68,13 +91,20 @@ pub record AreSmall (n : ℕ) (sums : Sums) : Type 0 where
   pub undecided : sums.undecided ≤ 2 ^ 16
 
 -- an audit over no more files than may be in effect has such small sums
-pub sums-small : (s : Setup) (job : Job) (sums : Sums) → length job.pinned ≤ most_files → s.rounds ≤ 64 → HasSums s job sums → AreSmall s.n sums
+pub sums-small : (s : Setup) (job : Job) (sums : Sums) → length job.pinned ≤ most_files → s.rounds ≤ 64 →
+    HasSums s job sums → AreSmall s.n sums
 sums-small s job sums few rounds h =
-    (let start : Within s.n 0 (record { counts = replicate s.n 0; undecided = 0 }) = record { size = length-replicate s.n 0; counts = each_zero s.n; undecided = omega arith } in
-    let w = judged-files s job s.n 0 job.pinned (record { counts = replicate s.n 0; undecided = 0 }) sums start h in
+    (let start : Within s.n 0 (record { counts = replicate s.n 0; undecided = 0 }) =
+    record { size = length-replicate s.n 0; counts = each_zero s.n; undecided = omega arith } in
+    let w = judged-files s job s.n 0 job.pinned (record { counts = replicate s.n 0; undecided = 0 }) sums
+    start h in
     let a : length job.pinned * s.rounds ≤ 1024 * s.rounds = mul-le-mul_right s.rounds few in
     let l : 0 + length job.pinned * s.rounds ≤ 2 ^ 16 = omega (arith, a, rounds) in
-    record { size = w.size; counts = each_at_most (0 + length job.pinned * s.rounds) (2 ^ 16) sums.counts l w.counts; undecided = (let u = w.undecided in omega (arith, u, l)) })
+    record {
+      size = w.size;
+      counts = each_at_most (0 + length job.pinned * s.rounds) (2 ^ 16) sums.counts l w.counts;
+      undecided = (let u = w.undecided in omega (arith, u, l));
+    })
 
 -- what holds of each item holds of all, in the form that contracts have
 pub each-all : (P : ℕ → Type 0) (xs : List ℕ) → Each P xs → All P xs

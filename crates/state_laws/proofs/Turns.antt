@@ -34,11 +34,15 @@ use Rattle.state_laws.proofs.Going.{onward, order-onward, count-onward, not-thre
 -- ---- records that may follow, where bytes stay
 
 -- a put's end that is accepted has a number that was drawn
-done-drawn : (rs : List Record) (id : ℕ) → AreAccepted rs → put_done_refused rs (started_as rs id) ≡ None → id < next_id rs
-done-drawn rs id a g = (let t = started-in rs (started_as rs id) g in (sound-accepted rs a).started id t.0 t.1)
+done-drawn : (rs : List Record) (id : ℕ) → AreAccepted rs → put_done_refused rs (started_as rs id) ≡ None →
+    id < next_id rs
+done-drawn rs id a g =
+    (let t = started-in rs (started_as rs id) g in (sound-accepted rs a).started id t.0 t.1)
 
 -- a record that may follow may still follow where the bytes of drawn numbers stay
-pub follows-on : (rs journal : List Record) (end : ℕ) (bytes now : ℕ → List ℕ) (entry : Record) → AreAccepted rs → ((id : ℕ) → id < next_id rs → now id ≡ bytes id) → MayFollow rs journal end bytes entry → MayFollow rs journal end now entry
+pub follows-on : (rs journal : List Record) (end : ℕ) (bytes now : ℕ → List ℕ) (entry : Record) →
+    AreAccepted rs → ((id : ℕ) → id < next_id rs → now id ≡ bytes id) → MayFollow rs journal end bytes entry →
+    MayFollow rs journal end now entry
 follows-on rs journal end bytes now entry a stay m = record {
   spelled = m.spelled;
   accepted = m.accepted;
@@ -50,33 +54,41 @@ follows-on rs journal end bytes now entry a stay m = record {
     held : (entry : Record) → refused rs entry ≡ None → BringsHeld bytes entry → BringsHeld now entry
     held (SetUp s) h b = tt
     held (PutStart id name) h b = tt
-    held (PutDone id size) h b = held-same bytes now id size (stay id (done-drawn rs id a (grind (arith, nat_tests, h)))) b
+    held (PutDone id size) h b =
+        held-same bytes now id size (stay id (done-drawn rs id a (grind (arith, nat_tests, h)))) b
     held (Drop name) h b = tt
     held (AuditStart number) h b = tt
     held (AuditDone number undecided counts) h b = tt
     held (RepairDone number) h b = tt
-    held (PutDoneIn id size profile) h b = held-same bytes now id size (stay id (done-drawn rs id a (grind (arith, nat_tests, h)))) b
+    held (PutDoneIn id size profile) h b =
+        held-same bytes now id size (stay id (done-drawn rs id a (grind (arith, nat_tests, h)))) b
     held Version h b = tt
     held (Resume next audit) h b = tt
-    held (InEffect id size profile name) h b = held-same bytes now id size (stay id (grind (arith, nat_tests, h))) b
+    held (InEffect id size profile name) h b =
+        held-same bytes now id size (stay id (grind (arith, nat_tests, h))) b
     held (RepairDue number counts) h b = tt
 
 -- ---- lists of jobs in which one goes on
 
 -- the names of puts stay when a job goes on
-pub put-with : (n : List ℕ) (js : List Job) (job before : Job) → job_of js job.number ≡ Some before → job.kind ≡ before.kind → are_put n (with_job js job) ≡ are_put n js
+pub put-with : (n : List ℕ) (js : List Job) (job before : Job) → job_of js job.number ≡ Some before →
+    job.kind ≡ before.kind → are_put n (with_job js job) ≡ are_put n js
 put-with n [] job before h kind = refl
 put-with n (x ∷ js) job before h kind = elim (cases_Bool (x.number == job.number)) [
-  | inl t ↦ (let same : x ≡ before = same_value _ x before (cond_true (x.number == job.number) (Some x) (job_of js job.number) t) h in
+  | inl t ↦ (let same : x ≡ before = same_value _ x before
+      (cond_true (x.number == job.number) (Some x) (job_of js job.number) t) h in
       ap (are_put n) (cond_true (x.number == job.number) (job ∷ js) (x ∷ with_job js job) t)
       ∙ ap (λ k. puts_name n (aim_of k) || are_put n js) (kind ∙ ap (λ (z : Job). z.kind) (sym same)))
   | inr f ↦ ap (are_put n) (cond_false (x.number == job.number) (job ∷ js) (x ∷ with_job js job) f)
-      ∙ ap (λ b. puts_name n (aim_of x.kind) || b) (put-with n js job before (sym (cond_false (x.number == job.number) (Some x) (job_of js job.number) f) ∙ h) kind)
+      ∙ ap (λ b. puts_name n (aim_of x.kind) || b)
+      (put-with n js job before (sym (cond_false (x.number == job.number) (Some x) (job_of js job.number) f)
+      ∙ h) kind)
 ]
 
 -- ---- the record that a job writes, after one more move
 
-first-on : (series : Series) (w : State) (job : Job) (n : ℕ) (given : List Given) (action : Action) → Draws series job.kind → next_action w job ≡ Some action → ends_append action ≡ false →
+first-on : (series : Series) (w : State) (job : Job) (n : ℕ) (given : List Given) (action : Action) →
+    Draws series job.kind → next_action w job ≡ Some action → ends_append action ≡ false →
     is_first_append (onward job n given) ≡ is_first_append job
 first-on series w job n given action d next plain = elim (cases_lt job.place 4) [
   | inl l ↦ elim (cases_eq job.place 3) [
@@ -87,43 +99,66 @@ first-on series w job n given action d next plain = elim (cases_lt job.place 4) 
 ]
 
 -- a job whose append is not at its last move still writes the record that it wrote
-pub writes-on : (w : State) (job : Job) (n : ℕ) (action : Action) (kind : Kind) (entry : Record) → job.kind ≡ kind → next_action w job ≡ Some action → ends_append action ≡ false →
-    (4 ≤ job.place → n ≡ job.subject) → (job.kind ≡ RepairJob → n ≡ job.subject) → Writes w job kind entry → Writes w (onward job n job.given) kind entry
+pub writes-on : (w : State) (job : Job) (n : ℕ) (action : Action) (kind : Kind) (entry : Record) →
+    job.kind ≡ kind → next_action w job ≡ Some action → ends_append action ≡ false →
+    (4 ≤ job.place → n ≡ job.subject) → (job.kind ≡ RepairJob → n ≡ job.subject) → Writes w job kind entry →
+    Writes w (onward job n job.given) kind entry
 writes-on w job n action (PutJob name bytes) entry kind next plain later repairs h =
     (let first = first-on objects w job n job.given action (subst (Draws objects) (sym kind) tt) next plain in
     elim (cases_lt job.place 4) [
-      | inl l ↦ h ∙ (cond_true (is_first_append job) (PutStart (next_id w.records) name) (done_record (version_of w.records) job.subject (length bytes) job.profile) (first_below job l)
-          ∙ sym (cond_true (is_first_append (onward job n job.given)) (PutStart (next_id w.records) name) (done_record (version_of w.records) n (length bytes) job.profile) (first ∙ first_below job l)))
-      | inr l ↦ h ∙ (cond_false (is_first_append job) (PutStart (next_id w.records) name) (done_record (version_of w.records) job.subject (length bytes) job.profile) (first_above job l)
-          ∙ (ap (λ x. done_record (version_of w.records) x (length bytes) job.profile) (sym (later l)) ∙ sym (cond_false (is_first_append (onward job n job.given)) (PutStart (next_id w.records) name) (done_record (version_of w.records) n (length bytes) job.profile) (first ∙ first_above job l))))
+      | inl l ↦ h ∙ (cond_true (is_first_append job) (PutStart (next_id w.records) name)
+          (done_record (version_of w.records) job.subject (length bytes) job.profile) (first_below job l)
+          ∙ sym (cond_true (is_first_append (onward job n job.given)) (PutStart (next_id w.records) name)
+          (done_record (version_of w.records) n (length bytes) job.profile) (first ∙ first_below job l)))
+      | inr l ↦ h ∙ (cond_false (is_first_append job) (PutStart (next_id w.records) name)
+          (done_record (version_of w.records) job.subject (length bytes) job.profile) (first_above job l)
+          ∙ (ap (λ x. done_record (version_of w.records) x (length bytes) job.profile) (sym (later l))
+          ∙ sym (cond_false (is_first_append (onward job n job.given)) (PutStart (next_id w.records) name)
+          (done_record (version_of w.records) n (length bytes) job.profile)
+          (first ∙ first_above job l))))
     ])
 writes-on w job n action (GetJob name) entry kind next plain later repairs h = h
 writes-on w job n action (DropJob name) entry kind next plain later repairs h = h
 writes-on w job n action AuditJob entry kind next plain later repairs h =
     (let first = first-on audits w job n job.given action (subst (Draws audits) (sym kind) tt) next plain in
     elim (cases_lt job.place 4) [
-      | inl l ↦ (let g : entry ≡ AuditStart (next_audit w.records) = rw (first_below job l) at h in rw (first ∙ first_below job l) g)
-      | inr l ↦ (let g : (sums : Sums) × HasSums (setup_in w) job sums × (entry ≡ AuditDone job.subject sums.undecided sums.counts) = rw (first_above job l) at h in
-          rw (first ∙ first_above job l) (subst (λ x. (sums : Sums) × HasSums (setup_in w) (onward job x job.given) sums × (entry ≡ AuditDone x sums.undecided sums.counts)) (sym (later l)) g))
+      | inl l ↦ (let g : entry ≡ AuditStart (next_audit w.records) = rw (first_below job l) at h in
+          rw (first ∙ first_below job l) g)
+      | inr l ↦ (let g : (sums : Sums) × HasSums (setup_in w) job sums ×
+          (entry ≡ AuditDone job.subject sums.undecided sums.counts) = rw (first_above job l) at h in
+          rw (first ∙ first_above job l)
+          (subst (λ x. (sums : Sums) × HasSums (setup_in w) (onward job x job.given) sums ×
+          (entry ≡ AuditDone x sums.undecided sums.counts)) (sym (later l)) g))
     ])
-writes-on w job n action RepairJob entry kind next plain later repairs h = h ∙ ap RepairDone (sym (repairs kind))
+writes-on w job n action RepairJob entry kind next plain later repairs h =
+    h ∙ ap RepairDone (sym (repairs kind))
 writes-on w job n action UpgradeJob entry kind next plain later repairs h = h
 
 -- ---- the number that a first append draws
 
 -- once drawn, it is drawn no more
-pub drawn-on : (w : State) (job : Job) (action : Action) (kind : Kind) → job.kind ≡ kind → next_action w job ≡ Some action → ends_append action ≡ false →
+pub drawn-on : (w : State) (job : Job) (action : Action) (kind : Kind) → job.kind ≡ kind →
+    next_action w job ≡ Some action → ends_append action ≡ false →
     subject_drawn w (onward job (subject_drawn w job kind) job.given) kind ≡ subject_drawn w job kind
-drawn-on w job action (PutJob name bytes) kind next plain = again (is_first_append job) (is_first_append (onward job (subject_drawn w job (PutJob name bytes)) job.given)) (first-on objects w job (subject_drawn w job (PutJob name bytes)) job.given action (subst (Draws objects) (sym kind) tt) next plain)
+drawn-on w job action (PutJob name bytes) kind next plain =
+    again (is_first_append job)
+    (is_first_append (onward job (subject_drawn w job (PutJob name bytes)) job.given))
+    (first-on objects w job (subject_drawn w job (PutJob name bytes)) job.given action
+    (subst (Draws objects) (sym kind) tt) next plain)
   where
-    again : (b c : Bool) → c ≡ b → cond c (next_id w.records) (cond b (next_id w.records) job.subject) ≡ cond b (next_id w.records) job.subject
+    again : (b c : Bool) → c ≡ b → cond c (next_id w.records) (cond b (next_id w.records) job.subject)
+        ≡ cond b (next_id w.records) job.subject
     again true true e = refl
     again false false e = refl
     again true false e = absurd (false≢true e)
     again false true e = absurd (false≢true (sym e))
-drawn-on w job action AuditJob kind next plain = again (is_first_append job) (is_first_append (onward job (subject_drawn w job AuditJob) job.given)) (first-on audits w job (subject_drawn w job AuditJob) job.given action (subst (Draws audits) (sym kind) tt) next plain)
+drawn-on w job action AuditJob kind next plain = again (is_first_append job)
+    (is_first_append (onward job (subject_drawn w job AuditJob) job.given))
+    (first-on audits w job (subject_drawn w job AuditJob) job.given action
+    (subst (Draws audits) (sym kind) tt) next plain)
   where
-    again : (b c : Bool) → c ≡ b → cond c (next_audit w.records) (cond b (next_audit w.records) job.subject) ≡ cond b (next_audit w.records) job.subject
+    again : (b c : Bool) → c ≡ b → cond c (next_audit w.records) (cond b (next_audit w.records) job.subject)
+        ≡ cond b (next_audit w.records) job.subject
     again true true e = refl
     again false false e = refl
     again true false e = absurd (false≢true e)
@@ -134,11 +169,16 @@ drawn-on w job action RepairJob kind next plain = refl
 drawn-on w job action UpgradeJob kind next plain = refl
 
 -- once a put has drawn its number, the bytes of each number stay
-pub bytes-on : (w : State) (job : Job) (n : ℕ) (now : ℕ → List ℕ) (action : Action) (kind : Kind) (id : ℕ) → job.kind ≡ kind → next_action w job ≡ Some action → ends_append action ≡ false →
-    now id ≡ bytes_drawn w job kind id → bytes_drawn (record w { bytes = now }) (onward job n job.given) kind id ≡ now id
-bytes-on w job n now action (PutJob name bytes) id kind next plain e = again (is_first_append job) (is_first_append (onward job n job.given)) (id == next_id w.records) (first-on objects w job n job.given action (subst (Draws objects) (sym kind) tt) next plain) e
+pub bytes-on : (w : State) (job : Job) (n : ℕ) (now : ℕ → List ℕ) (action : Action) (kind : Kind) (id : ℕ) →
+    job.kind ≡ kind → next_action w job ≡ Some action → ends_append action ≡ false →
+    now id ≡ bytes_drawn w job kind id →
+    bytes_drawn (record w { bytes = now }) (onward job n job.given) kind id ≡ now id
+bytes-on w job n now action (PutJob name bytes) id kind next plain e =
+    again (is_first_append job) (is_first_append (onward job n job.given)) (id == next_id w.records)
+    (first-on objects w job n job.given action (subst (Draws objects) (sym kind) tt) next plain) e
   where
-    again : (b c d : Bool) → c ≡ b → now id ≡ cond (b && d) bytes (w.bytes id) → cond (c && d) bytes (now id) ≡ now id
+    again : (b c d : Bool) → c ≡ b → now id ≡ cond (b && d) bytes (w.bytes id) →
+        cond (c && d) bytes (now id) ≡ now id
     again true true true s h = sym h
     again true true false s h = refl
     again false false d s h = refl
@@ -152,11 +192,14 @@ bytes-on w job n now action UpgradeJob id kind next plain e = refl
 
 -- a state in which a job goes on, with this append and doubt, these bytes and these begins of audits
 abbrev pub gone_on : State → Job → Option Append → Option Doubt → (ℕ → List ℕ) → (ℕ → ℕ) → State
-gone_on old next flight doubt now began = record (going_on old next) { append = flight; doubt = doubt; bytes = now; audits = began }
+gone_on old next flight doubt now began =
+    record (going_on old next) { append = flight; doubt = doubt; bytes = now; audits = began }
 
-module _ (limit : ℕ) (old : State) (S : IsSound limit old) (job : Job) (runs : job_of old.jobs job.number ≡ Some job) where
+module _ (limit : ℕ) (old : State) (S : IsSound limit old) (job : Job)
+    (runs : job_of old.jobs job.number ≡ Some job) where
   -- a state is sound when a job has gone on, if what it left is in order and the rest stays
-  pub going-sound : (next : Job) (flight : Option Append) (doubt : Option Doubt) (now : ℕ → List ℕ) (began : ℕ → ℕ) → next.number ≡ job.number → next.kind ≡ job.kind → job.place ≤ next.place →
+  pub going-sound : (next : Job) (flight : Option Append) (doubt : Option Doubt) (now : ℕ → List ℕ)
+      (began : ℕ → ℕ) → next.number ≡ job.number → next.kind ≡ job.kind → job.place ≤ next.place →
       ((id : ℕ) → id < next_id old.records → now id ≡ old.bytes id) →
       ((k : ℕ) → (k ≡ job.number → ⊥) → moves_made flight k ≡ moves_made old.append k) →
       IsSoundJob (setup_in old) old.records now (moves_made flight job.number) next →
@@ -169,44 +212,60 @@ module _ (limit : ℕ) (old : State) (S : IsSound limit old) (job : Job) (runs :
       ((d : Doubt) → doubt ≡ Some d → MayFollow old.records old.journal (journal_end old) now d.entry) →
       IsSound limit (gone_on old next flight doubt now began)
   unfolding setup_in
-  going-sound next flight doubt now began number kind place stay others own own_ready under count append barred undoubted doubts = record {
-    accepted = S.accepted;
-    spelled = S.spelled;
-    journal = journal-same old (gone_on old next flight doubt now began) refl refl refl refl S.journal;
-    room = (let a = sum-with (reserved (version_of old.records) (setup_in old)) old.jobs next job found in let b = room-same (version_of old.records) (setup_in old) job next kind count in let c = S.room in omega (arith, a, b, c));
-    files = held-on old.bytes now old.records S.accepted stay S.files;
-    names = (let a = taken-fewer old.records old.records old.jobs (with_job old.jobs next) (λ n h. ap (λ b. b || is_some (file_of old.records n)) (sym (put-with n old.jobs next job found kind)) ∙ h) in let b = S.names in omega (arith, a, b));
-    ids = λ l. (let a = sum-with starts_left old.jobs next job found in let b = starts-on job next kind place in let c = S.ids (omega (arith, l, a, b)) in omega (arith, a, b, c));
-    audits = λ k j h is_audit l. elim (found_with old.jobs next k j h) [
-      | inl p ↦ S.audits job.number job runs (sym kind ∙ (ap (λ (z : Job). z.kind) (sym p.1) ∙ is_audit)) (let e = ap (λ (z : Job). z.place) p.1 in omega (arith, l, e, place))
-      | inr q ↦ S.audits k j q.1 is_audit l
-    ];
-    closed = λ closed. absurd (found_some (S.closed closed).0);
-    set_up = S.set_up;
-    handed = S.handed;
-    few = (let a = length-with old.jobs next in let b = S.few in omega (arith, a, b));
-    numbered = numbered-with 0 old.jobs old.next_job next S.numbered;
-    jobs = λ k j h. elim (found_with old.jobs next k j h) [
-      | inl p ↦ subst (λ (z : Job). IsSoundJob (setup_in old) old.records now (moves_made flight k) z) (sym p.1) (subst (λ n. IsSoundJob (setup_in old) old.records now (moves_made flight n) next) (sym (p.0 ∙ number)) own)
-      | inr q ↦ kept (setup_in old) old.records old.bytes now stay (moves_made old.append k) (moves_made flight k) j (others k (λ e. q.0 (e ∙ sym number))) (S.jobs k j q.1)
-    ];
-    in_journal = λ k j h. elim (found_with old.jobs next k j h) [
-      | inl p ↦ subst (λ (z : Job). IsReady (setup_in old) old.journal now z z.kind) (sym p.1) own_ready
-      | inr q ↦ kept-ready (setup_in old) old.journal old.bytes now (λ id l. stay id (let e = S.journal.alike.id in omega (arith, l, e))) j j.kind (S.in_journal k j q.1)
-    ];
-    lone = λ x e. absurd (found_some (S.lone x e));
-    packing = S.packing;
-    switching = λ e. absurd (found_some (S.switching e).jobs);
-    upgrade = λ k j h u. (let a = back k j h in only-with old.jobs next job a.0 found (S.upgrade k a.0 a.1 (subst (λ kd. IsTrue (is_upgrade (aim_of kd))) a.2 u)) k j h);
-    one_check = λ k l i j hi hj ci cj. (let a = back k i hi in let b = back l j hj in
-        S.one_check k l a.0 b.0 a.1 b.1 (subst (λ kd. IsTrue (is_check (aim_of kd))) a.2 ci) (subst (λ kd. IsTrue (is_check (aim_of kd))) b.2 cj));
-    apart = λ k l i j hi hj ui uj same. (let a = under-back k i hi ui in let b = under-back l j hj uj in
-        S.apart k l a.0 b.0 a.1 b.1 a.2 b.2 (sym a.3 ∙ (same ∙ b.3)));
-    append = append;
-    barred = barred;
-    undoubted = undoubted;
-    doubt = doubts;
-  }
+  going-sound next flight doubt now began number kind place stay others own own_ready under count append barred undoubted doubts =
+      record {
+        accepted = S.accepted;
+        spelled = S.spelled;
+        journal = journal-same old (gone_on old next flight doubt now began) refl refl refl refl S.journal;
+        room = (let a = sum-with (reserved (version_of old.records) (setup_in old)) old.jobs next job found in
+            let b = room-same (version_of old.records) (setup_in old) job next kind count in let c = S.room in
+            omega (arith, a, b, c));
+        files = held-on old.bytes now old.records S.accepted stay S.files;
+        names = (let a = taken-fewer old.records old.records old.jobs (with_job old.jobs next)
+            (λ n h. ap (λ b. b || is_some (file_of old.records n)) (sym (put-with n old.jobs next job found kind))
+            ∙ h) in let b = S.names in omega (arith, a, b));
+        ids = λ l. (let a = sum-with starts_left old.jobs next job found in
+            let b = starts-on job next kind place in let c = S.ids (omega (arith, l, a, b)) in
+            omega (arith, a, b, c));
+        audits = λ k j h is_audit l. elim (found_with old.jobs next k j h) [
+          | inl p ↦ S.audits job.number job runs (sym kind ∙ (ap (λ (z : Job). z.kind) (sym p.1) ∙ is_audit))
+              (let e = ap (λ (z : Job). z.place) p.1 in omega (arith, l, e, place))
+          | inr q ↦ S.audits k j q.1 is_audit l
+        ];
+        closed = λ closed. absurd (found_some (S.closed closed).0);
+        set_up = S.set_up;
+        handed = S.handed;
+        few = (let a = length-with old.jobs next in let b = S.few in omega (arith, a, b));
+        numbered = numbered-with 0 old.jobs old.next_job next S.numbered;
+        jobs = λ k j h. elim (found_with old.jobs next k j h) [
+          | inl p ↦ subst (λ (z : Job). IsSoundJob (setup_in old) old.records now (moves_made flight k) z)
+              (sym p.1) (subst (λ n. IsSoundJob (setup_in old) old.records now (moves_made flight n) next)
+              (sym (p.0 ∙ number)) own)
+          | inr q ↦ kept (setup_in old) old.records old.bytes now stay (moves_made old.append k)
+              (moves_made flight k) j (others k (λ e. q.0 (e ∙ sym number))) (S.jobs k j q.1)
+        ];
+        in_journal = λ k j h. elim (found_with old.jobs next k j h) [
+          | inl p ↦ subst (λ (z : Job). IsReady (setup_in old) old.journal now z z.kind) (sym p.1) own_ready
+          | inr q ↦ kept-ready (setup_in old) old.journal old.bytes now
+              (λ id l. stay id (let e = S.journal.alike.id in omega (arith, l, e))) j j.kind
+              (S.in_journal k j q.1)
+        ];
+        lone = λ x e. absurd (found_some (S.lone x e));
+        packing = S.packing;
+        switching = λ e. absurd (found_some (S.switching e).jobs);
+        upgrade = λ k j h u. (let a = back k j h in
+            only-with old.jobs next job a.0 found
+            (S.upgrade k a.0 a.1 (subst (λ kd. IsTrue (is_upgrade (aim_of kd))) a.2 u)) k j h);
+        one_check = λ k l i j hi hj ci cj. (let a = back k i hi in let b = back l j hj in
+            S.one_check k l a.0 b.0 a.1 b.1 (subst (λ kd. IsTrue (is_check (aim_of kd))) a.2 ci)
+            (subst (λ kd. IsTrue (is_check (aim_of kd))) b.2 cj));
+        apart = λ k l i j hi hj ui uj same. (let a = under-back k i hi ui in let b = under-back l j hj uj in
+            S.apart k l a.0 b.0 a.1 b.1 a.2 b.2 (sym a.3 ∙ (same ∙ b.3)));
+        append = append;
+        barred = barred;
+        undoubted = undoubted;
+        doubt = doubts;
+      }
     where
       found : job_of old.jobs next.number ≡ Some job
       found = subst (λ n. job_of old.jobs n ≡ Some job) (sym number) runs
@@ -217,20 +276,24 @@ module _ (limit : ℕ) (old : State) (S : IsSound limit old) (job : Job) (runs :
       at : (k : ℕ) → k ≡ next.number → job_of old.jobs k ≡ Some job
       at k e = subst (λ n. job_of old.jobs n ≡ Some job) (sym e) found
 
-      back : (k : ℕ) (j : Job) → job_of (with_job old.jobs next) k ≡ Some j → (i : Job) × (job_of old.jobs k ≡ Some i) × (j.kind ≡ i.kind)
+      back : (k : ℕ) (j : Job) → job_of (with_job old.jobs next) k ≡ Some j →
+          (i : Job) × (job_of old.jobs k ≡ Some i) × (j.kind ≡ i.kind)
       back k j h = elim (found_with old.jobs next k j h) [
         | inl p ↦ (job, at k p.0, ap (λ (z : Job). z.kind) p.1 ∙ kind)
         | inr q ↦ (j, q.1, refl)
       ]
 
-      under-back : (k : ℕ) (j : Job) → job_of (with_job old.jobs next) k ≡ Some j → IsPutUnderWay j j.kind → (i : Job) × (job_of old.jobs k ≡ Some i) × IsPutUnderWay i i.kind × (j.subject ≡ i.subject)
+      under-back : (k : ℕ) (j : Job) → job_of (with_job old.jobs next) k ≡ Some j → IsPutUnderWay j j.kind →
+          (i : Job) × (job_of old.jobs k ≡ Some i) × IsPutUnderWay i i.kind × (j.subject ≡ i.subject)
       under-back k j h u = elim (found_with old.jobs next k j h) [
-        | inl p ↦ (let v = under (subst (λ (z : Job). IsPutUnderWay z z.kind) p.1 u) in (job, at k p.0, v.0, ap (λ (z : Job). z.subject) p.1 ∙ v.1))
+        | inl p ↦ (let v = under (subst (λ (z : Job). IsPutUnderWay z z.kind) p.1 u) in
+            (job, at k p.0, v.0, ap (λ (z : Job). z.subject) p.1 ∙ v.1))
         | inr q ↦ (j, q.1, u, refl)
       ]
 
   -- another job's append in flight
-  append-other : (next : Job) (flight : Option Append) (doubt : Option Doubt) (began : ℕ → ℕ) (a : Append) → next.number ≡ job.number → (a.job ≡ job.number → ⊥) → IsSoundAppend old a →
+  append-other : (next : Job) (flight : Option Append) (doubt : Option Doubt) (began : ℕ → ℕ) (a : Append) →
+      next.number ≡ job.number → (a.job ≡ job.number → ⊥) → IsSoundAppend old a →
       IsSoundAppend (gone_on old next flight doubt old.bytes began) a
   unfolding setup_in
   append-other next flight doubt began a number apart A = record {
@@ -245,39 +308,59 @@ module _ (limit : ℕ) (old : State) (S : IsSound limit old) (job : Job) (runs :
   }
 
   -- the job has made the moves before its action, and what it has left is in order
-  pub order-now : (action : Action) (given : List Given) → next_action old job ≡ Some action → (action ≡ End → ⊥) →
-      (moves_made old.append job.number ≡ moves_before action) × IsInOrder (moves_after action) (actions_left (setup_in old) (onward job job.subject given))
-  order-now action given next n = order-onward old job given (moves_made old.append job.number) action next n (S.jobs job.number job runs).order
+  pub order-now : (action : Action) (given : List Given) → next_action old job ≡ Some action →
+      (action ≡ End → ⊥) →
+      (moves_made old.append job.number ≡ moves_before action) ×
+      IsInOrder (moves_after action) (actions_left (setup_in old) (onward job job.subject given))
+  order-now action given next n = order-onward old job given (moves_made old.append job.number) action next n
+      (S.jobs job.number job runs).order
 
   -- an action that is no fourth move leaves as many appends to finish
-  pub count-now : (action : Action) (given : List Given) → next_action old job ≡ Some action → (action ≡ End → ⊥) → ends_append action ≡ false →
+  pub count-now : (action : Action) (given : List Given) → next_action old job ≡ Some action →
+      (action ≡ End → ⊥) → ends_append action ≡ false →
       appends_left (setup_in old) (onward job job.subject given) ≡ appends_left (setup_in old) job
-  count-now action given next n plain = (let a = count-onward old job given action next n in let b : gates action ≡ 0 = cond_false (ends_append action) 1 0 plain in omega (arith, a, b))
+  count-now action given next n plain =
+      (let a = count-onward old job given action next n in let b : gates action ≡ 0 =
+      cond_false (ends_append action) 1 0 plain in omega (arith, a, b))
 
   -- an append of which a move was made is in flight for no other job
-  pub not-mine : (a : Append) → old.append ≡ Some a → moves_made old.append job.number ≡ 0 → a.job ≡ job.number → ⊥
-  not-mine a flight none e = (let b = (S.append a flight).begun in let c = ap (λ f. moves_made f job.number) (sym flight) ∙ none in let d = mine a job.number e in omega (arith, b, c, d))
+  pub not-mine : (a : Append) → old.append ≡ Some a → moves_made old.append job.number ≡ 0 →
+      a.job ≡ job.number → ⊥
+  not-mine a flight none e =
+      (let b = (S.append a flight).begun in let c = ap (λ f. moves_made f job.number) (sym flight) ∙ none in
+      let d = mine a job.number e in omega (arith, b, c, d))
 
   -- an action between appends
-  pub plain-sound : (action : Action) (given : List Given) → next_action old job ≡ Some action → (action ≡ End → ⊥) → ends_append action ≡ false → moves_before action ≡ 0 → moves_after action ≡ 0 →
+  pub plain-sound : (action : Action) (given : List Given) → next_action old job ≡ Some action →
+      (action ≡ End → ⊥) → ends_append action ≡ false → moves_before action ≡ 0 → moves_after action ≡ 0 →
       IsSound limit (gone_on old (onward job job.subject given) old.append old.doubt old.bytes old.audits)
   plain-sound action given next n plain before after =
       (let o = order-now action given next n in
       let count = count-now action given next n plain in
       let none : moves_made old.append job.number ≡ 0 = o.0 ∙ before in
-      going-sound (onward job job.subject given) old.append old.doubt old.bytes old.audits refl refl (omega arith) (λ id l. refl) (λ k l. refl)
-      (went (setup_in old) old.records old.bytes old.bytes (λ id l. refl) old (moves_made old.append job.number) (moves_made old.append job.number) job job.subject given action next plain (λ l. refl) (λ l. refl) (S.jobs job.number job runs).subject count
-      (subst (λ m. IsInOrder m (actions_left (setup_in old) (onward job job.subject given))) (after ∙ sym none) o.1) (S.jobs job.number job runs))
-      (went-ready (setup_in old) old.journal old.bytes old.bytes (λ id l. refl) old job job.subject given action next plain (λ l. refl) (λ l. refl) count job.kind refl (S.in_journal job.number job runs))
+      going-sound (onward job job.subject given) old.append old.doubt old.bytes old.audits refl refl
+      (omega arith) (λ id l. refl) (λ k l. refl)
+      (went (setup_in old) old.records old.bytes old.bytes (λ id l. refl) old
+      (moves_made old.append job.number) (moves_made old.append job.number) job job.subject given action
+      next plain (λ l. refl) (λ l. refl) (S.jobs job.number job runs).subject count
+      (subst (λ m. IsInOrder m (actions_left (setup_in old) (onward job job.subject given)))
+      (after ∙ sym none) o.1) (S.jobs job.number job runs))
+      (went-ready (setup_in old) old.journal old.bytes old.bytes
+      (λ id l. refl) old job job.subject given action next plain (λ l. refl)
+      (λ l. refl) count job.kind refl (S.in_journal job.number job runs))
       (under job.kind refl next plain)
       count
-      (λ a flight. append-other (onward job job.subject given) old.append old.doubt old.audits a refl (not-mine a flight none) (S.append a flight))
+      (λ a flight. append-other (onward job job.subject given) old.append old.doubt old.audits a refl
+      (not-mine a flight none) (S.append a flight))
       S.barred S.undoubted S.doubt)
     where
-      under : (kind : Kind) → job.kind ≡ kind → next_action old job ≡ Some action → ends_append action ≡ false → IsPutUnderWay (onward job job.subject given) kind → IsPutUnderWay job kind × (job.subject ≡ job.subject)
+      under : (kind : Kind) → job.kind ≡ kind → next_action old job ≡ Some action →
+          ends_append action ≡ false → IsPutUnderWay (onward job job.subject given) kind →
+          IsPutUnderWay job kind × (job.subject ≡ job.subject)
       under (PutJob name bytes) kind next plain l = (
         elim (cases_eq job.place 3) [
-          | inl three ↦ absurd (not-three objects old job action (subst (Draws objects) (sym kind) tt) next plain three)
+          | inl three ↦ absurd (not-three objects old job action
+              (subst (Draws objects) (sym kind) tt) next plain three)
           | inr other ↦ omega (arith, l, other)
         ],
         refl,

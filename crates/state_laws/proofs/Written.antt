@@ -44,48 +44,68 @@ use Rattle.state_laws.proofs.Rooms.{room_of, room-step, put-writes_first, put-wr
 
 -- ---- records that are accepted, and their spelling
 
-accept-start : (rs : List Record) (id : ℕ) (name : List ℕ) → is_some (setup_of rs) ≡ true → id ≡ next_id rs → id < 2 ^ 64 - 1 → refused rs (PutStart id name) ≡ None
+accept-start : (rs : List Record) (id : ℕ) (name : List ℕ) → is_some (setup_of rs) ≡ true → id ≡ next_id rs →
+    id < 2 ^ 64 - 1 → refused rs (PutStart id name) ≡ None
 accept-start rs id name up is l = grind (arith, nat_tests, up, is, l)
 
-accept-done : (rs : List Record) (version id size profile : ℕ) (name : List ℕ) → is_some (setup_of rs) ≡ true → version_of rs ≡ version →
-    started_as rs id ≡ Some name → is_crowded rs name ≡ false → refused rs (done_record version id size profile) ≡ None
+accept-done : (rs : List Record) (version id size profile : ℕ) (name : List ℕ) →
+    is_some (setup_of rs) ≡ true → version_of rs ≡ version →
+    started_as rs id ≡ Some name → is_crowded rs name ≡ false →
+    refused rs (done_record version id size profile) ≡ None
 accept-done rs version id size profile name up is started room = elim (cases_Bool (version == 2)) [
   | inl t ↦ ap (refused rs) (cond_true (version == 2) (PutDoneIn id size profile) (PutDone id size) t)
       ∙ (cond_true (is_some (setup_of rs)) _ _ up
-      ∙ (cond_false (version_of rs == 1) _ _ (ne_eqb (version_of rs) 1 (λ e. (let two = eqb-true version 2 t in omega (arith, e, is, two)))) ∙ done))
+      ∙ (cond_false (version_of rs == 1) _ _
+      (ne_eqb (version_of rs) 1 (λ e. (let two = eqb-true version 2 t in omega (arith, e, is, two))))
+      ∙ done))
   | inr f ↦ ap (refused rs) (cond_false (version == 2) (PutDoneIn id size profile) (PutDone id size) f)
-      ∙ (cond_true (is_some (setup_of rs)) _ _ up ∙ (cond_false (version_of rs == 2) _ _ (ap (λ v. v == 2) is ∙ f) ∙ done))
+      ∙ (cond_true (is_some (setup_of rs)) _ _ up
+      ∙ (cond_false (version_of rs == 2) _ _ (ap (λ v. v == 2) is ∙ f) ∙ done))
 ]
   where
     done : put_done_refused rs (started_as rs id) ≡ None
     done = ap (put_done_refused rs) started ∙ cond_false (is_crowded rs name) _ _ room
 
-accept-version : (rs : List Record) → is_some (setup_of rs) ≡ true → version_of rs ≡ 1 → refused rs Version ≡ None
-accept-version rs up first = cond_true (is_some (setup_of rs)) _ _ up ∙ cond_false (version_of rs == 2) _ _ (ap (λ v. v == 2) first)
+accept-version : (rs : List Record) → is_some (setup_of rs) ≡ true → version_of rs ≡ 1 →
+    refused rs Version ≡ None
+accept-version rs up first =
+    cond_true (is_some (setup_of rs)) _ _ up ∙ cond_false (version_of rs == 2) _ _ (ap (λ v. v == 2) first)
 
-accept-drop : (rs : List Record) (name : List ℕ) → is_some (setup_of rs) ≡ true → is_some (file_of rs name) ≡ true → refused rs (Drop name) ≡ None
-accept-drop rs name up there = cond_true (is_some (setup_of rs)) _ _ up ∙ cond_true (is_some (file_of rs name)) _ _ there
+accept-drop : (rs : List Record) (name : List ℕ) → is_some (setup_of rs) ≡ true →
+    is_some (file_of rs name) ≡ true → refused rs (Drop name) ≡ None
+accept-drop rs name up there =
+    cond_true (is_some (setup_of rs)) _ _ up ∙ cond_true (is_some (file_of rs name)) _ _ there
 
-accept-audit_start : (rs : List Record) (number : ℕ) → is_some (setup_of rs) ≡ true → number ≡ next_audit rs → number < 2 ^ 64 - 1 → due_of rs ≡ None → refused rs (AuditStart number) ≡ None
+accept-audit_start : (rs : List Record) (number : ℕ) → is_some (setup_of rs) ≡ true → number ≡ next_audit rs →
+    number < 2 ^ 64 - 1 → due_of rs ≡ None → refused rs (AuditStart number) ≡ None
 accept-audit_start rs number up is l none = grind (arith, nat_tests, up, is, l, none)
 
-accept-audit_done : (rs : List Record) (s : Setup) (number undecided : ℕ) (counts : List ℕ) → setup_of rs ≡ Some s → running_audit rs ≡ Some number → length counts ≡ s.n → refused rs (AuditDone number undecided counts) ≡ None
+accept-audit_done : (rs : List Record) (s : Setup) (number undecided : ℕ) (counts : List ℕ) →
+    setup_of rs ≡ Some s → running_audit rs ≡ Some number → length counts ≡ s.n →
+    refused rs (AuditDone number undecided counts) ≡ None
 accept-audit_done rs s number undecided counts up running size = grind (arith, nat_tests, up, running, size)
 
-accept-repair : (rs : List Record) (number : ℕ) → is_some (setup_of rs) ≡ true → no.is_due number (due_of rs) ≡ true → refused rs (RepairDone number) ≡ None
-accept-repair rs number up due = cond_true (is_some (setup_of rs)) _ _ up ∙ cond_true (no.is_due number (due_of rs)) _ _ due
+accept-repair : (rs : List Record) (number : ℕ) → is_some (setup_of rs) ≡ true →
+    no.is_due number (due_of rs) ≡ true → refused rs (RepairDone number) ≡ None
+accept-repair rs number up due =
+    cond_true (is_some (setup_of rs)) _ _ up ∙ cond_true (no.is_due number (due_of rs)) _ _ due
 
-crowded-named : (rs : List Record) (name : List ℕ) → is_some (file_of rs name) ≡ true → is_crowded rs name ≡ false
+crowded-named : (rs : List Record) (name : List ℕ) → is_some (file_of rs name) ≡ true →
+    is_crowded rs name ≡ false
 crowded-named rs name t = grind (arith, t)
 
-crowded-short : (rs : List Record) (name : List ℕ) → length (files_of rs) + 1 ≤ most_files → is_crowded rs name ≡ false
+crowded-short : (rs : List Record) (name : List ℕ) → length (files_of rs) + 1 ≤ most_files →
+    is_crowded rs name ≡ false
 crowded-short rs name l = grind (arith, nat_tests, l)
 
-spelled-start : (id : ℕ) (name : List ℕ) → id < 2 ^ 64 → IsTrue (is_name name) → IsTrue (is_spelled (PutStart id name))
+spelled-start : (id : ℕ) (name : List ℕ) → id < 2 ^ 64 → IsTrue (is_name name) →
+    IsTrue (is_spelled (PutStart id name))
 spelled-start id name l h = and_from (nat_lt id (2 ^ 64)) (is_name name) (lt-ltb id (2 ^ 64) l) h
 
-spelled-done : (version id size profile : ℕ) → id < 2 ^ 64 → size ≤ largest_file → profile < all_profiles → IsTrue (is_spelled (done_record version id size profile))
-spelled-done version id size profile l h p = by_version version id size profile (λ r. IsTrue (is_spelled r)) (grind (arith, nat_tests, l, h, p)) (grind (arith, nat_tests, l, h))
+spelled-done : (version id size profile : ℕ) → id < 2 ^ 64 → size ≤ largest_file → profile < all_profiles →
+    IsTrue (is_spelled (done_record version id size profile))
+spelled-done version id size profile l h p = by_version version id size profile (λ r. IsTrue (is_spelled r))
+    (grind (arith, nat_tests, l, h, p)) (grind (arith, nat_tests, l, h))
 
 spelled-audit_start : (number : ℕ) → number < 2 ^ 64 → IsTrue (is_spelled (AuditStart number))
 spelled-audit_start number l = lt-ltb number (2 ^ 64) l
@@ -93,20 +113,25 @@ spelled-audit_start number l = lt-ltb number (2 ^ 64) l
 spelled-repair : (number : ℕ) → number < 2 ^ 64 → IsTrue (is_spelled (RepairDone number))
 spelled-repair number l = lt-ltb number (2 ^ 64) l
 
-spelled-counts : (counts : List ℕ) → Each (λ count. count ≤ 2 ^ 16) counts → list_all (λ count. nat_lt count (2 ^ 32)) counts ≡ true
+spelled-counts : (counts : List ℕ) → Each (λ count. count ≤ 2 ^ 16) counts →
+    list_all (λ count. nat_lt count (2 ^ 32)) counts ≡ true
 spelled-counts [] h = refl
-spelled-counts (c ∷ cs) h = and_from (nat_lt c (2 ^ 32)) (list_all (λ count. nat_lt count (2 ^ 32)) cs) (lt-ltb c (2 ^ 32) (let a = h.0 in omega (arith, a))) (spelled-counts cs h.1)
+spelled-counts (c ∷ cs) h = and_from (nat_lt c (2 ^ 32)) (list_all (λ count. nat_lt count (2 ^ 32)) cs)
+    (lt-ltb c (2 ^ 32) (let a = h.0 in omega (arith, a))) (spelled-counts cs h.1)
 
-spelled-audit_done : (number undecided : ℕ) (counts : List ℕ) → number < 2 ^ 64 → undecided ≤ 2 ^ 16 → 4 ≤ length counts → length counts ≤ 16 → Each (λ count. count ≤ 2 ^ 16) counts →
+spelled-audit_done : (number undecided : ℕ) (counts : List ℕ) → number < 2 ^ 64 → undecided ≤ 2 ^ 16 →
+    4 ≤ length counts → length counts ≤ 16 → Each (λ count. count ≤ 2 ^ 16) counts →
     IsTrue (is_spelled (AuditDone number undecided counts))
-spelled-audit_done number undecided counts a b c d e = grind (arith, nat_tests, a, b, c, d, spelled-counts counts e)
+spelled-audit_done number undecided counts a b c d e =
+    grind (arith, nat_tests, a, b, c, d, spelled-counts counts e)
 
 up-in : (o : Option Setup) → is_some o ≡ true → o ≡ Some (setup_or_none o)
 up-in None h = absurd (false≢true h)
 up-in (Some s) h = refl
 
 -- a put whose first append is not done has still to draw a number
-pub starts-first : (job : Job) (name bytes : List ℕ) → job.kind ≡ PutJob name bytes → job.place < 4 → starts_left job ≡ 1
+pub starts-first : (job : Job) (name bytes : List ℕ) → job.kind ≡ PutJob name bytes → job.place < 4 →
+    starts_left job ≡ 1
 starts-first job name bytes kind l = (let f = first_below job l in rw (kind, f) refl)
 
 -- a job that is no put, or whose first append is done, has none
@@ -122,7 +147,8 @@ starts-later job l = by job.kind refl
     by UpgradeJob kind = rw kind refl
 
 -- a job that goes on has no more to draw
-pub starts-on : (job next : Job) → next.kind ≡ job.kind → job.place ≤ next.place → starts_left next ≤ starts_left job
+pub starts-on : (job next : Job) → next.kind ≡ job.kind → job.place ≤ next.place →
+    starts_left next ≤ starts_left job
 starts-on job next kind place = elim (cases_lt next.place 4) [
   | inl l ↦ (let e : starts_left next ≡ starts_left job = same l in omega (arith, e))
   | inr l ↦ (let z = starts-later next l in omega (arith, z))
@@ -132,7 +158,8 @@ starts-on job next kind place = elim (cases_lt next.place 4) [
     same l = by job.kind refl
       where
         by : (k : Kind) → job.kind ≡ k → starts_left next ≡ starts_left job
-        by (PutJob name bytes) e = starts-first next name bytes (kind ∙ e) l ∙ sym (starts-first job name bytes e (omega (arith, l, place)))
+        by (PutJob name bytes) e = starts-first next name bytes (kind ∙ e) l
+            ∙ sym (starts-first job name bytes e (omega (arith, l, place)))
         by (GetJob name) e = rw (kind ∙ e, e) refl
         by (DropJob name) e = rw (kind ∙ e, e) refl
         by AuditJob e = rw (kind ∙ e, e) refl
@@ -186,12 +213,15 @@ module _ (limit : ℕ) (w : State) (S : IsSound limit w) where
   audits-fit = next_audit-fits w.records S.accepted
 
   -- the sums of an audit that runs are small
-  pub small-sums : (number : ℕ) (job : Job) (sums : Sums) → job_of w.jobs number ≡ Some job → HasSums (setup_in w) job sums → AreSmall (setup_in w).n sums
-  small-sums number job sums runs has = sums-small (setup_in w) job sums (S.jobs number job runs).few (setup-rounds (runs-open number job runs)) has
+  pub small-sums : (number : ℕ) (job : Job) (sums : Sums) → job_of w.jobs number ≡ Some job →
+      HasSums (setup_in w) job sums → AreSmall (setup_in w).n sums
+  small-sums number job sums runs has = sums-small (setup_in w) job sums (S.jobs number job runs).few
+      (setup-rounds (runs-open number job runs)) has
 
   module _ (number : ℕ) (job : Job) (runs : job_of w.jobs number ≡ Some job) where
     abbrev Good : Record → Type 0
-    Good entry = IsTrue (is_spelled entry) × (refused w.records entry ≡ None) × (refused w.journal entry ≡ None) × BringsHeld w.bytes entry
+    Good entry = IsTrue (is_spelled entry) × (refused w.records entry ≡ None) ×
+        (refused w.journal entry ≡ None) × BringsHeld w.bytes entry
 
     J : IsSoundJob (setup_in w) w.records w.bytes (moves_made w.append number) job
     J = S.jobs number job runs
@@ -212,8 +242,10 @@ module _ (limit : ℕ) (w : State) (S : IsSound limit w) where
     pub body-left : next_action w job ≡ Some WriteBody → 0 < appends_left (setup_in w) job
     body-left next =
         (let rest = drop (job.place + 1) (actions_of (setup_in w) job) in
-        let left : actions_left (setup_in w) job ≡ WriteBody ∷ rest = next-left w job WriteBody next (λ e. cc) in
-        let o : IsInOrder (moves_made w.append number) (WriteBody ∷ rest) = subst (IsInOrder (moves_made w.append number)) left J.order in
+        let left : actions_left (setup_in w) job ≡ WriteBody ∷ rest =
+        next-left w job WriteBody next (λ e. cc) in
+        let o : IsInOrder (moves_made w.append number) (WriteBody ∷ rest) =
+        subst (IsInOrder (moves_made w.append number)) left J.order in
         let r = in_order-step (moves_made w.append number) WriteBody rest (λ e. cc) o in
         let c = appends-order 1 rest (omega arith) r.1 in
         let d : appends_in (WriteBody ∷ rest) ≡ 0 + appends_in rest = appends-cons WriteBody rest in
@@ -225,12 +257,15 @@ module _ (limit : ℕ) (w : State) (S : IsSound limit w) where
     sizes sums has = (small-sums number job sums runs has).size
 
     -- the journal has room for the record
-    written-room : (entry : Record) → 0 < appends_left (setup_in w) job → Writes w job job.kind entry → journal_end w + (1 + record_size entry) ≤ largest_journal
+    written-room : (entry : Record) → 0 < appends_left (setup_in w) job → Writes w job job.kind entry →
+        journal_end w + (1 + record_size entry) ≤ largest_journal
     written-room entry left h =
         (let k = appends_left (setup_in w) job - 1 in
         let is : appends_left (setup_in w) job ≡ k + 1 = omega (arith, left) in
         let step = room-step w job job.kind entry k refl h is sizes in
-        let mine : reserved (version_of w.records) (setup_in w) job ≡ room_of (version_of w.records) (setup_in w) job.kind (k + 1) = ap (room_of (version_of w.records) (setup_in w) job.kind) is in
+        let mine : reserved (version_of w.records) (setup_in w) job
+        ≡ room_of (version_of w.records) (setup_in w) job.kind (k + 1) =
+        ap (room_of (version_of w.records) (setup_in w) job.kind) is in
         let one = sum-member (reserved (version_of w.records) (setup_in w)) w.jobs number job runs in
         let room = S.room in omega (arith, step, mine, one, room))
 
@@ -244,43 +279,60 @@ module _ (limit : ℕ) (w : State) (S : IsSound limit w) where
         put : are_put name w.jobs ≡ true
         put = elim (cases_Bool (are_put name w.jobs)) [
           | inl t ↦ t
-          | inr f ↦ absurd (let g = any_job (λ (j : Job). puts_name name (aim_of j.kind)) w.jobs number job runs f in
+          | inr f ↦ absurd (let g =
+              any_job (λ (j : Job). puts_name name (aim_of j.kind)) w.jobs number job runs f in
               false≢true (sym g ∙ (ap (λ kd. puts_name name (aim_of kd)) kind ∙ same-refl name)))
         ]
 
-        all-taken : (n : List ℕ) → is_name_among (name ∷ names_in (files_of w.records)) n ≡ true → is_name_among (taken_by w.records w.jobs) n ≡ true
+        all-taken : (n : List ℕ) → is_name_among (name ∷ names_in (files_of w.records)) n ≡ true →
+            is_name_among (taken_by w.records w.jobs) n ≡ true
         all-taken n i = listed-taken w.records w.jobs n ∙ elim (cases_Bool (is_same_name n name)) [
-          | inl t ↦ (let e : n ≡ name = same-eq n name t in let p : are_put n w.jobs ≡ true = ap (λ x. are_put x w.jobs) e ∙ put in grind (arith, p))
+          | inl t ↦ (let e : n ≡ name = same-eq n name t in
+              let p : are_put n w.jobs ≡ true = ap (λ x. are_put x w.jobs) e ∙ put in grind (arith, p))
           | inr f ↦ (let l = listed-files_of w.records n in grind (arith, i, f, l))
         ]
 
-        places : is_some (file_of w.records name) ≡ false → length (files_of w.records) + 1 ≤ length (names_taken (sight_of w))
-        places f = (let l = fewer (name ∷ names_in (files_of w.records)) (taken_by w.records w.jobs) (listed-files_of w.records name ∙ f, once-files w.records) all-taken in
+        places : is_some (file_of w.records name) ≡ false →
+            length (files_of w.records) + 1 ≤ length (names_taken (sight_of w))
+        places f = (let l = fewer (name ∷ names_in (files_of w.records)) (taken_by w.records w.jobs)
+            (listed-files_of w.records name ∙ f, once-files w.records) all-taken in
             let e = length-names_in (files_of w.records) in omega (arith, l, e))
 
     -- a drop's name is in effect where its first move is next
-    drop-place : (name : List ℕ) → job.kind ≡ DropJob name → next_action w job ≡ Some WriteBody → is_some (file_of w.records name) ≡ true
-    drop-place name kind next = at_start (is_some (file_of w.records name)) refl (place-zero job.place (listed))
+    drop-place : (name : List ℕ) → job.kind ≡ DropJob name → next_action w job ≡ Some WriteBody →
+        is_some (file_of w.records name) ≡ true
+    drop-place name kind next =
+        at_start (is_some (file_of w.records name)) refl (place-zero job.place (listed))
       where
         by : next_by w job (DropJob name) job.place ≡ Some WriteBody
         by = ap (λ kd. next_by w job kd job.place) (sym kind) ∙ (sym (next_is_by w job) ∙ next)
 
         listed : slice_get (append_actions ++ drop_rest (setup_in w) job) job.place ≡ Some WriteBody
         listed = elim (cases_Bool (is_idle_drop w job (DropJob name))) [
-          | inl t ↦ absurd (let e : Some End ≡ Some WriteBody = sym (cond_true (is_idle_drop w job (DropJob name)) (Some End) (slice_get (append_actions ++ drop_rest (setup_in w) job) job.place) t) ∙ by in cc)
-          | inr f ↦ sym (cond_false (is_idle_drop w job (DropJob name)) (Some End) (slice_get (append_actions ++ drop_rest (setup_in w) job) job.place) f) ∙ by
+          | inl t ↦ absurd (let e : Some End ≡ Some WriteBody =
+              sym (cond_true (is_idle_drop w job (DropJob name)) (Some End)
+              (slice_get (append_actions ++ drop_rest (setup_in w) job) job.place) t) ∙ by in cc)
+          | inr f ↦ sym (cond_false (is_idle_drop w job (DropJob name)) (Some End)
+              (slice_get (append_actions ++ drop_rest (setup_in w) job) job.place) f) ∙ by
         ]
 
-        place-zero : (p : ℕ) → slice_get (append_actions ++ drop_rest (setup_in w) job) p ≡ Some WriteBody → p ≡ 0
+        place-zero : (p : ℕ) → slice_get (append_actions ++ drop_rest (setup_in w) job) p ≡ Some WriteBody →
+            p ≡ 0
         place-zero p h = drop-body (setup_in w) job p h
 
         at_start : (there : Bool) → is_some (file_of w.records name) ≡ there → job.place ≡ 0 → there ≡ true
         at_start true is first = refl
-        at_start false is first = absurd (let idle : is_idle_drop w job (DropJob name) ≡ true = and_from (job.place == 0) (not (is_some (file_of w.records name))) (eq-eqb job.place 0 first) (ap not is) in
-            let e : Some End ≡ Some WriteBody = sym (cond_true (is_idle_drop w job (DropJob name)) (Some End) (slice_get (append_actions ++ drop_rest (setup_in w) job) job.place) idle) ∙ by in cc)
+        at_start false is first =
+            absurd (let idle : is_idle_drop w job (DropJob name) ≡ true =
+            and_from (job.place == 0) (not (is_some (file_of w.records name))) (eq-eqb job.place 0 first)
+            (ap not is) in
+            let e : Some End ≡ Some WriteBody =
+            sym (cond_true (is_idle_drop w job (DropJob name)) (Some End)
+            (slice_get (append_actions ++ drop_rest (setup_in w) job) job.place) idle) ∙ by in cc)
 
     -- a put that has still to start finds a number, and so does an audit
-    number-left : (name bytes : List ℕ) → job.kind ≡ PutJob name bytes → job.place < 4 → next_id w.records < 2 ^ 64 - 1
+    number-left : (name bytes : List ℕ) → job.kind ≡ PutJob name bytes → job.place < 4 →
+        next_id w.records < 2 ^ 64 - 1
     number-left name bytes kind l =
         (let one : starts_left job ≡ 1 = starts-first job name bytes kind l in
         let sum = sum-member starts_left w.jobs number job runs in
@@ -289,7 +341,8 @@ module _ (limit : ℕ) (w : State) (S : IsSound limit w) where
     audit-left : job.kind ≡ AuditJob → job.place < 4 → next_audit w.records < 2 ^ 64 - 1
     audit-left kind l = (let a = S.audits number job runs kind l in omega (arith, a))
 
-    follows-by : (kind : Kind) (entry : Record) → job.kind ≡ kind → next_action w job ≡ Some WriteBody → 0 < appends_left (setup_in w) job → Writes w job kind entry →
+    follows-by : (kind : Kind) (entry : Record) → job.kind ≡ kind → next_action w job ≡ Some WriteBody →
+        0 < appends_left (setup_in w) job → Writes w job kind entry →
         Good entry
     follows-by (PutJob name bytes) entry kind next left h = elim (cases_lt job.place 4) [
       | inl l ↦ (let few = number-left name bytes kind l in
@@ -299,30 +352,40 @@ module _ (limit : ℕ) (w : State) (S : IsSound limit w) where
             accept-start w.journal (next_id w.records) name up-too (sym L.id) few,
             tt,
           ))
-      | inr l ↦ (let d : HasDrawn (setup_in w) w.records w.bytes job name bytes = subst (IsReady (setup_in w) w.records w.bytes job) kind J.ready l in
-          let e : HasDrawn (setup_in w) w.journal w.bytes job name bytes = subst (IsReady (setup_in w) w.journal w.bytes job) kind R l in
+      | inr l ↦ (let d : HasDrawn (setup_in w) w.records w.bytes job name bytes =
+          subst (IsReady (setup_in w) w.records w.bytes job) kind J.ready l in
+          let e : HasDrawn (setup_in w) w.journal w.bytes job name bytes =
+          subst (IsReady (setup_in w) w.journal w.bytes job) kind R l in
           subst Good (sym (put-writes_later w job name bytes entry l h)) (
-            spelled-done (version_of w.records) job.subject (length bytes) job.profile J.subject (subst IsWish kind J.wish).1 J.profile,
-            accept-done w.records (version_of w.records) job.subject (length bytes) job.profile name (S.set_up opened) refl (d.started left) (put-place name bytes kind),
-            accept-done w.journal (version_of w.records) job.subject (length bytes) job.profile name up-too L.version (e.started left)
+            spelled-done (version_of w.records) job.subject (length bytes) job.profile J.subject
+                (subst IsWish kind J.wish).1 J.profile,
+            accept-done w.records (version_of w.records) job.subject (length bytes) job.profile name
+                (S.set_up opened) refl (d.started left) (put-place name bytes kind),
+            accept-done w.journal (version_of w.records) job.subject
+                (length bytes) job.profile name up-too L.version (e.started left)
                 (crowded-alike w.journal w.records name L ∙ put-place name bytes kind),
-            by_version (version_of w.records) job.subject (length bytes) job.profile (BringsHeld w.bytes) (held d.bytes_are kind) (held d.bytes_are kind),
+            by_version (version_of w.records) job.subject (length bytes) job.profile (BringsHeld w.bytes)
+                (held d.bytes_are kind) (held d.bytes_are kind),
           ))
     ]
       where
-        held : w.bytes job.subject ≡ bytes → job.kind ≡ PutJob name bytes → IsHeld w.bytes job.subject (length bytes)
+        held : w.bytes job.subject ≡ bytes → job.kind ≡ PutJob name bytes →
+            IsHeld w.bytes job.subject (length bytes)
         held e kind = (subst AreBytes (sym e) (subst IsSpelledKind kind J.spelled).1, ap length e)
     follows-by (GetJob name) entry kind next left h = absurd h
     follows-by (DropJob name) entry kind next left h =
         subst Good (sym h) (
           subst IsWish kind J.wish,
           accept-drop w.records name (S.set_up opened) (drop-place name kind next),
-          accept-drop w.journal name up-too (ap is_some (file-alike w.journal w.records name L) ∙ drop-place name kind next),
+          accept-drop w.journal name up-too (ap is_some (file-alike w.journal w.records name L)
+              ∙ drop-place name kind next),
           tt,
         )
     follows-by AuditJob entry kind next left h =
-        (let ready : IsReady (setup_in w) w.records w.bytes job AuditJob = subst (IsReady (setup_in w) w.records w.bytes job) kind J.ready in
-        let ready_too : IsReady (setup_in w) w.journal w.bytes job AuditJob = subst (IsReady (setup_in w) w.journal w.bytes job) kind R in
+        (let ready : IsReady (setup_in w) w.records w.bytes job AuditJob =
+        subst (IsReady (setup_in w) w.records w.bytes job) kind J.ready in
+        let ready_too : IsReady (setup_in w) w.journal w.bytes job AuditJob =
+        subst (IsReady (setup_in w) w.journal w.bytes job) kind R in
         elim (cases_lt job.place 4) [
           | inl l ↦ (let few = audit-left kind l in
               subst Good (sym (audit-writes_first w job entry l h)) (
@@ -336,15 +399,21 @@ module _ (limit : ℕ) (w : State) (S : IsSound limit w) where
               let small = small-sums number job sums runs wrote.1 in
               let n = setup-providers opened in
               subst Good (sym wrote.2) (
-                spelled-audit_done job.subject sums.undecided sums.counts J.subject small.undecided (let e = small.size in omega (arith, e, n.0)) (let e = small.size in omega (arith, e, n.1)) small.counts,
-                accept-audit_done w.records (setup_in w) job.subject sums.undecided sums.counts (set_up-in opened) (ready.1 l left) small.size,
-                accept-audit_done w.journal (setup_in w) job.subject sums.undecided sums.counts (L.setup ∙ set_up-in opened) (ready_too.1 l left) small.size,
+                spelled-audit_done job.subject sums.undecided sums.counts J.subject small.undecided
+                    (let e = small.size in omega (arith, e, n.0))
+                    (let e = small.size in omega (arith, e, n.1)) small.counts,
+                accept-audit_done w.records (setup_in w) job.subject sums.undecided sums.counts
+                    (set_up-in opened) (ready.1 l left) small.size,
+                accept-audit_done w.journal (setup_in w) job.subject sums.undecided sums.counts
+                    (L.setup ∙ set_up-in opened) (ready_too.1 l left) small.size,
                 tt,
               ))
         ])
     follows-by RepairJob entry kind next left h =
-        (let ready : IsReady (setup_in w) w.records w.bytes job RepairJob = subst (IsReady (setup_in w) w.records w.bytes job) kind J.ready in
-        let ready_too : IsReady (setup_in w) w.journal w.bytes job RepairJob = subst (IsReady (setup_in w) w.journal w.bytes job) kind R in
+        (let ready : IsReady (setup_in w) w.records w.bytes job RepairJob =
+        subst (IsReady (setup_in w) w.records w.bytes job) kind J.ready in
+        let ready_too : IsReady (setup_in w) w.journal w.bytes job RepairJob =
+        subst (IsReady (setup_in w) w.journal w.bytes job) kind R in
         subst Good (sym h) (
           spelled-repair job.subject J.subject,
           accept-repair w.records job.subject (S.set_up opened) (ready left),
@@ -352,7 +421,8 @@ module _ (limit : ℕ) (w : State) (S : IsSound limit w) where
           tt,
         ))
     follows-by UpgradeJob entry kind next left h =
-        (let ready : IsReady (setup_in w) w.records w.bytes job UpgradeJob = subst (IsReady (setup_in w) w.records w.bytes job) kind J.ready in
+        (let ready : IsReady (setup_in w) w.records w.bytes job UpgradeJob =
+        subst (IsReady (setup_in w) w.records w.bytes job) kind J.ready in
         subst Good (sym h) (
           refl,
           accept-version w.records (S.set_up opened) (ready left),
@@ -361,11 +431,18 @@ module _ (limit : ℕ) (w : State) (S : IsSound limit w) where
         ))
 
     -- the record that the job writes with its next action may come into effect next
-    pub written-follows : (entry : Record) → next_action w job ≡ Some WriteBody → Writes w job job.kind entry → MayFollowIn w entry
+    pub written-follows : (entry : Record) → next_action w job ≡ Some WriteBody →
+        Writes w job job.kind entry → MayFollowIn w entry
     written-follows entry next h =
         (let left = body-left next in
         let f = follows-by job.kind entry refl next left h in
-        record { spelled = f.0; accepted = f.1; in_journal = f.2; room = written-room entry left h; held = f.3 })
+        record {
+          spelled = f.0;
+          accepted = f.1;
+          in_journal = f.2;
+          room = written-room entry left h;
+          held = f.3;
+        })
 
   -- ---- until the journal has its second version
 
@@ -384,7 +461,8 @@ module _ (limit : ℕ) (w : State) (S : IsSound limit w) where
 
     -- until the second version the journal has room for all that running jobs have still to write
     pub room-first : text_size w.records + sum_by (reserved 1 (setup_in w)) w.jobs ≤ largest_journal
-    room-first = (let r = S.room in let e = end-first in let v = ap (λ n. sum_by (reserved n (setup_in w)) w.jobs) first in omega (arith, r, e, v))
+    room-first = (let r = S.room in let e = end-first in
+        let v = ap (λ n. sum_by (reserved n (setup_in w)) w.jobs) first in omega (arith, r, e, v))
 
     -- until the second version the next object number is at most the largest length of a journal
     pub ids-small : next_id w.records ≤ largest_journal
@@ -395,9 +473,11 @@ module _ (limit : ℕ) (w : State) (S : IsSound limit w) where
     audits-small = (let a = next_audit-le w.records grammar-now in let b = room-first in omega (arith, a, b))
 
     -- each file in effect has the setup's profile
-    pub file-first : (name : List ℕ) (file : File) → file_in w name ≡ Some file → file.profile ≡ (setup_in w).profile
+    pub file-first : (name : List ℕ) (file : File) → file_in w name ≡ Some file →
+        file.profile ≡ (setup_in w).profile
     unfolding setup_in
-    file-first name file h = file-plain w.records name file S.accepted first h ∙ profile-of (setup_of w.records)
+    file-first name file h =
+        file-plain w.records name file S.accepted first h ∙ profile-of (setup_of w.records)
       where
         profile-of : (o : Option Setup) → profile_in o ≡ (setup_or_none o).profile
         profile-of None = refl

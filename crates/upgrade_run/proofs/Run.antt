@@ -243,7 +243,11 @@ unfolding setup_in
 is_until_29 = (fits_3, happens_28, is_until_28)
 
 abbrev until_30 : List Moment
-until_30 = record { event = Step 3; outcome = Ended (Scrubbed 1 (1 ∷ 0 ∷ 0 ∷ 0 ∷ []) (1 ∷ 0 ∷ 0 ∷ 0 ∷ [])); state = state_30 } ∷ until_29
+until_30 = record {
+  event = Step 3;
+  outcome = Ended (Scrubbed 1 (1 ∷ 0 ∷ 0 ∷ 0 ∷ []) (1 ∷ 0 ∷ 0 ∷ 0 ∷ []));
+  state = state_30;
+} ∷ until_29
 
 is_until_30 : IsRun 8 set_up until_30
 unfolding setup_in
@@ -348,22 +352,74 @@ moments = until_43
 pub outright : HasAll moments
 unfolding setup_in
 outright = record {
-  clean = record { records = inr (four, refl, refl); journal = refl; first_area = refl; unswitched = refl; none_alone = refl; jobs = refl; first_job = refl; append = refl; doubt = refl; closed = refl; unbarred = refl };
+  clean = record {
+    records = inr (four, refl, refl);
+    journal = refl;
+    first_area = refl;
+    unswitched = refl;
+    none_alone = refl;
+    jobs = refl;
+    first_job = refl;
+    append = refl;
+    doubt = refl;
+    closed = refl;
+    unbarred = refl;
+  };
   run = is_until_43;
   events = refl;
-  upgraded = record { moment = record { event = Step 1; outcome = Ended Upgraded; state = state_7 }; is = refl; event_is = refl; outcome_is = refl };
+  upgraded = record {
+    moment = record { event = Step 1; outcome = Ended Upgraded; state = state_7 };
+    is = refl;
+    event_is = refl;
+    outcome_is = refl;
+  };
   version = refl;
-  named = record { moment = record { event = BeginAt 1 name byte; outcome = Begun 2; state = state_8 }; is = refl; event_is = refl; outcome_is = refl };
-  put = record { moment = record { event = Step 2; outcome = Ended Put; state = state_21 }; is = refl; event_is = refl; outcome_is = refl };
+  named = record {
+    moment = record { event = BeginAt 1 name byte; outcome = Begun 2; state = state_8 };
+    is = refl;
+    event_is = refl;
+    outcome_is = refl;
+  };
+  put = record {
+    moment = record { event = Step 2; outcome = Ended Put; state = state_21 };
+    is = refl;
+    event_is = refl;
+    outcome_is = refl;
+  };
   own_profile = refl;
   other_profile = refl;
-  damaged = record { moment = record { event = Alter 0 1 0 0 5; outcome = Replaced; state = state_22 }; is = refl; event_is = refl; outcome_is = refl };
-  scrubbed = record { moment = record { event = Step 3; outcome = Ended (Scrubbed 1 (1 ∷ 0 ∷ 0 ∷ 0 ∷ []) (1 ∷ 0 ∷ 0 ∷ 0 ∷ [])); state = state_30 }; is = refl; event_is = refl; outcome_is = refl };
+  damaged = record {
+    moment = record { event = Alter 0 1 0 0 5; outcome = Replaced; state = state_22 };
+    is = refl;
+    event_is = refl;
+    outcome_is = refl;
+  };
+  scrubbed = record {
+    moment =
+        record {
+          event = Step 3;
+          outcome = Ended (Scrubbed 1 (1 ∷ 0 ∷ 0 ∷ 0 ∷ []) (1 ∷ 0 ∷ 0 ∷ 0 ∷ []));
+          state = state_30;
+        };
+    is = refl;
+    event_is = refl;
+    outcome_is = refl;
+  };
   mended = refl;
   third_move = record { alone = refl; switching = refl; area = refl; journal = refl };
-  stopped = record { moment = record { event = Stop []; outcome = Stopped; state = state_35 }; is = refl; event_is = refl; outcome_is = refl };
+  stopped = record {
+    moment = record { event = Stop []; outcome = Stopped; state = state_35 };
+    is = refl;
+    event_is = refl;
+    outcome_is = refl;
+  };
   packed_is = refl;
   area = refl;
   history = refl;
-  got = record { moment = record { event = Step 5; outcome = Ended (Got byte); state = state_43 }; is = refl; event_is = refl; outcome_is = refl };
+  got = record {
+    moment = record { event = Step 5; outcome = Ended (Got byte); state = state_43 };
+    is = refl;
+    event_is = refl;
+    outcome_is = refl;
+  };
 }

@@ -30,7 +30,13 @@ state_1 = reopened state_0
 -- the vault opens
 pub happens_0 : Happens 8 0 state_0 (Reopen) (Opened) state_1
 unfolding setup_in actions_of
-happens_0 = (record (given_up state_0) { doubt = None }, (state_0.journal, state_0.area, inl (refl, refl), inl refl), refl, omega arith, (state_0.disk_faults, omega arith, refl))
+happens_0 = (
+  record (given_up state_0) { doubt = None },
+  (state_0.journal, state_0.area, inl (refl, refl), inl refl),
+  refl,
+  omega arith,
+  (state_0.disk_faults, omega arith, refl),
+)
 
 abbrev pub state_2 : State
 state_2 = begun state_1 1 UpgradeJob
@@ -81,7 +87,10 @@ unfolding setup_in actions_of
 happens_6 = (tt, refl)
 
 abbrev pub state_8 : State
-state_8 = record state_7 { jobs = state_7.jobs ++ beginning state_7 7 (PutJob name byte) (Some 1) ∷ []; next_job = state_7.next_job + 1 }
+state_8 = record state_7 {
+  jobs = state_7.jobs ++ beginning state_7 7 (PutJob name byte) (Some 1) ∷ [];
+  next_job = state_7.next_job + 1;
+}
 
 -- the put at profile 1 begins as job 2
 pub happens_7 : Happens 8 7 state_7 (BeginAt 1 name byte) (Begun 2) state_8
@@ -212,7 +221,10 @@ unfolding setup_in actions_of
 happens_21 = (altered_provider, ((λ x. (let e = length-block 0 in omega (arith, e)), λ x. refl), refl), refl)
 
 abbrev pub state_23 : State
-state_23 = record state_22 { alone = Some (Scrubbing (new_scrub state_22 22)); next_job = state_22.next_job + 1 }
+state_23 = record state_22 {
+  alone = Some (Scrubbing (new_scrub state_22 22));
+  next_job = state_22.next_job + 1;
+}
 
 -- the scrub begins as job 3
 pub happens_22 : Happens 8 22 state_22 (BeginScrub) (Begun 3) state_23
@@ -223,7 +235,10 @@ abbrev fetched_23 : Provider
 fetched_23 = record (state_23.providers 0) { fetches = one_more (state_23.providers 0).fetches }
 
 abbrev scrub_24 : Scrub
-scrub_24 = record (new_scrub state_22 22) { todo = Fetch 1 1 0 ∷ Fetch 2 1 0 ∷ Fetch 3 1 0 ∷ Work 1 0 ∷ End ∷ []; given = Fetched 0 1 0 (Some altered) ∷ [] }
+scrub_24 = record (new_scrub state_22 22) {
+  todo = Fetch 1 1 0 ∷ Fetch 2 1 0 ∷ Fetch 3 1 0 ∷ Work 1 0 ∷ End ∷ [];
+  given = Fetched 0 1 0 (Some altered) ∷ [];
+}
 
 abbrev pub state_24 : State
 state_24 = record (scrubbing state_23 scrub_24) { providers = with_provider state_23.providers 0 fetched_23 }
@@ -231,13 +246,27 @@ state_24 = record (scrubbing state_23 scrub_24) { providers = with_provider stat
 -- the scrub fetches provider 0's block
 pub happens_23 : Happens 8 23 state_23 (Step 3) (More) state_24
 unfolding setup_in actions_of
-happens_23 = (Some altered, (fetched_23, record { held = refl; counts = record { store_faults = refl; other_faults = omega arith; fetches = refl }; gives = inl (block_sized altered length-altered) }, refl))
+happens_23 = (
+  Some altered,
+  (
+    fetched_23,
+    record {
+      held = refl;
+      counts = record { store_faults = refl; other_faults = omega arith; fetches = refl };
+      gives = inl (block_sized altered length-altered);
+    },
+    refl,
+  ),
+)
 
 abbrev fetched_24 : Provider
 fetched_24 = record (state_24.providers 1) { fetches = one_more (state_24.providers 1).fetches }
 
 abbrev scrub_25 : Scrub
-scrub_25 = record (new_scrub state_22 22) { todo = Fetch 2 1 0 ∷ Fetch 3 1 0 ∷ Work 1 0 ∷ End ∷ []; given = Fetched 1 1 0 (Some (block 1)) ∷ Fetched 0 1 0 (Some altered) ∷ [] }
+scrub_25 = record (new_scrub state_22 22) {
+  todo = Fetch 2 1 0 ∷ Fetch 3 1 0 ∷ Work 1 0 ∷ End ∷ [];
+  given = Fetched 1 1 0 (Some (block 1)) ∷ Fetched 0 1 0 (Some altered) ∷ [];
+}
 
 abbrev pub state_25 : State
 state_25 = record (scrubbing state_24 scrub_25) { providers = with_provider state_24.providers 1 fetched_24 }
@@ -245,13 +274,28 @@ state_25 = record (scrubbing state_24 scrub_25) { providers = with_provider stat
 -- the scrub fetches provider 1's block
 pub happens_24 : Happens 8 24 state_24 (Step 3) (More) state_25
 unfolding setup_in actions_of
-happens_24 = (Some (block 1), (fetched_24, record { held = refl; counts = record { store_faults = refl; other_faults = omega arith; fetches = refl }; gives = inl (block_sized (block 1) (length-block 1)) }, refl))
+happens_24 = (
+  Some (block 1),
+  (
+    fetched_24,
+    record {
+      held = refl;
+      counts = record { store_faults = refl; other_faults = omega arith; fetches = refl };
+      gives = inl (block_sized (block 1) (length-block 1));
+    },
+    refl,
+  ),
+)
 
 abbrev fetched_25 : Provider
 fetched_25 = record (state_25.providers 2) { fetches = one_more (state_25.providers 2).fetches }
 
 abbrev scrub_26 : Scrub
-scrub_26 = record (new_scrub state_22 22) { todo = Fetch 3 1 0 ∷ Work 1 0 ∷ End ∷ []; given = Fetched 2 1 0 (Some (block 2)) ∷ Fetched 1 1 0 (Some (block 1)) ∷ Fetched 0 1 0 (Some altered) ∷ [] }
+scrub_26 = record (new_scrub state_22 22) {
+  todo = Fetch 3 1 0 ∷ Work 1 0 ∷ End ∷ [];
+  given = Fetched 2 1 0 (Some (block 2)) ∷ Fetched 1 1 0 (Some (block 1)) ∷ Fetched 0 1 0
+      (Some altered) ∷ [];
+}
 
 abbrev pub state_26 : State
 state_26 = record (scrubbing state_25 scrub_26) { providers = with_provider state_25.providers 2 fetched_25 }
@@ -259,13 +303,28 @@ state_26 = record (scrubbing state_25 scrub_26) { providers = with_provider stat
 -- the scrub fetches provider 2's block
 pub happens_25 : Happens 8 25 state_25 (Step 3) (More) state_26
 unfolding setup_in actions_of
-happens_25 = (Some (block 2), (fetched_25, record { held = refl; counts = record { store_faults = refl; other_faults = omega arith; fetches = refl }; gives = inl (block_sized (block 2) (length-block 2)) }, refl))
+happens_25 = (
+  Some (block 2),
+  (
+    fetched_25,
+    record {
+      held = refl;
+      counts = record { store_faults = refl; other_faults = omega arith; fetches = refl };
+      gives = inl (block_sized (block 2) (length-block 2));
+    },
+    refl,
+  ),
+)
 
 abbrev fetched_26 : Provider
 fetched_26 = record (state_26.providers 3) { fetches = one_more (state_26.providers 3).fetches }
 
 abbrev scrub_27 : Scrub
-scrub_27 = record (new_scrub state_22 22) { todo = Work 1 0 ∷ End ∷ []; given = Fetched 3 1 0 (Some (block 3)) ∷ Fetched 2 1 0 (Some (block 2)) ∷ Fetched 1 1 0 (Some (block 1)) ∷ Fetched 0 1 0 (Some altered) ∷ [] }
+scrub_27 = record (new_scrub state_22 22) {
+  todo = Work 1 0 ∷ End ∷ [];
+  given = Fetched 3 1 0 (Some (block 3)) ∷ Fetched 2 1 0 (Some (block 2)) ∷ Fetched 1 1 0
+      (Some (block 1)) ∷ Fetched 0 1 0 (Some altered) ∷ [];
+}
 
 abbrev pub state_27 : State
 state_27 = record (scrubbing state_26 scrub_27) { providers = with_provider state_26.providers 3 fetched_26 }
@@ -273,7 +332,18 @@ state_27 = record (scrubbing state_26 scrub_27) { providers = with_provider stat
 -- the scrub fetches provider 3's block
 pub happens_26 : Happens 8 26 state_26 (Step 3) (More) state_27
 unfolding setup_in actions_of
-happens_26 = (Some (block 3), (fetched_26, record { held = refl; counts = record { store_faults = refl; other_faults = omega arith; fetches = refl }; gives = inl (block_sized (block 3) (length-block 3)) }, refl))
+happens_26 = (
+  Some (block 3),
+  (
+    fetched_26,
+    record {
+      held = refl;
+      counts = record { store_faults = refl; other_faults = omega arith; fetches = refl };
+      gives = inl (block_sized (block 3) (length-block 3));
+    },
+    refl,
+  ),
+)
 
 -- how many symbols of each provider differ in the stripe that was opened
 abbrev off : ℕ → ℕ
@@ -296,7 +366,11 @@ unfolding setup_in
 off_3 = differs_not 3
 
 abbrev scrub_with : List Action → Scrub
-scrub_with todo = record scrub_27 { todo = todo; given = Worked 1 0 symbols ∷ scrub_27.given; found = found_more scrub_27.found off }
+scrub_with todo = record scrub_27 {
+  todo = todo;
+  given = Worked 1 0 symbols ∷ scrub_27.given;
+  found = found_more scrub_27.found off;
+}
 
 abbrev pub state_28 : State
 state_28 = scrubbing state_27 (scrub_with (Store 0 1 0 ∷ End ∷ []))
@@ -304,27 +378,49 @@ state_28 = scrubbing state_27 (scrub_with (Store 0 1 0 ∷ End ∷ []))
 -- the scrub opens the stripe, and has provider 0's block to store
 pub happens_27 : Happens 8 27 state_27 (Step 3) (More) state_28
 unfolding setup_in actions_of
-happens_27 = (symbols, damaged_give, ap (λ todo. scrubbing state_27 (scrub_with todo)) (sym (one_store off off_0 off_1 off_2 off_3)))
+happens_27 = (
+  symbols,
+  damaged_give,
+  ap (λ todo. scrubbing state_27 (scrub_with todo))
+      (sym (one_store off off_0 off_1 off_2 off_3)),
+)
 
 -- the block of provider 0 is mended
 abbrev mended : Provider
-mended = record (state_28.providers 0) { held = option_map (with_block 1 0 (block_to_scrub state_28 (scrub_with (Store 0 1 0 ∷ End ∷ [])) 0 1 0)) (state_28.providers 0).held }
+mended = record (state_28.providers 0) {
+  held = option_map (with_block 1 0 (block_to_scrub state_28 (scrub_with (Store 0 1 0 ∷ End ∷ [])) 0 1 0))
+      (state_28.providers 0).held;
+}
 
 abbrev pub state_29 : State
-state_29 = record (scrubbing state_28 (scrub_with (End ∷ []))) { providers = with_provider state_28.providers 0 mended }
+state_29 = record (scrubbing state_28 (scrub_with (End ∷ [])))
+    { providers = with_provider state_28.providers 0 mended }
 
 -- the scrub stores provider 0's block anew
 pub happens_28 : Happens 8 28 state_28 (Step 3) (More) state_29
 unfolding setup_in actions_of
-happens_28 = (mended, record { held = refl; counts = record { store_faults = omega arith; other_faults = refl; fetches = refl } }, refl)
+happens_28 = (
+  mended,
+  record {
+    held = refl;
+    counts = record { store_faults = omega arith; other_faults = refl; fetches = refl };
+  },
+  refl,
+)
 
 abbrev pub state_30 : State
 state_30 = unalone state_29
 
 -- the scrub ends, and has found one symbol of provider 0
-pub happens_29 : Happens 8 29 state_29 (Step 3) (Ended (Scrubbed 1 (1 ∷ 0 ∷ 0 ∷ 0 ∷ []) (1 ∷ 0 ∷ 0 ∷ 0 ∷ []))) state_30
+pub happens_29 : Happens 8 29 state_29 (Step 3) (Ended (Scrubbed 1 (1 ∷ 0 ∷ 0 ∷ 0 ∷ []) (1 ∷ 0 ∷ 0 ∷ 0 ∷ [])))
+    state_30
 unfolding setup_in actions_of
-happens_29 = (refl, sym (one_symbol off off_0 off_1 off_2 off_3), sym (one_block off off_0 off_1 off_2 off_3), refl)
+happens_29 = (
+  refl,
+  sym (one_symbol off off_0 off_1 off_2 off_3),
+  sym (one_block off off_0 off_1 off_2 off_3),
+  refl,
+)
 
 abbrev pub state_31 : State
 state_31 = record state_30 { alone = Some (Packing (new_pack state_30)); next_job = state_30.next_job + 1 }
@@ -376,7 +472,13 @@ state_36 = reopened state_35
 -- the vault opens again
 pub happens_35 : Happens 8 35 state_35 (Reopen) (Opened) state_36
 unfolding setup_in actions_of
-happens_35 = (record (given_up state_35) { doubt = None }, (state_35.journal, B, inl (refl, refl), inl refl), refl, omega arith, (state_35.disk_faults, omega arith, refl))
+happens_35 = (
+  record (given_up state_35) { doubt = None },
+  (state_35.journal, B, inl (refl, refl), inl refl),
+  refl,
+  omega arith,
+  (state_35.disk_faults, omega arith, refl),
+)
 
 abbrev pub state_37 : State
 state_37 = begun state_36 36 (GetJob name)
@@ -390,45 +492,93 @@ abbrev fetched_37 : Provider
 fetched_37 = record (state_37.providers 0) { fetches = one_more (state_37.providers 0).fetches }
 
 abbrev pub state_38 : State
-state_38 = record (going_on state_37 (advanced_with (job_at state_37 5) (Fetched 0 1 0 (Some (block 0))))) { providers = with_provider state_37.providers 0 fetched_37 }
+state_38 = record (going_on state_37 (advanced_with (job_at state_37 5) (Fetched 0 1 0 (Some (block 0)))))
+    { providers = with_provider state_37.providers 0 fetched_37 }
 
 -- the get fetches provider 0's block
 pub happens_37 : Happens 8 37 state_37 (Step 5) (More) state_38
 unfolding setup_in actions_of
-happens_37 = (Some (block 0), (fetched_37, record { held = refl; counts = record { store_faults = refl; other_faults = omega arith; fetches = refl }; gives = inl (block_sized (block 0) (length-block 0)) }, refl))
+happens_37 = (
+  Some (block 0),
+  (
+    fetched_37,
+    record {
+      held = refl;
+      counts = record { store_faults = refl; other_faults = omega arith; fetches = refl };
+      gives = inl (block_sized (block 0) (length-block 0));
+    },
+    refl,
+  ),
+)
 
 abbrev fetched_38 : Provider
 fetched_38 = record (state_38.providers 1) { fetches = one_more (state_38.providers 1).fetches }
 
 abbrev pub state_39 : State
-state_39 = record (going_on state_38 (advanced_with (job_at state_38 5) (Fetched 1 1 0 (Some (block 1))))) { providers = with_provider state_38.providers 1 fetched_38 }
+state_39 = record (going_on state_38 (advanced_with (job_at state_38 5) (Fetched 1 1 0 (Some (block 1)))))
+    { providers = with_provider state_38.providers 1 fetched_38 }
 
 -- the get fetches provider 1's block
 pub happens_38 : Happens 8 38 state_38 (Step 5) (More) state_39
 unfolding setup_in actions_of
-happens_38 = (Some (block 1), (fetched_38, record { held = refl; counts = record { store_faults = refl; other_faults = omega arith; fetches = refl }; gives = inl (block_sized (block 1) (length-block 1)) }, refl))
+happens_38 = (
+  Some (block 1),
+  (
+    fetched_38,
+    record {
+      held = refl;
+      counts = record { store_faults = refl; other_faults = omega arith; fetches = refl };
+      gives = inl (block_sized (block 1) (length-block 1));
+    },
+    refl,
+  ),
+)
 
 abbrev fetched_39 : Provider
 fetched_39 = record (state_39.providers 2) { fetches = one_more (state_39.providers 2).fetches }
 
 abbrev pub state_40 : State
-state_40 = record (going_on state_39 (advanced_with (job_at state_39 5) (Fetched 2 1 0 (Some (block 2))))) { providers = with_provider state_39.providers 2 fetched_39 }
+state_40 = record (going_on state_39 (advanced_with (job_at state_39 5) (Fetched 2 1 0 (Some (block 2)))))
+    { providers = with_provider state_39.providers 2 fetched_39 }
 
 -- the get fetches provider 2's block
 pub happens_39 : Happens 8 39 state_39 (Step 5) (More) state_40
 unfolding setup_in actions_of
-happens_39 = (Some (block 2), (fetched_39, record { held = refl; counts = record { store_faults = refl; other_faults = omega arith; fetches = refl }; gives = inl (block_sized (block 2) (length-block 2)) }, refl))
+happens_39 = (
+  Some (block 2),
+  (
+    fetched_39,
+    record {
+      held = refl;
+      counts = record { store_faults = refl; other_faults = omega arith; fetches = refl };
+      gives = inl (block_sized (block 2) (length-block 2));
+    },
+    refl,
+  ),
+)
 
 abbrev fetched_40 : Provider
 fetched_40 = record (state_40.providers 3) { fetches = one_more (state_40.providers 3).fetches }
 
 abbrev pub state_41 : State
-state_41 = record (going_on state_40 (advanced_with (job_at state_40 5) (Fetched 3 1 0 (Some (block 3))))) { providers = with_provider state_40.providers 3 fetched_40 }
+state_41 = record (going_on state_40 (advanced_with (job_at state_40 5) (Fetched 3 1 0 (Some (block 3)))))
+    { providers = with_provider state_40.providers 3 fetched_40 }
 
 -- the get fetches provider 3's block
 pub happens_40 : Happens 8 40 state_40 (Step 5) (More) state_41
 unfolding setup_in actions_of
-happens_40 = (Some (block 3), (fetched_40, record { held = refl; counts = record { store_faults = refl; other_faults = omega arith; fetches = refl }; gives = inl (block_sized (block 3) (length-block 3)) }, refl))
+happens_40 = (
+  Some (block 3),
+  (
+    fetched_40,
+    record {
+      held = refl;
+      counts = record { store_faults = refl; other_faults = omega arith; fetches = refl };
+      gives = inl (block_sized (block 3) (length-block 3));
+    },
+    refl,
+  ),
+)
 
 abbrev pub state_42 : State
 state_42 = going_on state_41 (advanced_with (job_at state_41 5) (Worked 1 0 symbols))

@@ -1,4 +1,5 @@
--- What the providers hold in the run: the blocks of a file of one byte over four providers, of one of which a symbol is altered.
+-- What the providers hold in the run: the blocks of a file of one byte over four providers, of one of which a
+-- symbol is altered.
 use Rattle.std.proofs.Common.{◌≡◌, ℕ, suc, ◌+◌, ◌==◌, false, List, [], ◌∷◌, ◌++◌, length, map, Some, None, refl, ap, sym, subst, ◌∙◌, arith}
 use Rattle.std.specs.Prelude.{take, slice_set, slice_index, if◌then◌else◌}
 use Rattle.std.specs.List.{flat_map}
@@ -64,7 +65,8 @@ altered = slice_set (block 0) 0 5
 
 -- one symbol differs
 one_differs : (b : List ℕ) (rest : List ℕ) → b ≡ 111 ∷ rest → differences (slice_set b 0 5) b ≡ 1
-one_differs b rest is = subst (λ c. differences (slice_set c 0 5) c ≡ 1) (sym is) (ap suc (differences-same rest))
+one_differs b rest is =
+    subst (λ c. differences (slice_set c 0 5) c ≡ 1) (sym is) (ap suc (differences-same rest))
 
 same_size : (b : List ℕ) (rest : List ℕ) → b ≡ 111 ∷ rest → length (slice_set b 0 5) ≡ length b
 same_size b rest is = subst (λ c. length (slice_set c 0 5) ≡ length c) (sym is) refl
@@ -93,21 +95,32 @@ opens_altered : OpensTo thing 0 0 (Some altered) (shown 0)
 opens_altered = opens-right thing byte 0 0 (Some altered) (omega arith) altered_right
 
 -- with the altered block the stripe gives the file's symbols
-pub damaged_give : GivesSymbols thing 0 (Some altered ∷ Some (block 1) ∷ Some (block 2) ∷ Some (block 3) ∷ []) symbols
-damaged_give = given-right thing byte 1 0 (Some altered ∷ Some (block 1) ∷ Some (block 2) ∷ Some (block 3) ∷ []) (shown 0 ∷ shown 1 ∷ shown 2 ∷ shown 3 ∷ []) refl
+pub damaged_give : GivesSymbols thing 0 (Some altered ∷ Some (block 1) ∷ Some (block 2) ∷ Some (block 3) ∷ [])
+    symbols
+damaged_give = given-right thing byte 1 0
+    (Some altered ∷ Some (block 1) ∷ Some (block 2) ∷ Some (block 3) ∷ [])
+    (shown 0 ∷ shown 1 ∷ shown 2 ∷ shown 3 ∷ []) refl
     (omega arith, omega arith, omega arith, omega arith, omega arith)
-    (rw (altered_right, column-right thing byte 1 0, column-right thing byte 2 0, column-right thing byte 3 0) (omega arith))
-    (opens_altered, (opens-own thing byte 1 0 (omega arith), (opens-own thing byte 2 0 (omega arith), (opens-own thing byte 3 0 (omega arith), tt))))
+    (rw (altered_right, column-right thing byte 1 0, column-right thing byte 2 0, column-right thing byte 3 0)
+    (omega arith)) (
+      opens_altered,
+      (
+        opens-own thing byte 1 0 (omega arith),
+        (opens-own thing byte 2 0 (omega arith), (opens-own thing byte 3 0 (omega arith), tt)),
+      ),
+    )
 
 -- and so it does once all are mended
-pub all_give : GivesSymbols thing 0 (Some (block 0) ∷ Some (block 1) ∷ Some (block 2) ∷ Some (block 3) ∷ []) symbols
+pub all_give : GivesSymbols thing 0 (Some (block 0) ∷ Some (block 1) ∷ Some (block 2) ∷ Some (block 3) ∷ [])
+    symbols
 all_give = own_give thing byte 1 0 refl (omega arith, omega arith, omega arith, omega arith, omega arith)
 
 -- ---- what the scrub then has to store, and what it has found
 
 module _ (off : ℕ → ℕ) (a : off 0 ≡ 1) (b : off 1 ≡ 0) (c : off 2 ≡ 0) (d : off 3 ≡ 0) where
   -- where one symbol of provider 0 differs, the scrub has its store left, and its end
-  pub one_store : flat_map (λ j. if off j == 0 then [] else Store j 1 0 ∷ []) (upto 4) ++ End ∷ [] ≡ Store 0 1 0 ∷ End ∷ []
+  pub one_store : flat_map (λ j. if off j == 0 then [] else Store j 1 0 ∷ []) (upto 4) ++ End ∷ []
+      ≡ Store 0 1 0 ∷ End ∷ []
   one_store = rw (a, b, c, d) refl
 
   -- where one symbol of provider 0 differs, the scrub has found one symbol, of provider 0

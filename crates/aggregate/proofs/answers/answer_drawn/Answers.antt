@@ -23,9 +23,11 @@ loop-k-preserved g c =
     let there : held_symbol C.size held (picked_row C.seed C.rows m) ≡ Some c.in-Some.symbol =
     ap (held_symbol C.size held) (sym row) ∙ sym c.symbol_in.ensures ∙ c.in-Some.is in
     record {
-      held = from_more (λ (j : ℕ). is_some (held_symbol C.size held (picked_row C.seed C.rows j)) ≡ true) C.picks c.loop-k.k m next
+      held = from_more (λ (j : ℕ). is_some (held_symbol C.size held (picked_row C.seed C.rows j)) ≡ true)
+          C.picks c.loop-k.k m next
           (ap is_some there) c.loop-k.invariant.held;
-      total = splits_more C (λ row. unwrap_or (held_symbol C.size held row) 0) c.loop-k.k m c.in-Some.symbol c.loop-k.sum c.mul-sum.result next
+      total = splits_more C (λ row. unwrap_or (held_symbol C.size held row) 0) c.loop-k.k m c.in-Some.symbol
+          c.loop-k.sum c.mul-sum.result next
           (ap (λ s. unwrap_or s 0) there)
           (c.mul-sum.ensures ∙ (λ i. nim_mul (drawn.weight_is i) (c.add.ensures i)))
           c.loop-k.invariant.total;
@@ -48,4 +50,5 @@ returns g c =
     let held = g.B.Blocks.held c.args.blocks.now in
     let none : c.loop-k.k ≡ 0 = omega (arith, c.loop-k-test.false) in
     honest_answer-sum C held c.loop-k.sum (λ k below. c.loop-k.invariant.held k (omega (arith, none)) below)
-    (subst (λ (k : ℕ). Splits C (λ row. unwrap_or (held_symbol C.size held row) 0) k c.loop-k.sum) none c.loop-k.invariant.total)
+    (subst (λ (k : ℕ). Splits C (λ row. unwrap_or (held_symbol C.size held row) 0) k c.loop-k.sum) none
+    c.loop-k.invariant.total)

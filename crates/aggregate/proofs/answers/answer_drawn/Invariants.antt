@@ -8,6 +8,8 @@ use Rattle.aggregate.proofs.answers.answer_drawn.Given as goal
 abbrev pub invariant-loop-k : goal.invariant-loop-k
 invariant-loop-k g l = record {
   held : (j : ℕ) → l.k ≤ j → j < l.drawn.challenge.picks →
-      is_some (held_symbol l.drawn.challenge.size (g.B.Blocks.held l.blocks) (picked_row l.drawn.challenge.seed l.drawn.challenge.rows j)) ≡ true;
-  total : Splits (asked l.drawn.challenge) (λ row. unwrap_or (held_symbol l.drawn.challenge.size (g.B.Blocks.held l.blocks) row) 0) l.k l.sum;
+      is_some (held_symbol l.drawn.challenge.size (g.B.Blocks.held l.blocks)
+      (picked_row l.drawn.challenge.seed l.drawn.challenge.rows j)) ≡ true;
+  total : Splits (asked l.drawn.challenge)
+      (λ row. unwrap_or (held_symbol l.drawn.challenge.size (g.B.Blocks.held l.blocks) row) 0) l.k l.sum;
 }

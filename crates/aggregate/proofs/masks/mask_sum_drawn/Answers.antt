@@ -14,7 +14,8 @@ loop-k-preserved c =
     let m = c.loop-k.k - 1 in
     let next : c.loop-k.k ≡ suc m = omega (arith, c.loop-k-test.true) in
     let row = drawn.rows_are m (omega (arith, c.loop-k.auto.k, c.loop-k-test.true)) in
-    splits_more (asked drawn.challenge) (mask_of c.args.key.now) c.loop-k.k m c.mask.result c.loop-k.sum c.mul-sum.result next
+    splits_more (asked drawn.challenge) (mask_of c.args.key.now) c.loop-k.k m c.mask.result c.loop-k.sum
+    c.mul-sum.result next
     (ap (mask_of c.args.key.now) (sym row) ∙ sym c.mask.ensures)
     (c.mul-sum.ensures ∙ (λ i. nim_mul (drawn.weight_is i) (c.add.ensures i)))
     c.loop-k.invariant

@@ -23,7 +23,8 @@ returns-clause-row c = worked_row
 
 pub returns-clause-key : goal.returns-clause-key
 returns-clause-key c =
-    key_equation nim nim_laws nim_endless four word (1 ∷ 2 ∷ []) (1 ∷ 2 ∷ []) 2 four_apart refl (omega arith) worked_row
+    key_equation nim nim_laws nim_endless four word (1 ∷ 2 ∷ []) (1 ∷ 2 ∷ []) 2 four_apart refl
+    (omega arith) worked_row
 
 pub returns-clause-divides : goal.returns-clause-divides
 returns-clause-divides c =

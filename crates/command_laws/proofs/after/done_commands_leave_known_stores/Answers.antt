@@ -9,7 +9,8 @@ pub returns-clause-put : goal.returns-clause-put
 returns-clause-put c = put-sure
 
 pub returns-clause-get : goal.returns-clause-get
-returns-clause-get c name records old new end A over K = get-sure name records old new end A.0 (elim over [ inl done ↦ inl done | inr lost ↦ inr (inl lost) ]) K
+returns-clause-get c name records old new end A over K =
+    get-sure name records old new end A.0 (elim over [ inl done ↦ inl done | inr lost ↦ inr (inl lost) ]) K
 
 pub returns-clause-drop : goal.returns-clause-drop
 returns-clause-drop c name records old new end A done K = drop-sure name records old new end A.0 done K
@@ -21,10 +22,12 @@ pub returns-clause-audit : goal.returns-clause-audit
 returns-clause-audit c records old new end A done K = audit-sure records old new end A.0 done K
 
 pub returns-clause-repair : goal.returns-clause-repair
-returns-clause-repair c records due old new end A done K is_due = repair-sure records due old new end A.0 done K is_due
+returns-clause-repair c records due old new end A done K is_due =
+    repair-sure records due old new end A.0 done K is_due
 
 pub returns-clause-failed_put : goal.returns-clause-failed_put
 returns-clause-failed_put c = failed-put-sure
 
 pub returns-clause-failed_repair : goal.returns-clause-failed_repair
-returns-clause-failed_repair c records old new end A failed K = failed-repair-sure records old new end A.0 failed K
+returns-clause-failed_repair c records old new end A failed K =
+    failed-repair-sure records old new end A.0 failed K

@@ -24,4 +24,5 @@ pub returns-clause-row : goal.returns-clause-row
 returns-clause-row c n l b seen records old new end A S = sure-same records old new A.1.disk A.1.providers S
 
 pub returns-clause-usage : goal.returns-clause-usage
-returns-clause-usage c records old new end U S = sure-same records old new U.touches.disk U.touches.providers S
+returns-clause-usage c records old new end U S =
+    sure-same records old new U.touches.disk U.touches.providers S

@@ -18,14 +18,17 @@ returns-clause-right_front c name bytes records file old new end A K in_effect f
 
 pub returns-clause-forged : goal.returns-clause-forged
 returns-clause-forged c name bytes records file old new end A K in_effect fits size zero =
-    elim (seen-forged name bytes records file old new end K in_effect fits size A.0) [ inl right ↦ inl (right.1 zero) | inr forged ↦ inr forged ]
+    elim (seen-forged name bytes records file old new end K in_effect fits size A.0)
+    [ inl right ↦ inl (right.1 zero) | inr forged ↦ inr forged ]
 
 pub returns-clause-forged_front : goal.returns-clause-forged_front
 returns-clause-forged_front c name bytes records file old new end A K in_effect fits size =
-    elim (seen-forged name bytes records file old new end K in_effect fits size A.0) [ inl right ↦ inl right.0 | inr forged ↦ inr forged ]
+    elim (seen-forged name bytes records file old new end K in_effect fits size A.0)
+    [ inl right ↦ inl right.0 | inr forged ↦ inr forged ]
 
 pub returns-clause-unforged : goal.returns-clause-unforged
-returns-clause-unforged c name bytes records file old new end A K in_effect few F = seen-unforged name bytes records file old new end K in_effect few A.0 F
+returns-clause-unforged c name bytes records file old new end A K in_effect few F =
+    seen-unforged name bytes records file old new end K in_effect few A.0 F
 
 pub returns-clause-ends : goal.returns-clause-ends
 returns-clause-ends c name old new end A disk sink = get-order name old new end A.0 disk sink

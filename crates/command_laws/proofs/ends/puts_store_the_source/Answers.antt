@@ -9,4 +9,5 @@ returns-clause-ends_well c name bytes records old new end A K is begins disk sto
     put-well name bytes records old new end A K is begins disk stores source sink
 
 pub returns-clause-ends : goal.returns-clause-ends
-returns-clause-ends c name old new end A disk stores source sink = put-order name old new end A disk stores source sink
+returns-clause-ends c name old new end A disk stores source sink =
+    put-order name old new end A disk stores source sink

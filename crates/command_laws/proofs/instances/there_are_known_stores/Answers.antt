@@ -24,10 +24,21 @@ pub returns-clause-due : goal.returns-clause-due
 returns-clause-due c = due-sure
 
 pub returns-clause-between : goal.returns-clause-between
-returns-clause-between c = (record { disk = inl refl; handed = refl }, record { disk = inl refl; handed = refl })
+returns-clause-between c =
+    (record { disk = inl refl; handed = refl }, record { disk = inl refl; handed = refl })
 
 pub returns-clause-faultless : goal.returns-clause-faultless
 returns-clause-faultless c = (
-  record { disk = never-rises 0 (omega arith); stores = λ j rose. never-seen j rose; source = never-rises 0 (omega arith); sink = never-rises 0 (omega arith) },
-  record { disk = never-rises 0 (omega arith); stores = λ j rose. never-seen j rose; source = never-rises 0 (omega arith); sink = never-rises 0 (omega arith) },
+  record {
+    disk = never-rises 0 (omega arith);
+    stores = λ j rose. never-seen j rose;
+    source = never-rises 0 (omega arith);
+    sink = never-rises 0 (omega arith);
+  },
+  record {
+    disk = never-rises 0 (omega arith);
+    stores = λ j rose. never-seen j rose;
+    source = never-rises 0 (omega arith);
+    sink = never-rises 0 (omega arith);
+  },
 )

@@ -15,26 +15,42 @@ use Rattle.command_runs.proofs.Meets.{second, none-tell, three-tell, due-file, c
 use Rattle.command_runs.proofs.laws.cut_commands_leave_known_stores.Goals as goal
 
 pub returns-clause-gone : goal.returns-clause-gone
-returns-clause-gone c = c.stores_stay_known.ensures.always (PutUnder named) four_records to_put put_torn put_gone (ends 12) torn refl put-old (record { disk = inr stopped-closed; handed = refl })
+returns-clause-gone c = c.stores_stay_known.ensures.always
+    (PutUnder named) four_records to_put put_torn put_gone (ends 12) torn refl put-old
+    (record { disk = inr stopped-closed; handed = refl })
 
 pub returns-clause-come : goal.returns-clause-come
-returns-clause-come c = c.stores_stay_known.ensures.always (PutUnder named) four_records to_put put_torn put_cut (ends 12) torn refl put-old (record { disk = inr stopped-open; handed = refl })
+returns-clause-come c = c.stores_stay_known.ensures.always
+    (PutUnder named) four_records to_put put_torn put_cut (ends 12) torn refl put-old
+    (record { disk = inr stopped-open; handed = refl })
 
 pub returns-clause-dropped : goal.returns-clause-dropped
-returns-clause-dropped c = c.stores_stay_known.ensures.always (DropOf named) byte_records byte_kept drop_cut drop_cut (ends 12) cut_drop refl stored-sure (record { disk = inl refl; handed = refl })
+returns-clause-dropped c = c.stores_stay_known.ensures.always
+    (DropOf named) byte_records byte_kept drop_cut drop_cut (ends 12) cut_drop refl stored-sure
+    (record { disk = inl refl; handed = refl })
 
 pub returns-clause-put : goal.returns-clause-put
-returns-clause-put c = c.files_stay.ensures.put_in_effect named byte four_records (λ j. false) to_put put_torn put_cut (ends 12) torn put-old refl (record { disk = inr stopped-open; handed = refl }) cut-new.known (λ j l s. none-tell j l)
+returns-clause-put c = c.files_stay.ensures.put_in_effect named byte four_records
+    (λ j. false) to_put put_torn put_cut (ends 12) torn put-old refl
+    (record { disk = inr stopped-open; handed = refl }) cut-new.known (λ j l s. none-tell j l)
 
 pub returns-clause-repair : goal.returns-clause-repair
-returns-clause-repair c = c.files_stay.ensures.repair_in_effect named byte byte_audited_records (record { number = 1; counts = counts }) second due repair_cut repair_cut (ends 12) cut_repair due-sure refl
-    (record { disk = inl refl; handed = refl }) repair_cut-new.known due-file (cut-steady second) (omega arith) (λ j l f. three-tell j l)
+returns-clause-repair c = c.files_stay.ensures.repair_in_effect named byte byte_audited_records
+    (record { number = 1; counts = counts }) second due repair_cut repair_cut
+    (ends 12) cut_repair due-sure refl
+    (record { disk = inl refl; handed = refl }) repair_cut-new.known due-file (cut-steady second)
+    (omega arith) (λ j l f. three-tell j l)
 
 pub returns-clause-audit : goal.returns-clause-audit
-returns-clause-audit c = c.audits_in_effect_count_what_they_heard.ensures byte_records 0 counts damaged audit_cut audit_cut (ends_hearing 12 answers_heard) cut_audit damaged-sure (record { disk = inl refl; handed = refl }) audit_cut-new.known
+returns-clause-audit c =
+    c.audits_in_effect_count_what_they_heard.ensures byte_records 0 counts damaged audit_cut audit_cut
+    (ends_hearing 12 answers_heard) cut_audit damaged-sure
+    (record { disk = inl refl; handed = refl }) audit_cut-new.known
 
 pub returns-clause-images : goal.returns-clause-images
 returns-clause-images c = c.images_stand.ensures.store (PutUnder named) to_put put_torn (ends 12) torn refl
 
 pub returns-clause-failed : goal.returns-clause-failed
-returns-clause-failed c = c.done_commands_leave_known_stores.ensures.failed_put named four_records to_put put_failed (ends 13) failed_put refl put-old.known
+returns-clause-failed c =
+    c.done_commands_leave_known_stores.ensures.failed_put named four_records to_put put_failed
+    (ends 13) failed_put refl put-old.known

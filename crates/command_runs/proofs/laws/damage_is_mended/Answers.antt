@@ -17,15 +17,29 @@ use Rattle.command_runs.proofs.Meets.{first, second, none-tell, three-tell, due-
 use Rattle.command_runs.proofs.laws.damage_is_mended.Goals as goal
 
 pub returns-clause-repaired : goal.returns-clause-repaired
-returns-clause-repaired c = c.put_files_are_got.ensures.repaired named byte byte_audited_records second first (record { number = 1; counts = counts }) due repaired mended got (ends 0) (ends_hearing 0 own_blocks_heard)
-    repair get (record { disk = inl refl; handed = refl }) due-sure.known refl due-file (inl refl) (repair-steady second) (omega arith) (λ j l f. three-tell j l)
-    (λ j f. flagged-second j) (λ j l s. refl) (get-steady first) (omega arith) (never-rises 0 (omega arith)) (never-rises 0 (omega arith))
+returns-clause-repaired c = c.put_files_are_got.ensures.repaired named byte byte_audited_records second first
+    (record { number = 1; counts = counts }) due repaired mended got (ends 0)
+    (ends_hearing 0 own_blocks_heard)
+    repair get (record { disk = inl refl; handed = refl }) due-sure.known refl due-file (inl refl)
+    (repair-steady second) (omega arith) (λ j l f. three-tell j l)
+    (λ j f. flagged-second j) (λ j l s. refl) (get-steady first) (omega arith) (never-rises 0 (omega arith))
+    (never-rises 0 (omega arith))
 
 pub returns-clause-mended : goal.returns-clause-mended
-returns-clause-mended c = (let law = c.put_files_are_got.ensures.mended named byte four_records second to_put byte_stored damaged byte_audited due repaired mended got (ends 0) (ends_hearing 0 answers_heard) (ends 0) (ends_hearing 0 own_blocks_heard)
-    put audit repair get (record { disk = inl refl; handed = refl }) (record { disk = inl refl; handed = refl }) (record { disk = inl refl; handed = refl }) put-old.known refl (inl refl) (inl refl) (inl refl)
+returns-clause-mended c =
+    (let law = c.put_files_are_got.ensures.mended named byte four_records second to_put byte_stored damaged
+    byte_audited due repaired mended got (ends 0) (ends_hearing 0 answers_heard) (ends 0)
+    (ends_hearing 0 own_blocks_heard)
+    put audit repair get (record { disk = inl refl; handed = refl })
+    (record { disk = inl refl; handed = refl }) (record { disk = inl refl; handed = refl }) put-old.known
+    refl (inl refl) (inl refl) (inl refl)
     (λ j l s. none-tell j l) robbed-untouched (λ j l s. refl) (repair-steady second) (omega arith) in
-    law.3 (λ j l f. three-tell j l) second (λ j s. spared (second j) (not (is_flagged 0 law.1 j)) s) (λ j l s. refl) (get-steady second) (omega arith) (never-rises 0 (omega arith)) (never-rises 0 (omega arith)))
+    law.3 (λ j l f. three-tell j l) second (λ j s. spared (second j) (not (is_flagged 0 law.1 j)) s)
+    (λ j l s. refl) (get-steady second) (omega arith) (never-rises 0 (omega arith))
+    (never-rises 0 (omega arith)))
 
 pub returns-clause-dropped : goal.returns-clause-dropped
-returns-clause-dropped c = c.put_files_are_got.ensures.dropped named byte_records byte_kept dropped seen_after_drop seen_after_drop (ends 0) (ends 3) drop gone (record { disk = inl refl; handed = refl }) stored-sure.known (inl refl) (never-rises 0 (omega arith))
+returns-clause-dropped c =
+    c.put_files_are_got.ensures.dropped named byte_records byte_kept dropped seen_after_drop seen_after_drop
+    (ends 0) (ends 3) drop gone (record { disk = inl refl; handed = refl }) stored-sure.known (inl refl)
+    (never-rises 0 (omega arith))

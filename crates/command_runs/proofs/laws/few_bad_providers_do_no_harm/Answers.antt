@@ -12,9 +12,11 @@ use Rattle.command_runs.proofs.laws.few_bad_providers_do_no_harm.Goals as goal
 
 pub returns-clause-rewritten : goal.returns-clause-rewritten
 returns-clause-rewritten c = c.repairs_write_anew.ensures.right named byte byte_audited_records
-    (record { name = named; id = 1; size = 1; profile = 0 }) (record { number = 1; counts = counts }) 2 due repaired (ends 0)
+    (record { name = named; id = 1; size = 1; profile = 0 })
+    (record { number = 1; counts = counts }) 2 due repaired (ends 0)
     repair due-sure.known (inl refl) refl refl refl few-bad (omega arith) refl
 
 pub returns-clause-complete : goal.returns-clause-complete
-returns-clause-complete c = c.gets_tell_what_stands.ensures.complete named byte byte_repaired_records (λ j. false) mended got (ends_hearing 0 own_blocks_heard) get mended-sure.known mended-file
+returns-clause-complete c = c.gets_tell_what_stands.ensures.complete named byte byte_repaired_records
+    (λ j. false) mended got (ends_hearing 0 own_blocks_heard) get mended-sure.known mended-file
     (get-steady (λ j. false)) (omega arith) (never-rises 0 (omega arith)) (never-rises 0 (omega arith))

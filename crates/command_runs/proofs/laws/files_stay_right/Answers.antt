@@ -16,18 +16,34 @@ use Rattle.command_runs.proofs.Meets.{second, none-tell, three-tell, due-file, d
 use Rattle.command_runs.proofs.laws.files_stay_right.Goals as goal
 
 pub returns-clause-put : goal.returns-clause-put
-returns-clause-put c = c.files_stay.ensures.put named byte four_records (λ j. false) to_put byte_stored (ends 0) put (inl refl) put-old.known refl (λ j l s. none-tell j l)
+returns-clause-put c = c.files_stay.ensures.put named byte four_records (λ j. false) to_put byte_stored
+    (ends 0) put (inl refl) put-old.known refl (λ j l s. none-tell j l)
 
 pub returns-clause-audit : goal.returns-clause-audit
-returns-clause-audit c = c.files_stay.ensures.reads AuditAll named byte byte_records byte_audited_records second damaged byte_audited (ends_hearing 0 answers_heard) audit refl damaged-file
-    (inr (record { kind = AuditJob; of_command = refl; own = audit_records byte_records 0 counts; are_own = (0, counts, refl); count = 2; after_is = refl }))
+returns-clause-audit c =
+    c.files_stay.ensures.reads AuditAll named byte byte_records byte_audited_records second damaged
+    byte_audited (ends_hearing 0 answers_heard) audit refl damaged-file
+    (inr (record {
+      kind = AuditJob;
+      of_command = refl;
+      own = audit_records byte_records 0 counts;
+      are_own = (0, counts, refl);
+      count = 2;
+      after_is = refl;
+    }))
 
 pub returns-clause-other : goal.returns-clause-other
-returns-clause-other c = c.files_stay.ensures.others (PutUnder other_name) named byte byte_records both_records (λ j. false) to_put_other stored_other (ends 0) other_put
+returns-clause-other c = c.files_stay.ensures.others
+    (PutUnder other_name) named byte byte_records both_records (λ j. false) to_put_other stored_other
+    (ends 0) other_put
     other-name to_put_other-sure.known kept-file
     (inr (record {
       kind = PutJob other_name byte;
-      of_command = (byte, record { are_bytes = refl; front = refl; few = omega arith; end = λ l. refl }, refl);
+      of_command = (
+        byte,
+        record { are_bytes = refl; front = refl; few = omega arith; end = λ l. refl },
+        refl,
+      );
       own = put_records byte_records other_name 1;
       are_own = refl;
       count = 2;
@@ -35,8 +51,13 @@ returns-clause-other c = c.files_stay.ensures.others (PutUnder other_name) named
     }))
 
 pub returns-clause-repair : goal.returns-clause-repair
-returns-clause-repair c = c.files_stay.ensures.repair named byte byte_audited_records (record { number = 1; counts = counts }) second due repaired (ends 0) repair (inl refl) due-sure.known refl due-file
+returns-clause-repair c = c.files_stay.ensures.repair named byte byte_audited_records
+    (record { number = 1; counts = counts }) second due repaired (ends 0) repair
+    (inl refl) due-sure.known refl due-file
     (repair-steady second) (omega arith) (λ j l f. three-tell j l)
 
 pub returns-clause-heard : goal.returns-clause-heard
-returns-clause-heard c = c.audits_in_effect_count_what_they_heard.ensures byte_records 0 counts damaged byte_audited byte_audited (ends_hearing 0 answers_heard) audit damaged-sure (record { disk = inl refl; handed = refl }) audited-new.known
+returns-clause-heard c =
+    c.audits_in_effect_count_what_they_heard.ensures byte_records 0 counts damaged byte_audited byte_audited
+    (ends_hearing 0 answers_heard) audit damaged-sure
+    (record { disk = inl refl; handed = refl }) audited-new.known

@@ -15,22 +15,28 @@ pub returns-clause-put : goal.returns-clause-put
 returns-clause-put c = c.puts_store_the_source.ensures.done named to_put byte_stored (ends 0) put (inl refl)
 
 pub returns-clause-drop : goal.returns-clause-drop
-returns-clause-drop c = c.drops_take_the_file_away.ensures.done named byte_kept dropped (ends 0) drop (inl refl)
+returns-clause-drop c =
+    c.drops_take_the_file_away.ensures.done named byte_kept dropped (ends 0) drop (inl refl)
 
 pub returns-clause-audit : goal.returns-clause-audit
-returns-clause-audit c = c.audits_count_what_they_hear.ensures.done damaged byte_audited (ends_hearing 0 answers_heard) audit (inl refl)
+returns-clause-audit c = c.audits_count_what_they_hear.ensures.done damaged byte_audited
+    (ends_hearing 0 answers_heard) audit (inl refl)
 
 pub returns-clause-repair : goal.returns-clause-repair
 returns-clause-repair c = c.repairs_write_anew.ensures.done due repaired (ends 0) repair (inl refl)
 
 pub returns-clause-failed_put : goal.returns-clause-failed_put
-returns-clause-failed_put c = c.failed_stores_leave.ensures.put named to_put put_failed (ends 13) failed_put refl
+returns-clause-failed_put c =
+    c.failed_stores_leave.ensures.put named to_put put_failed (ends 13) failed_put refl
 
 pub returns-clause-failed_repair : goal.returns-clause-failed_repair
-returns-clause-failed_repair c = c.failed_stores_leave.ensures.repair due repair_failed (ends_at 13 2) failed_repair refl
+returns-clause-failed_repair c =
+    c.failed_stores_leave.ensures.repair due repair_failed (ends_at 13 2) failed_repair refl
 
 pub returns-clause-lost_file : goal.returns-clause-lost_file
-returns-clause-lost_file c = c.lost_rows_are_told.ensures.get named all_lost found_lost (ends_hearing 4 no_blocks) lost_get refl
+returns-clause-lost_file c =
+    c.lost_rows_are_told.ensures.get named all_lost found_lost (ends_hearing 4 no_blocks) lost_get refl
 
 pub returns-clause-lost_repair : goal.returns-clause-lost_repair
-returns-clause-lost_repair c = c.lost_rows_are_told.ensures.repair due_lost repair_lost (ends 4) lost_repair refl
+returns-clause-lost_repair c =
+    c.lost_rows_are_told.ensures.repair due_lost repair_lost (ends 4) lost_repair refl

@@ -21,37 +21,61 @@ use Rattle.command_runs.proofs.DoneUpgrade.{alone as upgrade_alone}
 use Rattle.command_runs.proofs.laws.jobs_run_alone.Goals as goal
 
 pub returns-clause-put : goal.returns-clause-put
-returns-clause-put c = somewhere c.opened_states.ensures.opened c.opened_states.ensures.there_is_one four_records (PutJob named byte) (Put) to_put byte_stored [] put-old put_alone
+returns-clause-put c =
+    somewhere c.opened_states.ensures.opened c.opened_states.ensures.there_is_one four_records
+    (PutJob named byte) (Put) to_put byte_stored [] put-old put_alone
 
 pub returns-clause-failed_put : goal.returns-clause-failed_put
-returns-clause-failed_put c = somewhere c.opened_states.ensures.opened c.opened_states.ensures.there_is_one four_records (PutJob named byte) (ProviderFault 0) to_put put_failed [] put-old failed_put_alone
+returns-clause-failed_put c =
+    somewhere c.opened_states.ensures.opened c.opened_states.ensures.there_is_one four_records
+    (PutJob named byte) (ProviderFault 0) to_put put_failed [] put-old failed_put_alone
 
 pub returns-clause-cut_put : goal.returns-clause-cut_put
-returns-clause-cut_put c = somewhere c.opened_states.ensures.opened c.opened_states.ensures.there_is_one four_records (PutJob named byte) (DiskFault) to_put put_cut [] put-old cut_put_alone
+returns-clause-cut_put c =
+    somewhere c.opened_states.ensures.opened c.opened_states.ensures.there_is_one four_records
+    (PutJob named byte) (DiskFault) to_put put_cut [] put-old cut_put_alone
 
 pub returns-clause-unmade_put : goal.returns-clause-unmade_put
-returns-clause-unmade_put c = somewhere c.opened_states.ensures.opened c.opened_states.ensures.there_is_one four_records (PutJob named byte) (Memory) to_put put_unmade [] put-old unmade_put_alone
+returns-clause-unmade_put c =
+    somewhere c.opened_states.ensures.opened c.opened_states.ensures.there_is_one four_records
+    (PutJob named byte) (Memory) to_put put_unmade [] put-old unmade_put_alone
 
 pub returns-clause-drop : goal.returns-clause-drop
-returns-clause-drop c = somewhere c.opened_states.ensures.opened c.opened_states.ensures.there_is_one byte_records (DropJob named) (Dropped) byte_kept dropped [] stored-sure drop_alone
+returns-clause-drop c =
+    somewhere c.opened_states.ensures.opened c.opened_states.ensures.there_is_one byte_records (DropJob named)
+    (Dropped) byte_kept dropped [] stored-sure drop_alone
 
 pub returns-clause-get : goal.returns-clause-get
-returns-clause-get c = somewhere c.opened_states.ensures.opened c.opened_states.ensures.there_is_one byte_repaired_records (GetJob named) (Got byte) mended got own_blocks_heard mended-sure get_alone
+returns-clause-get c =
+    somewhere c.opened_states.ensures.opened c.opened_states.ensures.there_is_one byte_repaired_records
+    (GetJob named) (Got byte) mended got own_blocks_heard mended-sure get_alone
 
 pub returns-clause-lost_get : goal.returns-clause-lost_get
-returns-clause-lost_get c = somewhere c.opened_states.ensures.opened c.opened_states.ensures.there_is_one byte_records (GetJob named) (Lost 0 0) all_lost found_lost no_blocks robbed-old lost_get_alone
+returns-clause-lost_get c =
+    somewhere c.opened_states.ensures.opened c.opened_states.ensures.there_is_one byte_records (GetJob named)
+    (Lost 0 0) all_lost found_lost no_blocks robbed-old lost_get_alone
 
 pub returns-clause-audit : goal.returns-clause-audit
-returns-clause-audit c = somewhere c.opened_states.ensures.opened c.opened_states.ensures.there_is_one byte_records (AuditJob) (Audited 1 0 counts) damaged byte_audited answers_heard damaged-sure audit_alone
+returns-clause-audit c =
+    somewhere c.opened_states.ensures.opened c.opened_states.ensures.there_is_one byte_records (AuditJob)
+    (Audited 1 0 counts) damaged byte_audited answers_heard damaged-sure audit_alone
 
 pub returns-clause-repair : goal.returns-clause-repair
-returns-clause-repair c = somewhere c.opened_states.ensures.opened c.opened_states.ensures.there_is_one byte_audited_records (RepairJob) (Repaired 1) due repaired [] due-sure repair_alone
+returns-clause-repair c =
+    somewhere c.opened_states.ensures.opened c.opened_states.ensures.there_is_one byte_audited_records
+    (RepairJob) (Repaired 1) due repaired [] due-sure repair_alone
 
 pub returns-clause-lost_repair : goal.returns-clause-lost_repair
-returns-clause-lost_repair c = somewhere c.opened_states.ensures.opened c.opened_states.ensures.there_is_one byte_audited_records (RepairJob) (Lost 0 0) due_lost repair_lost [] robbed_due-old lost_repair_alone
+returns-clause-lost_repair c =
+    somewhere c.opened_states.ensures.opened c.opened_states.ensures.there_is_one byte_audited_records
+    (RepairJob) (Lost 0 0) due_lost repair_lost [] robbed_due-old lost_repair_alone
 
 pub returns-clause-failed_repair : goal.returns-clause-failed_repair
-returns-clause-failed_repair c = somewhere c.opened_states.ensures.opened c.opened_states.ensures.there_is_one byte_audited_records (RepairJob) (ProviderFault 2) due repair_failed [] due-sure failed_repair_alone
+returns-clause-failed_repair c =
+    somewhere c.opened_states.ensures.opened c.opened_states.ensures.there_is_one byte_audited_records
+    (RepairJob) (ProviderFault 2) due repair_failed [] due-sure failed_repair_alone
 
 pub returns-clause-upgrade : goal.returns-clause-upgrade
-returns-clause-upgrade c = somewhere-opened c.opened_states.ensures.opened c.opened_states.ensures.there_is_one four_records (UpgradeJob) (Upgraded) all_hidden all_hidden [] hidden-fresh upgrade_alone
+returns-clause-upgrade c =
+    somewhere-opened c.opened_states.ensures.opened c.opened_states.ensures.there_is_one four_records
+    (UpgradeJob) (Upgraded) all_hidden all_hidden [] hidden-fresh upgrade_alone

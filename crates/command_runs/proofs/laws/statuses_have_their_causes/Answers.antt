@@ -17,40 +17,55 @@ use Rattle.command_runs.proofs.Meets.{none-rises}
 use Rattle.command_runs.proofs.laws.statuses_have_their_causes.Goals as goal
 
 pub returns-clause-disk : goal.returns-clause-disk
-returns-clause-disk c = c.faults_have_causes.ensures.store ListAll byte_kept (disk_failed byte_kept) (ends 12) disk-fault refl
+returns-clause-disk c =
+    c.faults_have_causes.ensures.store ListAll byte_kept (disk_failed byte_kept) (ends 12) disk-fault refl
 
 pub returns-clause-provider : goal.returns-clause-provider
-returns-clause-provider c = c.faults_have_causes.ensures.store (PutUnder named) to_put put_failed (ends 13) failed_put refl
+returns-clause-provider c =
+    c.faults_have_causes.ensures.store (PutUnder named) to_put put_failed (ends 13) failed_put refl
 
 pub returns-clause-source : goal.returns-clause-source
-returns-clause-source c = c.faults_have_causes.ensures.store (PutUnder named) to_put (record to_put { source_faults = 1 }) (ends 14) source-fault refl
+returns-clause-source c = c.faults_have_causes.ensures.store (PutUnder named) to_put
+    (record to_put { source_faults = 1 }) (ends 14) source-fault refl
 
 pub returns-clause-sink : goal.returns-clause-sink
-returns-clause-sink c = c.faults_have_causes.ensures.store ListAll byte_kept (record byte_kept { sink_faults = 1 }) (ends 15) sink-fault refl
+returns-clause-sink c = c.faults_have_causes.ensures.store ListAll byte_kept
+    (record byte_kept { sink_faults = 1 }) (ends 15) sink-fault refl
 
 pub returns-clause-bad_journal : goal.returns-clause-bad_journal
-returns-clause-bad_journal c = c.unopened_stores_are_told.ensures.bad_journal_only ListAll (firm (replicate 12 0)) scrambled scrambled (ends 8) bad-journal refl refl refl
+returns-clause-bad_journal c = c.unopened_stores_are_told.ensures.bad_journal_only ListAll
+    (firm (replicate 12 0)) scrambled scrambled (ends 8) bad-journal refl refl refl
 
 pub returns-clause-repair_due : goal.returns-clause-repair_due
-returns-clause-repair_due c = c.refusals_are_exact.ensures.known_only AuditJob byte_audited_records due due (ends 6) refusal.RepairDue repair-due.0 due-sure.known (λ e. omega (arith, e)) refl
+returns-clause-repair_due c = c.refusals_are_exact.ensures.known_only AuditJob byte_audited_records due due
+    (ends 6) refusal.RepairDue repair-due.0 due-sure.known (λ e. omega (arith, e)) refl
 
 pub returns-clause-nothing_due : goal.returns-clause-nothing_due
-returns-clause-nothing_due c = c.refusals_are_exact.ensures.known_only RepairJob byte_records byte_kept byte_kept (ends 7) refusal.NothingDue nothing-due.0 stored-sure.known (λ e. omega (arith, e)) refl
+returns-clause-nothing_due c =
+    c.refusals_are_exact.ensures.known_only RepairJob byte_records byte_kept byte_kept
+    (ends 7) refusal.NothingDue nothing-due.0 stored-sure.known (λ e. omega (arith, e)) refl
 
 pub returns-clause-row : goal.returns-clause-row
-returns-clause-row c = c.rows_have_causes.ensures.lost_only 4 1 1 (None ∷ None ∷ Some 7 ∷ Some 9 ∷ []) byte_kept (with_sink byte_kept no_row_line) (ends 4) lost-row refl
+returns-clause-row c = c.rows_have_causes.ensures.lost_only 4 1 1
+    (None ∷ None ∷ Some 7 ∷ Some 9 ∷ []) byte_kept (with_sink byte_kept no_row_line) (ends 4) lost-row refl
 
 pub returns-clause-hidden_get : goal.returns-clause-hidden_get
-returns-clause-hidden_get c = c.gets_give_the_file.ensures.ends other_name all_hidden all_hidden (ends 3) hidden-get (never-rises 0 (omega arith)) (never-rises 0 (omega arith))
+returns-clause-hidden_get c = c.gets_give_the_file.ensures.ends other_name all_hidden all_hidden
+    (ends 3) hidden-get (never-rises 0 (omega arith)) (never-rises 0 (omega arith))
 
 pub returns-clause-hidden_list : goal.returns-clause-hidden_list
-returns-clause-hidden_list c = c.lists_give_the_files.ensures.ends all_hidden all_hidden (ends 0) hidden-list (never-rises 0 (omega arith))
+returns-clause-hidden_list c = c.lists_give_the_files.ensures.ends all_hidden all_hidden (ends 0) hidden-list
+    (never-rises 0 (omega arith))
 
 pub returns-clause-hidden_put : goal.returns-clause-hidden_put
-returns-clause-hidden_put c = c.puts_store_the_source.ensures.ends named all_hidden all_hidden (ends 0) hidden_put (never-rises 0 (omega arith)) none-rises (never-rises 0 (omega arith)) (never-rises 0 (omega arith))
+returns-clause-hidden_put c = c.puts_store_the_source.ensures.ends named all_hidden all_hidden
+    (ends 0) hidden_put (never-rises 0 (omega arith)) none-rises (never-rises 0 (omega arith))
+    (never-rises 0 (omega arith))
 
 pub returns-clause-hidden_lost : goal.returns-clause-hidden_lost
-returns-clause-hidden_lost c = c.gets_give_the_file.ensures.ends named all_hidden hidden_fetched (ends_hearing 4 no_blocks) hidden_get (never-rises 0 (omega arith)) (never-rises 0 (omega arith))
+returns-clause-hidden_lost c = c.gets_give_the_file.ensures.ends named all_hidden hidden_fetched
+    (ends_hearing 4 no_blocks) hidden_get (never-rises 0 (omega arith)) (never-rises 0 (omega arith))
 
 pub returns-clause-hidden_repair : goal.returns-clause-hidden_repair
-returns-clause-hidden_repair c = c.repairs_write_anew.ensures.ends all_hidden all_hidden (ends 7) hidden-repair (never-rises 0 (omega arith)) none-rises (never-rises 0 (omega arith))
+returns-clause-hidden_repair c = c.repairs_write_anew.ensures.ends all_hidden all_hidden
+    (ends 7) hidden-repair (never-rises 0 (omega arith)) none-rises (never-rises 0 (omega arith))

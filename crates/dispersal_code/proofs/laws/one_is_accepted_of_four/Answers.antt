@@ -19,4 +19,5 @@ pub returns-clause-decoded : goal.returns-clause-decoded
 returns-clause-decoded c = worked_decodes
 
 pub returns-clause-few : goal.returns-clause-few
-returns-clause-few c = few_present 4 1 1 (0 ∷ 1 ∷ 2 ∷ 3 ∷ []) (None ∷ None ∷ Some 1 ∷ Some 1 ∷ []) refl (omega (arith, two))
+returns-clause-few c =
+    few_present 4 1 1 (0 ∷ 1 ∷ 2 ∷ 3 ∷ []) (None ∷ None ∷ Some 1 ∷ Some 1 ∷ []) refl (omega (arith, two))

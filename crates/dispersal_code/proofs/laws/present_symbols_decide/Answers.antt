@@ -5,7 +5,10 @@ pub returns-clause-room : goal.returns-clause-room
 returns-clause-room c = enough_present
 
 pub returns-clause-decided : goal.returns-clause-decided
-returns-clause-decided c n l b points seen p shape even whole many = (decodes_present n l b points seen shape even whole many p, present_accepts n l b points seen shape even whole many p)
+returns-clause-decided c n l b points seen p shape even whole many = (
+  decodes_present n l b points seen shape even whole many p,
+  present_accepts n l b points seen shape even whole many p,
+)
 
 pub returns-clause-few : goal.returns-clause-few
 returns-clause-few c n l b points seen = few_present n b l points seen

@@ -10,6 +10,8 @@ returns c = (
   outright,
   scrub_calm,
   mark_is,
-  c.finished_scrubs_are_marks.ensures.marks 8 set_up moments outright.clean (λ j. refl) outright.run scrub_calm,
-  c.finished_scrubs_are_marks.ensures.half 8 set_up moments outright.clean (λ j. refl) outright.run scrub_calm,
+  c.finished_scrubs_are_marks.ensures.marks 8 set_up moments outright.clean
+      (λ j. refl) outright.run scrub_calm,
+  c.finished_scrubs_are_marks.ensures.half 8 set_up moments outright.clean
+      (λ j. refl) outright.run scrub_calm,
 )

@@ -9,11 +9,17 @@ use Rattle.fault_run.proofs.Parts.{run_to}
 use Rattle.fault_run.proofs.laws.puts_survive_faults.Goals as goal
 
 pub returns-clause-in_doubt : goal.returns-clause-in_doubt
-returns-clause-in_doubt c = λ ms f h. (let d = h.cut_in_doubt in let law = c.done_puts_are_whole.ensures.in_doubt 8 set_up (first_moments 37 ms) d.doubt 1 3 0 0 f.clean (first_run 8 set_up 37 ms f.run) d.in_doubt d.entry_is (λ first. h.cut_profile) in
+returns-clause-in_doubt c =
+    λ ms f h. (let d = h.cut_in_doubt in
+    let law = c.done_puts_are_whole.ensures.in_doubt 8 set_up
+    (first_moments 37 ms) d.doubt 1 3 0 0 f.clean (first_run 8 set_up 37 ms f.run) d.in_doubt d.entry_is
+    (λ first. h.cut_profile) in
     (law.0, law.2))
 
 pub returns-clause-settled : goal.returns-clause-settled
-returns-clause-settled c = λ ms f h. c.done_puts_are_whole.ensures.came 8 set_up h.stop (first_moments 37 ms) 1 3 0 0 f.clean (run_to ms 37 h.stop f.run h.stopped) h.cut_settled (λ first. h.cut_profile)
+returns-clause-settled c = λ ms f h. c.done_puts_are_whole.ensures.came 8 set_up h.stop
+    (first_moments 37 ms) 1 3 0 0 f.clean (run_to ms 37 h.stop f.run h.stopped) h.cut_settled
+    (λ first. h.cut_profile)
 
 pub returns-clause-first : goal.returns-clause-first
 returns-clause-first c = λ ms f h.

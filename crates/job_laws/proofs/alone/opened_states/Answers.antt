@@ -5,4 +5,5 @@ pub returns-clause-opened : goal.returns-clause-opened
 returns-clause-opened c = over-opened
 
 pub returns-clause-there_is_one : goal.returns-clause-there_is_one
-returns-clause-there_is_one c records faults providers accepted = (opened_state records faults providers, state-over records faults providers accepted)
+returns-clause-there_is_one c records faults providers accepted =
+    (opened_state records faults providers, state-over records faults providers accepted)

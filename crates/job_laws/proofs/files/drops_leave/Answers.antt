@@ -6,4 +6,6 @@ use Rattle.job_laws.proofs.files.drops_leave.Goals as goal
 
 pub returns : goal.returns
 returns c w new moment name answer heard O spelled r =
-    (let f = drop-has 8 w name r.begins.1 in drop-leaves w new name answer heard O (job-ends w new moment (DropJob name) answer heard O spelled r) f.0 f.1)
+    (let f = drop-has 8 w name r.begins.1 in
+    drop-leaves w new name answer heard O (job-ends w new moment (DropJob name) answer heard O spelled r)
+    f.0 f.1)

@@ -11,16 +11,19 @@ pub returns-clause-complete : goal.returns-clause-complete
 unfolding setup_in
 returns-clause-complete c w new moment name bytes answer heard file O spelled r in_effect fits size few =
     get-complete (ran_from w new heard) name bytes file (shape-of w new heard O) in_effect fits size answer
-    (all-leaves w new name answer heard O (job-ends w new moment (GetJob name) answer heard O spelled r)).by_kind few
+    (all-leaves w new name answer heard O
+    (job-ends w new moment (GetJob name) answer heard O spelled r)).by_kind few
 
 pub returns-clause-right : goal.returns-clause-right
 unfolding setup_in
 returns-clause-right c w new moment name bytes got heard file O spelled r in_effect fits size few =
     get-right (ran_from w new heard) name bytes file (shape-of w new heard O) in_effect fits size got
-    (all-leaves w new name (Got got) heard O (job-ends w new moment (GetJob name) (Got got) heard O spelled r)).by_kind few
+    (all-leaves w new name (Got got) heard O
+    (job-ends w new moment (GetJob name) (Got got) heard O spelled r)).by_kind few
 
 pub returns-clause-forged : goal.returns-clause-forged
 unfolding setup_in
 returns-clause-forged c w new moment name bytes got heard file O spelled r in_effect fits size =
     get-forged (ran_from w new heard) name bytes file (shape-of w new heard O) in_effect fits size got
-    (all-leaves w new name (Got got) heard O (job-ends w new moment (GetJob name) (Got got) heard O spelled r)).by_kind
+    (all-leaves w new name (Got got) heard O
+    (job-ends w new moment (GetJob name) (Got got) heard O spelled r)).by_kind

@@ -9,4 +9,6 @@ use Rattle.job_laws.proofs.files.puts_end_well.Goals as goal
 pub returns : goal.returns
 unfolding setup_in
 returns c w new moment name bytes answer heard O spelled r disk stores =
-    put-end (ran_from w new heard) name bytes answer (put-leaves w new name bytes answer heard O (job-ends w new moment (PutJob name bytes) answer heard O spelled r)).by_kind.0 disk stores
+    put-end (ran_from w new heard) name bytes answer
+    (put-leaves w new name bytes answer heard O
+    (job-ends w new moment (PutJob name bytes) answer heard O spelled r)).by_kind.0 disk stores

@@ -4,4 +4,6 @@ use Rattle.job_laws.proofs.Puts.{put-leaves}
 use Rattle.job_laws.proofs.files.puts_leave.Goals as goal
 
 pub returns : goal.returns
-returns c w new moment name bytes answer heard O spelled r = put-leaves w new name bytes answer heard O (job-ends w new moment (PutJob name bytes) answer heard O spelled r)
+returns c w new moment name bytes answer heard O spelled r =
+    put-leaves w new name bytes answer heard O
+    (job-ends w new moment (PutJob name bytes) answer heard O spelled r)

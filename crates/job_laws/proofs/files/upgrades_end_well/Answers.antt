@@ -6,4 +6,6 @@ use Rattle.job_laws.proofs.Complete.{upgrade-end}
 use Rattle.job_laws.proofs.files.upgrades_end_well.Goals as goal
 
 pub returns : goal.returns
-returns c w new moment answer heard O r disk = upgrade-end (ran_from w new heard) answer (upgrade-leaves w new answer heard O (job-ends w new moment UpgradeJob answer heard O tt r)).by_kind.0 disk
+returns c w new moment answer heard O r disk = upgrade-end (ran_from w new heard) answer
+    (upgrade-leaves w new answer heard O (job-ends w new moment UpgradeJob answer heard O tt r)).by_kind.0
+    disk

@@ -8,15 +8,18 @@ use Rattle.machine_defs.proofs.Reports.{stays}
 use Rattle.machine_defs.proofs.laws.reports_have_what_jobs_heard.Goals as goal
 
 -- entries that give a job the same hold the same forgeries
-same_forgery : (o : Object) (bytes : List ℕ) (k : ℕ) (xs ys : List Entry) → given_to k xs ≡ given_to k ys → HoldsForgery o bytes k xs → HoldsForgery o bytes k ys
+same_forgery : (o : Object) (bytes : List ℕ) (k : ℕ) (xs ys : List Entry) → given_to k xs ≡ given_to k ys →
+    HoldsForgery o bytes k xs → HoldsForgery o bytes k ys
 same_forgery o bytes k xs ys same h = record {
   stripe = h.stripe;
   place = h.place;
-  forgery = subst (λ (g : List Given). IsForgery o bytes (blocks_given g o.shape.n o.id) h.stripe h.place) same h.forgery;
+  forgery = subst (λ (g : List Given). IsForgery o bytes (blocks_given g o.shape.n o.id) h.stripe h.place)
+      same h.forgery;
 }
 
 pub returns-clause-given : goal.returns-clause-given
-returns-clause-given c limit start later ms m job clean run ends none = (stays limit start clean job later m ms run ends none).1
+returns-clause-given c limit start later ms m job clean run ends none =
+    (stays limit start clean job later m ms run ends none).1
 
 pub returns-clause-forgeries : goal.returns-clause-forgeries
 returns-clause-forgeries c limit start later ms m job o bytes clean run ends none =

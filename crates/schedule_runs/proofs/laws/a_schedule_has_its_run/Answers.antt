@@ -22,17 +22,25 @@ pub returns-clause-bad_line : goal.returns-clause-bad_line
 returns-clause-bad_line c = first-bad
 
 pub returns-clause-run : goal.returns-clause-run
-returns-clause-run c = (stopped_moments, is_stopped, c.runs_leave_devices.ensures.each set_up stopped_moments is_stopped.clean is_stopped.run refl)
+returns-clause-run c = (
+  stopped_moments,
+  is_stopped,
+  c.runs_leave_devices.ensures.each set_up stopped_moments is_stopped.clean is_stopped.run refl,
+)
 
 pub returns-clause-used : goal.returns-clause-used
 returns-clause-used c = (
   stopped_moments,
   is_stopped,
   λ old new end is keeps.
-      keeps-file c.acknowledged_files_survive.ensures set_up after_put (first_moments 13 stopped_moments) (last_of (first_moments 14 stopped_moments)) name
-      (record { name = name; id = 1; size = 1; profile = 0 }) old new end is_stopped.clean (record { version = 1; done = refl; profiled = λ second. refl; started = refl; named = refl }) (never_by_test name after_put refl) (λ d e. cc)
+      keeps-file c.acknowledged_files_survive.ensures set_up after_put (first_moments 13 stopped_moments)
+      (last_of (first_moments 14 stopped_moments)) name
+      (record { name = name; id = 1; size = 1; profile = 0 }) old new end is_stopped.clean
+      (record { version = 1; done = refl; profiled = λ second. refl; started = refl; named = refl })
+      (never_by_test name after_put refl) (λ d e. cc)
       (goes-on set_up stopped_moments (devices_left (now set_up stopped_moments)) old new end
-      (c.runs_leave_devices.ensures.each set_up stopped_moments is_stopped.clean is_stopped.run refl) refl is keeps),
+      (c.runs_leave_devices.ensures.each set_up stopped_moments is_stopped.clean is_stopped.run refl) refl is
+      keeps),
 )
   where
     after_put : List Moment

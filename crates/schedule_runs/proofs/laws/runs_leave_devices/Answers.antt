@@ -10,16 +10,23 @@ use Rattle.schedule_runs.proofs.laws.runs_leave_devices.Goals as goal
 
 pub returns-clause-each : goal.returns-clause-each
 returns-clause-each c = λ start ms starts run first.
-    record { starts = starts; run = run; devices = devices-of (now start ms) (c.runs_are_sound.ensures 8 start ms (omega arith, omega arith) starts run) first }
+    record {
+      starts = starts;
+      run = run;
+      devices = devices-of (now start ms)
+          (c.runs_are_sound.ensures 8 start ms (omega arith, omega arith) starts run) first;
+    }
 
 pub returns-clause-tell : goal.returns-clause-tell
 returns-clause-tell c = λ start ms. refl
 
 pub returns-clause-fresh : goal.returns-clause-fresh
-returns-clause-fresh c = (let at = c.a_fresh_disk_has_a_start.ensures.start in record { starts = at.0; run = tt; devices = at.1 })
+returns-clause-fresh c =
+    (let at = c.a_fresh_disk_has_a_start.ensures.start in record { starts = at.0; run = tt; devices = at.1 })
 
 pub returns-clause-damaged : goal.returns-clause-damaged
-returns-clause-damaged c = (damage, outright, returns-clause-each c set_up damage outright.clean outright.run refl)
+returns-clause-damaged c =
+    (damage, outright, returns-clause-each c set_up damage outright.clean outright.run refl)
 
 pub returns-clause-faulty : goal.returns-clause-faulty
 returns-clause-faulty c = (faults, faulty, returns-clause-each c set_up faults faulty.clean faulty.run refl)

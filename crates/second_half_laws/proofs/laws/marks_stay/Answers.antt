@@ -5,4 +5,5 @@ pub returns-clause-before_puts : goal.returns-clause-before_puts
 returns-clause-before_puts c = before_stays
 
 pub returns-clause-marks : goal.returns-clause-marks
-returns-clause-marks c limit mark start m ms from h scrubs run P = mark_stays limit mark start m ms h scrubs run from P
+returns-clause-marks c limit mark start m ms from h scrubs run P =
+    mark_stays limit mark start m ms h scrubs run from P

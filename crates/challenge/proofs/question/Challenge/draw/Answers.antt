@@ -15,8 +15,10 @@ invariant_of-result c =
     record {
       weight_is =
           c.weight_of-weight.ensures
-          ∙ ap (λ x. if x == 0 then 1 else x) (c.next_symbol.ensures.value ∙ ap next_symbol c.from_seed-rng.ensures)
+          ∙ ap (λ x. if x == 0 then 1 else x) (c.next_symbol.ensures.value
+          ∙ ap next_symbol c.from_seed-rng.ensures)
           ∙ weight_drawn seed;
       rows_are = drawn;
-      rows_within = λ k less. subst (λ (r : ℕ). r < rows) (sym (drawn k less)) (row_below seed rows k c.args.self.now.some_rows);
+      rows_within = λ k less. subst (λ (r : ℕ). r < rows) (sym (drawn k less))
+          (row_below seed rows k c.args.self.now.some_rows);
     }

@@ -5,4 +5,6 @@ use Rattle.file_layout.proofs.file.FileShape.symbol_at.Goals as goal
 
 pub returns : goal.returns
 unfolding symbol_of
-returns c = c.first_symbol.ensures ∙ rest-value c.args.bytes.now c.from.result c.args.number c.min-start.result c.from.ensures c.min-start.ensures
+returns c = c.first_symbol.ensures
+    ∙ rest-value c.args.bytes.now c.from.result c.args.number c.min-start.result c.from.ensures
+    c.min-start.ensures
