@@ -6,8 +6,9 @@ use Rattle.std.proofs.lemmas.Bool.{false≢true}
 use Rattle.std.proofs.lemmas.Option.{slice_get-get_or}
 use Rattle.algebra_laws.proofs.Lists.{get-set_same}
 use Rattle.device_defs.specs.Faults.{one_more}
+use Rattle.machine_defs.specs.Actions.{Action}
 use Rattle.vault_core.specs.declared.action.Action.{Action as ActionValue}
-use Rattle.vault_core.specs.Coming.{Acts, seen_action, calls_disk, called_provider}
+use Rattle.vault_core.specs.Coming.{Coming, Acts, IsNoJob, seen_action, calls_disk, called_provider}
 use Rattle.vault.specs.Calls.{CalledOnce}
 
 -- it was called once, by its count of calls
@@ -48,3 +49,19 @@ no_provider a b j same none some =
     let e : None ≡ Some j =
     sym none ∙ sym (ap (λ (x : ActionValue). called_provider (Acts (seen_action x))) same) ∙ some in
     cc
+
+-- ---- where no action comes next
+
+-- no disk is called
+pub calls-none : {X : Type 0} (a b : Coming) → a ≡ b → calls_disk a ≡ false → calls_disk b ≡ true → X
+calls-none a b same none calls = absurd (false≢true (sym none ∙ ap calls_disk same ∙ calls))
+
+-- and no provider
+pub called-none : (a b : Coming) (j : ℕ) → a ≡ b → called_provider a ≡ None → called_provider b ≡ Some j → ⊥
+called-none a b j same none some =
+    let e : None ≡ Some j = sym none ∙ ap called_provider same ∙ some in
+    cc
+
+-- and an action is not the want of a job
+pub acts-none : (a : Action) → Acts a ≡ IsNoJob → ⊥
+acts-none a e = cc

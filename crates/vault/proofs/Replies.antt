@@ -11,7 +11,7 @@ use Rattle.vault.specs.declared.turn.Answer.{Answer}
 use Rattle.vault.specs.declared.turn.Turn.{Turn}
 use Rattle.vault.specs.declared.turn.Turn.TheVariants as turn
 use Rattle.vault.specs.Movers.{ComesMove}
-use Rattle.vault.specs.Outcomes.{IfEnded, HasPaddedCounts}
+use Rattle.vault.specs.Outcomes.{IfEnded, IsNoAction, HasPaddedCounts}
 use Rattle.vault.specs.Running.{IsStopped}
 
 -- a reply that an action has is one to the job whose next action it is
@@ -62,3 +62,7 @@ pub padded_end : (v new : Desk) (job : ℕ) (r : Reply) (a : Answer) (t : Turn)
     → IsStopped v job r a t new → HasPaddedCounts a → IfEnded t (λ ended. HasPaddedCounts ended.answer)
 padded_end v new job r a t stopped padded =
     subst (λ (x : Turn). IfEnded x (λ ended. HasPaddedCounts ended.answer)) (sym stopped.turn_is) padded
+
+-- a step that made no action does not let a job go on
+pub goes-on-not : (t : Turn) → IsNoAction t → t ≡ turn.More → ⊥
+goes-on-not t none more = subst IsNoAction more none
