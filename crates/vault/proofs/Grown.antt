@@ -25,3 +25,8 @@ pub fetched_there : (object stripe size start : ℕ) (old all new : List ℕ) (f
 fetched_there object stripe size start old all new found p q start_is all_is fetched =
     subst (λ (k : ℕ). Fetches k object stripe p (given_of found (drop (length old) new)) q) (length-zeros old all size all_is)
     (subst (λ (k : ℕ). Fetches (length (drop k all)) object stripe p (given_of found (drop k new)) q) start_is fetched)
+
+-- what was written over a whole vector is what it holds
+pub written_whole : {X : Type 0} (old here new : List X) (size : ℕ) → length new ≡ length here
+    → length here ≡ size → take size (new ++ drop (length new) old) ≡ new
+written_whole old here new size same whole = take_at new (drop (length new) old) size (same ∙ whole)

@@ -12,7 +12,11 @@ use std::alloc::Global;
 /// No fetch and no byte yet, with room for all of the bench's file.
 fn room_for(alloc: Global, job: u32, bench: &Bench) -> Result<(Fetches, Vec<u8>), Memory>
     ensures { IfOk result (λ room. IsNewGet job bench.now (record {
-        fetched = room.0; bytes = room.1; length = bench.now.keys.file.length; bench = bench.now })) }
+      fetched = room.0;
+      bytes = room.1;
+      length = bench.now.keys.file.length;
+      bench = bench.now;
+    })) }
 {
     let file = bench.keys.file;
     let stripes = file.stripes() as usize;

@@ -77,8 +77,7 @@ pub returns-in-Act-clause-waits : goal.returns-in-Act-clause-waits
 returns-in-Act-clause-waits g c = λ none. absurd (c.act.ensures.acted none)
 
 pub returns-in-Act-clause-no_job : goal.returns-in-Act-clause-no_job
-returns-in-Act-clause-no_job g c = 
-    (
+returns-in-Act-clause-no_job g c = (
   (λ (is : c.act.result ≡ turn.NoSuchJob). absurd (c.act.ensures.acted (subst IsNoAction (sym is) tt))),
   (λ (none : coming_of c.args.self.now c.args.job ≡ IsNoJob). absurd (acts-none _ (c.in-Act.ensures.value ∙ none))),
 )
