@@ -7,7 +7,7 @@ use Rattle.vault.specs.Devices.{sight}
 use Rattle.vault.specs.Outcomes.{IsNoAction}
 use Rattle.vault.specs.Seen.{closed_gate_of, coming_of}
 use Rattle.vault.specs.declared.turn.Turn.TheVariants as turn
-use Rattle.vault.proofs.AtWork.{works_on}
+use Rattle.vault.proofs.AtWork.{works_on, providers_fit}
 use Rattle.vault.proofs.Called.{calls-none, called-none, acts-none}
 use Rattle.vault.proofs.Replies.{goes-on-not}
 use Rattle.vault.proofs.vault.Vault.step.Goals as goal
@@ -29,7 +29,9 @@ returns-in-Act-clause-machine g c = λ w moment stands. c.act.ensures.machine w 
 
 pub act-requires-clause-there : goal.act-requires-clause-there
 act-requires-clause-there g c = λ j called.
-    omega (arith, c.requires, c.in-Act.ensures.within j (ap called_provider (sym c.in-Act.ensures.value) ∙ called))
+    omega
+    (arith, c.requires, c.in-Act.ensures.within j (ap called_provider (sym c.in-Act.ensures.value) ∙ called),
+    providers_fit c.args.self.now.desk c.args.self.now.at_work)
 
 pub act-requires-clause-at_work : goal.act-requires-clause-at_work
 act-requires-clause-at_work g c = c.args.self.now.at_work
