@@ -31,7 +31,7 @@ use Rattle.file_layout.specs.Files as layout
 use Rattle.record_codec.specs.Entries.{counted}
 use Rattle.hail_field.specs.declared.shape.Shape.{Shape as ShapeValue}
 use Rattle.state_laws.proofs.Orders.{next-left, get-drop}
-use Rattle.state_laws.proofs.Written.{setup-rounds}
+use Rattle.state_laws.proofs.Written.{setup-rounds, setup-valid}
 use Rattle.state_laws.specs.SoundJobs.{IsPlainJob, IsSoundJob}
 use Rattle.state_laws.specs.Orders.{moves_made}
 use Rattle.record_codec.specs.Entries.{IsPadded}
@@ -64,6 +64,7 @@ use Rattle.vault.proofs.Allowed.{IsAllowed, next_allowed}
 use Rattle.vault.proofs.Asks.{Rising, IsRound, rounds_rise, each_round, each_both, sizes_found, contains_each, few_rounds, enough_answers, sums_within, as_files, behind_last}
 use Rattle.vault.proofs.AskStep.{IsNext, IsPut, next_round, audit_kept, audit_judged, zero_all}
 use Rattle.vault.proofs.Fetched.{after}
+use Rattle.vault.proofs.Limits.{setup-picks}
 use Rattle.vault.proofs.JobPlaces.{place_is, put_back, one_further, from_zero}
 use Rattle.vault.proofs.Ways.{happens_by, setup_same, actions_same, handed_on, stands_on, entry_kept, same_beyond, at_place, working}
 
@@ -225,6 +226,7 @@ record IsAsking (v : Desk) (w : State) (number k o r : ℕ) : Type 0 where
   b_is : v.shape.b ≡ (setup_in w).b
   profile_is : plain_profile v.profile ≡ profile_of (setup_in w).profile
   picks_are : v.setup.picks ≡ (setup_in w).picks
+  picks_fit : (1 ≤ (setup_in w).picks) × ((setup_in w).picks ≤ 64)
   master_is : v.master.0 ≡ (setup_in w).master
   rounds_are : (setup_in w).rounds ≤ 64
   rising : Rising 0 0 (rounds_in (setup_in w) next.job.pinned)
@@ -245,6 +247,7 @@ asking v w holds faults number k o r ps stands comes =
       b_is = stands.shaped.b ∙ sym (ap (λ (s : Setup). s.b) stands.setup);
       profile_is = stands.shaped.profile ∙ ap profile_of (sym (ap (λ (s : Setup). s.profile) stands.setup));
       picks_are = sym (ap (λ (s : Setup). s.picks) stands.setup);
+      picks_fit = setup-picks (setup_in w) (setup-valid 8 w stands.core.sound stands.core.is_open);
       master_is = sym (ap (λ (s : Setup). s.master) stands.setup);
       rounds_are = setup-rounds 8 w stands.core.sound stands.core.is_open;
       rising = rounds_rise (setup_in w) 0 next.job.pinned sound_job.ascending;
@@ -278,6 +281,8 @@ module _ (v : Desk) (w : State) (number k o r : ℕ) (it : IsAsking v w number k
 
   may_put : MayPut v number o
   may_put = record {
+    some_picks = subst (λ (picks : ℕ). 1 ≤ picks) (sym it.picks_are) it.picks_fit.0;
+    few_picks = subst (λ (picks : ℕ). picks ≤ 64) (sym it.picks_are) it.picks_fit.1;
     size = length nx.x.file.bytes;
     length_is = told_size;
     few = (it.sound_job.pinned nx.x.file (of_file (Contains it.next.job.pinned) (contains_each it.next.job.pinned)).file).size;

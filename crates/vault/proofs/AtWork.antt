@@ -3,6 +3,7 @@ use mathlib.Core.Bool.{Bool-set}
 use Rattle.std.proofs.Common.{◌≡◌, ℕ, ◌≤◌, ◌<◌, true, List, length, get_or, Option, Some, None, Result, refl, sym, ap, subst, ◌∙◌, arith}
 use Rattle.std.specs.Prelude.{IsSome, is_some, slice_get}
 use Rattle.std.proofs.Math.Logic.{∥∥₁_elim, ∥∥₁_map}
+use Rattle.std.proofs.Math.Nat.{ℕ_set}
 use Rattle.std.proofs.lemmas.Option.{slice_get-get_or}
 use Rattle.device_defs.specs.Providers.{Provider}
 use Rattle.record_defs.specs.Records.{Setup}
@@ -48,6 +49,12 @@ place_there v number action comes =
     by_work (Bool-set _ _) v (λ w faults ps stands.
     let f = working v (devices None faults ps) w number action stands (comes.machine w stands.core) in
     ap is_some (place_is v.jobs.items number ∙ f.at))
+
+-- the core counts the providers of the setup
+pub providers_fit : (v : Desk) → IsAtWork v → v.core.setup.n ≡ v.setup.n
+providers_fit v =
+    by_work (ℕ_set _ _) v (λ w faults ps stands.
+    ap (λ (s : Setup). s.n) (stands.core.setup ∙ stands.setup))
 
 -- ---- over other devices
 

@@ -1,6 +1,6 @@
 -- Begins, accepted and refused, and the states that a vault stands for after them.
-use Rattle.std.proofs.Common.{◌≡◌, inl, ℕ, List, [], ◌∷◌, ◌++◌, Some, None, Ok, Err, refl, ap, sym, ◌∙◌, subst}
-use Rattle.std.specs.Prelude.{◌||◌, length, nat_le, not}
+use Rattle.std.proofs.Common.{◌≡◌, inl, inr, ℕ, List, [], ◌∷◌, ◌++◌, Some, None, Result, Ok, Err, refl, ap, sym, ◌∙◌, subst}
+use Rattle.std.specs.Prelude.{◌||◌, IsErr, IsErrOf, length, nat_le, not}
 use Rattle.record_defs.specs.Records.{Setup}
 use Rattle.machine_defs.specs.Actions.{actions_left}
 use Rattle.machine_defs.specs.Begins.{begin_refusal, new_job}
@@ -11,6 +11,7 @@ use Rattle.machine_defs.specs.Sights.{sight_of, aims_of, is_shut, is_stored, is_
 use Rattle.machine_defs.specs.States.{State, setup_in}
 use Rattle.machine_defs.proofs.Sights.{length-aims}
 use Rattle.vault_core.specs.declared.wish.BeginFault.{BeginFault}
+use Rattle.vault_core.specs.declared.wish.BeginFault.TheVariants as fault
 use Rattle.vault_core.specs.Carried.{CoreIs, refusal_of, begun}
 use Rattle.vault.specs.declared.desk.Desk.{Desk}
 use Rattle.vault.specs.declared.tasks.Running.{Running}
@@ -35,6 +36,12 @@ pub aims-counted : (w : State) (more : List Cause)
     ∷ record { applies = is_shut (sight_of w) || nat_le 8 (length w.jobs); refusal = refusal.Busy } ∷ more)
 aims-counted w more = ap (λ (n : ℕ). first_refusal (record { applies = w.is_barred; refusal = refusal.MustReopen }
     ∷ record { applies = is_shut (sight_of w) || nat_le 8 n; refusal = refusal.Busy } ∷ more)) (length-aims w.jobs)
+
+-- where memory alone is a fault, it is the one that there was
+pub memory-alone : {X : Type 0} (r : Result X BeginFault) (why : BeginFault)
+    → (IsErr r → IsErrOf r fault.Memory) → r ≡ Err why → why ≡ fault.Memory
+memory-alone (Ok x) why alone is = absurd (let e : ⊥ = cc in e)
+memory-alone (Err f) why alone is = (let e = alone refl in cc)
 
 -- one job more
 running-push : (s : Setup) (rs : List Running) (js : List Job) (r : Running) (j : Job) → AreRunning s rs js → IsRunning s r j → AreRunning s (rs ++ r ∷ []) (js ++ j ∷ [])
@@ -62,3 +69,7 @@ module _ (old new : Desk) (d : Devices) (w : State) (moment : ℕ) (kind : Kind)
   -- a begin that is refused, and leaves the vault as it was
   pub turned_down : (why : BeginFault) → begin_refusal 8 w kind ≡ Some (refusal_of why) → DeskMakesBegin w moment kind (Err why) old d
   turned_down why is = record { state = w; begins = (stands.core.is_open, inl is, refl); stands = stands }
+
+  -- a begin that found no memory leaves it so too
+  pub found_none : DeskMakesBegin w moment kind (Err fault.Memory) old d
+  found_none = record { state = w; begins = (stands.core.is_open, inr refl, refl); stands = stands }

@@ -1,6 +1,6 @@
 -- One block more behind others.
-use Rattle.std.proofs.Common.{◌≡◌, ℕ, ◌+◌, Bool, List, ◌++◌, subst, length, take, drop, replicate, refl, sym, ap, ◌∙◌, arith, length-append, length-drop}
-use Rattle.std.proofs.lemmas.List.{take_at, length-replicate, take-append-drop}
+use Rattle.std.proofs.Common.{◌≡◌, ℕ, ◌+◌, ◌-◌, ◌≤◌, Bool, List, ◌++◌, subst, length, take, drop, replicate, refl, sym, ap, ◌∙◌, arith, length-append, length-drop}
+use Rattle.std.proofs.lemmas.List.{take_at, take_all, length-replicate, take-append-drop}
 use Rattle.device_defs.specs.Providers.{Provider}
 use Rattle.device_defs.specs.ProviderCalls.{Fetches}
 use Rattle.vault.specs.Blocks.{given_of}
@@ -25,3 +25,19 @@ pub fetched_there : (object stripe size start : ℕ) (old all new : List ℕ) (f
 fetched_there object stripe size start old all new found p q start_is all_is fetched =
     subst (λ (k : ℕ). Fetches k object stripe p (given_of found (drop (length old) new)) q) (length-zeros old all size all_is)
     (subst (λ (k : ℕ). Fetches (length (drop k all)) object stripe p (given_of found (drop k new)) q) start_is fetched)
+
+-- what was written over a whole vector is what it holds
+pub written_whole : {X : Type 0} (old here new : List X) (size : ℕ) → length new ≡ length here
+    → length here ≡ size → take size (new ++ drop (length new) old) ≡ new
+written_whole old here new size same whole = take_at new (drop (length new) old) size (same ∙ whole)
+
+-- the last items of a slice that begins so many before its end
+pub last_part : {X : Type 0} (xs ys : List X) (len k n : ℕ) → xs ≡ ys → len ≡ length ys → k ≡ n
+    → take (length xs - (len - k)) (drop (len - k) xs) ≡ drop (length ys - n) ys
+last_part xs ys len k n same len_is k_is =
+    take_all (length xs - (len - k)) (drop (len - k) xs) (omega (arith, length-drop (len - k) xs))
+    ∙ (λ i. drop (len_is i - k_is i) (same i))
+
+-- they are as many
+pub length-last : {X : Type 0} (xs : List X) (n : ℕ) → n ≤ length xs → length (drop (length xs - n) xs) ≡ n
+length-last xs n enough = omega (arith, length-drop (length xs - n) xs, enough)

@@ -1,5 +1,5 @@
 -- Running jobs by their numbers, beside the jobs of the machine.
-use Rattle.std.proofs.Common.{◌≡◌, ℕ, suc, ◌+◌, ◌==◌, get_or, true, false, cond, List, [], ◌∷◌, Option, Some, None, refl, sym, ap, subst, ◌∙◌, inl, inr, arith, zero-add, add-zero}
+use Rattle.std.proofs.Common.{◌≡◌, ℕ, suc, ◌+◌, ◌<◌, ◌==◌, get_or, true, false, cond, List, [], ◌∷◌, length, Option, Some, None, refl, sym, ap, subst, ◌∙◌, inl, inr, arith, zero-add, add-zero}
 use Rattle.std.specs.Prelude.{slice_get, slice_set}
 use Rattle.std.specs.List.{remove, position_from}
 use Rattle.std.specs.Option.{option_map}
@@ -38,6 +38,12 @@ from_zero (Some q) = ap Some (add-zero q)
 
 pub place_is : (rs : List Running) (k : ℕ) → place_in rs k ≡ at_number rs k
 place_is rs k = position_from-zero (λ (r : Running). r.number == k) rs ∙ from_is rs k 0 ∙ from_zero (at_number rs k)
+
+-- a place that was found is one of the list
+pub place_within : (rs : List Running) (k place : ℕ) → place_in rs k ≡ Some place → place < length rs
+place_within [] k place found = (let e : None ≡ Some place = found in cc)
+place_within (r ∷ rs) k place found =
+    (position-Some (λ (q : Running). q.number == k) (r ∷ rs) place r found).0
 
 -- ---- a running job and what it works with
 

@@ -33,4 +33,6 @@ pub mod HeardAt
 pub mod MovedCells
 pub mod AtWork
 pub mod Untold
+pub mod Called
+pub mod Replies
 pub mod Props

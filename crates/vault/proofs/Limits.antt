@@ -3,16 +3,22 @@ use Rattle.std.proofs.Common.{◌≤◌, arith}
 use Rattle.std.specs.Prelude.{IsTrue}
 use Rattle.std.proofs.lemmas.Bool.Decides.{nat_tests}
 use Rattle.hail_field.specs.Shape.{IsShape}
-use Rattle.record_defs.specs.Records.{Setup, is_setup}
+use Rattle.record_defs.specs.Records.{Setup, SetUp, is_setup, is_in_grammar}
 
+-- its shape is one of a field
 pub setup-shape : (s : Setup) → IsTrue (is_setup s) → IsShape s.n s.l s.b
 setup-shape s is = grind (arith, nat_tests, is)
 
+-- its profile is one of the five
 pub setup-profile : (s : Setup) → IsTrue (is_setup s) → s.profile ≤ 4
 setup-profile s is = grind (arith, nat_tests, is)
 
-pub some-picks : (s : Setup) → IsTrue (is_setup s) → 1 ≤ s.picks
+some-picks : (s : Setup) → IsTrue (is_in_grammar (SetUp s)) → 1 ≤ s.picks
 some-picks s is = grind (arith, nat_tests, is)
 
-pub few-picks : (s : Setup) → IsTrue (is_setup s) → s.picks ≤ 64
+few-picks : (s : Setup) → IsTrue (is_in_grammar (SetUp s)) → s.picks ≤ 64
 few-picks s is = grind (arith, nat_tests, is)
+
+-- its picks are 1 to 64
+pub setup-picks : (s : Setup) → IsTrue (is_in_grammar (SetUp s)) → (1 ≤ s.picks) × (s.picks ≤ 64)
+setup-picks s is = (some-picks s is, few-picks s is)

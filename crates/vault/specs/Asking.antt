@@ -179,8 +179,10 @@ vault_object v object =
       id = object;
     }
 
--- an ask can be put: there is such a file, which has rows
+-- an ask can be put: there is such a file, which has rows, and the picks are within their limits
 pub record MayPut (v : Desk) (job object : ℕ) : Type 0 where
+  pub some_picks : 1 ≤ v.setup.picks
+  pub few_picks : v.setup.picks ≤ 64
   pub size : ℕ
   pub length_is : length_in v.core job object ≡ Some size
   pub few : size ≤ 2 ^ 22

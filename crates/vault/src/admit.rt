@@ -60,10 +60,18 @@ impl Desk {
         ensures unchanged { OnErr result (IsSameDesk self.old self.new) }
     {
         if self.jobs.reserve(1).is_err() {
+            drop(task);
             return Err(BeginFault::Memory);
         }
-        let number = self.core.begin(wish)?;
-        self.jobs.push_reserved(Running { number, task });
-        Ok(number)
+        match self.core.begin(wish) {
+            Ok(number) => {
+                self.jobs.push_reserved(Running { number, task });
+                Ok(number)
+            }
+            Err(why) => {
+                drop(task);
+                Err(why)
+            }
+        }
     }
 }

@@ -106,7 +106,10 @@ impl Vault {
             Ok(blocks) => self
                 .desk
                 .admit(Wish::Repair, Task::Repair(RepairTask { blocks, bench })),
-            Err(_) => Err(BeginFault::Memory),
+            Err(_) => {
+                drop(bench);
+                Err(BeginFault::Memory)
+            }
         }
     }
 }

@@ -1,4 +1,4 @@
-ghost use Rattle.std.specs.Prelude.{◌≡◌, ◌≤◌, ◌^◌, length, All, IfOk, IsErrOf, IsOk, IsErr};
+ghost use Rattle.std.specs.Prelude.{◌≡◌, ◌*◌, ◌≤◌, ◌^◌, length, All, IfOk, IsErrOf, IsOk, IsErr};
 ghost use Rattle.machine_defs.specs.Events.{AreBytes};
 ghost use Rattle.vault_core.specs.declared.wish.BeginFault.TheVariants as fault;
 ghost use Rattle.vault.specs.Benches.{IsBenchFor};
@@ -30,17 +30,31 @@ fn zero_blocks(alloc: Global, count: usize, size: usize) -> Result<Vec<Block>, M
     Ok(blocks)
 }
 
+/// What a bench works on, all zeros: the symbols of a stripe, those of a block, and a block of each provider.
+fn zeros_for(
+    alloc: Global,
+    file: &FileShape,
+) -> Result<(Vec<Symbol>, Vec<Symbol>, Vec<Block>), Memory>
+    ensures rows { IfOk result (λ v. length v.0.items ≡ file.now.shape.l * file.now.profile.keep) }
+    ensures column { IfOk result (λ v. length v.1.items ≡ file.now.profile.size) }
+    ensures scratch { IfOk result (λ v. length v.2.items ≡ file.now.shape.n) }
+    ensures blocks { IfOk result (λ v. All (λ block. length block ≡ file.now.profile.size) v.2.items) }
+{
+    let size = file.profile.size as usize;
+    let symbols = usize::from(file.shape.l) * file.profile.keep as usize;
+    let rows = vec![in alloc; Symbol::ZERO; symbols]?;
+    let column = vec![in alloc; Symbol::ZERO; size]?;
+    let scratch = zero_blocks(alloc, usize::from(file.shape.n), size)?;
+    Ok((rows, column, scratch))
+}
+
 impl Bench {
     /// A bench for the object of these keys, of zeros.
     pub(crate) fn new(alloc: Global, keys: ObjectKeys) -> Result<Bench, Memory>
         ensures { IfOk result (λ bench. bench.keys ≡ keys) }
     {
         let code = AnyCode::new(alloc, keys.file.profile)?;
-        let size = keys.file.profile.size as usize;
-        let symbols = usize::from(keys.file.shape.l) * keys.file.profile.keep as usize;
-        let rows = vec![in alloc; Symbol::ZERO; symbols]?;
-        let column = vec![in alloc; Symbol::ZERO; size]?;
-        let scratch = zero_blocks(alloc, usize::from(keys.file.shape.n), size)?;
+        let (rows, column, scratch) = zeros_for(alloc, &keys.file)?;
         Ok(Bench {
             keys,
             code,

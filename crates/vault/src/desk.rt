@@ -1,5 +1,3 @@
-ghost use Rattle.std.specs.Prelude.{◌≡◌, ◌≤◌};
-
 use crate::codec::Codec;
 use crate::flight::Flight;
 use crate::tasks::Running;
@@ -23,7 +21,4 @@ pub struct Desk {
     pub codec: Codec,
     pub flight: Option<Flight>,
     pub jobs: Vec<Running>,
-    ghost providers_fit: { core.setup.n ≡ setup.n },
-    ghost some_picks: { 1 ≤ setup.picks },
-    ghost few_picks: { setup.picks ≤ 64 },
 }

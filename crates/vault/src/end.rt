@@ -15,7 +15,7 @@ ghost use Rattle.vault.specs.declared.turn.Turn.TheVariants as turn;
 
 use crate::desk::Desk;
 use crate::heard::{HeardList, Parts};
-use crate::tasks::{GetTask, Running, Task};
+use crate::tasks::{AuditTask, GetTask, Running, Task};
 use crate::turn::{Answer, Ended, Turn};
 use record_codec::Counts;
 use stream_model::Bytes;
@@ -34,15 +34,12 @@ impl Task {
         ensures { result ≡ heard_of self }
     {
         match self {
-            Task::Get(get) => HeardList {
-                parts: Parts::Fetched(get.fetched),
-            },
-            Task::Audit(audit) => HeardList {
-                parts: Parts::Answered(audit.heard),
-            },
-            _ => HeardList {
-                parts: Parts::Nothing,
-            },
+            Task::Get(get) => get.into_heard(),
+            Task::Audit(audit) => audit.into_heard(),
+            other => {
+                drop(other);
+                HeardList::new()
+            }
         }
     }
 }
@@ -58,17 +55,43 @@ fn quiet(answer: Answer) -> Ended
     }
 }
 
+impl AuditTask {
+    ghost use Rattle.std.specs.Prelude.{◌≡◌};
+    ghost use Rattle.vault.specs.declared.tasks.Task.TheVariants as task;
+    ghost use Rattle.vault.specs.Running.{heard_of};
+
+    /// What the asks gave.
+    fn into_heard(self) -> HeardList
+        ensures { result ≡ heard_of (task.Audit self) }
+    {
+        HeardList {
+            parts: Parts::Answered(self.heard),
+        }
+    }
+}
+
 impl GetTask {
     ghost use Rattle.std.specs.Prelude.{◌≡◌, take};
     ghost use Rattle.vault.specs.declared.tasks.Task.TheVariants as task;
     ghost use Rattle.vault.specs.declared.turn.Answer.TheVariants as answer;
     ghost use Rattle.vault.specs.Running.{heard_of};
 
+    /// What the fetches gave.
+    fn into_heard(self) -> HeardList
+        ensures { result ≡ heard_of (task.Get self) }
+    {
+        drop(self.bench);
+        HeardList {
+            parts: Parts::Fetched(self.fetched),
+        }
+    }
+
     /// The bytes of the file that were opened, and what was heard.
     fn into_end(self) -> Ended
         ensures answer { result.answer ≡ answer.Got (take self.length self.bytes.items) }
         ensures heard { result.heard ≡ heard_of (task.Get self) }
     {
+        drop(self.bench);
         let mut bytes = self.bytes;
         bytes.truncate(self.length);
         Ended {
@@ -89,7 +112,10 @@ impl Task {
         ensures heard { result.heard ≡ heard_of self }
     {
         match self {
-            Task::Put(_) => quiet(Answer::Put),
+            Task::Put(put) => {
+                drop(put);
+                quiet(Answer::Put)
+            }
             Task::Get(get) => get.into_end(),
             Task::Drop => quiet(Answer::Dropped),
             Task::Audit(audit) => Ended {
@@ -98,11 +124,12 @@ impl Task {
                     undecided,
                     counts,
                 },
-                heard: HeardList {
-                    parts: Parts::Answered(audit.heard),
-                },
+                heard: audit.into_heard(),
             },
-            Task::Repair(_) => quiet(Answer::Repaired { number }),
+            Task::Repair(repair) => {
+                drop(repair);
+                quiet(Answer::Repaired { number })
+            }
         }
     }
 }

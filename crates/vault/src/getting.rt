@@ -1,5 +1,6 @@
 ghost use Rattle.std.specs.Prelude.{IfOk};
 ghost use Rattle.vault.specs.Benches.{IsNewGet};
+ghost use Rattle.vault.specs.declared.tasks.GetTask.{GetTask as GetTaskValue};
 
 use crate::bench::Bench;
 use crate::blocks::Blocks;
@@ -8,27 +9,46 @@ use crate::tasks::GetTask;
 use hail_field::Memory;
 use std::alloc::Global;
 
+/// No fetch and no byte yet, with room for all of the bench's file.
+fn room_for(alloc: Global, job: u32, bench: &Bench) -> Result<(Fetches, Vec<u8>), Memory>
+    ensures { IfOk result (λ room. IsNewGet job bench.now (record {
+      fetched = room.0;
+      bytes = room.1;
+      length = bench.now.keys.file.length;
+      bench = bench.now;
+    })) }
+{
+    let file = bench.keys.file;
+    let stripes = file.stripes() as usize;
+    let count = stripes * usize::from(file.shape.n);
+    let stripe = 16 * (usize::from(file.shape.l) * file.profile.keep as usize);
+    let fetches = Vec::with_capacity(alloc, count)?;
+    let blocks = Blocks::with_room(alloc, count, file.profile.size as usize)?;
+    let bytes = Vec::with_capacity(alloc, stripes * stripe)?;
+    let fetched = Fetches {
+        job,
+        fetches,
+        blocks,
+    };
+    Ok((fetched, bytes))
+}
+
 impl GetTask {
     /// What the get of the bench's file works with before its first fetch, with room for all that its steps keep.
     pub(crate) fn new(alloc: Global, job: u32, bench: Bench) -> Result<GetTask, Memory>
         ensures { IfOk result (IsNewGet job bench) }
     {
-        let file = bench.keys.file;
-        let stripes = file.stripes() as usize;
-        let count = stripes * usize::from(file.shape.n);
-        let stripe = 16 * (usize::from(file.shape.l) * file.profile.keep as usize);
-        let fetches = Vec::with_capacity(alloc, count)?;
-        let blocks = Blocks::with_room(alloc, count, file.profile.size as usize)?;
-        let bytes = Vec::with_capacity(alloc, stripes * stripe)?;
-        Ok(GetTask {
-            fetched: Fetches {
-                job,
-                fetches,
-                blocks,
-            },
-            bytes,
-            length: file.length as usize,
-            bench,
-        })
+        match room_for(alloc, job, &bench) {
+            Ok((fetched, bytes)) => Ok(GetTask {
+                fetched,
+                bytes,
+                length: bench.keys.file.length as usize,
+                bench,
+            }),
+            Err(memory) => {
+                drop(bench);
+                Err(memory)
+            }
+        }
     }
 }

@@ -3,7 +3,7 @@ use hail_field::Symbol;
 use std::marker::Model;
 
 /// What a job heard in one step.
-#[derive(Clone, Copy, Debug, PartialEq, Eq)]
+#[derive(Clone, Copy)]
 pub enum Heard<'a> {
     /// What a fetch of a get gave: the block, or none.
     Fetched {
@@ -24,7 +24,7 @@ pub enum Heard<'a> {
 }
 
 /// Which block a fetch was for.
-#[derive(Clone, Copy, Debug)]
+#[derive(Clone, Copy)]
 pub struct Fetch {
     pub provider: u32,
     pub object: u64,
@@ -32,7 +32,7 @@ pub struct Fetch {
 }
 
 /// Which answer an ask was for.
-#[derive(Clone, Copy, Debug)]
+#[derive(Clone, Copy)]
 pub struct Ask {
     pub provider: u32,
     pub object: u64,

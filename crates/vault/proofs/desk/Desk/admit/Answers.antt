@@ -1,4 +1,4 @@
-use Rattle.std.proofs.Common.{Result, Err, ℕ, Some, ◌≡◌, ◌≢◌, refl, ◌∙◌, ap, List, ◌++◌, ◌∷◌, [], sym, subst, inl, inr, ◌⊎◌, rules}
+use Rattle.std.proofs.Common.{Err, ℕ, Some, ◌≡◌, ◌≢◌, refl, ◌∙◌, ap, List, ◌++◌, ◌∷◌, [], sym, subst, inl, inr, ◌⊎◌, rules}
 use Rattle.machine_defs.specs.Begins.{begin_refusal}
 use Rattle.machine_defs.specs.Jobs.{Kind}
 use Rattle.machine_defs.specs.Refusals as refusal
@@ -14,12 +14,13 @@ use Rattle.vault.specs.Running.{KeepsAll}
 use Rattle.vault.specs.Desks.{DeskStands, DeskMakesBegin}
 use Rattle.vault.specs.Tasks.{AreRunning}
 use Rattle.vault.proofs.Begun.{admitted}
-use Rattle.vault_open.proofs.InitEvents.{err-is}
 use Rattle.vault.proofs.Ways.{stands_on, handed_same}
 use Rattle.vault.proofs.desk.Desk.admit.Goals as goal
 
 -- a begin is refused for a cause, or found no memory
-cause : (w : State) (kind : Kind) (why : BeginFault) → (why ≢ fault.Memory → begin_refusal 8 w kind ≡ Some (refusal_of why)) → (begin_refusal 8 w kind ≡ Some (refusal_of why)) ⊎ (refusal_of why ≡ refusal.Memory)
+cause : (w : State) (kind : Kind) (why : BeginFault)
+    → (why ≢ fault.Memory → begin_refusal 8 w kind ≡ Some (refusal_of why))
+    → (begin_refusal 8 w kind ≡ Some (refusal_of why)) ⊎ (refusal_of why ≡ refusal.Memory)
 cause w kind fault.Memory is = inr refl
 cause w kind fault.MustReopen is = inl (is (search rules))
 cause w kind fault.Busy is = inl (is (search rules))
@@ -32,29 +33,40 @@ cause w kind fault.NothingDue is = inl (is (search rules))
 cause w kind fault.JournalFull is = inl (is (search rules))
 
 -- a begin that is refused leaves what the vault stands for
-refused : (r : Result ℕ BeginFault) (old new : Desk) (d : Devices) (w : State) (moment : ℕ) (kind : Kind) (why : BeginFault) → r ≡ Err why → DeskStands old d w
-    → new.core ≡ old.core → new.jobs.items ≡ old.jobs.items → KeepsAll old new → new.flight ≡ old.flight
-    → (why ≢ fault.Memory → begin_refusal 8 w kind ≡ Some (refusal_of why)) → DeskMakesBegin w moment kind r new d
-refused r old new d w moment kind why e stands core jobs keeps flight is =
-    subst (λ (result : Result ℕ BeginFault). DeskMakesBegin w moment kind result new d) (sym e) (record {
-      state = w;
-      begins = (stands.core.is_open, cause w kind why is, refl);
-      stands = stands_on old new w w d.holds d.faults d.providers d.providers stands (record { records = refl; doubt = refl; append = refl; faults = refl; barred = refl })
-          (handed_same d.providers w w stands.devices.providers refl (λ j. refl)) (subst (λ (c : Core). CoreIs c w) (sym core) stands.core) keeps flight
-          (subst (λ (items : List Running). AreRunning (setup_in w) items w.jobs) (sym jobs) stands.jobs);
-    })
+refused : (old new : Desk) (d : Devices) (w : State) (moment : ℕ) (kind : Kind) (why : BeginFault)
+    → DeskStands old d w → new.core ≡ old.core → new.jobs.items ≡ old.jobs.items → KeepsAll old new
+    → new.flight ≡ old.flight
+    → (why ≢ fault.Memory → begin_refusal 8 w kind ≡ Some (refusal_of why))
+    → DeskMakesBegin w moment kind (Err why) new d
+refused old new d w moment kind why stands core jobs keeps flight is = record {
+  state = w;
+  begins = (stands.core.is_open, cause w kind why is, refl);
+  stands =
+      stands_on old new w w d.holds d.faults d.providers d.providers stands
+      (record { records = refl; doubt = refl; append = refl; faults = refl; barred = refl })
+      (handed_same d.providers w w stands.devices.providers refl (λ j. refl))
+      (subst (λ (c : Core). CoreIs c w) (sym core) stands.core) keeps flight
+      (subst (λ (items : List Running). AreRunning (setup_in w) items w.jobs) (sym jobs) stands.jobs);
+}
 
-pub returns-in_err-number-clause-machine : goal.returns-in_err-number-clause-machine
-returns-in_err-number-clause-machine c = λ w d moment kind stands of spelled is.
-    let why = c.in_err-number.field-0.0 in
-    refused c.from_residual.result c.args.self.now _ d w moment kind why (err-is c.from_residual.result why c.from_residual.ensures.1) stands
-    c.in_err-number.ensures.unchanged c.reserve.ensures.items (record { setup = refl; master = refl; shape = refl; profile = refl }) refl
-    (c.in_err-number.ensures.refused w kind stands.core of)
+pub returns-then-is_err-clause-machine : goal.returns-then-is_err-clause-machine
+returns-then-is_err-clause-machine c = λ w d moment kind stands of spelled is.
+    refused c.args.self.now _ d w moment kind fault.Memory stands refl c.reserve.ensures.items
+    (record { setup = refl; master = refl; shape = refl; profile = refl }) refl (λ memory. absurd (memory refl))
 
-pub returns-clause-machine : goal.returns-clause-machine
-returns-clause-machine c = λ w d moment kind stands of spelled is.
-    admitted c.args.self.now _ d w moment kind stands c.in_ok-number.number c.args.task
-    (c.in_ok-number.ensures.begun w kind moment stands.core of spelled) (c.in_ok-number.ensures.accepted w kind stands.core of) c.in_ok-number.ensures.number
-    (is (c.in_ok-number.ensures.accepted w kind stands.core of))
-    (c.push_reserved.ensures.items ∙ ap (λ (l : List Running). l ++ (record { number = c.in_ok-number.number; task = c.args.task }) ∷ []) c.reserve.ensures.items)
+pub returns-in-Err-clause-machine : goal.returns-in-Err-clause-machine
+returns-in-Err-clause-machine c = λ w d moment kind stands of spelled is.
+    refused c.args.self.now _ d w moment kind c.in-Err.why stands c.in-Err.ensures.unchanged
+    c.reserve.ensures.items (record { setup = refl; master = refl; shape = refl; profile = refl }) refl
+    (c.in-Err.ensures.refused w kind stands.core of)
+
+pub returns-in-Ok-clause-machine : goal.returns-in-Ok-clause-machine
+returns-in-Ok-clause-machine c = λ w d moment kind stands of spelled is.
+    let accepted = c.in-Ok.ensures.accepted w kind stands.core of in
+    let running : Running = record { number = c.in-Ok.number; task = c.args.task } in
+    admitted c.args.self.now _ d w moment kind stands c.in-Ok.number c.args.task
+    (c.in-Ok.ensures.begun w kind moment stands.core of spelled) accepted c.in-Ok.ensures.number
+    (is accepted)
+    (c.push_reserved.ensures.items
+    ∙ ap (λ (l : List Running). l ++ running ∷ []) c.reserve.ensures.items)
     (record { setup = refl; master = refl; shape = refl; profile = refl }) refl

@@ -1,12 +1,14 @@
-use Rattle.std.proofs.Common.{None, refl, ap, ◌∙◌}
+use Rattle.std.proofs.Common.{None, refl, ap, arith, ◌∙◌}
 use Rattle.std.specs.Option.{option_map}
 use Rattle.std.proofs.Math.Logic.{∥∥₁_map}
-use Rattle.std.proofs.lemmas.List.{map-set}
+use Rattle.std.proofs.lemmas.List.{map-set, length-set}
+use Rattle.algebra_laws.proofs.Lists.{get-set_other}
 use Rattle.std.proofs.lemmas.Option.{slice_get-get_or, slice_get-map}
 use Rattle.vault.specs.Devices.{sight}
 use Rattle.vault.proofs.AskJoin.{put_there, ask_there, tell_there, ask_step, told_takes}
 use Rattle.vault.proofs.AtWork.{by_work, place_there}
-use Rattle.vault.proofs.JobPlaces.{item_at}
+use Rattle.vault.proofs.Called.{called_at}
+use Rattle.vault.proofs.JobPlaces.{item_at, place_within}
 use Rattle.vault.proofs.Props.{ask_prop, tell_prop}
 use Rattle.vault.proofs.RunningJobs.{runs_next}
 use Rattle.vault.proofs.Untold.{asks_by, answered, audits_on}
@@ -66,3 +68,25 @@ returns-clause-machine g c = λ w moment holds faults is_told stands.
     (record { setup = refl; master = refl; shape = refl; profile = refl })
     refl
     c.feed.ensures.step
+
+pub index_mut-requires : goal.index_mut-requires
+index_mut-requires g c =
+    omega (arith, place_within c.args.self.now.jobs.items c.args.job _ c.place_of-place.ensures)
+
+pub bounds-providers-index : goal.bounds-providers-index
+bounds-providers-index g c = c.requires.there
+
+pub returns-clause-count : goal.returns-clause-count
+returns-clause-count g c = length-set c.args.providers.now c.args.provider c.ask.new.from
+
+pub returns-clause-others : goal.returns-clause-others
+returns-clause-others g c = λ k other.
+    get-set_other c.args.providers.now c.args.provider k c.ask.new.from other
+
+pub returns-clause-left : goal.returns-clause-left
+returns-clause-left g c = c.feed.ensures.falls
+
+pub returns-clause-called : goal.returns-clause-called
+returns-clause-called g c =
+    called_at g.P.Provider.calls c.args.providers.now c.args.provider c.index-providers-index.result
+    c.ask.new.from c.requires.there c.ask.ensures.called

@@ -1,8 +1,9 @@
-use Rattle.std.proofs.Common.{refl, sym}
+use Rattle.std.proofs.Common.{refl, sym, arith}
 use Rattle.vault.specs.declared.turn.Turn.TheVariants as turn
 use Rattle.vault.proofs.AtWork.{place_there}
-use Rattle.vault.proofs.JobPlaces.{item_at}
+use Rattle.vault.proofs.JobPlaces.{item_at, place_within}
 use Rattle.vault.proofs.EndStep.{end_step}
+use Rattle.vault.proofs.Replies.{replies}
 use Rattle.vault.proofs.RunningJobs.{runs_next}
 use Rattle.vault.proofs.desk.Desk.end.Goals as goal
 
@@ -32,3 +33,10 @@ returns-clause-machine c = λ w moment d stands.
       fed = c.feed.ensures.step;
       keeps = record { setup = refl; master = refl; shape = refl; profile = refl };
     })
+
+pub feed-requires : goal.feed-requires
+feed-requires c = replies c.args.self.now.core c.args.job _ _ c.requires.next.value tt
+
+pub remove-running-requires : goal.remove-running-requires
+remove-running-requires c =
+    omega (arith, place_within c.args.self.now.jobs.items c.args.job _ c.place_of-place.ensures)

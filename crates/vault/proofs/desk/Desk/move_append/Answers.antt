@@ -1,6 +1,7 @@
-use Rattle.std.proofs.Common.{◌-◌, ◌++◌, ◌∷◌, [], refl, sym, ap, subst}
+use Rattle.std.proofs.Common.{◌<◌, ◌-◌, ◌++◌, ◌∷◌, [], refl, sym, ap, subst}
 use Rattle.std.specs.Prelude.{IsSome}
 use Rattle.record_defs.specs.Spellings.{spelling}
+use Rattle.vault_core.specs.Coming.{core_left}
 use Rattle.vault_core.specs.declared.reply.Reply.TheVariants as reply
 use Rattle.vault.specs.declared.flight.Moved.TheVariants as moved
 use Rattle.vault.specs.declared.turn.Answer.TheVariants as answer
@@ -10,6 +11,7 @@ use Rattle.vault.proofs.AtWork.{place_there}
 use Rattle.vault.proofs.Untold.{goes_by, move_by}
 use Rattle.vault.proofs.AppendMoves.{append_goes_on, append_done, append_failed, append_unwritten, gave_away, fed_away}
 use Rattle.vault.proofs.MovedCells.{append_of, cells_on, cells_torn, cells_stopped}
+use Rattle.vault.proofs.Replies.{move_replies, goes_not_on, padded_end}
 use Rattle.vault.proofs.desk.Desk.move_append.Goals as goal
 
 pub stop-requires-clause-there : goal.stop-requires-clause-there
@@ -58,3 +60,97 @@ pub returns-in-Failed-clause-cells : goal.returns-in-Failed-clause-cells
 returns-in-Failed-clause-cells g c = λ w entry providers stands given.
     cells_stopped _ c.stop.new.self c.args.job _ (c.args.self.now.core.end - 1) (spelling entry ++ 0 ∷ []) reply.Failed answer.DiskFault c.stop.result (g.D.Disk.holds c.args.disk.now) (g.D.Disk.holds c.turn.new.disk) c.stop.ensures.stopped
     (cells_torn c.args.self.now _ entry _ _ _ (append_of c.args.self.now w _ _ c.args.job providers stands c.requires.next.action c.requires.next.comes c.take_flight.result (c.take_flight.ensures.is w _ _ providers c.requires.next.action stands c.requires.next.comes) entry given) c.in-Failed.ensures.cells)
+
+pub returns-in-Memory-clause-cells : goal.returns-in-Memory-clause-cells
+returns-in-Memory-clause-cells g c = λ w entry providers stands given.
+    cells_stopped _ c.stop-in-Memory.new.self c.args.job _ (c.args.self.now.core.end - 1)
+    (spelling entry ++ 0 ∷ []) reply.Memory answer.Memory c.stop-in-Memory.result
+    (g.D.Disk.holds c.args.disk.now) (g.D.Disk.holds c.turn.new.disk) c.stop-in-Memory.ensures.stopped
+    c.in-Memory.ensures.cells
+
+pub take_flight-requires : goal.take_flight-requires
+take_flight-requires g c = c.requires.next
+
+pub feed-requires : goal.feed-requires
+feed-requires g c =
+    (move_replies c.args.self.now c.take_flight.new.self c.args.job c.take_flight.ensures.rest
+    c.requires.next).done
+
+pub feed-requires-in-Done : goal.feed-requires-in-Done
+feed-requires-in-Done g c =
+    (move_replies c.args.self.now c.take_flight.new.self c.args.job c.take_flight.ensures.rest
+    c.requires.next).done
+
+pub stop-requires-clause-reply : goal.stop-requires-clause-reply
+stop-requires-clause-reply g c =
+    (move_replies c.args.self.now c.take_flight.new.self c.args.job c.take_flight.ensures.rest
+    c.requires.next).failed
+
+pub stop-requires-in-Memory-clause-reply : goal.stop-requires-in-Memory-clause-reply
+stop-requires-in-Memory-clause-reply g c =
+    (move_replies c.args.self.now c.take_flight.new.self c.args.job c.take_flight.ensures.rest
+    c.requires.next).memory
+
+pub returns-in-On-clause-tells : goal.returns-in-On-clause-tells
+returns-in-On-clause-tells g c = c.turn.ensures.tells
+
+pub returns-in-On-clause-called : goal.returns-in-On-clause-called
+returns-in-On-clause-called g c = c.turn.ensures.called
+
+pub returns-in-On-clause-left : goal.returns-in-On-clause-left
+returns-in-On-clause-left g c = λ more.
+    subst (λ (v : Desk). core_left c.feed.new.self c.args.job < core_left v.core c.args.job)
+    c.take_flight.ensures.rest c.feed.ensures.falls
+
+pub returns-in-On-clause-padded : goal.returns-in-On-clause-padded
+returns-in-On-clause-padded g c = tt
+
+pub returns-in-On-clause-acted : goal.returns-in-On-clause-acted
+returns-in-On-clause-acted g c = λ none. none
+
+pub returns-in-Done-clause-tells : goal.returns-in-Done-clause-tells
+returns-in-Done-clause-tells g c = c.turn.ensures.tells
+
+pub returns-in-Done-clause-called : goal.returns-in-Done-clause-called
+returns-in-Done-clause-called g c = c.turn.ensures.called
+
+pub returns-in-Done-clause-left : goal.returns-in-Done-clause-left
+returns-in-Done-clause-left g c = λ more.
+    subst (λ (v : Desk). core_left c.feed-in-Done.new.self c.args.job < core_left v.core c.args.job)
+    c.take_flight.ensures.rest c.feed-in-Done.ensures.falls
+
+pub returns-in-Done-clause-padded : goal.returns-in-Done-clause-padded
+returns-in-Done-clause-padded g c = tt
+
+pub returns-in-Done-clause-acted : goal.returns-in-Done-clause-acted
+returns-in-Done-clause-acted g c = λ none. none
+
+pub returns-in-Failed-clause-tells : goal.returns-in-Failed-clause-tells
+returns-in-Failed-clause-tells g c = c.turn.ensures.tells
+
+pub returns-in-Failed-clause-called : goal.returns-in-Failed-clause-called
+returns-in-Failed-clause-called g c = c.turn.ensures.called
+
+pub returns-in-Failed-clause-left : goal.returns-in-Failed-clause-left
+returns-in-Failed-clause-left g c = λ more. absurd (goes_not_on _ _ _ _ _ _ c.stop.ensures.stopped more)
+
+pub returns-in-Failed-clause-padded : goal.returns-in-Failed-clause-padded
+returns-in-Failed-clause-padded g c = padded_end _ _ _ _ _ _ c.stop.ensures.stopped tt
+
+pub returns-in-Failed-clause-acted : goal.returns-in-Failed-clause-acted
+returns-in-Failed-clause-acted g c = c.stop.ensures.acted
+
+pub returns-in-Memory-clause-tells : goal.returns-in-Memory-clause-tells
+returns-in-Memory-clause-tells g c = c.turn.ensures.tells
+
+pub returns-in-Memory-clause-called : goal.returns-in-Memory-clause-called
+returns-in-Memory-clause-called g c = c.turn.ensures.called
+
+pub returns-in-Memory-clause-left : goal.returns-in-Memory-clause-left
+returns-in-Memory-clause-left g c = λ more. absurd (goes_not_on _ _ _ _ _ _ c.stop-in-Memory.ensures.stopped more)
+
+pub returns-in-Memory-clause-padded : goal.returns-in-Memory-clause-padded
+returns-in-Memory-clause-padded g c = padded_end _ _ _ _ _ _ c.stop-in-Memory.ensures.stopped tt
+
+pub returns-in-Memory-clause-acted : goal.returns-in-Memory-clause-acted
+returns-in-Memory-clause-acted g c = c.stop-in-Memory.ensures.acted

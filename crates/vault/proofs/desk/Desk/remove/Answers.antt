@@ -1,9 +1,12 @@
 use Rattle.std.proofs.Common.{refl, ap, ◌∙◌}
 use Rattle.std.specs.Option.{option_map}
-use Rattle.std.proofs.lemmas.List.{map-set}
+use Rattle.std.proofs.lemmas.List.{map-set, length-set}
+use Rattle.algebra_laws.proofs.Lists.{get-set_other}
 use Rattle.std.proofs.lemmas.Option.{slice_get-get_or, slice_get-map}
 use Rattle.vault.specs.Devices.{sight}
+use Rattle.vault.proofs.Called.{called_at}
 use Rattle.vault.proofs.RemoveStep.{remove_step}
+use Rattle.vault.proofs.Replies.{replies}
 use Rattle.vault.proofs.Untold.{removes_by}
 use Rattle.vault.proofs.desk.Desk.remove.Goals as goal
 
@@ -18,3 +21,24 @@ returns-clause-machine g c = λ w moment holds faults is_told stands.
     (record { setup = refl; master = refl; shape = refl; profile = refl })
     refl
     c.feed.ensures.step
+
+pub bounds-providers-index : goal.bounds-providers-index
+bounds-providers-index g c = c.requires.there
+
+pub feed-requires : goal.feed-requires
+feed-requires g c = replies c.args.self.now.core c.args.job _ _ c.requires.next.value tt
+
+pub returns-clause-count : goal.returns-clause-count
+returns-clause-count g c = length-set c.args.providers.now c.args.provider c.remove_from.new.from
+
+pub returns-clause-others : goal.returns-clause-others
+returns-clause-others g c = λ k other.
+    get-set_other c.args.providers.now c.args.provider k c.remove_from.new.from other
+
+pub returns-clause-left : goal.returns-clause-left
+returns-clause-left g c = c.feed.ensures.falls
+
+pub returns-clause-called : goal.returns-clause-called
+returns-clause-called g c =
+    called_at g.P.Provider.calls c.args.providers.now c.args.provider c.index-providers-index.result
+    c.remove_from.new.from c.requires.there c.remove_from.ensures.called

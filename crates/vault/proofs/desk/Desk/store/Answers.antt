@@ -1,10 +1,13 @@
-use Rattle.std.proofs.Common.{None, refl, ap, ◌∙◌}
+use Rattle.std.proofs.Common.{None, refl, ap, arith, ◌∙◌}
 use Rattle.std.specs.Prelude.{is_some}
 use Rattle.std.specs.Option.{option_map}
-use Rattle.std.proofs.lemmas.List.{map-set}
+use Rattle.std.proofs.lemmas.List.{map-set, length-set}
+use Rattle.algebra_laws.proofs.Lists.{get-set_other}
 use Rattle.std.proofs.lemmas.Option.{slice_get-get_or, slice_get-map}
 use Rattle.vault.specs.Devices.{sight}
-use Rattle.vault.proofs.JobPlaces.{item_at}
+use Rattle.vault.proofs.Called.{called_at}
+use Rattle.vault.proofs.JobPlaces.{item_at, place_within}
+use Rattle.vault.proofs.Replies.{replies, goes_not_on, padded_end}
 use Rattle.vault.proofs.AtWork.{by_work, place_there}
 use Rattle.vault.proofs.Props.{storer_prop}
 use Rattle.vault.proofs.Stops.{place_set}
@@ -76,3 +79,83 @@ returns-in-Err-Memory-clause-machine g c = λ w moment holds faults is_told stan
     (map-set seen c.args.providers.now c.args.provider c.store.new.to)
     _ _ _ refl refl (record { setup = refl; master = refl; shape = refl; profile = refl }) refl
     (no_memory_by is_told _ _ (found_no_memory _ _ _ _ _ _ _ c.in-Err-Memory.is c.in-Err-Memory.field-0-is c.store.ensures.stored)) c.stop-in-Err-Memory.ensures.stopped
+
+pub index_mut-requires : goal.index_mut-requires
+index_mut-requires g c =
+    omega (arith, place_within c.args.self.now.jobs.items c.args.job _ c.place_of-place.ensures)
+
+pub bounds-providers-index : goal.bounds-providers-index
+bounds-providers-index g c = c.requires.there
+
+pub feed-requires : goal.feed-requires
+feed-requires g c = replies c.args.self.now.core c.args.job _ _ c.requires.next.value tt
+
+pub stop-requires-clause-reply : goal.stop-requires-clause-reply
+stop-requires-clause-reply g c = replies c.args.self.now.core c.args.job _ _ c.requires.next.value tt
+
+pub stop-requires-in-Err-Memory-clause-reply : goal.stop-requires-in-Err-Memory-clause-reply
+stop-requires-in-Err-Memory-clause-reply g c =
+    replies c.args.self.now.core c.args.job _ _ c.requires.next.value tt
+
+pub returns-in-Ok-clause-left : goal.returns-in-Ok-clause-left
+returns-in-Ok-clause-left g c = λ more. c.feed.ensures.falls
+
+pub returns-in-Ok-clause-padded : goal.returns-in-Ok-clause-padded
+returns-in-Ok-clause-padded g c = tt
+
+pub returns-in-Ok-clause-acted : goal.returns-in-Ok-clause-acted
+returns-in-Ok-clause-acted g c = λ none. none
+
+pub returns-in-Ok-clause-count : goal.returns-in-Ok-clause-count
+returns-in-Ok-clause-count g c = length-set c.args.providers.now c.args.provider c.store.new.to
+
+pub returns-in-Ok-clause-others : goal.returns-in-Ok-clause-others
+returns-in-Ok-clause-others g c = λ k other.
+    get-set_other c.args.providers.now c.args.provider k c.store.new.to other
+
+pub returns-in-Ok-clause-called : goal.returns-in-Ok-clause-called
+returns-in-Ok-clause-called g c =
+    called_at g.P.Provider.calls c.args.providers.now c.args.provider c.index-providers-index.result
+    c.store.new.to c.requires.there c.store.ensures.called
+
+pub returns-in-Err-Failed-clause-count : goal.returns-in-Err-Failed-clause-count
+returns-in-Err-Failed-clause-count g c = length-set c.args.providers.now c.args.provider c.store.new.to
+
+pub returns-in-Err-Failed-clause-others : goal.returns-in-Err-Failed-clause-others
+returns-in-Err-Failed-clause-others g c = λ k other.
+    get-set_other c.args.providers.now c.args.provider k c.store.new.to other
+
+pub returns-in-Err-Failed-clause-called : goal.returns-in-Err-Failed-clause-called
+returns-in-Err-Failed-clause-called g c =
+    called_at g.P.Provider.calls c.args.providers.now c.args.provider c.index-providers-index.result
+    c.store.new.to c.requires.there c.store.ensures.called
+
+pub returns-in-Err-Failed-clause-left : goal.returns-in-Err-Failed-clause-left
+returns-in-Err-Failed-clause-left g c = λ more. absurd (goes_not_on _ _ _ _ _ _ c.stop.ensures.stopped more)
+
+pub returns-in-Err-Failed-clause-padded : goal.returns-in-Err-Failed-clause-padded
+returns-in-Err-Failed-clause-padded g c = padded_end _ _ _ _ _ _ c.stop.ensures.stopped tt
+
+pub returns-in-Err-Failed-clause-acted : goal.returns-in-Err-Failed-clause-acted
+returns-in-Err-Failed-clause-acted g c = c.stop.ensures.acted
+
+pub returns-in-Err-Memory-clause-count : goal.returns-in-Err-Memory-clause-count
+returns-in-Err-Memory-clause-count g c = length-set c.args.providers.now c.args.provider c.store.new.to
+
+pub returns-in-Err-Memory-clause-others : goal.returns-in-Err-Memory-clause-others
+returns-in-Err-Memory-clause-others g c = λ k other.
+    get-set_other c.args.providers.now c.args.provider k c.store.new.to other
+
+pub returns-in-Err-Memory-clause-called : goal.returns-in-Err-Memory-clause-called
+returns-in-Err-Memory-clause-called g c =
+    called_at g.P.Provider.calls c.args.providers.now c.args.provider c.index-providers-index.result
+    c.store.new.to c.requires.there c.store.ensures.called
+
+pub returns-in-Err-Memory-clause-left : goal.returns-in-Err-Memory-clause-left
+returns-in-Err-Memory-clause-left g c = λ more. absurd (goes_not_on _ _ _ _ _ _ c.stop-in-Err-Memory.ensures.stopped more)
+
+pub returns-in-Err-Memory-clause-padded : goal.returns-in-Err-Memory-clause-padded
+returns-in-Err-Memory-clause-padded g c = padded_end _ _ _ _ _ _ c.stop-in-Err-Memory.ensures.stopped tt
+
+pub returns-in-Err-Memory-clause-acted : goal.returns-in-Err-Memory-clause-acted
+returns-in-Err-Memory-clause-acted g c = c.stop-in-Err-Memory.ensures.acted

@@ -1,9 +1,10 @@
-use Rattle.std.proofs.Common.{None, refl, ap}
+use Rattle.std.proofs.Common.{None, refl, ap, arith}
 use Rattle.std.specs.Prelude.{is_some}
-use Rattle.vault.proofs.JobPlaces.{item_at}
+use Rattle.vault.proofs.JobPlaces.{item_at, place_within}
 use Rattle.vault_open.specs.Devices.{devices}
 use Rattle.vault.proofs.AtWork.{by_work, place_there}
 use Rattle.vault.proofs.Props.{work_prop}
+use Rattle.vault.proofs.Replies.{replies, goes_not_on, padded_end}
 use Rattle.vault.proofs.Stops.{place_set}
 use Rattle.vault.proofs.WorkStep.{work_there, work_step, lost_step}
 use Rattle.vault.proofs.desk.Desk.work.Goals as goal
@@ -45,3 +46,25 @@ returns-in-Err-clause-machine c = λ w moment d stands.
     lost_step c.args.self.now w d moment c.args.job _ _ stands c.requires.next c.place_of-place.result c.index_mut.result.now at there
     (record { number = c.index_mut.result.now.number; task = c.work.new.self }) refl
     _ _ _ _ _ _ c.in-Err.is refl c.work.ensures refl refl (record { setup = refl; master = refl; shape = refl; profile = refl }) refl c.stop.ensures.stopped
+
+pub index_mut-requires : goal.index_mut-requires
+index_mut-requires c =
+    omega (arith, place_within c.args.self.now.jobs.items c.args.job _ c.place_of-place.ensures)
+
+pub feed-requires : goal.feed-requires
+feed-requires c = replies c.args.self.now.core c.args.job _ _ c.requires.next.value tt
+
+pub stop-requires-clause-reply : goal.stop-requires-clause-reply
+stop-requires-clause-reply c = replies c.args.self.now.core c.args.job _ _ c.requires.next.value tt
+
+pub returns-in-Ok-clause-left : goal.returns-in-Ok-clause-left
+returns-in-Ok-clause-left c = λ more. c.feed.ensures.falls
+
+pub returns-in-Err-clause-left : goal.returns-in-Err-clause-left
+returns-in-Err-clause-left c = λ more. absurd (goes_not_on _ _ _ _ _ _ c.stop.ensures.stopped more)
+
+pub returns-in-Err-clause-padded : goal.returns-in-Err-clause-padded
+returns-in-Err-clause-padded c = padded_end _ _ _ _ _ _ c.stop.ensures.stopped tt
+
+pub returns-in-Err-clause-acted : goal.returns-in-Err-clause-acted
+returns-in-Err-clause-acted c = c.stop.ensures.acted

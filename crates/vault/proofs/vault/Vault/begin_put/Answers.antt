@@ -1,21 +1,72 @@
-use Rattle.std.proofs.Common.{Result, ℕ, ◌∷◌, ◌∙◌, sym, subst, rules}
-use Rattle.machine_defs.specs.Jobs.{PutJob}
+use Rattle.std.proofs.Common.{Result, Err, List, ℕ, ◌∷◌, ◌∙◌, ◌<◌, length, refl, sym, subst, arith}
+use Rattle.record_defs.specs.Records.{largest_file}
+use Rattle.machine_defs.specs.Events.{AreBytes}
+use Rattle.machine_defs.specs.Jobs.{PutJob, ToPut}
+use Rattle.machine_defs.specs.States.{State}
 use Rattle.vault_core.specs.declared.wish.BeginFault.{BeginFault}
-use Rattle.vault.specs.Desks.{DeskMakesBegin}
-use Rattle.vault.proofs.Begun.{aims-counted, turned_down}
-use Rattle.vault.proofs.Puts.{name_cause, causes_of_put}
+use Rattle.vault_core.specs.declared.wish.BeginFault.TheVariants as fault
+use Rattle.vault_open.specs.Devices.{Devices}
 use Rattle.vault_open.proofs.InitEvents.{err-is}
+use Rattle.vault.specs.Desks.{DeskStands, DeskMakesBegin}
 use Rattle.vault.proofs.AtWork.{begun_works}
+use Rattle.vault.proofs.Begun.{aims-counted, memory-alone, turned_down, found_none}
+use Rattle.vault.proofs.Puts.{name_cause, causes_of_put, too-long, put-task}
 use Rattle.vault.proofs.vault.Vault.begin_put.Goals as goal
 
 pub returns-in_err-name-clause-machine : goal.returns-in_err-name-clause-machine
 returns-in_err-name-clause-machine c = λ w d moment stands.
     let v = c.args.self.now.desk in
-    let kind = PutJob c.args.name.now c.args.bytes in
+    let name = c.args.name.now in
+    let kind = PutJob name c.args.bytes in
     let why = c.in_err-name.field-0.0 in
-    subst (λ (r : Result ℕ BeginFault). DeskMakesBegin w moment kind r v d) (sym (err-is c.from_residual.result why c.from_residual.ensures.1))
-    (turned_down v v d w moment kind stands why (aims-counted w (name_cause c.args.name.now ∷ causes_of_put w c.args.name.now c.args.bytes) ∙ c.in_err-name.ensures.refused w (causes_of_put w c.args.name.now c.args.bytes) stands.core))
+    let causes = causes_of_put w name c.args.bytes in
+    subst (λ (r : Result ℕ BeginFault). DeskMakesBegin w moment kind r v d)
+    (sym (err-is c.from_residual.result why c.from_residual.ensures.1))
+    (turned_down v v d w moment kind stands why
+    (aims-counted w (name_cause name ∷ causes) ∙ c.in_err-name.ensures.refused w causes stands.core))
+
+pub returns-then-length-gt-LARGEST_FILE-clause-machine :
+    goal.returns-then-length-gt-LARGEST_FILE-clause-machine
+returns-then-length-gt-LARGEST_FILE-clause-machine c = λ w d moment stands.
+    let v = c.args.self.now.desk in
+    let name = c.args.name.now in
+    let causes = name_cause name ∷ causes_of_put w name c.args.bytes in
+    let long : largest_file < length c.args.bytes =
+    subst (λ (bytes : List ℕ). largest_file < length bytes) c.as_slice-length.ensures
+    c.if-length-gt-LARGEST_FILE.true in
+    turned_down v v d w moment (PutJob name c.args.bytes) stands fault.TooLong
+    (aims-counted w causes ∙ c.in_ok-name.ensures.free w causes stands.core
+    ∙ too-long w name c.args.bytes c.in_ok-name.ensures.is_name long)
+
+pub returns-in_err-bench-clause-machine : goal.returns-in_err-bench-clause-machine
+returns-in_err-bench-clause-machine c = λ w d moment stands.
+    let v = c.args.self.now.desk in
+    let kind = PutJob c.args.name.now c.args.bytes in
+    let why = c.in_err-bench.field-0.0 in
+    subst (λ (r : Result ℕ BeginFault). DeskMakesBegin w moment kind r v d)
+    (sym (err-is c.from_residual-in_err-bench.result why c.from_residual-in_err-bench.ensures.1))
+    (subst (λ (f : BeginFault). DeskMakesBegin w moment kind (Err f) v d)
+    (sym (memory-alone c.bench_for.result why c.bench_for.ensures.err c.in_err-bench.was))
+    (found_none v v d w moment kind stands))
+
+pub admit-requires-clause-size : goal.admit-requires-clause-size
+admit-requires-clause-size c = omega (arith, c.if-length-gt-LARGEST_FILE.false)
+
+pub returns-clause-machine : goal.returns-clause-machine
+returns-clause-machine c = λ w d moment stands.
+    let v = c.args.self.now.desk in
+    c.admit.ensures.machine w d moment (PutJob c.args.name.now c.args.bytes) stands
+    (λ i. ToPut (c.in_ok-name.ensures.named i) (length (c.as_slice-length.ensures i)))
+    (c.in_ok-name.ensures.bytes, subst AreBytes c.as_slice.ensures c.bytes_are_bytes.ensures)
+    (λ accepted. put-task v d w moment c.args.name.now _ _ stands c.in_ok-bench.ensures.ok)
 
 pub invariant_of-self : goal.invariant_of-self
 invariant_of-self c =
-    record { at_work = begun_works c.args.self.now.desk c.admit.new.self (PutJob c.args.name.now c.args.bytes) c.admit.result (search rules) c.args.self.now.at_work }
+    let v = c.args.self.now.desk in
+    let kind = PutJob c.args.name.now c.args.bytes in
+    let made = λ (w : State) (d : Devices) (moment : ℕ) (stands : DeskStands v d w).
+    c.admit.ensures.machine w d moment (PutJob c.args.name.now c.args.bytes) stands
+    (λ i. ToPut (c.in_ok-name.ensures.named i) (length (c.as_slice-length.ensures i)))
+    (c.in_ok-name.ensures.bytes, subst AreBytes c.as_slice.ensures c.bytes_are_bytes.ensures)
+    (λ accepted. put-task v d w moment c.args.name.now _ _ stands c.in_ok-bench.ensures.ok) in
+    record { at_work = begun_works v c.admit.new.self kind c.admit.result made c.args.self.now.at_work }

@@ -1,13 +1,13 @@
 use Rattle.std.proofs.Common.{◌≡◌, ℕ, ◌+◌, ◌*◌, ◌≤◌, refl, sym, arith}
 use Rattle.vault.specs.Benches.{stripes_on}
-use Rattle.vault.proofs.tasks.GetTask.new.Goals as goal
+use Rattle.vault.proofs.getting.room_for.Goals as goal
 
 room : (len cap count made : ℕ) → len ≡ 0 → count ≡ made → made ≤ cap → len + count ≤ cap
 room len cap count made none same fits = omega (arith, none, same, fits)
 
 pub returns : goal.returns
 returns c =
-    let bench = c.args.bench in
+    let bench = c.args.bench.now in
     let file = bench.keys.file in
     let total : c.stripes-stripes.result ≡ stripes_on bench = c.stripes-stripes.ensures.value bench.keys.master.0 in
     let b = c.in_ok-blocks.ensures in
