@@ -4,7 +4,7 @@ ghost use Rattle.record_defs.specs.Table.{files_of};
 ghost use Rattle.command_defs.specs.Lines.{list_lines};
 ghost use Rattle.vault_table.specs.Values.{IsFoldOf};
 
-use crate::pieces::push_named;
+use crate::pieces::push_line;
 use std::alloc::{AllocError, Global};
 use stream_model::{Bytes, Memory};
 use vault_table::Table;
@@ -16,7 +16,7 @@ fn lines_of(alloc: Global, table: &Table) -> Result<Vec<u8>, AllocError>
     let mut text = Vec::new(alloc);
     for place in 0..table.count() {
         if let Some(file) = table.at(place) {
-            push_named(
+            push_line(
                 alloc,
                 &mut text,
                 file.name.as_bytes(),

@@ -1,7 +1,7 @@
 -- When a count of faults rose in a call, from what its parts did.
 use Rattle.std.proofs.Common.{◌≡◌, ◌<◌, ◌≤◌, ℕ, Bool, true, false, refl, sym, ap, ◌∙◌, inl, inr, le_trans, lt_of_le_of_lt, lt_of_lt_of_le}
 use Rattle.std.proofs.lemmas.Bool.{cases_lt}
-use Rattle.std.specs.Prelude.{Err, IsErrOf}
+use Rattle.std.specs.Prelude.{Ok, Err, IsErrOf}
 use Rattle.device_defs.specs.Faults.{HasCause, Rose, last_count}
 use Rattle.stream_model.specs.declared.fault.WriteFault.{WriteFault}
 use Rattle.stream_model.specs.declared.fault.WriteFault.TheVariants as write_fault
@@ -56,3 +56,7 @@ pub sink_failed : {T : Type 0} (fault : WriteFault) (end : ServeEnd) → end ≡
     → end ≡ serve_end.SinkFault → IsErrOf {T = T} (Err fault) write_fault.Failed
 sink_failed write_fault.Failed end is other = refl
 sink_failed write_fault.Memory end is other = absurd (cc (is, other))
+
+-- a value is no fault
+pub not_failed : {T : Type 0} (x : T) → IsErrOf {E = WriteFault} (Ok x) write_fault.Failed → ⊥
+not_failed x is = cc is
