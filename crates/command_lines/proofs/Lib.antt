@@ -1,4 +1,4 @@
 mod ValueSteps
 mod ListSteps
 mod CountSteps
-mod Pushed
+pub mod Pushed

@@ -2,11 +2,15 @@
 use Rattle.std.proofs.Common.{◌≡◌, ℕ, List, [], ◌∷◌, ◌++◌, Result, Ok, Err, is_ok, if◌then◌else◌, OnOk, sym, ap, ◌∙◌, append_assoc}
 use Rattle.machine_defs.specs.Lines.{line}
 
+-- two pieces, one behind the other
+pub both : {mid new : List ℕ} (old first last : List ℕ) → mid ≡ old ++ first → new ≡ mid ++ last → new ≡ old ++ (first ++ last)
+both old first last before behind =
+    behind ∙ ap (λ (text : List ℕ). text ++ last) before ∙ append_assoc old first last
+
 -- a last piece behind another
 pub then_last : {T E : Type 0} (result : Result T E) (old mid new first last : List ℕ) → mid ≡ old ++ first
     → OnOk result (new ≡ mid ++ last) → OnOk result (new ≡ old ++ (first ++ last))
-then_last (Ok done) old mid new first last before behind =
-    behind ∙ ap (λ (text : List ℕ). text ++ last) before ∙ append_assoc old first last
+then_last (Ok done) old mid new first last before behind = both old first last before behind
 then_last (Err fault) old mid new first last before behind = tt
 
 -- the same, where the last piece was put there by the vector itself
