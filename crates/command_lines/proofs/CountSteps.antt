@@ -1,33 +1,21 @@
--- The lines of an audit: their pieces, and one provider more.
+-- The lines of an audit: the line of a provider, and one provider more.
 use Rattle.std.proofs.Common.{◌≡◌, ℕ, ◌+◌, ◌<◌, codes, List, [], ◌∷◌, ◌++◌, length, take, get_or, sym, ap, ◌∙◌, append_assoc, arith}
 use Rattle.std.proofs.lemmas.List.{take_more, append-nil, length-take-le}
-use Rattle.std.proofs.lemmas.Bool.{lt-ltb}
-use Rattle.std.specs.Fmt.{decimal}
+use Rattle.std.specs.Prelude.{nat_lt, if◌then◌else◌}
 use Rattle.machine_defs.specs.Lines.{line, then_number}
 use Rattle.command_defs.specs.Lines.{count_line, count_lines}
+use Rattle.command_lines.proofs.Pushed.{behind_two}
 
--- pieces put together from the end are those from the front
-grouped : (a b c d : List ℕ) → a ++ (b ++ (c ++ d)) ≡ ((a ++ b) ++ c) ++ d
-grouped a b c d = sym (append_assoc (a ++ b) c d ∙ append_assoc a b (c ++ d))
-
--- the first line
-pub audit_line : (number undecided : ℕ) (text : List ℕ) → text ≡ codes "audit " ++ (decimal number ++ (codes " undecided " ++ (decimal undecided ++ 10 ∷ [])))
-    → text ≡ line (codes "audit" ++ then_number number ++ codes " undecided" ++ then_number undecided)
-audit_line number undecided text is =
-    is ∙ ap (λ (rest : List ℕ). codes "audit " ++ rest) (grouped (decimal number) (codes " undecided") (then_number undecided) (10 ∷ []))
-
--- the line of a provider by its word
-provider_line : (j count : ℕ) (word text : List ℕ) → text ≡ codes "provider " ++ (decimal j ++ (codes " count " ++ (decimal count ++ (word ++ 10 ∷ []))))
-    → text ≡ line (codes "provider" ++ then_number j ++ codes " count" ++ then_number count ++ word)
-provider_line j count word text is =
-    is ∙ ap (λ (rest : List ℕ). codes "provider " ++ rest)
-    (grouped (decimal j) (codes " count") (then_number count) (word ++ 10 ∷ [])
-    ∙ sym (append_assoc ((decimal j ++ codes " count") ++ then_number count) word (10 ∷ [])))
-
--- a count above the tolerance
-pub flagged_line : (tolerance j count : ℕ) (text : List ℕ) → tolerance < count
-    → text ≡ codes "provider " ++ (decimal j ++ (codes " count " ++ (decimal count ++ (codes " flagged" ++ 10 ∷ [])))) → text ≡ count_line tolerance j count
-flagged_line tolerance j count text above is = rw (lt-ltb tolerance count above) (provider_line j count (codes " flagged") text is)
+-- the line of a provider from its pieces
+pub count_line_is : (tolerance place count told : ℕ) (end : List ℕ) → told ≡ count
+    → end ≡ line (if nat_lt tolerance count then codes " flagged" else codes " ok")
+    → (codes "provider" ++ then_number place) ++ ((codes " count" ++ then_number told) ++ end) ≡ count_line tolerance place count
+count_line_is tolerance place count told end told_is end_is =
+    let front = codes "provider" ++ then_number place in
+    let word = if nat_lt tolerance count then codes " flagged" else codes " ok" in
+    (λ i. front ++ ((codes " count" ++ then_number (told_is i)) ++ end_is i))
+    ∙ behind_two front (codes " count") (then_number count) (line word)
+    ∙ sym (append_assoc ((front ++ codes " count") ++ then_number count) word (10 ∷ []))
 
 -- one count more, behind others
 count_lines-snoc : (tolerance j : ℕ) (counts : List ℕ) (count : ℕ) → count_lines tolerance j (counts ++ count ∷ []) ≡ count_lines tolerance j counts ++ count_line tolerance (j + length counts) count

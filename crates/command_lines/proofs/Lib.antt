@@ -1,3 +1,4 @@
 mod ValueSteps
 mod ListSteps
 mod CountSteps
+pub mod Pushed

@@ -2,7 +2,7 @@
 ghost use Rattle.std.specs.Prelude.{◌≡◌, IfOk};
 ghost use Rattle.command_defs.specs.Lines.{ready_line, stored_line, dropped_line, repaired_line};
 
-use crate::pieces::push_named;
+use crate::pieces::{numbered_line, push_line};
 use std::alloc::Global;
 use stream_model::{Bytes, Memory};
 
@@ -18,7 +18,7 @@ pub fn stored_line(alloc: Global, name: &[u8], length: usize) -> Result<Bytes, M
     ensures { IfOk result (λ line. line ≡ stored_line name.now length) }
 {
     let mut text = b"stored ".to_vec(alloc)?;
-    push_named(alloc, &mut text, name, length as u64)?;
+    push_line(alloc, &mut text, name, length as u64)?;
     Ok(Bytes::from_vec(text))
 }
 
@@ -36,6 +36,5 @@ pub fn dropped_line(alloc: Global, name: &[u8]) -> Result<Bytes, Memory>
 pub fn repaired_line(alloc: Global, number: u64) -> Result<Bytes, Memory>
     ensures { IfOk result (λ line. line ≡ repaired_line number) }
 {
-    let text = format!(in alloc; "repaired {number}\n")?;
-    Ok(Bytes::from_vec(text.into_bytes()))
+    numbered_line(alloc, b"repaired", number)
 }

@@ -9,7 +9,7 @@ use hail_field::Memory;
 use std::alloc::Global;
 
 /// A command that words spell. A name is the bytes of its word, whatever they are: they may be no name of a file.
-#[derive(Debug, PartialEq, Eq, Drop)]
+#[derive(PartialEq, Eq, Drop)]
 pub enum Command<'a> {
     /// `row` with a shape and the symbols that were seen.
     Row(Row),

@@ -10,7 +10,7 @@ use crate::word::read_number;
 use record_codec::Setup;
 
 /// The numbers of the command `init`, as its words spell them: they may fit no setup.
-#[derive(Clone, Copy, Debug, PartialEq, Eq)]
+#[derive(Clone, Copy, PartialEq, Eq)]
 pub struct Numbers {
     pub n: u128,
     pub l: u128,

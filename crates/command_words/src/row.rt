@@ -9,7 +9,7 @@ use hail_field::Symbol;
 use std::alloc::{AllocError, Global};
 
 /// The numbers and the symbols of the command `row`.
-#[derive(Debug, PartialEq, Eq, Drop)]
+#[derive(PartialEq, Eq, Drop)]
 pub struct Row {
     pub n: u128,
     pub l: u128,

@@ -5,7 +5,7 @@ ghost use Rattle.vault_core.specs.Carried.{refusal_of};
 ghost use Rattle.hail_client.specs.Outcomes.{client_begin_outcome};
 
 use crate::refused::refused_line;
-use crate::text::of_text;
+use command_lines::numbered_line;
 use std::alloc::Global;
 use stream_model::{Bytes, Memory};
 use vault::BeginFault;
@@ -35,7 +35,7 @@ pub fn begin_line(alloc: Global, answer: Option<Result<u32, BeginFault>>) -> Res
 {
     match answer {
         None => Bytes::from_slice(alloc, b"closed\n"),
-        Some(Ok(job)) => { Ok(of_text(format!(in alloc; "job {job}\n")?)) }
+        Some(Ok(job)) => numbered_line(alloc, b"job", u64::from(job)),
         Some(Err(fault)) => refused_line(alloc, name_of(fault)),
     }
 }

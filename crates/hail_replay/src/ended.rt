@@ -1,13 +1,14 @@
 // The line of a job that ended.
-ghost use Rattle.std.specs.Prelude.{◌≡◌, ◌≤◌, ◌++◌, codes, length, IfOk, OnOk};
+ghost use Rattle.std.specs.Prelude.{◌≡◌, ◌++◌, codes, IfOk, OnOk};
 ghost use Rattle.std.specs.List.{flat_map};
 ghost use Rattle.std.specs.String.{string_bytes};
-ghost use Rattle.machine_defs.specs.Answers.{Got, Audited};
+ghost use Rattle.machine_defs.specs.Answers.{Got, Audited, Lost};
 ghost use Rattle.machine_defs.specs.Lines.{line, then_number, hex, hex_or_dash, answer_text};
 ghost use Rattle.record_codec.specs.Entries.{counted};
 ghost use Rattle.vault.specs.Outcomes.{machine_answer};
 
-use crate::text::of_text;
+use crate::text::{of_text, push_list};
+use command_lines::{counts_in_use, numbered_line, push_counted, push_line};
 use record_codec::Counts;
 use std::alloc::{AllocError, Global};
 use stream_model::{Bytes, Memory};
@@ -39,25 +40,20 @@ fn got_line(alloc: Global, bytes: &[u8]) -> Result<Bytes, Memory>
     Ok(of_text(format!(in alloc; "got {word}\n")?))
 }
 
-/// Puts each number, after a space, behind a text. After want of memory some front of them may stand there.
-pub fn push_numbers(alloc: Global, text: &mut Vec<u8>, numbers: &[u32]) -> Result<(), AllocError>
-    ensures { OnOk result (text.new.items ≡ text.old.items ++ flat_map then_number numbers.now) }
+/// Puts the line of an audit behind a text.
+fn push_audited(
+    alloc: Global,
+    text: &mut Vec<u8>,
+    number: u64,
+    undecided: u32,
+    counts: &[u32],
+) -> Result<(), AllocError>
+    ensures { OnOk result (text.new.items ≡ text.old.items ++ line (answer_text
+        (Audited number undecided counts.now))) }
 {
-    for place in 0..numbers.len() {
-        let number = numbers[place];
-        let word = format!(in alloc; " {number}")?;
-        text.extend_from_slice(word.as_bytes())?;
-    }
-    Ok(())
-}
-
-/// The counts of the providers that are in use.
-pub fn counts_in_use(counts: &Counts) -> &[u32]
-    ensures value { result.now ≡ counted counts.now }
-    ensures most { length result.now ≤ 16 }
-{
-    let n = usize::from(counts.n).min(counts.by.len());
-    &counts.by[..n]
+    push_counted(alloc, text, b"audited", number)?;
+    push_counted(alloc, text, b" undecided", u64::from(undecided))?;
+    push_list(alloc, text, b" counts", counts)
 }
 
 /// The line of an audit.
@@ -70,10 +66,30 @@ fn audited_line(
     ensures { IfOk result (λ text. text ≡ line (answer_text
         (Audited number undecided (counted counts.now)))) }
 {
-    let front = format!(in alloc; "audited {number} undecided {undecided} counts")?;
-    let mut text = front.into_bytes();
-    push_numbers(alloc, &mut text, counts_in_use(counts))?;
-    text.push(b'\n')?;
+    let mut text = Vec::new(alloc);
+    push_audited(alloc, &mut text, number, undecided, counts_in_use(counts))?;
+    Ok(Bytes::from_vec(text))
+}
+
+/// Puts the line of a lost row behind a text.
+fn push_lost(
+    alloc: Global,
+    text: &mut Vec<u8>,
+    stripe: u32,
+    row: u64,
+) -> Result<(), AllocError>
+    ensures { OnOk result (text.new.items ≡ text.old.items ++ line (answer_text (Lost stripe row))) }
+{
+    push_counted(alloc, text, b"lost", u64::from(stripe))?;
+    push_line(alloc, text, b"", row)
+}
+
+/// The line of a lost row.
+fn lost_line(alloc: Global, stripe: u32, row: u64) -> Result<Bytes, Memory>
+    ensures { IfOk result (λ text. text ≡ line (answer_text (Lost stripe row))) }
+{
+    let mut text = Vec::new(alloc);
+    push_lost(alloc, &mut text, stripe, row)?;
     Ok(Bytes::from_vec(text))
 }
 
@@ -90,10 +106,10 @@ pub fn answer_line(alloc: Global, answer: &Answer) -> Result<Bytes, Memory>
             undecided,
             counts,
         } => audited_line(alloc, *number, *undecided, counts),
-        Answer::Repaired { number } => { Ok(of_text(format!(in alloc; "repaired {number}\n")?)) }
-        Answer::Lost { stripe, row } => { Ok(of_text(format!(in alloc; "lost {stripe} {row}\n")?)) }
+        Answer::Repaired { number } => numbered_line(alloc, b"repaired", *number),
+        Answer::Lost { stripe, row } => lost_line(alloc, *stripe, *row),
         Answer::ProviderFault { provider } => {
-            Ok(of_text(format!(in alloc; "provider fault {provider}\n")?))
+            numbered_line(alloc, b"provider fault", u64::from(*provider))
         }
         Answer::DiskFault => Bytes::from_slice(alloc, b"disk fault\n"),
         Answer::Memory => Bytes::from_slice(alloc, b"memory\n"),

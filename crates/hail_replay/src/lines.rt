@@ -1,45 +1,22 @@
 // The six lines of a trial.
 ghost use Rattle.std.specs.Prelude.{◌≡◌, ◌++◌, codes, IfOk, OnOk};
 ghost use Rattle.std.specs.List.{flat_map};
-ghost use Rattle.std.specs.String.{string_bytes};
 ghost use Rattle.machine_defs.specs.Lines.{line, then_number};
 ghost use Rattle.hail_replay.specs.Counts.{trial_lines};
 
-use crate::push_numbers;
 use crate::tally::Tally;
+use crate::text::push_list;
+use command_lines::{push_counted, push_line};
 use std::alloc::{AllocError, Global};
 use stream_model::{Bytes, Memory};
 
-/// How many events were done in the trial of a number.
-fn event_lines(alloc: Global, number: u64, events: u64) -> Result<String, AllocError>
-    ensures { IfOk result (λ text. string_bytes text ≡ line (codes "trial" ++ then_number number) ++ line
-        (codes "events" ++ then_number events)) }
-{
-    Ok(format!(in alloc; "trial {number}\nevents {events}\n")?)
-}
-
-/// How many gets ended with bytes, and how many of them with the right ones.
-fn get_line(alloc: Global, gets: u64, right: u64) -> Result<String, AllocError>
-    ensures { IfOk result (λ text. string_bytes text ≡ line
+/// Puts how many gets ended with bytes, and how many of them with the right ones, behind a text.
+fn push_gets(alloc: Global, text: &mut Vec<u8>, gets: u64, right: u64) -> Result<(), AllocError>
+    ensures { OnOk result (text.new.items ≡ text.old.items ++ line
         (codes "gets" ++ then_number gets ++ codes " right" ++ then_number right)) }
 {
-    Ok(format!(in alloc; "gets {gets} right {right}\n")?)
-}
-
-/// How many audits ended, without whom they flagged.
-fn audit_front(alloc: Global, audits: u64) -> Result<String, AllocError>
-    ensures { IfOk result (λ text. string_bytes text ≡ codes "audits" ++ then_number audits ++ codes
-        " flagged") }
-{
-    Ok(format!(in alloc; "audits {audits} flagged")?)
-}
-
-/// How many repairs ended, and how many stops there were.
-fn end_lines(alloc: Global, repairs: u64, stops: u64) -> Result<String, AllocError>
-    ensures { IfOk result (λ text. string_bytes text ≡ line (codes "repairs" ++ then_number repairs) ++ line
-        (codes "stops" ++ then_number stops)) }
-{
-    Ok(format!(in alloc; "repairs {repairs}\nstops {stops}\n")?)
+    push_counted(alloc, text, b"gets", gets)?;
+    push_line(alloc, text, b" right", right)
 }
 
 /// Puts how many audits ended, and whom they flagged, behind a text.
@@ -52,22 +29,37 @@ fn push_audits(
     ensures { OnOk result (text.new.items ≡ text.old.items ++ line
         (codes "audits" ++ then_number audits ++ codes " flagged" ++ flat_map then_number flagged.now)) }
 {
-    let front = audit_front(alloc, audits)?;
-    text.extend_from_slice(front.as_bytes())?;
-    push_numbers(alloc, text, flagged)?;
-    text.push(b'\n')?;
-    Ok(())
+    push_counted(alloc, text, b"audits", audits)?;
+    push_list(alloc, text, b" flagged", flagged)
+}
+
+/// Puts how many repairs ended, and how many stops there were, behind a text.
+fn push_ends(alloc: Global, text: &mut Vec<u8>, repairs: u64, stops: u64) -> Result<(), AllocError>
+    ensures { OnOk result (text.new.items ≡ text.old.items ++ (line
+        (codes "repairs" ++ then_number repairs) ++ line (codes "stops" ++ then_number stops))) }
+{
+    push_line(alloc, text, b"repairs", repairs)?;
+    push_line(alloc, text, b"stops", stops)
 }
 
 impl Tally {
+    /// Puts the six lines behind a text.
+    fn push_lines(&self, alloc: Global, number: u64, text: &mut Vec<u8>) -> Result<(), AllocError>
+        ensures { OnOk result (text.new.items ≡ text.old.items ++ trial_lines number self.now) }
+    {
+        push_line(alloc, text, b"trial", number)?;
+        push_line(alloc, text, b"events", self.events)?;
+        push_gets(alloc, text, self.gets, self.right)?;
+        push_audits(alloc, text, self.audits, &self.flagged)?;
+        push_ends(alloc, text, self.repairs, self.stops)
+    }
+
     /// The six lines that tell the counts of the trial of a number. Want of memory is its one refusal.
     pub fn lines(&self, alloc: Global, number: u64) -> Result<Bytes, Memory>
         ensures { IfOk result (λ text. text ≡ trial_lines number self.now) }
     {
-        let mut text = event_lines(alloc, number, self.events)?.into_bytes();
-        text.extend_from_slice(get_line(alloc, self.gets, self.right)?.as_bytes())?;
-        push_audits(alloc, &mut text, self.audits, &self.flagged)?;
-        text.extend_from_slice(end_lines(alloc, self.repairs, self.stops)?.as_bytes())?;
+        let mut text = Vec::new(alloc);
+        self.push_lines(alloc, number, &mut text)?;
         Ok(Bytes::from_vec(text))
     }
 }

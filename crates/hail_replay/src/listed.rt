@@ -4,7 +4,7 @@ ghost use Rattle.machine_defs.specs.Events.{Listed};
 ghost use Rattle.machine_defs.specs.Lines.{lines_of};
 ghost use Rattle.hail_client.specs.Outcomes.{names_outcome};
 
-use command_lines::list_lines;
+use command_lines::{push_files, push_line};
 use std::alloc::Global;
 use stream_model::{Bytes, Memory};
 use vault_table::Table;
@@ -13,10 +13,9 @@ use vault_table::Table;
 fn listed_lines(alloc: Global, table: &Table) -> Result<Bytes, Memory>
     ensures { IfOk result (λ text. text ≡ lines_of (Listed table.now.files)) }
 {
-    let count = table.count();
-    let files = list_lines(alloc, table)?;
-    let mut text = format!(in alloc; "names {count}\n")?.into_bytes();
-    text.extend_from_slice(files.as_slice())?;
+    let mut text = Vec::new(alloc);
+    push_line(alloc, &mut text, b"names", table.count() as u64)?;
+    push_files(alloc, &mut text, table)?;
     Ok(Bytes::from_vec(text))
 }
 

@@ -4,6 +4,7 @@ ghost use Rattle.machine_defs.specs.Lines.{line, refusal_text};
 ghost use Rattle.machine_defs.specs.Refusals.{BadJournal};
 
 use crate::text::of_text;
+use command_lines::numbered_line;
 use std::alloc::Global;
 use stream_model::{Bytes, Memory};
 
@@ -18,5 +19,5 @@ pub(crate) fn refused_line(alloc: Global, name: &str) -> Result<Bytes, Memory>
 pub(crate) fn bad_journal_line(alloc: Global, at: u64) -> Result<Bytes, Memory>
     ensures { IfOk result (λ text. text ≡ line (codes "refused " ++ refusal_text (BadJournal at))) }
 {
-    Ok(of_text(format!(in alloc; "refused BadJournal {at}\n")?))
+    numbered_line(alloc, b"refused BadJournal", at)
 }

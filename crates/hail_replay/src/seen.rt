@@ -6,7 +6,8 @@ ghost use Rattle.hail_replay.specs.Came.{came_outcome};
 ghost use Rattle.hail_replay.specs.Counts.{flagged_from};
 ghost use Rattle.hail_replay.specs.Seen.{IsSeen};
 
-use crate::{Came, counts_in_use};
+use crate::Came;
+use command_lines::counts_in_use;
 use std::alloc::{AllocError, Global};
 use trial_maker::TOLERANCE;
 use vault::{Answer, Turn};

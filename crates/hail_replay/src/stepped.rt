@@ -5,7 +5,7 @@ ghost use Rattle.hail_client.specs.Outcomes.{step_outcome};
 
 use crate::ended::answer_line;
 use crate::refused::refused_line;
-use crate::text::of_text;
+use command_lines::numbered_line;
 use std::alloc::Global;
 use stream_model::{Bytes, Memory};
 use vault::Turn;
@@ -18,7 +18,7 @@ pub fn step_line(alloc: Global, answer: &Option<Turn>) -> Result<Bytes, Memory>
     match answer {
         None => Bytes::from_slice(alloc, b"closed\n"),
         Some(Turn::More) => Bytes::from_slice(alloc, b"more\n"),
-        Some(Turn::Waiting { holder }) => { Ok(of_text(format!(in alloc; "waiting {holder}\n")?)) }
+        Some(Turn::Waiting { holder }) => numbered_line(alloc, b"waiting", u64::from(*holder)),
         Some(Turn::Done(end)) => answer_line(alloc, &end.answer),
         Some(Turn::NoSuchJob) => refused_line(alloc, "NoSuchJob"),
         Some(Turn::MustReopen) => refused_line(alloc, "MustReopen"),

@@ -15,4 +15,5 @@ pub mod Determined
 pub mod BadBytes
 pub mod OneEnd
 pub mod Counting
+pub mod Causes
 pub mod Instances

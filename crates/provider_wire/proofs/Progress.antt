@@ -1,6 +1,7 @@
 -- How far a server has come, and how it ends.
-use Rattle.std.proofs.Common.{◌≡◌, ◌≢◌, ℕ, ◌+◌, ◌-◌, ◌<◌, ◌≤◌, true, false, List, [], ◌∷◌, ◌++◌, length, take, drop, Option, refl, sym, ap, subst, ◌∙◌, append_assoc, arith, inl, inr, length-append, length-take, length-drop, take-append-drop}
+use Rattle.std.proofs.Common.{◌≡◌, ◌≢◌, ℕ, ◌+◌, ◌-◌, ◌<◌, ◌≤◌, true, false, List, [], ◌∷◌, ◌++◌, length, take, drop, Option, refl, sym, ap, subst, ◌∙◌, append_assoc, arith, inl, inr, length-append, length-take, length-drop, take-append-drop, Fits}
 use Rattle.std.specs.Prelude.{IfSome}
+use Rattle.std.specs.Int.{w64}
 use Rattle.std.proofs.Math.Seq.{take-take}
 use Rattle.std.proofs.lemmas.Bool.{cases_lt, and_from}
 use Rattle.std.proofs.lemmas.List.{append-nil, take_all, drop-take}
@@ -346,6 +347,148 @@ module _ (had left : Option (List ℕ)) (taken w done : ℕ) (waiting bytes : Li
   -- all of the bytes are within the limit
   pub all_within : taken ≤ most_bytes → bytes ≡ waiting
   all_within less = is ∙ take_all w waiting (omega (arith, w_is))
+
+-- what a server read once more, as its window tells it
+abbrev pub Given : Option (List ℕ) → Option (List ℕ) → ℕ → ℕ → List ℕ → List ℕ → Type 0
+Given left left' most n waiting more =
+    (part : List ℕ) × (more ≡ waiting ++ part) × (length part ≡ n) × (n ≤ most) × (left ≡ then_told part left')
+
+-- so many bytes are no more than a number of 64 bits holds
+pub most_and_one_fits : Fits w64 16777217
+most_and_one_fits = record { fits = omega arith }
+
+-- there is room for one byte more
+pub room_for_one : {taken : ℕ} → taken ≤ 16777216 → 0 < 16777217 - taken
+room_for_one within = omega arith
+
+-- a server has not read more than one byte too many
+pub no_more_than_most : {taken : ℕ} → taken ≤ 16777216 → taken ≤ 16777217
+no_more_than_most within = omega arith
+
+-- what waits for the rest of a request fits a window
+pub fits_window : {size : ℕ} → size < 2062 → size < 65536
+fits_window small = omega arith
+
+-- a server that read something has less to read
+pub less_to_read : {taken n : ℕ} → taken ≤ 16777216 → n ≢ 0 → 16777217 - (taken + n) < 16777217 - taken
+less_to_read within some = omega arith
+
+-- what waits is short where the rest of the bytes is
+pub rest_is_short : (bytes rest : List ℕ) (done : ℕ) → drop done bytes ≡ rest → length bytes - done < 2062 → length rest < 2062
+rest_is_short bytes rest done is small = omega (arith, length-drop done bytes, ap length is)
+
+module _ {had left : Option (List ℕ)} (left' : Option (List ℕ)) {taken n size : ℕ} {waiting more : List ℕ}
+    {old mid : Provider} {was then_ : Option (List ℕ)} (p : Progress had left taken waiting old mid was then_)
+    (given : Given left left' (16777217 - taken) n waiting more) (within : taken ≤ 16777216)
+    (size_is : size ≡ length more) where
+  -- so far a server has come with what it read
+  pub read_more : Progress had left' (taken + n) more old mid was then_
+  read_more = grown_to had left left' taken n (16777217 - taken) waiting more old mid was then_ p given
+
+  more_size : length more ≡ length waiting + n
+  more_size = ap length given.1 ∙ length-append waiting given.0 ∙ ap (λ (k : ℕ). length waiting + k) given.2
+
+  -- it has read one byte too many at most
+  pub few_read : taken + n ≤ 16777217
+  few_read = omega (arith, given.3)
+
+  -- how many it has read fits a number of 64 bits
+  pub read_fits : Fits w64 (taken + n)
+  read_fits = record { fits = omega (arith, few_read) }
+
+  -- what waits has been read
+  pub waiting_was_read : size ≤ taken + n
+  waiting_was_read = omega (arith, waiting_is_taken read_more, size_is)
+
+  -- where nothing came
+  pub waited_before : n ≡ 0 → size ≤ taken
+  waited_before none = omega (arith, waiting_was_read, none)
+
+  -- the bytes beyond the limit are among those that wait
+  pub beyond_waits : {over : ℕ} → over ≡ taken + n - 16777216 → over ≤ size
+  beyond_waits over_is = omega (arith, over_is, more_size, size_is)
+
+  -- where something came, something waits
+  pub some_wait : n ≢ 0 → 0 < length more
+  some_wait some = omega (arith, more_size)
+
+  module _ {over : ℕ} {slice : List ℕ} (over_is : over ≡ taken + n - 16777216) (slice_is : slice ≡ more) where
+    -- how many of those that wait are within the limit
+    pub width_is : size - over ≡ length more - (taken + n - 16777216)
+    width_is = ap (λ (k : ℕ). k - over) size_is ∙ ap (λ (k : ℕ). length more - k) over_is
+
+    -- so many there are
+    pub bytes_size : size - over ≡ length (take (size - over) slice)
+    bytes_size = omega (arith, length-take (size - over) slice, ap length slice_is, size_is)
+
+    -- the whole requests at their front wait
+    pub front_waits : {done : ℕ} → done ≤ length (take (size - over) slice) → done ≤ size
+    front_waits fits = omega (arith, bytes_size, fits)
+
+    pub front_is_there : {done : ℕ} → done ≤ length (take (size - over) slice) → done ≤ length more
+    front_is_there fits = omega (arith, front_waits fits, size_is)
+
+    -- the rest of them has been read
+    pub rest_was_read : (done : ℕ) → size - done ≤ taken + n
+    rest_was_read done = omega (arith, waiting_was_read)
+
+    -- the whole requests at their front were answered
+    module _ {done : ℕ} {new : Provider} {now : Option (List ℕ)} (some : n ≢ 0)
+        (fits : done ≤ length (take (size - over) slice))
+        (s : ServesAll (take done (take (size - over) slice)) mid new then_ now) where
+      front_is : take (size - over) slice ≡ take (size - over) more
+      front_is = ap (take (size - over)) slice_is
+
+      -- so far a server has come then
+      pub went_on : Progress had left' (taken + n) (drop done more) old new was now
+      went_on =
+          turned had left' (taken + n) (size - over) done more (take (size - over) slice) old mid new was then_ now
+          read_more front_is width_is few_read (some_wait some) fits s
+
+      -- the rest is bad
+      pub bad_at : is_bad_request (drop done (take (size - over) slice)) ≡ true
+          → HasServed (BadAt (taken + n - (size - done))) had left' old new was now
+      bad_at bad =
+          turned_bad had left' (taken + n) (size - over) done more (take (size - over) slice) old mid new was then_ now
+          read_more front_is width_is few_read (some_wait some) fits s
+          (taken + n - (size - done)) (ap (λ (k : ℕ). taken + n - (k - done)) size_is) bad
+
+      -- the source gave too much
+      pub too_long : 16777216 < taken + n → SpellsNoRequest (drop done (take (size - over) slice))
+          → is_bad_request (drop done (take (size - over) slice)) ≡ false → HasServed TooMany had left' old new was now
+      too_long more_came none fine =
+          turned_long had left' (taken + n) (size - over) done more (take (size - over) slice) old mid new was then_ now
+          read_more front_is width_is few_read (some_wait some) fits s more_came none fine
+
+      -- within the limit the rest is what waits for more
+      pub rest_waits : taken + n ≤ 16777216 → drop done (take (size - over) slice) ≡ drop done more
+      rest_waits less = ap (drop done)
+          (all_within had left' (taken + n) (size - over) done more (take (size - over) slice) old mid new was then_ now
+          read_more front_is width_is few_read (some_wait some) fits s less)
+
+  -- nothing came, and the source is at its end
+  module _ (none : n ≡ 0) (end : n ≡ 0 → 0 < 16777217 - taken → length waiting < 65536 → IfSome left (λ xs. xs ≡ []))
+      (small : length waiting < 2062) where
+    nothing : length given.0 ≡ 0
+    nothing = given.2 ∙ none
+
+    same_size : length more ≡ length waiting
+    same_size = omega (arith, more_size, none)
+
+    at_end : IfSome left (λ xs. xs ≡ [])
+    at_end = end none (room_for_one within) (fits_window small)
+
+    -- where nothing waits, a request was due
+    pub finished_at : size ≡ 0 → HasServed Finished had left' old mid was then_
+    finished_at empty =
+        finished had left taken waiting old mid was then_ p left' given.0 given.4 nothing at_end within
+        (sym same_size ∙ sym size_is ∙ empty)
+
+    -- where something waits, it ended inside a request
+    pub stopped_at : SpellsNoRequest waiting → size ≢ 0 → HasServed (BadAt (taken - size)) had left' old mid was then_
+    stopped_at spells some =
+        ended_inside_at had left taken waiting old mid was then_ p left' given.0 given.4 nothing at_end within spells
+        (omega (arith, same_size, size_is)) (taken - size) (ap (λ (k : ℕ). taken - k) (size_is ∙ same_size))
 
 -- there was no memory before anything was read
 pub no_memory : (had : Option (List ℕ)) (p : Provider) (w : Option (List ℕ)) → HasServed OutOfMemory had had p p w w

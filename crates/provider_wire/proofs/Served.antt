@@ -1,13 +1,15 @@
 -- What a server has done with the requests that came so far.
-use Rattle.std.proofs.Common.{◌≡◌, ℕ, ◌+◌, ◌-◌, List, [], ◌∷◌, ◌++◌, take, drop, Option, Some, None, refl, sym, ap, subst, ◌∙◌, append_assoc}
-use Rattle.std.specs.Prelude.{IfErr, Result, Ok, Err}
+use Rattle.std.proofs.Common.{◌≡◌, ℕ, ◌+◌, ◌-◌, ◌<◌, ◌≤◌, List, [], ◌∷◌, ◌++◌, length, take, drop, Option, Some, None, false, refl, sym, ap, subst, ◌∙◌, append_assoc, arith, length-drop, length-take, Fits}
+use Rattle.std.specs.Prelude.{IfOk, IfErr, IsErr, Result, Ok, Err}
+use Rattle.std.specs.Int.{w64}
+use Rattle.std.proofs.lemmas.List.{take_rest}
 use Rattle.std.specs.List.{list_all}
 use Rattle.std.proofs.Math.Seq.{take-add}
 use Rattle.std.proofs.lemmas.Bool.{and_from}
 use Rattle.device_defs.specs.Told.{told_then, then_told, TakesFront}
 use Rattle.device_defs.specs.Providers.{Provider}
 use Rattle.device_defs.proofs.Lasting.{told_then-nothing}
-use Rattle.wire_defs.specs.Requests.{Request, is_request, SpellsRequest, AreFrames}
+use Rattle.wire_defs.specs.Requests.{Request, is_request, is_bad_request, SpellsRequest, AreFrames}
 use Rattle.wire_defs.specs.Replies.{AnswersIn, reply_bytes, replies_text}
 use Rattle.wire_defs.specs.Serving.{ServesAll, ServesPart}
 use Rattle.stream_model.proofs.ToldLemmas.{told_then-append}
@@ -57,3 +59,28 @@ module _ (bytes : List ℕ) (at size : ℕ) (r : Request) (old mid new : Provide
 pub if_err : {A E : Type 0} (r : Result A E) (P : Type 0) → P → IfErr r (λ _. P)
 if_err (Ok x) P p = tt
 if_err (Err e) P p = p
+
+-- what is told of any value, where there is none
+pub no_value : {A E : Type 0} (r : Result A E) (P : A → Type 0) → IsErr r → IfOk r P
+no_value (Ok x) P is = absurd cc
+no_value (Err e) P is = tt
+
+-- the end of a request is within the bytes
+pub within_rest : (bytes : List ℕ) (at size : ℕ) → at ≤ length bytes
+    → size ≤ length (take (length bytes - at) (drop at bytes)) → at + size ≤ length bytes
+within_rest bytes at size within fits =
+    omega (arith, fits, length-take (length bytes - at) (drop at bytes), length-drop at bytes)
+
+-- behind a request fewer bytes are left
+pub nearer : (bytes : List ℕ) (at size : ℕ) → size ≤ length (take (length bytes - at) (drop at bytes)) → 0 < size
+    → length bytes - (at + size) < length bytes - at
+nearer bytes at size fits some =
+    omega (arith, fits, some, length-take (length bytes - at) (drop at bytes), length-drop at bytes)
+
+-- where no request stands and none is bad, few bytes are left
+pub short_rest : (bytes : List ℕ) (at : ℕ) → (is_bad_request (take (length bytes - at) (drop at bytes)) ≡ false
+    → length (take (length bytes - at) (drop at bytes)) < 2062)
+    → is_bad_request (drop at bytes) ≡ false → length bytes - at < 2062
+short_rest bytes at short fine =
+    let small = short (ap is_bad_request (take_rest bytes at) ∙ fine) in
+    omega (arith, small, length-take (length bytes - at) (drop at bytes), length-drop at bytes)

@@ -1,4 +1,4 @@
-ghost use Rattle.std.specs.Prelude.{◌≡◌, ◌≤◌, ◌^◌, ◌+◌};
+ghost use Rattle.std.specs.Prelude.{◌≡◌, ◌≤◌, ◌^◌, ◌+◌, ◌∷◌};
 ghost use Rattle.wire_defs.specs.Requests.{is_bad_request, misses, number_misses};
 
 /// Whether the byte at a place is there, and not from `low` to `high`.
@@ -21,15 +21,25 @@ fn rows_miss(bytes: &[u8]) -> bool
     }
 }
 
+/// Whether these bytes, behind their kind, begin no request.
+fn is_bad_behind(kind: u8, rest: &[u8]) -> bool
+    ensures { result ≡ is_bad_request (kind ∷ rest.now) }
+{
+    match kind {
+        1 | 2 => misses(12, 1, 128, rest),
+        3 => rows_miss(rest) || misses(48, 1, 128, rest) || misses(49, 1, 64, rest),
+        4 => false,
+        _ => true,
+    }
+}
+
 /// Whether bytes begin no request, whatever comes behind them: they have no kind of request, or a field that stands whole
 /// in them is out of its limits.
 pub fn is_bad(bytes: &[u8]) -> bool
     ensures { result ≡ is_bad_request bytes.now }
 {
     match bytes {
-        [] | [4, ..] => false,
-        [1, rest @ ..] | [2, rest @ ..] => misses(12, 1, 128, rest),
-        [3, rest @ ..] => rows_miss(rest) || misses(48, 1, 128, rest) || misses(49, 1, 64, rest),
-        _ => true,
+        [] => false,
+        [kind, rest @ ..] => is_bad_behind(*kind, rest),
     }
 }

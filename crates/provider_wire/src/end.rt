@@ -1,5 +1,5 @@
 /// How a server of the requests in a source ends.
-#[derive(Clone, Copy, Debug, PartialEq, Eq)]
+#[derive(Clone, Copy, PartialEq, Eq)]
 pub enum ServeEnd {
     /// The source ended where a request is due.
     Done,

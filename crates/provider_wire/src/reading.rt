@@ -1,5 +1,5 @@
 // Reads a request from the front of bytes.
-ghost use Rattle.std.specs.Prelude.{◌≡◌, ◌++◌, ◌≤◌, ◌<◌, false, length, take, IfSome, IfNone};
+ghost use Rattle.std.specs.Prelude.{◌≡◌, ◌∷◌, ◌++◌, ◌≤◌, ◌<◌, false, length, take, IfSome, IfNone};
 ghost use Rattle.std.specs.Option.{option_map};
 ghost use Rattle.wire_defs.specs.Requests.{SpellsRequest, SpellsNoRequest, is_bad_request};
 ghost use Rattle.provider_wire.specs.Asking.{request_of};
@@ -79,16 +79,28 @@ fn remove_of(bytes: &[u8]) -> Option<(Request, &[u8])>
     Some((Request::Remove { object }, rest))
 }
 
+/// The request of this kind.
+#[tactic(auto, unfolding(crate::specs::Reading::request_at))]
+fn request_behind(kind: u8, bytes: &[u8]) -> Option<(Request, &[u8])>
+    ensures { option_map (λ x. (request_of x.0, x.1.now)) result ≡ request_at (kind ∷ bytes.now) }
+{
+    match kind {
+        1 => store_of(bytes),
+        2 => fetch_of(bytes),
+        3 => ask_of(bytes),
+        4 => remove_of(bytes),
+        _ => None,
+    }
+}
+
+/// The request at the front of bytes, and what stands behind it.
 #[tactic(auto, unfolding(crate::specs::Reading::request_at))]
 fn request_in(bytes: &[u8]) -> Option<(Request, &[u8])>
     ensures { option_map (λ x. (request_of x.0, x.1.now)) result ≡ request_at bytes.now }
 {
     match bytes {
-        [1, rest @ ..] => store_of(rest),
-        [2, rest @ ..] => fetch_of(rest),
-        [3, rest @ ..] => ask_of(rest),
-        [4, rest @ ..] => remove_of(rest),
-        _ => None,
+        [] => None,
+        [kind, rest @ ..] => request_behind(*kind, rest),
     }
 }
 

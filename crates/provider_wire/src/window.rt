@@ -54,8 +54,7 @@ fn read_behind<S: Source>(
     ensures same { take len bytes.new ≡ take len bytes.old }
     ensures cause { HasCause (S.faults source.old) (S.faults source.new) (IsErr result) }
 {
-    let count = source.read(&mut bytes[len..end])?;
-    Ok(count)
+    source.read(&mut bytes[len..end])
 }
 
 impl Window {
@@ -105,8 +104,12 @@ impl Window {
         ensures cause { HasCause (S.faults source.old) (S.faults source.new) (IsErr result) }
     {
         let end = self.len + most.min(ROOM - self.len);
-        let count = read_behind(&mut self.bytes, self.len, end, source)?;
-        self.len += count;
-        Ok(count)
+        match read_behind(&mut self.bytes, self.len, end, source) {
+            Ok(count) => {
+                self.len += count;
+                Ok(count)
+            }
+            Err(fault) => Err(fault),
+        }
     }
 }

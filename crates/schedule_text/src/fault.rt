@@ -6,7 +6,7 @@ use std::alloc::AllocFailed;
 use stream_model::Memory;
 
 /// Why a schedule is not read: a line outside the grammar, which is the first such one, numbered from 1; or want of memory.
-#[derive(Clone, Copy, Debug, PartialEq, Eq)]
+#[derive(Clone, Copy)]
 pub enum ScheduleFault {
     BadLine { number: u64 },
     Memory,

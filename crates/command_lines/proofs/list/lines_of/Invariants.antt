@@ -1,6 +1,0 @@
-use Rattle.std.proofs.Common.{◌≡◌, take}
-use Rattle.command_defs.specs.Lines.{list_lines}
-use Rattle.command_lines.proofs.list.lines_of.Given as goal
-
-abbrev pub invariant-loop-place : goal.invariant-loop-place
-invariant-loop-place l = l.text.items ≡ list_lines (take l.place l.table.files)

@@ -1,0 +1,6 @@
+use Rattle.std.proofs.Common.{◌≡◌, ◌++◌, take}
+use Rattle.command_defs.specs.Lines.{list_lines}
+use Rattle.command_lines.proofs.list.push_files.Given as goal
+
+abbrev pub invariant-loop-place : goal.invariant-loop-place
+invariant-loop-place l = l.text.items ≡ l.fn.text.items ++ list_lines (take l.place l.table.files)

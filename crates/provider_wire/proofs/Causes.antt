@@ -1,0 +1,62 @@
+-- When a count of faults rose in a call, from what its parts did.
+use Rattle.std.proofs.Common.{◌≡◌, ◌<◌, ◌≤◌, ℕ, Bool, true, false, refl, sym, ap, ◌∙◌, inl, inr, le_trans, lt_of_le_of_lt, lt_of_lt_of_le}
+use Rattle.std.proofs.lemmas.Bool.{cases_lt}
+use Rattle.std.specs.Prelude.{Ok, Err, IsErrOf}
+use Rattle.device_defs.specs.Faults.{HasCause, Rose, last_count}
+use Rattle.stream_model.specs.declared.fault.WriteFault.{WriteFault}
+use Rattle.stream_model.specs.declared.fault.WriteFault.TheVariants as write_fault
+use Rattle.provider_wire.specs.declared.end.ServeEnd.{ServeEnd}
+use Rattle.provider_wire.specs.declared.end.ServeEnd.TheVariants as serve_end
+use Rattle.provider_wire.specs.Ends.{end_after}
+
+-- a call that is no fault says of its count only that it did not fall
+pub no_fault : {before now : ℕ} {F : Type 0} → before ≤ now → (F → ⊥) → HasCause before now F
+no_fault kept none = record { never_falls = kept; rose = λ fault. absurd (none fault) }
+
+-- a count that rose from the later of two values rose from the earlier too
+rose_from : (a b c : ℕ) → a ≤ b → b ≤ c → Rose b c → Rose a c
+rose_from a b c first second rose below = elim (cases_lt b last_count) [
+  | inl less ↦ lt_of_le_of_lt first (rose less)
+  | inr more ↦ lt_of_lt_of_le below (le_trans more second)
+]
+
+-- a last part that counts its faults, behind others in which the count did not fall
+pub last_part : {a b c : ℕ} {F G : Type 0} → a ≤ b → HasCause b c F → (G → F) → HasCause a c G
+last_part {a = a} {b = b} {c = c} kept last same = record {
+  never_falls = le_trans kept last.never_falls;
+  rose = λ fault. rose_from a b c kept last.never_falls (last.rose (same fault));
+}
+
+-- whether a server says that its source failed
+abbrev is_source_fault : ServeEnd → Bool
+is_source_fault serve_end.SourceFault = true
+is_source_fault end = false
+
+-- whether it says that its sink failed
+abbrev is_sink_fault : ServeEnd → Bool
+is_sink_fault serve_end.SinkFault = true
+is_sink_fault end = false
+
+-- an end that is no fault of the source
+pub no_source_fault : (end : ServeEnd) → is_source_fault end ≡ false → end ≡ serve_end.SourceFault → ⊥
+no_source_fault end other is = cc (sym other ∙ ap is_source_fault is)
+
+-- an end that is no fault of the sink
+pub no_sink_fault : (end : ServeEnd) → is_sink_fault end ≡ false → end ≡ serve_end.SinkFault → ⊥
+no_sink_fault end other is = cc (sym other ∙ ap is_sink_fault is)
+
+-- what a server says after a write is no fault of its source
+pub after_is_no_source_fault : (fault : WriteFault) (end : ServeEnd) → end ≡ end_after fault
+    → end ≡ serve_end.SourceFault → ⊥
+after_is_no_source_fault write_fault.Failed end is other = cc (is, other)
+after_is_no_source_fault write_fault.Memory end is other = cc (is, other)
+
+-- it is a fault of its sink only where the write failed
+pub sink_failed : {T : Type 0} (fault : WriteFault) (end : ServeEnd) → end ≡ end_after fault
+    → end ≡ serve_end.SinkFault → IsErrOf {T = T} (Err fault) write_fault.Failed
+sink_failed write_fault.Failed end is other = refl
+sink_failed write_fault.Memory end is other = absurd (cc (is, other))
+
+-- a value is no fault
+pub not_failed : {T : Type 0} (x : T) → IsErrOf {E = WriteFault} (Ok x) write_fault.Failed → ⊥
+not_failed x is = cc is
