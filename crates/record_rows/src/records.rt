@@ -1,8 +1,8 @@
-use crate::given::AUDIT_DONE;
+use crate::given::*;
 use record_codec::*;
 
-/// The setup of four providers, one of them primary and one of them bad, in the first profile: one round of one pick,
-/// and a tolerance of 4,096. The bytes of the key are 0.
+/// The setup of four providers, one of them primary and one of them bad, in the first profile: one round of
+/// one pick, and a tolerance of 4,096. The bytes of the key are 0.
 const SETUP: [u8; 41] = [
     1, 4, 1, 1, 0, 1, 1, 0, 16, 0, 0, 0, 0, 0, 0, 0, 0, 0, 0, 0, 0, 0, 0, 0, 0, 0, 0, 0, 0, 0, 0,
     0, 0, 0, 0, 0, 0, 0, 0, 0, 0,
@@ -10,10 +10,6 @@ const SETUP: [u8; 41] = [
 
 const PUT_START: [u8; 19] = [
     2, 1, 0, 0, 0, 0, 0, 0, 0, 9, 110, 111, 116, 101, 115, 46, 116, 120, 116,
-];
-
-const DUE: [u8; 26] = [
-    12, 1, 0, 0, 0, 0, 0, 0, 0, 4, 0, 0, 0, 0, 0, 0, 0, 0, 1, 0, 0, 0, 0, 0, 0, 0,
 ];
 
 /// Whether one record is read from all of these bytes, and written as these bytes again.
@@ -40,104 +36,157 @@ fn is_spelled(bytes: &[u8]) -> bool {
     }
 }
 
-#[test]
-fn each_record_is_read_and_written(rt: HostRuntime) {
-    let records: [&[u8]; 8] = [
-        &SETUP,
-        &PUT_START,
-        &[3, 1, 0, 0, 0, 0, 0, 0, 0, 100, 0, 0, 0],
-        &[3, 1, 0, 0, 0, 0, 0, 0, 0, 0, 0, 64, 0],
-        &[4, 1, 97],
-        &[5, 1, 0, 0, 0, 0, 0, 0, 0],
-        &AUDIT_DONE,
-        &[7, 1, 0, 0, 0, 0, 0, 0, 0],
-    ];
-    for bytes in records.iter() {
-        assert!(rt; is_record(bytes), "{bytes:?}");
-        assert!(rt; is_spelled(bytes), "{bytes:?}");
-    }
-}
+/// Five providers, two of them primary and two of them bad.
+const TWO_OF_FIVE: [u8; 41] = [
+    1, 5, 2, 2, 0, 1, 1, 0, 16, 0, 0, 0, 0, 0, 0, 0, 0, 0, 0, 0, 0, 0, 0, 0, 0, 0, 0, 0, 0, 0, 0,
+    0, 0, 0, 0, 0, 0, 0, 0, 0, 0,
+];
+
+/// The end of an audit with a count for three providers.
+const THREE_COUNTS: [u8; 30] = [
+    6, 1, 0, 0, 0, 0, 0, 0, 0, 0, 0, 0, 0, 3, 0, 0, 0, 0, 0, 0, 0, 0, 1, 0, 0, 0, 0, 0, 0, 0,
+];
+
+/// A drop of a name of 65 bytes.
+const LONG_NAME: [u8; 67] = [
+    4, 65, 97, 97, 97, 97, 97, 97, 97, 97, 97, 97, 97, 97, 97, 97, 97, 97, 97, 97, 97, 97, 97, 97,
+    97, 97, 97, 97, 97, 97, 97, 97, 97, 97, 97, 97, 97, 97, 97, 97, 97, 97, 97, 97, 97, 97, 97, 97,
+    97, 97, 97, 97, 97, 97, 97, 97, 97, 97, 97, 97, 97, 97, 97, 97, 97, 97, 97,
+];
+
+/// The end of a put of 100 bytes, with a byte after it.
+const PUT_DONE: [u8; 14] = [3, 1, 0, 0, 0, 0, 0, 0, 0, 100, 0, 0, 0, 255];
+
+const REPAIR_DONE: [u8; 9] = [7, 0, 1, 0, 0, 0, 0, 0, 0];
+
+/// Six providers, as many of them primary as may be where one is bad, with the most rounds and picks and the
+/// largest tolerance.
+const AT_LIMITS: Setup = Setup {
+    n: 6,
+    l: 3,
+    b: 1,
+    profile: 4,
+    rounds: 64,
+    picks: 64,
+    tolerance: 4096,
+};
+
+/// A record of each kind that a journal of the first version may hold.
+static READ: [&[u8]; 8] = [
+    &SETUP,
+    &PUT_START,
+    &[3, 1, 0, 0, 0, 0, 0, 0, 0, 100, 0, 0, 0],
+    &[3, 1, 0, 0, 0, 0, 0, 0, 0, 0, 0, 64, 0],
+    &[4, 1, 97],
+    &[5, 1, 0, 0, 0, 0, 0, 0, 0],
+    &AUDIT_DONE,
+    &[7, 1, 0, 0, 0, 0, 0, 0, 0],
+];
 
 /// Kinds 8 to 12 have their spellings, and no journal holds them yet.
+static SPELLED: [&[u8]; 5] = [
+    &[8, 1, 0, 0, 0, 0, 0, 0, 0, 100, 0, 0, 0, 4],
+    &[9, 2],
+    &[10, 3, 0, 0, 0, 0, 0, 0, 0, 2, 0, 0, 0, 0, 0, 0, 0],
+    &[11, 1, 0, 0, 0, 0, 0, 0, 0, 100, 0, 0, 0, 0, 1, 97],
+    &DUE,
+];
+
+/// Bytes that spell no record.
+static NONE: [&[u8]; 13] = [
+    &[],
+    &[0],
+    &[8],
+    &[8, 1, 0, 0, 0, 0, 0, 0, 0, 100, 0, 0, 0, 5],
+    &[9, 1],
+    &[13],
+    &[3, 1, 0, 0, 0, 0, 0, 0, 0, 100, 0, 0],
+    &[4, 0],
+    &[4, 1, 47],
+    &[3, 1, 0, 0, 0, 0, 0, 0, 0, 1, 0, 64, 0],
+    &TWO_OF_FIVE,
+    &THREE_COUNTS,
+    &LONG_NAME,
+];
+
+/// The place of the first of these rows that is not read, or not written as it was.
+fn first_not_read() -> Option<usize> {
+    for (place, bytes) in READ.iter().enumerate() {
+        if !is_record(bytes) || !is_spelled(bytes) {
+            return Some(place);
+        }
+    }
+    None
+}
+
+#[test]
+fn each_record_is_read_and_written(rt: HostRuntime) {
+    no_other(&rt, first_not_read());
+}
+
+/// The place of the first of these rows that is not spelled, or is read.
+fn first_not_spelled() -> Option<usize> {
+    for (place, bytes) in SPELLED.iter().enumerate() {
+        if !is_spelled(bytes) || Record::read(bytes).is_some() {
+            return Some(place);
+        }
+    }
+    None
+}
+
 #[test]
 fn each_record_of_the_second_version_is_spelled(rt: HostRuntime) {
-    let records: [&[u8]; 5] = [
-        &[8, 1, 0, 0, 0, 0, 0, 0, 0, 100, 0, 0, 0, 4],
-        &[9, 2],
-        &[10, 3, 0, 0, 0, 0, 0, 0, 0, 2, 0, 0, 0, 0, 0, 0, 0],
-        &[11, 1, 0, 0, 0, 0, 0, 0, 0, 100, 0, 0, 0, 0, 1, 97],
-        &DUE,
-    ];
-    for bytes in records.iter() {
-        assert!(rt; is_spelled(bytes), "{bytes:?}");
-        assert!(rt; Record::read(bytes).is_none(), "{bytes:?}");
+    no_other(&rt, first_not_spelled());
+}
+
+/// The place of the first of these rows that is read or spelled.
+fn first_read() -> Option<usize> {
+    for (place, bytes) in NONE.iter().enumerate() {
+        if Record::read(bytes).is_some() || read_spelled(bytes).is_some() {
+            return Some(place);
+        }
     }
+    None
 }
 
 #[test]
 fn no_record_is_read(rt: HostRuntime) {
-    let mut two_of_five = SETUP;
-    two_of_five[1] = 5;
-    two_of_five[2] = 2;
-    two_of_five[3] = 2;
-    let mut three_counts = AUDIT_DONE;
-    three_counts[13] = 3;
-    let mut long_name = [97u8; 67];
-    long_name[0] = 4;
-    long_name[1] = 65;
-    let none: [&[u8]; 13] = [
-        &[],
-        &[0],
-        &[8],
-        &[8, 1, 0, 0, 0, 0, 0, 0, 0, 100, 0, 0, 0, 5],
-        &[9, 1],
-        &[13],
-        &[3, 1, 0, 0, 0, 0, 0, 0, 0, 100, 0, 0],
-        &[4, 0],
-        &[4, 1, 47],
-        &[3, 1, 0, 0, 0, 0, 0, 0, 0, 1, 0, 64, 0],
-        &two_of_five,
-        &three_counts,
-        &long_name,
-    ];
-    for bytes in none.iter() {
-        assert!(rt; Record::read(bytes).is_none(), "{bytes:?}");
-        assert!(rt; read_spelled(bytes).is_none(), "{bytes:?}");
-    }
+    no_other(&rt, first_read());
+}
+
+/// Whether these records have their fields at their places.
+fn fields_are_read() -> bool {
+    matches!(
+        Record::read(&PUT_START),
+        Some((Record::PutStart { id: 1, .. }, 19))
+    ) && matches!(
+        Record::read(&PUT_DONE),
+        Some((Record::PutDone { id: 1, length: 100 }, 13))
+    ) && matches!(
+        Record::read(&REPAIR_DONE),
+        Some((Record::RepairDone { number: 256 }, 9))
+    )
 }
 
 #[test]
 fn fields_stand_at_their_places(rt: HostRuntime) {
-    assert!(rt;
-        matches!(
-            Record::read(&PUT_START),
-            Some((Record::PutStart { id: 1, .. }, 19))
-        )
-    );
-    assert!(rt;
-        matches!(
-            Record::read(&[3, 1, 0, 0, 0, 0, 0, 0, 0, 100, 0, 0, 0, 255]),
-            Some((Record::PutDone { id: 1, length: 100 }, 13))
-        )
-    );
-    assert!(rt;
-        matches!(
-            Record::read(&[7, 0, 1, 0, 0, 0, 0, 0, 0]),
-            Some((Record::RepairDone { number: 256 }, 9))
-        )
-    );
-    let name = Name::new(b"notes.txt").expect(&rt, "a name");
-    assert!(rt; name.as_bytes() == b"notes.txt".as_slice());
-    assert!(rt; Name::new(b"a/b").is_none());
-    let setup = Setup {
-        n: 6,
-        l: 3,
-        b: 1,
-        profile: 4,
-        rounds: 64,
-        picks: 64,
-        tolerance: 4096,
-    };
-    assert!(rt; setup.check());
-    assert!(rt; !Setup { l: 4, ..setup }.check());
+    assert!(rt; fields_are_read());
+}
+
+/// Whether these bytes are a name, and the name's bytes are these.
+fn is_name(bytes: &[u8]) -> bool {
+    match Name::new(bytes) {
+        Some(name) => name.as_bytes() == bytes,
+        None => false,
+    }
+}
+
+#[test]
+fn names_have_no_slash(rt: HostRuntime) {
+    assert!(rt; is_name(b"notes.txt") && !is_name(b"a/b"));
+}
+
+#[test]
+fn setups_at_their_limits_are_checked(rt: HostRuntime) {
+    assert!(rt; AT_LIMITS.check() && !Setup { l: 4, ..AT_LIMITS }.check());
 }
