@@ -6,12 +6,32 @@ mod audits;
 #[cfg(test)]
 mod damage;
 #[cfg(test)]
+mod disk_faults;
+#[cfg(test)]
 mod files;
 #[cfg(test)]
 mod jobs;
 #[cfg(test)]
 mod journals;
 #[cfg(test)]
+mod liars;
+#[cfg(test)]
+mod memory;
+#[cfg(test)]
+mod provider_faults;
+#[cfg(test)]
+mod schedules;
+#[cfg(test)]
 mod set_up;
 #[cfg(test)]
-mod store;
+mod setups;
+#[cfg(test)]
+mod stops;
+#[cfg(test)]
+mod stream_faults;
+#[cfg(test)]
+mod trials;
+#[cfg(test)]
+mod untold;
+#[cfg(test)]
+mod upkeep_faults;

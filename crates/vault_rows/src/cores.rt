@@ -1,9 +1,10 @@
-ghost use Rattle.std.specs.Prelude.{IsTrue};
+ghost use Rattle.std.specs.Prelude.{IfSome};
 ghost use Rattle.vault_core.specs.Wished.{IsShort};
 
+use crate::job::Job;
 use record_codec::{Name, Record};
 use std::alloc::Global;
-use vault_core::*;
+use vault_core::{Action, BeginFault, Core, Next, Reply, Wish};
 use vault_table::Table;
 
 /// Six providers, one of them primary and one of them bad, the first profile, one round, one pick, and no tolerance.
@@ -25,6 +26,38 @@ const AUDITED: [u8; 38] = [
     0, 0, 0, 0, 0, 0,
 ];
 
+/// Which records a journal has: a setup alone; a file that is stored; that, and an audit by which a repair is due.
+#[derive(Clone, Copy)]
+enum Base {
+    Empty,
+    Stored,
+    Due,
+}
+
+/// Something that is done to a core or seen of it, and what is to come of it.
+#[derive(Clone, Copy)]
+enum Act {
+    /// A job is begun: its number, or why it is refused.
+    Begins(Job, Result<u32, BeginFault>),
+    /// A job has so many steps left.
+    Left(u32, u64),
+    /// A job makes so many actions.
+    Makes(u32, u32),
+    /// A job has no action that it can make now.
+    Rests(u32),
+    /// This is what comes next for a job.
+    Next(u32, Next),
+    /// So many jobs run, and no other may begin.
+    Full(u32),
+}
+
+/// A core over some records, with a journal's text of so many bytes, and what is done to it.
+struct Case {
+    base: Base,
+    end: u64,
+    acts: &'static [Act],
+}
+
 /// The table takes the record that these bytes spell.
 fn takes(table: &mut Table, bytes: &[u8]) -> bool {
     match Record::read(bytes) {
@@ -33,38 +66,29 @@ fn takes(table: &mut Table, bytes: &[u8]) -> bool {
     }
 }
 
-/// Which records a journal has.
-#[derive(Clone, Copy)]
-enum Base {
-    Empty,
-    Stored,
-    Due,
+/// The table takes these records.
+fn takes_all(table: &mut Table, records: &[&[u8]]) -> bool {
+    for bytes in records {
+        if !takes(table, bytes) {
+            return false;
+        }
+    }
+    true
 }
 
-/// The table takes these records.
-fn fill(table: &mut Table, base: Base) -> bool {
-    if !takes(table, &SETUP) {
-        return false;
+/// The records that a journal has.
+fn records_of(base: Base) -> &'static [&'static [u8]] {
+    match base {
+        Base::Empty => &[&SETUP],
+        Base::Stored => &[&SETUP, &STARTED, &STORED],
+        Base::Due => &[&SETUP, &STARTED, &STORED, &AUDITING, &AUDITED],
     }
-    if let Base::Empty = base {
-        return true;
-    }
-    if !takes(table, &STARTED) || !takes(table, &STORED) {
-        return false;
-    }
-    if let Base::Stored = base {
-        return true;
-    }
-    takes(table, &AUDITING) && takes(table, &AUDITED)
 }
 
 /// A core over these records, and a journal's text of so many bytes.
 fn core_of(alloc: Global, base: Base, end: u64) -> Option<Core> {
     let mut table = Table::new(alloc).ok()?;
-    if table.reserve_start().is_err() {
-        return None;
-    }
-    if !fill(&mut table, base) {
+    if table.reserve_start().is_err() || !takes_all(&mut table, records_of(base)) {
         return None;
     }
     let (setup, _) = table.setup()?;
@@ -74,21 +98,33 @@ fn core_of(alloc: Global, base: Base, end: u64) -> Option<Core> {
     Some(Core::new(alloc, table, end, 1))
 }
 
-fn is_short(wish: &Wish) -> bool
-    ensures { IsTrue result → IsShort wish.now }
+/// What a core is told of a job. A file's bytes stay with the caller.
+fn wish_of(job: Job) -> Option<Wish>
+    ensures { IfSome result (λ wish. IsShort wish) }
 {
-    match wish {
-        Wish::Put { length, .. } => *length <= 1 << 22,
-        _ => true,
+    match job {
+        Job::Put(_, bytes) if bytes.len() > 1 << 22 => None,
+        Job::Put(name, bytes) => Some(Wish::Put {
+            name: Name::new(name)?,
+            length: bytes.len() as u32,
+        }),
+        Job::Get(name) => Some(Wish::Get {
+            name: Name::new(name)?,
+        }),
+        Job::Drop(name) => Some(Wish::Drop {
+            name: Name::new(name)?,
+        }),
+        Job::Audit => Some(Wish::Audit),
+        Job::Repair => Some(Wish::Repair),
     }
 }
 
-/// Begins a job of a wish that is short.
-fn start(core: &mut Core, wish: Wish) -> Result<u32, BeginFault> {
-    if core.next_job() > 1000 || !is_short(&wish) {
-        return Err(BeginFault::TooLong);
+/// Begins a job.
+fn start(core: &mut Core, job: Job) -> Result<u32, BeginFault> {
+    match wish_of(job) {
+        Some(wish) if core.next_job() <= 1000 => core.begin(wish),
+        _ => Err(BeginFault::BadName),
     }
-    core.begin(wish)
 }
 
 /// Makes the next action of a job, if it has one now that is not the last ask of an audit.
@@ -105,125 +141,223 @@ fn make(core: &mut Core, job: u32) -> bool {
     }
 }
 
-/// How many actions a job makes one after another, up to so many.
-fn count(core: &mut Core, job: u32, most: u32) -> u32 {
-    for made in 0..most {
+/// Whether a job makes so many actions one after another.
+fn makes(core: &mut Core, job: u32, count: u32) -> bool {
+    for _ in 0..count {
         if !make(core, job) {
-            return made;
+            return false;
         }
     }
-    most
+    true
 }
+
+/// Whether an act comes to what it is to.
+fn goes(core: &mut Core, act: Act) -> bool {
+    match act {
+        Act::Begins(job, wanted) => start(core, job) == wanted,
+        Act::Left(job, wanted) => core.left(job) == Some(wanted),
+        Act::Makes(job, count) => makes(core, job, count),
+        Act::Rests(job) => !make(core, job),
+        Act::Next(job, wanted) => core.next(job) == wanted,
+        Act::Full(count) => core.running() == count && core.barred() == Some(BeginFault::Busy),
+    }
+}
+
+/// Whether each of these acts comes to what it is to.
+fn all_go(core: &mut Core, acts: &[Act]) -> bool {
+    for act in acts {
+        if !goes(core, *act) {
+            return false;
+        }
+    }
+    true
+}
+
+/// Whether all of a case does.
+fn goes_right(alloc: Global, case: &Case) -> bool {
+    match core_of(alloc, case.base, case.end) {
+        Some(mut core) => all_go(&mut core, case.acts),
+        None => false,
+    }
+}
+
+/// The place of the first case that goes otherwise.
+fn first_wrong(alloc: Global, cases: &[Case]) -> Option<usize> {
+    for place in 0..cases.len() {
+        if !goes_right(alloc, &cases[place]) {
+            return Some(place);
+        }
+    }
+    None
+}
+
+/// The steps of each job, and how many of them are actions that it makes without a wait or a last ask.
+const STEPS: &[Case] = &[
+    Case {
+        base: Base::Stored,
+        end: 1000,
+        acts: &[
+            Act::Begins(Job::Put(b"b", b"x"), Ok(1)),
+            Act::Left(1, 21),
+            Act::Makes(1, 15),
+            Act::Rests(1),
+        ],
+    },
+    Case {
+        base: Base::Stored,
+        end: 1000,
+        acts: &[
+            Act::Begins(Job::Put(b"b", b""), Ok(1)),
+            Act::Left(1, 15),
+            Act::Makes(1, 9),
+            Act::Rests(1),
+        ],
+    },
+    Case {
+        base: Base::Stored,
+        end: 1000,
+        acts: &[
+            Act::Begins(Job::Put(b"a", b"x"), Ok(1)),
+            Act::Left(1, 21),
+            Act::Makes(1, 21),
+            Act::Rests(1),
+        ],
+    },
+    Case {
+        base: Base::Stored,
+        end: 1000,
+        acts: &[
+            Act::Begins(Job::Get(b"a"), Ok(1)),
+            Act::Left(1, 8),
+            Act::Makes(1, 8),
+            Act::Rests(1),
+        ],
+    },
+    Case {
+        base: Base::Stored,
+        end: 1000,
+        acts: &[
+            Act::Begins(Job::Drop(b"a"), Ok(1)),
+            Act::Left(1, 11),
+            Act::Makes(1, 11),
+            Act::Rests(1),
+        ],
+    },
+    Case {
+        base: Base::Due,
+        end: 1000,
+        acts: &[
+            Act::Begins(Job::Repair, Ok(1)),
+            Act::Left(1, 13),
+            Act::Makes(1, 13),
+            Act::Rests(1),
+        ],
+    },
+    Case {
+        base: Base::Stored,
+        end: 1000,
+        acts: &[
+            Act::Begins(Job::Audit, Ok(1)),
+            Act::Left(1, 15),
+            Act::Makes(1, 9),
+            Act::Rests(1),
+        ],
+    },
+];
 
 #[test]
 fn jobs_have_steps_left(rt: HostRuntime) {
-    let name = Name::new(b"b").expect(&rt, "a name");
-    let old = Name::new(b"a").expect(&rt, "a name");
-    let rows: [(Base, Wish, u64, u32); 7] = [
-        (Base::Stored, Wish::Put { name, length: 1 }, 21, 15),
-        (Base::Stored, Wish::Put { name, length: 0 }, 15, 9),
-        (
-            Base::Stored,
-            Wish::Put {
-                name: old,
-                length: 1,
-            },
-            21,
-            21,
-        ),
-        (Base::Stored, Wish::Get { name: old }, 8, 8),
-        (Base::Stored, Wish::Drop { name: old }, 11, 11),
-        (Base::Due, Wish::Repair, 13, 13),
-        (Base::Stored, Wish::Audit, 15, 9),
-    ];
-    for (base, wish, left, alone) in rows.iter() {
-        let mut core = core_of(rt.alloc(), *base, 1000).expect(&rt, "a core");
-        assert_eq!(rt; start(&mut core, *wish), Ok(1), "{wish:?}");
-        assert_eq!(rt; core.left(1), Some(*left), "{wish:?}");
-        assert_eq!(rt; count(&mut core, 1, 30), *alone, "{wish:?}");
-    }
+    assert_eq!(rt; first_wrong(rt.alloc(), STEPS), None);
 }
+
+/// Begins that are just let in, and such as are refused.
+const BEGINS: &[Case] = &[
+    Case {
+        base: Base::Empty,
+        end: 16_777_190,
+        acts: &[Act::Begins(Job::Put(b"b", b""), Ok(1))],
+    },
+    Case {
+        base: Base::Empty,
+        end: 16_777_191,
+        acts: &[Act::Begins(Job::Put(b"b", b""), Err(BeginFault::JournalFull))],
+    },
+    Case {
+        base: Base::Empty,
+        end: 16_777_167,
+        acts: &[Act::Begins(Job::Audit, Ok(1))],
+    },
+    Case {
+        base: Base::Empty,
+        end: 16_777_168,
+        acts: &[Act::Begins(Job::Audit, Err(BeginFault::JournalFull))],
+    },
+    Case {
+        base: Base::Stored,
+        end: 16_777_212,
+        acts: &[Act::Begins(Job::Drop(b"a"), Ok(1))],
+    },
+    Case {
+        base: Base::Stored,
+        end: 16_777_213,
+        acts: &[Act::Begins(Job::Drop(b"a"), Err(BeginFault::JournalFull))],
+    },
+    Case {
+        base: Base::Stored,
+        end: 16_777_216,
+        acts: &[Act::Begins(Job::Get(b"a"), Ok(1))],
+    },
+    Case {
+        base: Base::Stored,
+        end: 16_777_216,
+        acts: &[Act::Begins(Job::Get(b"b"), Err(BeginFault::NoSuchName))],
+    },
+    Case {
+        base: Base::Stored,
+        end: 1000,
+        acts: &[Act::Begins(Job::Repair, Err(BeginFault::NothingDue))],
+    },
+    Case {
+        base: Base::Due,
+        end: 1000,
+        acts: &[Act::Begins(Job::Audit, Err(BeginFault::RepairDue))],
+    },
+    Case {
+        base: Base::Due,
+        end: 16_777_207,
+        acts: &[Act::Begins(Job::Repair, Err(BeginFault::JournalFull))],
+    },
+];
 
 #[test]
 fn begins_are_refused_in_order(rt: HostRuntime) {
-    let one = Name::new(b"b").expect(&rt, "a name");
-    let old = Name::new(b"a").expect(&rt, "a name");
-    let rows: [(Base, u64, Wish, Result<u32, BeginFault>); 11] = [
-        (
-            Base::Empty,
-            16_777_190,
-            Wish::Put {
-                name: one,
-                length: 0,
-            },
-            Ok(1),
-        ),
-        (
-            Base::Empty,
-            16_777_191,
-            Wish::Put {
-                name: one,
-                length: 0,
-            },
-            Err(BeginFault::JournalFull),
-        ),
-        (Base::Empty, 16_777_167, Wish::Audit, Ok(1)),
-        (
-            Base::Empty,
-            16_777_168,
-            Wish::Audit,
-            Err(BeginFault::JournalFull),
-        ),
-        (Base::Stored, 16_777_212, Wish::Drop { name: old }, Ok(1)),
-        (
-            Base::Stored,
-            16_777_213,
-            Wish::Drop { name: old },
-            Err(BeginFault::JournalFull),
-        ),
-        (Base::Stored, 16_777_216, Wish::Get { name: old }, Ok(1)),
-        (
-            Base::Stored,
-            16_777_216,
-            Wish::Get { name: one },
-            Err(BeginFault::NoSuchName),
-        ),
-        (
-            Base::Stored,
-            1000,
-            Wish::Repair,
-            Err(BeginFault::NothingDue),
-        ),
-        (Base::Due, 1000, Wish::Audit, Err(BeginFault::RepairDue)),
-        (
-            Base::Due,
-            16_777_207,
-            Wish::Repair,
-            Err(BeginFault::JournalFull),
-        ),
-    ];
-    for (base, end, wish, answer) in rows.iter() {
-        let mut core = core_of(rt.alloc(), *base, *end).expect(&rt, "a core");
-        assert_eq!(rt; start(&mut core, *wish), *answer, "{wish:?} at {end}");
-    }
+    assert_eq!(rt; first_wrong(rt.alloc(), BEGINS), None);
 }
+
+/// A put keeps a drop waiting, the two keep an audit out, and eight jobs every other one.
+const CROWDED: &[Case] = &[Case {
+    base: Base::Stored,
+    end: 1000,
+    acts: &[
+        Act::Begins(Job::Drop(b"a"), Ok(1)),
+        Act::Begins(Job::Put(b"a", b"x"), Ok(2)),
+        Act::Begins(Job::Audit, Err(BeginFault::Busy)),
+        Act::Makes(2, 1),
+        Act::Next(1, Next::Waiting { holder: 2 }),
+        Act::Next(2, Next::Act(Action::SyncBody)),
+        Act::Next(3, Next::NoSuchJob),
+        Act::Begins(Job::Get(b"a"), Ok(3)),
+        Act::Begins(Job::Get(b"a"), Ok(4)),
+        Act::Begins(Job::Get(b"a"), Ok(5)),
+        Act::Begins(Job::Get(b"a"), Ok(6)),
+        Act::Begins(Job::Get(b"a"), Ok(7)),
+        Act::Begins(Job::Get(b"a"), Ok(8)),
+        Act::Begins(Job::Get(b"a"), Err(BeginFault::Busy)),
+        Act::Full(8),
+    ],
+}];
 
 #[test]
 fn jobs_keep_others_out(rt: HostRuntime) {
-    let name = Name::new(b"a").expect(&rt, "a name");
-    let put = Wish::Put { name, length: 1 };
-    let mut core = core_of(rt.alloc(), Base::Stored, 1000).expect(&rt, "a core");
-    assert_eq!(rt; start(&mut core, Wish::Drop { name }), Ok(1));
-    assert_eq!(rt; start(&mut core, put), Ok(2));
-    assert_eq!(rt; start(&mut core, Wish::Audit), Err(BeginFault::Busy));
-    assert!(rt; make(&mut core, 2));
-    assert_eq!(rt; core.next(1), Next::Waiting { holder: 2 });
-    assert_eq!(rt; core.next(2), Next::Act(Action::SyncBody));
-    assert_eq!(rt; core.next(3), Next::NoSuchJob);
-    for job in 3..9u32 {
-        assert_eq!(rt; start(&mut core, Wish::Get { name }), Ok(job));
-    }
-    assert_eq!(rt; core.running(), 8);
-    assert_eq!(rt; start(&mut core, Wish::Get { name }), Err(BeginFault::Busy));
-    assert_eq!(rt; core.barred(), Some(BeginFault::Busy));
+    assert_eq!(rt; first_wrong(rt.alloc(), CROWDED), None);
 }

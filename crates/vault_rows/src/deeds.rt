@@ -1,11 +1,30 @@
-use crate::counted::Counted;
-use crate::setups::{InMemory, holders, open_store};
-use crate::store::{Job, Seen, Store};
-use disk_model::SureDisk;
-use provider_model::SureProvider;
+use crate::job::Job;
+use crate::store::{Seen, Store};
 use record_codec::Setup;
 use std::alloc::Global;
 use vault::BeginFault;
+
+/// Six providers, three of them primary, in the first profile but one; four rounds of eight picks.
+pub const SIX: Setup = Setup {
+    n: 6,
+    l: 3,
+    b: 1,
+    profile: 1,
+    rounds: 4,
+    picks: 8,
+    tolerance: 0,
+};
+
+/// Four providers, one of them primary, in the first profile; one round of one pick.
+pub const FOUR: Setup = Setup {
+    n: 4,
+    l: 1,
+    b: 1,
+    profile: 0,
+    rounds: 1,
+    picks: 1,
+    tolerance: 0,
+};
 
 /// Something that is done to a store or seen of it, and what is to come of it.
 #[derive(Clone, Copy)]
@@ -14,6 +33,8 @@ pub enum Deed {
     Begins(Job, Result<u32, BeginFault>),
     /// A job makes so many steps, and the last one comes to this.
     Steps(u32, u32, Seen),
+    /// A job makes so many steps, each of which asks one provider, in turn, and is not its last.
+    Asks(u32, u32),
     /// A job is run in so many steps, and the last one comes to this.
     Runs(u32, u32, Seen),
     /// A job is run, and its last step comes to this.
@@ -26,59 +47,69 @@ pub enum Deed {
     Held(u64, usize),
     /// The disk has so many bytes.
     DiskHas(usize),
+    /// The providers were asked so often, and called otherwise so often.
+    Called(u32, u32),
+    /// The first blocks of the first object, which each of six providers holds, are kept in mind.
+    Keeps,
+    /// The first provider loses its block.
+    Loses,
+    /// The blocks are again those that were kept in mind.
+    Mended,
 }
 
-/// Stops the disk of a store, and opens the vault anew.
-fn reopens(store: &mut InMemory, picks: &[u8]) -> bool {
-    store.stop(picks);
-    store.open()
-}
+impl Store {
+    /// Whether a step of a job that is not its last asks one provider, the next in turn of six, and calls none otherwise.
+    fn asks_next(&mut self, job: u32) -> bool {
+        let before = self.asks();
+        let more = self.step(job) == Seen::More;
+        let place = before as usize % 6;
+        more && self.asks() == before.saturating_add(1) && self.asks_of(place) == before / 6 + 1
+    }
 
-/// How many bytes a disk has.
-fn len_of(disk: &SureDisk) -> usize {
-    disk.bytes().len()
-}
+    /// Whether so many steps of a job do so.
+    fn ask_in_turn(&mut self, job: u32, count: u32) -> bool {
+        for _ in 0..count {
+            if !self.asks_next(job) {
+                return false;
+            }
+        }
+        true
+    }
 
-impl Store<SureDisk, Counted<SureProvider>> {
     /// Whether a deed comes to what it is to.
     fn goes(&mut self, deed: Deed) -> bool {
         match deed {
             Deed::Begins(job, wanted) => self.begin(job) == wanted,
             Deed::Steps(job, count, wanted) => self.steps(job, count) == wanted,
+            Deed::Asks(job, count) => self.ask_in_turn(job, count),
             Deed::Runs(job, steps, wanted) => self.run(job) == (steps, wanted),
             Deed::Ends(job, wanted) => self.run(job).1 == wanted,
-            Deed::Reopens(picks) => reopens(self, picks),
+            Deed::Reopens(picks) => self.reopen(picks),
             Deed::Next(number) => self.next_id() == Some(number),
-            Deed::Held(object, count) => holders(self, object) == count,
-            Deed::DiskHas(count) => len_of(&self.disk) == count,
+            Deed::Held(object, count) => self.holders(object) == count,
+            Deed::DiskHas(count) => self.disk_len() == count,
+            Deed::Called(asks, others) => (self.asks(), self.other_calls()) == (asks, others),
+            Deed::Keeps => self.keeps_blocks(),
+            Deed::Loses => self.loses_first(),
+            Deed::Mended => self.has_kept_blocks(),
         }
     }
 
-    /// The place of the first deed that comes to something else; how many there are where none does.
-    pub fn first_wrong(&mut self, deeds: &[Deed]) -> usize {
+    /// The place of the first deed that comes to something else.
+    fn first_wrong(&mut self, deeds: &[Deed]) -> Option<usize> {
         for place in 0..deeds.len() {
             if !self.goes(deeds[place]) {
-                return place;
+                return Some(place);
             }
         }
-        deeds.len()
+        None
     }
 }
 
-/// A store that is set up, open, and behind these deeds, where each comes to what it is to.
-pub fn after(alloc: Global, setup: &Setup, deeds: &[Deed]) -> Option<InMemory> {
-    let mut store = open_store(alloc, setup)?;
-    if store.first_wrong(deeds) != deeds.len() {
-        return None;
-    }
-    Some(store)
-}
-
-/// The place of the first of these deeds that comes to something else, over a store that is behind others; how many there are where
-/// none does.
-pub fn first_wrong(alloc: Global, setup: &Setup, before: &[Deed], deeds: &[Deed]) -> usize {
-    match after(alloc, setup, before) {
+/// The place of the first of these deeds, over a store that is set up and open, that comes to something else.
+pub fn first_wrong(alloc: Global, setup: &Setup, deeds: &[Deed]) -> Option<usize> {
+    match Store::set_up(alloc, setup) {
         Some(mut store) => store.first_wrong(deeds),
-        None => usize::MAX,
+        None => Some(usize::MAX),
     }
 }

@@ -10,9 +10,9 @@ mod counted;
 #[cfg(test)]
 mod deeds;
 #[cfg(test)]
-mod rebuilding;
+mod job;
 #[cfg(test)]
-mod setups;
+mod rebuilding;
 #[cfg(test)]
 mod sharing;
 #[cfg(test)]

@@ -1,8 +1,7 @@
 use crate::deeds::Deed::{self, Begins, Ends, Held, Next, Reopens, Runs, Steps};
-use crate::deeds::first_wrong;
-use crate::setups::FOUR;
-use crate::sharing::STORED;
-use crate::store::{Job, Seen, Text};
+use crate::deeds::{FOUR, first_wrong};
+use crate::job::Job;
+use crate::store::{Seen, Text};
 use std::alloc::Global;
 
 /// A put of the new text over the old one has so many steps: two appends, four stores, four removals and the end.
@@ -11,11 +10,13 @@ const STEPS: u32 = 17;
 /// What a put leaves that is cut: how its last step ended, the text that a get gives, and the number of the next object.
 type Left = (Seen, Text, u64);
 
-/// A put of the new text is cut after so many steps, with the disk stopped by these picks. A get then gives one of the two texts, and the
-/// next put draws a number under which no provider held a block.
-fn cut(steps: u32, picks: &'static [u8], left: Left) -> [Deed; 10] {
+/// A put of the new text over the old one is cut after so many steps, with the disk stopped by these picks. A get then gives one of the
+/// two texts, and the next put draws a number under which no provider held a block.
+fn cut(steps: u32, picks: &'static [u8], left: Left) -> [Deed; 12] {
     let (last, text, number) = left;
     [
+        Begins(Job::Put(b"a", b"old"), Ok(1)),
+        Runs(1, 13, Seen::Put),
         Begins(Job::Put(b"a", b"new"), Ok(2)),
         Steps(2, steps, last),
         Reopens(picks),
@@ -31,8 +32,7 @@ fn cut(steps: u32, picks: &'static [u8], left: Left) -> [Deed; 10] {
 
 /// Whether a put that is cut leaves this.
 fn leaves(alloc: Global, steps: u32, picks: &'static [u8], left: Left) -> bool {
-    let deeds = cut(steps, picks, left);
-    first_wrong(alloc, &FOUR, &STORED, &deeds) == deeds.len()
+    first_wrong(alloc, &FOUR, &cut(steps, picks, left)).is_none()
 }
 
 /// What it is to leave, where the gates that a stop may undo stay open, or are closed. The fourth and the twelfth step
@@ -60,33 +60,50 @@ fn first_wrong_cut(alloc: Global, picks: &'static [u8], open: bool) -> Option<u3
     None
 }
 
+/// The picks of a stop, and whether gates that it may undo then stay open.
+const STOPS: [(&[u8], bool); 4] = [
+    (&[], true),
+    (&[0; 50], false),
+    (&[255; 50], false),
+    (&[1; 50], true),
+];
+
+/// The first of the stops, and the number of steps, after which a put leaves something else.
+fn first_wrong_stop(alloc: Global) -> Option<(usize, u32)> {
+    for place in 0..STOPS.len() {
+        let (picks, open) = STOPS[place];
+        if let Some(steps) = first_wrong_cut(alloc, picks, open) {
+            return Some((place, steps));
+        }
+    }
+    None
+}
+
 #[test]
 fn cuts_leave_the_old_text_or_the_new(rt: HostRuntime) {
-    let rows: [(&[u8], bool); 4] = [
-        (&[], true),
-        (&[0; 50], false),
-        (&[255; 50], false),
-        (&[1; 50], true),
-    ];
-    for (picks, open) in rows {
-        assert_eq!(rt;
-            first_wrong_cut(rt.alloc(), picks, open),
-            None,
-            "with {picks:?}"
-        );
+    assert_eq!(rt; first_wrong_stop(rt.alloc()), None);
+}
+
+/// Cuts about the last gate: after so many steps, by these picks, and the text that a get then gives.
+const AT_THE_GATE: [(u32, &[u8], Text); 4] = [
+    (10, &[], Text::Old),
+    (11, &[7], Text::Old),
+    (11, &[1], Text::New),
+    (11, &[], Text::New),
+];
+
+/// The place of the first of these cuts that leaves something else.
+fn first_wrong_gate(alloc: Global) -> Option<usize> {
+    for place in 0..AT_THE_GATE.len() {
+        let (steps, picks, text) = AT_THE_GATE[place];
+        if !leaves(alloc, steps, picks, (Seen::More, text, 3)) {
+            return Some(place);
+        }
     }
+    None
 }
 
 #[test]
 fn cuts_at_the_last_gate(rt: HostRuntime) {
-    let rows: [(u32, &[u8], Text); 4] = [
-        (10, &[], Text::Old),
-        (11, &[7], Text::Old),
-        (11, &[1], Text::New),
-        (11, &[], Text::New),
-    ];
-    for (steps, picks, text) in rows {
-        let left = leaves(rt.alloc(), steps, picks, (Seen::More, text, 3));
-        assert!(rt; left, "after {steps} steps");
-    }
+    assert_eq!(rt; first_wrong_gate(rt.alloc()), None);
 }

@@ -1,6 +1,9 @@
-use disk_model::Disk;
+use crate::counted::Counted;
+use crate::job::Job;
+use disk_model::{Disk, SureDisk};
+use hail_field::Symbol;
 use key_schedule::Master;
-use provider_model::Provider;
+use provider_model::{Provider, SureProvider, Tamper};
 use record_codec::Setup;
 use std::alloc::Global;
 use stream_model::Bytes;
@@ -34,23 +37,17 @@ pub enum Text {
     Other,
 }
 
-/// A job that is begun.
-#[derive(Clone, Copy)]
-pub enum Job {
-    Put(&'static [u8], &'static [u8]),
-    Get(&'static [u8]),
-    Drop(&'static [u8]),
-    Audit,
-    Repair,
-}
+/// The first blocks of the first object that six providers hold, of 16 symbols each.
+type Blocks = [Option<[Symbol; 16]>; 6];
 
-/// A disk and providers, and the vault that is open over them.
+/// A disk and providers in memory, the vault that is open over them, and blocks that the providers once held.
 #[derive(Drop)]
-pub struct Store<D: Drop, P: Drop> {
-    pub alloc: Global,
-    pub disk: D,
-    pub providers: Vec<P>,
-    pub vault: Option<Vault>,
+pub struct Store {
+    alloc: Global,
+    disk: SureDisk,
+    providers: Vec<Counted<SureProvider>>,
+    vault: Option<Vault>,
+    kept: Blocks,
 }
 
 /// Which of the two texts these bytes are.
@@ -144,37 +141,134 @@ fn step_of<D: Disk, P: Provider>(
     seen_turn(&vault.step(job, disk, providers))
 }
 
-impl<D: Disk + Drop, P: Provider + Drop> Store<D, P> {
-    /// A disk and providers with no vault open.
-    pub fn new(alloc: Global, disk: D, providers: Vec<P>) -> Store<D, P> {
-        Store {
+/// Stops a disk by these picks.
+fn stop_by<D: Disk>(disk: &mut D, picks: &[u8]) {
+    disk.stop(picks);
+}
+
+/// The first block of the first object that a provider holds.
+fn block_of(provider: &Counted<SureProvider>) -> Option<[Symbol; 16]> {
+    provider.inner.held(1, 0)?.first_chunk().copied()
+}
+
+/// Providers that hold nothing.
+fn new_providers(alloc: Global, count: u8) -> Option<Vec<Counted<SureProvider>>> {
+    let mut providers = Vec::new(alloc);
+    for _ in 0..count {
+        let provider = Counted::new(SureProvider::new(alloc));
+        providers.push(provider).ok()?;
+    }
+    Some(providers)
+}
+
+impl Store {
+    /// A disk and providers in memory that hold nothing, and no vault.
+    fn new(alloc: Global, count: u8) -> Option<Store> {
+        let disk = SureDisk::new(alloc, &[]).ok()?;
+        let providers = new_providers(alloc, count)?;
+        Some(Store {
             alloc,
             disk,
             providers,
             vault: None,
-        }
+            kept: [None; 6],
+        })
     }
 
-    /// Sets the store up, and answers whether it is.
-    pub fn set_up(&mut self, setup: &Setup) -> bool {
-        set_up_on(self.alloc, &mut self.disk, setup)
+    /// A store that is set up and open.
+    pub fn set_up(alloc: Global, setup: &Setup) -> Option<Store> {
+        let mut store = Store::new(alloc, setup.n)?;
+        let ready = set_up_on(alloc, &mut store.disk, setup) && store.open();
+        ready.then_some(store)
     }
 
     /// Opens the vault, in place of one that may be open, and answers whether it is open.
-    pub fn open(&mut self) -> bool {
+    fn open(&mut self) -> bool {
         self.vault = opened_on(self.alloc, &mut self.disk);
         self.vault.is_some()
     }
 
-    /// Gives the vault up, and stops the disk.
-    pub fn stop(&mut self, picks: &[u8]) {
-        self.vault = None;
-        self.disk.stop(picks);
+    /// Stops the disk by these picks, and opens the vault anew.
+    pub fn reopen(&mut self, picks: &[u8]) -> bool {
+        stop_by(&mut self.disk, picks);
+        self.open()
     }
 
     /// The number that the next object is given, where the vault is open.
     pub fn next_id(&self) -> Option<u64> {
         Some(self.vault.as_ref()?.table().next_id())
+    }
+
+    /// How many bytes the disk has.
+    pub fn disk_len(&self) -> usize {
+        self.disk.bytes().len()
+    }
+
+    /// How many providers hold a block of the first stripe of an object.
+    pub fn holders(&self, object: u64) -> usize {
+        let mut count = 0usize;
+        for provider in self.providers.iter() {
+            if provider.inner.held(object, 0).is_some() {
+                count = count.saturating_add(1);
+            }
+        }
+        count
+    }
+
+    /// The first blocks of the first object.
+    fn blocks(&self) -> Blocks {
+        let mut blocks = [None; 6];
+        for (block, provider) in blocks.iter_mut().zip(self.providers.iter()) {
+            *block = block_of(provider);
+        }
+        blocks
+    }
+
+    /// Keeps the first blocks of the first object in mind, and answers whether each of six providers holds one.
+    pub fn keeps_blocks(&mut self) -> bool {
+        self.kept = self.blocks();
+        self.kept.iter().all(Option::is_some)
+    }
+
+    /// Whether the first blocks of the first object are those that were kept in mind.
+    pub fn has_kept_blocks(&self) -> bool {
+        self.blocks() == self.kept
+    }
+
+    /// Whether the first provider loses its first block of the first object.
+    pub fn loses_first(&mut self) -> bool {
+        match self.providers.first_mut() {
+            Some(provider) => provider.inner.lose(1, 0),
+            None => false,
+        }
+    }
+
+    /// How often the provider at a place was asked.
+    pub fn asks_of(&self, place: usize) -> u32 {
+        match self.providers.get(place) {
+            Some(provider) => provider.asks,
+            None => 0,
+        }
+    }
+
+    /// How often the providers were asked.
+    pub fn asks(&self) -> u32 {
+        let mut sum = 0u32;
+        for provider in self.providers.iter() {
+            sum = sum.saturating_add(provider.asks);
+        }
+        sum
+    }
+
+    /// How often the providers were called otherwise.
+    pub fn other_calls(&self) -> u32 {
+        let mut sum = 0u32;
+        for provider in self.providers.iter() {
+            sum = sum.saturating_add(provider.stores);
+            sum = sum.saturating_add(provider.fetches);
+            sum = sum.saturating_add(provider.removals);
+        }
+        sum
     }
 
     /// Begins a job.

@@ -1,5 +1,0 @@
-use Rattle.liar_rows.proofs.Forged.{other-forged}
-use Rattle.liar_rows.proofs.laws.other_bytes_are_a_forgery.Goals as goal
-
-pub returns : goal.returns
-returns c s old new end cells written = other-forged s old new end cells written c.gets_give_the_file.ensures.forged
