@@ -44,7 +44,7 @@ pub opens-yes : (o : Object) (j stripe : ℕ) (seen bared out : List ℕ) (p : P
 opens-yes o j stripe seen bared out p e f h =
     subst (λ (q : Profile). Opens q (bare o j stripe seen) out) e (subst (λ (b : List ℕ). Opens p b out) f h)
 
-pub opens-no : (o : Object) (j stripe : ℕ) (seen bared : List ℕ) (p : Profile) → p ≡ o.profile → bared ≡ bare o j stripe seen → OpensToNone p bared →
+opens-no : (o : Object) (j stripe : ℕ) (seen bared : List ℕ) (p : Profile) → p ≡ o.profile → bared ≡ bare o j stripe seen → OpensToNone p bared →
     OpensTo o j stripe (Some seen) None
 opens-no o j stripe seen bared p e f h =
     subst (λ (q : Profile). OpensToNone q (bare o j stripe seen)) e (subst (λ (b : List ℕ). OpensToNone p b) f h)
@@ -69,6 +69,7 @@ put_here out f keep place j x within fits e here i below = go (nat_eq i j) refl
         (λ h. other (sym (div-mul-add i keep place within) ∙ ap (λ n. n / keep) h ∙ div-mul-add j keep place within))
         ∙ here i (let n : i ≡ j → ⊥ = other in omega arith)
 
+-- writing one place of a block leaves those of other places in the row's blocks
 pub put_others : (out : List ℕ) (keep place j x i : ℕ) → place < keep → i % keep ≢ place → get_or (set out (j * keep + place) x) i 0 ≡ get_or out i 0
 put_others out keep place j x i within other =
     get_or-set_other out (j * keep + place) i x 0 (λ h. other (ap (λ n. n % keep) h ∙ mod-mul-add j keep place within))
@@ -78,6 +79,7 @@ opened-here : (P : SeenBlock → Type 0) (b : Bool) (x : List ℕ) → OnTrue b 
 opened-here P true x holds fails = holds
 opened-here P false x holds fails = fails
 
+-- what opened before stays, and the block at hand is opened
 pub opened_more : (o : Object) (stripe : ℕ) (seen : List SeenBlock) (marks : List Bool) (blocks : List (List ℕ)) (j : ℕ) (s : SeenBlock) (b : Bool) (x new : List ℕ) →
     j < length marks → j < length blocks → s ≡ get_or seen j None → x ≡ new →
     OnTrue b (OpensTo o j stripe s (Some new)) → OnFalse b (OpensTo o j stripe s None) →
@@ -143,6 +145,7 @@ all-open o stripe a (s ∷ seen) f each = (
       (λ k below. subst (λ (n : ℕ). OpensTo o n stripe (get_or seen k None) (f n)) (let e : a + suc k ≡ a + 1 + k = omega arith in e) (each (suc k) (omega (arith, below)))),
 )
 
+-- blocks open to what each of them opens to
 pub AllOpen-each : (o : Object) (stripe n : ℕ) (seen : List SeenBlock) (marks : List Bool) (blocks : List (List ℕ)) → length seen ≡ n →
     ((k : ℕ) → k < n → OpensTo o k stripe (get_or seen k None) (opened_at marks blocks k)) → AllOpen o stripe 0 seen (opened_of marks blocks n)
 AllOpen-each o stripe n seen marks blocks long each =
@@ -163,6 +166,7 @@ pub seen-map : (place : ℕ) (f : ℕ → SeenBlock) (xs : List ℕ) → map (λ
 seen-map place f [] = refl
 seen-map place f (x ∷ xs) = ap (λ (l : List (Option ℕ)). symbol_in place (f x) ∷ l) (seen-map place f xs)
 
+-- the row at a place has the symbols of the opened blocks there
 pub row-is : (place n m : ℕ) (marks : List Bool) (blocks : List (List ℕ)) (row nones : List (Option ℕ)) → m ≡ n → m ≤ length nones →
     row ≡ map (λ j. symbol_in place (opened_at marks blocks j)) (upto (length (take m nones))) → row ≡ map (symbol_in place) (opened_of marks blocks n)
 row-is place n m marks blocks row nones e fits is =
@@ -172,11 +176,13 @@ row-is place n m marks blocks row nones e fits is =
 pub Apart-all : (o : Object) (ps : List ℕ) (n : ℕ) → ArePoints o.shape.n o.shape.l o.master o.id ps → n ≡ o.shape.n → o.shape.n ≤ length ps → o.shape.n ≤ 256 → Apart (take n ps)
 Apart-all o ps n are e long few = subst (λ (xs : List ℕ). Apart xs) (sym (all-points o ps n are e long)) (Apart-points o few)
 
+-- a polynomial that is accepted for the row is accepted at the place
 pub accepts-row : (o : Object) (opened : List SeenBlock) (place : ℕ) (ps : List ℕ) (row : List (Option ℕ)) (p : List ℕ) → ps ≡ points o → row ≡ map (symbol_in place) opened →
     Accepts ps row o.shape.l o.shape.b p → AcceptsRow o opened place p
 accepts-row o opened place ps row p e f h =
     subst (λ (qs : List ℕ). Accepts qs (map (symbol_in place) opened) o.shape.l o.shape.b p) e (subst (λ (r : List (Option ℕ)). Accepts ps r o.shape.l o.shape.b p) f h)
 
+-- where none is accepted for the row, none is at the place
 pub accepts-no_row : (o : Object) (opened : List SeenBlock) (place : ℕ) (ps : List ℕ) (row : List (Option ℕ)) → ps ≡ points o → row ≡ map (symbol_in place) opened →
     AcceptsNone ps row o.shape.l o.shape.b → AcceptsNoRow o opened place
 accepts-no_row o opened place ps row e f h p a =
@@ -219,6 +225,7 @@ gives o stripe seen opened symbols opens long has = record {
       };
 }
 
+-- a place without an accepted polynomial is the row that the stripe loses
 pub loses : (o : Object) (stripe row : ℕ) (seen opened : List SeenBlock) → AllOpen o stripe 0 seen opened → LosesPlace o opened stripe row → LosesRow o stripe seen row
 loses o stripe row seen opened opens h = record {
   opened = opened;

@@ -7,6 +7,7 @@ use Rattle.column_defs.specs.Objects.{Object}
 use Rattle.column_defs.specs.Opened.{SeenBlock, OpensTo}
 use Rattle.column_codec.specs.PresentBlocks.{present_blocks}
 
+-- there are as many blocks as flags, present or not
 pub length-present_blocks : (size : ℕ) (flags : List Bool) (symbols : List ℕ) → length (present_blocks size flags symbols) ≡ length flags
 length-present_blocks size [] symbols = refl
 length-present_blocks size (flag ∷ flags) symbols = ap suc (length-present_blocks size flags (drop size symbols))
@@ -38,10 +39,12 @@ opens-present o stripe size flags symbols part k opened below is whole h =
     subst (λ (s : SeenBlock). OpensTo o k stripe s opened)
     (ap Some whole ∙ sym (get_or-present_blocks size flags symbols k below ∙ ap (λ b. if b then Some (take size (drop (k * size) symbols)) else None) is)) h
 
+-- what holds under a true flag holds weaker too
 pub on_true : (P Q : Type 0) (b : Bool) → (P → Q) → OnTrue b P → OnTrue b Q
 on_true P Q true f h = f h
 on_true P Q false f h = h
 
+-- and under a false one
 pub on_false : (P Q : Type 0) (b : Bool) → (P → Q) → OnFalse b P → OnFalse b Q
 on_false P Q true f h = h
 on_false P Q false f h = f h

@@ -79,6 +79,7 @@ get_or-masked o j row (suc i) (x ∷ xs) below =
     let e : row + 1 + i ≡ row + suc i = omega arith in
     get_or-masked o j (row + 1) i xs (omega (arith, below)) ∙ ap (λ r. nim_add (get_or xs i 0) (mask o.master o.id j r)) e
 
+-- symbols with each its mask added are the masked ones
 pub masked-each : (o : Object) (j row : ℕ) (old new masks : List ℕ) → length new ≡ length old → masks ≡ masks_from (file_key o.master 77 o.id j) row (length old) →
     ((i : ℕ) → i < length old → get_or new i 0 ≡ nim_add (get_or old i 0) (get_or masks i 0)) → new ≡ masked o j row old
 masked-each o j row old new masks long are each =

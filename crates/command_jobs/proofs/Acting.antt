@@ -118,6 +118,7 @@ module _ (start : State) (O : IsOpenAtRest start 1) (kind : Kind) (w : State) (j
       let f : moves_before h.2.0 ≡ moves_before action = ap moves_before e in
       let g = h.2.2 in omega (arith, begun, f, g))
 
+  -- where a job's next action is no move of an append, none is in flight
   pub none-flies : (action : Action) → next_action w job ≡ Some action → moves_before action ≡ 0 → w.append ≡ None
   none-flies action next e = by_flight w.append refl
     where

@@ -117,6 +117,7 @@ module _ (law : OpensAll) (there : ThereIsOne) (v : Vault) (records : List Recor
   opened-one : (providers : List Provider) → (setup_in_effect records).n ≤ length providers → (w : State) × Opened providers w
   opened-one providers enough = (let x = there records faults providers F.read.accepted in (x.0, opened-at providers x.0 enough x.1))
 
+  -- the one job that was begun has number 1 and is under way
   pub under-way : (next : Vault) (kind : Kind) (number : ℕ) (providers : List Provider) → (setup_in_effect records).n ≤ length providers → BeginsAs v kind number next → (number ≡ 1) × IsUnderWay next (devices holds faults providers)
   under-way next kind number providers enough begins =
       (let x = opened-one providers enough in
@@ -135,6 +136,7 @@ module _ (law : OpensAll) (there : ThereIsOne) (v : Vault) (records : List Recor
   memory-is begin_fault.JournalFull e = cc
   memory-is begin_fault.Memory e = refl
 
+  -- a begin is refused for the first cause over what the journal holds
   pub refused-over : (next : Vault) (kind : Kind) (why : BeginFault) → RefusesAs v kind why next → IsRefusedOver records kind why
   refused-over next kind why refuses =
       (let ps : List Provider = replicate (setup_in_effect records).n nobody in
@@ -188,6 +190,7 @@ module _ (law : OpensAll) (there : ThereIsOne) (v : Vault) (records : List Recor
     left-alone : LeftAlone records kind (machine_answer ended.answer) old new ended.heard
     left-alone = leaves records kind (machine_answer ended.answer) old new ended.heard R begun-one.1.0.spelled (ap length A.providers ∙ (same ∙ sym (ap length B.providers))) runs-alone
 
+    -- how the one job ended, over what the journal held
     pub ends-over : EndsOver records kind ended old new
     ends-over = record {
       unrefused = subst (λ rs. commands.refusal_over rs kind ≡ None) begun-one.1.1 begun-one.1.0.unrefused;

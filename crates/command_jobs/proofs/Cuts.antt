@@ -59,9 +59,11 @@ acts-memory w job End new (ends, is) = (ap (λ (v : State). v.records) is, inl (
 acts-memory w job action new h = moves-memory w job action w.append new h
 
 module _ (start : State) (O : IsOpenAtRest start 1) (kind : Kind) (w : State) (job : Job) (W : Walked start kind w job) where
+  -- a step that ended in a fault of the disk leaves the records
   pub fault-records : (moment : ℕ) (new : State) → Happens 8 moment w (Step 1) (Ended answer.DiskFault) new → new.records ≡ w.records
   fault-records moment new h = (let a = step-makes start O kind w job W (Ended answer.DiskFault) new h in acts-fault w job a.0 new a.2)
 
+  -- a step that found no memory leaves the records, and no append in flight
   pub memory-clears : (moment : ℕ) (new : State) → Happens 8 moment w (Step 1) (Ended answer.Memory) new → (new.records ≡ w.records) × (new.append ≡ None)
   memory-clears moment new h =
       (let a = step-makes start O kind w job W (Ended answer.Memory) new h in

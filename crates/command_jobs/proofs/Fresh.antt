@@ -31,10 +31,12 @@ ThereIsOne = (records : List Record) (faults : ℕ) (providers : List Provider) 
 abbrev seen_of : List Provider → Seen
 seen_of providers = record { disk = None; disk_faults = 0; providers = providers; source = None; source_faults = 0; sink = None; sink_faults = 0 }
 
+-- a state that an opening gives is open and at rest, its next job the first
 pub over-opened : OpensAll → (w : State) (records : List Record) (faults : ℕ) (providers : List Provider) → AreRecords records → (setup_in_effect records).n ≤ length providers → IsOpenedOver w records faults providers → IsOpenAtRest w 1
 over-opened law w records faults providers R enough over =
     law w (seen_of providers) records faults (record { read = record { some = R.some; in_grammar = R.in_grammar; accepted = R.accepted; room = R.room; reads_are = tt }; enough = enough }) over
 
+-- and it was just opened over these records
 pub just-opened : (w : State) (records : List Record) (faults : ℕ) (providers : List Provider) → IsOpenAtRest w 1 → IsOpenedOver w records faults providers → IsJustOpened w records 1 faults providers
 just-opened w records faults providers O over = record {
   at_rest = O;
@@ -49,6 +51,7 @@ fresh-setup : (v : Vault) (records : List Record) (holds : Option Cells) (faults
 unfolding setup_in
 fresh-setup v records holds faults w providers e S = (sym S.setup ∙ ap setup_in_effect e, subst (λ rs. IsFoldOf rs (table_of v)) e S.core.table)
 
+-- a vault that stands for each such state is fresh over the records
 pub fresh-vault : OpensAll → ThereIsOne → (v : Vault) (records : List Record) (told holds : Option Cells) (faults : ℕ) → IsRead told records →
     ((w : State) (providers : List Provider) → IsJustOpened w records 1 faults providers → Stands v (devices holds faults providers) w) → next_job_of v ≡ 1 → IsFreshOver v records holds faults
 fresh-vault law there v records told holds faults r stands first =

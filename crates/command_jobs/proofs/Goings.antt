@@ -104,6 +104,7 @@ pub record OnWay (start : State) (kind : Kind) (w : State) (moment : ℕ) (v : V
   pub stands : Stands v new (now w steps)
   pub beyond : IsSameBeyond (now w steps) old new
 
+-- before its first step a job is on its way
 pub no-steps : (start : State) (kind : Kind) (w : State) (moment : ℕ) (v : Vault) (d : Devices) → IsOnly start kind w → Stands v d w → OnWay start kind w moment v d d
 no-steps start kind w moment v d only stands = record { steps = []; are_steps = tt; only = only; stands = stands; beyond = goes-same (text_size (records_in_flight w.records w.append)) d.holds }
 
@@ -117,6 +118,7 @@ module _ (start : State) (kind : Kind) (w : State) (moment number : ℕ) (first 
   abbrev here : State
   here = now w way.steps
 
+  -- one more step, and it is still on its way
   pub one-more : MakesStep here (moment + length way.steps) number turn.More next mid new → OnWay start kind w moment next old new
   one-more M =
       (let happens : Happens 8 (moment + length way.steps) here (Step 1) More M.state = subst (λ n. Happens 8 (moment + length way.steps) here (Step n) More M.state) first M.happens in
@@ -130,6 +132,7 @@ module _ (start : State) (kind : Kind) (w : State) (moment number : ℕ) (first 
             (step-grows start way.only.opened kind here way.only.job way.only.walked (moment + length way.steps) M.state happens) way.beyond (M.beyond (λ e. cc));
       })
 
+  -- the step that ends it brings it to its end
   pub at-end : (ended : EndedJob) → MakesStep here (moment + length way.steps) number (turn.Done ended) next mid new → GoesToEnd start kind w moment ended next old new
   at-end ended M = record {
     last = M.state;

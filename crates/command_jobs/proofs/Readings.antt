@@ -13,9 +13,11 @@ use Rattle.vault_open.specs.declared.fault.StartFault.TheVariants as start_fault
 use Rattle.vault_open.specs.Causes.{IsStartFault}
 use Rattle.command_jobs.specs.Opened.{AreRecords, unopened_of, IsUnopened}
 
+-- records that a disk reads are records of a journal
 pub read-records : (told : Option Cells) (rs : List Record) → IsRead told rs → AreRecords rs
 read-records told rs r = record { some = r.some; in_grammar = r.in_grammar; accepted = r.accepted; room = r.room }
 
+-- why a disk is not opened can be read off it
 pub fault-seen : (told : Option Cells) (handed : ℕ) (why : StartFault) → IfSome told (λ cells. IsStartFault (journal_read cells) why) → IsUnopened told handed (unopened_of why)
 fault-seen told handed start_fault.DiskFault h = tt
 fault-seen None handed start_fault.NotSetUp h = tt
@@ -24,6 +26,7 @@ fault-seen None handed (start_fault.BadJournal at) h = tt
 fault-seen (Some cells) handed (start_fault.BadJournal at) h = h
 fault-seen told handed start_fault.Memory h = tt
 
+-- a disk that is synced again reads as before
 pub reads-resynced : (old new : Option Cells) → Goes IsResynced old new → option_map reads new ≡ option_map reads old
 reads-resynced None None h = refl
 reads-resynced None (Some new) h = absurd h

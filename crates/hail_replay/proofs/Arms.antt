@@ -43,6 +43,7 @@ numbers c d w S = next-of c.vault c.next_job d w S
 
 -- ---- begins
 
+-- a begin that is an event of each state keeps what a client stands for
 pub begun-kept : (c next : Client) (d : Devices) (kind : Kind) (outcome : Outcome) → StandsWhereOpen c d
     → ((w : State) (there : Devices) (moment : ℕ) → ClientStands c there w → MakesEvent w moment (Begin kind) outcome next there) → KeepsStanding c next d d
 begun-kept c next d kind outcome S makes =
@@ -72,6 +73,7 @@ same-number None None n m f g e = e
 same-number (Some v) p n m f g e = absurd (false≢true (sym f))
 same-number None (Some v) n m f g e = absurd (false≢true (sym g))
 
+-- a closed client that changes nothing keeps it
 pub closed-kept : (c next : Client) (d : Devices) → is_open c ≡ false → IsSame c next → KeepsStanding c next d d
 closed-kept c next d closed same =
     (let after = still-closed c.vault next.vault closed same.vault in record {
@@ -103,6 +105,7 @@ module _ (c next : Client) (d e : Devices) (tells : is_some e.holds ≡ is_some 
     counts = counts;
   }
 
+  -- a step keeps it
   pub step-kept : (job : ℕ) (outcome : Outcome) → StandsWhereOpen c d → is_open c ≡ true
       → ((w : State) (moment : ℕ) → ClientStands c d w → MakesEvent w moment (Step job) outcome next e) → KeepsStanding c next d e
   step-kept job outcome S opened makes =
@@ -113,6 +116,7 @@ module _ (c next : Client) (d e : Devices) (tells : is_some e.holds ≡ is_some 
       (fell X.state M.state d e (devices-of c.vault c.next_job d X.state X.stands) (devices-of next.vault next.next_job e M.state M.stands)
       (handed-same X.state M.state X.stands M.stands same) (onward X.state 8 0 (Step job) outcome M.state M.happens)))
 
+  -- a run of a job keeps it
   pub run-kept : (job : ℕ) (t : Option Turn) → StandsWhereOpen c d → is_open c ≡ true
       → ((start : State) (ms : List Moment) → IsReached start ms c d → RunsJobOn start ms job t next e) → KeepsStanding c next d e
   run-kept job t S opened runs =
@@ -140,6 +144,7 @@ module _ (c : Client) (event : Event) (outcome : Outcome) (holds : Option Cells)
   of-these : (told : Option Cells) (n : ℕ) → NoCountFell (devices told n ps) (devices told n qs) → NoCountFell (devices holds faults ps) (devices holds faults qs)
   of-these told n F = record { disk = omega arith; handed = F.handed; stores = F.stores; others = F.others }
 
+  -- a replacement of a provider's symbols keeps it
   pub replaced-kept : StandsWhereOpen c (devices holds faults ps) → KeepsStanding c c (devices holds faults ps) (devices holds faults qs)
   replaced-kept S = record {
     standing = λ opened. (let X = S opened in let M = makes X.state holds faults 0 X.stands in record { state = M.state; stands = M.stands });
@@ -153,6 +158,7 @@ module _ (c : Client) (event : Event) (outcome : Outcome) (holds : Option Cells)
 
 -- ---- openings
 
+-- an init keeps it
 pub init-kept : (c : Client) (old new : Option Cells) (f g : ℕ) (ps : List Provider) → is_some new ≡ is_some old → f ≤ g
     → (IsStanding c (devices old f ps) → IsStanding c (devices new g ps)) → StandsWhereOpen c (devices old f ps) → KeepsStanding c c (devices old f ps) (devices new g ps)
 init-kept c old new f g ps tells never standing S = record {
@@ -162,6 +168,7 @@ init-kept c old new f g ps tells never standing S = record {
   counts = record { disk = never; handed = refl; stores = λ j. omega arith; others = λ j. omega arith };
 }
 
+-- a stop keeps it
 pub stop-kept : (c next : Client) (old new : Option Cells) (f g : ℕ) (ps : List Provider) → is_some new ≡ is_some old → f ≤ g
     → is_open next ≡ false → client_next_job next ≡ client_next_job c → KeepsStanding c next (devices old f ps) (devices new g ps)
 stop-kept c next old new f g ps tells never closed number = record {
@@ -171,6 +178,7 @@ stop-kept c next old new f g ps tells never closed number = record {
   counts = record { disk = never; handed = refl; stores = λ j. omega arith; others = λ j. omega arith };
 }
 
+-- a reopening keeps it
 pub reopen-kept : (c next : Client) (old new : Option Cells) (f g : ℕ) (ps : List Provider) (handed : ℕ) (result : Result Unit ReopenFault)
     → is_some new ≡ is_some old → f ≤ g → length ps ≡ handed → is_open next ≡ is_ok result → client_next_job next ≡ client_next_job c
     → OnOk result (OpensOver old (client_next_job c) handed next new g) → KeepsStanding c next (devices old f ps) (devices new g ps)

@@ -9,9 +9,11 @@ use Rattle.second_half_laws.proofs.Onward.{Onward, AllOnward, run_onward}
 use Rattle.vault_open.specs.Devices.{Devices, AreDevices}
 use Rattle.hail_replay.specs.Performed.{NoCountFell}
 
+-- where nothing is done no count fell
 pub none-fell : (d : Devices) → NoCountFell d d
 none-fell d = record { disk = omega arith; handed = refl; stores = λ j. omega arith; others = λ j. omega arith }
 
+-- nor over two pieces one after the other
 pub then-fell : (a b c : Devices) → NoCountFell a b → NoCountFell b c → NoCountFell a c
 then-fell a b c f g = record {
   disk = (let x = f.disk in let y = g.disk in omega (arith, x, y));
@@ -32,6 +34,7 @@ at-place (p ∷ ps) (q ∷ qs) old new on same P Q zero =
 at-place (p ∷ ps) (q ∷ qs) old new on same P Q (suc j) =
     at-place ps qs (λ k. old (suc k)) (λ k. new (suc k)) (λ k. on (suc k)) (omega (arith, same)) (λ k l. P (suc k) (omega (arith, l))) (λ k l. Q (suc k) (omega (arith, l))) j
 
+-- counts of devices are those of the states, which never fall
 pub fell : (w u : State) (d e : Devices) → AreDevices d w → AreDevices e u → length e.providers ≡ length d.providers → AllOnward w u → NoCountFell d e
 fell w u d e D E same on = record {
   disk = (let a = D.faults in let b = E.faults in let c = on.disk in omega (arith, a, b, c));

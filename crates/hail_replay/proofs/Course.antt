@@ -109,6 +109,7 @@ come-first start before c d L sound stands = record {
   heard_is = refl;
 }
 
+-- a run of instructions that goes on with an earlier run has its headline
 pub carries-on : (start : State) (before : List Moment) (done : List Instruction) (later : List Moment) (lines : List ℕ) (heard : List Entry) (c : Client) (d : Devices)
     → ((limit : ℕ) (start : State) (ms : List Moment) → IsStart start → IsRun limit start ms → Headline start ms)
     → ((limit : ℕ) (start : State) (later ms : List Moment) (count : Count) (n : ℕ) → IsRun limit start (later ++ ms) →
@@ -133,6 +134,7 @@ pub on-ok : {X E A B : Type 0} (r : Result X E) → OnOk r A → (A → B) → O
 on-ok (Ok x) a f = f a
 on-ok (Err e) a f = tt
 
+-- what always holds, holds at a fault
 pub on-err : {X E B : Type 0} (r : Result X E) → B → OnErr r B
 on-err (Ok x) b = tt
 on-err (Err e) b = b

@@ -23,9 +23,11 @@ pub record Same (old new : State) : Type 0 where
   pub is_open : new.is_open ≡ old.is_open
   pub next : new.next_job ≡ old.next_job
 
+-- a state is one with itself in its setup and providers
 pub nothing : (w : State) → Same w w
 nothing w = record { handed = refl; is_open = refl; next = refl }
 
+-- two states that are one with a third are one
 pub both : (w u v : State) → Same w u → Same u v → Same w v
 both w u v a b = record { handed = b.handed ∙ a.handed; is_open = b.is_open ∙ a.is_open; next = b.next ∙ a.next }
 
@@ -91,6 +93,7 @@ module _ (old : State) where
   steps_open number false r new h = steps_one number old.alone r new h
   steps_open number true r new h = absurd h
 
+  -- a step keeps setup and providers that there are
   pub steps : (number : ℕ) (is_open : Bool) (r : Outcome) (new : State) → Steps old number is_open r new → Same old new
   steps number false Closed new h = at old new h refl refl refl
   steps number true r new h = steps_open number old.is_barred r new h
@@ -101,6 +104,7 @@ module _ (old : State) where
   replaces j IsThere changed NothingHeld new (p, call, is) = at _ new is refl refl refl
   replaces j IsThere changed r new h = absurd h
 
+  -- so does a replacement
   pub replaces_if : (handed : Bool) (j : ℕ) (IsThere : Held → Type 0) (changed : Held → Held) (r : Outcome) (new : State) → ReplacesIf handed old j IsThere changed r new → Same old new
   replaces_if true j IsThere changed r new h = replaces j IsThere changed r new h
   replaces_if false j IsThere changed NothingHeld new h = at old new h refl refl refl
@@ -117,6 +121,7 @@ module _ (old : State) where
     next = (let e = ap (λ (w : State). w.next_job) is in omega (arith, e, n));
   }
 
+  -- so does a begin, which may give one number more
   pub begins : (limit moment : ℕ) (kind : Kind) (r : Outcome) (new : State) → Begins limit moment old kind r new → OneMore new
   begins limit moment kind Closed new h = one_more old new h.1 refl (omega arith)
   begins limit moment kind (Refused why) new h = one_more old new h.2 refl (omega arith)

@@ -16,6 +16,7 @@ use Rattle.hail_client.specs.Outcomes.{names_outcome}
 use Rattle.hail_client.specs.Stands.{StandsBy, ClientStands, MakesEvent, IsStanding}
 use Rattle.hail_client.proofs.Anew.{closed-standing}
 
+-- a state is open where there is a vault
 pub open-by : (o : Option Vault) (next : ℕ) (d : Devices) (w : State) → StandsBy o next d w → w.is_open ≡ is_some o
 open-by (Some v) next d w S = S.core.is_open
 open-by None next d w S = S.closed
@@ -25,6 +26,7 @@ lists-by : (o : Option Vault) (next : ℕ) (d : Devices) (w : State) → StandsB
 lists-by (Some v) next d w S = subst (λ b. Lists w b (events.Listed (table_of v).files) w) (sym S.core.is_open) (S.core.table.files, refl)
 lists-by None next d w S = subst (λ b. Lists w b Closed w) (sym S.closed) refl
 
+-- the names in effect are those that the client lists
 pub lists : (w : State) (moment : ℕ) (c : Client) (d : Devices) → ClientStands c d w → MakesEvent w moment Names (names_outcome (names_of c)) c d
 lists w moment c d S = record { state = w; spelled = tt; happens = lists-by c.vault c.next_job d w S; stands = S }
 

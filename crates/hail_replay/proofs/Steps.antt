@@ -46,6 +46,7 @@ on-one expected commands command ms steps m job on =
     (ap (λ (js : List ℕ). js ++ flagged_by m.outcome) (sym (flagged-more job steps ms on)))
     (same is_repaired refl) (same is_stopped refl)
 
+-- counts that took an outcome in saw one
 pub sees_one : (expected : List ℕ) (outcome : Outcome) (old new : TrialCounts) → new ≡ counts_on expected outcome old → SeesOne expected outcome old new
 sees_one expected outcome old new is commands command ms steps m job came on before =
     is

@@ -27,16 +27,18 @@ front-behind first mid last xs ys is (n, few, takes) = (
 whole-front : (first mid : Option (List ℕ)) (xs : List ℕ) → mid ≡ told_then first xs → TakesFront first mid xs
 whole-front first mid xs is = (length xs, omega arith, is ∙ ap (told_then first) (sym (take_all (length xs) xs (omega arith))))
 
+-- a sink that took nothing took a front
 pub nothing-taken : (told : Option (List ℕ)) (text : List ℕ) → TakesFront told told text
 nothing-taken told text = (0, omega arith, told_then-nothing told)
 
 -- ---- what was written
 
-pub all-written : (first mid : Option (List ℕ)) (b f : ℕ) (lines : List ℕ) → WritesLine lines 0 (sank first mid b f) → mid ≡ told_then first lines
+all-written : (first mid : Option (List ℕ)) (b f : ℕ) (lines : List ℕ) → WritesLine lines 0 (sank first mid b f) → mid ≡ told_then first lines
 all-written first mid b f lines (inl (s, is)) = is
 all-written first mid b f lines (inr (inl (ne, s, rose, front))) = absurd (omega (arith, s))
 all-written first mid b f lines (inr (inr (s, front))) = absurd (omega (arith, s))
 
+-- writing no lines writes nothing
 pub nothing-written : (first : Option (List ℕ)) (b : ℕ) → WritesLine [] 0 (sank first first b b)
 nothing-written first b = inl (refl, told_then-nothing first)
 
@@ -67,7 +69,7 @@ ends-of lines status sink (inl (s, is)) = inl s
 ends-of lines status sink (inr (inl (ne, s, rose, front))) = inr (inl (s, rose))
 ends-of lines status sink (inr (inr (s, front))) = inr (inr s)
 
-pub ends-since : (first mid last : Option (List ℕ)) (b f g status : ℕ) → b ≤ f → f ≤ g → CarriedOut status (sank mid last f g) → CarriedOut status (sank first last b g)
+ends-since : (first mid last : Option (List ℕ)) (b f g status : ℕ) → b ≤ f → f ≤ g → CarriedOut status (sank mid last f g) → CarriedOut status (sank first last b g)
 ends-since first mid last b f g status low never (inl s) = inl s
 ends-since first mid last b f g status low never (inr (inl (s, rose))) = inr (inl (s, rose-before b f g low never rose))
 ends-since first mid last b f g status low never (inr (inr s)) = inr (inr s)

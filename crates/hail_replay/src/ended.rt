@@ -72,12 +72,7 @@ fn audited_line(
 }
 
 /// Puts the line of a lost row behind a text.
-fn push_lost(
-    alloc: Global,
-    text: &mut Vec<u8>,
-    stripe: u32,
-    row: u64,
-) -> Result<(), AllocError>
+fn push_lost(alloc: Global, text: &mut Vec<u8>, stripe: u32, row: u64) -> Result<(), AllocError>
     ensures { OnOk result (text.new.items ≡ text.old.items ++ line (answer_text (Lost stripe row))) }
 {
     push_counted(alloc, text, b"lost", u64::from(stripe))?;

@@ -18,13 +18,14 @@ parts_of Missing = refl
 parts_of Failed = refl
 parts_of NoMemory = refl
 
-pub no_tail : (a : Reply) → first_byte_of a ≢ 1 → tail_of a ≡ []
+no_tail : (a : Reply) → first_byte_of a ≢ 1 → tail_of a ≡ []
 no_tail Done other = refl
 no_tail (Found symbols) other = absurd (other refl)
 no_tail Missing other = refl
 no_tail Failed other = refl
 no_tail NoMemory other = refl
 
+-- what a block of a wanted size gives has that many symbols
 pub sized-length : (size : ℕ) (block : Option (List ℕ)) (symbols : List ℕ) → Some symbols ≡ sized size block → length symbols ≡ size
 sized-length size None symbols e = absurd cc
 sized-length size (Some b) symbols e = by_test (length b == size) refl e

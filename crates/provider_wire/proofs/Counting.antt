@@ -7,6 +7,7 @@ use Rattle.std.proofs.lemmas.Bool.Decides.{nat_tests}
 use Rattle.device_defs.specs.Faults.{last_count, one_more}
 use Rattle.provider_wire.specs.LinkProviders.{CountsFaults}
 
+-- a count goes up by one and stays at its last value, written either way
 pub one_more_is : (n : ℕ) → n < 2 ^ 64 → min (n + 1) last_count ≡ one_more n
 one_more_is n fits = grind (arith, nat_tests, fits)
 

@@ -41,6 +41,7 @@ clean_parts Missing as_ c = (tt, c)
 clean_parts Failed as_ c = absurd c
 clean_parts NoMemory as_ c = absurd c
 
+-- of a server over a told provider, the requests determine the answers and what is held then, where no call failed
 pub determined : (rs : List Request) (as_ : List Reply) (old new : Provider) (held : Held) → old.held ≡ Some held → Serves rs old as_ new → AreClean as_
     → (replies_text as_ ≡ (served held rs).0) × (new.held ≡ Some (served held rs).1)
 determined [] [] old new held e is clean = (refl, ap (λ (p : Provider). p.held) is ∙ e)
@@ -92,6 +93,7 @@ rises Failed old new c s o =
     ⊎_elim (λ rose. let more : old.store_faults < new.store_faults = rose (omega (arith, c.stores)) in omega (arith, c.others, more))
     (λ rose. let more : old.other_faults < new.other_faults = rose (omega (arith, c.others)) in omega (arith, c.stores, more)) (c.failed refl)
 
+-- while no count stands at its last value, each failed call raised one
 pub failed_counted : (rs : List Request) (as_ : List Reply) (old new : Provider) → Serves rs old as_ new → new.store_faults < last_count → new.other_faults < last_count
     → old.store_faults + old.other_faults + failed_count as_ ≤ new.store_faults + new.other_faults
 failed_counted [] [] old new is s o =

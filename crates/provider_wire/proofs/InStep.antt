@@ -4,6 +4,7 @@ use Rattle.wire_defs.specs.Requests.{Request}
 use Rattle.wire_defs.specs.Links.{Behind}
 use Rattle.provider_wire.specs.Linked.{AskedFor, out_of_step}
 
+-- a link that is in step is not broken, and no answer is due
 pub idle : (b : Behind) (behind : Option Behind) (broken : Bool) → behind ≡ Some b → out_of_step behind broken ≡ [] → (broken ≡ false) × (b.due ≡ [])
 idle b None broken e is = absurd cc
 idle b (Some x) true e is = absurd cc

@@ -61,6 +61,7 @@ one_text rs ss x y a b e p q =
     (ap (λ (l : List ℕ). l ++ x) (sym (text-is rs)) ∙ e ∙ ap (λ (l : List ℕ). l ++ y) (text-is ss)) p q in
     (sym (turned_back rs) ∙ ap (λ (q : List Request). onto q []) same.0 ∙ turned_back ss, same.1)
 
+-- bytes are whole requests in one way
 pub one_frames : (bytes : List ℕ) (rs ss : List Request) → AreFrames bytes rs → AreFrames bytes ss → rs ≡ ss
 one_frames bytes rs ss a b =
     (one_text rs ss [] [] a.are_requests b.are_requests (append-nil (requests_text rs) ∙ sym a.bytes_are ∙ b.bytes_are ∙ sym (append-nil (requests_text ss))) nothing_spells nothing_spells).0
@@ -161,6 +162,7 @@ same_end rs rest bytes TooMany SourceFailed x y = absurd y
 same_end rs rest bytes TooMany SinkFailed x y = absurd y
 same_end rs rest bytes TooMany OutOfMemory x y = absurd y
 
+-- bytes have one end and one list of requests
 pub one_end : (bytes : List ℕ) (e f : End) (rs ss : List Request) → EndsOf bytes e rs → EndsOf bytes f ss → (e ≡ f) × (rs ≡ ss)
 one_end bytes e f rs ss x y =
     let a = within bytes e rs x in
@@ -198,6 +200,7 @@ module _ (bytes : List ℕ) (left was now : Option (List ℕ)) (old new : Provid
   nothing_more : (more : List ℕ) → left ≡ Some more → IsAtEnd left → more ≡ []
   nothing_more more e end = subst IsAtEnd e end
 
+  -- an end that turns on the bytes alone is theirs, whatever the pieces
   pub of_all_bytes : (end : End) (x : HasServed end (Some bytes) left old new was now) → IsOfBytes end → EndsOf bytes end x.requests
   of_all_bytes Finished x is =
       let all = all_of Finished x in

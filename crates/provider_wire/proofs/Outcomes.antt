@@ -142,18 +142,21 @@ not_lost result n is two = ap (λ (o : Option ℕ). not (option_eq eqb o (Some 2
 
 -- all that the calls over a link need to know of the answer that came
 module _ (r : Request) (old now : Option Behind) (result : Option ℕ) (tail : List ℕ) (s o f s' o' f' : ℕ) (told : (b : Behind) → old ≡ Some b → AskedFor r result tail b now) (untold : old ≡ None → now ≡ None) where
+  -- a store that was answered as done stored the block
   pub store_done : (object stripe : ℕ) (block : List ℕ) → r ≡ Store object stripe block → option_eq eqb result (Some 1) ≡ true → s' ≡ s → o' ≡ o → f' ≡ f → Stores object stripe block (seen_behind old s o f) (seen_behind now s' o' f')
   store_done object stripe block is one s_is o_is f_is =
       through r old now result tail (Stores object stripe block) s o f s' o' f' told untold
       (λ b new a h k t. stored object stripe block _ _ a (subst (λ (q : Request). AnswersRequest q (provider_behind b) a (provider_behind new)) is h) (same_kind result 1 (first_byte_of a) one k))
       (record { held = refl; counts = record { store_faults = omega (arith, s_is); other_faults = o_is; fetches = f_is } })
 
+  -- a store that was answered with no memory found none
   pub store_no_room : (object stripe : ℕ) (block : List ℕ) → r ≡ Store object stripe block → option_eq eqb result (Some 3) ≡ true → s' ≡ s → o' ≡ o → f' ≡ f → FindsNoMemory (seen_behind old s o f) (seen_behind now s' o' f')
   store_no_room object stripe block is three s_is o_is f_is =
       through r old now result tail FindsNoMemory s o f s' o' f' told untold
       (λ b new a h k t. no_room object stripe block _ _ a (subst (λ (q : Request). AnswersRequest q (provider_behind b) a (provider_behind new)) is h) (same_kind result 3 (first_byte_of a) three k))
       (record { held = refl; counts = record { store_faults = omega (arith, s_is); other_faults = o_is; fetches = f_is } })
 
+  -- a store that was answered otherwise failed, and was counted
   pub store_failed : (object stripe : ℕ) (block : List ℕ) → r ≡ Store object stripe block → option_eq eqb result (Some 1) ≡ false → option_eq eqb result (Some 3) ≡ false → s' ≡ min (s + 1) last_count → o' ≡ o → f' ≡ f → s < 2 ^ 64
       → FailsToStore (seen_behind old s o f) (seen_behind now s' o' f')
   store_failed object stripe block is one three s_is o_is f_is fits =
@@ -161,23 +164,27 @@ module _ (r : Request) (old now : Option Behind) (result : Option ℕ) (tail : L
       (λ b new a h k t. (store_lost object stripe block _ _ a (subst (λ (q : Request). AnswersRequest q (provider_behind b) a (provider_behind new)) is h) (is_other result 1 (first_byte_of a) one k) (is_other result 3 (first_byte_of a) three k)).1)
       (record { held = refl; counts = record { store_faults = omega (arith, s_is, fits); other_faults = o_is; fetches = f_is }; cause = λ less. omega (arith, s_is, fits) })
 
+  -- a store that failed otherwise than by a known answer leaves the link out of step
   pub store_steps : (object stripe : ℕ) (block : List ℕ) → r ≡ Store object stripe block → option_eq eqb result (Some 1) ≡ false → option_eq eqb result (Some 3) ≡ false → out_of_step now (not (option_eq eqb result (Some 2))) ≡ []
   store_steps object stripe block is one three =
       stepped r old now result tail _ told untold
       (λ b new a h k. not_lost result (first_byte_of a) k (store_lost object stripe block _ _ a (subst (λ (q : Request). AnswersRequest q (provider_behind b) a (provider_behind new)) is h) (is_other result 1 (first_byte_of a) one k) (is_other result 3 (first_byte_of a) three k)).0)
 
+  -- a removal that was answered as done took the object away
   pub remove_done : (object : ℕ) → r ≡ Remove object → option_eq eqb result (Some 1) ≡ true → s' ≡ s → o' ≡ o → f' ≡ f → RemovesAll object (seen_behind old s o f) (seen_behind now s' o' f')
   remove_done object is one s_is o_is f_is =
       through r old now result tail (RemovesAll object) s o f s' o' f' told untold
       (λ b new a h k t. removed object _ _ a (subst (λ (q : Request). AnswersRequest q (provider_behind b) a (provider_behind new)) is h) (same_kind result 1 (first_byte_of a) one k))
       (record { held = refl; counts = record { store_faults = s_is; other_faults = omega (arith, o_is); fetches = f_is } })
 
+  -- a removal that was answered otherwise failed, and was counted
   pub remove_failed : (object : ℕ) → r ≡ Remove object → option_eq eqb result (Some 1) ≡ false → s' ≡ s → o' ≡ min (o + 1) last_count → f' ≡ f → o < 2 ^ 64 → FailsToRemove object (seen_behind old s o f) (seen_behind now s' o' f')
   remove_failed object is one s_is o_is f_is fits =
       through r old now result tail (FailsToRemove object) s o f s' o' f' told untold
       (λ b new a h k t. (remove_lost object _ _ a (subst (λ (q : Request). AnswersRequest q (provider_behind b) a (provider_behind new)) is h) (is_other result 1 (first_byte_of a) one k)).1)
       (record { held = tt; counts = record { store_faults = s_is; other_faults = omega (arith, o_is, fits); fetches = f_is }; cause = λ less. omega (arith, o_is, fits) })
 
+  -- a removal that failed otherwise than by a known answer leaves the link out of step
   pub remove_steps : (object : ℕ) → r ≡ Remove object → option_eq eqb result (Some 1) ≡ false → out_of_step now (not (option_eq eqb result (Some 2))) ≡ []
   remove_steps object is one =
       stepped r old now result tail _ told untold
@@ -187,6 +194,7 @@ module _ (r : Request) (old now : Option Behind) (result : Option ℕ) (tail : L
     at_ask : (b new : Behind) (a : Reply) → AnswersRequest r (provider_behind b) a (provider_behind new) → AnswersRequest (Ask object c) (provider_behind b) a (provider_behind new)
     at_ask b new a h = subst (λ (q : Request). AnswersRequest q (provider_behind b) a (provider_behind new)) is h
 
+    -- an ask that was answered with a symbol gives it
     pub ask_done : (symbol : ℕ) → symbol ∷ [] ≡ symbols_read 1 tail → symbol < 2 ^ 128 → option_eq eqb result (Some 1) ≡ true → s' ≡ s → o' ≡ o → f' ≡ f → AsksAs (honest_answer c) object (seen_behind old s o f) (Some symbol) (seen_behind now s' o' f')
     ask_done symbol read small one s_is o_is f_is =
         through r old now result tail (λ p q. AsksAs (honest_answer c) object p (Some symbol) q) s o f s' o' f' told untold
@@ -199,18 +207,21 @@ module _ (r : Request) (old now : Option Behind) (result : Option ℕ) (tail : L
         subst (λ (y : ℕ). AsksAs (honest_answer c) object (provider_behind b) (Some y) (provider_behind new)) e x.2)
         (record { held = refl; counts = record { store_faults = s_is; other_faults = omega (arith, o_is); fetches = f_is }; gives = small; symbol = small })
 
+    -- an ask that was answered with nothing gives nothing
     pub ask_missing : option_eq eqb result (Some 0) ≡ true → s' ≡ s → o' ≡ o → f' ≡ f → AsksAs (honest_answer c) object (seen_behind old s o f) None (seen_behind now s' o' f')
     ask_missing none s_is o_is f_is =
         through r old now result tail (λ p q. AsksAs (honest_answer c) object p None q) s o f s' o' f' told untold
         (λ b new a h k t. not_answered object c _ _ a (at_ask b new a h) (same_kind result 0 (first_byte_of a) none k))
         (record { held = refl; counts = record { store_faults = s_is; other_faults = omega (arith, o_is); fetches = f_is }; gives = tt; symbol = tt })
 
+    -- an ask that was answered otherwise failed, and was counted
     pub ask_failed : option_eq eqb result (Some 1) ≡ false → option_eq eqb result (Some 0) ≡ false → s' ≡ s → o' ≡ min (o + 1) last_count → f' ≡ f → o < 2 ^ 64 → FailsToAnswer (seen_behind old s o f) (seen_behind now s' o' f')
     ask_failed one none s_is o_is f_is fits =
         through r old now result tail FailsToAnswer s o f s' o' f' told untold
         (λ b new a h k t. (ask_lost object c _ _ a (at_ask b new a h) (is_other result 1 (first_byte_of a) one k) (is_other result 0 (first_byte_of a) none k)).1)
         (record { held = refl; counts = record { store_faults = s_is; other_faults = omega (arith, o_is, fits); fetches = f_is }; cause = λ less. omega (arith, o_is, fits) })
 
+    -- an ask that failed otherwise than by a known answer leaves the link out of step
     pub ask_steps : option_eq eqb result (Some 1) ≡ false → option_eq eqb result (Some 0) ≡ false → out_of_step now (not (option_eq eqb result (Some 2))) ≡ []
     ask_steps one none =
         stepped r old now result tail _ told untold
@@ -220,6 +231,7 @@ module _ (r : Request) (old now : Option Behind) (result : Option ℕ) (tail : L
     at_fetch : (b new : Behind) (a : Reply) → AnswersRequest r (provider_behind b) a (provider_behind new) → AnswersRequest (Fetch object stripe size) (provider_behind b) a (provider_behind new)
     at_fetch b new a h = subst (λ (q : Request). AnswersRequest q (provider_behind b) a (provider_behind new)) is h
 
+    -- a fetch that was answered with a block gives it, and was counted
     pub fetch_done : (out : List ℕ) → out ≡ symbols_read size tail → length out ≡ size → All (λ symbol. symbol < 2 ^ 128) out → option_eq eqb result (Some 1) ≡ true → s' ≡ s → o' ≡ o → f' ≡ min (f + 1) last_count → f < 2 ^ 64
         → FetchesAs size object stripe (seen_behind old s o f) (Some out) (seen_behind now s' o' f')
     fetch_done out read long small one s_is o_is f_is fits =
@@ -232,18 +244,21 @@ module _ (r : Request) (old now : Option Behind) (result : Option ℕ) (tail : L
         subst (λ (y : List ℕ). FetchesAs size object stripe (provider_behind b) (Some y) (provider_behind new)) e x.2)
         (record { held = refl; counts = record { store_faults = s_is; other_faults = omega (arith, o_is); fetches = f_is ∙ one_more_is f fits }; gives = record { size_is = long; symbols = small }; symbols = small })
 
+    -- a fetch that was answered with nothing gives nothing, and was counted
     pub fetch_missing : option_eq eqb result (Some 0) ≡ true → s' ≡ s → o' ≡ o → f' ≡ min (f + 1) last_count → f < 2 ^ 64 → FetchesAs size object stripe (seen_behind old s o f) None (seen_behind now s' o' f')
     fetch_missing none s_is o_is f_is fits =
         through r old now result tail (λ p q. FetchesAs size object stripe p None q) s o f s' o' f' told untold
         (λ b new a h k t. not_fetched object stripe size _ _ a (at_fetch b new a h) (same_kind result 0 (first_byte_of a) none k))
         (record { held = refl; counts = record { store_faults = s_is; other_faults = omega (arith, o_is); fetches = f_is ∙ one_more_is f fits }; gives = tt; symbols = tt })
 
+    -- a fetch that was answered otherwise failed, and both counts rose
     pub fetch_failed : option_eq eqb result (Some 1) ≡ false → option_eq eqb result (Some 0) ≡ false → s' ≡ s → o' ≡ min (o + 1) last_count → f' ≡ min (f + 1) last_count → o < 2 ^ 64 → f < 2 ^ 64 → FailsToFetch (seen_behind old s o f) (seen_behind now s' o' f')
     fetch_failed one none s_is o_is f_is fits f_fits =
         through r old now result tail FailsToFetch s o f s' o' f' told untold
         (λ b new a h k t. (fetch_lost object stripe size _ _ a (at_fetch b new a h) (is_other result 1 (first_byte_of a) one k) (is_other result 0 (first_byte_of a) none k)).1)
         (record { held = refl; counts = record { store_faults = s_is; other_faults = omega (arith, o_is, fits); fetches = f_is ∙ one_more_is f f_fits }; cause = λ less. omega (arith, o_is, fits) })
 
+    -- a fetch that failed otherwise than by a known answer leaves the link out of step
     pub fetch_steps : option_eq eqb result (Some 1) ≡ false → option_eq eqb result (Some 0) ≡ false → out_of_step now (not (option_eq eqb result (Some 2))) ≡ []
     fetch_steps one none =
         stepped r old now result tail _ told untold

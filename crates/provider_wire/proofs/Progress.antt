@@ -53,6 +53,7 @@ pub record Progress (had left : Option (List ℕ)) (taken : ℕ) (waiting : List
   pub served : Serves requests old replies new
   pub written : now ≡ told_then was (replies_text replies)
 
+-- before the first request nothing is taken, served or written
 pub starts : (had : Option (List ℕ)) (p : Provider) (w : Option (List ℕ)) → Progress had had 0 [] p p w w
 starts had p w = record {
   requests = [];
@@ -67,6 +68,7 @@ starts had p w = record {
   written = told_then-nothing w;
 }
 
+-- no bytes spell no request
 pub nothing_spells : SpellsNoRequest []
 nothing_spells r front rest s e =
     let some = spelling-some r in
@@ -74,7 +76,7 @@ nothing_spells r front rest s e =
     let sum : 0 ≡ length front + length rest = ap length e ∙ length-append front rest in
     let lt : 0 < 0 = omega (arith, some, same, sum) in absurd (omega (arith, lt))
 
-pub waiting_is_taken : {had left : Option (List ℕ)} {taken : ℕ} {waiting : List ℕ} {old new : Provider} {was now : Option (List ℕ)} → Progress had left taken waiting old new was now → length waiting ≤ taken
+waiting_is_taken : {had left : Option (List ℕ)} {taken : ℕ} {waiting : List ℕ} {old new : Provider} {was now : Option (List ℕ)} → Progress had left taken waiting old new was now → length waiting ≤ taken
 waiting_is_taken {waiting = waiting} p = omega (arith, p.count, ap length p.parts, length-append p.front waiting)
 
 module _ (had left : Option (List ℕ)) (taken : ℕ) (waiting : List ℕ) (old mid : Provider) (was then_ : Option (List ℕ)) (p : Progress had left taken waiting old mid was then_) where
@@ -335,12 +337,12 @@ module _ (had left : Option (List ℕ)) (taken w done : ℕ) (waiting bytes : Li
   rest_size : length (drop done waiting) ≡ length waiting - done
   rest_size = length-drop done waiting
 
-  pub turned_bad : (at : ℕ) → at ≡ taken - (length waiting - done) → is_bad_request (drop done bytes) ≡ true → HasServed (BadAt at) had left old new was now
+  turned_bad : (at : ℕ) → at ≡ taken - (length waiting - done) → is_bad_request (drop done bytes) ≡ true → HasServed (BadAt at) had left old new was now
   turned_bad at at_is bad =
       subst (λ (k : ℕ). HasServed (BadAt k) had left old new was now) (ap (λ (k : ℕ). taken - k) rest_size ∙ sym at_is)
       (broke had left taken (drop done waiting) old new was now turned few (ap is_bad_request (sym rest_is) ∙ bad))
 
-  pub turned_long : most_bytes < taken → SpellsNoRequest (drop done bytes) → is_bad_request (drop done bytes) ≡ false → HasServed TooMany had left old new was now
+  turned_long : most_bytes < taken → SpellsNoRequest (drop done bytes) → is_bad_request (drop done bytes) ≡ false → HasServed TooMany had left old new was now
   turned_long more none fine =
       exceeded had left taken (drop done waiting) old new was now turned few more (omega (arith, rest_size, done_within, w_is)) (subst SpellsNoRequest rest_is none) (ap is_bad_request (sym rest_is) ∙ fine)
 
@@ -425,6 +427,7 @@ module _ {had left : Option (List ℕ)} (left' : Option (List ℕ)) {taken n siz
     pub front_waits : {done : ℕ} → done ≤ length (take (size - over) slice) → done ≤ size
     front_waits fits = omega (arith, bytes_size, fits)
 
+    -- what is done of a front is there in the longer text
     pub front_is_there : {done : ℕ} → done ≤ length (take (size - over) slice) → done ≤ length more
     front_is_there fits = omega (arith, front_waits fits, size_is)
 

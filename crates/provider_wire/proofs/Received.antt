@@ -26,6 +26,7 @@ step None now n part g x e = absurd cc
 step (Some m) None n part g x e = absurd g
 step (Some m) (Some k) n part g x e = (k, refl, subst (λ (y : Behind). Receives n part y k) (let h : m ≡ x = cc in h) g)
 
+-- before the first piece nothing of an answer was received
 pub begins : (first : Option Behind) (out : List ℕ) → SoFar first first out 0
 begins first out = λ b e long. (b.due, refl, e)
 

@@ -14,10 +14,12 @@ use Rattle.wire_defs.specs.Replies.{AnswersIn, reply_bytes, replies_text}
 use Rattle.wire_defs.specs.Serving.{ServesAll, ServesPart}
 use Rattle.stream_model.proofs.ToldLemmas.{told_then-append}
 
+-- writing nothing leaves what a sink tells
 pub nothing_told : (told : Option (List ℕ)) → told ≡ then_told [] told
 nothing_told None = refl
 nothing_told (Some bs) = refl
 
+-- two texts written one after the other are one text written
 pub then_told-append : (told : Option (List ℕ)) (xs ys : List ℕ) → then_told xs (then_told ys told) ≡ then_told (xs ++ ys) told
 then_told-append None xs ys = refl
 then_told-append (Some bs) xs ys = ap (λ (l : List ℕ). Some l) (sym (append_assoc xs ys bs))

@@ -50,7 +50,7 @@ sum-lt bs small (suc k) =
     let size : 256 ^ suc (suc k) ≡ p * 256 = pow-suc 256 (suc k) in
     rw size (omega (arith, top, below))
 
-pub wide128 : IsWide w128 (2 ^ 128)
+wide128 : IsWide w128 (2 ^ 128)
 wide128 = record {
   len = λ n. refl;
   back = λ bytes len fits. to_from bytes len fits;
@@ -71,6 +71,7 @@ bytes-symbols (suc n) bytes long fits =
     ∙ sym (take-add (16 * n) 16 bytes)
     ∙ ap (λ (m : ℕ). take m bytes) e
 
+-- as many symbols are read as were asked for
 pub length-symbols : (n : ℕ) (bytes : List ℕ) → length (symbols_read n bytes) ≡ n
 unfolding symbols_read
 length-symbols zero bytes = refl
@@ -80,6 +81,7 @@ length-symbols (suc n) bytes =
     let rest = length-symbols n bytes in
     let is : length (symbols_read n bytes ++ x ∷ []) ≡ suc n = omega (arith, e, rest) in is
 
+-- symbols that are read from bytes are below 2^128
 pub symbols_small : (n : ℕ) (bytes : List ℕ) → IsBytes bytes → list_all (λ symbol. nat_lt symbol (2 ^ 128)) (symbols_read n bytes) ≡ true
 unfolding symbols_read
 symbols_small zero bytes fits = refl
@@ -123,6 +125,7 @@ symbols-front block (suc k) within small =
     (λ i. symbols-front block k (omega arith) small i ++ (ap (from_le_bytes w128) part ∙ from_to x (small_at block k below small)) i ∷ [])
     ∙ sym (take-suc block k 0 below)
 
+-- symbols written as bytes are read back
 pub symbols-bytes : (block : List ℕ) → list_all (λ symbol. nat_lt symbol (2 ^ 128)) block ≡ true → symbols_read (length block) (bytes_of_symbols block) ≡ block
 symbols-bytes block small = symbols-front block (length block) (omega arith) small ∙ take_all (length block) block (omega arith)
 

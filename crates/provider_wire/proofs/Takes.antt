@@ -207,6 +207,7 @@ of_kind : (kind k : ℕ) (rest : List ℕ) (found others : Option (Request × Li
 of_kind kind k rest found others x here on e =
     ⊎_elim (λ p. subst (λ (j : ℕ). Found (j ∷ rest) x) (sym (eqb-true kind k p.0)) (here p.1)) (λ p. on p.1) (cond-cases (eqb kind k) found others (Some x) e)
 
+-- a request that is read stands at the front of the bytes, within its limits
 pub request_takes : (bytes : List ℕ) (x : Request × List ℕ) → IsBytes bytes → request_at bytes ≡ Some x → Takes bytes (request_bytes x.0) x.1 × (is_request x.0 ≡ true)
 unfolding request_at
 request_takes [] x fits e = absurd cc
@@ -218,6 +219,7 @@ request_takes (kind ∷ rest) x fits e =
     none_is : (y : Request × List ℕ) → None ≡ Some y → ⊥
     none_is y h = cc
 
+-- a request within its limits is read back from its bytes, whatever comes behind
 pub request_again : (r : Request) (rest : List ℕ) → is_request r ≡ true → request_at (request_bytes r ++ rest) ≡ Some (r, rest)
 unfolding request_at store_at fetch_at ask_at remove_at within_at request_bytes
 request_again (Store object stripe block) rest fits =
@@ -248,6 +250,7 @@ one_front a b x y fits_a fits_b e =
     let same = some_is (a, x) (b, y) (sym (request_again a x fits_a) ∙ ap request_at e ∙ request_again b y fits_b) in
     (ap (λ (p : Request × List ℕ). p.0) same, ap (λ (p : Request × List ℕ). p.1) same)
 
+-- every request has a byte
 pub spelling-some : (r : Request) → 0 < length (request_bytes r)
 unfolding request_bytes
 spelling-some (Store object stripe block) = omega arith

@@ -4,6 +4,7 @@ use Rattle.std.proofs.lemmas.Bool.Decides.{nat_tests}
 use Rattle.record_defs.specs.Records.{is_name}
 use Rattle.record_codec.specs.NameParts.{IsNameKept}
 
+-- a name and zeros behind it are kept as a name
 pub IsKept-made : (name all : List ℕ) (n : ℕ) → all ≡ name ++ drop (length name) (replicate 64 0) → n ≡ length name → length name ≤ 64 → is_name name ≡ true → IsNameKept (record { bytes = all; len = n })
 IsKept-made name all n all_is n_is short good =
     let padding : drop (length name) (replicate 64 0) ≡ replicate (64 - length name) 0 = drop-replicate (length name) 64 0 in
@@ -16,5 +17,6 @@ IsKept-made name all n all_is n_is short good =
       zeros = ap (drop n) whole ∙ drop_at name _ n (sym n_is) ∙ ap (λ (k : ℕ). replicate (64 - k) 0) (sym n_is);
     }
 
+-- a name has at most 64 bytes
 pub is_name-short : (name : List ℕ) → is_name name ≡ true → length name ≤ 64
 is_name-short name good = grind (arith, nat_tests)

@@ -231,6 +231,7 @@ of_kind : (kind k : ℕ) (rest : List ℕ) (found others : Option (Record × Lis
 of_kind kind k rest found others x here on e =
     ⊎_elim (λ p. subst (λ (j : ℕ). Found (j ∷ rest) x) (sym (eqb-true kind k p.0)) (here p.1)) (λ p. on p.1) (cond-cases (eqb kind k) found others (Some x) e)
 
+-- a record of any kind that is read stands at the front, and has a spelling
 pub spelled_takes : (bytes : List ℕ) (x : Record × List ℕ) → IsBytes bytes → spelled_at bytes ≡ Some x → Takes bytes (spelling x.0) x.1 × (is_spelled x.0 ≡ true)
 unfolding spelled_at
 spelled_takes [] x fits e = absurd cc
@@ -247,6 +248,7 @@ spelled_takes (kind ∷ rest) x fits e =
     none_is : (y : Record × List ℕ) → None ≡ Some y → ⊥
     none_is y h = cc
 
+-- a record of any kind is read back from its spelling
 pub spelled_again : (r : Record) (rest : List ℕ) → is_spelled r ≡ true → spelled_at (spelling r ++ rest) ≡ Some (r, rest)
 unfolding spelled_at put_start_at put_done_at drop_at audit_start_at audit_done_at repair_done_at put_done_in_at version_at resume_at in_effect_at repair_due_at spelling
 spelled_again (SetUp s) rest fits = setup_again s rest (grind (arith, fits)) (grind (arith, fits))
@@ -298,6 +300,7 @@ spelled_again (RepairDue number counts) rest fits =
 
 -- and where a journal may hold the kind
 
+-- a record that is read stands at the front, and is one of the grammar
 pub record_takes : (bytes : List ℕ) (x : Record × List ℕ) → IsBytes bytes → record_at bytes ≡ Some x → Takes bytes (spelling x.0) x.1 × (is_in_grammar x.0 ≡ true)
 unfolding record_at
 record_takes bytes x fits e =
@@ -306,6 +309,7 @@ record_takes bytes x fits e =
     let took = spelled_takes bytes a.0 fits a.1 in
     subst (λ (y : Record × List ℕ). Takes bytes (spelling y.0) y.1 × (is_in_grammar y.0 ≡ true)) g.1 (took.0, grammar-from a.0.0 g.0 took.1)
 
+-- a record of the grammar is read back from its spelling
 pub record_again : (r : Record) (rest : List ℕ) → is_in_grammar r ≡ true → record_at (spelling r ++ rest) ≡ Some (r, rest)
 unfolding record_at
 record_again r rest fits = rw (spelled_again r rest (grammar-spelled r fits), grammar-held r fits) refl
@@ -316,5 +320,6 @@ one_spelled a b x y fits_a fits_b e =
     let same = some_is (a, x) (b, y) (sym (spelled_again a x fits_a) ∙ ap spelled_at e ∙ spelled_again b y fits_b) in
     (ap (λ (p : Record × List ℕ). p.0) same, ap (λ (p : Record × List ℕ). p.1) same)
 
+-- no spelling is a front of another
 pub one_front : (a b : Record) (x y : List ℕ) → is_in_grammar a ≡ true → is_in_grammar b ≡ true → spelling a ++ x ≡ spelling b ++ y → (a ≡ b) × (x ≡ y)
 one_front a b x y fits_a fits_b e = one_spelled a b x y (grammar-spelled a fits_a) (grammar-spelled b fits_b) e

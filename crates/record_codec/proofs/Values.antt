@@ -47,9 +47,11 @@ again (kind.Resume id audit) is = refl
 again (kind.File id length profile name) is = refl
 again (kind.Due number counts) is = ap (λ (ks : Counts). kind.Due number ks) (padded-counted counts is.padded)
 
+-- records that mean the same are the same
 pub one_value : (r s : Record) → IsInGrammar r → IsInGrammar s → entry_of r ≡ entry_of s → r ≡ s
 one_value r s is_r is_s e = sym (again r is_r) ∙ ap value_of e ∙ again s is_s
 
+-- the size of the end of an audit follows from how many counts it has
 pub size_of_counts : (r : Record) (number undecided : ℕ) (counts : Counts) → r ≡ kind.AuditDone number undecided counts → HasSpelling r → 14 + 4 * counts.n ≡ record_size (entry_of r)
 size_of_counts r number undecided counts is good =
     let p : IsPadded counts = subst HasPadding is good.padded in
@@ -57,6 +59,7 @@ size_of_counts r number undecided counts is good =
     let size : 14 + 4 * counts.n ≡ 14 + 4 * length (take counts.n counts.by) = omega (arith, len) in
     size ∙ ap (λ (x : Record). record_size (entry_of x)) (sym is)
 
+-- so does that of a due audit
 pub size_of_due : (r : Record) (number : ℕ) (counts : Counts) → r ≡ kind.Due number counts → HasSpelling r → 10 + 4 * counts.n ≡ record_size (entry_of r)
 size_of_due r number counts is good =
     let p : IsPadded counts = subst HasPadding is good.padded in
@@ -64,5 +67,6 @@ size_of_due r number counts is good =
     let size : 10 + 4 * counts.n ≡ 10 + 4 * length (take counts.n counts.by) = omega (arith, len) in
     size ∙ ap (λ (x : Record). record_size (entry_of x)) (sym is)
 
+-- a record of the grammar has a spelling
 pub has_spelling : (r : Record) → IsInGrammar r → HasSpelling r
 has_spelling r is = record { spelled = grammar-spelled (entry_of r) is.spelled; padded = is.padded }

@@ -195,6 +195,7 @@ spelled-not_skipped ws command skipped spelled = never (sym (line-skipped ws ski
     never : skip ≡ Some (Some command) → ⊥
     never e = cc
 
+-- words spell one command
 pub Spells-once : (ws : List Word) (command other : Instruction) → SpellsCommand ws command → SpellsCommand ws other → command ≡ other
 Spells-once ws command other first second = same (sym (line-spelled ws command first) ∙ line-spelled ws other second)
   where

@@ -14,6 +14,7 @@ use Rattle.schedule_text.specs.Grammar.{Word, IsNumber, IsHex, IsKey}
 use Rattle.schedule_text.specs.Reading.{only_if, found_in, word_at, only_command, number_in, bytes_in, key_in, numeral_at, number_word_at, bytes_at, key_at}
 use Rattle.schedule_text.proofs.Numbers.{word-number_in, number_in-word}
 
+-- what passed a test is what was tested
 pub passed : {A : Type 0} (test : Bool) (x y : A) → only_if test x ≡ Some y → (test ≡ true) × (x ≡ y)
 passed true x y e = (refl, cc)
 passed false x y e = absurd cc
@@ -22,10 +23,12 @@ passed false x y e = absurd cc
 abbrev pub Took : {A : Type 0} → (Word → A → Type 0) → List Word → A × List Word → Type 0
 Took P ws x = (word : Word) × (ws ≡ word ∷ x.1) × P word x.0
 
+-- a word that is taken stands first
 pub word-took : (ws : List Word) (x : Word × List Word) → word_at ws ≡ Some x → ws ≡ x.0 ∷ x.1
 word-took [] x e = absurd cc
 word-took (word ∷ ws) x e = ap (λ (y : Word × List Word). y.0 ∷ y.1) (some_is (word, ws) x e)
 
+-- a command that takes no more words has none behind it
 pub ended-took : (command other : Instruction) (ws : List Word) → only_command command ws ≡ Some other → (ws ≡ []) × (command ≡ other)
 ended-took command other [] e = (refl, some_is command other e)
 ended-took command other (word ∷ ws) e = absurd cc
@@ -39,10 +42,12 @@ took P read sound ws x e =
     let made : (b.0, a.0.1) ≡ x = some_is (b.0, a.0.1) x b.2 in
     subst (Took P ws) made (a.0.0, word-took ws a.0 a.1, sound a.0.0 b.0 b.1)
 
+-- a numeral that is taken is the number of the first word
 pub numeral-took : (ws : List Word) (x : ℕ × List Word) → numeral_at ws ≡ Some x → Took IsNumberWord ws x
 unfolding numeral_at
 numeral-took ws x e = took IsNumberWord number_in word-number_in ws x e
 
+-- a number that is taken is that of the first word, within its bits
 pub number-took : (bits : ℕ) (ws : List Word) (x : ℕ × List Word) → number_word_at bits ws ≡ Some x → Took (IsNumber bits) ws x
 unfolding number_word_at
 number-took bits ws x e =
@@ -62,6 +67,7 @@ bytes-sound word bytes e = elim (cond-cases (bytes_eq word (codes "-")) (done []
   | inr some ↦ inr (found-in (decode_of word) bytes some.1)
 ]
 
+-- bytes that are taken are those of the first word, in hexadecimal
 pub bytes-took : (ws : List Word) (x : List ℕ × List Word) → bytes_at ws ≡ Some x → Took IsHex ws x
 unfolding bytes_at
 bytes-took ws x e = took IsHex bytes_in bytes-sound ws x e
@@ -72,20 +78,24 @@ key-sound word key e = elim (cond-cases (length word == 64) (found_in (decode_of
   | inr short ↦ absurd cc
 ]
 
+-- a key that is taken is that of the first word
 pub key-took : (ws : List Word) (x : List ℕ × List Word) → key_at ws ≡ Some x → Took IsKey ws x
 unfolding key_at
 key-took ws x e = took IsKey key_in key-sound ws x e
 
 -- ---- what a word spells is read
 
+-- the numeral of a word is taken from it
 pub numeral-again : (word : Word) (ws : List Word) (number : ℕ) → IsNumberWord word number → numeral_at (word ∷ ws) ≡ Some (number, ws)
 unfolding numeral_at
 numeral-again word ws number is = rw (number_in-word word number is) refl
 
+-- a number within its bits is taken from its word
 pub number-again : (bits : ℕ) (word : Word) (ws : List Word) (number : ℕ) → IsNumber bits word number → number_word_at bits (word ∷ ws) ≡ Some (number, ws)
 unfolding number_word_at
 number-again bits word ws number is = rw (numeral-again word ws number is.0, lt-ltb _ _ is.1) refl
 
+-- bytes are taken from their word
 pub bytes-again : (word : Word) (ws : List Word) (bytes : List ℕ) → IsHex word bytes → bytes_at (word ∷ ws) ≡ Some (bytes, ws)
 unfolding bytes_at
 bytes-again word ws bytes is = ap (λ (read : Option (List ℕ)). read >>= λ value. Some (value, ws)) (read is)
@@ -104,6 +114,7 @@ bytes-again word ws bytes is = ap (λ (read : Option (List ℕ)). read >>= λ va
             bad e = cc
         at false other = rw some refl
 
+-- a key is taken from its word
 pub key-again : (word : Word) (ws : List Word) (key : List ℕ) → IsKey word key → key_at (word ∷ ws) ≡ Some (key, ws)
 unfolding key_at
 key-again word ws key is = rw (eq-eqb (length word) 64 is.0, is.1) refl

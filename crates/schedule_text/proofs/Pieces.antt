@@ -37,20 +37,24 @@ around c (b ∷ text) (suc end) within here = ap (λ (x : List ℕ). b ∷ x) (a
 
 -- ---- pieces
 
+-- a text without the separator is one piece
 pub pieces-free : (c : ℕ) (text : List ℕ) → Free c text → pieces c text ≡ text ∷ []
 pieces-free c [] free = refl
 pieces-free c (b ∷ text) free = rw (differ b c free.0, pieces-free c text free.1) refl
 
+-- a front without the separator, and the separator, are the first piece
 pub pieces-append : (c : ℕ) (front rest : List ℕ) → Free c front → pieces c (front ++ c ∷ rest) ≡ front ∷ pieces c rest
 pieces-append c [] rest free = rw (eq-eqb c c refl) refl
 pieces-append c (b ∷ front) rest free = rw (differ b c free.0, pieces-append c front rest free.1) refl
 
 -- ---- words
 
+-- a text without a space is one word
 pub words-free : (word : List ℕ) → 0 < length word → Free 32 word → words word ≡ word ∷ []
 words-free [] some free = absurd (omega arith)
 words-free (b ∷ word) some free = ap (λ (ps : List (List ℕ)). filter has_bytes ps) (pieces-free 32 (b ∷ word) free)
 
+-- a word and a space before a text are its first word
 pub words-append : (word rest : List ℕ) → 0 < length word → Free 32 word → words (word ++ 32 ∷ rest) ≡ word ∷ words rest
 words-append [] rest some free = absurd (omega arith)
 words-append (b ∷ word) rest some free = ap (λ (ps : List (List ℕ)). filter has_bytes ps) (pieces-append 32 (b ∷ word) rest free)

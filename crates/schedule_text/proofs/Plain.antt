@@ -50,6 +50,7 @@ free_name (b ∷ name) all =
     let rest = free_name name all.1 in
     ((all.0.0, rest.0), (all.0.1, rest.1))
 
+-- a name has no byte that ends a word or a line
 pub plain-name : (name : List ℕ) → IsName name → IsPlain name
 plain-name name is =
     let free = free_name name is.1 in
@@ -71,6 +72,7 @@ IsSmall n = n < 2 ^ 128
 small_wide : (n : ℕ) → IsSmall n → n < 10 ^ 64
 small_wide n small = omega (arith, small)
 
+-- nor has a decimal number
 pub plain-decimal : (n : ℕ) → n < 2 ^ 128 → IsPlain (decimal n)
 plain-decimal n small =
     let numeral = (decimal_is_IsNumeral_wide n (small_wide n small)).0 in
@@ -90,7 +92,7 @@ leading n small = decimal_by_steps_wide Leads
       (λ few. absurd (omega (arith, few, many))),
     )) n small
 
-pub number_word-decimal : (n : ℕ) → n < 2 ^ 128 → IsNumberWord (decimal n) n
+number_word-decimal : (n : ℕ) → n < 2 ^ 128 → IsNumberWord (decimal n) n
 number_word-decimal n small =
     let wide = small_wide n small in
     let numeral = decimal_is_IsNumeral_wide n wide in
@@ -106,6 +108,7 @@ number_word-decimal n small =
     at zero ds leads zero_first = leads.2 (omega arith)
     at (suc n) ds leads zero_first = absurd (omega (arith, leads.1 (omega arith), zero_first))
 
+-- the decimal digits of a number spell it
 pub number-decimal : (bits n : ℕ) → n < 2 ^ bits → n < 2 ^ 128 → IsNumber bits (decimal n) n
 number-decimal bits n fits small = (number_word-decimal n small, fits)
 
@@ -126,25 +129,30 @@ free_encode table (b ∷ bytes) plain =
     let rest = free_encode table bytes plain in
     ((high.0, (low.0, rest.0)), (high.1, (low.1, rest.1)))
 
+-- hexadecimal digits have no byte that ends a word or a line
 pub plain-encode : (bytes : List ℕ) → 0 < length bytes → IsPlain (encode_lower bytes)
 plain-encode bytes some =
     let free = free_encode lower_digits bytes refl in
     record { some = omega (arith, length-encode_with lower_digits bytes); no_space = free.0; no_newline = free.1 }
 
+-- nor has the word for bytes, which is `-` for none
 pub plain-hex_of : (bytes : List ℕ) → IsPlain (hex_of bytes)
 plain-hex_of [] = plain_by_test (codes "-") (omega arith) refl
 plain-hex_of (b ∷ bytes) = plain-encode (b ∷ bytes) (omega arith)
 
+-- the word for bytes spells them
 pub hex-hex_of : (bytes : List ℕ) → IsTrue (list_all is_byte bytes) → IsHex (hex_of bytes) bytes
 hex-hex_of [] all = inl (refl, refl)
 hex-hex_of (b ∷ bytes) all = inr (decode_of-encode_lower (b ∷ bytes) (IsBytes-from_all (b ∷ bytes) all))
 
+-- the hexadecimal digits of a key spell it
 pub key-encode : (key : List ℕ) → IsTrue (is_master key) → IsKey (encode_lower key) key
 key-encode key is =
     let size : length key ≡ 32 = grind (arith, nat_tests) in
     let all : list_all is_byte key ≡ true = grind (arith, nat_tests) in
     (omega (arith, size, length-encode_with lower_digits key), decode_of-encode_lower key (IsBytes-from_all key all))
 
+-- a key has a byte
 pub size-master : (key : List ℕ) → IsTrue (is_master key) → 0 < length key
 size-master key is =
     let size : length key ≡ 32 = grind (arith, nat_tests) in

@@ -36,6 +36,7 @@ few-commands (line ∷ ls) commands (inl (skipped, are)) = (let few = few-comman
 few-commands (line ∷ ls) commands (inr (first, more, is, spells, are)) =
     (let few = few-commands ls more are in let e = ap length is in omega (arith, few, e))
 
+-- a schedule has at most as many commands as bytes, and one
 pub few : (text : List ℕ) (commands : List Instruction) → IsSchedule text commands → length commands ≤ length text + 1
 few text commands is =
     (let a = few-commands (lines text) commands is in

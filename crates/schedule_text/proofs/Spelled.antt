@@ -221,6 +221,7 @@ body_line : (ws : List Word) → 0 < length ws → AllByRecursion IsPlain ws →
 body_line [] some all = absurd (omega arith)
 body_line (word ∷ ws) some all = body-ends word ws all
 
+-- the lines of commands that can be spelled are a schedule of them
 pub spelling_is : (commands : List Instruction) → AllByRecursion CanBeSpelled commands → IsSchedule (schedule_bytes commands) commands
 spelling_is [] can = inl (tt, refl)
 spelling_is (command ∷ commands) can =

@@ -32,6 +32,7 @@ bad_excluded [] line behind commands bad (inr a) = bad (inr (a.0, a.3))
 bad_excluded (x ∷ before) line behind commands bad (inl a) = bad_excluded before line behind commands bad a.1
 bad_excluded (x ∷ before) line behind commands bad (inr a) = bad_excluded before line behind a.1 bad a.4
 
+-- a text with a bad line is no schedule
 pub first_bad_excluded : (text : List ℕ) (number : ℕ) (commands : List Instruction) → IsFirstBadLine text number → IsSchedule text commands → ⊥
 first_bad_excluded text number commands bad all =
     bad_excluded bad.before bad.line bad.behind commands bad.bad (subst (λ (ls : List (List ℕ)). AreLines ls commands) bad.lines_are all)
@@ -50,6 +51,7 @@ fronts-same (z ∷ a) x c (w ∷ b) y d same good_a bad_x good_b bad_y =
     let tail : a ++ x ∷ c ≡ b ++ y ∷ d = cc in
     ap (λ (n : ℕ). suc n) (fronts-same a x c b y d tail good_a.1 bad_x good_b.1 bad_y)
 
+-- a text has one first bad line
 pub first_bad-once : (text : List ℕ) (number other : ℕ) → IsFirstBadLine text number → IsFirstBadLine text other → number ≡ other
 first_bad-once text number other a b =
     a.number_is
@@ -91,7 +93,7 @@ pub record HasRead (text : List ℕ) (left : Option (List ℕ)) (number : ℕ) (
   pub read : AreLines front commands
   pub room : number + size_left left ≤ length text + 1
 
-pub nothing_read : (text : List ℕ) → HasRead text (Some text) 0 []
+nothing_read : (text : List ℕ) → HasRead text (Some text) 0 []
 nothing_read text = record { front = []; parts = refl; count = refl; read = refl; room = omega arith }
 
 -- the parts with one line more
@@ -104,6 +106,7 @@ less_left : (number total rest : ℕ) (behind : Option (List ℕ)) → number + 
 less_left number total rest None room shorter = omega (arith, room)
 less_left number total rest (Some b) room shorter = omega (arith, room, shorter)
 
+-- behind a line without a command the same commands are read
 pub has_skipped : (text rest line : List ℕ) (behind : Option (List ℕ)) (number : ℕ) (commands : List Instruction)
     → HasRead text (Some rest) number commands → lines rest ≡ line ∷ lines_behind behind → IfSome behind (λ b. length b < length rest)
     → IsSkipped (words line) → HasRead text behind (number + 1) commands
@@ -115,6 +118,7 @@ has_skipped text rest line behind number commands so_far first shorter skipped =
   room = less_left number (length text + 1) (length rest) behind so_far.room shorter;
 }
 
+-- behind a line with a command that one is read too
 pub has_pushed : (text rest line : List ℕ) (behind : Option (List ℕ)) (number : ℕ) (commands : List Instruction) (command : Instruction)
     → HasRead text (Some rest) number commands → lines rest ≡ line ∷ lines_behind behind → IfSome behind (λ b. length b < length rest)
     → SpellsCommand (words line) command → HasRead text behind (number + 1) (commands ++ command ∷ [])
@@ -126,6 +130,7 @@ has_pushed text rest line behind number commands command so_far first shorter sp
   room = less_left number (length text + 1) (length rest) behind so_far.room shorter;
 }
 
+-- a line that is none, behind lines that were read, is the first bad one
 pub is_bad : (text rest line : List ℕ) (behind : Option (List ℕ)) (number : ℕ) (commands : List Instruction)
     → HasRead text (Some rest) number commands → lines rest ≡ line ∷ lines_behind behind → ¬ (IsLine line) → IsFirstBadLine text (number + 1)
 is_bad text rest line behind number commands so_far first bad = record {
@@ -138,7 +143,7 @@ is_bad text rest line behind number commands so_far first bad = record {
   bad = bad;
 }
 
-pub all_read : (text : List ℕ) (number : ℕ) (commands : List Instruction) → HasRead text None number commands → IsSchedule text commands
+all_read : (text : List ℕ) (number : ℕ) (commands : List Instruction) → HasRead text None number commands → IsSchedule text commands
 all_read text number commands so_far =
     subst (λ (ls : List (List ℕ)). AreLines ls commands) (sym (so_far.parts ∙ none so_far.front)) so_far.read
   where
@@ -152,6 +157,7 @@ commands_of-push old new event pushed = sym (ap (λ (es : List Event). commands_
 
 -- ---- what was answered is what must be
 
+-- what is read of a schedule are its commands, or there was no memory
 pub reads_as : {V : Type 0} (commands_in : V → List Instruction) (text : List ℕ) (read : Result V ScheduleFault)
     → IfOk read (λ v. IsSchedule text (commands_in v)) → IfErr read (IsCauseOf text)
     → (commands : List Instruction) → IsSchedule text commands → MatchResult read (λ v. commands_in v ≡ commands) (λ fault. fault ≡ faults.Memory)
@@ -159,6 +165,7 @@ reads_as commands_in text (Ok v) ok bad commands is = AreLines-once (lines text)
 reads_as commands_in text (Err (faults.BadLine number)) ok bad commands is = absurd (first_bad_excluded text number commands bad is)
 reads_as commands_in text (Err faults.Memory) ok bad commands is = refl
 
+-- a text is refused for its first bad line, or there was no memory
 pub refuses_for : {V : Type 0} (commands_in : V → List Instruction) (text : List ℕ) (read : Result V ScheduleFault)
     → IfOk read (λ v. IsSchedule text (commands_in v)) → IfErr read (IsCauseOf text)
     → (number : ℕ) → IsFirstBadLine text number → MatchResult read (λ _. ⊥) (λ fault. (fault ≡ faults.BadLine number) ⊎ (fault ≡ faults.Memory))
