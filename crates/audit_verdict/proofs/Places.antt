@@ -36,6 +36,7 @@ counted-each p xs heard old new n long_xs long_heard long_old long_new each =
     (λ k below. each k (omega (arith, below, long_new))
     ∙ sym (get_or-counted p xs heard old k (omega (arith, below, long_new, long_xs)) (omega (arith, below, long_new, long_heard)) (omega (arith, below, long_new, long_old))))
 
+-- there is an answer without its mask for each that was heard
 pub length-bare_answers : (o : Object) (c : Challenge) (a : ℕ) (heard : List (Option ℕ)) → length (bare_answers o c a heard) ≡ length heard
 length-bare_answers o c a [] = refl
 length-bare_answers o c a (x ∷ heard) = ap suc (length-bare_answers o c (a + 1) heard)
@@ -66,6 +67,7 @@ counted-grow p (x ∷ xs) (a ∷ heard) (n ∷ counts) rest zero =
     elim (is_seen (value p x) a) as (λ b. (if b then n else n + 1) ≤ n + 1) [ true ↦ omega arith | false ↦ omega arith ]
 counted-grow p (x ∷ xs) (a ∷ heard) (n ∷ counts) rest (suc j) = counted-grow p xs heard counts rest j
 
+-- a round raises a provider's count by one at most
 pub counts-grow : (p xs : List ℕ) (heard : List (Option ℕ)) (by new : List ℕ) (n j : ℕ) → new ≡ counts_after p xs heard (take n by) →
     get_or (new ++ drop n by) j 0 ≤ get_or by j 0 + 1
 counts-grow p xs heard by new n j is =

@@ -153,6 +153,7 @@ module _ (o : Object) (bytes : List ℕ) (c : Challenge) (heard : List (Option �
       ∙ (λ i. if is_seen (value p (at i)) (bare-at j below i) then count_of_provider old j else count_of_provider old j + 1)
       ∙ ap (λ y. if is_seen y (bare_answer o c j (answer_of heard j)) then count_of_provider old j else count_of_provider old j + 1) (values-same p decides (point o j))
 
+  -- who answered right is not counted
   pub right-not_counted : (old new : Sums) (j : ℕ) → length old.counts ≡ o.shape.n → Judges o c heard old new → j < o.shape.n →
       answer_of heard j ≡ right_answer o bytes j c → count_of_provider new j ≡ count_of_provider old j
   right-not_counted old new j many judges below is =
@@ -167,12 +168,14 @@ module _ (o : Object) (bytes : List ℕ) (c : Challenge) (heard : List (Option �
       count-at old new j many judges below
       ∙ ap (λ b. if b then count_of_provider old j else count_of_provider old j + 1) (unseen (value right (point o j)) (bare_answer o c j (answer_of heard j)) other)
 
+  -- who did not answer is counted
   pub absent-counted : (old new : Sums) (j : ℕ) → length old.counts ≡ o.shape.n → Judges o c heard old new → j < o.shape.n →
       answer_of heard j ≡ None → count_of_provider new j ≡ count_of_provider old j + 1
   absent-counted old new j many judges below is =
       other-counted old new j many judges below
       (λ e. let f : None ≡ Some (value right (point o j)) = sym (ap (bare_answer o c j) is ∙ bare-absent o c j) ∙ e in cc)
 
+  -- who holds a block that is wrong in exactly one pick is counted
   pub differing-counted : (held : ℕ → Option (List ℕ)) (old new : Sums) (j : ℕ) → length old.counts ≡ o.shape.n → Judges o c heard old new → j < o.shape.n →
       answer_of heard j ≡ honest_answer c held → DiffersOnce o bytes j c held → count_of_provider new j ≡ count_of_provider old j + 1
   differing-counted held old new j many judges below is once =

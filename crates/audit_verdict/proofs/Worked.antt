@@ -36,6 +36,7 @@ one-wrong master bytes =
     let at = λ (j : ℕ). right-itself (example master) bytes (one_pick master bytes) j (omega arith) refl in
     simp (at 0, at 1, at 2) refl
 
+-- of the four answers of the worked round few are wrong
 pub few-wrong : (master bytes : List ℕ) → HasFewWrong (example master) bytes (one_pick master bytes) (three_heard master bytes)
 few-wrong master bytes = record {
   shape = example-shape;
@@ -65,6 +66,7 @@ counts-one master bytes =
       is_seen-none (value (right_row (example master) bytes (one_pick master bytes)) (point (example master) 3)),
     ) refl
 
+-- the worked round counts its one wrong provider
 pub judged-one : (master bytes : List ℕ) → Judges (example master) (one_pick master bytes) (three_heard master bytes)
     (record { counts = 0 ∷ 0 ∷ 0 ∷ 0 ∷ []; undecided = 0 }) (record { counts = 0 ∷ 0 ∷ 0 ∷ 1 ∷ []; undecided = 0 })
 judged-one master bytes =
@@ -100,6 +102,7 @@ at-size block size place e = ap (λ b. if b then slice_get block place else None
     same : (m n : ℕ) → m ≡ n → (m == n) ≡ true
     same m n e = grind (arith, e)
 
+-- what the wrong provider of the worked round holds differs in its one pick
 pub differs-once : (master bytes : List ℕ) → DiffersOnce (example master) bytes 3 (one_pick master bytes)
     (λ stripe. Some (map (nim_add 1) (columns (example master) bytes 3 stripe)))
 differs-once master bytes = record {

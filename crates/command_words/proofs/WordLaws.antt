@@ -29,6 +29,7 @@ few k digit value some large small = elim (few_or_many k) [
     few_or_many : (k : ℕ) → (suc k ≤ 39) ⊎ (39 ≤ k)
     few_or_many k = grind arith
 
+-- a number word has at most 39 digits
 pub length-number_word : (text : List ℕ) (number : ℕ) → IsNumberWord text number → length text ≤ 39
 length-number_word [] number word = omega arith
 length-number_word (c ∷ digits) number word = elim (cases_eq c 48) [

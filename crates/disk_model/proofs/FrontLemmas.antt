@@ -4,6 +4,7 @@ use Rattle.std.specs.Prelude.{IfSome}
 use Rattle.std.proofs.lemmas.List.{take_min, length-map}
 use Rattle.device_defs.specs.Cells.{Cells, reads}
 
+-- a read of a front gives what the disk reads there
 pub front_read : (held mid : Option Cells) (len n k limit : ℕ) (out items : List ℕ) → mid ≡ held → IfSome held (λ cells. len ≡ length cells) → n ≡ min len limit
     → IfSome mid (λ cells. take k out ≡ take n (drop 0 (reads cells))) → items ≡ take k out → IfSome held (λ cells. items ≡ take limit (reads cells))
 front_read None mid len n k limit out items same len_is n_is read items_are = tt

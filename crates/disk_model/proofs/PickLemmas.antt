@@ -22,6 +22,7 @@ module _ (held : List ℕ) (marks : List Bool) (picks : List ℕ) (i next : ℕ)
   opened : zip (drop i held) (drop i marks) ≡ (get_or held i 0, get_or marks i false) ∷ zip (drop (i + 1) held) (drop (i + 1) marks)
   opened = λ k. zip (drop_more held i 0 inside k) (drop_more marks i false (omega arith) k)
 
+  -- a byte that is not loose, or behind the picks, stays
   pub kept_place : (get_or marks i false ≡ false) ⊎ (length picks ≤ next) → take (i + 1) held ++ rest held marks picks (i + 1) next ≡ take i held ++ rest held marks picks i next
   kept_place why_not =
       let why : (get_or marks i false ≡ false) ⊎ (drop next picks ≡ []) = ⊎_elim (λ unmarked. inl unmarked) (λ ended. inr (drop_all next picks ended)) why_not in
@@ -29,6 +30,7 @@ module _ (held : List ℕ) (marks : List Bool) (picks : List ℕ) (i next : ℕ)
       ∙ append_assoc (take i held) (get_or held i 0 ∷ []) (rest held marks picks (i + 1) next)
       ∙ ap (λ (l : List ℕ). take i held ++ l) (sym (ap (λ (cs : Cells). picked cs (drop next picks)) opened ∙ kept_at (get_or held i 0) (get_or marks i false) (drop (i + 1) held) (drop (i + 1) marks) (drop next picks) why))
 
+  -- a loose byte with a pick becomes it
   pub picked_place : get_or marks i false ≡ true → next < length picks → take (i + 1) (set held i (get_or picks next 0)) ++ rest (set held i (get_or picks next 0)) marks picks (i + 1) (next + 1) ≡ take i held ++ rest held marks picks i next
   picked_place marked more =
       let p = get_or picks next 0 in

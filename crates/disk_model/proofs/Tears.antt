@@ -39,6 +39,7 @@ module _ (at n : ℕ) (held : List ℕ) (marks : List Bool) (same : length marks
       ∙ ap (λ (l : List ℕ). spliced from (loose l) (zip held marks)) (sym kept_is)
       ∙ ap (λ (m : ℕ). spliced (min at m) (loose (reads (take (min (at + n) m - min at m) (drop (min at m) (zip held marks))))) (zip held marks)) (sym long)
 
+-- a write that failed leaves half of its bytes, and its range loose
 pub tear_is : {E : Type 0} (at : ℕ) (bytes held : List ℕ) (marks : List Bool) (same : length marks ≡ length held) (now : List Bool) (new_held : List ℕ) (new_marks : List Bool) (r : Result (Unit {0}) E)
     → now ≡ spliced (min at (length held)) (replicate (min (at + length bytes) (length held) - min at (length held)) true) marks
     → OnOk r (zip new_held new_marks ≡ written at (take (length bytes / 2) bytes) (zip held now)) → OnErr r (new_held ≡ held) → OnErr r (new_marks ≡ now)

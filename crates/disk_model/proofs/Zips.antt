@@ -13,12 +13,13 @@ zip_marked v (suc n) [] e = absurd (omega arith)
 zip_marked v zero (b ∷ bytes) e = absurd (omega arith)
 zip_marked v (suc n) (b ∷ bytes) e = ap (λ (l : List (ℕ × Bool)). (b, v) ∷ l) (zip_marked v n bytes (omega arith))
 
-pub zip-append : (hs : List ℕ) (ms : List Bool) (bs : List ℕ) (ns : List Bool) → length ms ≡ length hs → zip (hs ++ bs) (ms ++ ns) ≡ zip hs ms ++ zip bs ns
+zip-append : (hs : List ℕ) (ms : List Bool) (bs : List ℕ) (ns : List Bool) → length ms ≡ length hs → zip (hs ++ bs) (ms ++ ns) ≡ zip hs ms ++ zip bs ns
 zip-append [] [] bs ns e = refl
 zip-append [] (m ∷ ms) bs ns e = absurd (omega arith)
 zip-append (a ∷ hs) [] bs ns e = absurd (omega arith)
 zip-append (a ∷ hs) (m ∷ ms) bs ns e = ap (λ (l : List (ℕ × Bool)). (a, m) ∷ l) (zip-append hs ms bs ns (omega arith))
 
+-- a front of pairs is the pairs of the fronts
 pub zip-take : (n : ℕ) (hs : List ℕ) (ms : List Bool) → take n (zip hs ms) ≡ zip (take n hs) (take n ms)
 zip-take zero hs ms = refl
 zip-take (suc n) [] ms = refl
@@ -32,6 +33,7 @@ zip-nil : (hs : List ℕ) → zip hs no_marks ≡ []
 zip-nil [] = refl
 zip-nil (a ∷ hs) = refl
 
+-- and so is the rest
 pub zip-drop : (n : ℕ) (hs : List ℕ) (ms : List Bool) → drop n (zip hs ms) ≡ zip (drop n hs) (drop n ms)
 zip-drop zero hs ms = refl
 zip-drop (suc n) [] ms = refl
@@ -52,6 +54,7 @@ zip_spliced at new held marked marks same sized le =
     ∙ ap (λ (l : List (ℕ × Bool)). l ++ (zip new marked ++ zip (drop (at + length new) held) (drop (at + length marked) marks))) (sym (zip-take at held marks))
     ∙ ap (λ (l : List (ℕ × Bool)). take at (zip held marks) ++ (zip new marked ++ l)) rest
 
+-- bytes and marks that are written together are the cells that a write leaves
 pub zip_written : (at : ℕ) (bytes held : List ℕ) (marks : List Bool) (new_held : List ℕ) (new_marks : List Bool) → length marks ≡ length held
     → new_held ≡ spliced (min at (length held)) (replicate (at - length held) 0 ++ bytes) held
     → new_marks ≡ spliced (min at (length marks)) (replicate (at - length marks) true ++ replicate (length bytes) true) marks

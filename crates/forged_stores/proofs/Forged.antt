@@ -63,6 +63,7 @@ WritesOrForged = (name bytes : List ℕ) (records : List Record) (file : File) (
     IsKnown old records → file_of records name ≡ Some file → AreBytes bytes → length bytes ≡ file.size → end.status ≡ 0 →
     (new.sink ≡ told_then old.sink bytes) ⊎ HoldsForgery (object_in_effect records file) bytes 1 end.heard
 
+-- a get of one of the stores that ends well with other bytes has heard a forgery
 pub other-forged : (s : Stored) (old new : Seen) (end : Ending) (cells : Cells) (written : List ℕ) → WritesOrForged → Answers (GetOf name_of_file) old new end →
     old.disk ≡ Some cells → reads cells ≡ text (records_of s) → (setup_numbers s).n ≤ length old.providers → old.sink ≡ Some [] → new.sink ≡ Some written →
     end.status ≡ 0 → written ≢ stored_bytes s → HoldsForgery (object_of (setup_numbers s) 1) (stored_bytes s) 1 end.heard

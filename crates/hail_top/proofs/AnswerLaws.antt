@@ -13,6 +13,7 @@ Writes-complete line status sink (inl done) below still = inl done.0
 Writes-complete line status sink (inr (inl fault)) below still = absurd (omega (arith, fault.2 below, still))
 Writes-complete line status sink (inr (inr memory)) below still = inr memory.0
 
+-- a row that was accepted and written whole was answered with its symbols
 pub answer-complete : (n l b : ℕ) (seen : List (Option ℕ)) (p : List ℕ) (status : ℕ) (sink : Sinking)
     → IsShape n l b → Accepts (upto n) seen l b p → AnswersRow n l b seen status sink
     → sink.before < last_count → sink.now ≡ sink.before → (status ≡ 0) ⊎ (status ≡ 70)

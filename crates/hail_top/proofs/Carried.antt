@@ -38,6 +38,7 @@ undone status at old new end is disk faults providers sink = record {
 pub all-fell : (old new : Seen) → NoCountFell (devices_of_seen old) (devices_of_seen new) → old.source_faults ≤ new.source_faults → old.sink_faults ≤ new.sink_faults → NoCountFalls old new
 all-fell old new F source sink = record { disk = F.disk; handed = F.handed; stores = F.stores; others = F.others; source = source; sink = sink }
 
+-- where the devices stayed no count fell
 pub none-fell : (old new : Seen) → new.disk_faults ≡ old.disk_faults → new.providers ≡ old.providers → NoCountFell (devices_of_seen old) (devices_of_seen new)
 none-fell old new faults providers = record {
   disk = omega (arith, faults);
@@ -52,9 +53,11 @@ pub carried-status : {status at before now : ℕ} {heard : List Entry} {end : En
 carried-status {status} {at} {before} {now} {heard} {end} is c =
     subst (λ (e : Ending). (e.status ≡ 0) ⊎ ((e.status ≡ 15) × Rose before now) ⊎ (e.status ≡ 70)) (sym is) c
 
+-- an ending with no place tells none
 pub carried-place : {status : ℕ} {heard : List Entry} {end : Ending} → end ≡ record { status = status; at = 0; heard = heard } → end.at ≡ 0
 carried-place {status} {heard} {end} is = ap (λ (e : Ending). e.at) is
 
+-- an ending tells what was heard
 pub carried-heard : {status at : ℕ} {heard : List Entry} {end : Ending} {start : State} {before : List Moment} {commands : List Instruction} {sink : Sinking} {d : Devices}
     → end ≡ record { status = status; at = at; heard = heard } → Replays start before commands status sink heard d → Replays start before commands end.status sink end.heard d
 carried-heard {status} {at} {heard} {end} {start} {before} {commands} {sink} {d} is r = subst (λ (e : Ending). Replays start before commands e.status sink e.heard d) (sym is) r
@@ -82,6 +85,7 @@ trial-keeps number old new end (answers.no_memory same undone) = inl (70, 0, und
 trial-keeps number old new end (answers.done enough same does) = inr (λ start before told left.
     trial-goes-on number start before end.status (sinking old new) (new.sink ≡ old.sink) end.heard (devices_of_seen new) (does.runs start before told left))
 
+-- what any form answers keeps the headline
 pub form-keeps : (form : Form) (old new : Seen) (end : Ending) → AnswersForm form old new end → KeepsTheHeadline old new end
 form-keeps forms.Replay old new end a = replay-keeps old new end a
 form-keeps (forms.Trial number) old new end a = trial-keeps number old new end a

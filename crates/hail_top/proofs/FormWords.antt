@@ -86,6 +86,7 @@ trial-first (c ∷ []) number form = absurd form
 trial-first (c ∷ n ∷ []) number form = form.0
 trial-first (c ∷ n ∷ more ∷ words) number form = absurd form
 
+-- the first word of a form is that of its command
 pub command-first : (words : List (String Global)) (command : Spelled) → IsForm words command → first-word words ≡ command-word command
 command-first words (RowOf n l b seen) form = row-first words n l b seen form
 command-first words (InitWith numbers) form = init-first words numbers form
@@ -96,6 +97,7 @@ command-first words ListAll form = bare-first (codes "list") words form
 command-first words AuditAll form = bare-first (codes "audit") words form
 command-first words RepairDue form = bare-first (codes "repair") words form
 
+-- the first word tells the form
 pub form-first : (words : List (String Global)) (form : Form) → IsFormOf words form → first-word words ≡ form-word form
 form-first words forms.Replay is = bare-first (codes "replay") words is
 form-first words (forms.Trial number) is = trial-first words number is

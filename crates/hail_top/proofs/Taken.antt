@@ -3,6 +3,7 @@ use Rattle.std.proofs.Common.{◌≡◌, ℕ, zero, suc, ◌+◌, ◌≤◌, Lis
 use Rattle.device_defs.specs.Told.{then_told}
 use Rattle.command_defs.specs.Seen.{ReadsAtMost}
 
+-- a source that gave nothing gave no more than it may
 pub none-taken : (most : ℕ) (told : Option (List ℕ)) → ReadsAtMost most told told
 none-taken most told = record { bytes = []; front = same told; few = omega arith }
   where

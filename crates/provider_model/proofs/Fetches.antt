@@ -8,6 +8,7 @@ use Rattle.device_defs.specs.Providers.{HasSize, sized}
 unequal : (a b : ℕ) → (a ≡ b → ⊥) → (a == b) ≡ false
 unequal a b is = grind (arith, nat_tests)
 
+-- what a fetch found is the block of the wanted size
 pub given : (size : ℕ) (held : Option (List ℕ)) (found : Bool) (out : List ℕ) → (IsTrue found ↔ HasSize size held) → (IsTrue found → held ≡ Some out)
     → (if found then Some out else None) ≡ sized size held
 given size None false out iff block = refl

@@ -46,6 +46,7 @@ module _ {X : Type 0} (f : X → List ℕ) where
         ∙ ap (λ (b : Bool). option_map f (cond b w (g (o, s)))) (same_place object stripe o s)
         ∙ moved ((o == object) && (s == stripe)) w (g (o, s))
 
+  -- a map with one more block is the store that a store leaves
   pub set : (g h : ℕ × ℕ → Option X) (object stripe : ℕ) (w : X) (block : List ℕ) → ((q : ℕ × ℕ) → h q ≡ cond (is_at (place_cmp (object, stripe)) q) (Some w) (g q)) → f w ≡ block
       → seen h ≡ with_block object stripe block (seen g)
   set g h object stripe w block is same = λ i o s. (updated g h object stripe (Some w) is o s ∙ ap (λ (l : List ℕ). if (o == object) && (s == stripe) then Some l else seen g o s) same) i
@@ -54,6 +55,7 @@ module _ {X : Type 0} (f : X → List ℕ) where
   abbrev find : List ((ℕ × ℕ) × X) → ℕ × ℕ → Option X
   find es q = lookup (is_at (place_cmp q)) es
 
+  -- a map without a block is the store that lost it
   pub taken : (es rest : List ((ℕ × ℕ) × X)) (object stripe : ℕ) (b : Bool) (r : Option X) → b ≡ is_some r → IfNone r (rest ≡ es) → ((q : ℕ × ℕ) → find rest q ≡ cond (is_at (place_cmp (object, stripe)) q) None (find es q))
       → seen (find rest) ≡ (if b then without_block object stripe (seen (find es)) else seen (find es))
   taken es rest object stripe b None is same change =
@@ -65,6 +67,7 @@ module _ {X : Type 0} (f : X → List ℕ) where
     found : (o s : ℕ) → ((o == object) && (s == stripe)) ≡ true → Some (f b) ≡ seen g o s
     found o s at = ap (λ (x : Option X). option_map f x) there ∙ sym (λ i. seen g (same_first o object s stripe at i) (same_second o object s stripe at i))
 
+    -- a map with one symbol changed is the store with that symbol
     pub put : (place symbol : ℕ) (r : Bool) → f w ≡ (if r then slice_set (f b) place symbol else f b) → seen h ≡ (if r then with_symbol object stripe place symbol (seen g) else seen g)
     put place symbol true w_is = λ i o s. (
         updated g h object stripe (Some w) is o s
@@ -92,6 +95,7 @@ module _ {X : Type 0} (f : X → List ℕ) where
   dropped true x = refl
   dropped false x = refl
 
+  -- a map without an object's blocks is the store that a removal leaves
   pub taken_all : (es kept : List ((ℕ × ℕ) × X)) (object : ℕ) → kept ≡ filter (λ e. others object e.0) es
       → (λ o s. option_map f (lookup (is_at (place_cmp (o, s))) kept)) ≡ without_object object (λ o s. option_map f (lookup (is_at (place_cmp (o, s))) es))
   taken_all es kept object is = λ i o s. (

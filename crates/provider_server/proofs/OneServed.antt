@@ -38,9 +38,11 @@ sink-only serve_end.SourceFault e = absurd cc
 sink-only serve_end.SinkFault e = refl
 sink-only serve_end.Memory e = absurd cc
 
+-- an end that has its cause in the source has it as an answer too
 pub cause_source : (before now : ℕ) (end : ServeEnd) → HasCause before now (end ≡ serve_end.SourceFault) → HasCause before now (end_of end ≡ SourceFailed)
 cause_source before now end cause = record { never_falls = cause.never_falls; rose = λ e. cause.rose (source-only end e) }
 
+-- and so has one of the sink
 pub cause_sink : (before now : ℕ) (end : ServeEnd) → HasCause before now (end ≡ serve_end.SinkFault) → HasCause before now (end_of end ≡ SinkFailed)
 cause_sink before now end cause = record { never_falls = cause.never_falls; rose = λ e. cause.rose (sink-only end e) }
 
@@ -65,6 +67,7 @@ module _ {X : Type 0} (f : X → Provider) (ps : List X) (p : ℕ) (old new : X)
   handed : length (map f (slice_set ps p new)) ≡ length (map f ps)
   handed = length-map (slice_set ps p new) f ∙ length-set ps p new ∙ sym (length-map ps f)
 
+  -- how a server ended is how the command answers
   pub served-answers : (number : ℕ) → p ≡ number → (end : Served) → end.status ≡ served_status how → end.at ≡ place_of how → (disk : Option Cells) (disk_faults : ℕ)
       → AnswersServe number (seen disk disk_faults (map f ps) left reads written writes) (seen disk disk_faults (map f (slice_set ps p new)) left' reads' written' writes') (served_ending end)
   served-answers number same end status place disk disk_faults =
@@ -96,6 +99,7 @@ module _ {X : Type 0} (f : X → Provider) (ps : List X) (p : ℕ) (old new : X)
         ]
       ]
 
+  -- over a server no count falls
   pub served-counts : ((requests : List Request) (replies : List Reply) (a b : Provider) → ServesRequests requests a replies b → (a.store_faults ≤ b.store_faults) × (a.other_faults ≤ b.other_faults))
       → (disk : Option Cells) (disk_faults : ℕ)
       → NoCountFalls (seen disk disk_faults (map f ps) left reads written writes) (seen disk disk_faults (map f (slice_set ps p new)) left' reads' written' writes')

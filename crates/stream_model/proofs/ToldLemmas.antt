@@ -3,6 +3,7 @@ use Rattle.std.proofs.Common.{◌≡◌, ℕ, ◌+◌, List, ◌++◌, take, dro
 use Rattle.std.proofs.Math.Seq.{take-add}
 use Rattle.device_defs.specs.Told.{told_then}
 
+-- two pieces that were written are one
 pub told_then-append : (told : Option (List ℕ)) (xs ys : List ℕ) → told_then (told_then told xs) ys ≡ told_then told (xs ++ ys)
 told_then-append None xs ys = refl
 told_then-append (Some bs) xs ys = ap (λ (l : List ℕ). Some l) (append_assoc bs xs ys)
