@@ -36,7 +36,7 @@ module _ (p d q r s t : List ℕ) (trimmed : d ≡ trim d) (first : IsDivision p
   gap_at : (x : ℕ) → nim_add (value r x) (value t x) ≡ nim_mul (value d x) (nim_add (value q x) (value s x))
   gap_at x = gap (value q x) (value d x) (value r x) (value s x) (value t x) (sym (first.values x) ∙ second.values x)
 
-  pub quotient_zero : (u : List ℕ) → trim (plus q s) ≡ u → (x : ℕ) → nim_add (value q x) (value s x) ≡ 0
+  quotient_zero : (u : List ℕ) → trim (plus q s) ≡ u → (x : ℕ) → nim_add (value q x) (value s x) ≡ 0
   quotient_zero [] e x =
       sym (value-plus nim nim_laws q s x) ∙ sym (value-trim nim nim_laws (plus q s) x) ∙ ap (λ u. value u x) e ∙ value-nothing x
   quotient_zero (a ∷ u) e x =
