@@ -47,7 +47,7 @@ pub by-told : {A X : Type 0} (told : Option A) → (IsSome told → X) → (is_s
 by-told None f g = g refl
 by-told (Some a) f g = f refl
 
-pub untold-goes : {A : Type 0} (step : A → A → Type 0) (old new : Option A) → is_some old ≡ false → Goes step old new → new ≡ None
+untold-goes : {A : Type 0} (step : A → A → Type 0) (old new : Option A) → is_some old ≡ false → Goes step old new → new ≡ None
 untold-goes step None None is goes = refl
 untold-goes step None (Some new) is goes = absurd goes
 untold-goes step (Some old) new is goes = absurd (false≢true (sym is))
@@ -73,7 +73,7 @@ closed-over rs next faults ps = record {
   is_barred = false;
 }
 
-pub rests-over : (rs : List Record) → AreAccepted rs → IsTrue (list_all is_in_grammar rs) → text_size rs ≤ largest_journal →
+rests-over : (rs : List Record) → AreAccepted rs → IsTrue (list_all is_in_grammar rs) → text_size rs ≤ largest_journal →
     (next faults : ℕ) (ps : List Provider) → IsAtRest (closed-over rs next faults ps)
 rests-over rs accepted spelled room next faults ps = record {
   idle = (refl, refl, refl, refl);
@@ -91,7 +91,7 @@ none-rests : (next faults : ℕ) (ps : List Provider) → IsAtRest (closed-over 
 none-rests = rests-over [] tt refl (omega arith)
 
 -- devices that stand for it
-pub stands-over : (rs : List Record) → ((next faults : ℕ) (ps : List Provider) → IsAtRest (closed-over rs next faults ps)) →
+stands-over : (rs : List Record) → ((next faults : ℕ) (ps : List Provider) → IsAtRest (closed-over rs next faults ps)) →
     (next faults : ℕ) (ps : List Provider) (holds : Option Cells) → StandsForState holds (closed-over rs next faults ps) →
     StandsClosed next (devices holds faults ps) (closed-over rs next faults ps)
 stands-over rs rest next faults ps holds images = record {
@@ -102,7 +102,7 @@ stands-over rs rest next faults ps holds images = record {
 }
 
 -- a disk that tells nothing stands for every state
-pub untold-images : (holds : Option Cells) (w : State) → holds ≡ None → StandsForState holds w
+untold-images : (holds : Option Cells) (w : State) → holds ≡ None → StandsForState holds w
 untold-images holds w is = subst (λ (o : Option Cells). StandsForState o w) (sym is) tt
 
 -- where no vault is open, client and devices stand for a state over no record
@@ -136,7 +136,7 @@ module _ (moment next f g : ℕ) (ps : List Provider) (old new : Option Cells) (
     };
   }
 
-  pub fault-anew : (why : StartFault) → (why ≡ start_fault.DiskFault → Rose f g) →
+  fault-anew : (why : StartFault) → (why ≡ start_fault.DiskFault → Rose f g) →
       UnlessBadJournal (Err (reopen_fault.NotOpened why)) (AnewBy (events.Refused (start_refusal why)) (without_vault next))
   fault-anew start_fault.DiskFault rose = closed-anew [] none-rests refusal.DiskFault (g, never, rose refl, refl)
   fault-anew start_fault.Memory rose = closed-anew [] none-rests refusal.Memory (g, never, refl)
@@ -159,7 +159,7 @@ module _ (told : Option Cells) (rs : List Record) (is_read : IsRead told rs) (v 
     whole : IsWholeJournal start
     whole = record { journal = refl; area = refl; unswitched = refl }
 
-    pub is-up : IsSetUp start
+    is-up : IsSetUp start
     is-up = has-setup start sound is_read.some
 
     pub uses-as : provider_count v ≡ (setup_in start).n
@@ -195,12 +195,12 @@ module _ (told : Option Cells) (rs : List Record) (is_read : IsRead told rs) (v 
     }
 
     module _ (moment : ℕ) (old : Option Cells) (old_is : old ≡ None) (holds_is : holds ≡ None) (never : f ≤ g) where
-      pub few-anew : length ps < provider_count v → IsMadeAnew moment next Reopen (events.Refused refusal.TooFewProviders) (without_vault next) (devices old f ps) (devices holds g ps)
+      few-anew : length ps < provider_count v → IsMadeAnew moment next Reopen (events.Refused refusal.TooFewProviders) (without_vault next) (devices old f ps) (devices holds g ps)
       few-anew few =
           closed-anew moment next f g ps old holds old_is holds_is never rs rest refusal.TooFewProviders
           (start, same-rereads-over rs next f ps, is-up, (let e = uses-as in omega (arith, few, e)), (g, never, refl))
 
-      pub opened-anew : provider_count v ≤ length ps → IsMadeAnew moment next Reopen events.Opened (record { vault = Some v; next_job = next }) (devices old f ps) (devices holds g ps)
+      opened-anew : provider_count v ≤ length ps → IsMadeAnew moment next Reopen events.Opened (record { vault = Some v; next_job = next }) (devices old f ps) (devices holds g ps)
       opened-anew enough = record {
         before = start;
         stands_before = stands-over rs rest next f ps old (untold-images old start old_is);

@@ -8,7 +8,7 @@ use Rattle.device_defs.specs.Disks.{spliced, written, Torn}
 use Rattle.device_defs.proofs.Lasting.{reads-firm}
 use Rattle.device_defs.proofs.WriteLaws.{reads-loose}
 
-pub spliced-behind : {X : Type 0} (front new rest : List X) (at : ℕ) → at ≡ length front → spliced at new (front ++ rest) ≡ front ++ (new ++ drop (length new) rest)
+spliced-behind : {X : Type 0} (front new rest : List X) (at : ℕ) → at ≡ length front → spliced at new (front ++ rest) ≡ front ++ (new ++ drop (length new) rest)
 spliced-behind front new rest at is =
     ap (λ (l : List _). l ++ (new ++ drop (at + length new) (front ++ rest))) (take_at front rest at (sym is))
     ∙ ap (λ (k : ℕ). front ++ (new ++ drop (k + length new) (front ++ rest))) is

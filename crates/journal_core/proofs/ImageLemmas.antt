@@ -13,7 +13,7 @@ use Rattle.journal_core.specs.Moves.{IsClosed, IsInDoubt, IsAfterMoves, IsGivenU
 use Rattle.journal_core.proofs.CellLemmas.{IsImage-firm}
 
 -- what holds of the cells that a disk tells
-pub IfSome-still : (P Q : Cells → Type 0) → ((cells : Cells) → P cells → Q cells) → (told : Option Cells) → IfSome told P → IfSome told Q
+IfSome-still : (P Q : Cells → Type 0) → ((cells : Cells) → P cells → Q cells) → (told : Option Cells) → IfSome told P → IfSome told Q
 IfSome-still P Q step None held = tt
 IfSome-still P Q step (Some cells) held = step cells held
 
@@ -59,20 +59,20 @@ module _ (rs : List Record) (r : Record) (all : IsTrue (list_all is_in_grammar r
       let s = split (gate, false) rest image (subst (λ (c : Cells). IsImage c image) is of) in
       without s.0 s.1 image (λ opened. shut (sym (s.3 refl) ∙ opened)) s.2
 
-  pub doubt_images : (cells : Cells) → IsInDoubt front body cells → (image : List ℕ) → IsImage cells image → StandsFor image rs ⊎ StandsFor image (r ∷ rs)
+  doubt_images : (cells : Cells) → IsInDoubt front body cells → (image : List ℕ) → IsImage cells image → StandsFor image rs ⊎ StandsFor image (r ∷ rs)
   doubt_images cells (gate, rest, is) image of =
       let s = split (gate, true) (firm body ++ rest) image (subst (λ (c : Cells). IsImage c image) is of) in
       let behind = IsImage-firm body rest s.1 s.4 in
       let whole : image ≡ front ++ (s.0 ∷ (body ++ behind.0)) = s.2 ∙ ap (λ (l : List ℕ). front ++ (s.0 ∷ l)) behind.1 in
       elim (cases_eq s.0 1) [ inl opened ↦ inr (with_entry s.0 behind.0 image opened whole) | inr shut ↦ inl (without s.0 (body ++ behind.0) image shut whole) ]
 
-  pub ended_images : (cells : Cells) → IsAfterMoves 4 front body cells → (image : List ℕ) → IsImage cells image → StandsFor image (r ∷ rs)
+  ended_images : (cells : Cells) → IsAfterMoves 4 front body cells → (image : List ℕ) → IsImage cells image → StandsFor image (r ∷ rs)
   ended_images cells (rest, is) image of =
       let s = split (1, false) (firm body ++ rest) image (subst (λ (c : Cells). IsImage c image) is of) in
       let behind = IsImage-firm body rest s.1 s.4 in
       with_entry s.0 behind.0 image (s.3 refl) (s.2 ∙ ap (λ (l : List ℕ). front ++ (s.0 ∷ l)) behind.1)
 
-  pub is_closed_next : (cells : Cells) → IsAfterMoves 4 front body cells → IsClosed (before_gate (r ∷ rs)) cells
+  is_closed_next : (cells : Cells) → IsAfterMoves 4 front body cells → IsClosed (before_gate (r ∷ rs)) cells
   is_closed_next cells (rest, is) =
       let inner : firm body ++ rest ≡ firm (spelling r) ++ ((0, false) ∷ rest) = ap (λ (l : Cells). l ++ rest) (map-append (λ b. (b, false)) (spelling r) (0 ∷ [])) ∙ append_assoc (firm (spelling r)) ((0, false) ∷ []) rest in
       let outer : firm (before_gate (r ∷ rs)) ≡ firm front ++ ((1, false) ∷ firm (spelling r)) = map-append (λ b. (b, false)) front (1 ∷ spelling r) in

@@ -49,7 +49,7 @@ module _ (bytes : List ℕ) (rs : List Entry) (gate : ℕ) (is : IsReadTo bytes 
     }
 
 -- where the records stop, the bytes are bad
-pub stops-bad : (bytes : List ℕ) (rs : List Entry) (at : ℕ) → StopsAt bytes rs at → IsBadAt bytes at
+stops-bad : (bytes : List ℕ) (rs : List Entry) (at : ℕ) → StopsAt bytes rs at → IsBadAt bytes at
 stops-bad bytes rs at (inl end) = inr (inl end.0)
 stops-bad bytes rs at (inr break) = inr (inr break.0)
 

@@ -16,7 +16,7 @@ pub IfSome-mapped : (P Q : Cells → Type 0) (f : Cells → Cells) → ((cells :
 IfSome-mapped P Q f step None new is held = subst (λ (o : Option Cells). IfSome o Q) (sym is) tt
 IfSome-mapped P Q f step (Some cells) new is held = subst (λ (o : Option Cells). IfSome o Q) (sym is) (step cells held)
 
-pub IfSome-goes : (P Q : Cells → Type 0) (R : Cells → Cells → Type 0) → ((old new : Cells) → P old → R old new → Q new) → (old new : Option Cells) → Goes R old new → IfSome old P → IfSome new Q
+IfSome-goes : (P Q : Cells → Type 0) (R : Cells → Cells → Type 0) → ((old new : Cells) → P old → R old new → Q new) → (old new : Option Cells) → Goes R old new → IfSome old P → IfSome new Q
 IfSome-goes P Q R step None None goes held = tt
 IfSome-goes P Q R step None (Some new) goes held = absurd goes
 IfSome-goes P Q R step (Some old) None goes held = absurd goes
@@ -43,7 +43,7 @@ module _ (front body : List ℕ) where
         ap (written (length front + 1) body) (is ∙ regroup (gate, false) rest) ∙ written-behind (firm front ++ ((gate, false) ∷ [])) rest (length front + 1) long body ∙ sym (regroup (gate, false) (loose body ++ drop (length body) rest)),
       )
 
-  pub body_torn : (n : ℕ) (cells new : Cells) → IsClosed front cells → Torn (length front + 1) n cells new → IsClosed front new
+  body_torn : (n : ℕ) (cells new : Cells) → IsClosed front cells → Torn (length front + 1) n cells new → IsClosed front new
   body_torn n cells new (gate, rest, shut, is) torn =
       let long : length front + 1 ≡ length (firm front ++ ((gate, false) ∷ [])) = omega (arith, length-append (firm front) ((gate, false) ∷ []), size) in
       let after = torn-behind (firm front ++ ((gate, false) ∷ [])) rest (length front + 1) long n new (subst (λ (c : Cells). Torn (length front + 1) n c new) (is ∙ regroup (gate, false) rest) torn) in
@@ -53,7 +53,7 @@ module _ (front body : List ℕ) where
   gate_written cells (gate, rest, shut, is) =
       (rest, ap (written (length front) (1 ∷ [])) is ∙ written-behind (firm front) ((gate, false) ∷ (firm body ++ rest)) (length front) (sym size) (1 ∷ []))
 
-  pub gate_torn : (cells new : Cells) → IsAfterMoves 2 front body cells → Torn (length front) 1 cells new → IsInDoubt front body new
+  gate_torn : (cells new : Cells) → IsAfterMoves 2 front body cells → Torn (length front) 1 cells new → IsInDoubt front body new
   gate_torn cells new (gate, rest, shut, is) torn =
       let after = torn_gate (firm front) (firm body ++ rest) (gate, false) (length front) new (sym size) (subst (λ (c : Cells). Torn (length front) 1 c new) is torn) in
       (after.0, rest, after.1)
@@ -64,11 +64,11 @@ module _ (front body : List ℕ) where
       ∙ ap (λ (l : Cells). l ++ ((c.0, false) ∷ settled (middle ++ rest))) (settled-firm front)
       ∙ ap (λ (l : Cells). firm front ++ ((c.0, false) ∷ l)) (settled-append middle rest)
 
-  pub body_synced : (cells : Cells) → IsAfterMoves 1 front body cells → IsAfterMoves 2 front body (settled cells)
+  body_synced : (cells : Cells) → IsAfterMoves 1 front body cells → IsAfterMoves 2 front body (settled cells)
   body_synced cells (gate, rest, shut, is) =
       (gate, settled rest, shut, ap settled is ∙ sync_around (gate, false) (loose body) rest ∙ ap (λ (l : Cells). firm front ++ ((gate, false) ∷ (l ++ settled rest))) (settled-loose body))
 
-  pub gate_synced : (cells : Cells) → IsAfterMoves 3 front body cells → IsAfterMoves 4 front body (settled cells)
+  gate_synced : (cells : Cells) → IsAfterMoves 3 front body cells → IsAfterMoves 4 front body (settled cells)
   gate_synced cells (rest, is) =
       (settled rest, ap settled is ∙ sync_around (1, true) (firm body) rest ∙ ap (λ (l : Cells). firm front ++ ((1, false) ∷ (l ++ settled rest))) (settled-firm body))
 

@@ -35,7 +35,7 @@ use Rattle.vault.proofs.Asks.{entries_more, none_answered, answered_more, last_g
 use Rattle.vault.proofs.AskOrders.{count-ask}
 
 -- zeros, and nothing else
-pub all_zero : (xs : List ℕ) → list_all (λ count. count == 0) xs ≡ true → xs ≡ replicate (length xs) 0
+all_zero : (xs : List ℕ) → list_all (λ count. count == 0) xs ≡ true → xs ≡ replicate (length xs) 0
 all_zero [] e = refl
 all_zero (x ∷ xs) e = (let p = and_parts (x == 0) (list_all (λ count. count == 0) xs) e in λ i. eqb-true x 0 p.0 i ∷ all_zero xs p.1 i)
 
@@ -51,7 +51,7 @@ pub record IsPut (s : Setup) (job : Job) (x : Round) (q : Question) : Type 0 whe
   pub round_is : q.round ≡ x.number
   pub n_is : q.file.shape.n ≡ s.n
 
-pub nothing_yet : (xs : List Round) (symbols : List (Option ℕ)) (given : List Given) → IsAsked xs 0 symbols given
+nothing_yet : (xs : List Round) (symbols : List (Option ℕ)) (given : List Given) → IsAsked xs 0 symbols given
 nothing_yet [] symbols given = tt
 nothing_yet (x ∷ xs) symbols given = none_answered x symbols given (sym (append-nil symbols))
 

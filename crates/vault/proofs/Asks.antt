@@ -223,7 +223,7 @@ each_both A B C fs h a b = both A B C fs h a b
 
 -- ---- the sums
 
-pub both_false : (a b c : Bool) → (b ≡ true → c ≡ true → ⊥) → (a && b && c) ≡ false
+both_false : (a b c : Bool) → (b ≡ true → c ≡ true → ⊥) → (a && b && c) ≡ false
 both_false false b c h = refl
 both_false true false c h = refl
 both_false true true false h = refl

@@ -9,7 +9,7 @@ use Rattle.vault.specs.declared.desk.Desk.{Desk}
 use Rattle.vault_open.specs.Devices.{Devices}
 use Rattle.vault.specs.Desks.{IsFlight, DeskStands, CarriesText, DeskCarries}
 
-pub carried_text : (f : Option Flight) (append : Option states.Append) (rs : List Record) (told : Option Cells) → IsFlight f append rs told → CarriesText f rs told
+carried_text : (f : Option Flight) (append : Option states.Append) (rs : List Record) (told : Option Cells) → IsFlight f append rs told → CarriesText f rs told
 carried_text None None rs told closed = closed
 carried_text (Some f) (Some append) rs told flight = (append.entry, flight.1)
 carried_text None (Some append) rs told never = absurd never

@@ -48,7 +48,7 @@ module _ (v : Desk) (d : Devices) (w : State) (moment : ℕ) (stands : DeskStand
   abbrev s : Setup
   s = setup_in w
 
-  pub size-fits : file.size ≤ largest_file
+  size-fits : file.size ≤ largest_file
   size-fits = (file-spelled w.records name file stands.core.sound.spelled found).1
 
   size-is : length (w.bytes file.id) ≡ file.size
@@ -61,7 +61,7 @@ module _ (v : Desk) (d : Devices) (w : State) (moment : ℕ) (stands : DeskStand
   unfolding actions_of
   rest-is = rw found (append_assoc (flat_map (open_actions s file.id) (upto total)) [] (End ∷ []))
 
-  pub get-task : (bench : Bench) (t : GetTask) → IsBenchFor v file.id file.size bench → IsNewGet v.core.next_job bench t
+  get-task : (bench : Bench) (t : GetTask) → IsBenchFor v file.id file.size bench → IsNewGet v.core.next_job bench t
       → IsGet s t (new_job w moment (GetJob name)) (actions_left s (new_job w moment (GetJob name)))
   get-task bench t for_file new =
       let limits = setup-providers 8 w stands.core.sound stands.core.is_open in

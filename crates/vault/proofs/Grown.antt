@@ -16,7 +16,7 @@ length-written old all new size all_is same =
     omega (arith, length-drop (length old) new, same, long)
 
 -- and the zeros alone are as long as that
-pub length-zeros : (old all : List ℕ) (size : ℕ) → all ≡ old ++ replicate size 0 → length (drop (length old) all) ≡ size
+length-zeros : (old all : List ℕ) (size : ℕ) → all ≡ old ++ replicate size 0 → length (drop (length old) all) ≡ size
 length-zeros old all size all_is = length-written old all all size all_is refl
 
 -- a fetch into that place gave a block of the size

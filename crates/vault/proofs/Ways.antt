@@ -154,7 +154,7 @@ pub same_beyond : (w : State) (holds : Option Cells) (faults : ℕ) (ps ps' : Li
 same_beyond w holds faults ps ps' = goes_still (text_size (records_in_flight w.records w.append)) holds holds refl
 
 -- a job goes on, and another state is left of it alone, and of the providers
-pub goes_told : (v v' : Desk) (w new : State) (holds : Option Cells) (faults moment number place : ℕ) (ps ps' : List Provider) (action : Action) (r : Running) (j : Job) (answer : Reply)
+goes_told : (v v' : Desk) (w new : State) (holds : Option Cells) (faults moment number place : ℕ) (ps ps' : List Provider) (action : Action) (r : Running) (j : Job) (answer : Reply)
     → DeskStands v (devices holds faults ps) w → (next : ComesNext w number action None) → Acts w next.job action More new → IsQuiet w new → new.jobs ≡ with_job w.jobs j
     → j.number ≡ next.job.number → IsRunning (setup_in w) r j → place_in v.jobs.items number ≡ Some place → v'.jobs.items ≡ slice_set v.jobs.items place r
     → AreHanded ps' new → KeepsAll v v' → v'.flight ≡ v.flight → IsFed v.core number answer v'.core → Tells number answer More new
@@ -191,7 +191,7 @@ goes_on v v' w new holds faults moment number place ps ps' action r j stands nex
 pub working : (v : Desk) (d : Devices) (w : State) (number : ℕ) (action : Action) → DeskStands v d w → (next : ComesNext w number action None) → Found (setup_in w) v.jobs.items number next.job
 working v d w number action stands next = found (setup_in w) v.jobs.items w.jobs number next.job stands.jobs next.runs
 
-pub no_place : (v : Desk) (d : Devices) (w : State) (number : ℕ) (action : Action) → DeskStands v d w → ComesNext w number action None → place_in v.jobs.items number ≡ None → ⊥
+no_place : (v : Desk) (d : Devices) (w : State) (number : ℕ) (action : Action) → DeskStands v d w → ComesNext w number action None → place_in v.jobs.items number ≡ None → ⊥
 no_place v d w number action stands next none =
     let f = working v d w number action stands next in
     let e : None ≡ Some f.place = sym none ∙ place_is v.jobs.items number ∙ f.at in

@@ -53,7 +53,7 @@ rewrite_none fl o t j = elim (cases_Bool (flag_at fl j)) [
 pub rewrites_none : (j n : ℕ) (fl : List Bool) (o t : ℕ) → gates (rewrites_from j n fl o t) ≡ 0
 rewrites_none j n fl o t = none_flat (rewrite_of fl o t) (numbers j n) (rewrite_none fl o t)
 
-pub work_none : (n : ℕ) (w : Wish) (fl : List Bool) (o t : ℕ) → gates (work_of n w fl o t) ≡ 0
+work_none : (n : ℕ) (w : Wish) (fl : List Bool) (o t : ℕ) → gates (work_of n w fl o t) ≡ 0
 work_none n wish.Repair fl o t = let e = gates-cons (Work o t) (rewrites_from 0 n fl o t) in let r = rewrites_none 0 n fl o t in omega (arith, e, r)
 work_none n w fl o t = refl
 
@@ -63,7 +63,7 @@ turn_none n w fl o t = let e = gates-append (calls_from 0 n w o t) (work_of n w 
 pub turns_none : (a n : ℕ) (w : Wish) (fl : List Bool) (o b : ℕ) → gates (turns_from a n w fl o b) ≡ 0
 turns_none a n w fl o b = none_flat (turn_of n w fl o) (numbers a b) (turn_none n w fl o)
 
-pub tasks_none : (n : ℕ) (w : Wish) (fl : List Bool) (ts : List Task) → gates (tasks_of n w fl ts) ≡ 0
+tasks_none : (n : ℕ) (w : Wish) (fl : List Bool) (ts : List Task) → gates (tasks_of n w fl ts) ≡ 0
 tasks_none n w fl ts = none_flat (λ (t : Task). turns_from 0 n w fl t.object t.turns) ts (λ t. turns_none 0 n w fl t.object t.turns)
 
 pub removes_none : (object : ℕ) (ks : List ℕ) → gates (map (λ k. Remove k object) ks) ≡ 0
@@ -106,7 +106,7 @@ work_one n job spot =
     let b = beyond_one n job spot in
     omega (arith, e, a, b)
 
-pub gates_here : (n : ℕ) (job : Job) (c : Cursor) → gates (rest_at n job c) ≡ gates_at job.wish c
+gates_here : (n : ℕ) (job : Job) (c : Cursor) → gates (rest_at n job c) ≡ gates_at job.wish c
 gates_here n job (at.Opening m) =
     let e = gates-append (moves_from m) (tasks_on n job job.tasks.items) in let a = moves_one m in let b = tasks_on_one n job job.tasks.items in omega (arith, e, a, b)
 gates_here n job (at.Calling spot j) =

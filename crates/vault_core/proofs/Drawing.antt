@@ -75,7 +75,7 @@ at_start w c h X a b = cc
 starts_at : (n : ℕ) (job : Job) → IsJobKept n job → slice_get (rest_of n job) 0 ≡ Some WriteBody → action_at job.wish job.cursor ≡ WriteBody
 starts_at n job kept h = let s : Some (action_at job.wish job.cursor) ≡ Some WriteBody = sym (first_is n job kept) ∙ h in let r : action_at job.wish job.cursor ≡ WriteBody = cc in r
 
-pub rest_drawn : (n : ℕ) (job : Job) (k : ℕ) (v : Vec Task Global) → IsJobKept n job → slice_get (rest_of n job) 0 ≡ Some WriteBody → v.items ≡ drawn_tasks k job.wish job.tasks.items →
+rest_drawn : (n : ℕ) (job : Job) (k : ℕ) (v : Vec Task Global) → IsJobKept n job → slice_get (rest_of n job) 0 ≡ Some WriteBody → v.items ≡ drawn_tasks k job.wish job.tasks.items →
     rest_of n (record job { subject = k; tasks = v }) ≡ all_renamed k job.wish (rest_of n job)
 unfolding rest_of
 rest_drawn n job k v kept h e = at_start job.wish job.cursor (starts_at n job kept h) _
@@ -113,7 +113,7 @@ drawn_idle : (k : ℕ) (w : Wish) (ts us : List Task) → us ≡ drawn_tasks k w
 drawn_idle k (wish.Put name size) ts us e h = e ∙ ap (map (aimed k)) h
 drawn_idle k w ts us e h = e ∙ h
 
-pub kept_drawn : (n : ℕ) (job : Job) (k : ℕ) (v : Vec Task Global) → IsJobKept n job → slice_get (rest_of n job) 0 ≡ Some WriteBody → v.items ≡ drawn_tasks k job.wish job.tasks.items →
+kept_drawn : (n : ℕ) (job : Job) (k : ℕ) (v : Vec Task Global) → IsJobKept n job → slice_get (rest_of n job) 0 ≡ Some WriteBody → v.items ≡ drawn_tasks k job.wish job.tasks.items →
     IsJobKept n (record job { subject = k; tasks = v })
 kept_drawn n job k v kept h e = record {
   stays = record {
@@ -133,7 +133,7 @@ kept_drawn n job k v kept h e = record {
       ∙ ap (λ (xs : List Action). length xs + (if removes_older (aim_of_wish job.wish) && nat_lt 0 (gates xs) then n else 0)) (sym (rest_drawn n job k v kept h e))));
 }
 
-pub start_going : (n : ℕ) (job : Job) → IsJobKept n job → slice_get (rest_of n job) 0 ≡ Some WriteBody → (is_over job.cursor ≡ false) × (decides job ≡ false)
+start_going : (n : ℕ) (job : Job) → IsJobKept n job → slice_get (rest_of n job) 0 ≡ Some WriteBody → (is_over job.cursor ≡ false) × (decides job ≡ false)
 start_going n job kept h = at_start job.wish job.cursor (starts_at n job kept h) _
     (λ c. (ap is_over c, ap (decides_at job.wish) c))
     (λ c. (ap is_over c, ap (decides_at job.wish) c))

@@ -55,7 +55,7 @@ extra_less true x y n l = elim (cases_Bool (nat_lt 0 x)) [
   | inr f ↦ (let p = ap {B = ℕ} (λ (b : Bool). if b then n else 0) f in omega (arith, p))
 ]
 
-pub moved_falls : (n : ℕ) (j : CoreJob) → 0 < length j.rest → most_of n (stepped j) < most_of n j
+moved_falls : (n : ℕ) (j : CoreJob) → 0 < length j.rest → most_of n (stepped j) < most_of n j
 moved_falls n j l =
     let a = length-drop 1 j.rest in
     let b = extra_less (removes_older (aim_of_wish j.wish)) (gates (drop 1 j.rest)) (gates j.rest) n (gates_fewer j.rest) in
@@ -66,7 +66,7 @@ renamed_most n k j =
     ap (λ (m : ℕ). m + extra (removes_older (aim_of_wish j.wish)) (gates (all_renamed k j.wish j.rest)) n) (renamed_length k j.wish j.rest)
     ∙ ap (λ (m : ℕ). length j.rest + extra (removes_older (aim_of_wish j.wish)) m n) (renamed_gates k j.wish j.rest)
 
-pub drawn_falls : (n k : ℕ) (j : CoreJob) → 0 < length j.rest → most_of n (drawn j k) < most_of n j
+drawn_falls : (n k : ℕ) (j : CoreJob) → 0 < length j.rest → most_of n (drawn j k) < most_of n j
 drawn_falls n k j l =
     let e = renamed_length k j.wish j.rest in
     let a = moved_falls n (record j { subject = k; rest = all_renamed k j.wish j.rest }) (omega (arith, e, l)) in
@@ -81,7 +81,7 @@ unfolding rest_of
 removed_most n job None l kept d = let e = (ended n job kept).left in omega (arith, e)
 removed_most n job (Some object) l kept d = let e = (decided n job object (1 + n) l kept d refl).left in omega (arith, e)
 
-pub gated_falls : (n : ℕ) (job : Job) (older : Option ℕ) → 0 < n → IsJobKept n job → slice_get (rest_of n job) 0 ≡ Some SyncGate →
+gated_falls : (n : ℕ) (job : Job) (older : Option ℕ) → 0 < n → IsJobKept n job → slice_get (rest_of n job) 0 ≡ Some SyncGate →
     most_of n (gated_by n older (core_job n job)) < most_of n (core_job n job)
 gated_falls n job older l kept h = elim (cases_Bool (decides_now (core_job n job))) [
   | inl d ↦ (let is = decides_is n job kept h ∙ d in
@@ -134,7 +134,7 @@ kept_of n (x ∷ xs) zero j h e = let r : Some (core_job n x) ≡ Some j = e in 
 kept_of n (x ∷ xs) (suc i) j h e = kept_of n xs i j (λ k d l. h (suc k) d (omega (arith, l))) e
 
 -- a job that runs has an action left
-pub some_rest : (a : Inside) (c : CoreView) (place : ℕ) (j : CoreJob) → view_of a ≡ c → IsCore a → slice_get c.jobs place ≡ Some j → 0 < length j.rest
+some_rest : (a : Inside) (c : CoreView) (place : ℕ) (j : CoreJob) → view_of a ≡ c → IsCore a → slice_get c.jobs place ≡ Some j → 0 < length j.rest
 some_rest a c place j v h e = kept_of a.setup.n a.jobs.items place j h.kept (ap (λ (x : CoreView). slice_get x.jobs place) v ∙ e)
 
 -- ---- what is left of it
@@ -159,7 +159,7 @@ removed_falls a c new place v h r j e =
     omega (arith, x, y, l)
 
 -- one that has fewer steps left in its place
-pub set_falls : (a : Inside) (c new : CoreView) (place : ℕ) (j k : CoreJob) → view_of a ≡ c → IsCore a → slice_get c.jobs place ≡ Some j → new.setup ≡ c.setup → new.jobs ≡ set c.jobs place k →
+set_falls : (a : Inside) (c new : CoreView) (place : ℕ) (j k : CoreJob) → view_of a ≡ c → IsCore a → slice_get c.jobs place ≡ Some j → new.setup ≡ c.setup → new.jobs ≡ set c.jobs place k →
     k.number ≡ j.number → most_of c.setup.n k < most_of c.setup.n j → core_left new j.number < core_left c j.number
 set_falls a c new place j k v h e s r m l =
     let up = rising_at a c v h in
@@ -276,7 +276,7 @@ step_first c k place r a s on = ap first_of s.here ∙ head_is c.table s.job a s
 pub step_plain : (c : CoreView) (k place : ℕ) (r : Reply) (a : Action) → StepHere c k place r a → goes_plainly (Some a) ≡ true → goes_plainly (first_at c place) ≡ true
 step_plain c k place r a s p = ap goes_plainly (step_first c k place r a s (λ e. false≢true (ap (λ (x : Action). goes_plainly (Some x)) (sym e) ∙ p))) ∙ p
 
-pub step_within : (c : CoreView) (k place : ℕ) (r : Reply) (a : Action) → StepHere c k place r a → place < length c.jobs
+step_within : (c : CoreView) (k place : ℕ) (r : Reply) (a : Action) → StepHere c k place r a → place < length c.jobs
 step_within c k place r a s = slice_get_within c.jobs place s.job s.here
 
 -- a job whose step is told of runs

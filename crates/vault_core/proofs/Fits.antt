@@ -31,7 +31,7 @@ move_at w (at.Closing m) h = inr (m, refl)
 move_at w c h = absurd (false≢true h)
 
 -- the room of a record is reserved until its append is done
-pub written_room : (n : ℕ) (job : Job) (t : Kept) (entry : Record) → IsJobKept n job → is_move (slice_get (core_job n job).rest 0) ≡ true → written_by t (core_job n job) job.wish ≡ Some entry →
+written_room : (n : ℕ) (job : Job) (t : Kept) (entry : Record) → IsJobKept n job → is_move (slice_get (core_job n job).rest 0) ≡ true → written_by t (core_job n job) job.wish ≡ Some entry →
     1 + record_size entry ≤ reserved_of n (core_job n job)
 written_room n job t entry kept mv w = subst (λ (k : ℕ). 1 + record_size entry ≤ k) (sym (reserved_is n job))
     (elim (move_at job.wish job.cursor (ap is_move (sym (first_is n job kept)) ∙ mv)) [

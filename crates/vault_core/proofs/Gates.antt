@@ -80,7 +80,7 @@ pub asks_last : (n : ℕ) (job : Job) (c : Cursor) (j o t : ℕ) → slice_get (
     is_start c ≡ is_last_ask (rest_of n job)
 asks_last n job c j o t e is = rw (e, second_of (rest_of n job), ← is.rest, first_at n job c is.comes is.within) (sym (begins_is job.wish c))
 
-pub asks_not : (xs : List Action) (a : Action) → slice_get xs 0 ≡ Some a → asks_next (Some a) ≡ false → false ≡ is_last_ask xs
+asks_not : (xs : List Action) (a : Action) → slice_get xs 0 ≡ Some a → asks_next (Some a) ≡ false → false ≡ is_last_ask xs
 asks_not xs a e h = rw (e, h) refl
 
 pub not_over : (n : ℕ) (job : Job) (a : Action) → IsJobKept n job → slice_get (rest_of n job) 0 ≡ Some a → (a ≡ End → ⊥) → is_over job.cursor ≡ false
@@ -150,7 +150,7 @@ both : (xs ys : List Action) → has_gate xs ≡ true → has_gate ys ≡ true �
 both xs ys a b = a ∙ sym b
 
 -- a gate is left behind an action where one was, but for the action that decides
-pub gates_kept : (n : ℕ) (job : Job) → IsJobKept n job → decides job ≡ false → removes_older (aim_of_wish job.wish) ≡ true →
+gates_kept : (n : ℕ) (job : Job) → IsJobKept n job → decides job ≡ false → removes_older (aim_of_wish job.wish) ≡ true →
     has_gate (drop 1 (rest_of n job)) ≡ has_gate (rest_of n job)
 gates_kept n job kept undecided takes = by job.cursor refl
   where
@@ -213,7 +213,7 @@ gates_kept n job kept undecided takes = by job.cursor refl
 -- ---- how many they are
 
 -- how many steps may remain falls by one
-pub most_falls : (n : ℕ) (job : Job) (rest : List Action) → IsJobKept n job → decides job ≡ false → rest ≡ drop 1 (rest_of n job) →
+most_falls : (n : ℕ) (job : Job) (rest : List Action) → IsJobKept n job → decides job ≡ false → rest ≡ drop 1 (rest_of n job) →
     length rest + (if removes_older (aim_of_wish job.wish) && has_gate rest then n else 0) ≡ most_of n (core_job n job) - 1
 most_falls n job rest kept undecided e = subst (λ (xs : List Action). length xs + (if removes_older (aim_of_wish job.wish) && has_gate xs then n else 0) ≡ most_of n (core_job n job) - 1) (sym e)
     (elim (cases_Bool (removes_older (aim_of_wish job.wish))) [
@@ -263,7 +263,7 @@ decides_rest n job kept d = by job.cursor refl d
     by (at.Closing move.GateSync) e h = rest_is n job _ e
     by c e h = absurd (false≢true h)
 
-pub decides_takes : (job : Job) → decides job ≡ true → removes_older (aim_of_wish job.wish) ≡ true
+decides_takes : (job : Job) → decides job ≡ true → removes_older (aim_of_wish job.wish) ≡ true
 decides_takes job d = by job.cursor d
   where
     takes : (w : Wish) (b : Bool) → is_taker w b ≡ true → removes_older (aim_of_wish w) ≡ true
@@ -336,7 +336,7 @@ ended n job kept = record {
 -- ---- an idle drop
 
 -- a cursor is at the first move of a first append where its first action begins an append
-pub unbegun_is : (n : ℕ) (job : Job) (c : Cursor) → is_unbegun c ≡ (is_opening c && begins_append (slice_get (rest_at n job c) 0))
+unbegun_is : (n : ℕ) (job : Job) (c : Cursor) → is_unbegun c ≡ (is_opening c && begins_append (slice_get (rest_at n job c) 0))
 unbegun_is n job (at.Opening move.Body) = refl
 unbegun_is n job c = refl
 

@@ -102,7 +102,7 @@ gated_number n older j = elim (cases_Bool (decides_now j)) [
   | inr d ↦ ap (λ (b : Bool). (if b then record j { rest = removals_of n older; opening = false } else stepped j).number) d
 ]
 
-pub gated_opening : (n : ℕ) (older : Option ℕ) (j : CoreJob) → slice_get j.rest 0 ≡ Some SyncGate → (gated_by n older j).opening ≡ false
+gated_opening : (n : ℕ) (older : Option ℕ) (j : CoreJob) → slice_get j.rest 0 ≡ Some SyncGate → (gated_by n older j).opening ≡ false
 gated_opening n older j h = elim (cases_Bool (decides_now j)) [
   | inl d ↦ ap (λ (b : Bool). (if b then record j { rest = removals_of n older; opening = false } else stepped j).opening) d
   | inr d ↦ ap (λ (b : Bool). (if b then record j { rest = removals_of n older; opening = false } else stepped j).opening) d
@@ -162,7 +162,7 @@ room_at n w c b z h (inr g) o e = subst (λ (x : Cursor). reserved_less n w (gat
     closing wish.Repair k f = (let a = one 10 in omega (arith, a, f))
 
 -- the room of a record is no longer reserved once it is in effect
-pub gated_room : (n : ℕ) (job : Job) (older : Option ℕ) (t : Kept) (entry : Record) → IsJobKept n job → slice_get (rest_of n job) 0 ≡ Some SyncGate →
+gated_room : (n : ℕ) (job : Job) (older : Option ℕ) (t : Kept) (entry : Record) → IsJobKept n job → slice_get (rest_of n job) 0 ≡ Some SyncGate →
     written_by t (core_job n job) job.wish ≡ Some entry → reserved_of n (gated_by n older (core_job n job)) + (1 + record_size entry) ≡ reserved_of n (core_job n job)
 gated_room n job older t entry kept h w =
     ap (λ (k : ℕ). k + (1 + record_size entry)) (after (gated_wish n older (core_job n job)))
@@ -178,7 +178,7 @@ gated_room n job older t entry kept h w =
     sizes : (b : Bool) → b ≡ is_opening job.cursor → entry_size n job.wish b ≡ record_size entry
     sizes b e = size_of_entry n t (core_job n job) job.wish entry (length_counted n job kept) w b e
 
-pub gated_starts : (n : ℕ) (job : Job) (older : Option ℕ) (t : Kept) (entry : Record) → slice_get (rest_of n job) 0 ≡ Some SyncGate →
+gated_starts : (n : ℕ) (job : Job) (older : Option ℕ) (t : Kept) (entry : Record) → slice_get (rest_of n job) 0 ≡ Some SyncGate →
     written_by t (core_job n job) job.wish ≡ Some entry → starts_of (gated_by n older (core_job n job)) + (if is_put_start entry then 1 else 0) ≤ starts_of (core_job n job)
 gated_starts n job older t entry h w =
     subst (λ (k : ℕ). k + (if is_put_start entry then 1 else 0) ≤ starts_of (core_job n job))

@@ -27,12 +27,12 @@ map-remove f [] (suc i) = refl
 map-remove f (x ∷ xs) zero = refl
 map-remove f (x ∷ xs) (suc i) = ap (λ (ys : List _). f x ∷ ys) (map-remove f xs i)
 
-pub All-remove : {X : Type 0} (P : X → Type 0) (xs : List X) (i : ℕ) → All P xs → All P (remove xs i)
+All-remove : {X : Type 0} (P : X → Type 0) (xs : List X) (i : ℕ) → All P xs → All P (remove xs i)
 All-remove P xs i h = All-append P (take i xs) (drop (suc i) xs) (All-take P i xs h) (All-drop P (suc i) xs h)
 
 -- ---- what is reserved, with one job less
 
-pub reserves_less : (c : CoreView) (place : ℕ) (d : CoreJob) (o : Option ℕ) (b : Bool) → place < length c.jobs → Reserves c →
+reserves_less : (c : CoreView) (place : ℕ) (d : CoreJob) (o : Option ℕ) (b : Bool) → place < length c.jobs → Reserves c →
     Reserves (record c { jobs = remove c.jobs place; append = o; barred = b })
 reserves_less c place d o b l h = record {
   room = (let e = sum_by-remove (reserved_of c.setup.n) c.jobs place d l in let r = h.room in omega (arith, e, r));
@@ -41,7 +41,7 @@ reserves_less c place d o b l h = record {
 
 -- ---- and with another job
 
-pub reserves_other : (c : CoreView) (place : ℕ) (j k : CoreJob) (o : Option ℕ) → slice_get c.jobs place ≡ Some j → reserved_of c.setup.n k ≤ reserved_of c.setup.n j →
+reserves_other : (c : CoreView) (place : ℕ) (j k : CoreJob) (o : Option ℕ) → slice_get c.jobs place ≡ Some j → reserved_of c.setup.n k ≤ reserved_of c.setup.n j →
     starts_of k ≤ starts_of j → Reserves c → Reserves (record c { jobs = set c.jobs place k; append = o })
 reserves_other c place j k o e r s h =
     let l = slice_get_within c.jobs place j e in
@@ -95,7 +95,7 @@ rising_lower : (low lower : ℕ) (js : List CoreJob) (next : ℕ) → lower ≤ 
 rising_lower low lower [] next l h = omega arith
 rising_lower low lower (j ∷ js) next l h = ((let a = h.0 in omega arith), h.1)
 
-pub rising_remove : (low : ℕ) (js : List CoreJob) (next i : ℕ) → AreRising low js next → AreRising low (remove js i) next
+rising_remove : (low : ℕ) (js : List CoreJob) (next i : ℕ) → AreRising low js next → AreRising low (remove js i) next
 rising_remove low [] next zero h = h
 rising_remove low [] next (suc i) h = h
 rising_remove low (j ∷ js) next zero h = rising_lower (j.number + 1) low js next (let a = h.0 in omega arith) h.1

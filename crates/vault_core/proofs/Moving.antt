@@ -35,7 +35,7 @@ within js place a h = by (slice_get js place) refl h
     by None e f = let g : None ≡ Some a = f in cc
     by (Some j) e f = slice_get_within js place j e
 
-pub plain_some : (o : Option Action) → goes_plainly o ≡ true → (a : Action) × (o ≡ Some a)
+plain_some : (o : Option Action) → goes_plainly o ≡ true → (a : Action) × (o ≡ Some a)
 plain_some None h = absurd (false≢true h)
 plain_some (Some a) h = (a, refl)
 
@@ -63,7 +63,7 @@ call_gate : (w : Wish) (c : Cursor) → goes_opening c ≡ (is_opening c && not 
 call_gate w (at.Opening move.Body) = refl
 call_gate w c = refl
 
-pub opening_moves : (n : ℕ) (job : Job) → IsJobKept n job → goes_opening job.cursor ≡ (is_opening job.cursor && not (is_gate (slice_get (rest_of n job) 0)))
+opening_moves : (n : ℕ) (job : Job) → IsJobKept n job → goes_opening job.cursor ≡ (is_opening job.cursor && not (is_gate (slice_get (rest_of n job) 0)))
 opening_moves n job kept = call_gate job.wish job.cursor ∙ ap (λ (o : Option Action). is_opening job.cursor && not (is_gate o)) (sym (first_is n job kept))
 
 -- ---- a job that has made an action
@@ -106,7 +106,7 @@ plain_here a c place job v h e plain =
     let r = plain_job a.setup.n job kept (ap (λ (o : Option CoreJob). goes_plainly (first_of o)) (sym here) ∙ p) in
     record { here = here; kept = kept; going = r.0; undecided = r.1 }
 
-pub set_view : (a : Inside) (c : CoreView) (v : Vec Job Global) (place : ℕ) (job before : Job) (o : Option ℕ) (f : CoreJob → CoreJob) → view_of a ≡ c →
+set_view : (a : Inside) (c : CoreView) (v : Vec Job Global) (place : ℕ) (job before : Job) (o : Option ℕ) (f : CoreJob → CoreJob) → view_of a ≡ c →
     v.items ≡ set a.jobs.items place job → slice_get (view_of a).jobs place ≡ Some (core_job a.setup.n before) → core_job a.setup.n job ≡ f (core_job a.setup.n before) →
     (j : CoreJob) → slice_get c.jobs place ≡ Some j → view_of (record a { jobs = v; append = o }) ≡ record c { jobs = set c.jobs place (f j); append = o }
 set_view a c v place job before o f view e here s j g =
@@ -130,7 +130,7 @@ judged_at : (n : ℕ) (job : Job) (u : ℕ) (cs : Counts) (c : Cursor) → rest_
 judged_at n job u cs (at.Opening m) = refl
 judged_at n job u cs c = refl
 
-pub rest_judged : (n : ℕ) (job : Job) (u : ℕ) (cs : Counts) → rest_of n (record job { undecided = u; counts = cs }) ≡ rest_of n job
+rest_judged : (n : ℕ) (job : Job) (u : ℕ) (cs : Counts) → rest_of n (record job { undecided = u; counts = cs }) ≡ rest_of n job
 unfolding rest_of
 rest_judged n job u cs = judged_at n job u cs job.cursor
 

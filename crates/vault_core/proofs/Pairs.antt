@@ -104,7 +104,7 @@ in_remove_other [] k place m f o = absurd f
 in_remove_other (x ∷ cs) k zero m f o = sym (ap (λ (b : Bool). if b then Some x else job_in cs m) (ne_eqb x.number m (λ e. o (sym e ∙ f))))
 in_remove_other (x ∷ cs) k (suc place) m f o = ap (λ (r : Option CoreJob). if x.number == m then Some x else r) (in_remove_other cs k place m f.1 o)
 
-pub first_get : (cs : List CoreJob) (k place : ℕ) → IsFirst cs k place → (c : CoreJob) × ((slice_get cs place ≡ Some c) × (job_in cs k ≡ Some c) × (c.number ≡ k))
+first_get : (cs : List CoreJob) (k place : ℕ) → IsFirst cs k place → (c : CoreJob) × ((slice_get cs place ≡ Some c) × (job_in cs k ≡ Some c) × (c.number ≡ k))
 first_get [] k place f = absurd f
 first_get (x ∷ cs) k zero f = (x, (refl, ap (λ (b : Bool). if b then Some x else job_in cs k) (eq-eqb x.number k f), f))
 first_get (x ∷ cs) k (suc place) f = let r = first_get cs k place f.1 in

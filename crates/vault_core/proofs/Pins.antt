@@ -23,7 +23,7 @@ use Rattle.vault_core.proofs.Rests.{rewrites_take, rewrites_skip}
 
 -- ---- flags
 
-pub read_taken : (n k : ℕ) (xs : List ℕ) (j : ℕ) → drop n xs ≡ replicate k 0 → get_or (take n xs) j 0 ≡ get_or xs j 0
+read_taken : (n k : ℕ) (xs : List ℕ) (j : ℕ) → drop n xs ≡ replicate k 0 → get_or (take n xs) j 0 ≡ get_or xs j 0
 read_taken zero k xs j e = sym (ap (λ (ys : List ℕ). get_or ys j 0) e ∙ get_or-zeros k j)
 read_taken (suc n) k [] j e = refl
 read_taken (suc n) k (x ∷ xs) zero e = refl
@@ -58,7 +58,7 @@ turns_other s w size k f h = h
 
 -- ---- tasks
 
-pub tasks-append : (f : ℕ → ℕ) (xs ys : List Pinned) → tasks_made f (xs ++ ys) ≡ tasks_made f xs ++ tasks_made f ys
+tasks-append : (f : ℕ → ℕ) (xs ys : List Pinned) → tasks_made f (xs ++ ys) ≡ tasks_made f xs ++ tasks_made f ys
 tasks-append f [] ys = refl
 tasks-append f (x ∷ xs) ys = elim (cases_Bool (nat_lt 0 (f x.length))) [
   | inl t ↦ rw (t, tasks-append f xs ys) refl

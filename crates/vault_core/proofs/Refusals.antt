@@ -38,7 +38,7 @@ use Rattle.vault_core.specs.Refusing.{aims_in, sight_in, aims_kept, puts_name, t
 
 -- ---- lists of jobs, as they are kept and as they are seen
 
-pub aims-seen : (n : ℕ) (js : List Job) → aims_in (map (core_job n) js) ≡ aims_kept js
+aims-seen : (n : ℕ) (js : List Job) → aims_in (map (core_job n) js) ≡ aims_kept js
 aims-seen n [] = refl
 aims-seen n (j ∷ js) = ap (λ (aims : List Aim). aim_of_wish j.wish ∷ aims) (aims-seen n js)
 
@@ -147,7 +147,7 @@ pub few_false : (count : ℕ) (taken : Bool) → count < 1024 → nat_le 1024 co
 few_false count taken l = let f : nat_le 1024 count ≡ false = grind (arith, nat_tests, l) in rw (f) refl
 
 -- the sizes of records hang on the number of providers alone
-pub sizes-by : (s : Setup) (w : Wish) → append_sizes 1 s (aim_of_wish w) ≡ sizes_of s.n w
+sizes-by : (s : Setup) (w : Wish) → append_sizes 1 s (aim_of_wish w) ≡ sizes_of s.n w
 sizes-by s (wish.Put name size) = refl
 sizes-by s w = refl
 
@@ -184,7 +184,7 @@ used-none x w p a = refl
 
 -- ---- what the machine sees
 
-pub aims-same : (s : Setup) (cs : List CoreJob) (js : List MachineJob) → AllZip (IsJobOf s) cs js → aims_in cs ≡ aims_of js
+aims-same : (s : Setup) (cs : List CoreJob) (js : List MachineJob) → AllZip (IsJobOf s) cs js → aims_in cs ≡ aims_of js
 aims-same s [] [] is = refl
 aims-same s [] (j ∷ js) is = absurd is
 aims-same s (c ∷ cs) [] is = absurd is
@@ -230,7 +230,7 @@ sight-same c w is = λ i. record {
         omega (arith, a, b))
 
 -- nothing keeps every job from beginning
-pub unshut-state : (c : CoreView) (w : State) → CoreIs c w → is_shut (sight_of w) ≡ false
+unshut-state : (c : CoreView) (w : State) → CoreIs c w → is_shut (sight_of w) ≡ false
 unshut-state c w is = ap is_shut (sym (sight-same c w is)) ∙ unshut c.jobs
 
 pub early_shut : (c : CoreView) (w : State) → CoreIs c w → refused_early w.is_barred (length w.jobs)

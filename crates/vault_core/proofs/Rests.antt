@@ -23,7 +23,7 @@ use Rattle.vault_core.specs.Parts.{comes_to, is_caller, is_worker, is_rewriter, 
 pub numbers_here : (a b : ℕ) → a < b → numbers a b ≡ a ∷ numbers (a + 1) b
 numbers_here a b l = let e : b - a ≡ suc (b - (a + 1)) = omega arith in ap (range_with_len a) e
 
-pub numbers_none : (a b : ℕ) → b ≤ a → numbers a b ≡ []
+numbers_none : (a b : ℕ) → b ≤ a → numbers a b ≡ []
 numbers_none a b l = let e : b - a ≡ 0 = omega arith in ap (range_with_len a) e
 
 -- what a store, an ask and a fetch each have, a call has
@@ -49,7 +49,7 @@ rewrites_skip j n fl o t l f = ap (flat_map (rewrite_of fl o t)) (numbers_here j
 pub rewrites_none : (j n : ℕ) (fl : List Bool) (o t : ℕ) → n ≤ j → rewrites_from j n fl o t ≡ []
 rewrites_none j n fl o t l = ap (flat_map (rewrite_of fl o t)) (numbers_none j n l)
 
-pub turns_here : (a n : ℕ) (w : Wish) (fl : List Bool) (o b : ℕ) → a < b → turns_from a n w fl o b ≡ turn_of n w fl o a ++ turns_from (a + 1) n w fl o b
+turns_here : (a n : ℕ) (w : Wish) (fl : List Bool) (o b : ℕ) → a < b → turns_from a n w fl o b ≡ turn_of n w fl o a ++ turns_from (a + 1) n w fl o b
 turns_here a n w fl o b l = ap (flat_map (turn_of n w fl o)) (numbers_here a b l)
 
 pub turns_none : (a n : ℕ) (w : Wish) (fl : List Bool) (o b : ℕ) → b ≤ a → turns_from a n w fl o b ≡ []
@@ -168,7 +168,7 @@ pub turns_over : (n : ℕ) (job : Job) (spot : Spot) (c : Cursor) → spot.turns
 turns_over n job spot c h is = subst (MayBeAt n job c)
     (sym (ap (λ (xs : List Action). xs ++ tasks_on n job (drop spot.behind job.tasks.items)) (turns_none (spot.turn + 1) n job.wish job.flagged spot.object spot.turns h))) is
 
-pub all_get : {X : Type 0} (P : X → Type 0) (xs : List X) (i : ℕ) (x : X) → slice_get xs i ≡ Some x → All P xs → P x
+all_get : {X : Type 0} (P : X → Type 0) (xs : List X) (i : ℕ) (x : X) → slice_get xs i ≡ Some x → All P xs → P x
 all_get P [] i x e h = let f : None ≡ Some x = e in cc
 all_get P (y ∷ ys) zero x e h = let f : Some y ≡ Some x = e in let g : y ≡ x = cc in subst P g (All-head P y ys h)
 all_get P (y ∷ ys) (suc i) x e h = all_get P ys i x e (All-tail P y ys h)

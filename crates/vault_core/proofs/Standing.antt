@@ -40,14 +40,14 @@ after_start (suc (suc (suc (suc p)))) more =
     ap (λ (b : Bool). b && begins_append (slice_get (drop (suc (suc (suc (suc p)))) (append_actions ++ more)) 0)) (le-ltb (suc (suc (suc (suc p)))) 4 (omega arith))
     ∙ sym (ne_eqb (suc (suc (suc (suc p)))) 0 (λ e. absurd (omega (arith, e))))
 
-pub actions_of_kind : (s : Setup) (m : Job) (k : Kind) → m.kind ≡ k → actions_of s m ≡ actions_by s m k
+actions_of_kind : (s : Setup) (m : Job) (k : Kind) → m.kind ≡ k → actions_of s m ≡ actions_by s m k
 unfolding actions_of
 actions_of_kind s m k e = ap (actions_by s m) e
 
 pub file_here : (t : Kept) (rs : List Record) (name : List ℕ) → IsFoldOf rs t → find_file t.files name ≡ file_of rs name
 file_here t rs name f = ap (λ (fs : List File). find_file fs name) f.files ∙ find-files_of rs name
 
-pub idle_same : (w : State) (t : Kept) (c : CoreJob) (m : Job) → IsFoldOf w.records t → IsJobOf (setup_in w) c m → is_idle_drop w m m.kind ≡ is_idle t c
+idle_same : (w : State) (t : Kept) (c : CoreJob) (m : Job) → IsFoldOf w.records t → IsJobOf (setup_in w) c m → is_idle_drop w m m.kind ≡ is_idle t c
 idle_same w t c m f is = by c.wish m.kind refl refl (alike c.wish m.kind is.kind)
   where
     gone : (v : Wish) → c.wish ≡ v → (is_gone t v ≡ false) → false ≡ is_idle t c
@@ -86,7 +86,7 @@ next_same w t c m f is =
 
 -- ---- how many steps may remain
 
-pub most_same : (s : Setup) (c : CoreJob) (m : Job) → IsJobOf s c m → most_of s.n c ≡ most_left s m
+most_same : (s : Setup) (c : CoreJob) (m : Job) → IsJobOf s c m → most_of s.n c ≡ most_left s m
 most_same s c m is = ap (most_after s (aim_of_wish c.wish)) is.rest ∙ ap (λ (aim : Aim). most_after s aim (actions_left s m)) is.kind
 
 pub left_same : (c : CoreView) (w : State) (k : ℕ) → CoreIs c w → left_in c k ≡ option_map (most_left (setup_in w)) (job_of w.jobs k)
@@ -105,10 +105,10 @@ no_ask (Some (Ask j o t)) h = absurd (false≢true h)
 no_ask o h = refl
 
 -- an audit that is at its last append has asked all that it asks
-pub asked_moving : (c : CoreJob) → c.wish ≡ wish.Audit → c.opening ≡ false → is_move (slice_get c.rest 0) ≡ true → has_asked c ≡ true
+asked_moving : (c : CoreJob) → c.wish ≡ wish.Audit → c.opening ≡ false → is_move (slice_get c.rest 0) ≡ true → has_asked c ≡ true
 asked_moving c g o mv = rw (g, o, no_ask (slice_get c.rest 0) mv) refl
 
-pub writes_same : (w : State) (t : Kept) (c : CoreJob) (m : Job) (entry : Record) → version_of w.records ≡ 1 → IsFoldOf w.records t → IsJobOf (setup_in w) c m → is_move (slice_get c.rest 0) ≡ true →
+writes_same : (w : State) (t : Kept) (c : CoreJob) (m : Job) (entry : Record) → version_of w.records ≡ 1 → IsFoldOf w.records t → IsJobOf (setup_in w) c m → is_move (slice_get c.rest 0) ≡ true →
     written_by t c c.wish ≡ Some entry → Writes w m m.kind entry
 writes_same w t c m entry first f is mv e = by c.wish m.kind refl refl (alike c.wish m.kind is.kind)
   where
@@ -190,7 +190,7 @@ acts_comes c k a h = elim (cases_Bool c.barred) [
     of_job b (Some j) e = of_action b j (action_next c.table j) e refl
 
 -- where a job waits
-pub waits_comes : (c : CoreView) (k held : ℕ) → next_in c k ≡ Waits held → (a : Action) × Comes c k a (Some held)
+waits_comes : (c : CoreView) (k held : ℕ) → next_in c k ≡ Waits held → (a : Action) × Comes c k a (Some held)
 waits_comes c k held h = elim (cases_Bool c.barred) [
   | inl b ↦ (let e : IsBarred ≡ Waits held = sym (ap (λ (x : Bool). if x then IsBarred else next_of c (job_in c.jobs k)) b) ∙ h in cc)
   | inr b ↦ of_job b (job_in c.jobs k) refl
@@ -321,7 +321,7 @@ in_append t j e h = elim (cases_Bool (is_move (action_next t j))) [
   | inr b ↦ (let g : None ≡ Some e = sym (ap (λ (x : Bool). if x then written_by t j j.wish else None) b) ∙ h in cc)
 ]
 
-pub found_entry : (c : CoreView) (k : ℕ) (e : Record) → entry_in c k ≡ Some e → (j : CoreJob) × ((job_in c.jobs k ≡ Some j) × (entry_of_job c.table j ≡ Some e))
+found_entry : (c : CoreView) (k : ℕ) (e : Record) → entry_in c k ≡ Some e → (j : CoreJob) × ((job_in c.jobs k ≡ Some j) × (entry_of_job c.table j ≡ Some e))
 found_entry c k e h = by (job_in c.jobs k) refl
   where
     by : (o : Option CoreJob) → job_in c.jobs k ≡ o → (j : CoreJob) × ((job_in c.jobs k ≡ Some j) × (entry_of_job c.table j ≡ Some e))

@@ -419,7 +419,7 @@ moves_well w m SyncGate None answer new e h = absurd h
 moves_well w m a flight answer new e h = absurd h
 
 -- so another action than the end leaves the job running where it is done
-pub goes_well : (w : State) (m : Job) (a : Action) (answer : Answer) (new : State) → (a ≡ End → ⊥) → IsEndAnswer answer → Acts w m a (Ended answer) new → ⊥
+goes_well : (w : State) (m : Job) (a : Action) (answer : Answer) (new : State) → (a ≡ End → ⊥) → IsEndAnswer answer → Acts w m a (Ended answer) new → ⊥
 goes_well w m a (Lost stripe row) new n e h = absurd e
 goes_well w m a (ProviderFault j) new n e h = absurd e
 goes_well w m a DiskFault new n e h = absurd e

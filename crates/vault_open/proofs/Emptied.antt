@@ -14,7 +14,7 @@ use Rattle.vault_open.specs.Preparing.{IsBlank, AreShort, emptied}
 
 -- ---- images
 
-pub length-image : (cells : Cells) (image : List ℕ) → IsImage cells image → length image ≡ length cells
+length-image : (cells : Cells) (image : List ℕ) → IsImage cells image → length image ≡ length cells
 length-image [] [] is = refl
 length-image [] (b ∷ image) is = absurd is
 length-image (c ∷ cells) [] is = absurd is

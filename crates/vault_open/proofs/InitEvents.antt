@@ -363,7 +363,7 @@ pub bad-refused : (s : Setup) (told : Option Cells) → is_setup s ≡ false →
 bad-refused s None bad = tt
 bad-refused s (Some cells) bad = bad
 
-pub fault-failed : (fault : WriteFault) → fault ≡ write_fault.Failed → init_answer fault ≡ init_fault.DiskFault
+fault-failed : (fault : WriteFault) → fault ≡ write_fault.Failed → init_answer fault ≡ init_fault.DiskFault
 fault-failed fault is = ap init_answer is
 
 -- what a disk has on which the append can begin

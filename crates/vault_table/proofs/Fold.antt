@@ -175,7 +175,7 @@ goes-on t rs (RepairDue number counts) is p =
 -- ---- reading a started put
 
 -- the place of a started put is inside
-pub at-inside : (t : Kept) (id : ℕ) (name : List ℕ) → started_at t id ≡ Some name → (t.passed < id) × (id - t.passed - 1 < length t.started)
+at-inside : (t : Kept) (id : ℕ) (name : List ℕ) → started_at t id ≡ Some name → (t.passed < id) × (id - t.passed - 1 < length t.started)
 at-inside t id name e = elim (cases_lt t.passed id) [
   | inl later ↦ elim (cases_lt (id - suc t.passed) (length t.started)) [
     | inl lt ↦ (later, omega (arith, later, lt))

@@ -33,7 +33,7 @@ begins-le (s ∷ sizes) zero n l = omega arith
 begins-le (s ∷ sizes) (suc k) zero l = absurd (omega (arith, l))
 begins-le (s ∷ sizes) (suc k) (suc n) l = (let e = begins-le sizes k n (omega (arith, l)) in omega (arith, e))
 
-pub begins-push : (sizes : List ℕ) (x k : ℕ) → k ≤ length sizes → begins_at (sizes ++ x ∷ []) k ≡ begins_at sizes k
+begins-push : (sizes : List ℕ) (x k : ℕ) → k ≤ length sizes → begins_at (sizes ++ x ∷ []) k ≡ begins_at sizes k
 begins-push [] x zero l = refl
 begins-push [] x (suc k) l = absurd (omega (arith, l))
 begins-push (s ∷ sizes) x zero l = refl
@@ -65,7 +65,7 @@ name-past (n ∷ names) zero l = absurd (omega (arith, l))
 name-past (n ∷ names) (suc k) l = name-past names k (omega (arith, l))
 
 -- each that is kept is a name
-pub kept-at : (names : List (Option (List ℕ))) (k : ℕ) (o : Option (List ℕ)) → list_all is_kept_name names ≡ true → started_from names k ≡ o → is_kept_name o ≡ true
+kept-at : (names : List (Option (List ℕ))) (k : ℕ) (o : Option (List ℕ)) → list_all is_kept_name names ≡ true → started_from names k ≡ o → is_kept_name o ≡ true
 kept-at [] k o all is = ap is_kept_name (sym is)
 kept-at (n ∷ names) zero o all is = (let e : is_kept_name n ≡ true = grind (arith, all) in ap is_kept_name (sym is) ∙ e)
 kept-at (n ∷ names) (suc k) o all is = (let e : list_all is_kept_name names ≡ true = grind (arith, all) in kept-at names k o e is)

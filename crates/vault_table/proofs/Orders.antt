@@ -88,19 +88,19 @@ is_here fs i d name o lt same =
 
 -- ---- comparing two names byte by byte
 
-pub order-same : (a b : List ℕ) (i : ℕ) → i < length a → i < length b → get_or a i 0 ≡ get_or b i 0 → order_of (drop i a) (drop i b) ≡ order_of (drop (i + 1) a) (drop (i + 1) b)
+order-same : (a b : List ℕ) (i : ℕ) → i < length a → i < length b → get_or a i 0 ≡ get_or b i 0 → order_of (drop i a) (drop i b) ≡ order_of (drop (i + 1) a) (drop (i + 1) b)
 order-same [] b i lt_a lt_b e = absurd (omega (arith, lt_a))
 order-same (x ∷ a) [] i lt_a lt_b e = absurd (omega (arith, lt_b))
 order-same (x ∷ a) (y ∷ b) zero lt_a lt_b e = grind (arith, nat_tests, e)
 order-same (x ∷ a) (y ∷ b) (suc i) lt_a lt_b e = let n : suc i + 1 ≡ suc (i + 1) = omega arith in rw n (order-same a b i (omega (arith, lt_a)) (omega (arith, lt_b)) e)
 
-pub order-first : (a b : List ℕ) (i : ℕ) → i < length a → i < length b → get_or a i 0 < get_or b i 0 → order_of (drop i a) (drop i b) ≡ Less
+order-first : (a b : List ℕ) (i : ℕ) → i < length a → i < length b → get_or a i 0 < get_or b i 0 → order_of (drop i a) (drop i b) ≡ Less
 order-first [] b i lt_a lt_b e = absurd (omega (arith, lt_a))
 order-first (x ∷ a) [] i lt_a lt_b e = absurd (omega (arith, lt_b))
 order-first (x ∷ a) (y ∷ b) zero lt_a lt_b e = grind (arith, nat_tests, e)
 order-first (x ∷ a) (y ∷ b) (suc i) lt_a lt_b e = order-first a b i (omega (arith, lt_a)) (omega (arith, lt_b)) e
 
-pub order-last : (a b : List ℕ) (i : ℕ) → i < length a → i < length b → get_or b i 0 < get_or a i 0 → order_of (drop i a) (drop i b) ≡ Greater
+order-last : (a b : List ℕ) (i : ℕ) → i < length a → i < length b → get_or b i 0 < get_or a i 0 → order_of (drop i a) (drop i b) ≡ Greater
 order-last [] b i lt_a lt_b e = absurd (omega (arith, lt_a))
 order-last (x ∷ a) [] i lt_a lt_b e = absurd (omega (arith, lt_b))
 order-last (x ∷ a) (y ∷ b) zero lt_a lt_b e = grind (arith, nat_tests, e)
@@ -119,7 +119,7 @@ order-longer (x ∷ a) [] i e lt = rw e refl
 order-longer (x ∷ a) (y ∷ b) zero e lt = absurd (omega (arith, e))
 order-longer (x ∷ a) (y ∷ b) (suc i) e lt = order-longer a b i (omega (arith, e)) (omega (arith, lt))
 
-pub order-ended : (a b : List ℕ) (i : ℕ) → i ≡ length a → i ≡ length b → order_of (drop i a) (drop i b) ≡ Equal
+order-ended : (a b : List ℕ) (i : ℕ) → i ≡ length a → i ≡ length b → order_of (drop i a) (drop i b) ≡ Equal
 order-ended [] [] i e f = rw e refl
 order-ended [] (y ∷ b) i e f = absurd (omega (arith, e, f))
 order-ended (x ∷ a) [] i e f = absurd (omega (arith, e, f))
@@ -185,7 +185,7 @@ module _ (fs : List File) (name : List ℕ) (i : ℕ) where
   pub drop-here : IsHere fs name i → without_file fs name ≡ remove fs i
   drop-here here = without-here here ∙ ap (λ (l : List File). take i fs ++ l) (behind-is here)
 
-  pub drop-between : IsBetween fs name i → without_file fs name ≡ fs
+  drop-between : IsBetween fs name i → without_file fs name ≡ fs
   drop-between is =
       ap (λ (l : List File). without_file l name) (sym (take-append-drop i fs)) ∙ skip-without name (take i fs) (drop i fs) is.after
       ∙ ap (λ (l : List File). take i fs ++ l) (without-before name (drop i fs) is.before) ∙ take-append-drop i fs

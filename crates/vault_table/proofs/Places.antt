@@ -39,13 +39,13 @@ map-remove es i = map-append file_of_entry (take i es) (drop (suc i) es) ∙ (λ
 pub inside-here : (es : List Entry) (name : List ℕ) (i : ℕ) → IsHere (map file_of_entry es) name i → i < length es
 inside-here es name i here = omega (arith, here.within, length-map {B = File} es file_of_entry)
 
-pub inside-between : (es : List Entry) (name : List ℕ) (i : ℕ) → IsBetween (map file_of_entry es) name i → i ≤ length es
+inside-between : (es : List Entry) (name : List ℕ) (i : ℕ) → IsBetween (map file_of_entry es) name i → i ≤ length es
 inside-between es name i is = omega (arith, is.within, length-map {B = File} es file_of_entry)
 
 pub fits-here : (es : List Entry) (name : List ℕ) (i : ℕ) → IsHere (map file_of_entry es) name i → true ≡ not (is_full_without (map file_of_entry es) name)
 fits-here es name i here = rw (find-here (map file_of_entry es) name i here) (grind arith)
 
-pub fits-between : (es : List Entry) (name : List ℕ) (i : ℕ) → IsBetween (map file_of_entry es) name i → length es < 1024 → true ≡ not (is_full_without (map file_of_entry es) name)
+fits-between : (es : List Entry) (name : List ℕ) (i : ℕ) → IsBetween (map file_of_entry es) name i → length es < 1024 → true ≡ not (is_full_without (map file_of_entry es) name)
 fits-between es name i is few =
     let tests : nat_le 1024 (length (map file_of_entry es)) ≡ false = lt-leb _ _ (omega (arith, few, length-map {B = File} es file_of_entry)) in
     rw tests refl
