@@ -145,6 +145,7 @@ no-tasks : (t : Kept) (s : Setup) (v : Wish) (pins : List Pinned) → pins ≡ p
 no-tasks t s (wish.Drop name) pins e h = ap (tasks_made (turns_for s (wish.Drop name))) e
 no-tasks t s v pins e h = absurd (false≢true (sym h))
 
+-- the first n of k zeros are n zeros
 pub take-zeros : (n k : ℕ) → n ≤ k → take n (replicate {A = ℕ} k 0) ≡ replicate n 0
 take-zeros zero k l = refl
 take-zeros (suc n) zero l = absurd (omega arith)
@@ -164,6 +165,7 @@ module _ (t : Kept) (s : Setup) (k : ℕ) (w : Wish) (job : Job) (made : IsMade 
   made-first : MayBeAt s.n job (cursor_first w job.tasks.items) (front_of w ++ tasks_on s.n job job.tasks.items)
   made-first = first-at s.n job w (omega arith) made.wish made-all
 
+  -- a new job has before it its first append, if it has one, and then all that its tasks ask for
   pub made-rest : rest_of s.n job ≡ front_of w ++ tasks_on s.n job job.tasks.items
   made-rest = rest_is s.n job (cursor_first w job.tasks.items) made.cursor ∙ made-first.rest
 
@@ -179,6 +181,7 @@ module _ (t : Kept) (s : Setup) (k : ℕ) (w : Wish) (job : Job) (made : IsMade 
       ap (one_more s.n job.wish) (gates_is s.n job ∙ (ap (λ (v : Wish). gates_at v job.cursor) made.wish ∙ ap (gates_at w) made.cursor)) ∙ ap (λ (v : Wish). one_more s.n v (gates_at w (cursor_first w job.tasks.items))) made.wish in
       omega (arith, a, b, c, d, e, f, g, l)
 
+  -- a job as it is made is a job as it is kept
   pub made-kept : HasName w → IsShort w → length job.flagged ≡ 16 →
       job.left ≡ sum_by (λ (x : Task). x.turns * size_of_turn s.n w job.flagged) job.tasks.items + other_actions s.n w → IsJobKept s.n job
   made-kept named short long l = record {

@@ -51,6 +51,7 @@ job_sum f (c ∷ cs) k j e = elim (cases_Bool (c.number == k)) [
   | inr b ↦ (let p = job_sum f cs k j (sym (ap (λ (x : Bool). if x then Some c else job_in cs k) b) ∙ e) in let q = sum_by-cons f c cs in omega (arith, p, q))
 ]
 
+-- the record that a kept job is about to write fits behind the end of the journal
 pub writing_room : (c : CoreView) (k : ℕ) (job : Job) (t : Kept) (o : Option RecordValue) → Reserves c → IsJobKept c.setup.n job → Some (core_job c.setup.n job) ≡ job_in c.jobs k →
     option_map entry_of o ≡ entry_of_job t (core_job c.setup.n job) → IfSome o (λ entry. c.end + (1 + record_size (entry_of entry)) ≤ 2 ^ 24)
 writing_room c k job t None h kept found e = tt

@@ -234,6 +234,7 @@ module _ (t : Kept) (s : Setup) (w : State) (moment : ℕ) (v : Wish) (k : Kind)
   made-opening : is_opening job.cursor ≡ (is_opener v && true)
   made-opening = ap is_opening made.cursor ∙ opens-first v job.tasks.items
 
+  -- a job as it is made stands for the job that the machine adds
   pub made-is : IsJobOf s (core_job s.n job) (new_job w moment k)
   made-is = record {
     number = made.number;

@@ -28,6 +28,7 @@ use Rattle.vault_core.specs.Wished.{aim_of_wish}
 
 -- ---- the job at a place
 
+-- where a job has a next action, its place is one among the jobs
 pub within : (js : List CoreJob) (place : ℕ) (a : Action) → first_of (slice_get js place) ≡ Some a → place < length js
 within js place a h = by (slice_get js place) refl h
   where
@@ -39,6 +40,7 @@ plain_some : (o : Option Action) → goes_plainly o ≡ true → (a : Action) ×
 plain_some None h = absurd (false≢true h)
 plain_some (Some a) h = (a, refl)
 
+-- the job at a place of a core is a job as it is kept
 pub kept_at : (a : Inside) (place : ℕ) (job : Job) → IsCore a → place < length (view_of a).jobs → job ≡ get_or a.jobs.items place job → IsJobKept a.setup.n job
 kept_at a place job h l e =
     let m : length (map (core_job a.setup.n) a.jobs.items) ≡ length a.jobs.items = simp length-map in
@@ -54,6 +56,7 @@ plain_at w (at.Closing move.GateSync) h = absurd (false≢true h)
 plain_at w at.Ending h = absurd (false≢true h)
 plain_at w c h = (refl, refl)
 
+-- a kept job whose next action goes plainly is not over and decides nothing
 pub plain_job : (n : ℕ) (job : Job) → IsJobKept n job → goes_plainly (slice_get (rest_of n job) 0) ≡ true → (is_over job.cursor ≡ false) × (decides job ≡ false)
 plain_job n job kept h = plain_at job.wish job.cursor (ap goes_plainly (sym (first_is n job kept)) ∙ h)
 
@@ -68,6 +71,7 @@ opening_moves n job kept = call_gate job.wish job.cursor ∙ ap (λ (o : Option 
 
 -- ---- a job that has made an action
 
+-- jobs of one number, wish and files are seen to differ in subject, actions, append and sums alone
 pub seen_by : (n : ℕ) (old new : Job) (subject : ℕ) (rest : List Action) (opening : Bool) (sums : Sums) → new.number ≡ old.number → new.wish ≡ old.wish →
     new.pinned.items ≡ old.pinned.items → new.flagged ≡ old.flagged → new.subject ≡ subject → rest_of n new ≡ rest → is_opening new.cursor ≡ opening →
     record { counts = counted new.counts; undecided = new.undecided } ≡ sums →
@@ -83,6 +87,7 @@ seen_by n old new subject rest opening sums a b c d e f g h = λ i. record {
   sums = h i;
 }
 
+-- a kept job that moved its cursor behind one action is seen with that action made
 pub seen_moved : (n : ℕ) (old new : Job) → IsJobKept n old → rest_of n new ≡ drop 1 (rest_of n old) → is_opening new.cursor ≡ goes_opening old.cursor →
     new ≡ record old { cursor = new.cursor; left = new.left } → core_job n new ≡ stepped (core_job n old)
 seen_moved n old new kept r o e = seen_by n old new old.subject _ _ _
@@ -96,6 +101,7 @@ pub record PlainHere (a : Inside) (place : ℕ) (job : Job) : Type 0 where
   pub going : is_over job.cursor ≡ false
   pub undecided : decides job ≡ false
 
+-- a core's job whose next action goes plainly is kept, not over, and decides nothing
 pub plain_here : (a : Inside) (c : CoreView) (place : ℕ) (job : Job) → view_of a ≡ c → IsCore a → job ≡ get_or a.jobs.items place job → goes_plainly (first_at c place) ≡ true → PlainHere a place job
 plain_here a c place job v h e plain =
     let p : goes_plainly (first_at (view_of a) place) ≡ true = subst (λ (x : CoreView). goes_plainly (first_at x place) ≡ true) (sym v) plain in
@@ -134,6 +140,7 @@ rest_judged : (n : ℕ) (job : Job) (u : ℕ) (cs : Counts) → rest_of n (recor
 unfolding rest_of
 rest_judged n job u cs = judged_at n job u cs job.cursor
 
+-- a kept job with other sums, for as many providers, is a job as it is kept
 pub kept_judged : (n : ℕ) (job : Job) (u : ℕ) (cs : Counts) → IsJobKept n job → cs.n ≡ n → IsPadded cs → IsJobKept n (record job { undecided = u; counts = cs })
 kept_judged n job u cs kept e padded = record {
   stays = record {
@@ -149,6 +156,7 @@ kept_judged n job u cs kept e padded = record {
   left = kept.left ∙ ap (λ (xs : List Action). length xs + (if removes_older (aim_of_wish job.wish) && nat_lt 0 (count_by ends_append xs) then n else 0)) (sym (rest_judged n job u cs));
 }
 
+-- a kept job that took its sums and moved behind one action is seen as judged
 pub seen_judged : (n : ℕ) (old new : Job) (u : ℕ) (cs : Counts) → IsJobKept n old → IsJobKept n (record old { undecided = u; counts = cs }) →
     rest_of n new ≡ drop 1 (rest_of n (record old { undecided = u; counts = cs })) → is_opening new.cursor ≡ goes_opening old.cursor →
     new ≡ record old { undecided = u; counts = cs; cursor = new.cursor; left = new.left } →
