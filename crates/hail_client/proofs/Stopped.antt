@@ -45,6 +45,7 @@ stopped-left w (Some old) (Some new) sound (image, is, new_is) stands =
       stands = subst (λ (c : Cells). StandsForState (Some c) (settled w k.0)) (sym new_is) (firm-stands image (settled w k.0) whole.area k.2);
     }
 
+-- a stop of client and disk is one of the machine: the client is left without its vault
 pub stops : (w : State) (moment : ℕ) (picks : List ℕ) (c next : Client) (old new : Option Cells) (f g : ℕ) (ps : List Provider) → AreBytes picks → next ≡ record { vault = None; next_job = client_next_job c } →
     Goes Stopped old new → g ≡ f → ClientStands c (devices old f ps) w → MakesEvent w moment (Stop picks) events.Stopped next (devices new g ps)
 stops w moment picks c next old new f g ps spelled next_is goes same S =
