@@ -57,16 +57,20 @@ goes_on R S step None (Some new) goes = goes
 goes_on R S step (Some old) None goes = goes
 goes_on R S step (Some old) (Some new) goes = step old new goes
 
+-- a disk that did not change reads the same from any place on
 pub goes_still : (end : ℕ) (old new : Option Cells) → new ≡ old → Goes (SameFrom end) old new
 goes_still end None new is = subst (λ (o : Option Cells). Goes (SameFrom end) None o) (sym is) tt
 goes_still end (Some cells) new is = subst (λ (o : Option Cells). Goes (SameFrom end) (Some cells) o) (sym is) refl
 
+-- a write that ends at or before a place changes nothing from that place on
 pub written_beyond : (end at : ℕ) (bytes : List ℕ) (old new : Option Cells) → at + length bytes ≤ end → new ≡ option_map (written at bytes) old → Goes (SameFrom end) old new
 written_beyond end at bytes old new past is = goes_mapped (SameFrom end) (written at bytes) (λ cells. written_same end at bytes cells past) old new is
 
+-- a write that failed, of a range up to a place, changes nothing from that place on
 pub failed_beyond : (end at n : ℕ) (fault : WriteFault) (old new : Option Cells) → at + n ≤ end → (fault ≡ write_fault.Failed → Goes (Torn at n) old new) → (fault ≡ write_fault.Memory → new ≡ old) → Goes (SameFrom end) old new
 failed_beyond end at n write_fault.Failed old new past failed memory = goes_on (Torn at n) (SameFrom end) (λ o w t. torn_same end at n o w past t) old new (failed refl)
 failed_beyond end at n write_fault.Memory old new past failed memory = goes_still end old new (memory refl)
 
+-- a sync changes nothing from any place on
 pub synced_beyond : (end : ℕ) (old new : Option Cells) → new ≡ option_map settled old → Goes (SameFrom end) old new
 synced_beyond end old new is = goes_mapped (SameFrom end) settled (settled_same end) old new is
