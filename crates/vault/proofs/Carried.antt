@@ -15,6 +15,7 @@ carried_text (Some f) (Some append) rs told flight = (append.entry, flight.1)
 carried_text None (Some append) rs told never = absurd never
 carried_text (Some f) None rs told never = absurd never
 
+-- the disk carries a vault that stands for a state which is not barred
 pub carried : (v : Desk) (d : Devices) (w : State) → DeskStands v d w → w.is_barred ≡ false → DeskCarries v d.holds
 carried v d w stands unbarred =
     (w.records, stands.core.table, stands.core.end, carried_text v.flight w.append w.records d.holds (stands.flight unbarred))

@@ -142,6 +142,7 @@ module _ (st : Setup) (job : Job) (k o s : ℕ) (tail : List Action) where
   all_more b b' found block all grows =
       (λ i. present_blocks (grows.size_is i) (grows.present_is i) (grows.symbols_is i)) ∙ present_more b.size b.present.items b.symbols.items block found all grows.fits
 
+  -- with a block fetched, or none, a get is at the action behind this fetch
   pub get_after : fetches_left (Fetch k o s ∷ tail) ≡ 1 + fetches_left tail → works_left (Fetch k o s ∷ tail) ≡ 0 + works_left tail
       → (t : GetTask) (f : Fetches) (fetch : FetchValue) (found : Bool) (block : List ℕ) → IsGet st t job (Fetch k o s ∷ tail) → fetch ≡ record { provider = k; object = o; stripe = s }
       → GrowsFetches t.fetched f fetch found block → IsGet st (record t { fetched = f }) (advanced_with job (Fetched k o s (given_of found block))) tail
@@ -179,6 +180,7 @@ module _ (st : Setup) (job : Job) (k o s : ℕ) (tail : List Action) where
         room_bytes = omega (arith, is.room_bytes, ap (λ (m : ℕ). m * (16 * stripe_symbols (bench_object t.bench))) works_are);
       }
 
+  -- with a block fetched, or none, a repair is at the action behind this fetch
   pub repair_after : (t : RepairTask) (b' : Blocks) (found : Bool) (block : List ℕ) → IsRepair st t job (Fetch k o s ∷ tail) → Grows t.blocks b' found block
       → IsRepair st (record t { blocks = b' }) (advanced_with job (Fetched k o s (given_of found block))) tail
   repair_after t b' found block is grows =
@@ -205,6 +207,7 @@ abbrev pub after : State → Job → List Action
 after w job = drop (job.place + 1) (actions_of (setup_in w) job)
 
 module _ (w : State) (job : Job) (k o s : ℕ) (next : next_action w job ≡ Some (Fetch k o s)) where
+  -- a job whose next action is a fetch has this fetch before it, and then what is behind
   pub left_is : actions_left (setup_in w) job ≡ Fetch k o s ∷ after w job
   left_is = next-left w job (Fetch k o s) next (λ e. absurd (let f : ⊥ = cc in f))
 

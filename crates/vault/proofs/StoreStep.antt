@@ -264,11 +264,14 @@ module _ (v : Desk) (w : State) (holds : Option Cells) (faults moment number k o
 
 -- ---- what came of the call
 
+-- a store whose answer is Ok stored its block
 pub was_stored : (o s : ℕ) (block : List ℕ) (r : Result Unit StoreFault) (x : Unit) (p q : Provider) → r ≡ Ok x → StoresAs o s block r p q → Stores o s block p q
 was_stored o s block r x p q is as_ = subst (λ (y : Result Unit StoreFault). StoresAs o s block y p q) is as_
 
+-- a store whose answer is a failure failed at the provider
 pub was_failed : (o s : ℕ) (block : List ℕ) (r : Result Unit StoreFault) (f : StoreFault) (p q : Provider) → r ≡ Err f → f ≡ store_fault.Failed → StoresAs o s block r p q → FailsToStore p q
 was_failed o s block r f p q is fault as_ = subst (λ (y : Result Unit StoreFault). StoresAs o s block y p q) (is ∙ ap (λ (y : StoreFault). Err y) fault) as_
 
+-- a store whose answer is that memory ran out found none at the provider
 pub found_no_memory : (o s : ℕ) (block : List ℕ) (r : Result Unit StoreFault) (f : StoreFault) (p q : Provider) → r ≡ Err f → f ≡ store_fault.Memory → StoresAs o s block r p q → FindsNoMemory p q
 found_no_memory o s block r f p q is fault as_ = subst (λ (y : Result Unit StoreFault). StoresAs o s block y p q) (is ∙ ap (λ (y : StoreFault). Err y) fault) as_

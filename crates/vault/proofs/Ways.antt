@@ -114,6 +114,7 @@ pub record IsQuiet (w new : State) : Type 0 where
   pub faults : new.disk_faults ≡ w.disk_faults
   pub barred : new.is_barred ≡ w.is_barred
 
+-- a vault that keeps its setup and its master keeps its shape
 pub shaped_on : (v v' : Desk) → KeepsAll v v' → IsShaped v → IsShaped v'
 shaped_on v v' keeps is = record {
   n = ap (λ (s : ShapeValue). s.n) keeps.shape ∙ is.n ∙ sym (ap (λ (s : SetupValue). s.n) keeps.setup);
@@ -122,6 +123,7 @@ shaped_on v v' keeps is = record {
   profile = ap plain_profile keeps.profile ∙ is.profile ∙ ap (λ (s : SetupValue). profile_of s.profile) (sym keeps.setup);
 }
 
+-- with a quiet step a vault stands for the state after it, if its core and its jobs do
 pub stands_on : (v v' : Desk) (w new : State) (holds : Option Cells) (faults : ℕ) (ps ps' : List Provider) → DeskStands v (devices holds faults ps) w → IsQuiet w new → AreHanded ps' new
     → CoreIs v'.core new → KeepsAll v v' → v'.flight ≡ v.flight → AreRunning (setup_in w) v'.jobs.items new.jobs → DeskStands v' (devices holds faults ps') new
 stands_on v v' w new holds faults ps ps' stands quiet handed core keeps flight jobs = record {
