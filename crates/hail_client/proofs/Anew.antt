@@ -47,7 +47,7 @@ pub by-told : {A X : Type 0} (told : Option A) → (IsSome told → X) → (is_s
 by-told None f g = g refl
 by-told (Some a) f g = f refl
 
-pub untold-goes : {A : Type 0} (step : A → A → Type 0) (old new : Option A) → is_some old ≡ false → Goes step old new → new ≡ None
+untold-goes : {A : Type 0} (step : A → A → Type 0) (old new : Option A) → is_some old ≡ false → Goes step old new → new ≡ None
 untold-goes step None None is goes = refl
 untold-goes step None (Some new) is goes = absurd goes
 untold-goes step (Some old) new is goes = absurd (false≢true (sym is))
@@ -73,7 +73,7 @@ closed-over rs next faults ps = record {
   is_barred = false;
 }
 
-pub rests-over : (rs : List Record) → AreAccepted rs → IsTrue (list_all is_in_grammar rs) → text_size rs ≤ largest_journal →
+rests-over : (rs : List Record) → AreAccepted rs → IsTrue (list_all is_in_grammar rs) → text_size rs ≤ largest_journal →
     (next faults : ℕ) (ps : List Provider) → IsAtRest (closed-over rs next faults ps)
 rests-over rs accepted spelled room next faults ps = record {
   idle = (refl, refl, refl, refl);
@@ -91,7 +91,7 @@ none-rests : (next faults : ℕ) (ps : List Provider) → IsAtRest (closed-over 
 none-rests = rests-over [] tt refl (omega arith)
 
 -- devices that stand for it
-pub stands-over : (rs : List Record) → ((next faults : ℕ) (ps : List Provider) → IsAtRest (closed-over rs next faults ps)) →
+stands-over : (rs : List Record) → ((next faults : ℕ) (ps : List Provider) → IsAtRest (closed-over rs next faults ps)) →
     (next faults : ℕ) (ps : List Provider) (holds : Option Cells) → StandsForState holds (closed-over rs next faults ps) →
     StandsClosed next (devices holds faults ps) (closed-over rs next faults ps)
 stands-over rs rest next faults ps holds images = record {
@@ -102,7 +102,7 @@ stands-over rs rest next faults ps holds images = record {
 }
 
 -- a disk that tells nothing stands for every state
-pub untold-images : (holds : Option Cells) (w : State) → holds ≡ None → StandsForState holds w
+untold-images : (holds : Option Cells) (w : State) → holds ≡ None → StandsForState holds w
 untold-images holds w is = subst (λ (o : Option Cells). StandsForState o w) (sym is) tt
 
 -- where no vault is open, client and devices stand for a state over no record
@@ -136,7 +136,7 @@ module _ (moment next f g : ℕ) (ps : List Provider) (old new : Option Cells) (
     };
   }
 
-  pub fault-anew : (why : StartFault) → (why ≡ start_fault.DiskFault → Rose f g) →
+  fault-anew : (why : StartFault) → (why ≡ start_fault.DiskFault → Rose f g) →
       UnlessBadJournal (Err (reopen_fault.NotOpened why)) (AnewBy (events.Refused (start_refusal why)) (without_vault next))
   fault-anew start_fault.DiskFault rose = closed-anew [] none-rests refusal.DiskFault (g, never, rose refl, refl)
   fault-anew start_fault.Memory rose = closed-anew [] none-rests refusal.Memory (g, never, refl)
@@ -159,12 +159,14 @@ module _ (told : Option Cells) (rs : List Record) (is_read : IsRead told rs) (v 
     whole : IsWholeJournal start
     whole = record { journal = refl; area = refl; unswitched = refl }
 
-    pub is-up : IsSetUp start
+    is-up : IsSetUp start
     is-up = has-setup start sound is_read.some
 
+    -- the vault that was opened has as many providers as the setup that it read
     pub uses-as : provider_count v ≡ (setup_in start).n
     uses-as = count-is start rs sound whole is_read.in_grammar (inl refl) is_read.some v holds g next refl stands
 
+    -- with enough providers, the vault that was opened stands for an open state over them
     pub stands-open : provider_count v ≤ length ps → Stands v (devices holds g ps) (opened start rs (provider_or_empty ps) (length ps) g)
     stands-open enough =
         stands-opened start rs sound whole is_read.in_grammar (inl refl) is_read.some v holds g next refl stands (provider_or_empty ps) ps (record { count = refl; each = each-at ps })
@@ -195,12 +197,12 @@ module _ (told : Option Cells) (rs : List Record) (is_read : IsRead told rs) (v 
     }
 
     module _ (moment : ℕ) (old : Option Cells) (old_is : old ≡ None) (holds_is : holds ≡ None) (never : f ≤ g) where
-      pub few-anew : length ps < provider_count v → IsMadeAnew moment next Reopen (events.Refused refusal.TooFewProviders) (without_vault next) (devices old f ps) (devices holds g ps)
+      few-anew : length ps < provider_count v → IsMadeAnew moment next Reopen (events.Refused refusal.TooFewProviders) (without_vault next) (devices old f ps) (devices holds g ps)
       few-anew few =
           closed-anew moment next f g ps old holds old_is holds_is never rs rest refusal.TooFewProviders
           (start, same-rereads-over rs next f ps, is-up, (let e = uses-as in omega (arith, few, e)), (g, never, refl))
 
-      pub opened-anew : provider_count v ≤ length ps → IsMadeAnew moment next Reopen events.Opened (record { vault = Some v; next_job = next }) (devices old f ps) (devices holds g ps)
+      opened-anew : provider_count v ≤ length ps → IsMadeAnew moment next Reopen events.Opened (record { vault = Some v; next_job = next }) (devices old f ps) (devices holds g ps)
       opened-anew enough = record {
         before = start;
         stands_before = stands-over rs rest next f ps old (untold-images old start old_is);
@@ -216,6 +218,7 @@ module _ (told : Option Cells) (rs : List Record) (is_read : IsRead told rs) (v 
 
 module _ (c left : Client) (left_is : left ≡ without_vault (client_next_job c)) (old new : Option Cells) (f g : ℕ) where
   module _ (moment : ℕ) (ps : List Provider) (none : is_some old ≡ false) (goes : Goes IsResynced old new) (never : f ≤ g) where
+    -- a reopening that fails, for what it read or by the disk, is an event of some closed state
     pub refused-anew : (why : StartFault) (result : Result Unit ReopenFault) → IsErrAnd result (λ e. e ≡ reopen_fault.NotOpened why) → (why ≡ start_fault.DiskFault → Rose f g) →
         UnlessBadJournal result (IsMadeAnew moment (client_next_job c) Reopen (reopen_outcome result) left (devices old f ps) (devices new g ps))
     refused-anew why result is rose =
@@ -224,6 +227,7 @@ module _ (c left : Client) (left_is : left ≡ without_vault (client_next_job c)
         (sym (err-is result (reopen_fault.NotOpened why) is))
         (fault-anew moment (client_next_job c) f g ps old new (is_some-none old none) (untold-goes IsResynced old new none goes) never why rose))
 
+    -- a reopening with too few providers is refused, as an event of some closed state
     pub few-are : (v : Vault) → WasOpened v old new g left.next_job → length ps < provider_count v →
         IsMadeAnew moment (client_next_job c) Reopen (events.Refused refusal.TooFewProviders) left (devices old f ps) (devices new g ps)
     few-are v was few =
@@ -231,6 +235,7 @@ module _ (c left : Client) (left_is : left ≡ without_vault (client_next_job c)
         subst (λ (x : Client). IsMadeAnew moment (client_next_job c) Reopen (events.Refused refusal.TooFewProviders) x (devices old f ps) (devices new g ps)) (sym left_is)
         (few-anew old all.0 all.1 v new g (client_next_job c) all.2 f ps moment old (is_some-none old none) (untold-goes IsResynced old new none goes) never few))
 
+    -- a reopening with enough providers opens, as an event of some closed state
     pub enough-are : (v : Vault) → WasOpened v old new g left.next_job → provider_count v ≤ length ps →
         IsMadeAnew moment (client_next_job c) Reopen events.Opened (record { vault = Some v; next_job = left.next_job }) (devices old f ps) (devices new g ps)
     enough-are v was enough =
@@ -238,11 +243,13 @@ module _ (c left : Client) (left_is : left ≡ without_vault (client_next_job c)
         subst (λ (x : Client). IsMadeAnew moment (client_next_job c) Reopen events.Opened (record { vault = Some v; next_job = x.next_job }) (devices old f ps) (devices new g ps)) (sym left_is)
         (opened-anew old all.0 all.1 v new g (client_next_job c) all.2 f ps moment old (is_some-none old none) (untold-goes IsResynced old new none goes) never enough))
 
+    -- a client that holds no vault stands, with its devices, for some closed state
     pub left-standing : IsStanding left (devices new g ps)
     left-standing =
         subst (λ (x : Client). IsStanding x (devices new g ps)) (sym left_is)
         (closed-standing None (client_next_job c) g ps new refl (untold-goes IsResynced old new none goes))
 
+  -- a vault over enough providers stands for each state just opened over what was read, and there is one
   pub opens-over : (v : Vault) (handed : ℕ) → WasOpened v old new g left.next_job → provider_count v ≤ handed →
       OpensOver old (client_next_job c) handed (record { vault = Some v; next_job = left.next_job }) new g
   opens-over v handed was enough =
@@ -259,6 +266,7 @@ module _ (c left : Client) (left_is : left ≡ without_vault (client_next_job c)
 
 -- ---- inits
 
+-- an image of a disk as it was is one that a failed init may leave
 pub left-same : (s : Setup) (told : Option Cells) → IfSome told (λ cells. EachImage told (MayBeLeft s cells))
 left-same s None = tt
 left-same s (Some cells) = λ image is. inl is

@@ -23,12 +23,15 @@ use Rattle.hail_client.proofs.Fresh.{is-start, are-devices, untold-start, each-a
 use Rattle.hail_client.proofs.Settled.{firm-stands}
 use Rattle.hail_client.proofs.Standing.{start-stands}
 
+-- a disk that reads nothing is one before its first use
 pub fresh-is : IsFresh [] []
 fresh-is = record { firm = refl; stands = inl (refl, refl) }
 
+-- over the fresh devices there is a state before the first event
 pub fresh-start : IsStart (start_of fresh [])
 fresh-start = is-start fresh [] [] refl fresh-is
 
+-- the fresh devices are those of that state
 pub fresh-devices : AreDevices fresh (start_of fresh [])
 fresh-devices = are-devices fresh [] [] refl fresh-is
 
@@ -37,18 +40,23 @@ told-at zero j p is = absurd (let e : None ≡ Some p = is in cc)
 told-at (suc n) zero p is = (let e : Some empty_provider ≡ Some p = is in cc)
 told-at (suc n) (suc j) p is = told-at n j p is
 
+-- each of the fresh providers tells what it holds
 pub fresh-tell : TellAll fresh.providers
 fresh-tell j p is = subst (λ (x : Provider). IsSome x.held) (sym (told-at 4 j p is)) refl
 
+-- a closed client over the fresh devices stands for that state
 pub fresh-stands : ClientStands closed_client fresh (start_of fresh [])
 fresh-stands = start-stands fresh (start_of fresh []) fresh-start fresh-devices
 
+-- from there a run of one moment is reached, in which the closed client is asked for its files
 pub fresh-run : (m : Moment) × IsReached (start_of fresh []) (m ∷ []) closed_client fresh
 fresh-run = (record { event = Names; outcome = Closed; state = start_of fresh [] }, record { run = (tt, refl, tt); stands = fresh-stands })
 
+-- over devices of no known state there is a state before the first event, and they are its devices
 pub hidden-start : IsStart (start_of hidden []) × AreDevices hidden (start_of hidden [])
 hidden-start = untold-start hidden [] refl (inl refl)
 
+-- a closed client over such devices stands for that state
 pub hidden-stands : ClientStands closed_client hidden (start_of hidden [])
 hidden-stands = start-stands hidden (start_of hidden []) hidden-start.0 hidden-start.1
 
@@ -78,6 +86,7 @@ stored-rests = record {
 text-stands : StandsFor (text one_file) one_file
 text-stands = record { in_grammar = refl; gate = 0; rest = []; closed = omega arith; bytes_are = refl }
 
+-- a closed client over a disk with one file stands for the state at rest over its journal
 pub stored-stands : ClientStands closed_client stored stored_state
 stored-stands = record {
   devices = record {
@@ -90,5 +99,6 @@ stored-stands = record {
   next_job_is = refl;
 }
 
+-- in that state the file is kept
 pub stored-kept : IsKept stored_state (codes "notes.txt") notes
 stored-kept = record { in_effect = refl; with_doubt = λ d is. absurd (let e : None ≡ Some d = is in cc) }

@@ -23,6 +23,7 @@ fresh-reads : (bytes : List ℕ) (rs : List Record) → ((bytes ≡ []) × (rs �
 fresh-reads bytes rs (inl (empty, none)) = inr (none, (let e = ap length empty in omega (arith, e)))
 fresh-reads bytes rs (inr (s, one, stands)) = inl stands
 
+-- a disk before its first use stands for each state with its records, in area A
 pub fresh-stands : (cells : Cells) (rs : List Record) (w : State) → IsFresh cells rs → w.journal ≡ rs → w.area ≡ A → StandsForState (Some cells) w
 fresh-stands cells rs w fresh same area =
     subst (λ (c : Cells). StandsForState (Some c) w) (sym (none-loose 0 cells fresh.firm))
@@ -37,9 +38,11 @@ fresh-first bytes rs (inr (s, one, stands)) = inr (s, spelled (subst (λ (l : Li
     spelled : IsTrue (list_all is_in_grammar (SetUp s ∷ [])) → IsTrue (is_in_grammar (SetUp s))
     spelled all = grind (arith, all)
 
+-- over a disk before its first use there is a state before the first event
 pub is-start : (d : Devices) (cells : Cells) (rs : List Record) → d.holds ≡ Some cells → IsFresh cells rs → IsStart (start_of d rs)
 is-start d cells rs told fresh = record { records = fresh-first (reads cells) rs fresh.stands; journal = refl; first_area = refl; unswitched = refl; none_alone = refl; jobs = refl; first_job = refl; append = refl; doubt = refl; closed = refl; unbarred = refl }
 
+-- the provider of each place is the one handed in there
 pub each-at : (ps : List Provider) (j : ℕ) → j < length ps → slice_get ps j ≡ Some (provider_or_empty ps j)
 each-at [] j l = absurd (omega (arith, l))
 each-at (p ∷ ps) zero l = refl
@@ -51,6 +54,7 @@ start-tells [] tell j = refl
 start-tells (p ∷ ps) tell zero = tell zero p refl
 start-tells (p ∷ ps) tell (suc j) = start-tells ps (λ k q h. tell (suc k) q h) j
 
+-- devices with a disk before its first use are those of that state
 pub are-devices : (d : Devices) (cells : Cells) (rs : List Record) → d.holds ≡ Some cells → IsFresh cells rs → AreDevices d (start_of d rs)
 are-devices d cells rs told fresh = record {
   images = subst (λ (o : Option Cells). StandsForState o (start_of d rs)) (sym told) (fresh-stands cells rs (start_of d rs) fresh refl refl);

@@ -19,6 +19,7 @@ image-has w name file image kept (inl (inl stands)) = record { records = w.recor
 image-has w name file image kept (inl (inr empty)) = absurd (empty-has-none w.records name file empty.0 kept.in_effect)
 image-has w name file image kept (inr d) = record { records = d.doubt.entry ∷ w.records; stands = d.stands; has = kept.with_doubt d.doubt d.in_doubt }
 
+-- a file that is kept is in each image that a stop may leave of the disk
 pub images-have : (holds : Option Cells) (w : State) (name : List ℕ) (file : File) → IsSound 8 w → StandsForState holds w → IsKept w name file → EachImage holds (ImageHasFile name file)
 images-have None w name file sound stands kept = tt
 images-have (Some cells) w name file sound stands kept = λ image is.

@@ -34,10 +34,12 @@ module _ (c : Client) (v next : Vault) (number : ℕ) (turn : Turn) (old new : D
   opened : (w : State) → ClientStands c old w → Stands v old w
   opened w S = subst (λ (o : Option Vault). StandsBy o c.next_job old w) is S
 
+  -- a step of an open client's vault is a step of the machine's job
   pub step-of : number < 2 ^ 32 → (w : State) (moment : ℕ) → ClientStands c old w → ClientMakesStep w moment number (Some turn) (record { vault = Some next; next_job = c.next_job }) old new
   step-of spelled w moment S = (let M = makes w moment (opened w S) in
       record { makes = record { state = M.state; spelled = spelled; happens = M.happens; stands = M.stands }; beyond = M.beyond; torn = M.torn })
 
+  -- what a vault's job heard by its end is what the machine's job heard
   pub heard-of : (w : State) → ClientStands c old w → IfEnded turn (λ ended. ended.heard ≡ heard_by (job_of w.jobs number))
   heard-of w S = (makes w 0 (opened w S)).heard
 
@@ -46,6 +48,7 @@ closed-by : (o : Option Vault) (next : ℕ) (w : State) (d : Devices) → o ≡ 
 closed-by (Some v) next w d none S = absurd cc
 closed-by None next w d none S = S.closed
 
+-- a step of a client with no vault is one of the machine that changes nothing
 pub step-closed : (c : Client) (number : ℕ) (d : Devices) → c.vault ≡ None → number < 2 ^ 32 → (w : State) (moment : ℕ) → ClientStands c d w → ClientMakesStep w moment number None c d d
 step-closed c number d none spelled w moment S = record {
   makes = record {
@@ -63,5 +66,6 @@ names-by : (o : Option Vault) (next : ℕ) (w : State) (d : Devices) → StandsB
 names-by (Some v) next w d S = subst (λ b. Lists w b (events.Listed (table_of v).files) w) (sym S.core.is_open) (S.core.table.files, refl)
 names-by None next w d S = subst (λ b. Lists w b Closed w) (sym S.closed) refl
 
+-- the files that a client lists are those of the machine
 pub names : (w : State) (moment : ℕ) (c : Client) (d : Devices) (tables : Option Kept) → tables ≡ option_map table_of c.vault → ClientStands c d w → MakesEvent w moment Names (names_outcome tables) c d
 names w moment c d tables is S = record { state = w; spelled = tt; happens = subst (λ (t : Option Kept). Lists w w.is_open (names_outcome t) w) (sym is) (names-by c.vault c.next_job w d S); stands = S }

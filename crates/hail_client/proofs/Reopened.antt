@@ -86,6 +86,7 @@ module _ (w : State) (rs : List Record) (sound : IsSound 8 w) (whole : IsWholeJo
     just : (u : State) (ps : List Provider) → IsAtRest u → u.is_open ≡ true → u.records ≡ rs → u.next_job ≡ first → u.disk_faults ≡ faults → AreHanded ps u → Stands v (devices holds faults ps) u
     just u ps rest opens records next faults_are handed = stands u ps (record { at_rest = record { rest = rest; opened = opens; next = next }; records = records; faults_are = faults_are; handed = handed })
 
+    -- a vault opened over a whole journal stands for the machine's state once it is open
     pub stands-opened : (providers : ℕ → Provider) (ps : List Provider) → AreHanded ps (record (settled w rs) { providers = providers; handed = length ps }) → (setup_in (settled w rs)).n ≤ length ps →
         Stands v (devices holds faults ps) (opened w rs providers (length ps) faults)
     stands-opened providers ps handed enough =
@@ -170,6 +171,7 @@ module _ (w : State) (moment next : ℕ) (old : Cells) (f0 f1 : ℕ) (ps : List 
   free-read (inl short) = inr (refl, short-read old short)
   free-read (inr none) = inl (whole-read old [] none)
 
+  -- a start that fails, by the disk or by what it read, is a reopening that the machine refuses
   pub fault-event : (new : Option Cells) (why : StartFault) → Goes IsResynced (Some old) new → IsStartFault (journal_read old) why → (LiesInJournal why → new ≡ option_map synced (Some old)) → (why ≡ start_fault.DiskFault → Rose f0 f1) →
       MakesEvent w moment Reopen (events.Refused (start_refusal why)) (without_vault next) (devices new f1 ps)
   fault-event new start_fault.DiskFault goes is lies rose =
@@ -193,6 +195,7 @@ module _ (w : State) (moment next : ℕ) (old : Cells) (f0 f1 : ℕ) (ps : List 
     uses-as : provider_count v ≡ (setup_in (settled w rs)).n
     uses-as = count-is w rs sound whole_journal is_read.in_grammar kept is_read.some v new f1 next is_next stands
 
+    -- a start with too few providers is a reopening that the machine refuses
     pub few-event : length ps < provider_count v → MakesEvent w moment Reopen (events.Refused refusal.TooFewProviders) (without_vault next) (devices new f1 ps)
     few-event few =
         (let count = are.providers.count in
@@ -200,6 +203,7 @@ module _ (w : State) (moment next : ℕ) (old : Cells) (f0 f1 : ℕ) (ps : List 
         refused-at new refusal.TooFewProviders (record (settled w rs) { disk_faults = f1 }) (settled w rs, rereads w rs whole_journal kept, up w rs sound whole_journal is_read.in_grammar kept is_read.some, fewer, (f1, le, refl))
         (synced-images new (record (settled w rs) { disk_faults = f1 }) is_synced whole_journal.area whole) refl refl (λ j. refl) refl refl)
 
+    -- a start with enough providers is a reopening that the machine makes
     pub opened-event : provider_count v ≤ length ps → MakesEvent w moment Reopen events.Opened (record { vault = Some v; next_job = next }) (devices new f1 ps)
     opened-event enough =
         (let count = are.providers.count in

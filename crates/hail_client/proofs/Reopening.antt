@@ -38,6 +38,7 @@ WasOpened v old new faults first =
     (rs : List Record) × IsRead old rs × ((w : State) (providers : List Provider) → IsJustOpened w rs first faults providers → Stands v (devices new faults providers) w)
 
 module _ (w : State) (moment : ℕ) (c left : Client) where
+  -- a client's reopening that fails, by the disk or by what it read, is one that the machine refuses
   pub refused-event : (old new : Option Cells) (f g : ℕ) (ps : List Provider) (why : StartFault) (result : Result Unit ReopenFault) → IsSome old → left ≡ without_vault (client_next_job c) →
       IsErrAnd result (λ e. e ≡ reopen_fault.NotOpened why) → Goes IsResynced old new → IfSome old (λ cells. IsStartFault (journal_read cells) why) → (LiesInJournal why → new ≡ option_map synced old) →
       f ≤ g → (why ≡ start_fault.DiskFault → Rose f g) → ClientStands c (devices old f ps) w → MakesEvent w moment Reopen (reopen_outcome result) left (devices new g ps)
@@ -48,6 +49,7 @@ module _ (w : State) (moment : ℕ) (c left : Client) where
       (reopened.fault-event w moment (client_next_job c) old f g ps (sound-of c.vault c.next_job (devices (Some old) f ps) w S) (devices-of c.vault c.next_job (devices (Some old) f ps) w S)
       (next-of c.vault c.next_job (devices (Some old) f ps) w S) never new why goes cause lies rose))
 
+  -- a client's reopening with too few providers is one that the machine refuses
   pub few-event : (old new : Option Cells) (f g : ℕ) (ps : List Provider) (v : Vault) → IsSome old → left ≡ without_vault (client_next_job c) → WasOpened v old new g left.next_job → new ≡ option_map synced old →
       f ≤ g → length ps < provider_count v → ClientStands c (devices old f ps) w → MakesEvent w moment Reopen (Refused TooFewProviders) left (devices new g ps)
   few-event None new f g ps v told left_is opened is never few S = absurd (false≢true told)
@@ -57,6 +59,7 @@ module _ (w : State) (moment : ℕ) (c left : Client) where
       (reopened.few-event w moment (client_next_job c) old f g ps (sound-of c.vault c.next_job (devices (Some old) f ps) w S) (devices-of c.vault c.next_job (devices (Some old) f ps) w S)
       (next-of c.vault c.next_job (devices (Some old) f ps) w S) never new all.0 all.1 is v all.2 few))
 
+  -- a client's reopening with enough providers is one that the machine makes
   pub opened-event : (old new : Option Cells) (f g : ℕ) (ps : List Provider) (v : Vault) → IsSome old → left ≡ without_vault (client_next_job c) → WasOpened v old new g left.next_job → new ≡ option_map synced old →
       f ≤ g → provider_count v ≤ length ps → ClientStands c (devices old f ps) w → MakesEvent w moment Reopen Opened (record { vault = Some v; next_job = left.next_job }) (devices new g ps)
   opened-event None new f g ps v told left_is opened is never enough S = absurd (false≢true told)

@@ -65,7 +65,7 @@ module _ (holds : Option Cells) (faults : ℕ) (ps qs : List Provider) (w : Stat
         flight = S.flight;
       }
 
-  pub stands-after : (o : Option Vault) (next : ℕ) → StandsBy o next (devices holds faults ps) w → AreHanded qs after → IsSound 8 after → StandsBy o next (devices holds faults qs) after
+  stands-after : (o : Option Vault) (next : ℕ) → StandsBy o next (devices holds faults ps) w → AreHanded qs after → IsSound 8 after → StandsBy o next (devices holds faults qs) after
   stands-after (Some v) next S handed sound = stands-open v S handed sound
   stands-after None next S handed sound = record {
     devices = record { images = same-images holds w after refl refl refl refl S.devices.images; faults = S.devices.faults; providers = handed };

@@ -25,6 +25,7 @@ more (Some turn.NoSuchJob) e = absurd (false≢true e)
 more (Some turn.MustReopen) e = absurd (false≢true e)
 more None e = absurd (false≢true e)
 
+-- a turn that does not go on is not told as one that does
 pub over-at : (t : Option Turn) → is_more t ≡ false → t ≢ Some turn.More
 over-at t e same = false≢true (sym e ∙ ap is_more same)
 
@@ -35,6 +36,7 @@ pub record IsOnWay (start : State) (ms : List Moment) (job : ℕ) (c : Client) (
   pub reached : IsReached start (steps ++ ms) c d
 
 module _ (start : State) (ms : List Moment) (job : ℕ) where
+  -- a job of which no step was made yet is on its way behind the run
   pub no-steps : (c : Client) (d : Devices) → IsReached start ms c d → IsOnWay start ms job c d
   no-steps c d reached = record { steps = []; going = tt; reached = reached }
 
@@ -49,6 +51,7 @@ module _ (start : State) (ms : List Moment) (job : ℕ) where
       reached = record { run = (M.spelled, M.happens, way.reached.run); stands = M.stands };
     }
 
+    -- with a step that goes on, the job is on its way still
     pub one-more : (t : Option Turn) → is_more t ≡ true → MakesEvent here (length (way.steps ++ ms)) (Step job) (step_outcome t) next new → IsOnWay start ms job next new
     one-more t goes M = one-step (subst (λ (x : Option Turn). MakesEvent here (length (way.steps ++ ms)) (Step job) (step_outcome x) next new) (more t goes) M)
 
@@ -61,6 +64,7 @@ module _ (start : State) (ms : List Moment) (job : ℕ) where
     goes-on (Some turn.MustReopen) e = absurd cc
     goes-on None e = absurd cc
 
+    -- with a step that does not go on, the job has run to its end, and what it heard is told
     pub at-end : (t : Option Turn) → t ≢ Some turn.More → MakesEvent here (length (way.steps ++ ms)) (Step job) (step_outcome t) next new →
         IfSome t (λ t. IfEnded t (λ ended. ended.heard ≡ heard_by (job_of here.jobs job))) → RunsJobOn start ms job t next new
     at-end t over M heard = record {

@@ -65,6 +65,7 @@ AreLeft w rs js = ((rs ≡ w.records) × (js ≡ w.journal))
 abbrev pub left_with : State → List Record → List Record → State
 left_with w rs js = record (reread w w.journal w.area) { doubt = None; records = rs; journal = js }
 
+-- to give up the vault over what a disk may hold of the record in doubt is to read that disk again
 pub left-rereads : (w : State) (rs js : List Record) → AreLeft w rs js → Rereads w (left_with w rs js)
 left-rereads w rs js left = (w.journal, w.area, inl (refl, refl), by left)
   where
@@ -72,6 +73,7 @@ left-rereads w rs js left = (w.journal, w.area, inl (refl, refl), by left)
     by (inl e) = inl (λ i. left_with w (e.0 i) (e.1 i))
     by (inr (d, in_doubt, same, held)) = inr (d, in_doubt, λ i. left_with w (same i) (held i))
 
+-- what is so left of a sound state is sound
 pub left-sound : (w : State) (rs js : List Record) → IsSound 8 w → AreLeft w rs js → IsSound 8 (left_with w rs js)
 left-sound w rs js sound left = events-sound 8 0 w sound (omega arith, omega arith) (Stop []) Stopped (left_with w rs js) refl (left-rereads w rs js left)
 
@@ -81,6 +83,7 @@ left-sound w rs js sound left = events-sound 8 0 w sound (omega arith, omega ari
 abbrev pub AreKept : State → List Record → Type 0
 AreKept w rs = (rs ≡ w.records) ⊎ ((d : Doubt) × (w.doubt ≡ Some d) × (rs ≡ d.entry ∷ w.records))
 
+-- a journal that holds the whole history leaves just the records that it reads
 pub kept-left : (w : State) (rs : List Record) → IsWholeJournal w → AreKept w rs → AreLeft w rs rs
 kept-left w rs whole (inl e) = inl (e, e ∙ sym whole.journal)
 kept-left w rs whole (inr (d, in_doubt, e)) = inr (d, in_doubt, e, e ∙ ap (λ (l : List Record). d.entry ∷ l) (sym whole.journal))
@@ -89,12 +92,15 @@ kept-left w rs whole (inr (d, in_doubt, e)) = inr (d, in_doubt, e, e ∙ ap (λ 
 abbrev pub settled : State → List Record → State
 settled w rs = left_with w rs rs
 
+-- a journal that holds the whole history holds it still once nothing is in doubt
 pub settled-whole : (w : State) (rs : List Record) → IsWholeJournal w → IsWholeJournal (settled w rs)
 settled-whole w rs whole = record { journal = refl; area = whole.area; unswitched = refl }
 
+-- a whole journal that is read again settles the record in doubt
 pub rereads : (w : State) (rs : List Record) → IsWholeJournal w → AreKept w rs → Rereads w (settled w rs)
 rereads w rs whole kept = left-rereads w rs rs (kept-left w rs whole kept)
 
+-- a sound state with a whole journal is sound once nothing is in doubt
 pub settled-sound : (w : State) (rs : List Record) → IsSound 8 w → IsWholeJournal w → AreKept w rs → IsSound 8 (settled w rs)
 settled-sound w rs sound whole kept = left-sound w rs rs sound (kept-left w rs whole kept)
 
@@ -112,6 +118,7 @@ read-kept w bytes rs is read =
 pub kept-accepted : (w : State) (rs : List Record) → IsSound 8 w → IsWholeJournal w → AreKept w rs → AreAccepted rs
 kept-accepted w rs sound whole kept = (settled-sound w rs sound whole kept).accepted
 
+-- the records that a whole journal reads fit into the largest journal
 pub kept-fits : (w : State) (rs : List Record) → IsSound 8 w → IsWholeJournal w → AreKept w rs → text_size rs ≤ largest_journal
 kept-fits w rs sound whole kept = (let a = (settled-sound w rs sound whole kept).room in let e = whole-end (settled w rs) (settled-whole w rs whole) in omega (arith, a, e))
 
@@ -119,5 +126,6 @@ kept-fits w rs sound whole kept = (let a = (settled-sound w rs sound whole kept)
 pub short-read : (cells : Cells) → length (journal_read cells) ≤ 9 → length (reads cells) ≤ 9
 short-read cells short = (let e = length-take largest_journal (reads cells) in omega (arith, e, short))
 
+-- records that the largest journal's part of a disk stands for are those that the disk reads
 pub whole-read : (cells : Cells) (rs : List Record) → StandsFor (journal_read cells) rs → StandsFor (reads cells) rs
 whole-read cells rs is = stands-front largest_journal (reads cells) rs is

@@ -13,18 +13,22 @@ use Rattle.hail_client.specs.Client.{next_job_by, uses_by}
 use Rattle.hail_client.specs.Stands.{StandsClosed, StandsBy}
 use Rattle.hail_client.proofs.Settled.{same-images}
 
+-- devices that stand for a state are those of that state
 pub devices-of : (o : Option Vault) (next : ℕ) (d : Devices) (w : State) → StandsBy o next d w → AreDevices d w
 devices-of (Some v) next d w S = S.devices
 devices-of None next d w S = S.devices
 
+-- client and devices stand for sound states only
 pub sound-of : (o : Option Vault) (next : ℕ) (d : Devices) (w : State) → StandsBy o next d w → IsSound 8 w
 sound-of (Some v) next d w S = S.core.sound
 sound-of None next d w S = S.sound
 
+-- the next job's number of a client is that of the state it stands for
 pub next-of : (o : Option Vault) (next : ℕ) (d : Devices) (w : State) → StandsBy o next d w → w.next_job ≡ next_job_by o next
 next-of (Some v) next d w S = sym S.core.next_job
 next-of None next d w S = S.next_job_is
 
+-- there are as many providers as the vault of a client uses
 pub enough-of : (o : Option Vault) (next : ℕ) (d : Devices) (w : State) → StandsBy o next d w → uses_by o ≤ length d.providers
 enough-of (Some v) next d w S =
     (let a = S.core.sound.handed S.core.is_open in

@@ -19,7 +19,7 @@ use Rattle.vault_open.proofs.FirstVersion.{shows-first, version-shown}
 use Rattle.hail_client.proofs.Settled.{AreLeft, left_with, left-rereads, left-sound, kept-left, settled, image-kept, firm-stands}
 
 -- the vault is given up over devices that stand for the state with these records and nothing in doubt
-pub closed-stands : (w : State) (rs js : List Record) (told : Option Cells) (faults next : ℕ) (ps : List Provider) → IsSound 8 w → AreLeft w rs js → w.next_job ≡ next → w.disk_faults ≡ faults →
+closed-stands : (w : State) (rs js : List Record) (told : Option Cells) (faults next : ℕ) (ps : List Provider) → IsSound 8 w → AreLeft w rs js → w.next_job ≡ next → w.disk_faults ≡ faults →
     (ws : AreDevices (devices told faults ps) (left_with w rs js)) → StandsClosed next (devices told faults ps) (left_with w rs js)
 closed-stands w rs js told faults next ps sound left next_is faults_are are = record { devices = are; sound = left-sound w rs js sound left; closed = refl; next_job_is = next_is }
 
@@ -45,6 +45,7 @@ stopped-left w (Some old) (Some new) sound (image, is, new_is) stands =
       stands = subst (λ (c : Cells). StandsForState (Some c) (settled w k.0)) (sym new_is) (firm-stands image (settled w k.0) whole.area k.2);
     }
 
+-- a stop of client and disk is one of the machine: the client is left without its vault
 pub stops : (w : State) (moment : ℕ) (picks : List ℕ) (c next : Client) (old new : Option Cells) (f g : ℕ) (ps : List Provider) → AreBytes picks → next ≡ record { vault = None; next_job = client_next_job c } →
     Goes Stopped old new → g ≡ f → ClientStands c (devices old f ps) w → MakesEvent w moment (Stop picks) events.Stopped next (devices new g ps)
 stops w moment picks c next old new f g ps spelled next_is goes same S =

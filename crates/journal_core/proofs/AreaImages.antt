@@ -19,7 +19,7 @@ front_same (suc n) (c ∷ cells) (b ∷ image) firm is =
     (λ i. sym same i ∷ more i))
 
 -- and on those from an offset on
-pub part_same : (at n : ℕ) (cells : Cells) (image : List ℕ) → AreFirm at n cells → IsImage cells image → take n (drop at (reads cells)) ≡ take n (drop at image)
+part_same : (at n : ℕ) (cells : Cells) (image : List ℕ) → AreFirm at n cells → IsImage cells image → take n (drop at (reads cells)) ≡ take n (drop at image)
 part_same zero n cells image firm is = front_same n cells image firm is
 part_same (suc at) n [] [] firm is = refl
 part_same (suc at) n [] (b ∷ image) firm is = absurd is

@@ -8,7 +8,7 @@ use Rattle.device_defs.specs.Disks.{spliced, written, Torn}
 use Rattle.device_defs.proofs.Lasting.{reads-firm}
 use Rattle.device_defs.proofs.WriteLaws.{reads-loose}
 
-pub spliced-behind : {X : Type 0} (front new rest : List X) (at : ℕ) → at ≡ length front → spliced at new (front ++ rest) ≡ front ++ (new ++ drop (length new) rest)
+spliced-behind : {X : Type 0} (front new rest : List X) (at : ℕ) → at ≡ length front → spliced at new (front ++ rest) ≡ front ++ (new ++ drop (length new) rest)
 spliced-behind front new rest at is =
     ap (λ (l : List _). l ++ (new ++ drop (at + length new) (front ++ rest))) (take_at front rest at (sym is))
     ∙ ap (λ (k : ℕ). front ++ (new ++ drop (k + length new) (front ++ rest))) is
@@ -18,6 +18,7 @@ module _ (front rest : Cells) (at : ℕ) (is : at ≡ length front) where
   start : min at (length (front ++ rest)) ≡ length front
   start = omega (arith, length-append front rest, is)
 
+  -- a write behind a front leaves the front, then the new bytes, loose, then what lies behind them
   pub written-behind : (bytes : List ℕ) → written at bytes (front ++ rest) ≡ front ++ (loose bytes ++ drop (length bytes) rest)
   written-behind bytes =
       let none : at - length (front ++ rest) ≡ 0 = omega (arith, length-append front rest, is) in
@@ -25,6 +26,7 @@ module _ (front rest : Cells) (at : ℕ) (is : at ≡ length front) where
       ∙ spliced-behind front (loose bytes) rest (min at (length (front ++ rest))) start
       ∙ ap (λ (k : ℕ). front ++ (loose bytes ++ drop k rest)) (length-map bytes (λ b. (b, true)))
 
+  -- a torn write behind a front leaves the front as it was
   pub torn-behind : (n : ℕ) (new : Cells) → Torn at n (front ++ rest) new → (after : Cells) × (new ≡ front ++ after)
   torn-behind n new torn = (loose torn.bytes ++ drop (length (loose torn.bytes)) rest, torn.held ∙ spliced-behind front (loose torn.bytes) rest _ start)
 
@@ -33,6 +35,7 @@ one_byte [] rest c is = absurd (omega arith)
 one_byte (x ∷ []) rest c is = (x, refl)
 one_byte (x ∷ y ∷ bytes) rest c is = absurd (omega arith)
 
+-- a torn write of one byte leaves a loose byte there, and all around it as it was
 pub torn_gate : (front rest : Cells) (c : ℕ × Bool) (at : ℕ) (new : Cells) → at ≡ length front → Torn at 1 (front ++ (c ∷ rest)) new → (x : ℕ) × (new ≡ front ++ ((x, true) ∷ rest))
 torn_gate front rest c at new is torn =
     let from = start front (c ∷ rest) at is in
@@ -44,12 +47,15 @@ torn_gate front rest c at new is torn =
 abbrev pub settled : Cells → Cells
 settled cells = firm (reads cells)
 
+-- a sync settles two lists of cells in a row one by one
 pub settled-append : (a b : Cells) → settled (a ++ b) ≡ settled a ++ settled b
 settled-append a b = ap firm (map-append (λ c. c.0) a b) ∙ map-append (λ b. (b, false)) (reads a) (reads b)
 
+-- a sync changes nothing that is firm
 pub settled-firm : (bytes : List ℕ) → settled (firm bytes) ≡ firm bytes
 settled-firm bytes = ap firm (reads-firm bytes)
 
+-- a sync makes loose bytes firm
 pub settled-loose : (bytes : List ℕ) → settled (loose bytes) ≡ firm bytes
 settled-loose bytes = ap firm (reads-loose bytes)
 

@@ -13,7 +13,7 @@ use Rattle.journal_core.specs.Moves.{IsClosed, IsInDoubt, IsAfterMoves, IsGivenU
 use Rattle.journal_core.proofs.CellLemmas.{IsImage-firm}
 
 -- what holds of the cells that a disk tells
-pub IfSome-still : (P Q : Cells → Type 0) → ((cells : Cells) → P cells → Q cells) → (told : Option Cells) → IfSome told P → IfSome told Q
+IfSome-still : (P Q : Cells → Type 0) → ((cells : Cells) → P cells → Q cells) → (told : Option Cells) → IfSome told P → IfSome told Q
 IfSome-still P Q step None held = tt
 IfSome-still P Q step (Some cells) held = step cells held
 
@@ -28,6 +28,7 @@ module _ (rs : List Record) (r : Record) (all : IsTrue (list_all is_in_grammar r
   abbrev body : List ℕ
   body = spelling r ++ (0 ∷ [])
 
+  -- records of the grammar and one more are records of the grammar
   pub both : IsTrue (list_all is_in_grammar (r ∷ rs))
   both = λ i. one i && all i
 
@@ -54,25 +55,26 @@ module _ (rs : List Record) (r : Record) (all : IsTrue (list_all is_in_grammar r
       behind ([], is_image, none) = absurd none
       behind (g ∷ tail, is_image, some) = (g, tail, is_image, some.0, some.1)
 
+  -- behind a closed gate, each image stands for the records before it
   pub closed_images : (cells : Cells) → IsClosed front cells → (image : List ℕ) → IsImage cells image → StandsFor image rs
   closed_images cells (gate, rest, shut, is) image of =
       let s = split (gate, false) rest image (subst (λ (c : Cells). IsImage c image) is of) in
       without s.0 s.1 image (λ opened. shut (sym (s.3 refl) ∙ opened)) s.2
 
-  pub doubt_images : (cells : Cells) → IsInDoubt front body cells → (image : List ℕ) → IsImage cells image → StandsFor image rs ⊎ StandsFor image (r ∷ rs)
+  doubt_images : (cells : Cells) → IsInDoubt front body cells → (image : List ℕ) → IsImage cells image → StandsFor image rs ⊎ StandsFor image (r ∷ rs)
   doubt_images cells (gate, rest, is) image of =
       let s = split (gate, true) (firm body ++ rest) image (subst (λ (c : Cells). IsImage c image) is of) in
       let behind = IsImage-firm body rest s.1 s.4 in
       let whole : image ≡ front ++ (s.0 ∷ (body ++ behind.0)) = s.2 ∙ ap (λ (l : List ℕ). front ++ (s.0 ∷ l)) behind.1 in
       elim (cases_eq s.0 1) [ inl opened ↦ inr (with_entry s.0 behind.0 image opened whole) | inr shut ↦ inl (without s.0 (body ++ behind.0) image shut whole) ]
 
-  pub ended_images : (cells : Cells) → IsAfterMoves 4 front body cells → (image : List ℕ) → IsImage cells image → StandsFor image (r ∷ rs)
+  ended_images : (cells : Cells) → IsAfterMoves 4 front body cells → (image : List ℕ) → IsImage cells image → StandsFor image (r ∷ rs)
   ended_images cells (rest, is) image of =
       let s = split (1, false) (firm body ++ rest) image (subst (λ (c : Cells). IsImage c image) is of) in
       let behind = IsImage-firm body rest s.1 s.4 in
       with_entry s.0 behind.0 image (s.3 refl) (s.2 ∙ ap (λ (l : List ℕ). front ++ (s.0 ∷ l)) behind.1)
 
-  pub is_closed_next : (cells : Cells) → IsAfterMoves 4 front body cells → IsClosed (before_gate (r ∷ rs)) cells
+  is_closed_next : (cells : Cells) → IsAfterMoves 4 front body cells → IsClosed (before_gate (r ∷ rs)) cells
   is_closed_next cells (rest, is) =
       let inner : firm body ++ rest ≡ firm (spelling r) ++ ((0, false) ∷ rest) = ap (λ (l : Cells). l ++ rest) (map-append (λ b. (b, false)) (spelling r) (0 ∷ [])) ∙ append_assoc (firm (spelling r)) ((0, false) ∷ []) rest in
       let outer : firm (before_gate (r ∷ rs)) ≡ firm front ++ ((1, false) ∷ firm (spelling r)) = map-append (λ b. (b, false)) front (1 ∷ spelling r) in
@@ -111,24 +113,30 @@ module _ (rs : List Record) (r : Record) (all : IsTrue (list_all is_in_grammar r
   Either cells = (image : List ℕ) → IsImage cells image → StandsFor image rs ⊎ StandsFor image (r ∷ rs)
 
   module _ (b : List ℕ) (told : Option Cells) (body_is : b ≡ body) where
+    -- up to the third move of an append, each image stands for the records before it
     pub before_after : (moves : ℕ) → moves < 3 → IfSome told (IsAfterMoves moves front b) → AllStandFor rs told
     before_after moves few = IfSome-still (IsAfterMoves moves front b) Old (λ cells held. old_after moves cells few (subst (λ (x : List ℕ). IsAfterMoves moves front x cells) body_is held)) told
 
+    -- all through an append, each image stands for the records before it, or for these with its own
     pub between_after : (moves : ℕ) → IfSome told (IsAfterMoves moves front b) → MayStandFor rs r told
     between_after moves = IfSome-still (IsAfterMoves moves front b) Either (λ cells held. any_after moves cells (subst (λ (x : List ℕ). IsAfterMoves moves front x cells) body_is held)) told
 
+    -- once an append is done, each image stands for the records with its own
     pub after_after : (moves : ℕ) → moves ≡ 4 → IfSome told (IsAfterMoves moves front b) → AllStandFor (r ∷ rs) told
     after_after moves is_four held =
         IfSome-still (IsAfterMoves 4 front b) (λ cells. (image : List ℕ) → IsImage cells image → StandsFor image (r ∷ rs)) (λ cells held. ended_images cells (subst (λ (x : List ℕ). IsAfterMoves 4 front x cells) body_is held)) told
         (subst (λ (m : ℕ). IfSome told (IsAfterMoves m front b)) is_four held)
 
+    -- once an append is done, a closed gate stands behind its record
     pub closed_after : (moves : ℕ) → moves ≡ 4 → IfSome told (IsAfterMoves moves front b) → IfSome told (IsClosed (before_gate (r ∷ rs)))
     closed_after moves is_four held =
         IfSome-still (IsAfterMoves 4 front b) (IsClosed (before_gate (r ∷ rs))) (λ cells held. is_closed_next cells (subst (λ (x : List ℕ). IsAfterMoves 4 front x cells) body_is held)) told
         (subst (λ (m : ℕ). IfSome told (IsAfterMoves m front b)) is_four held)
 
+    -- an append given up before its gate leaves images that stand for the records before it
     pub before_given_up : (moves : ℕ) → moves < 2 → IfSome told (IsGivenUp moves front b) → AllStandFor rs told
     before_given_up moves few = IfSome-still (IsGivenUp moves front b) Old (λ cells held. old_given_up moves cells few (subst (λ (x : List ℕ). IsGivenUp moves front x cells) body_is held)) told
 
+    -- an append given up leaves images that stand for the records before it, or for these with its own
     pub between_given_up : (moves : ℕ) → IfSome told (IsGivenUp moves front b) → MayStandFor rs r told
     between_given_up moves = IfSome-still (IsGivenUp moves front b) Either (λ cells held. any_given_up moves cells (subst (λ (x : List ℕ). IsGivenUp moves front x cells) body_is held)) told

@@ -27,6 +27,7 @@ module _ (bytes : List ℕ) (rs : List Entry) (gate : ℕ) (is : IsReadTo bytes 
     split : bytes ≡ before_gate rs ++ (get_or bytes gate 0 ∷ drop (gate + 1) bytes)
     split = sym (take-append-drop gate bytes) ∙ ap (λ (l : List ℕ). take gate bytes ++ l) (drop_more bytes gate 0 inside) ∙ ap (λ (l : List ℕ). l ++ (get_or bytes gate 0 ∷ drop (gate + 1) bytes)) is.so_far
 
+    -- bytes that were read as records up to a gate which is closed stand for these records
     pub StandsFor-at : get_or bytes gate 0 ≢ 1 → StandsFor bytes rs
     StandsFor-at shut = record { in_grammar = is.in_grammar; gate = get_or bytes gate 0; rest = drop (gate + 1) bytes; closed = shut; bytes_are = split }
 
@@ -49,7 +50,7 @@ module _ (bytes : List ℕ) (rs : List Entry) (gate : ℕ) (is : IsReadTo bytes 
     }
 
 -- where the records stop, the bytes are bad
-pub stops-bad : (bytes : List ℕ) (rs : List Entry) (at : ℕ) → StopsAt bytes rs at → IsBadAt bytes at
+stops-bad : (bytes : List ℕ) (rs : List Entry) (at : ℕ) → StopsAt bytes rs at → IsBadAt bytes at
 stops-bad bytes rs at (inl end) = inr (inl end.0)
 stops-bad bytes rs at (inr break) = inr (inr break.0)
 

@@ -37,9 +37,11 @@ good-reverse (r ∷ rs) p =
 abbrev pub Good : List Record → Type 0
 Good rs = list_all is_in_grammar rs ≡ true
 
+-- the last of good records is in the grammar
 pub good-head : (r : Record) (rs : List Record) → Good (r ∷ rs) → is_in_grammar r ≡ true
 good-head r rs p = grind (arith, p)
 
+-- good records without their last are good
 pub good-tail : (r : Record) (rs : List Record) → Good (r ∷ rs) → Good rs
 good-tail r rs p = grind (arith, p)
 
@@ -112,6 +114,7 @@ cancel a b x y e = append_cancel_left magic _ _ (sym (behind a x) ∙ e ∙ behi
 cancel_end : (a b : List Record) (y : List ℕ) → before_gate a ≡ before_gate b ++ y → entries (reverse a) ≡ entries (reverse b) ++ y
 cancel_end a b y e = append_cancel_left magic _ _ (sym (in_order a) ∙ e ∙ behind b y)
 
+-- bytes stand for one list of records at most
 pub one_meaning : (bytes : List ℕ) (a b : List Record) → StandsFor bytes a → StandsFor bytes b → a ≡ b
 one_meaning bytes a b for_a for_b =
     let same = same_entries (reverse a) (reverse b) for_a.gate for_b.gate for_a.rest for_b.rest (good-reverse a for_a.in_grammar) (good-reverse b for_b.in_grammar) for_a.closed for_b.closed
@@ -121,6 +124,7 @@ one_meaning bytes a b for_a for_b =
 begins : (rs : List Record) (x : List ℕ) → take 8 (before_gate rs ++ x) ≡ magic
 begins rs x = ap (take 8) (behind rs x)
 
+-- bytes in which a bad record stands at some place stand for no records
 pub bad_is_none : (bytes : List ℕ) (at : ℕ) (b : List Record) → IsBadAt bytes at → StandsFor bytes b → ⊥
 bad_is_none bytes at b (inl start) for_b = start.0 (ap (take 8) for_b.bytes_are ∙ begins b (for_b.gate ∷ for_b.rest))
 bad_is_none bytes at b (inr (inl ends)) for_b =
@@ -147,6 +151,7 @@ breaks_once bytes at other a b =
     (cancel a.records b.records (1 ∷ a.rest) (1 ∷ b.rest) (sym a.bytes_are ∙ b.bytes_are)) in
     omega (arith, a.place, b.place, same, ap length (in_order a.records), ap length (in_order b.records), length-append magic (entries (reverse a.records)), length-append magic (entries (reverse b.records)))
 
+-- a bad record stands at one place at most
 pub one_place : (bytes : List ℕ) (at other : ℕ) → IsBadAt bytes at → IsBadAt bytes other → at ≡ other
 one_place bytes at other (inl a) (inl b) = a.1 ∙ sym b.1
 one_place bytes at other (inl a) (inr (inl b)) = absurd (a.0 (begins_end bytes other b))
@@ -158,6 +163,7 @@ one_place bytes at other (inr (inr a)) (inl b) = absurd (b.0 (begins_break bytes
 one_place bytes at other (inr (inr a)) (inr (inl b)) = absurd (not_both bytes other at b a)
 one_place bytes at other (inr (inr a)) (inr (inr b)) = breaks_once bytes at other a b
 
+-- bytes that stand for records have a closed gate behind them
 pub read_is_closed : (bytes : List ℕ) (rs : List Record) → StandsFor bytes rs → IsClosed (before_gate rs) (firm bytes)
 read_is_closed bytes rs is =
     (is.gate, firm is.rest, is.closed, ap firm is.bytes_are ∙ map-append (λ b. (b, false)) (before_gate rs) (is.gate ∷ is.rest))

@@ -114,6 +114,7 @@ module _ (s : Setup) (job : Job) where
       (moves_first P moves_repair (End ∷ []) (tt, tt))
   by_kind UpgradeJob = moves_first (IsAllowed s.n UpgradeJob) moves_upgrade (End ∷ []) (tt, tt)
 
+  -- each action of a job is one that its kind has, of a provider that there is
   pub allowed : Each (IsAllowed s.n job.kind) (actions_of s job)
   unfolding actions_of
   allowed = by_kind job.kind

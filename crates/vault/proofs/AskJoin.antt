@@ -162,7 +162,7 @@ core_job s (c ∷ cs) (x ∷ js) k j are runs = elim (cases_Bool (x.number == k)
 -- ---- an ask of an audit
 
 -- an audit asks behind its first append
-pub asks_late : (s : Setup) (job : Job) (k o r : ℕ) (asks : List Action) → slice_get (append_actions ++ asks) job.place ≡ Some (Ask k o r) → 4 ≤ job.place
+asks_late : (s : Setup) (job : Job) (k o r : ℕ) (asks : List Action) → slice_get (append_actions ++ asks) job.place ≡ Some (Ask k o r) → 4 ≤ job.place
 asks_late s job k o r asks is = by_place job.place is
   where
     by_place : (n : ℕ) → slice_get (append_actions ++ asks) n ≡ Some (Ask k o r) → 4 ≤ n

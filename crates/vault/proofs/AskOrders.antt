@@ -56,12 +56,14 @@ module _ (s : Setup) (some : 1 ≤ s.n) where
   skip-moves [] rest on = on
   skip-moves (x ∷ xs) rest on = on
 
+  -- an audit asks all providers in order, in each round of each of its files
   pub audit-order : (job : Job) → job.kind ≡ AuditJob → AsksOn s.n (rounds_in s job.pinned) 0 (actions_of s job)
   unfolding actions_of
   audit-order job is = rw is (skip-moves (rounds_in s job.pinned) (ask_actions s job ++ (append_actions ++ End ∷ [])) (files-on job.pinned (append_actions ++ End ∷ []) (refl, tt)))
 
 -- ---- how many asks
 
+-- an ask in front is one more ask that is left
 pub count-ask : (j o r : ℕ) (rest : List Action) → asks_left (Ask j o r ∷ rest) ≡ 1 + asks_left rest
 count-ask j o r rest = sum_by-append (λ a. cond (is_ask a) 1 0) (Ask j o r ∷ []) rest
 
@@ -100,6 +102,7 @@ module _ (s : Setup) where
       times : (a b n : ℕ) → a ≤ b → a * n ≤ b * n
       times a b n le = grind (arith, le)
 
+  -- an audit asks no more than each provider in each round of each file
   pub audit-count : (job : Job) → job.kind ≡ AuditJob → asks_left (actions_of s job) ≤ length job.pinned * (s.rounds * s.n)
   unfolding actions_of
   audit-count job is =

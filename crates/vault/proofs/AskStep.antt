@@ -35,10 +35,11 @@ use Rattle.vault.proofs.Asks.{entries_more, none_answered, answered_more, last_g
 use Rattle.vault.proofs.AskOrders.{count-ask}
 
 -- zeros, and nothing else
-pub all_zero : (xs : List ℕ) → list_all (λ count. count == 0) xs ≡ true → xs ≡ replicate (length xs) 0
+all_zero : (xs : List ℕ) → list_all (λ count. count == 0) xs ≡ true → xs ≡ replicate (length xs) 0
 all_zero [] e = refl
 all_zero (x ∷ xs) e = (let p = and_parts (x == 0) (list_all (λ count. count == 0) xs) e in λ i. eqb-true x 0 p.0 i ∷ all_zero xs p.1 i)
 
+-- so many zeros are all zero
 pub zero_all : (n : ℕ) → list_all (λ count. count == 0) (replicate n 0) ≡ true
 zero_all zero = refl
 zero_all (suc n) = zero_all n
@@ -51,7 +52,7 @@ pub record IsPut (s : Setup) (job : Job) (x : Round) (q : Question) : Type 0 whe
   pub round_is : q.round ≡ x.number
   pub n_is : q.file.shape.n ≡ s.n
 
-pub nothing_yet : (xs : List Round) (symbols : List (Option ℕ)) (given : List Given) → IsAsked xs 0 symbols given
+nothing_yet : (xs : List Round) (symbols : List (Option ℕ)) (given : List Given) → IsAsked xs 0 symbols given
 nothing_yet [] symbols given = tt
 nothing_yet (x ∷ xs) symbols given = none_answered x symbols given (sym (append-nil symbols))
 
@@ -90,6 +91,7 @@ module _ (s : Setup) (job : Job) (rising : Rattle.vault.proofs.Asks.Rising 0 0 (
     symbols_count : length m.heard.symbols.items ≡ length t.heard.symbols.items + 1
     symbols_count = ap length hears.heard.symbols ∙ length-append t.heard.symbols.items (symbol ∷ [])
 
+    -- with an answer that is not the last of its round, an audit is at the next provider
     pub audit_kept : (AsksOn s.n (x ∷ xs) (k + 1) tail) → IsAudit s m (advanced_with job (Answered k x.file.id x.number symbol)) tail
     audit_kept order = record {
       kind = is.kind;
@@ -118,6 +120,7 @@ module _ (s : Setup) (job : Job) (rising : Rattle.vault.proofs.Asks.Rising 0 0 (
         ∙ last_given x s.n m.heard.symbols.items (Answered k x.file.id x.number symbol ∷ job.given) (subst (λ (n : ℕ). HasAnswered x n m.heard.symbols.items (Answered k x.file.id x.number symbol ∷ job.given)) last heard_now))
         judged.judges))
 
+    -- with the last answer of its round, judged, an audit is at the next round
     pub audit_judged : k + 1 ≡ s.n → HasJudged s.master q m u → AsksOn s.n xs 0 tail → IsAudit s u (advanced_with job (Answered k x.file.id x.number symbol)) tail
     audit_judged last judged order =
         let h = judged.heard in
@@ -151,6 +154,7 @@ pub record IsNext (s : Setup) (t : AuditTask) (job : Job) (k o r : ℕ) (tail : 
   pub order : AsksOn s.n (rounds_after s.n x xs k) (asked_after s.n k) tail
   pub sums : JudgesEach s job over (empty_sums s) (sums_on t)
 
+-- the ask that an audit has next is of the round with which what is left of it begins
 pub next_round : (s : Setup) (t : AuditTask) (job : Job) (k o r : ℕ) (tail : List Action) → IsAudit s t job (Ask k o r ∷ tail) → IsNext s t job k o r tail
 next_round s t job k o r tail is = by_left is.left is.asked is.rounds is.order is.in_work
   where

@@ -87,6 +87,7 @@ last_given x n symbols given has =
     ∙ sym (gifts_give x.file.id x.number 0 has.now has.older)
     ∙ (λ i. map (answer_given ((sym has.given_is) i) x.file.id x.number) (range_with_len 0 (has.count i)))
 
+-- an audit has at least as many answers as its round in work
 pub enough_answers : (x : Round) (c : ℕ) (symbols : List (Option ℕ)) (given : List Given) → HasAnswered x c symbols given → c ≤ length symbols
 enough_answers x c symbols given has = omega (arith, ap length has.symbols_is, length-append has.before has.now, has.count)
 
@@ -121,6 +122,7 @@ behind : (o r : ℕ) (ys : List Round) (x : Round) (xs : List Round) → Rising 
 behind o r [] x xs h = h.0
 behind o r (y ∷ ys) x xs h = later o r y x h.0 (behind y.file.id (y.number + 1) ys x xs h.1)
 
+-- of rounds in order, none is the same as one before it
 pub apart : (o r : ℕ) (ys : List Round) (x : Round) (xs : List Round) → Rising o r (ys ++ x ∷ xs) → ApartFrom x.file.id x.number ys
 apart o r [] x xs h = tt
 apart o r (y ∷ ys) x xs h = (differ (behind y.file.id (y.number + 1) ys x xs h.1), apart y.file.id (y.number + 1) ys x xs h.1)
@@ -144,6 +146,7 @@ range_rising f zero a xs h = lower f.id a xs h
 range_rising f (suc m) a xs h = ((omega arith, λ e. omega arith), range_rising f m (a + 1) xs h)
 
 module _ (s : Setup) where
+  -- the rounds of files in ascending order are in order
   pub rounds_rise : (low : ℕ) (fs : List Pinned) → AreAscending low fs → Rising low 0 (rounds_in s fs)
   rounds_rise low [] h = tt
   rounds_rise low (f ∷ fs) h = from_low low f.id (rounds_in s (f ∷ fs)) h.0 (elim (cases_Bool (stripes_of (profiled s f.profile) (length f.bytes) == 0)) [
@@ -164,6 +167,7 @@ module _ (s : Setup) where
   map_round P f [] p some = tt
   map_round P f (r ∷ rs) p some = (record { file = p; rows = some }, map_round P f rs p some)
 
+  -- each round is of a file with rows for which holds what holds for all files
   pub each_round : (P : Pinned → Type 0) (fs : List Pinned) → Each P fs → Each (IsRound P) (rounds_in s fs)
   each_round P [] h = tt
   each_round P (f ∷ fs) h = each_append (IsRound P) (map (round_of f) (rounds_of (profiled s f.profile) (length f.bytes))) (rounds_in s fs) (elim (cases_Bool (stripes_of (profiled s f.profile) (length f.bytes) == 0)) [
@@ -179,6 +183,7 @@ module _ (s : Setup) where
   length_map f [] = refl
   length_map f (r ∷ rs) = ap suc (length_map f rs)
 
+  -- the rounds are no more than the setup's rounds for each file
   pub few_rounds : (fs : List Pinned) → length (rounds_in s fs) ≤ length fs * s.rounds
   few_rounds [] = omega arith
   few_rounds (f ∷ fs) =
@@ -211,6 +216,7 @@ lift : (A B : Pinned → Type 0) (fs : List Pinned) → ((f : Pinned) → A f �
 lift A B [] h a = tt
 lift A B (f ∷ fs) h a = (h f a.0, lift A B fs h a.1)
 
+-- a list contains each of its files
 pub contains_each : (fs : List Pinned) → Each (Contains fs) fs
 contains_each [] = tt
 contains_each (f ∷ fs) = (
@@ -218,12 +224,13 @@ contains_each (f ∷ fs) = (
   lift (Contains fs) (Contains (f ∷ fs)) fs (λ g c. (suc c.0, omega (arith, c.1), c.2)) (contains_each fs),
 )
 
+-- two facts of each file give a third of each
 pub each_both : (A B C : Pinned → Type 0) (fs : List Pinned) → ((f : Pinned) → A f → B f → C f) → Each A fs → Each B fs → Each C fs
 each_both A B C fs h a b = both A B C fs h a b
 
 -- ---- the sums
 
-pub both_false : (a b c : Bool) → (b ≡ true → c ≡ true → ⊥) → (a && b && c) ≡ false
+both_false : (a b c : Bool) → (b ≡ true → c ≡ true → ⊥) → (a && b && c) ≡ false
 both_false false b c h = refl
 both_false true false c h = refl
 both_false true true false h = refl
@@ -293,6 +300,7 @@ module _ (s : Setup) (job : Job) where
       (let r = all_within (k + 1) xs h.0 new (judged_within k x.file x.number old h.0 w h.1) h.2 in
       record { counts = each_at_most (k + 1 + length xs) (k + length (x ∷ xs)) new.counts (omega arith) r.counts; undecided = omega (arith, r.undecided) })
 
+  -- the sums of an audit count no more than its rounds
   pub sums_within : (xs : List Round) (sums : Sums) → JudgesEach s job xs (empty_sums s) sums → Within (length xs) sums
   sums_within xs sums h = subst (λ (m : ℕ). Within m sums) (let e : 0 + length xs ≡ length xs = omega arith in e) (all_within 0 xs (empty_sums s) sums (record { counts = each_zero s.n; undecided = omega arith }) h)
 
@@ -318,6 +326,7 @@ after_asks (a ∷ []) all zero j o r more e = refl
 after_asks (a ∷ b ∷ asks) all zero j o r more e =
     absurd (false≢true (subst IsAnAsk (let f : b ≡ WriteBody = cc in f) all.1.0))
 
+-- behind the last ask of an audit comes its last append
 pub behind_last : (asks : List Action) → Each IsAnAsk asks → (p j o r : ℕ) (more : List Action) → drop p (append_actions ++ (asks ++ (append_actions ++ End ∷ []))) ≡ Ask j o r ∷ WriteBody ∷ more
     → drop (suc p) (append_actions ++ (asks ++ (append_actions ++ End ∷ []))) ≡ append_actions ++ End ∷ []
 behind_last asks all zero j o r more e = absurd (let f : ⊥ = cc in f)

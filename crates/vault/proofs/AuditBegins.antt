@@ -29,9 +29,11 @@ started [] symbols is = tt
 started (x ∷ xs) symbols is = record { before = []; now = []; older = []; symbols_is = is; count = refl; given_is = refl }
 
 module _ (v : Desk) (d : Devices) (w : State) (moment : ℕ) (stands : DeskStands v d w) where
+  -- a table has no more files than may be in effect
   pub few-files : length v.core.table.files ≤ most_files
   few-files = (let e = ap (λ (fs : List File). length fs) stands.core.table.files in let f = few-files_of w.records stands.core.sound.accepted in omega (arith, e, f))
 
+  -- a new audit's task is at the first action of the machine's new job
   pub audit-task : (t : AuditTask) (asks : ℕ) → IsNewAudit v.core.next_job v.setup.n asks t → asks ≡ length v.core.table.files * (v.setup.rounds * v.setup.n)
       → IsAudit (setup_in w) t (new_job w moment AuditJob) (actions_left (setup_in w) (new_job w moment AuditJob))
   audit-task t asks new asks_are =

@@ -12,6 +12,7 @@ use Rattle.vault.specs.Desks.{IsShaped}
 use Rattle.vault.specs.Tasks.{IsBench}
 use Rattle.vault.specs.Benches.{IsBenchFor}
 
+-- a bench for a file of a vault is one of the setup in effect
 pub bench-is : (v : Desk) (s : Setup) (id size : ℕ) (bench : Bench) → IsShaped v → s ≡ with_master v.setup v.master.0 → IsBenchFor v id size bench → IsBench s bench
 bench-is v s id size bench shaped setup is =
     let n : bench.keys.file.shape.n ≡ s.n = ap (λ (x : Shape). x.n) is.shape ∙ shaped.n ∙ sym (ap (λ (x : Setup). x.n) setup) in

@@ -55,6 +55,7 @@ pub record CoreOf (s : Setup) (cs : List CoreJob) (k : ℕ) (j : Job) : Type 0 w
   pub runs : job_in cs k ≡ Some job
   pub is : IsJobOf s job j
 
+-- a job of the machine has its job in the core
 pub core_of : (s : Setup) (cs : List CoreJob) (js : List Job) (k : ℕ) (j : Job) → AllZip (IsJobOf s) cs js → job_of js k ≡ Some j → CoreOf s cs k j
 core_of s [] [] k j are runs = (let e : None ≡ Some j = runs in cc)
 core_of s [] (x ∷ js) k j are runs = absurd are

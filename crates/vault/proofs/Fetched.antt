@@ -32,7 +32,7 @@ use Rattle.vault.proofs.Ways.{actions_same}
 -- ---- lists of blocks
 
 -- one block more at the end
-pub present_more : (size : ℕ) (flags : List Bool) (symbols block : List ℕ) (flag : Bool) → length symbols ≡ length flags * size → length block ≡ size
+present_more : (size : ℕ) (flags : List Bool) (symbols block : List ℕ) (flag : Bool) → length symbols ≡ length flags * size → length block ≡ size
     → present_blocks size (flags ++ flag ∷ []) (symbols ++ block) ≡ present_blocks size flags symbols ++ given_of flag block ∷ []
 present_more size [] [] block flag all one = ap (λ (b : List ℕ). given_of flag b ∷ []) (take_all size block (omega (arith, one)))
 present_more size [] (x ∷ symbols) block flag all one = absurd (omega (arith, all))
@@ -65,7 +65,7 @@ entries_more job (g ∷ fetches) (b ∷ blocks) f block same =
 
 module _ (n k o s : ℕ) (tail : List Action) where
   -- what is fetched of the stripe before this fetch
-  pub fetched_before : (phase : Phase) (b : Blocks) (rows : List ℕ) (given : List Given) → GoesOn n phase (Fetch k o s ∷ tail) → IsInWork phase b rows given → HasFetched o s k b given
+  fetched_before : (phase : Phase) (b : Blocks) (rows : List ℕ) (given : List Given) → GoesOn n phase (Fetch k o s ∷ tail) → IsInWork phase b rows given → HasFetched o s k b given
   fetched_before Between b rows given order work = none b given order.0
     where
       none : (b : Blocks) (given : List Given) → k ≡ 0 → HasFetched o s k b given
@@ -100,20 +100,20 @@ module _ (n k o s : ℕ) (tail : List Action) where
       subst (λ (m : ℕ). HasFetched o s m b given) (sym order.1) (subst (λ (m : ℕ). HasFetched m s c b given) (sym order.2) (subst (λ (m : ℕ). HasFetched p m c b given) (sym order.3) work))
 
   -- and the order of what is left
-  pub order_after : (phase : Phase) → GoesOn n phase (Fetch k o s ∷ tail) → GoesOn n (Fetching o s (k + 1)) tail
+  order_after : (phase : Phase) → GoesOn n phase (Fetch k o s ∷ tail) → GoesOn n (Fetching o s (k + 1)) tail
   order_after Between order = subst (λ (m : ℕ). GoesOn n (Fetching o s m) tail) (let e : 1 ≡ k + 1 = omega (arith, order.0) in e) order.1
   order_after (Opened p t) order = subst (λ (m : ℕ). GoesOn n (Fetching o s m) tail) (let e : 1 ≡ k + 1 = omega (arith, order.0) in e) order.1
   order_after (Fetching p t c) order =
       subst (λ (m : ℕ). GoesOn n (Fetching o s (m + 1)) tail) (sym order.1) (subst (λ (m : ℕ). GoesOn n (Fetching m s (c + 1)) tail) (sym order.2) (subst (λ (m : ℕ). GoesOn n (Fetching p m (c + 1)) tail) (sym order.3) order.4))
 
   -- how many were fetched
-  pub count_before : (phase : Phase) → GoesOn n phase (Fetch k o s ∷ tail) → fetched_in phase ≡ k
+  count_before : (phase : Phase) → GoesOn n phase (Fetch k o s ∷ tail) → fetched_in phase ≡ k
   count_before Between order = sym order.0
   count_before (Opened p t) order = sym order.0
   count_before (Fetching p t c) order = sym order.1
 
   -- what is fetched of it after
-  pub fetched_after : (b b' : Blocks) (given : List Given) (found : Bool) (block : List ℕ) → HasFetched o s k b given → Grows b b' found block → HasFetched o s (k + 1) b' (Fetched k o s (given_of found block) ∷ given)
+  fetched_after : (b b' : Blocks) (given : List Given) (found : Bool) (block : List ℕ) → HasFetched o s k b given → Grows b b' found block → HasFetched o s (k + 1) b' (Fetched k o s (given_of found block) ∷ given)
   fetched_after b b' given found block has grows =
       let all : length has.symbols ≡ length has.flags * b.size = has.size ∙ ap (λ (m : ℕ). m * b.size) (sym has.count) in
       let blocks = present_blocks b.size has.flags has.symbols in
@@ -142,6 +142,7 @@ module _ (st : Setup) (job : Job) (k o s : ℕ) (tail : List Action) where
   all_more b b' found block all grows =
       (λ i. present_blocks (grows.size_is i) (grows.present_is i) (grows.symbols_is i)) ∙ present_more b.size b.present.items b.symbols.items block found all grows.fits
 
+  -- with a block fetched, or none, a get is at the action behind this fetch
   pub get_after : fetches_left (Fetch k o s ∷ tail) ≡ 1 + fetches_left tail → works_left (Fetch k o s ∷ tail) ≡ 0 + works_left tail
       → (t : GetTask) (f : Fetches) (fetch : FetchValue) (found : Bool) (block : List ℕ) → IsGet st t job (Fetch k o s ∷ tail) → fetch ≡ record { provider = k; object = o; stripe = s }
       → GrowsFetches t.fetched f fetch found block → IsGet st (record t { fetched = f }) (advanced_with job (Fetched k o s (given_of found block))) tail
@@ -179,6 +180,7 @@ module _ (st : Setup) (job : Job) (k o s : ℕ) (tail : List Action) where
         room_bytes = omega (arith, is.room_bytes, ap (λ (m : ℕ). m * (16 * stripe_symbols (bench_object t.bench))) works_are);
       }
 
+  -- with a block fetched, or none, a repair is at the action behind this fetch
   pub repair_after : (t : RepairTask) (b' : Blocks) (found : Bool) (block : List ℕ) → IsRepair st t job (Fetch k o s ∷ tail) → Grows t.blocks b' found block
       → IsRepair st (record t { blocks = b' }) (advanced_with job (Fetched k o s (given_of found block))) tail
   repair_after t b' found block is grows =
@@ -205,6 +207,7 @@ abbrev pub after : State → Job → List Action
 after w job = drop (job.place + 1) (actions_of (setup_in w) job)
 
 module _ (w : State) (job : Job) (k o s : ℕ) (next : next_action w job ≡ Some (Fetch k o s)) where
+  -- a job whose next action is a fetch has this fetch before it, and then what is behind
   pub left_is : actions_left (setup_in w) job ≡ Fetch k o s ∷ after w job
   left_is = next-left w job (Fetch k o s) next (λ e. absurd (let f : ⊥ = cc in f))
 

@@ -17,12 +17,15 @@ use Rattle.vault_core.specs.Carried.{CoreIs}
 
 -- ---- a core's state
 
+-- a core stands only for states whose disk holds the whole history
 pub whole-core : (c : CoreView) (w : State) → CoreIs c w → IsWholeJournal w
 whole-core c w is = whole-first 8 w is.sound is.first
 
+-- a core stands only for states whose records are in the grammar
 pub grammar-core : (c : CoreView) (w : State) → CoreIs c w → IsTrue (list_all is_in_grammar w.records)
 grammar-core c w is = grammar-now 8 w is.sound is.first
 
+-- while the journal has its first version, each job that runs has the setup's profile
 pub plain-core : (c : CoreView) (w : State) (number : ℕ) (job : Job) → CoreIs c w → job_of w.jobs number ≡ Some job → IsPlainJob (setup_in w) job
 plain-core c w number job is runs = (is.sound.jobs number job runs).plain is.first
 
@@ -40,5 +43,6 @@ profile-among profile (f ∷ fs) id h = elim (cases_Bool (f.id == id)) [
 pub worked-plain : (w : State) (job : Job) (o : ℕ) → IsPlainJob (setup_in w) job → object_of (setup_in w) o ≡ worked_object w job o
 worked-plain w job o plain = ap (λ (p : ℕ). object_of (profiled (setup_in w) p) o) (sym (profile-among (setup_in w).profile job.pinned o plain.pinned))
 
+-- the object of such a job under the setup is the one that its put makes
 pub put-plain : (w : State) (job : Job) (o : ℕ) → IsPlainJob (setup_in w) job → object_of (setup_in w) o ≡ put_object w job o
 put-plain w job o plain = ap (λ (p : ℕ). object_of (profiled (setup_in w) p) o) (sym plain.own)

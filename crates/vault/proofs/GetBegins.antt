@@ -41,6 +41,7 @@ use Rattle.vault.proofs.StripeOrders.{get-order, get-opens, get-fetches, get-wor
 pub found-in : (v : Desk) (d : Devices) (w : State) (name : List ℕ) → DeskStands v d w → find_file v.core.table.files name ≡ file_in w name
 found-in v d w name stands = ap (λ files. find_file files name) stands.core.table.files ∙ find-files_of w.records name
 
+-- a get of a name that is not in effect is refused for that cause
 pub no-such-name : (w : State) (name : List ℕ) → IsTrue (is_name name) → file_in w name ≡ None → first_refusal (name_cause name ∷ causes_of_name w (GetJob name) name) ≡ Some refusal.NoSuchName
 no-such-name w name named none = (let not_there = stored-file w name ∙ ap is_some none in rw (named, not_there) refl)
 
@@ -48,7 +49,7 @@ module _ (v : Desk) (d : Devices) (w : State) (moment : ℕ) (stands : DeskStand
   abbrev s : Setup
   s = setup_in w
 
-  pub size-fits : file.size ≤ largest_file
+  size-fits : file.size ≤ largest_file
   size-fits = (file-spelled w.records name file stands.core.sound.spelled found).1
 
   size-is : length (w.bytes file.id) ≡ file.size
@@ -61,7 +62,7 @@ module _ (v : Desk) (d : Devices) (w : State) (moment : ℕ) (stands : DeskStand
   unfolding actions_of
   rest-is = rw found (append_assoc (flat_map (open_actions s file.id) (upto total)) [] (End ∷ []))
 
-  pub get-task : (bench : Bench) (t : GetTask) → IsBenchFor v file.id file.size bench → IsNewGet v.core.next_job bench t
+  get-task : (bench : Bench) (t : GetTask) → IsBenchFor v file.id file.size bench → IsNewGet v.core.next_job bench t
       → IsGet s t (new_job w moment (GetJob name)) (actions_left s (new_job w moment (GetJob name)))
   get-task bench t for_file new =
       let limits = setup-providers 8 w stands.core.sound stands.core.is_open in
@@ -102,6 +103,7 @@ module _ (v : Desk) (d : Devices) (w : State) (moment : ℕ) (stands : DeskStand
             (λ i. (same_stripes ∙ sym works_are) i * (16 * stripe_symbols (bench_object (sym new.bench_is i)))) new.room_bytes;
       }
 
+-- the lesser of two numbers is the first where it is not above the second
 pub least : (a b : ℕ) → a ≤ b → min a b ≡ a
 least a b le = omega (arith, le)
 

@@ -10,13 +10,14 @@ pub written_behind : (old all new : List ℕ) (size : ℕ) → all ≡ old ++ re
 written_behind old all new size all_is same front =
     sym (take-append-drop (length old) new) ∙ ap (λ (l : List ℕ). l ++ drop (length old) new) (front ∙ ap (take (length old)) all_is ∙ take_at old (replicate size 0) (length old) refl)
 
+-- what a block adds has the size of the room that was made for it
 pub length-written : (old all new : List ℕ) (size : ℕ) → all ≡ old ++ replicate size 0 → length new ≡ length all → length (drop (length old) new) ≡ size
 length-written old all new size all_is same =
     let long : length all ≡ length old + size = ap length all_is ∙ length-append old (replicate size 0) ∙ ap (λ (k : ℕ). length old + k) (length-replicate size 0) in
     omega (arith, length-drop (length old) new, same, long)
 
 -- and the zeros alone are as long as that
-pub length-zeros : (old all : List ℕ) (size : ℕ) → all ≡ old ++ replicate size 0 → length (drop (length old) all) ≡ size
+length-zeros : (old all : List ℕ) (size : ℕ) → all ≡ old ++ replicate size 0 → length (drop (length old) all) ≡ size
 length-zeros old all size all_is = length-written old all all size all_is refl
 
 -- a fetch into that place gave a block of the size

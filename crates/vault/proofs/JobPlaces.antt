@@ -21,6 +21,7 @@ abbrev pub at_number : List Running → ℕ → Option ℕ
 at_number [] k = None
 at_number (r ∷ rs) k = cond (r.number == k) (Some 0) (option_map suc (at_number rs k))
 
+-- a place counted from one further on is one more
 pub one_further : (i : ℕ) (o : Option ℕ) → option_map (λ p. p + (i + 1)) o ≡ option_map (λ p. p + i) (option_map suc o)
 one_further i None = refl
 one_further i (Some q) = (let e : q + (i + 1) ≡ suc q + i = omega arith in ap Some e)
@@ -32,10 +33,12 @@ from_is (r ∷ rs) k i = elim (r.number == k) as (λ b. cond b (Some i) (positio
   | false ↦ from_is rs k (i + 1) ∙ one_further i (at_number rs k)
 ]
 
+-- a place counted from zero is itself
 pub from_zero : (o : Option ℕ) → option_map (λ p. p + 0) o ≡ o
 from_zero None = refl
 from_zero (Some q) = ap Some (add-zero q)
 
+-- the place at which a number is found is that of the first job which has it
 pub place_is : (rs : List Running) (k : ℕ) → place_in rs k ≡ at_number rs k
 place_is rs k = position_from-zero (λ (r : Running). r.number == k) rs ∙ from_is rs k 0 ∙ from_zero (at_number rs k)
 
@@ -64,6 +67,7 @@ further s r rs k j other f = record {
   is = f.is;
 }
 
+-- a job of the machine runs in the vault, at the place of its number
 pub found : (s : Setup) (rs : List Running) (js : List Job) (k : ℕ) (j : Job) → AreRunning s rs js → job_of js k ≡ Some j → Found s rs k j
 found s [] [] k j are runs = (let e : None ≡ Some j = runs in cc)
 found s [] (x ∷ js) k j are runs = absurd are
@@ -94,6 +98,7 @@ before None p e = none_at_none p e
 before (Some q) p e = (q, refl, (let same : suc q ≡ p = cc in sym same))
 
 module _ (s : Setup) (k : ℕ) (new : Running) (job : Job) (is : IsRunning s new job) (mine : job.number ≡ k) where
+  -- a running job put back at its place is that of the machine, and no other changes
   pub put_back : (rs : List Running) (js : List Job) (p : ℕ) → AreRunning s rs js → at_number rs k ≡ Some p → AreRunning s (slice_set rs p new) (with_job js job)
   put_back [] [] p are at = none_at_none p at
   put_back [] (x ∷ js) p are at = absurd are
@@ -113,6 +118,7 @@ module _ (s : Setup) (k : ℕ) (new : Running) (job : Job) (is : IsRunning s new
 
 -- ---- after its end
 
+-- a running job taken out at its place is gone as it is from the machine
 pub taken_out : (s : Setup) (rs : List Running) (js : List Job) (low next k p : ℕ) → AreNumbered low js next → AreRunning s rs js → at_number rs k ≡ Some p → AreRunning s (remove rs p) (without_job js k)
 taken_out s [] [] low next k p numbered are at = none_at_none p at
 taken_out s [] (x ∷ js) low next k p numbered are at = absurd are

@@ -67,6 +67,7 @@ stands_left v v' v2 w new holds holds' faults faults' ps stands left core keeps 
   flight = λ free. subst (λ (f : Option Flight). IsFlight f new.append new.records holds') (sym flight) (left.flight free);
 }
 
+-- to set what is there changes nothing
 pub set_same : {X : Type 0} (xs : List X) (p : ℕ) (x : X) → slice_get xs p ≡ Some x → slice_set xs p x ≡ xs
 set_same [] p x is = refl
 set_same (y ∷ ys) zero x is = (let e : y ≡ x = (let f : Some y ≡ Some x = is in cc) in ap (λ (z : _). z ∷ ys) (sym e))
@@ -146,15 +147,18 @@ past rs r a holds appends =
     let spelled = length-spelling r appends.entry in
     omega (arith, size, body, gate, long, spelled)
 
+-- what did not change behind the bytes of an append did not behind the text with its record
 pub beyond_of : (rs : List Record) (r : Record) (a : AppendValue) (holds holds' : Option Cells) → Appends rs r a holds → Goes (SameFrom (gate_of a + 1 + length (body_of a))) holds holds' → Goes (SameFrom (text_size (r ∷ rs))) holds holds'
 beyond_of rs r a holds holds' appends = subst (λ (n : ℕ). Goes (SameFrom n) holds holds') (past rs r a holds appends)
 
 -- ---- images
 
+-- images that stand for the records of a state stand for it in the first version
 pub all_images : (told : Option Cells) (new : State) → AllStandFor new.records told → FirstStands told new
 all_images None new all = tt
 all_images (Some cells) new all = λ image is. inl (inl (all image is))
 
+-- images that stand for these records, or for them and the one in doubt, do so too
 pub doubted_images : (told : Option Cells) (new : State) (entry : Record) (d : Doubt) → new.doubt ≡ Some d → d.entry ≡ entry → MayStandFor new.records entry told → FirstStands told new
 doubted_images None new entry d doubt same may = tt
 doubted_images (Some cells) new entry d doubt same may = λ image is. elim (may image is) [
@@ -164,6 +168,7 @@ doubted_images (Some cells) new entry d doubt same may = λ image is. elim (may 
 
 -- ---- the number of a job
 
+-- behind its first append, a job draws no other number
 pub subject_kept : (w : State) (job : Job) (kind : Kind) → 4 ≤ job.place → subject_drawn w job kind ≡ job.subject
 subject_kept w job (PutJob name bytes) many = cond_false (nat_lt job.place 4) (Rattle.record_defs.specs.Table.next_id w.records) job.subject (few job.place many)
   where
@@ -186,6 +191,7 @@ subject_kept w job UpgradeJob many = refl
 
 -- ---- the append in flight
 
+-- behind two moves of an append, the gate before it is still closed
 pub closed_after : (told : Option Cells) (front body : List ℕ) → IfSome told (IsAfterMoves 2 front body) → IfSome told (IsClosed front)
 closed_after None front body is = tt
 closed_after (Some cells) front body is = (is.0, Rattle.device_defs.specs.Cells.firm body ++ is.1, is.2, is.3)

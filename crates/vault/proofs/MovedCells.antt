@@ -31,10 +31,12 @@ pub record IsAppendOf (v : Desk) (n : ℕ) (entry : Record) (a : Append) : Type 
   pub gate : gate_of a ≡ v.core.end - 1
   pub body : body_of a ≡ spelling entry ++ 0 ∷ []
 
+-- a move of an append makes of the cells what the core tells of it
 pub cells_on : (v : Desk) (n : ℕ) (entry : Record) (a : Append) (old new : Option Cells) → IsAppendOf v n entry a → new ≡ option_map (cells_after (moves_of a) (gate_of a) (body_of a)) old
     → new ≡ option_map (cells_after n (v.core.end - 1) (spelling entry ++ 0 ∷ [])) old
 cells_on v n entry a old new of is = is ∙ (λ i. option_map (cells_after (of.moves i) (of.gate i) (of.body i)) old)
 
+-- a move that failed leaves of the cells what the core tells of it
 pub cells_torn : (v : Desk) (n : ℕ) (entry : Record) (a : Append) (old new : Option Cells) → IsAppendOf v n entry a → Goes (MayTear (moves_of a) (gate_of a) (body_of a)) old new
     → Goes (MayTear n (v.core.end - 1) (spelling entry ++ 0 ∷ [])) old new
 cells_torn v n entry a old new of is =

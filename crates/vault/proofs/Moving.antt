@@ -112,7 +112,7 @@ no_get n name End move h = move
 -- ---- the sums of an audit
 
 -- rounds are judged by what the job was given and by its number alone
-pub judges_same : (s : Setup) (job : Job) (place subject : ℕ) (older : List ℕ) (xs : List Round) (a b : Sums) → subject ≡ job.subject → JudgesEach s job xs a b
+judges_same : (s : Setup) (job : Job) (place subject : ℕ) (older : List ℕ) (xs : List Round) (a b : Sums) → subject ≡ job.subject → JudgesEach s job xs a b
     → JudgesEach s (record job { place = place; subject = subject; older = older }) xs a b
 judges_same s job place subject older [] a b same judges = judges
 judges_same s job place subject older (x ∷ xs) a b same judges = (

@@ -39,6 +39,7 @@ module _ (told now : Option Cells) (rs : List Record) (store : Store) (first : â
   shown w None same all = tt
   shown w (Some cells) same all = Î» image of. inl (inl (subst (Î» (l : List Record). StandsFor image l) (sym same) (all image of)))
 
+  -- the disk that was read carries the desk that was just opened
   pub carries : DeskCarries v now
   carries = (
     rs,
@@ -69,6 +70,7 @@ module _ (told now : Option Cells) (rs : List Record) (store : Store) (first : â
       barred = sym j.at_rest.rest.idle.2;
     })
 
+    -- a desk that was just opened stands for the state just opened over the records read
     pub stands : DeskStands v (devices now faults providers) w
     stands = record {
       devices = record { images = images-first now w j.at_rest.rest.whole (shown w now j.records (images now is.closed)); faults = j.faults_are; providers = j.handed };

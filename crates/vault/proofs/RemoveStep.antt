@@ -51,6 +51,7 @@ module _ (w : State) (job : Job) (k o : ℕ) (next : next_action w job ≡ Some 
       by_task (task.Audit t) is = absurd (not_allowed AuditJob is.kind)
       by_task (task.Repair t) is = absurd (not_allowed RepairJob is.kind)
 
+-- a list is itself with what is there set again
 pub set_same : {X : Type 0} (xs : List X) (p : ℕ) (x : X) → slice_get xs p ≡ Some x → xs ≡ slice_set xs p x
 set_same [] p x there = (let e : None ≡ Some x = there in cc)
 set_same (y ∷ ys) zero x there = (let same : y ≡ x = (let e : Some y ≡ Some x = there in cc) in ap (λ (z : _). z ∷ ys) same)

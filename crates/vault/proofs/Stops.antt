@@ -94,6 +94,7 @@ module _ (v v1 : Desk) (d : Devices) (w : State) (number place : ℕ) (action : 
       ap (λ (l : List Running). place_in l number) aside.jobs
       ∙ place_set v.jobs.items number place r r' at there aside.number
 
+  -- a job that was stopped leaves the vault with what it heard, and the machine's other jobs
   pub is_left : (v2 : Desk) (reply : Reply) (answer : Answer) (t : Turn) → IsStopped v1 number reply answer t v2 → Leaves v2 w number reply answer t v.core
   is_left v2 reply answer t stopped =
       let same : stopped.place ≡ place = (let e : Some stopped.place ≡ Some place = sym stopped.found ∙ at_aside in cc) in

@@ -69,7 +69,7 @@ module _ (n k o s : ℕ) (tail : List Action) where
   rows_are (Opened p t) b rows given order work = work ∙ (λ i. symbols_given given (sym order.1 i) (sym order.2 i))
 
   -- and the order goes on
-  pub order_on : (phase : Phase) → GoesOn n phase (Store k o s ∷ tail) → GoesOn n phase tail
+  order_on : (phase : Phase) → GoesOn n phase (Store k o s ∷ tail) → GoesOn n phase tail
   order_on Between order = absurd order
   order_on (Fetching p t c) order = absurd order
   order_on (Opened p t) order = order.3
@@ -101,7 +101,7 @@ module _ (w : State) (job : Job) (k o s : ℕ) (next : next_action w job ≡ Som
   listed r running = subst (λ (l : List Action). IsTask (setup_in w) job l r.task) left_is running.task
 
   -- a job whose next action is a store has what it stores
-  pub is_storer : (r : Running) → IsRunning (setup_in w) r job → IsStorer r.task k
+  is_storer : (r : Running) → IsRunning (setup_in w) r job → IsStorer r.task k
   is_storer r running = by_task r.task (listed r running)
     where
       by_task : (t : Task) → IsTask (setup_in w) job (Store k o s ∷ drop (job.place + 1) (actions_of (setup_in w) job)) t → IsStorer t k
@@ -264,11 +264,14 @@ module _ (v : Desk) (w : State) (holds : Option Cells) (faults moment number k o
 
 -- ---- what came of the call
 
+-- a store whose answer is Ok stored its block
 pub was_stored : (o s : ℕ) (block : List ℕ) (r : Result Unit StoreFault) (x : Unit) (p q : Provider) → r ≡ Ok x → StoresAs o s block r p q → Stores o s block p q
 was_stored o s block r x p q is as_ = subst (λ (y : Result Unit StoreFault). StoresAs o s block y p q) is as_
 
+-- a store whose answer is a failure failed at the provider
 pub was_failed : (o s : ℕ) (block : List ℕ) (r : Result Unit StoreFault) (f : StoreFault) (p q : Provider) → r ≡ Err f → f ≡ store_fault.Failed → StoresAs o s block r p q → FailsToStore p q
 was_failed o s block r f p q is fault as_ = subst (λ (y : Result Unit StoreFault). StoresAs o s block y p q) (is ∙ ap (λ (y : StoreFault). Err y) fault) as_
 
+-- a store whose answer is that memory ran out found none at the provider
 pub found_no_memory : (o s : ℕ) (block : List ℕ) (r : Result Unit StoreFault) (f : StoreFault) (p q : Provider) → r ≡ Err f → f ≡ store_fault.Memory → StoresAs o s block r p q → FindsNoMemory p q
 found_no_memory o s block r f p q is fault as_ = subst (λ (y : Result Unit StoreFault). StoresAs o s block y p q) (is ∙ ap (λ (y : StoreFault). Err y) fault) as_

@@ -45,6 +45,7 @@ module _ (s : Setup) (some : 1 ≤ s.n) where
   reads-on o (t ∷ ts) rest on =
       subst (GoesEitherWay s.n) (sym (append_assoc (open_actions s o t) (flat_map (open_actions s o) ts) rest)) (open-on o t _ ((reads-on o ts rest on).opened o t))
 
+  -- a get fetches from all providers in order, and opens, stripe by stripe
   pub get-order : (o : ℕ) (ts : List ℕ) → GoesOn s.n Between (flat_map (open_actions s o) ts ++ End ∷ [])
   get-order o ts = (reads-on o ts (End ∷ []) (record { between = tt; opened = λ p u. tt })).between
 
@@ -79,6 +80,7 @@ module _ (s : Setup) (some : 1 ≤ s.n) where
       (flat_map (λ (f : Pinned). on_each_stripe (profiled s f.profile) (length f.bytes) (λ t. open_actions s f.id t ++ rewrite_actions s job f.id t)) fs) rest))
       (stripes-on job f.id (upto (stripes_of (profiled s f.profile) (length f.bytes))) _ (files-on job fs rest on))
 
+  -- a repair fetches from all providers in order, opens, and then stores, stripe by stripe
   pub repair-order : (job : Job) → job.kind ≡ RepairJob → GoesOn s.n Between (actions_of s job)
   unfolding actions_of
   repair-order job is = rw is (files-on job job.pinned (append_actions ++ End ∷ []) (record { between = tt; opened = λ o t. tt })).between
@@ -89,6 +91,7 @@ opens-skip : (id total k o t : ℕ) (js : List ℕ) (rest : List Action) → Ope
 opens-skip id total k o t [] rest on = on
 opens-skip id total k o t (j ∷ js) rest on = opens-skip id total k o t js rest on
 
+-- a get opens its stripes in order, up to the last
 pub get-opens : (s : Setup) (o total m k : ℕ) → k + m ≡ total → OpensFrom o total k (flat_map (open_actions s o) (range_with_len k m) ++ End ∷ [])
 get-opens s o total zero k all = (omega (arith, all), tt)
 get-opens s o total (suc m) k all =
@@ -124,6 +127,7 @@ split-first : (s : Setup) (o k : ℕ) (more : List Action) → ((map (λ j. Fetc
 split-first s o k more =
     append_assoc (map (λ j. Fetch j o k) (upto s.n) ++ Work o k ∷ []) more (End ∷ []) ∙ append_assoc (map (λ j. Fetch j o k) (upto s.n)) (Work o k ∷ []) (more ++ End ∷ [])
 
+-- a get has one fetch from each provider for each stripe that is left
 pub get-fetches : (s : Setup) (o m k : ℕ) → fetches_left (flat_map (open_actions s o) (range_with_len k m) ++ End ∷ []) ≡ m * s.n
 get-fetches s o zero k = omega arith
 get-fetches s o (suc m) k =
@@ -131,6 +135,7 @@ get-fetches s o (suc m) k =
     let l = get-fetches s o m (k + 1) in
     ap fetches_left (split-first s o k more) ∙ fetches-skip o k (upto s.n) (Work o k ∷ (more ++ End ∷ [])) ∙ (let c = skip-work o k (more ++ End ∷ []) in omega (arith, l, c, length-range_with_len 0 s.n))
 
+-- a get has one work for each stripe that is left
 pub get-works : (s : Setup) (o m k : ℕ) → works_left (flat_map (open_actions s o) (range_with_len k m) ++ End ∷ []) ≡ m
 get-works s o zero k = refl
 get-works s o (suc m) k =

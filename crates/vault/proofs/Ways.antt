@@ -114,6 +114,7 @@ pub record IsQuiet (w new : State) : Type 0 where
   pub faults : new.disk_faults ≡ w.disk_faults
   pub barred : new.is_barred ≡ w.is_barred
 
+-- a vault that keeps its setup and its master keeps its shape
 pub shaped_on : (v v' : Desk) → KeepsAll v v' → IsShaped v → IsShaped v'
 shaped_on v v' keeps is = record {
   n = ap (λ (s : ShapeValue). s.n) keeps.shape ∙ is.n ∙ sym (ap (λ (s : SetupValue). s.n) keeps.setup);
@@ -122,6 +123,7 @@ shaped_on v v' keeps is = record {
   profile = ap plain_profile keeps.profile ∙ is.profile ∙ ap (λ (s : SetupValue). profile_of s.profile) (sym keeps.setup);
 }
 
+-- with a quiet step a vault stands for the state after it, if its core and its jobs do
 pub stands_on : (v v' : Desk) (w new : State) (holds : Option Cells) (faults : ℕ) (ps ps' : List Provider) → DeskStands v (devices holds faults ps) w → IsQuiet w new → AreHanded ps' new
     → CoreIs v'.core new → KeepsAll v v' → v'.flight ≡ v.flight → AreRunning (setup_in w) v'.jobs.items new.jobs → DeskStands v' (devices holds faults ps') new
 stands_on v v' w new holds faults ps ps' stands quiet handed core keeps flight jobs = record {
@@ -154,7 +156,7 @@ pub same_beyond : (w : State) (holds : Option Cells) (faults : ℕ) (ps ps' : Li
 same_beyond w holds faults ps ps' = goes_still (text_size (records_in_flight w.records w.append)) holds holds refl
 
 -- a job goes on, and another state is left of it alone, and of the providers
-pub goes_told : (v v' : Desk) (w new : State) (holds : Option Cells) (faults moment number place : ℕ) (ps ps' : List Provider) (action : Action) (r : Running) (j : Job) (answer : Reply)
+goes_told : (v v' : Desk) (w new : State) (holds : Option Cells) (faults moment number place : ℕ) (ps ps' : List Provider) (action : Action) (r : Running) (j : Job) (answer : Reply)
     → DeskStands v (devices holds faults ps) w → (next : ComesNext w number action None) → Acts w next.job action More new → IsQuiet w new → new.jobs ≡ with_job w.jobs j
     → j.number ≡ next.job.number → IsRunning (setup_in w) r j → place_in v.jobs.items number ≡ Some place → v'.jobs.items ≡ slice_set v.jobs.items place r
     → AreHanded ps' new → KeepsAll v v' → v'.flight ≡ v.flight → IsFed v.core number answer v'.core → Tells number answer More new
@@ -191,7 +193,7 @@ goes_on v v' w new holds faults moment number place ps ps' action r j stands nex
 pub working : (v : Desk) (d : Devices) (w : State) (number : ℕ) (action : Action) → DeskStands v d w → (next : ComesNext w number action None) → Found (setup_in w) v.jobs.items number next.job
 working v d w number action stands next = found (setup_in w) v.jobs.items w.jobs number next.job stands.jobs next.runs
 
-pub no_place : (v : Desk) (d : Devices) (w : State) (number : ℕ) (action : Action) → DeskStands v d w → ComesNext w number action None → place_in v.jobs.items number ≡ None → ⊥
+no_place : (v : Desk) (d : Devices) (w : State) (number : ℕ) (action : Action) → DeskStands v d w → ComesNext w number action None → place_in v.jobs.items number ≡ None → ⊥
 no_place v d w number action stands next none =
     let f = working v d w number action stands next in
     let e : None ≡ Some f.place = sym none ∙ place_is v.jobs.items number ∙ f.at in

@@ -56,7 +56,7 @@ kept id k from (suc len) rows given below =
     (λ i. bytes_of_symbols (worked_other id k id from rows given (λ e. absurd (omega (arith, below, e))) i) ++ kept id k (from + 1) len rows given (omega (arith, below)) i)
 
 -- the bytes of one stripe more
-pub bytes_after : (id k : ℕ) (rows bytes : List ℕ) (given : List Given) → bytes ≡ flat_map (λ t. bytes_of_symbols (symbols_given given id t)) (upto k)
+bytes_after : (id k : ℕ) (rows bytes : List ℕ) (given : List Given) → bytes ≡ flat_map (λ t. bytes_of_symbols (symbols_given given id t)) (upto k)
     → bytes ++ bytes_of_symbols rows ≡ flat_map (λ t. bytes_of_symbols (symbols_given (Worked id k rows ∷ given) id t)) (upto (k + 1))
 bytes_after id k rows bytes given is =
     let f = λ (t : ℕ). bytes_of_symbols (symbols_given (Worked id k rows ∷ given) id t) in
@@ -93,7 +93,7 @@ module _ (w : State) (job : Job) (o s : ℕ) (next : next_action w job ≡ Some 
   repair_fetched t is = all_fetched (setup_in w).n o s tail t.blocks t.bench.rows.items job.given is.phase is.order is.in_work
 
   -- a job whose next action is work has what it opens
-  pub can_work : (r : Running) → IsRunning (setup_in w) r job → CanWork r.task
+  can_work : (r : Running) → IsRunning (setup_in w) r job → CanWork r.task
   can_work r running = by_task r.task (listed r running)
     where
       by_task : (t : Task) → IsTask (setup_in w) job (Work o s ∷ tail) t → CanWork t

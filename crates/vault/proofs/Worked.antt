@@ -55,9 +55,11 @@ module _ (n o s : ℕ) (tail : List Action) (b : Blocks) (rows : List ℕ) (give
   order_opened (Fetching p t c) order = subst (λ (m : ℕ). GoesOn n (Opened m s) tail) (sym order.1) (subst (λ (m : ℕ). GoesOn n (Opened p m) tail) (sym order.2) order.3)
 
 module _ (n o s : ℕ) (b : Blocks) (given : List Given) (has : HasFetched o s n b given) where
+  -- there is a mark for each provider fetched from
   pub enough_present : n ≤ length b.present.items
   enough_present = omega (arith, ap length has.present_is, length-append has.flags_before has.flags, has.count)
 
+  -- there are symbols for each provider fetched from
   pub enough_symbols : n * b.size ≤ length b.symbols.items
   enough_symbols = omega (arith, ap length has.symbols_is, length-append has.symbols_before has.symbols, has.size)
 
@@ -72,9 +74,11 @@ module _ (n o s : ℕ) (b : Blocks) (given : List Given) (has : HasFetched o s n
 
 -- ---- the symbols that were given
 
+-- the symbols of a stripe that was worked on are those that the work gave
 pub worked_is : (o s : ℕ) (rows : List ℕ) (given : List Given) → rows ≡ symbols_given (Worked o s rows ∷ given) o s
 worked_is o s rows given = sym (cond_true ((o == o) && (s == s)) rows (symbols_given given o s) (λ i. eq-eqb o o refl i && eq-eqb s s refl i))
 
+-- work on another stripe changes no symbols of this one
 pub worked_other : (o s p t : ℕ) (rows : List ℕ) (given : List Given) → (s ≡ t → ⊥) → symbols_given (Worked o s rows ∷ given) p t ≡ symbols_given given p t
 worked_other o s p t rows given other = cond_false ((o == p) && (s == t)) rows (symbols_given given p t) (and_false (o == p) (s == t) (ne_eqb s t other))
   where

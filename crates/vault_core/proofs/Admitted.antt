@@ -62,6 +62,7 @@ cursor-room n (wish.Get name) ts = none (0 - gates_at (wish.Get name) (cursor_fi
 cursor-room n wish.Repair [] = refl
 cursor-room n v ts = refl
 
+-- a job as it is made needs room for all records of its wish
 pub made-room : (t : Kept) (s : Setup) (k : ℕ) (v : Wish) (job : Job) → IsMade t s k v job → reserved_of s.n (core_job s.n job) ≡ sum (sizes_of s.n v)
 made-room t s k v job made = reserved_is s.n job ∙ (ap (λ (x : Wish). reserved_at s.n x job.cursor) made.wish ∙ (ap (reserved_at s.n v) made.cursor ∙ cursor-room s.n v job.tasks.items))
 
@@ -86,6 +87,7 @@ room-left c v res h = by v (none-by c.barred (is_busy 8 (sight_in c) (aim_of_wis
     by wish.Audit e = within _ (are_numbers_used_up (sight_in c) ToAudit) e
     by wish.Repair e = within _ false e
 
+-- where no refusal applies, fewer than eight jobs run
 pub few-left : (c : CoreView) (v : Wish) → None ≡ refusal_in c v → length c.jobs < 8
 few-left c v h =
     let b = (none-by c.barred (is_busy 8 (sight_in c) (aim_of_wish v)) (is_full (sight_in c) (aim_of_wish v)) (word_refusal_in (sight_in c) v) h).0 in
@@ -111,11 +113,13 @@ module _ (a : Inside) (job : Job) (t : Kept) (js : Vec Job Global) (k : ℕ) (ta
   jobs-seen : map (core_job a.setup.n) js.items ≡ map (core_job a.setup.n) a.jobs.items ++ core_job a.setup.n job ∷ []
   jobs-seen = ap (map (core_job a.setup.n)) jobs ∙ seen-push a.setup.n a.jobs.items job
 
+  -- what a contract sees of a core with one more job is what a begin promises
   pub admitted-view : (v : CoreView) → view_of a ≡ v → view_of (record a { table = t; jobs = js; next_job = a.next_job + 1 }) ≡ admitted v job.wish job
   admitted-view v e = subst (λ (c : CoreView). view_of (record a { table = t; jobs = js; next_job = a.next_job + 1 }) ≡ admitted c job.wish job) e
       (ap (λ (x : Kept). record (view_of a) { table = x; jobs = map (core_job a.setup.n) js.items; next_job = a.next_job + 1 }) table
       ∙ ap (λ (xs : List CoreJob). record (view_of a) { table = record a.table { spare = a.table.spare + starts_for job.wish }; jobs = xs; next_job = a.next_job + 1 }) jobs-seen)
 
+  -- a core that has room for the records of one more job stays one as it is kept with that job
   pub admitted-core : IsCore a → job.number ≡ a.next_job → IsJobKept a.setup.n job → length a.jobs.items < 8 →
       a.end + sum_by (reserved_of a.setup.n) (map (core_job a.setup.n) a.jobs.items) + reserved_of a.setup.n (core_job a.setup.n job) ≤ largest_journal →
       IsCore (record a { table = t; jobs = js; next_job = a.next_job + 1 })
@@ -153,6 +157,7 @@ flight-more c v job (Some a) h = (
       ∙ (ap (entry_of_found c.table) (found-more c.jobs (core_job c.setup.n job) a.job c.table a.entry h.1) ∙ h.1),
 )
 
+-- with a new job, a core stands for the machine's state after the begin
 pub core-begun : (c : CoreView) (w : State) (kind : Kind) (moment : ℕ) (v : Wish) (job : Job) → CoreIs c w → IsKindOf v kind → IsSpelledKind kind → begin_refusal 8 w kind ≡ None →
     4 ≤ c.setup.n → c.setup.n ≤ 16 → IsMade c.table c.setup c.next_job v job → CoreIs (admitted c v job) (begun w moment kind)
 unfolding setup_in
@@ -173,9 +178,11 @@ core-begun c w kind moment v job is of spelled allowed least most made = record 
 
 -- ---- what a call gave
 
+-- what follows from a statement about an Ok is a statement about the same Ok
 pub on_ok_then : {A E : Type 0} (r : Result A E) (P Q : Type 0) → (P → Q) → OnOk r P → OnOk r Q
 on_ok_then (Ok x) P Q f h = f h
 on_ok_then (Err x) P Q f h = h
 
+-- fewer than eight jobs as a contract sees them are fewer than eight as they are kept
 pub fewer-than : (n : ℕ) (js : List Job) → length (map (core_job n) js) < 8 → length js < 8
 fewer-than n js h = let e = length-map js (core_job n) in omega (arith, e, h)

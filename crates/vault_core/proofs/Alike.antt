@@ -26,5 +26,6 @@ same-itself ToUpgrade = tt
 abbrev pub IsAlike : Wish → Kind → Type 0
 IsAlike w kind = IsSameAim (aim_of_wish w) (aim_of kind)
 
+-- a kind of the machine that is a wish's own has the same aim as the wish, part by part
 pub alike : (w : Wish) (kind : Kind) → IsKindOf w kind → IsAlike w kind
 alike w kind e = subst (IsSameAim (aim_of_wish w)) e (same-itself (aim_of_wish w))

@@ -41,7 +41,7 @@ all_more P x xs p all = λ k d l. by k d l
     by zero d l = p
     by (suc k) d l = all k d (omega arith)
 
-pub tasks-all : (f : ℕ → ℕ) (ps : List Pinned) → All (λ (t : Task). 0 < t.turns) (tasks_made f ps)
+tasks-all : (f : ℕ → ℕ) (ps : List Pinned) → All (λ (t : Task). 0 < t.turns) (tasks_made f ps)
 tasks-all f [] = all_none (λ (t : Task). 0 < t.turns)
 tasks-all f (p ∷ ps) = elim (cases_Bool (nat_lt 0 (f p.length))) [
   | inl h ↦ subst (All (λ (t : Task). 0 < t.turns)) (sym (ap (λ (b : Bool). if b then record { object = p.id; turns = f p.length } ∷ tasks_made f ps else tasks_made f ps) h))
@@ -94,7 +94,7 @@ length-each f m (k ∷ ks) h =
 length-turns : (n : ℕ) (w : Wish) (fl : List Bool) (o b : ℕ) → length (turns_from 0 n w fl o b) ≡ b * size_of_turn n w fl
 length-turns n w fl o b = length-each (turn_of n w fl o) (size_of_turn n w fl) (numbers 0 b) (length-turn n w fl o) ∙ ap (λ (k : ℕ). k * size_of_turn n w fl) (length-range_with_len 0 (b - 0) ∙ (let e : b - 0 ≡ b = omega arith in e))
 
-pub length-tasks : (n : ℕ) (w : Wish) (fl : List Bool) (ts : List Task) → length (tasks_of n w fl ts) ≡ sum_by (λ (t : Task). t.turns * size_of_turn n w fl) ts
+length-tasks : (n : ℕ) (w : Wish) (fl : List Bool) (ts : List Task) → length (tasks_of n w fl ts) ≡ sum_by (λ (t : Task). t.turns * size_of_turn n w fl) ts
 length-tasks n w fl [] = refl
 length-tasks n w fl (t ∷ ts) =
     let a = length-append (turns_from 0 n w fl t.object t.turns) (tasks_of n w fl ts) in
@@ -112,7 +112,7 @@ front_of w = if is_opener w then append_actions else []
 all_first : (t : Task) (ts : List Task) → All (λ (x : Task). 0 < x.turns) (t ∷ ts) → 0 < t.turns
 all_first t ts h = h 0 t (omega arith)
 
-pub first-at : (n : ℕ) (job : Job) (w : Wish) → 0 < n → job.wish ≡ w → All (λ (t : Task). 0 < t.turns) job.tasks.items →
+first-at : (n : ℕ) (job : Job) (w : Wish) → 0 < n → job.wish ≡ w → All (λ (t : Task). 0 < t.turns) job.tasks.items →
     MayBeAt n job (cursor_first w job.tasks.items) (front_of w ++ tasks_on n job job.tasks.items)
 first-at n job (wish.Put name size) l e all = record { comes = ap is_opener e; within = tt; rest = refl }
 first-at n job (wish.Drop name) l e all = record { comes = ap is_opener e; within = tt; rest = refl }
@@ -145,6 +145,7 @@ no-tasks : (t : Kept) (s : Setup) (v : Wish) (pins : List Pinned) → pins ≡ p
 no-tasks t s (wish.Drop name) pins e h = ap (tasks_made (turns_for s (wish.Drop name))) e
 no-tasks t s v pins e h = absurd (false≢true (sym h))
 
+-- the first n of k zeros are n zeros
 pub take-zeros : (n k : ℕ) → n ≤ k → take n (replicate {A = ℕ} k 0) ≡ replicate n 0
 take-zeros zero k l = refl
 take-zeros (suc n) zero l = absurd (omega arith)
@@ -164,6 +165,7 @@ module _ (t : Kept) (s : Setup) (k : ℕ) (w : Wish) (job : Job) (made : IsMade 
   made-first : MayBeAt s.n job (cursor_first w job.tasks.items) (front_of w ++ tasks_on s.n job job.tasks.items)
   made-first = first-at s.n job w (omega arith) made.wish made-all
 
+  -- a new job has before it its first append, if it has one, and then all that its tasks ask for
   pub made-rest : rest_of s.n job ≡ front_of w ++ tasks_on s.n job job.tasks.items
   made-rest = rest_is s.n job (cursor_first w job.tasks.items) made.cursor ∙ made-first.rest
 
@@ -179,6 +181,7 @@ module _ (t : Kept) (s : Setup) (k : ℕ) (w : Wish) (job : Job) (made : IsMade 
       ap (one_more s.n job.wish) (gates_is s.n job ∙ (ap (λ (v : Wish). gates_at v job.cursor) made.wish ∙ ap (gates_at w) made.cursor)) ∙ ap (λ (v : Wish). one_more s.n v (gates_at w (cursor_first w job.tasks.items))) made.wish in
       omega (arith, a, b, c, d, e, f, g, l)
 
+  -- a job as it is made is a job as it is kept
   pub made-kept : HasName w → IsShort w → length job.flagged ≡ 16 →
       job.left ≡ sum_by (λ (x : Task). x.turns * size_of_turn s.n w job.flagged) job.tasks.items + other_actions s.n w → IsJobKept s.n job
   made-kept named short long l = record {

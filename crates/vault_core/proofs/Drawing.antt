@@ -75,7 +75,7 @@ at_start w c h X a b = cc
 starts_at : (n : ℕ) (job : Job) → IsJobKept n job → slice_get (rest_of n job) 0 ≡ Some WriteBody → action_at job.wish job.cursor ≡ WriteBody
 starts_at n job kept h = let s : Some (action_at job.wish job.cursor) ≡ Some WriteBody = sym (first_is n job kept) ∙ h in let r : action_at job.wish job.cursor ≡ WriteBody = cc in r
 
-pub rest_drawn : (n : ℕ) (job : Job) (k : ℕ) (v : Vec Task Global) → IsJobKept n job → slice_get (rest_of n job) 0 ≡ Some WriteBody → v.items ≡ drawn_tasks k job.wish job.tasks.items →
+rest_drawn : (n : ℕ) (job : Job) (k : ℕ) (v : Vec Task Global) → IsJobKept n job → slice_get (rest_of n job) 0 ≡ Some WriteBody → v.items ≡ drawn_tasks k job.wish job.tasks.items →
     rest_of n (record job { subject = k; tasks = v }) ≡ all_renamed k job.wish (rest_of n job)
 unfolding rest_of
 rest_drawn n job k v kept h e = at_start job.wish job.cursor (starts_at n job kept h) _
@@ -95,10 +95,12 @@ map_gates k (x ∷ xs) =
     ∙ (ap (λ (b : Bool). cond {A = ℕ} b 1 0 + gates (map (renamed k) xs)) (renamed_gate k x)
     ∙ (ap (λ (m : ℕ). cond {A = ℕ} (ends_append x) 1 0 + m) (map_gates k xs) ∙ sym (gates-cons x xs)))
 
+-- the number that a job takes changes no gate among its actions
 pub renamed_gates : (k : ℕ) (w : Wish) (xs : List Action) → gates (all_renamed k w xs) ≡ gates xs
 renamed_gates k (wish.Put name size) xs = map_gates k xs
 renamed_gates k w xs = refl
 
+-- the number that a job takes leaves its actions as many as they were
 pub renamed_length : (k : ℕ) (w : Wish) (xs : List Action) → length (all_renamed k w xs) ≡ length xs
 renamed_length k (wish.Put name size) xs = length-map xs (renamed k)
 renamed_length k w xs = refl
@@ -113,7 +115,7 @@ drawn_idle : (k : ℕ) (w : Wish) (ts us : List Task) → us ≡ drawn_tasks k w
 drawn_idle k (wish.Put name size) ts us e h = e ∙ ap (map (aimed k)) h
 drawn_idle k w ts us e h = e ∙ h
 
-pub kept_drawn : (n : ℕ) (job : Job) (k : ℕ) (v : Vec Task Global) → IsJobKept n job → slice_get (rest_of n job) 0 ≡ Some WriteBody → v.items ≡ drawn_tasks k job.wish job.tasks.items →
+kept_drawn : (n : ℕ) (job : Job) (k : ℕ) (v : Vec Task Global) → IsJobKept n job → slice_get (rest_of n job) 0 ≡ Some WriteBody → v.items ≡ drawn_tasks k job.wish job.tasks.items →
     IsJobKept n (record job { subject = k; tasks = v })
 kept_drawn n job k v kept h e = record {
   stays = record {
@@ -133,7 +135,7 @@ kept_drawn n job k v kept h e = record {
       ∙ ap (λ (xs : List Action). length xs + (if removes_older (aim_of_wish job.wish) && nat_lt 0 (gates xs) then n else 0)) (sym (rest_drawn n job k v kept h e))));
 }
 
-pub start_going : (n : ℕ) (job : Job) → IsJobKept n job → slice_get (rest_of n job) 0 ≡ Some WriteBody → (is_over job.cursor ≡ false) × (decides job ≡ false)
+start_going : (n : ℕ) (job : Job) → IsJobKept n job → slice_get (rest_of n job) 0 ≡ Some WriteBody → (is_over job.cursor ≡ false) × (decides job ≡ false)
 start_going n job kept h = at_start job.wish job.cursor (starts_at n job kept h) _
     (λ c. (ap is_over c, ap (decides_at job.wish) c))
     (λ c. (ap is_over c, ap (decides_at job.wish) c))
@@ -144,6 +146,7 @@ pub record StartHere (a : Inside) (place : ℕ) (job : Job) : Type 0 where
   pub kept : IsJobKept a.setup.n job
   pub starts : slice_get (rest_of a.setup.n job) 0 ≡ Some WriteBody
 
+-- a core's job whose next action writes a body is at a place, is kept, and is at such a write
 pub start_here : (a : Inside) (c : CoreView) (place : ℕ) (job : Job) → view_of a ≡ c → IsCore a → job ≡ get_or a.jobs.items place job → first_at c place ≡ Some WriteBody → StartHere a place job
 start_here a c place job v h e f =
     let p : first_at (view_of a) place ≡ Some WriteBody = subst (λ (x : CoreView). first_at x place ≡ Some WriteBody) (sym v) f in
@@ -156,12 +159,15 @@ module _ (n : ℕ) (old mid : Job) (k : ℕ) (kept : IsJobKept n old) (starts : 
   named : mid.tasks.items ≡ drawn_tasks mid.subject old.wish old.tasks.items
   named = subst (λ (s : ℕ). mid.tasks.items ≡ drawn_tasks s old.wish old.tasks.items) (sym subject) tasks
 
+  -- a kept job that has taken its number is a kept job
   pub mid_kept : IsJobKept n mid
   mid_kept = subst (IsJobKept n) (sym same) (kept_drawn n old mid.subject mid.tasks kept starts named)
 
+  -- a job that has taken its number, and is about to write a body, is not over
   pub mid_going : is_over mid.cursor ≡ false
   mid_going = ap (λ (x : Job). is_over x.cursor) same ∙ (start_going n old kept starts).0
 
+  -- such a job's next action decides on no removal
   pub mid_undecided : decides mid ≡ false
   mid_undecided = ap decides same ∙ (start_going n old kept starts).1
 
@@ -173,19 +179,23 @@ module _ (n : ℕ) (old mid : Job) (k : ℕ) (kept : IsJobKept n old) (starts : 
       (ap (λ (x : Job). x.number) same) (ap (λ (x : Job). x.wish) same) (ap (λ (x : Job). x.pinned.items) same) (ap (λ (x : Job). x.flagged) same)
       subject mid_rest (ap (λ (x : Job). is_opening x.cursor) same) (ap (λ (x : Job). (core_job n x).sums) same)
 
+  -- one action later, a contract sees of it a job that has begun its append with this number
   pub seen_drawn : (new : Job) → rest_of n new ≡ drop 1 (rest_of n mid) → is_opening new.cursor ≡ goes_opening mid.cursor →
       new ≡ record mid { cursor = new.cursor; left = new.left } → core_job n new ≡ drawn (core_job n old) k
   seen_drawn new r o e = seen_moved n mid new mid_kept r o e ∙ ap stepped mid_seen
 
+-- a job that begins its append needs no more room than before
 pub drawn_room : (n : ℕ) (j : CoreJob) (k : ℕ) → reserved_of n (drawn j k) ≤ reserved_of n j
 drawn_room n j k =
     let a = moved_room n (record j { subject = k; rest = all_renamed k j.wish j.rest }) in
     let b = reserved_fewer n j (record j { subject = k; rest = all_renamed k j.wish j.rest }) refl (let e = renamed_gates k j.wish j.rest in omega (arith, e)) in
     omega (arith, a, b)
 
+-- a job that begins its append has no more PutStarts to write than before
 pub drawn_starts : (j : CoreJob) (k : ℕ) → starts_of (drawn j k) ≤ starts_of j
 drawn_starts j k = starts_not_more j (drawn j k) refl (and_left j.opening (not (is_gate (slice_get (all_renamed k j.wish j.rest) 0))))
 
+-- a core whose job began its append looks as the contract of that step says
 pub begun_view : (a : Inside) (c : CoreView) (v : Vec Job Global) (place k : ℕ) (old new index : Job) → view_of a ≡ c → v.items ≡ set a.jobs.items place new →
     slice_get (view_of a).jobs place ≡ Some (core_job a.setup.n old) → slice_get (view_of a).jobs place ≡ Some (core_job a.setup.n index) → core_job a.setup.n new ≡ drawn (core_job a.setup.n old) k →
     k ≡ number_drawn c.table (core_job c.setup.n index) index.wish → (j : CoreJob) → slice_get c.jobs place ≡ Some j →

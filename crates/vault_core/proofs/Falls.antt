@@ -55,7 +55,7 @@ extra_less true x y n l = elim (cases_Bool (nat_lt 0 x)) [
   | inr f ↦ (let p = ap {B = ℕ} (λ (b : Bool). if b then n else 0) f in omega (arith, p))
 ]
 
-pub moved_falls : (n : ℕ) (j : CoreJob) → 0 < length j.rest → most_of n (stepped j) < most_of n j
+moved_falls : (n : ℕ) (j : CoreJob) → 0 < length j.rest → most_of n (stepped j) < most_of n j
 moved_falls n j l =
     let a = length-drop 1 j.rest in
     let b = extra_less (removes_older (aim_of_wish j.wish)) (gates (drop 1 j.rest)) (gates j.rest) n (gates_fewer j.rest) in
@@ -66,7 +66,7 @@ renamed_most n k j =
     ap (λ (m : ℕ). m + extra (removes_older (aim_of_wish j.wish)) (gates (all_renamed k j.wish j.rest)) n) (renamed_length k j.wish j.rest)
     ∙ ap (λ (m : ℕ). length j.rest + extra (removes_older (aim_of_wish j.wish)) m n) (renamed_gates k j.wish j.rest)
 
-pub drawn_falls : (n k : ℕ) (j : CoreJob) → 0 < length j.rest → most_of n (drawn j k) < most_of n j
+drawn_falls : (n k : ℕ) (j : CoreJob) → 0 < length j.rest → most_of n (drawn j k) < most_of n j
 drawn_falls n k j l =
     let e = renamed_length k j.wish j.rest in
     let a = moved_falls n (record j { subject = k; rest = all_renamed k j.wish j.rest }) (omega (arith, e, l)) in
@@ -81,7 +81,7 @@ unfolding rest_of
 removed_most n job None l kept d = let e = (ended n job kept).left in omega (arith, e)
 removed_most n job (Some object) l kept d = let e = (decided n job object (1 + n) l kept d refl).left in omega (arith, e)
 
-pub gated_falls : (n : ℕ) (job : Job) (older : Option ℕ) → 0 < n → IsJobKept n job → slice_get (rest_of n job) 0 ≡ Some SyncGate →
+gated_falls : (n : ℕ) (job : Job) (older : Option ℕ) → 0 < n → IsJobKept n job → slice_get (rest_of n job) 0 ≡ Some SyncGate →
     most_of n (gated_by n older (core_job n job)) < most_of n (core_job n job)
 gated_falls n job older l kept h = elim (cases_Bool (decides_now (core_job n job))) [
   | inl d ↦ (let is = decides_is n job kept h ∙ d in
@@ -115,6 +115,7 @@ behind low [] next i j h e = let r : None ≡ Some j = e in cc
 behind low (x ∷ js) next zero j h e = let r : Some x ≡ Some j = e in let s : x ≡ j = cc in let m = ap (λ (v : CoreJob). v.number) s in let a = h.0 in omega arith
 behind low (x ∷ js) next (suc i) j h e = let a = h.0 in let b = behind (x.number + 1) js next i j h.1 e in omega arith
 
+-- a job at a place is the one that is found by its number, where the numbers ascend
 pub at_number : (low : ℕ) (js : List CoreJob) (next i : ℕ) (j : CoreJob) → AreRising low js next → slice_get js i ≡ Some j → job_in js j.number ≡ Some j
 at_number low [] next i j h e = let r : None ≡ Some j = e in cc
 at_number low (x ∷ js) next zero j h e = let r : Some x ≡ Some j = e in let s : x ≡ j = cc in
@@ -134,7 +135,7 @@ kept_of n (x ∷ xs) zero j h e = let r : Some (core_job n x) ≡ Some j = e in 
 kept_of n (x ∷ xs) (suc i) j h e = kept_of n xs i j (λ k d l. h (suc k) d (omega (arith, l))) e
 
 -- a job that runs has an action left
-pub some_rest : (a : Inside) (c : CoreView) (place : ℕ) (j : CoreJob) → view_of a ≡ c → IsCore a → slice_get c.jobs place ≡ Some j → 0 < length j.rest
+some_rest : (a : Inside) (c : CoreView) (place : ℕ) (j : CoreJob) → view_of a ≡ c → IsCore a → slice_get c.jobs place ≡ Some j → 0 < length j.rest
 some_rest a c place j v h e = kept_of a.setup.n a.jobs.items place j h.kept (ap (λ (x : CoreView). slice_get x.jobs place) v ∙ e)
 
 -- ---- what is left of it
@@ -159,7 +160,7 @@ removed_falls a c new place v h r j e =
     omega (arith, x, y, l)
 
 -- one that has fewer steps left in its place
-pub set_falls : (a : Inside) (c new : CoreView) (place : ℕ) (j k : CoreJob) → view_of a ≡ c → IsCore a → slice_get c.jobs place ≡ Some j → new.setup ≡ c.setup → new.jobs ≡ set c.jobs place k →
+set_falls : (a : Inside) (c new : CoreView) (place : ℕ) (j k : CoreJob) → view_of a ≡ c → IsCore a → slice_get c.jobs place ≡ Some j → new.setup ≡ c.setup → new.jobs ≡ set c.jobs place k →
     k.number ≡ j.number → most_of c.setup.n k < most_of c.setup.n j → core_left new j.number < core_left c j.number
 set_falls a c new place j k v h e s r m l =
     let up = rising_at a c v h in
@@ -172,6 +173,7 @@ set_falls a c new place j k v h e s r m l =
 
 -- ---- the job at a place whose append is done
 
+-- with the end of its append, the steps that a job may still make grow fewer
 pub gated_goes : (a : Inside) (c : CoreView) (t : Kept) (v : Vec Job Global) (place z : ℕ) (old new : Job) (older : Option ℕ) → view_of a ≡ c → IsCore a → v.items ≡ set a.jobs.items place new →
     slice_get (view_of a).jobs place ≡ Some (core_job a.setup.n old) → IsJobKept a.setup.n old → slice_get (rest_of a.setup.n old) 0 ≡ Some SyncGate →
     core_job a.setup.n new ≡ gated_by a.setup.n older (core_job a.setup.n old) → (j : CoreJob) → slice_get c.jobs place ≡ Some j →
@@ -219,6 +221,7 @@ pub record StepHere (c : CoreView) (k place : ℕ) (r : Reply) (action : Action)
   pub next : action_next c.table job ≡ Some action
   pub replies : HasReply c k (Acts action) r
 
+-- a reply that fits comes to a job that runs, is found by its number, and has this next action
 pub step_here : (a : Inside) (c : CoreView) (k place : ℕ) (job : Job) (r : Reply) (action : ActionValue) → view_of a ≡ c → IsCore a → TakesReply c k r →
     Some place ≡ position (λ (j : CoreJob). j.number == k) c.jobs → job ≡ get_or a.jobs.items place job →
     ((n : ℕ) → IsJobKept n job → action_next a.table (core_job n job) ≡ Some (seen_action action)) → StepHere c k place r (seen_action action)
@@ -244,19 +247,23 @@ step_here a c k place job r action v h takes found at acts =
       replies = subst (λ (x : Action). HasReply c k (Acts x) r) same t.1.1;
     }
 
+-- fewer steps at the place of a job are fewer steps of the job of the number
 pub step_left : (c new : CoreView) (k place : ℕ) (r : Reply) (a : Action) → StepHere c k place r a → ((j : CoreJob) → slice_get c.jobs place ≡ Some j → core_left new j.number < core_left c j.number) → core_left new k < core_left c k
 step_left c new k place r a s f = subst (λ (n : ℕ). core_left new n < core_left c n) s.number (f s.job s.here)
 
+-- with a plain action, the steps that a job may still make grow fewer
 pub moved_goes : (a : Inside) (c new : CoreView) (place : ℕ) → view_of a ≡ c → IsCore a → ((j : CoreJob) → slice_get c.jobs place ≡ Some j → new ≡ with_at c place (stepped j)) →
     (j : CoreJob) → slice_get c.jobs place ≡ Some j → core_left new j.number < core_left c j.number
 moved_goes a c new place v h e j g = set_falls a c new place j (stepped j) v h g (ap (λ (x : CoreView). x.setup) (e j g)) (ap (λ (x : CoreView). x.jobs) (e j g)) refl
     (moved_falls c.setup.n j (some_rest a c place j v h g))
 
+-- with the last ask of an audit, the steps that it may still make grow fewer
 pub judged_goes : (a : Inside) (c new : CoreView) (place : ℕ) (sums : Sums) → view_of a ≡ c → IsCore a → ((j : CoreJob) → slice_get c.jobs place ≡ Some j → new ≡ with_at c place (judged j sums)) →
     (j : CoreJob) → slice_get c.jobs place ≡ Some j → core_left new j.number < core_left c j.number
 judged_goes a c new place sums v h e j g = set_falls a c new place j (judged j sums) v h g (ap (λ (x : CoreView). x.setup) (e j g)) (ap (λ (x : CoreView). x.jobs) (e j g)) refl
     (moved_falls c.setup.n j (some_rest a c place j v h g))
 
+-- with the begin of its append, the steps that a job may still make grow fewer
 pub drawn_goes : (a : Inside) (c new : CoreView) (place : ℕ) → view_of a ≡ c → IsCore a →
     ((j : CoreJob) → slice_get c.jobs place ≡ Some j → new ≡ record (with_at c place (drawn j (number_drawn c.table j j.wish))) { append = Some j.number }) →
     (j : CoreJob) → slice_get c.jobs place ≡ Some j → core_left new j.number < core_left c j.number
@@ -270,13 +277,15 @@ head_is t j a e on = elim (cases_Bool (is_idle t j)) [
   | inr b ↦ sym (ap (λ (x : Bool). if x then Some End else slice_get j.rest 0) b) ∙ e
 ]
 
+-- a job whose next action is not its end has this action as the first that it has not yet made
 pub step_first : (c : CoreView) (k place : ℕ) (r : Reply) (a : Action) → StepHere c k place r a → (a ≡ End → ⊥) → first_at c place ≡ Some a
 step_first c k place r a s on = ap first_of s.here ∙ head_is c.table s.job a s.next on
 
+-- where the next action goes plainly, so does the first that the job has not yet made
 pub step_plain : (c : CoreView) (k place : ℕ) (r : Reply) (a : Action) → StepHere c k place r a → goes_plainly (Some a) ≡ true → goes_plainly (first_at c place) ≡ true
 step_plain c k place r a s p = ap goes_plainly (step_first c k place r a s (λ e. false≢true (ap (λ (x : Action). goes_plainly (Some x)) (sym e) ∙ p))) ∙ p
 
-pub step_within : (c : CoreView) (k place : ℕ) (r : Reply) (a : Action) → StepHere c k place r a → place < length c.jobs
+step_within : (c : CoreView) (k place : ℕ) (r : Reply) (a : Action) → StepHere c k place r a → place < length c.jobs
 step_within c k place r a s = slice_get_within c.jobs place s.job s.here
 
 -- a job whose step is told of runs

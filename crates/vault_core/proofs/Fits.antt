@@ -31,7 +31,7 @@ move_at w (at.Closing m) h = inr (m, refl)
 move_at w c h = absurd (false≢true h)
 
 -- the room of a record is reserved until its append is done
-pub written_room : (n : ℕ) (job : Job) (t : Kept) (entry : Record) → IsJobKept n job → is_move (slice_get (core_job n job).rest 0) ≡ true → written_by t (core_job n job) job.wish ≡ Some entry →
+written_room : (n : ℕ) (job : Job) (t : Kept) (entry : Record) → IsJobKept n job → is_move (slice_get (core_job n job).rest 0) ≡ true → written_by t (core_job n job) job.wish ≡ Some entry →
     1 + record_size entry ≤ reserved_of n (core_job n job)
 written_room n job t entry kept mv w = subst (λ (k : ℕ). 1 + record_size entry ≤ k) (sym (reserved_is n job))
     (elim (move_at job.wish job.cursor (ap is_move (sym (first_is n job kept)) ∙ mv)) [
@@ -51,6 +51,7 @@ job_sum f (c ∷ cs) k j e = elim (cases_Bool (c.number == k)) [
   | inr b ↦ (let p = job_sum f cs k j (sym (ap (λ (x : Bool). if x then Some c else job_in cs k) b) ∙ e) in let q = sum_by-cons f c cs in omega (arith, p, q))
 ]
 
+-- the record that a kept job is about to write fits behind the end of the journal
 pub writing_room : (c : CoreView) (k : ℕ) (job : Job) (t : Kept) (o : Option RecordValue) → Reserves c → IsJobKept c.setup.n job → Some (core_job c.setup.n job) ≡ job_in c.jobs k →
     option_map entry_of o ≡ entry_of_job t (core_job c.setup.n job) → IfSome o (λ entry. c.end + (1 + record_size (entry_of entry)) ≤ 2 ^ 24)
 writing_room c k job t None h kept found e = tt

@@ -43,6 +43,7 @@ action_at w (at.Closing move.GateSync) = SyncGate
 action_at w (at.Removing object j) = Remove j object
 action_at w at.Ending = End
 
+-- the first action from a cursor on is the one that the cursor tells
 pub first_at : (n : ℕ) (job : Job) (c : Cursor) → comes_to job.wish c ≡ true → IsWithin n job.flagged c →
     slice_get (rest_at n job c) 0 ≡ Some (action_at job.wish c)
 first_at n job (at.Calling spot j) h w = first_of_front _ _ _ _ (calls_here j n job.wish spot.object spot.turn w.0)
@@ -53,10 +54,12 @@ first_at n job (at.Opening move.Body) h w = refl
 first_at n job (at.Closing move.Body) h w = refl
 first_at n job c h w = refl
 
+-- the first action that a kept job has not yet made is the one that its cursor tells
 pub first_is : (n : ℕ) (job : Job) → IsJobKept n job → slice_get (rest_of n job) 0 ≡ Some (action_at job.wish job.cursor)
 unfolding rest_of
 first_is n job kept = first_at n job job.cursor kept.comes kept.within
 
+-- a kept job has an action before it
 pub rest_some : (n : ℕ) (job : Job) → IsJobKept n job → 0 < length (rest_of n job)
 rest_some n job kept = slice_get_within (rest_of n job) 0 (action_at job.wish job.cursor) (first_is n job kept)
 
@@ -71,6 +74,7 @@ begins_is w (at.Opening move.Body) = refl
 begins_is w (at.Closing move.Body) = refl
 begins_is w c = refl
 
+-- the second of a list is the first of what is behind its head
 pub second_of : (xs : List Action) → slice_get xs 1 ≡ slice_get (drop 1 xs) 0
 second_of [] = refl
 second_of (x ∷ xs) = refl
@@ -80,9 +84,10 @@ pub asks_last : (n : ℕ) (job : Job) (c : Cursor) (j o t : ℕ) → slice_get (
     is_start c ≡ is_last_ask (rest_of n job)
 asks_last n job c j o t e is = rw (e, second_of (rest_of n job), ← is.rest, first_at n job c is.comes is.within) (sym (begins_is job.wish c))
 
-pub asks_not : (xs : List Action) (a : Action) → slice_get xs 0 ≡ Some a → asks_next (Some a) ≡ false → false ≡ is_last_ask xs
+asks_not : (xs : List Action) (a : Action) → slice_get xs 0 ≡ Some a → asks_next (Some a) ≡ false → false ≡ is_last_ask xs
 asks_not xs a e h = rw (e, h) refl
 
+-- a kept job whose next action is not its end is not over
 pub not_over : (n : ℕ) (job : Job) (a : Action) → IsJobKept n job → slice_get (rest_of n job) 0 ≡ Some a → (a ≡ End → ⊥) → is_over job.cursor ≡ false
 not_over n job a kept e h = by job.cursor (let s : Some (action_at job.wish job.cursor) ≡ Some a = sym (first_is n job kept) ∙ e in let r : action_at job.wish job.cursor ≡ a = cc in r)
   where
@@ -150,7 +155,7 @@ both : (xs ys : List Action) → has_gate xs ≡ true → has_gate ys ≡ true �
 both xs ys a b = a ∙ sym b
 
 -- a gate is left behind an action where one was, but for the action that decides
-pub gates_kept : (n : ℕ) (job : Job) → IsJobKept n job → decides job ≡ false → removes_older (aim_of_wish job.wish) ≡ true →
+gates_kept : (n : ℕ) (job : Job) → IsJobKept n job → decides job ≡ false → removes_older (aim_of_wish job.wish) ≡ true →
     has_gate (drop 1 (rest_of n job)) ≡ has_gate (rest_of n job)
 gates_kept n job kept undecided takes = by job.cursor refl
   where
@@ -213,7 +218,7 @@ gates_kept n job kept undecided takes = by job.cursor refl
 -- ---- how many they are
 
 -- how many steps may remain falls by one
-pub most_falls : (n : ℕ) (job : Job) (rest : List Action) → IsJobKept n job → decides job ≡ false → rest ≡ drop 1 (rest_of n job) →
+most_falls : (n : ℕ) (job : Job) (rest : List Action) → IsJobKept n job → decides job ≡ false → rest ≡ drop 1 (rest_of n job) →
     length rest + (if removes_older (aim_of_wish job.wish) && has_gate rest then n else 0) ≡ most_of n (core_job n job) - 1
 most_falls n job rest kept undecided e = subst (λ (xs : List Action). length xs + (if removes_older (aim_of_wish job.wish) && has_gate xs then n else 0) ≡ most_of n (core_job n job) - 1) (sym e)
     (elim (cases_Bool (removes_older (aim_of_wish job.wish))) [
@@ -227,10 +232,12 @@ at_same : (n : ℕ) (job : Job) (k : ℕ) (at_ c : Cursor) → rest_at n (record
 at_same n job k at_ (at.Opening m) = refl
 at_same n job k at_ c = refl
 
+-- a job that is moved to a cursor where it may be has that cursor's actions before it
 pub rest_moved : (n : ℕ) (job : Job) (c : Cursor) (k : ℕ) (xs : List Action) → MayBeAt n job c xs → rest_of n (record job { cursor = c; left = k }) ≡ xs
 unfolding rest_of
 rest_moved n job c k xs is = at_same n job k c c ∙ is.rest
 
+-- a kept job that makes an action which decides nothing is a kept job, with one step fewer
 pub advanced : (n : ℕ) (job : Job) (c : Cursor) → IsJobKept n job → decides job ≡ false → MayBeAt n job c (drop 1 (rest_of n job)) →
     IsJobKept n (record job { cursor = c; left = job.left - 1 })
 advanced n job c kept undecided is = record {
@@ -263,7 +270,7 @@ decides_rest n job kept d = by job.cursor refl d
     by (at.Closing move.GateSync) e h = rest_is n job _ e
     by c e h = absurd (false≢true h)
 
-pub decides_takes : (job : Job) → decides job ≡ true → removes_older (aim_of_wish job.wish) ≡ true
+decides_takes : (job : Job) → decides job ≡ true → removes_older (aim_of_wish job.wish) ≡ true
 decides_takes job d = by job.cursor d
   where
     takes : (w : Wish) (b : Bool) → is_taker w b ≡ true → removes_older (aim_of_wish w) ≡ true
@@ -276,6 +283,7 @@ decides_takes job d = by job.cursor d
     by (at.Closing move.GateSync) h = takes job.wish false h
     by c h = absurd (false≢true h)
 
+-- a job about to decide on a removal may still make this step, a removal each, and its end
 pub decides_left : (n : ℕ) (job : Job) → IsJobKept n job → decides job ≡ true → job.left ≡ 2 + n
 decides_left n job kept d = kept.left ∙ rw (decides_rest n job kept d, decides_takes job d) refl
 
@@ -300,6 +308,7 @@ removing_most n object w =
     let d = and_no_gate w (map (λ k. Remove k object) (numbers 0 n) ++ End ∷ []) n (no_removes object (numbers 0 n)) in
     omega (arith, a, b, c, d)
 
+-- a kept job that has decided to remove an object is a kept job at the first removal
 pub decided : (n : ℕ) (job : Job) (object k : ℕ) → 0 < n → IsJobKept n job → decides job ≡ true → k ≡ 1 + n →
     IsJobKept n (record job { cursor = at.Removing object 0; left = k })
 unfolding rest_of
@@ -317,6 +326,7 @@ decided n job object k l kept d e = record {
   left = e ∙ sym (removing_most n object job.wish);
 }
 
+-- a kept job that is put to its end is a kept job with one step left
 pub ended : (n : ℕ) (job : Job) → IsJobKept n job → IsJobKept n (record job { cursor = at.Ending; left = 1 })
 unfolding rest_of
 ended n job kept = record {
@@ -336,16 +346,18 @@ ended n job kept = record {
 -- ---- an idle drop
 
 -- a cursor is at the first move of a first append where its first action begins an append
-pub unbegun_is : (n : ℕ) (job : Job) (c : Cursor) → is_unbegun c ≡ (is_opening c && begins_append (slice_get (rest_at n job c) 0))
+unbegun_is : (n : ℕ) (job : Job) (c : Cursor) → is_unbegun c ≡ (is_opening c && begins_append (slice_get (rest_at n job c) 0))
 unbegun_is n job (at.Opening move.Body) = refl
 unbegun_is n job c = refl
 
+-- a drop of a name that is not in effect is idle as long as its cursor is at the first move
 pub idle_is : (n : ℕ) (job : Job) (t : Kept) (name : List ℕ) → job.wish ≡ wish.Drop name → find_file t.files name ≡ None →
     is_unbegun job.cursor ≡ is_idle t (core_job n job)
 unfolding rest_of
 idle_is n job t name w e = unbegun_is n job job.cursor
     ∙ ap (λ (b : Bool). b && (is_opening job.cursor && begins_append (slice_get (rest_at n job job.cursor) 0))) (sym (ap (is_gone t) w ∙ ap (λ (o : Option File). not (is_some o)) e))
 
+-- what is made of an absent value is absent
 pub map_none : {X Y : Type 0} (f : X → Y) (o : Option X) → is_some o ≡ false → option_map f o ≡ None
 map_none f None h = refl
 map_none f (Some x) h = absurd (false≢true (sym h))

@@ -45,9 +45,11 @@ at_gate w (at.Calling spot j) h X a b = by_call (λ x. x ≡ SyncGate → X) w s
 at_gate w (at.Closing move.GateSync) h X a b = b refl
 at_gate w c h X a b = cc
 
+-- a kept job whose next action is a gate has its cursor there
 pub gate_at : (n : ℕ) (job : Job) → IsJobKept n job → slice_get (rest_of n job) 0 ≡ Some SyncGate → action_at job.wish job.cursor ≡ SyncGate
 gate_at n job kept h = let s : Some (action_at job.wish job.cursor) ≡ Some SyncGate = sym (first_is n job kept) ∙ h in let r : action_at job.wish job.cursor ≡ SyncGate = cc in r
 
+-- a kept job whose next action is a gate is not over
 pub gate_going : (n : ℕ) (job : Job) → IsJobKept n job → slice_get (rest_of n job) 0 ≡ Some SyncGate → is_over job.cursor ≡ false
 gate_going n job kept h = at_gate job.wish job.cursor (gate_at n job kept h) _ (λ c. ap is_over c) (λ c. ap is_over c)
 
@@ -57,6 +59,7 @@ decides_is n job kept h = at_gate job.wish job.cursor (gate_at n job kept h) _
     (λ c. ap (decides_at job.wish) c ∙ (ap (λ (x : Cursor). is_taker job.wish (is_opening x)) (sym c) ∙ ap (λ (o : Option Action). is_gate o && is_taker job.wish (is_opening job.cursor)) (sym h)))
     (λ c. ap (decides_at job.wish) c ∙ (ap (λ (x : Cursor). is_taker job.wish (is_opening x)) (sym c) ∙ ap (λ (o : Option Action). is_gate o && is_taker job.wish (is_opening job.cursor)) (sym h)))
 
+-- a job behind a gate that decides on a removal has the removals of that object before it
 pub seen_decided : (n : ℕ) (old new : Job) (older : Option ℕ) → IsJobKept n old → slice_get (rest_of n old) 0 ≡ Some SyncGate → decides old ≡ true → rest_of n new ≡ removals_of n older →
     is_opening new.cursor ≡ false → new ≡ record old { cursor = new.cursor; left = new.left } → core_job n new ≡ gated_by n older (core_job n old)
 seen_decided n old new older kept h d r o e =
@@ -65,6 +68,7 @@ seen_decided n old new older kept h d r o e =
     r o (ap (λ (x : Job). (core_job n x).sums) e)
     ∙ ap (λ (b : Bool). if b then record (core_job n old) { rest = removals_of n older; opening = false } else stepped (core_job n old)) (sym (sym (decides_is n old kept h) ∙ d))
 
+-- a job behind a gate that decides nothing has what was before it, without the gate
 pub seen_undecided : (n : ℕ) (old new : Job) (older : Option ℕ) → IsJobKept n old → slice_get (rest_of n old) 0 ≡ Some SyncGate → decides old ≡ false → rest_of n new ≡ drop 1 (rest_of n old) →
     is_opening new.cursor ≡ goes_opening old.cursor → new ≡ record old { cursor = new.cursor; left = new.left } → core_job n new ≡ gated_by n older (core_job n old)
 seen_undecided n old new older kept h d r o e =
@@ -96,13 +100,14 @@ gated_wish n older j = elim (cases_Bool (decides_now j)) [
   | inr d ↦ ap (λ (b : Bool). (if b then record j { rest = removals_of n older; opening = false } else stepped j).wish) d
 ]
 
+-- a job keeps its number as its append ends
 pub gated_number : (n : ℕ) (older : Option ℕ) (j : CoreJob) → (gated_by n older j).number ≡ j.number
 gated_number n older j = elim (cases_Bool (decides_now j)) [
   | inl d ↦ ap (λ (b : Bool). (if b then record j { rest = removals_of n older; opening = false } else stepped j).number) d
   | inr d ↦ ap (λ (b : Bool). (if b then record j { rest = removals_of n older; opening = false } else stepped j).number) d
 ]
 
-pub gated_opening : (n : ℕ) (older : Option ℕ) (j : CoreJob) → slice_get j.rest 0 ≡ Some SyncGate → (gated_by n older j).opening ≡ false
+gated_opening : (n : ℕ) (older : Option ℕ) (j : CoreJob) → slice_get j.rest 0 ≡ Some SyncGate → (gated_by n older j).opening ≡ false
 gated_opening n older j h = elim (cases_Bool (decides_now j)) [
   | inl d ↦ ap (λ (b : Bool). (if b then record j { rest = removals_of n older; opening = false } else stepped j).opening) d
   | inr d ↦ ap (λ (b : Bool). (if b then record j { rest = removals_of n older; opening = false } else stepped j).opening) d
@@ -123,9 +128,11 @@ entry_size n wish.Audit true = 9
 entry_size n wish.Audit false = 14 + 4 * n
 entry_size n wish.Repair b = 9
 
+-- a kept job counts once for each provider
 pub length_counted : (n : ℕ) (job : Job) → IsJobKept n job → length (counted job.counts) ≡ n
 length_counted n job kept = length-take-le job.counts.n job.counts.by (subst (λ (k : ℕ). job.counts.n ≤ k) (sym kept.stays.padded.room) kept.stays.padded.at_most) ∙ kept.stays.counts
 
+-- the record of an append has the size that was reserved for it
 pub size_of_entry : (n : ℕ) (t : Kept) (j : CoreJob) (w : Wish) (entry : Record) → length j.sums.counts ≡ n → written_by t j w ≡ Some entry →
     (b : Bool) → b ≡ j.opening → entry_size n w b ≡ record_size entry
 size_of_entry n t j (wish.Put name size) entry l h true e = ap record_size (let s : Some (PutStart (id_after t) name) ≡ Some entry = ap (λ (o : Bool). Some (if o then PutStart (id_after t) name else PutDone j.subject size)) e ∙ h in let r : PutStart (id_after t) name ≡ entry = cc in r)
@@ -138,6 +145,7 @@ size_of_entry n t j wish.Audit entry l h false e =
     ∙ ap record_size (let s : Some (AuditDone j.subject j.sums.undecided j.sums.counts) ≡ Some entry = ap (λ (o : Bool). Some (if o then AuditStart t.next_audit else AuditDone j.subject j.sums.undecided j.sums.counts)) e ∙ h in let r : AuditDone j.subject j.sums.undecided j.sums.counts ≡ entry = cc in r)
 size_of_entry n t j wish.Repair entry l h b e = ap record_size (let s : Some (RepairDone j.subject) ≡ Some entry = h in let r : RepairDone j.subject ≡ entry = cc in r)
 
+-- the room that a job needs before a gate is that behind it, and the record that the gate ends
 pub room_at : (n : ℕ) (w : Wish) (c : Cursor) (b : Bool) (z : ℕ) → comes_to w c ≡ true → (c ≡ at.Opening move.GateSync) ⊎ (c ≡ at.Closing move.GateSync) → is_opening c ≡ b → entry_size n w b ≡ z →
     reserved_less n w (gates_at w c) + (1 + z) ≡ reserved_at n w c
 room_at n w c b z h (inl g) o e = subst (λ (x : Cursor). reserved_less n w (gates_at w x) + (1 + z) ≡ reserved_at n w x) (sym g)
@@ -162,7 +170,7 @@ room_at n w c b z h (inr g) o e = subst (λ (x : Cursor). reserved_less n w (gat
     closing wish.Repair k f = (let a = one 10 in omega (arith, a, f))
 
 -- the room of a record is no longer reserved once it is in effect
-pub gated_room : (n : ℕ) (job : Job) (older : Option ℕ) (t : Kept) (entry : Record) → IsJobKept n job → slice_get (rest_of n job) 0 ≡ Some SyncGate →
+gated_room : (n : ℕ) (job : Job) (older : Option ℕ) (t : Kept) (entry : Record) → IsJobKept n job → slice_get (rest_of n job) 0 ≡ Some SyncGate →
     written_by t (core_job n job) job.wish ≡ Some entry → reserved_of n (gated_by n older (core_job n job)) + (1 + record_size entry) ≡ reserved_of n (core_job n job)
 gated_room n job older t entry kept h w =
     ap (λ (k : ℕ). k + (1 + record_size entry)) (after (gated_wish n older (core_job n job)))
@@ -178,7 +186,7 @@ gated_room n job older t entry kept h w =
     sizes : (b : Bool) → b ≡ is_opening job.cursor → entry_size n job.wish b ≡ record_size entry
     sizes b e = size_of_entry n t (core_job n job) job.wish entry (length_counted n job kept) w b e
 
-pub gated_starts : (n : ℕ) (job : Job) (older : Option ℕ) (t : Kept) (entry : Record) → slice_get (rest_of n job) 0 ≡ Some SyncGate →
+gated_starts : (n : ℕ) (job : Job) (older : Option ℕ) (t : Kept) (entry : Record) → slice_get (rest_of n job) 0 ≡ Some SyncGate →
     written_by t (core_job n job) job.wish ≡ Some entry → starts_of (gated_by n older (core_job n job)) + (if is_put_start entry then 1 else 0) ≤ starts_of (core_job n job)
 gated_starts n job older t entry h w =
     subst (λ (k : ℕ). k + (if is_put_start entry then 1 else 0) ≤ starts_of (core_job n job))
@@ -205,6 +213,7 @@ pub record GateHere (a : Inside) (place : ℕ) (job : Job) : Type 0 where
   pub kept : IsJobKept a.setup.n job
   pub gate : slice_get (rest_of a.setup.n job) 0 ≡ Some SyncGate
 
+-- a core's job whose next action is a gate is at a place, is kept, and is at such a gate
 pub gate_here : (a : Inside) (c : CoreView) (place : ℕ) (job : Job) → view_of a ≡ c → IsCore a → job ≡ get_or a.jobs.items place job → first_at c place ≡ Some SyncGate → GateHere a place job
 gate_here a c place job v h e f =
     let p : first_at (view_of a) place ≡ Some SyncGate = subst (λ (x : CoreView). first_at x place ≡ Some SyncGate) (sym v) f in
@@ -216,6 +225,7 @@ gated_jobs : (a : Inside) (v : Vec Job Global) (place : ℕ) (new : Job) (k : Co
     map (core_job a.setup.n) v.items ≡ set (view_of a).jobs place k
 gated_jobs a v place new k e s = ap (map (core_job a.setup.n)) e ∙ (map-set (core_job a.setup.n) a.jobs.items place new ∙ ap (set (map (core_job a.setup.n) a.jobs.items) place) s)
 
+-- a core whose job made its gate looks as the contract of that step says: the record is in effect
 pub has_gated : (a : Inside) (c : CoreView) (t : Kept) (v : Vec Job Global) (place z : ℕ) (old new one_ two_ : Job) (older : Option ℕ) (wrote : Record) (rs : List Record) →
     view_of a ≡ c → v.items ≡ set a.jobs.items place new →
     slice_get (view_of a).jobs place ≡ Some (core_job a.setup.n old) → slice_get (view_of a).jobs place ≡ Some (core_job a.setup.n one_) → slice_get (view_of a).jobs place ≡ Some (core_job a.setup.n two_) →
@@ -245,6 +255,7 @@ has_gated a c t v place z old new one_ two_ older wrote rs view items here here1
           ∙ ap (λ (m : ℕ). record c { table = t; end = c.end + (1 + m); jobs = set c.jobs place (gated c.setup.n c.table c.jobs j); append = None }) (size ∙ ap record_size is_entry));
     }
 
+-- a core stays one as it is kept as the append of a job ends
 pub gated_core : (a : Inside) (t : Kept) (v : Vec Job Global) (place z : ℕ) (old new one_ : Job) (older : Option ℕ) (wrote : Record) → v.items ≡ set a.jobs.items place new →
     slice_get (view_of a).jobs place ≡ Some (core_job a.setup.n old) → slice_get (view_of a).jobs place ≡ Some (core_job a.setup.n one_) → IsJobKept a.setup.n old →
     slice_get (rest_of a.setup.n old) 0 ≡ Some SyncGate → core_job a.setup.n new ≡ gated_by a.setup.n older (core_job a.setup.n old) → IsJobKept a.setup.n new → z ≡ record_size wrote →
@@ -298,6 +309,7 @@ not_refused (Err fault.BadResume) entry rs spare e c a m s p = (let x : None ≡
 not_refused (Err fault.NameTwice) entry rs spare e c a m s p = (let x : None ≡ Some NameTwice = sym a ∙ c in cc)
 not_refused (Err fault.Memory) entry rs spare e c a m s p = (let x = p (m refl) in let y = s refl in omega (arith, x, y))
 
+-- a setup within its limits has four to sixteen providers
 pub providers : (s : Setup) → IsTrue (is_setup s) → (4 ≤ s.n) × (s.n ≤ 16)
 providers s h = search rules
 
@@ -314,13 +326,16 @@ start_spare a place job wrote h here gate w p =
     let y = ap {B = ℕ} (λ (b : Bool). if b then 1 else 0) p in
     omega (arith, q, r, u, x, y)
 
+-- what holds on an Ok holds of an answer that is no error
 pub on_ok : {X Y : Type 0} (r : Result X Y) (P : Type 0) → is_err r ≡ false → OnOk r P → P
 on_ok (Ok x) P e h = h
 on_ok (Err y) P e h = absurd (false≢true (sym e))
 
+-- a place among the jobs that a contract sees is one among the jobs as they are kept
 pub place_len : (a : Inside) (place : ℕ) → place < length (view_of a).jobs → place < length a.jobs.items
 place_len a place l = let m : length (map (core_job a.setup.n) a.jobs.items) ≡ length a.jobs.items = simp length-map in omega (arith, l, m)
 
+-- the record that a core writes for a job is the one that a contract sees
 pub same_entry : (a : Inside) (c : CoreView) (place : ℕ) (job : Job) (wrote : Record) → view_of a ≡ c → slice_get (view_of a).jobs place ≡ Some (core_job a.setup.n job) →
     Some wrote ≡ written_by a.table (core_job a.setup.n job) job.wish → (j : CoreJob) (entry : Record) → slice_get c.jobs place ≡ Some j → written_by c.table j j.wish ≡ Some entry → wrote ≡ entry
 same_entry a c place job wrote view here w j entry g k =

@@ -14,6 +14,7 @@ use Rattle.record_codec.specs.Entries.{IsPadded, IsInGrammar}
 fit_all : (xs : List ℕ) → All (λ k. k < 2 ^ 32) xs → list_all (λ k. nat_lt k (2 ^ 32)) xs ≡ true
 fit_all xs h = list_all-from_AllPass (λ k. nat_lt k (2 ^ 32)) xs (λ k d l. lt-ltb _ _ (h k d l))
 
+-- an AuditDone whose number and counts fit their fields is a record of the grammar
 pub audit_done_in_grammar : (number undecided : ℕ) (counts : Counts) → number < 2 ^ 64 → undecided < 2 ^ 32 → 4 ≤ counts.n → counts.n ≤ 16 → IsPadded counts →
     All (λ k. k < 2 ^ 32) counts.by → IsInGrammar (kind.AuditDone number undecided counts)
 audit_done_in_grammar number undecided counts a b c d padded all = record {

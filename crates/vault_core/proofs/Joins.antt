@@ -59,7 +59,7 @@ pins-one : (w : State) (o : Option File) → ((f : File) → o ≡ Some f → le
 pins-one w None h = refl
 pins-one w (Some f) h = ap (λ (p : Pinned). p ∷ []) (pin-file w f (h f refl))
 
-pub pins-are : (t : Kept) (w : State) (v : Wish) (k : Kind) → IsFoldOf w.records t → AreHeld w.bytes w.records → IsKindOf v k → pins_for t v ≡ map pin_of (pinned_for w k)
+pins-are : (t : Kept) (w : State) (v : Wish) (k : Kind) → IsFoldOf w.records t → AreHeld w.bytes w.records → IsKindOf v k → pins_for t v ≡ map pin_of (pinned_for w k)
 pins-are t w v k fold held kind = ap (pins_by core_pins pin_of_file (find_file t.files) t.files) kind ∙ by (aim_of k)
   where
     all : pin_each core_pins pin_of_file t.files ≡ map pin_of (pin_each machine_pins (pinned_file w) (files_of w.records))
@@ -146,7 +146,7 @@ files-are s j v fl g h mp plain = tasks-pins s.n v fl (turns_for s v) (map pin_o
     ∙ (flat-same (λ (f : PinnedBytes). turns_from 0 s.n v fl f.id (turns_for s v (length f.bytes))) (g s.profile) mp h
     ∙ flat-plain s g mp plain))
 
-pub actions-are : (s : Setup) (j : MachineJob) (v : Wish) (k : Kind) (fl : List Bool) → j.profile ≡ s.profile → ArePlain s j.pinned → IsAlike v k → HasNoPins v j.pinned → j.older ≡ [] → ((name bytes : List ℕ) → k ≡ PutJob name bytes → j.subject ≡ 0) → ((i : ℕ) → i < s.n → flag_at fl i ≡ j.flagged i) →
+actions-are : (s : Setup) (j : MachineJob) (v : Wish) (k : Kind) (fl : List Bool) → j.profile ≡ s.profile → ArePlain s j.pinned → IsAlike v k → HasNoPins v j.pinned → j.older ≡ [] → ((name bytes : List ℕ) → k ≡ PutJob name bytes → j.subject ≡ 0) → ((i : ℕ) → i < s.n → flag_at fl i ≡ j.flagged i) →
     front_of v ++ (tasks_of s.n v fl (tasks_made (turns_for s v) (targets_of v (map pin_of j.pinned))) ++ closing_of v) ≡ actions_by s j k
 actions-are s j (wish.Put name size) (PutJob n b) fl own plain h z o u flags =
     ap (λ (xs : List Action). append_actions ++ (xs ++ (append_actions ++ End ∷ []))) stores
@@ -234,6 +234,7 @@ module _ (t : Kept) (s : Setup) (w : State) (moment : ℕ) (v : Wish) (k : Kind)
   made-opening : is_opening job.cursor ≡ (is_opener v && true)
   made-opening = ap is_opening made.cursor ∙ opens-first v job.tasks.items
 
+  -- a job as it is made stands for the job that the machine adds
   pub made-is : IsJobOf s (core_job s.n job) (new_job w moment k)
   made-is = record {
     number = made.number;

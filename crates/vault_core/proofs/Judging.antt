@@ -28,6 +28,7 @@ audit_is : (v : Wish) → is_audit_wish v ≡ true → v ≡ wish.Audit
 audit_is wish.Audit h = refl
 audit_is v h = absurd (false≢true h)
 
+-- only the machine's audit is alike to an audit
 pub audit_kind : (v : Wish) (k : Kind) → v ≡ wish.Audit → IsAlike v k → k ≡ AuditJob
 audit_kind wish.Audit AuditJob e h = refl
 audit_kind wish.Audit k e h = absurd h
@@ -39,12 +40,14 @@ pub record Asked (c : CoreJob) : Type 0 where
   pub opened : c.opening ≡ false
   pub head : asks_next (slice_get c.rest 0) ≡ false
 
+-- an audit that has asked all is behind its first append, with no ask next
 pub asked_parts : (c : CoreJob) → has_asked c ≡ true → Asked c
 asked_parts c h =
     let a = and_parts (is_audit_wish c.wish) (not c.opening && not (asks_next (slice_get c.rest 0))) h in
     let b = and_parts (not c.opening) (not (asks_next (slice_get c.rest 0))) a.1 in
     record { audit = audit_is c.wish a.0; opened = not-true c.opening b.0; head = not-true (asks_next (slice_get c.rest 0)) b.1 }
 
+-- an audit behind its first append, with no ask next, has asked all
 pub asked_whole : (c : CoreJob) → c.wish ≡ wish.Audit → c.opening ≡ false → asks_next (slice_get c.rest 0) ≡ false → has_asked c ≡ true
 asked_whole c a o h = ap (λ (v : Wish). is_audit_wish v && (not c.opening && not (asks_next (slice_get c.rest 0)))) a
     ∙ (ap (λ (b : Bool). not b && not (asks_next (slice_get c.rest 0))) o ∙ ap not h)

@@ -21,18 +21,19 @@ use Rattle.vault_core.specs.Reserves.{sizes_of, room_behind, reserved_of, starts
 use Rattle.vault_core.specs.Fed.{stepped, is_own, freed, is_gate, renamed}
 use Rattle.vault_core.proofs.Counts.{gates, gates-cons}
 
+-- to map a list without an element is to leave out that element of the mapped list
 pub map-remove : {X Y : Type 0} (f : X → Y) (xs : List X) (i : ℕ) → map f (remove xs i) ≡ remove (map f xs) i
 map-remove f [] zero = refl
 map-remove f [] (suc i) = refl
 map-remove f (x ∷ xs) zero = refl
 map-remove f (x ∷ xs) (suc i) = ap (λ (ys : List _). f x ∷ ys) (map-remove f xs i)
 
-pub All-remove : {X : Type 0} (P : X → Type 0) (xs : List X) (i : ℕ) → All P xs → All P (remove xs i)
+All-remove : {X : Type 0} (P : X → Type 0) (xs : List X) (i : ℕ) → All P xs → All P (remove xs i)
 All-remove P xs i h = All-append P (take i xs) (drop (suc i) xs) (All-take P i xs h) (All-drop P (suc i) xs h)
 
 -- ---- what is reserved, with one job less
 
-pub reserves_less : (c : CoreView) (place : ℕ) (d : CoreJob) (o : Option ℕ) (b : Bool) → place < length c.jobs → Reserves c →
+reserves_less : (c : CoreView) (place : ℕ) (d : CoreJob) (o : Option ℕ) (b : Bool) → place < length c.jobs → Reserves c →
     Reserves (record c { jobs = remove c.jobs place; append = o; barred = b })
 reserves_less c place d o b l h = record {
   room = (let e = sum_by-remove (reserved_of c.setup.n) c.jobs place d l in let r = h.room in omega (arith, e, r));
@@ -41,7 +42,7 @@ reserves_less c place d o b l h = record {
 
 -- ---- and with another job
 
-pub reserves_other : (c : CoreView) (place : ℕ) (j k : CoreJob) (o : Option ℕ) → slice_get c.jobs place ≡ Some j → reserved_of c.setup.n k ≤ reserved_of c.setup.n j →
+reserves_other : (c : CoreView) (place : ℕ) (j k : CoreJob) (o : Option ℕ) → slice_get c.jobs place ≡ Some j → reserved_of c.setup.n k ≤ reserved_of c.setup.n j →
     starts_of k ≤ starts_of j → Reserves c → Reserves (record c { jobs = set c.jobs place k; append = o })
 reserves_other c place j k o e r s h =
     let l = slice_get_within c.jobs place j e in
@@ -53,6 +54,7 @@ reserves_other c place j k o e r s h =
 
 -- ---- a job that has made an action needs no more than before
 
+-- behind its head, a list has no more gates than as a whole
 pub gates_fewer : (xs : List Action) → gates (drop 1 xs) ≤ gates xs
 gates_fewer [] = omega arith
 gates_fewer (x ∷ xs) = let e = gates-cons x xs in omega (arith, e)
@@ -76,16 +78,20 @@ starts_fewer (wish.Put name size) false true h = absurd (false≢true (h refl))
 starts_fewer (wish.Put name size) false false h = omega arith
 starts_fewer w a b h = omega arith
 
+-- a job of the same wish that did not go back to its first append has no more PutStarts to write
 pub starts_not_more : (j k : CoreJob) → k.wish ≡ j.wish → (k.opening ≡ true → j.opening ≡ true) → starts_of k ≤ starts_of j
 starts_not_more j k w h = subst (λ (x : Wish). starts_by x k.opening ≤ starts_of j) (sym w) (starts_fewer j.wish j.opening k.opening h)
 
+-- a job that makes an action needs no more room than before
 pub moved_room : (n : ℕ) (j : CoreJob) → reserved_of n (stepped j) ≤ reserved_of n j
 moved_room n j = reserved_fewer n j (stepped j) refl (gates_fewer j.rest)
 
+-- of two that both hold, the first holds
 pub and_left : (a b : Bool) → (a && b) ≡ true → a ≡ true
 and_left true b h = refl
 and_left false b h = absurd (false≢true h)
 
+-- a job that makes an action has no more PutStarts to write than before
 pub moved_starts : (j : CoreJob) → starts_of (stepped j) ≤ starts_of j
 moved_starts j = starts_not_more j (stepped j) refl (and_left j.opening (not (is_gate (slice_get j.rest 0))))
 
@@ -95,12 +101,13 @@ rising_lower : (low lower : ℕ) (js : List CoreJob) (next : ℕ) → lower ≤ 
 rising_lower low lower [] next l h = omega arith
 rising_lower low lower (j ∷ js) next l h = ((let a = h.0 in omega arith), h.1)
 
-pub rising_remove : (low : ℕ) (js : List CoreJob) (next i : ℕ) → AreRising low js next → AreRising low (remove js i) next
+rising_remove : (low : ℕ) (js : List CoreJob) (next i : ℕ) → AreRising low js next → AreRising low (remove js i) next
 rising_remove low [] next zero h = h
 rising_remove low [] next (suc i) h = h
 rising_remove low (j ∷ js) next zero h = rising_lower (j.number + 1) low js next (let a = h.0 in omega arith) h.1
 rising_remove low (j ∷ js) next (suc i) h = (h.0, rising_remove (j.number + 1) js next i h.1)
 
+-- numbers ascend still where a job gives way to one of its own number
 pub rising_set : (low : ℕ) (js : List CoreJob) (next i : ℕ) (j k : CoreJob) → slice_get js i ≡ Some j → k.number ≡ j.number → AreRising low js next → AreRising low (set js i k) next
 rising_set low [] next i j k e n h = let f : None ≡ Some j = e in cc
 rising_set low (x ∷ js) next zero j k e n h =
@@ -108,6 +115,7 @@ rising_set low (x ∷ js) next zero j k e n h =
     ((let a = h.0 in omega (arith, m)), subst (λ (y : ℕ). AreRising (y + 1) js next) m h.1)
 rising_set low (x ∷ js) next (suc i) j k e n h = (h.0, rising_set (x.number + 1) js next i j k e n h.1)
 
+-- numbers ascend still with a job behind that has the next number
 pub rising_push : (low : ℕ) (js : List CoreJob) (next : ℕ) (k : CoreJob) → k.number ≡ next → AreRising low js next → AreRising low (js ++ k ∷ []) (next + 1)
 rising_push low [] next k n h = ((let a = h in omega arith), (let a = h in omega arith))
 rising_push low (j ∷ js) next k n h = (h.0, rising_push (j.number + 1) js next k n h.1)
@@ -130,11 +138,13 @@ gone low (x ∷ js) next (suc i) j h e = rw (ne_eqb x.number j.number (λ m. abs
 
 -- ---- a core with a job less
 
+-- a contract sees a core without the job of a place where that job was taken out
 pub less_view : (a : Inside) (v : Vec Job Global) (place : ℕ) (o : Option ℕ) (b : Bool) → v.items ≡ remove a.jobs.items place →
     view_of (record a { jobs = v; append = o; barred = b }) ≡ record (view_of a) { jobs = remove (view_of a).jobs place; append = o; barred = b }
 less_view a v place o b e = ap (λ (js : List CoreJob). record (view_of a) { jobs = js; append = o; barred = b })
     (ap (map (core_job a.setup.n)) e ∙ map-remove (core_job a.setup.n) a.jobs.items place)
 
+-- a core stays one as it is kept without one of its jobs
 pub less_core : (a : Inside) (v : Vec Job Global) (place : ℕ) (d : Job) (o : Option ℕ) (b : Bool) → place < length (view_of a).jobs → v.items ≡ remove a.jobs.items place → IsCore a →
     IsCore (record a { jobs = v; append = o; barred = b })
 less_core a v place d o b l e h = record {
@@ -148,11 +158,13 @@ less_core a v place d o b l e h = record {
 
 -- ---- a core with another job
 
+-- a contract sees another job at a place where one was put there
 pub other_view : (a : Inside) (v : Vec Job Global) (place : ℕ) (job : Job) (k : CoreJob) (o : Option ℕ) → v.items ≡ set a.jobs.items place job → core_job a.setup.n job ≡ k →
     view_of (record a { jobs = v; append = o }) ≡ record (view_of a) { jobs = set (view_of a).jobs place k; append = o }
 other_view a v place job k o e s = ap (λ (js : List CoreJob). record (view_of a) { jobs = js; append = o })
     (ap (map (core_job a.setup.n)) e ∙ (map-set (core_job a.setup.n) a.jobs.items place job ∙ ap (set (map (core_job a.setup.n) a.jobs.items) place) s))
 
+-- a core stays one as it is kept with another job at a place that has its number and needs no more
 pub other_core : (a : Inside) (v : Vec Job Global) (place : ℕ) (job : Job) (j k : CoreJob) (o : Option ℕ) → v.items ≡ set a.jobs.items place job → core_job a.setup.n job ≡ k →
     slice_get (view_of a).jobs place ≡ Some j → k.number ≡ j.number → IsJobKept a.setup.n job → reserved_of a.setup.n k ≤ reserved_of a.setup.n j → starts_of k ≤ starts_of j →
     IsCore a → IsCore (record a { jobs = v; append = o })
@@ -167,6 +179,7 @@ other_core a v place job j k o e s g num kept r t h = record {
 
 -- ---- the job at a place
 
+-- the job at a place is seen at that place
 pub seen_at : (a : Inside) (place : ℕ) (job : Job) → place < length (view_of a).jobs → job ≡ get_or a.jobs.items place job →
     slice_get (view_of a).jobs place ≡ Some (core_job a.setup.n job)
 seen_at a place job l e =
@@ -177,6 +190,7 @@ own_is : (o : Option ℕ) (j : CoreJob) → option_eq eqb o (Some j.number) ≡ 
 own_is None j = refl
 own_is (Some k) j = refl
 
+-- the append in flight goes with the job whose own it is
 pub freed_is : (c : CoreView) (place : ℕ) (j : CoreJob) (b : Bool) → slice_get c.jobs place ≡ Some j → option_eq eqb c.append (Some j.number) ≡ b →
     (if b then None else c.append) ≡ freed c place
 freed_is c place j b e f = ap (λ (x : Bool). if x then None else c.append) (sym f ∙ (own_is c.append j ∙ ap (is_own c.append) (sym e)))

@@ -76,6 +76,7 @@ module _ (s : Setup) (i j : Job) (given : i.given ≡ j.given) (subject : i.subj
   files_same [] old new h = h
   files_same (f ∷ fs) old new h = (h.0, rounds_same f (rounds_of (profiled s f.profile) (length f.bytes)) old h.0 h.1, files_same fs h.0 new h.2)
 
+  -- sums of a job are those of another with the same answers, subject and files
   pub sums-same : (sums : Sums) → i.pinned ≡ j.pinned → HasSums s i sums → HasSums s j sums
   sums-same sums pinned h = subst (λ (fs : List Pinned). JudgesFiles s j fs (record { counts = replicate s.n 0; undecided = 0 }) sums) pinned (files_same i.pinned (record { counts = replicate s.n 0; undecided = 0 }) sums h)
 
@@ -103,6 +104,7 @@ module _ (s : Setup) (m : Job) (some : 0 < s.n) where
       (flat_map (λ (f : Pinned). flat_map (λ round. on_each_provider s (λ j. Ask j f.id round)) (rounds_of (profiled s f.profile) (length f.bytes))) fs) e in
       (sums, no_rounds f (rounds_of (profiled s f.profile) (length f.bytes)) sums b.0, no_files fs sums b.1)
 
+  -- a job that asks nothing has sums of zero
   pub no-sums : ask_actions s m ≡ [] → HasSums s m (record { counts = replicate s.n 0; undecided = 0 })
   no-sums e = no_files m.pinned (record { counts = replicate s.n 0; undecided = 0 }) e
 
@@ -163,6 +165,7 @@ IsAudits (Store j o t) = ⊥
 IsAudits (Remove j o) = ⊥
 IsAudits a = Unit {0}
 
+-- each action of an audit's list is one that audits have
 pub audit-action : (s : Setup) (m : Job) (a : Action) → m.kind ≡ AuditJob → slice_get (actions_of s m) m.place ≡ Some a → IsAudits a
 audit-action s m a kind e = each_get IsAudits (append_actions ++ audit_rest s m) m.place a
     (each_append IsAudits append_actions (audit_rest s m) (tt, (tt, (tt, (tt, tt))))
@@ -172,15 +175,19 @@ audit-action s m a kind e = each_get IsAudits (append_actions ++ audit_rest s m)
 -- ---- a job that has made a plain action
 
 module _ (w : State) (c : CoreJob) (m : Job) (a : Action) (is : IsJobOf (setup_in w) c m) (next : next_action w m ≡ Some a) (on : a ≡ End → ⊥) where
+  -- a job of a core has before it the machine's next action and all behind it
   pub left-here : c.rest ≡ a ∷ drop (m.place + 1) (actions_of (setup_in w) m)
   left-here = is.rest ∙ next-left w m a next on
 
+  -- the first action that a job of a core has not yet made is the machine's next
   pub head-here : slice_get c.rest 0 ≡ Some a
   head-here = ap (λ (xs : List Action). slice_get xs 0) left-here
 
+  -- what a job of a core has behind its next action is what the machine's has one action on
   pub rest-on : (given : List Given) → drop 1 c.rest ≡ actions_left (setup_in w) (onward m m.subject given)
   rest-on given = ap (drop 1) left-here ∙ ap (drop (m.place + 1)) (sym (actions-onward (setup_in w) m given))
 
+  -- a job of a core leaves its first append when the machine's does
   pub opening-on : (c.opening && not (is_gate (slice_get c.rest 0))) ≡ (is_opener c.wish && nat_lt (m.place + 1) 4)
   opening-on =
       ap (λ (b : Bool). b && not (is_gate (slice_get c.rest 0))) is.opening
@@ -193,6 +200,7 @@ module _ (w : State) (c : CoreJob) (m : Job) (a : Action) (is : IsJobOf (setup_i
           ∙ (gate_step l.0 m.place a (ap (λ (xs : List Action). slice_get xs m.place) (sym l.1) ∙ next_stands w m a next on)
           ∙ sym (ap (λ (x : Bool). x && nat_lt (m.place + 1) 4) e)))
 
+  -- both one action on, a job of a core still stands for the machine's
   pub on-moved : (given : List Given) → (IsTrue (has_asked (stepped c)) → HasSums (setup_in w) (onward m m.subject given) c.sums) → IsJobOf (setup_in w) (stepped c) (onward m m.subject given)
   on-moved given sums = record {
     number = is.number;

@@ -17,6 +17,7 @@ pub record Pair (s : Setup) (js : List Job) (number : ℕ) (c : CoreJob) : Type 
   pub is : IsJobOf s c job
   pub called : c.number ≡ number
 
+-- a job that runs in a core has a job of its number in the machine that it stands for
 pub pair_some : (s : Setup) (cs : List CoreJob) (js : List Job) (k : ℕ) (c : CoreJob) → AllZip (IsJobOf s) cs js → job_in cs k ≡ Some c → Pair s js k c
 pair_some s [] js k c h e = let f : None ≡ Some c = e in cc
 pair_some s (x ∷ cs) [] k c h e = absurd h
@@ -39,6 +40,7 @@ pair_some s (x ∷ cs) (j ∷ js) k c h e = elim (cases_Bool (x.number == k)) [
       })
 ]
 
+-- a number that no job of a core has is that of no job of the machine
 pub pair_none : (s : Setup) (cs : List CoreJob) (js : List Job) (k : ℕ) → AllZip (IsJobOf s) cs js → job_in cs k ≡ None → job_of js k ≡ None
 pair_none s [] [] k h e = refl
 pair_none s [] (j ∷ js) k h e = absurd h
@@ -49,6 +51,7 @@ pair_none s (x ∷ cs) (j ∷ js) k h e = elim (cases_Bool (x.number == k)) [
       ∙ pair_none s cs js k h.1 (sym (ap (λ (b : Bool). if b then Some x else job_in cs k) f) ∙ e)
 ]
 
+-- a core runs as many jobs as the machine
 pub pair_length : (s : Setup) (cs : List CoreJob) (js : List Job) → AllZip (IsJobOf s) cs js → length cs ≡ length js
 pair_length s [] [] h = refl
 pair_length s [] (j ∷ js) h = absurd h
@@ -87,11 +90,13 @@ pair_without s (x ∷ cs) (y ∷ js) k (suc place) low next h f num =
 
 -- ---- the jobs of other numbers
 
+-- a job put at the place of its number is found by it
 pub in_set_same : (cs : List CoreJob) (k place : ℕ) (c : CoreJob) → IsFirst cs k place → c.number ≡ k → job_in (set cs place c) k ≡ Some c
 in_set_same [] k place c f n = absurd f
 in_set_same (x ∷ cs) k zero c f n = ap (λ (b : Bool). if b then Some c else job_in cs k) (eq-eqb c.number k n)
 in_set_same (x ∷ cs) k (suc place) c f n = ap (λ (b : Bool). if b then Some x else job_in (set cs place c) k) (ne_eqb x.number k f.0) ∙ in_set_same cs k place c f.1 n
 
+-- a job put at the place of its number changes no other number's
 pub in_set_other : (cs : List CoreJob) (k place m : ℕ) (c : CoreJob) → IsFirst cs k place → c.number ≡ k → (m ≡ k → ⊥) → job_in (set cs place c) m ≡ job_in cs m
 in_set_other [] k place m c f n o = absurd f
 in_set_other (x ∷ cs) k zero m c f n o =
@@ -99,12 +104,13 @@ in_set_other (x ∷ cs) k zero m c f n o =
     ∙ sym (ap (λ (b : Bool). if b then Some x else job_in cs m) (ne_eqb x.number m (λ e. o (sym e ∙ f))))
 in_set_other (x ∷ cs) k (suc place) m c f n o = ap (λ (r : Option CoreJob). if x.number == m then Some x else r) (in_set_other cs k place m c f.1 n o)
 
+-- a job taken out changes no other number's
 pub in_remove_other : (cs : List CoreJob) (k place m : ℕ) → IsFirst cs k place → (m ≡ k → ⊥) → job_in (remove cs place) m ≡ job_in cs m
 in_remove_other [] k place m f o = absurd f
 in_remove_other (x ∷ cs) k zero m f o = sym (ap (λ (b : Bool). if b then Some x else job_in cs m) (ne_eqb x.number m (λ e. o (sym e ∙ f))))
 in_remove_other (x ∷ cs) k (suc place) m f o = ap (λ (r : Option CoreJob). if x.number == m then Some x else r) (in_remove_other cs k place m f.1 o)
 
-pub first_get : (cs : List CoreJob) (k place : ℕ) → IsFirst cs k place → (c : CoreJob) × ((slice_get cs place ≡ Some c) × (job_in cs k ≡ Some c) × (c.number ≡ k))
+first_get : (cs : List CoreJob) (k place : ℕ) → IsFirst cs k place → (c : CoreJob) × ((slice_get cs place ≡ Some c) × (job_in cs k ≡ Some c) × (c.number ≡ k))
 first_get [] k place f = absurd f
 first_get (x ∷ cs) k zero f = (x, (refl, ap (λ (b : Bool). if b then Some x else job_in cs k) (eq-eqb x.number k f), f))
 first_get (x ∷ cs) k (suc place) f = let r = first_get cs k place f.1 in

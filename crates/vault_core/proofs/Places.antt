@@ -12,12 +12,14 @@ place_map : {X Y : Type 0} (f : X → Y) (p : Y → Bool) (xs : List X) → posi
 place_map f p [] = refl
 place_map f p (x ∷ xs) = ap (λ (k : ℕ). cond (not (p (f x))) (1 + k) 0) (place_map f p xs)
 
+-- the place of the first that fits is the same before a map and after it
 pub position-map : {X Y : Type 0} (f : X → Y) (p : Y → Bool) (xs : List X) → position (λ x. p (f x)) xs ≡ position p (map f xs)
 position-map f p xs = sym (
     ap (λ (k : ℕ). cond (nat_lt k (length (map f xs))) (Some k) None) (place_map f p xs)
     ∙ ap (λ (m : ℕ). cond (nat_lt (position_or_len (λ x. p (f x)) xs) m) (Some (position_or_len (λ x. p (f x)) xs)) None) (length-map xs f)
     )
 
+-- whether one fits is the same before a map and after it
 pub any-map : {X Y : Type 0} (f : X → Y) (p : Y → Bool) (xs : List X) → list_any (λ x. p (f x)) xs ≡ list_any p (map f xs)
 any-map f p [] = refl
 any-map f p (x ∷ xs) = ap (λ (b : Bool). p (f x) || b) (any-map f p xs)
@@ -37,6 +39,7 @@ found_at cs k place e = elim (cases_lt (position_or_len (λ (j : CoreJob). j.num
   | inr l ↦ (let f : None ≡ Some place = sym (ap (λ (b : Bool). cond b (Some (position_or_len (λ (j : CoreJob). j.number == k) cs)) None) (le-ltb _ _ l)) ∙ e in cc)
 ]
 
+-- a number that has no place among the jobs is that of no job
 pub found_none : (cs : List CoreJob) (k : ℕ) → position (λ (j : CoreJob). j.number == k) cs ≡ None → job_in cs k ≡ None
 found_none cs k e = elim (cases_lt (position_or_len (λ (j : CoreJob). j.number == k) cs) (length cs)) [
   | inl l ↦ (let f : Some (position_or_len (λ (j : CoreJob). j.number == k) cs) ≡ None = sym (ap (λ (b : Bool). cond b (Some (position_or_len (λ (j : CoreJob). j.number == k) cs)) None) (lt-ltb _ _ l)) ∙ e in cc)

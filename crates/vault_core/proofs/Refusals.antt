@@ -38,7 +38,7 @@ use Rattle.vault_core.specs.Refusing.{aims_in, sight_in, aims_kept, puts_name, t
 
 -- ---- lists of jobs, as they are kept and as they are seen
 
-pub aims-seen : (n : ℕ) (js : List Job) → aims_in (map (core_job n) js) ≡ aims_kept js
+aims-seen : (n : ℕ) (js : List Job) → aims_in (map (core_job n) js) ≡ aims_kept js
 aims-seen n [] = refl
 aims-seen n (j ∷ js) = ap (λ (aims : List Aim). aim_of_wish j.wish ∷ aims) (aims-seen n js)
 
@@ -52,6 +52,7 @@ sum-seen n (j ∷ js) =
 
 -- ---- names
 
+-- names that are equal byte by byte are the same, in either order
 pub same-pointwise : (xs ys : List ℕ) → pointwise nat_eq xs ys ≡ is_same_name ys xs
 same-pointwise [] [] = refl
 same-pointwise [] (y ∷ ys) = refl
@@ -68,6 +69,7 @@ pub taken-by : (files : List File) (aims : List Aim) (name : List ℕ) → is_na
 taken-by files aims name = listed-with_puts _ aims name
     ∙ (ap (λ (b : Bool). b || is_name_among (taken_names files []) name) (any-puts name aims) ∙ ap (λ (b : Bool). list_any (puts_name name) aims || b) (listed-files files name))
 
+-- a file is found or not, whatever is made of it
 pub found-some : {X : Type 0} (f : X → File) {found : Option File} (o : Option X) → option_map f o ≡ found → is_some o ≡ is_some found
 found-some f None e = ap is_some e
 found-some f (Some x) e = ap is_some e
@@ -87,6 +89,7 @@ pub more-other : (files : List File) (aims : List Aim) (w : Wish) → ((name : L
 more-other files aims (wish.Put name size) h = absurd (h name size refl)
 more-other files aims w h = omega arith
 
+-- with no job, the names taken are those of the files
 pub none-more : (files : List File) → length (taken_names files []) ≡ length files
 none-more files = length-names_in files
 
@@ -107,11 +110,13 @@ are_in_the_way aims ToAudit = list_any is_put_or_check aims
 are_in_the_way aims ToRepair = list_any is_check aims
 are_in_the_way aims aim = false
 
+-- jobs are in the way where eight run or one of them is
 pub way : (aims : List Aim) (w : Wish) → are_jobs_in_the_way 8 aims (aim_of_wish w) ≡ (nat_le 8 (length aims) || are_in_the_way aims (aim_of_wish w))
 way aims wish.Audit = refl
 way aims wish.Repair = refl
 way aims w = sym (or-false (nat_le 8 (length aims)))
 
+-- a core is busy by its own jobs when a contract sees it so
 pub busy : (a : Inside) (v : CoreView) (w : Wish) (b : Bool) → view_of a ≡ v → b ≡ (nat_le 8 (length a.jobs.items) || are_in_the_way (aims_kept a.jobs.items) (aim_of_wish w)) →
     b ≡ is_busy 8 (sight_in v) (aim_of_wish w)
 busy a v w b e h = subst (λ (c : CoreView). b ≡ is_busy 8 (sight_in c) (aim_of_wish w)) e
@@ -124,17 +129,20 @@ busy a v w b e h = subst (λ (c : CoreView). b ≡ is_busy 8 (sight_in c) (aim_o
 pub beside : (a : Inside) (v : CoreView) (w : Wish) (b : Bool) → view_of a ≡ v → length a.jobs.items < 8 → b ≡ are_in_the_way (aims_kept a.jobs.items) (aim_of_wish w) → b ≡ is_busy 8 (sight_in v) (aim_of_wish w)
 beside a v w b e l h = busy a v w b e (h ∙ sym (ap (λ (t : Bool). t || are_in_the_way (aims_kept a.jobs.items) (aim_of_wish w)) (lt-leb 8 (length a.jobs.items) l)))
 
+-- no job is in the way of a wish that is neither an audit nor a repair
 pub none-beside : (aims : List Aim) (w : Wish) → (w ≡ wish.Audit → ⊥) → (w ≡ wish.Repair → ⊥) → false ≡ are_in_the_way aims (aim_of_wish w)
 none-beside aims wish.Audit a r = absurd (a refl)
 none-beside aims wish.Repair a r = absurd (r refl)
 none-beside aims w a r = refl
 
+-- a core has no room for a name by its own count when a contract sees it so
 pub crowded : (a : Inside) (v : CoreView) (name : List ℕ) (taken : Bool) (count : ℕ) → view_of a ≡ v → taken ≡ is_name_among (taken_names a.table.files (aims_kept a.jobs.items)) name →
     nat_le 1024 count ≡ nat_le 1024 (length (taken_names a.table.files (aims_kept a.jobs.items))) → (nat_le 1024 count && not taken) ≡ is_crowded_for (sight_in v) name
 crowded a v name taken count e h k = subst (λ (c : CoreView). (nat_le 1024 count && not taken) ≡ is_crowded_for (sight_in c) name) e
     (subst (λ (aims : List Aim). (nat_le 1024 count && not taken) ≡ (nat_le most_files (length (taken_names a.table.files aims)) && not (is_name_among (taken_names a.table.files aims) name)))
     (sym (aims-seen a.setup.n a.jobs.items)) (rw (h, k) refl))
 
+-- the count of the files and of the names beside them is at its limit when the names taken are
 pub names-along : (a : Inside) (js : List Job) (files beside count : ℕ) → count ≡ min (files + beside) 18446744073709551615 → files ≡ length a.table.files →
     length (taken_names a.table.files (aims_kept js)) ≡ beside + length a.table.files → js ≡ a.jobs.items → nat_le 1024 count ≡ nat_le 1024 (length (taken_names a.table.files (aims_kept a.jobs.items)))
 names-along a js files beside count e f b j =
@@ -143,11 +151,12 @@ names-along a js files beside count e f b j =
     sat : (p q k : ℕ) → k ≡ min (p + q) 18446744073709551615 → nat_le 1024 k ≡ nat_le 1024 (p + q)
     sat p q k h = grind (arith, nat_tests, h)
 
+-- fewer names than the limit are not too many, whatever the name
 pub few_false : (count : ℕ) (taken : Bool) → count < 1024 → nat_le 1024 count ≡ (nat_le 1024 count && not taken)
 few_false count taken l = let f : nat_le 1024 count ≡ false = grind (arith, nat_tests, l) in rw (f) refl
 
 -- the sizes of records hang on the number of providers alone
-pub sizes-by : (s : Setup) (w : Wish) → append_sizes 1 s (aim_of_wish w) ≡ sizes_of s.n w
+sizes-by : (s : Setup) (w : Wish) → append_sizes 1 s (aim_of_wish w) ≡ sizes_of s.n w
 sizes-by s (wish.Put name size) = refl
 sizes-by s w = refl
 
@@ -165,9 +174,11 @@ full a v w room size used e get r z h = subst (λ (c : CoreView). used ≡ is_fu
     all : (a.end + room + size) ≡ ((sight_in (view_of a)).used + sum (append_sizes 1 (sight_in (view_of a)).setup (aim_of_wish w)))
     all = (let k = sum-seen a.setup.n a.jobs.items in let m = ap (λ (xs : List ℕ). sum xs) (sizes-by (sight_in (view_of a)).setup w) in omega (arith, k, r, z, m))
 
+-- a journal that would grow beyond its largest size is full, whatever the numbers
 pub over : (k : ℕ) (u : Bool) → largest_journal < k → true ≡ (nat_lt largest_journal k || u)
 over k u l = ap (λ (b : Bool). b || u) (sym (lt-ltb largest_journal k l))
 
+-- a journal that stays within its largest size is full only where the numbers are used up
 pub under : (k : ℕ) (u b : Bool) → k ≤ largest_journal → b ≡ u → b ≡ (nat_lt largest_journal k || u)
 under k u b l h = h ∙ ap (λ (t : Bool). t || u) (sym not_over)
   where
@@ -177,6 +188,7 @@ under k u b l h = h ∙ ap (λ (t : Bool). t || u) (sym not_over)
       | inr f ↦ f
     ]
 
+-- no numbers are used up for a wish that is neither a put nor an audit
 pub used-none : (x : Sight) (w : Wish) → ((name : List ℕ) (size : ℕ) → w ≡ wish.Put name size → ⊥) → (w ≡ wish.Audit → ⊥) → false ≡ are_numbers_used_up x (aim_of_wish w)
 used-none x (wish.Put name size) p a = absurd (p name size refl)
 used-none x wish.Audit p a = absurd (a refl)
@@ -184,7 +196,7 @@ used-none x w p a = refl
 
 -- ---- what the machine sees
 
-pub aims-same : (s : Setup) (cs : List CoreJob) (js : List MachineJob) → AllZip (IsJobOf s) cs js → aims_in cs ≡ aims_of js
+aims-same : (s : Setup) (cs : List CoreJob) (js : List MachineJob) → AllZip (IsJobOf s) cs js → aims_in cs ≡ aims_of js
 aims-same s [] [] is = refl
 aims-same s [] (j ∷ js) is = absurd is
 aims-same s (c ∷ cs) [] is = absurd is
@@ -230,9 +242,10 @@ sight-same c w is = λ i. record {
         omega (arith, a, b))
 
 -- nothing keeps every job from beginning
-pub unshut-state : (c : CoreView) (w : State) → CoreIs c w → is_shut (sight_of w) ≡ false
+unshut-state : (c : CoreView) (w : State) → CoreIs c w → is_shut (sight_of w) ≡ false
 unshut-state c w is = ap is_shut (sym (sight-same c w is)) ∙ unshut c.jobs
 
+-- what refuses a begin before all else is the same in a core and in the machine
 pub early_shut : (c : CoreView) (w : State) → CoreIs c w → refused_early w.is_barred (length w.jobs)
     ≡ first_refusal (record { applies = w.is_barred; refusal = refusal.MustReopen } ∷ record { applies = is_shut (sight_of w) || nat_le 8 (length w.jobs); refusal = refusal.Busy } ∷ [])
 early_shut c w is = ap (λ (b : Bool). first_refusal (record { applies = w.is_barred; refusal = refusal.MustReopen } ∷ record { applies = b || nat_le 8 (length w.jobs); refusal = refusal.Busy } ∷ []))

@@ -40,14 +40,15 @@ after_start (suc (suc (suc (suc p)))) more =
     ap (λ (b : Bool). b && begins_append (slice_get (drop (suc (suc (suc (suc p)))) (append_actions ++ more)) 0)) (le-ltb (suc (suc (suc (suc p)))) 4 (omega arith))
     ∙ sym (ne_eqb (suc (suc (suc (suc p)))) 0 (λ e. absurd (omega (arith, e))))
 
-pub actions_of_kind : (s : Setup) (m : Job) (k : Kind) → m.kind ≡ k → actions_of s m ≡ actions_by s m k
+actions_of_kind : (s : Setup) (m : Job) (k : Kind) → m.kind ≡ k → actions_of s m ≡ actions_by s m k
 unfolding actions_of
 actions_of_kind s m k e = ap (actions_by s m) e
 
+-- a name has the same file in the table of a core and in the records that it was folded from
 pub file_here : (t : Kept) (rs : List Record) (name : List ℕ) → IsFoldOf rs t → find_file t.files name ≡ file_of rs name
 file_here t rs name f = ap (λ (fs : List File). find_file fs name) f.files ∙ find-files_of rs name
 
-pub idle_same : (w : State) (t : Kept) (c : CoreJob) (m : Job) → IsFoldOf w.records t → IsJobOf (setup_in w) c m → is_idle_drop w m m.kind ≡ is_idle t c
+idle_same : (w : State) (t : Kept) (c : CoreJob) (m : Job) → IsFoldOf w.records t → IsJobOf (setup_in w) c m → is_idle_drop w m m.kind ≡ is_idle t c
 idle_same w t c m f is = by c.wish m.kind refl refl (alike c.wish m.kind is.kind)
   where
     gone : (v : Wish) → c.wish ≡ v → (is_gone t v ≡ false) → false ≡ is_idle t c
@@ -86,9 +87,10 @@ next_same w t c m f is =
 
 -- ---- how many steps may remain
 
-pub most_same : (s : Setup) (c : CoreJob) (m : Job) → IsJobOf s c m → most_of s.n c ≡ most_left s m
+most_same : (s : Setup) (c : CoreJob) (m : Job) → IsJobOf s c m → most_of s.n c ≡ most_left s m
 most_same s c m is = ap (most_after s (aim_of_wish c.wish)) is.rest ∙ ap (λ (aim : Aim). most_after s aim (actions_left s m)) is.kind
 
+-- a job may still make as many steps in a core as in the machine
 pub left_same : (c : CoreView) (w : State) (k : ℕ) → CoreIs c w → left_in c k ≡ option_map (most_left (setup_in w)) (job_of w.jobs k)
 left_same c w k is = by (job_in c.jobs k) refl
   where
@@ -105,10 +107,10 @@ no_ask (Some (Ask j o t)) h = absurd (false≢true h)
 no_ask o h = refl
 
 -- an audit that is at its last append has asked all that it asks
-pub asked_moving : (c : CoreJob) → c.wish ≡ wish.Audit → c.opening ≡ false → is_move (slice_get c.rest 0) ≡ true → has_asked c ≡ true
+asked_moving : (c : CoreJob) → c.wish ≡ wish.Audit → c.opening ≡ false → is_move (slice_get c.rest 0) ≡ true → has_asked c ≡ true
 asked_moving c g o mv = rw (g, o, no_ask (slice_get c.rest 0) mv) refl
 
-pub writes_same : (w : State) (t : Kept) (c : CoreJob) (m : Job) (entry : Record) → version_of w.records ≡ 1 → IsFoldOf w.records t → IsJobOf (setup_in w) c m → is_move (slice_get c.rest 0) ≡ true →
+writes_same : (w : State) (t : Kept) (c : CoreJob) (m : Job) (entry : Record) → version_of w.records ≡ 1 → IsFoldOf w.records t → IsJobOf (setup_in w) c m → is_move (slice_get c.rest 0) ≡ true →
     written_by t c c.wish ≡ Some entry → Writes w m m.kind entry
 writes_same w t c m entry first f is mv e = by c.wish m.kind refl refl (alike c.wish m.kind is.kind)
   where
@@ -190,7 +192,7 @@ acts_comes c k a h = elim (cases_Bool c.barred) [
     of_job b (Some j) e = of_action b j (action_next c.table j) e refl
 
 -- where a job waits
-pub waits_comes : (c : CoreView) (k held : ℕ) → next_in c k ≡ Waits held → (a : Action) × Comes c k a (Some held)
+waits_comes : (c : CoreView) (k held : ℕ) → next_in c k ≡ Waits held → (a : Action) × Comes c k a (Some held)
 waits_comes c k held h = elim (cases_Bool c.barred) [
   | inl b ↦ (let e : IsBarred ≡ Waits held = sym (ap (λ (x : Bool). if x then IsBarred else next_of c (job_in c.jobs k)) b) ∙ h in cc)
   | inr b ↦ of_job b (job_in c.jobs k) refl
@@ -226,6 +228,7 @@ missing c k h = elim (cases_Bool c.barred) [
     of_job b None e = inl e
     of_job b (Some j) e = inr (j, (e, of_action b j (action_next c.table j) e refl))
 
+-- only a core that is barred tells a job so
 pub bars : (c : CoreView) (k : ℕ) → next_in c k ≡ IsBarred → c.barred ≡ true
 bars c k h = elim (cases_Bool c.barred) [
   | inl b ↦ b
@@ -257,9 +260,11 @@ holder_same c (Some f) a h = some a ∙ ap (λ (x : Option ℕ). core_holder x a
     some WriteBody = refl
     some x = refl
 
+-- a job of a core stands for a job of the machine under any setup that equals its own
 pub same_job : (s t : Setup) (c : CoreJob) (m : Job) → s ≡ t → IsJobOf s c m → IsJobOf t c m
 same_job s t c m e is = subst (λ (x : Setup). IsJobOf x c m) e is
 
+-- what comes next in a core comes next in the machine that it stands for
 pub comes_next : (c : CoreView) (w : State) (k : ℕ) (a : Action) (held : Option ℕ) → CoreIs c w → Comes c k a held → ComesNext w k a held
 comes_next c w k a held is h =
     let p = pair_some c.setup c.jobs w.jobs k h.job is.jobs h.runs in
@@ -280,6 +285,7 @@ some_next c w k j is e f = elim (cases_Bool (is_idle c.table j)) [
       ∙ (sym (ap (λ (x : Bool). if x then Some End else slice_get j.rest 0) b) ∙ f)) in cc)
 ]
 
+-- the answer to what comes next is right for the machine
 pub next_machine : (c : CoreView) (w : State) (k : ℕ) (r : Next) → CoreIs c w → seen_next r ≡ next_in c k → IsNextOf w k r
 next_machine c w k (next.Act a) is e = comes_next c w k (seen_action a) None is (acts_comes c k (seen_action a) (sym e))
 next_machine c w k (next.Waiting h) is e = let r = waits_comes c k h (sym e) in (r.0, comes_next c w k r.0 (Some h) is r.1)
@@ -308,6 +314,7 @@ get_moves s m name a k e = each_get NoMove (actions_by s m (GetJob name)) m.plac
     (refl, tt))
     (ap (λ (xs : List Action). slice_get xs m.place) (sym (actions_of_kind s m (GetJob name) k)) ∙ e)
 
+-- a next action that is a move of an append is the first that the job has not yet made
 pub head_moves : (t : Kept) (j : CoreJob) → is_move (action_next t j) ≡ true → is_move (slice_get j.rest 0) ≡ true
 head_moves t j h = elim (cases_Bool (is_idle t j)) [
   | inl b ↦ absurd (false≢true (sym (ap (λ (x : Bool). is_move (if x then Some End else slice_get j.rest 0)) b) ∙ h))
@@ -321,7 +328,7 @@ in_append t j e h = elim (cases_Bool (is_move (action_next t j))) [
   | inr b ↦ (let g : None ≡ Some e = sym (ap (λ (x : Bool). if x then written_by t j j.wish else None) b) ∙ h in cc)
 ]
 
-pub found_entry : (c : CoreView) (k : ℕ) (e : Record) → entry_in c k ≡ Some e → (j : CoreJob) × ((job_in c.jobs k ≡ Some j) × (entry_of_job c.table j ≡ Some e))
+found_entry : (c : CoreView) (k : ℕ) (e : Record) → entry_in c k ≡ Some e → (j : CoreJob) × ((job_in c.jobs k ≡ Some j) × (entry_of_job c.table j ≡ Some e))
 found_entry c k e h = by (job_in c.jobs k) refl
   where
     by : (o : Option CoreJob) → job_in c.jobs k ≡ o → (j : CoreJob) × ((job_in c.jobs k ≡ Some j) × (entry_of_job c.table j ≡ Some e))
@@ -366,6 +373,7 @@ entry_none c w k is h m runs = by (job_in c.jobs k) refl
           | inr b ↦ b
         ])
 
+-- the record that a core names for an append is the one that the machine writes
 pub entry_machine : (c : CoreView) (w : State) (k : ℕ) (o : Option Record) → CoreIs c w → o ≡ entry_in c k → IsEntryOf w k o
 entry_machine c w k None is e = λ m runs. entry_none c w k is (sym e) m runs
 entry_machine c w k (Some r) is e =
@@ -386,5 +394,6 @@ entry_machine c w k (Some r) is e =
 abbrev pub refused_early : Bool → ℕ → Option Refusal
 refused_early barred running = if barred then Some MustReopen else (if nat_le 8 running then Some Busy else None)
 
+-- what refuses a begin before all else is the same by a core's own jobs and by the machine's
 pub early_same : (c : CoreView) (w : State) → CoreIs c w → refused_early c.barred (length c.jobs) ≡ refused_early w.is_barred (length w.jobs)
 early_same c w is = ap (λ (b : Bool). refused_early b (length c.jobs)) is.barred ∙ ap (refused_early w.is_barred) (pair_length c.setup c.jobs w.jobs is.jobs)

@@ -71,6 +71,7 @@ pub record OnMachine (c : CoreView) (w new : State) (k place : ℕ) (cj : CoreJo
   pub first : IsFirst c.jobs k place
   pub comes : action_next c.table cj ≡ Some action
 
+-- a step that a core has a reply for is a step of the machine's job of that number
 pub on_machine : (c : CoreView) (w new : State) (k place : ℕ) (r : Reply) (action : Action) (outcome : Outcome) (moment : ℕ) → (s : StepHere c k place r action) → CoreIs c w →
     k < 2 ^ 32 → Happens 8 moment w (Step k) outcome new → OnMachine c w new k place s.job action outcome
 on_machine c w new k place r action outcome moment s is l h =
@@ -419,7 +420,7 @@ moves_well w m SyncGate None answer new e h = absurd h
 moves_well w m a flight answer new e h = absurd h
 
 -- so another action than the end leaves the job running where it is done
-pub goes_well : (w : State) (m : Job) (a : Action) (answer : Answer) (new : State) → (a ≡ End → ⊥) → IsEndAnswer answer → Acts w m a (Ended answer) new → ⊥
+goes_well : (w : State) (m : Job) (a : Action) (answer : Answer) (new : State) → (a ≡ End → ⊥) → IsEndAnswer answer → Acts w m a (Ended answer) new → ⊥
 goes_well w m a (Lost stripe row) new n e h = absurd e
 goes_well w m a (ProviderFault j) new n e h = absurd e
 goes_well w m a DiskFault new n e h = absurd e
@@ -489,6 +490,7 @@ more_done c w new k place cj (Work object stripe) o p h = plain_arm c w new k pl
 more_done c w new k place cj (Ask j object round) o p h = plain_arm c w new k place cj (Ask j object round) More o (with_provider w.providers j o.acts.1.0) (Answered j object round o.acts.0 ∷ o.job.given) (λ x. cc) refl refl
     (sym (ap is_last_ask_of o.runs) ∙ h) (inr (λ kind. refl)) o.acts.1.2
 
+-- a plain action that is done leaves a core that stands for the machine's state after it
 pub plain_done : (c : CoreView) (w new : State) (k place : ℕ) (cj : CoreJob) (a : Action) (outcome : Outcome) (o : OnMachine c w new k place cj a outcome) → Tells k reply.Done outcome new →
     goes_plainly (Some a) ≡ true → HasReply c k (ActsNext a) reply.Done → CoreIs (with_at c place (stepped cj)) new
 plain_done c w new k place cj a More o t p h = more_done c w new k place cj a o p h
@@ -505,6 +507,7 @@ store_fails c w new k place cj j object stripe (Ended (ProviderFault i)) o t = o
 store_fails c w new k place cj j object stripe (Ended DiskFault) o t = (let h : Moves w o.job (Store j object stripe) w.append (Ended DiskFault) new = o.acts in absurd h)
 store_fails c w new k place cj j object stripe outcome o t = absurd t
 
+-- a store that failed ends the job in the core as in the machine
 pub stops_failed : (c : CoreView) (w new : State) (k place : ℕ) (cj : CoreJob) (a : Action) (j object stripe : ℕ) (outcome : Outcome) (o : OnMachine c w new k place cj a outcome) → a ≡ Store j object stripe → Tells k reply.Failed outcome new → CoreIs (stopped c place) new
 stops_failed c w new k place cj a j object stripe outcome o e t = store_fails c w new k place cj j object stripe outcome (subst (λ (x : Action). OnMachine c w new k place cj x outcome) e o) t
 
@@ -536,6 +539,7 @@ acts_moves c k w m SyncGate outcome new n r h = h
 acts_moves c k w m (Store j object stripe) outcome new n r h = absurd (false≢true (sym n))
 acts_moves c k w m a outcome new n r h = absurd r
 
+-- a disk call that failed bars the core as it does the machine
 pub bars_failed : (c : CoreView) (w new : State) (k place : ℕ) (cj : CoreJob) (a : Action) (outcome : Outcome) (o : OnMachine c w new k place cj a outcome) → is_store a ≡ false → HasReply c k (ActsNext a) reply.Failed →
     Tells k reply.Failed outcome new → CoreIs (barred_at c place) new
 bars_failed c w new k place cj a (Ended (ProviderFault i)) o n r t = absurd (no_provider w o.job a w.append i new (acts_moves c k w o.job a (Ended (ProviderFault i)) new n r o.acts))
@@ -571,6 +575,7 @@ memory_ends c w new k place cj SyncGate o r = by w.append o.acts
     by (Some y) h = absurd h
 memory_ends c w new k place cj a o r = absurd r
 
+-- memory that ran out ends the job in the core as in the machine
 pub stops_memory : (c : CoreView) (w new : State) (k place : ℕ) (cj : CoreJob) (a : Action) (outcome : Outcome) (o : OnMachine c w new k place cj a outcome) → HasReply c k (ActsNext a) reply.Memory → Tells k reply.Memory outcome new →
     CoreIs (stopped c place) new
 stops_memory c w new k place cj a (Ended Memory) o r t = memory_ends c w new k place cj a o r
@@ -581,6 +586,7 @@ lost_ends : (c : CoreView) (w new : State) (k place : ℕ) (cj : CoreJob) (a : A
 lost_ends c w new k place cj (Work object s) row stripe lost o r = off_arm c w new k place cj (Work object s) (Ended (Lost stripe lost)) o w.providers refl o.acts.2
 lost_ends c w new k place cj a row stripe lost o r = absurd r
 
+-- a stripe that was lost ends the job in the core as in the machine
 pub stops_lost : (c : CoreView) (w new : State) (k place : ℕ) (cj : CoreJob) (a : Action) (row : ℕ) (outcome : Outcome) (o : OnMachine c w new k place cj a outcome) → HasReply c k (ActsNext a) (reply.Lost row) →
     Tells k (reply.Lost row) outcome new → CoreIs (stopped c place) new
 stops_lost c w new k place cj a row (Ended (Lost stripe lost)) o r t = lost_ends c w new k place cj a row stripe lost o r
@@ -601,6 +607,7 @@ verdict_more c w new k place cj (Ask j object round) u counts o r t =
     (on-judged w cj o.job (Ask j object round) o.is o.next (λ x. cc) j object round refl given (record { counts = counted counts; undecided = u }) sums))
 verdict_more c w new k place cj a u counts o r t = absurd r
 
+-- a verdict on an audit's last ask leaves a core that stands for the machine's state after it
 pub judges_verdict : (c : CoreView) (w new : State) (k place : ℕ) (cj : CoreJob) (a : Action) (u : ℕ) (counts : Counts) (outcome : Outcome) (o : OnMachine c w new k place cj a outcome) → HasReply c k (ActsNext a) (reply.Verdict u counts) →
     Tells k (reply.Verdict u counts) outcome new → CoreIs (with_at c place (judged cj (record { counts = counted counts; undecided = u }))) new
 judges_verdict c w new k place cj a u counts More o r t = verdict_more c w new k place cj a u counts o r t

@@ -31,7 +31,7 @@ use Rattle.vault_core.proofs.Judging.{asked_parts, asked_whole, audit_kind}
 use Rattle.vault_core.specs.Wished.{is_opener}
 
 -- an append that begins is left
-pub append_left : (s : Setup) (m : Job) (moves : ℕ) (more : List Action) → actions_left s m ≡ WriteBody ∷ more → IsInOrder moves (actions_left s m) → 0 < appends_left s m
+append_left : (s : Setup) (m : Job) (moves : ℕ) (more : List Action) → actions_left s m ≡ WriteBody ∷ more → IsInOrder moves (actions_left s m) → 0 < appends_left s m
 append_left s m moves more e o =
     let p = in_order-step moves WriteBody more (λ f. cc) (subst (IsInOrder moves) e o) in
     let q = appends-order 1 more (omega arith) p.1 in

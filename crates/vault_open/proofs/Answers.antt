@@ -8,14 +8,15 @@ use Rattle.vault_open.specs.declared.fault.InitFault.TheVariants as init_fault
 use Rattle.vault_open.specs.Faults.{init_answer}
 use Rattle.vault_open.specs.Preparing.{IsTextFault}
 
-pub ok-still : {T E : Type 0} (r : Result T E) (P Q : T → Type 0) → ((x : T) → P x → Q x) → IfOk r P → IfOk r Q
+ok-still : {T E : Type 0} (r : Result T E) (P Q : T → Type 0) → ((x : T) → P x → Q x) → IfOk r P → IfOk r Q
 ok-still (Ok x) P Q step held = step x held
 ok-still (Err e) P Q step held = tt
 
-pub err-still : {T E : Type 0} (r : Result T E) (P Q : E → Type 0) → ((e : E) → P e → Q e) → IfErr r P → IfErr r Q
+err-still : {T E : Type 0} (r : Result T E) (P Q : E → Type 0) → ((e : E) → P e → Q e) → IfErr r P → IfErr r Q
 err-still (Ok x) P Q step held = tt
 err-still (Err e) P Q step held = step e held
 
+-- what follows from the error of an answer is a statement about that error
 pub err-from : {T E : Type 0} (r : Result T E) (P Q : E → Type 0) → ((e : E) → P e → Q e) → IsErrAnd r P → IfErr r Q
 err-from (Ok x) P Q step held = tt
 err-from (Err e) P Q step held = step e held
@@ -25,9 +26,11 @@ pub unjudged : {T : Type 0} (r : Result T InitFault) (why : InitFault) → IsErr
 unjudged (Ok x) why is other same = absurd is
 unjudged (Err e) why is other same = other (let k : e ≡ init_fault.BadSetup = cc in sym is ∙ k)
 
+-- a disk that failed is told as no bad setup
 pub disk-unjudged : (f : WriteFault) → init_answer f ≡ init_fault.BadSetup → ⊥
 disk-unjudged write_fault.Failed is = absurd (let e : init_fault.DiskFault ≡ init_fault.BadSetup = is in cc)
 disk-unjudged write_fault.Memory is = absurd (let e : init_fault.Memory ≡ init_fault.BadSetup = is in cc)
 
+-- a fault that lies in a disk's text is no bad setup
 pub text-unjudged : (bytes : List ℕ) (why : InitFault) → IsTextFault bytes why → why ≡ init_fault.BadSetup → ⊥
 text-unjudged bytes why fault is = subst (IsTextFault bytes) is fault

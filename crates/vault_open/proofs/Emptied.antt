@@ -14,7 +14,7 @@ use Rattle.vault_open.specs.Preparing.{IsBlank, AreShort, emptied}
 
 -- ---- images
 
-pub length-image : (cells : Cells) (image : List ℕ) → IsImage cells image → length image ≡ length cells
+length-image : (cells : Cells) (image : List ℕ) → IsImage cells image → length image ≡ length cells
 length-image [] [] is = refl
 length-image [] (b ∷ image) is = absurd is
 length-image (c ∷ cells) [] is = absurd is
@@ -29,6 +29,7 @@ written-front : (cells : Cells) → length (reads cells) ≤ 9 → written 0 (te
 written-front cells short =
     written-behind [] cells 0 refl (text []) ∙ ap (λ (l : Cells). loose (text []) ++ l) (drop_all 9 cells (omega (arith, short, length-reads cells)))
 
+-- a disk of at most nine bytes, once emptied, is the text of no records
 pub emptied-is : (cells : Cells) → length (reads cells) ≤ 9 → emptied cells ≡ firm (text [])
 emptied-is cells short = ap synced (written-front cells short) ∙ settled-loose (text [])
 
@@ -45,6 +46,7 @@ torn-short old new torn short =
     let no_longer = torn.no_longer in
     short-cells new (omega (arith, all, size, no_longer, short, length-reads old, length-take from old, length-drop (from + length new_cells) old))
 
+-- a write to the front that failed leaves a short disk's images short
 pub failed-short : (fault : WriteFault) (old new : Option Cells) → (fault ≡ write_fault.Failed → Goes (Torn 0 9) old new) → (fault ≡ write_fault.Memory → new ≡ old)
     → IfSome old (λ cells. length (reads cells) ≤ 9) → EachImage new (λ image. length image ≤ 9)
 failed-short write_fault.Memory None new failed memory short = subst (λ (o : Option Cells). EachImage o (λ image. length image ≤ 9)) (sym (memory refl)) tt

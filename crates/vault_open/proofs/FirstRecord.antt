@@ -66,6 +66,7 @@ fault-more r rs init_fault.BadSetup is = absurd is
 fault-more r rs init_fault.DiskFault is = absurd is
 fault-more r rs init_fault.Memory is = absurd is
 
+-- the answer to a first record is that to records of which it is the only one
 pub fault-first : (first : RecordValue) → IsFirstFault (entry_of first ∷ []) (first_answer first)
 fault-first (kind.Setup s key) = tt
 fault-first (kind.PutStart id name) = (tt, refl)
@@ -88,10 +89,12 @@ fault-text bytes rs init_fault.DiskFault stands is = absurd is
 fault-text bytes rs init_fault.Memory stands is = absurd is
 
 module _ (bytes : List ℕ) (rs : List Record) (stands : StandsFor bytes rs) where
+  -- where the answer is Ok, the bytes stand for no records
   pub none-stands : (answer : Result Unit InitFault) → IsFirstAnswer rs answer → OnOk answer (StandsFor bytes [])
   none-stands (Ok done) is = subst (StandsFor bytes) is stands
   none-stands (Err why) is = tt
 
+  -- an error told for the first of some records is a fault of the bytes that stand for them
   pub text-refused : (answer : Result Unit InitFault) → IsFirstAnswer rs answer → IfErr answer (IsTextFault bytes)
   text-refused (Ok done) is = tt
   text-refused (Err why) is = fault-text bytes rs why stands is
@@ -131,6 +134,7 @@ module _ (s : Setup) where
         ap (λ (k : ℕ). text (SetUp s ∷ []) ++ drop k (magic ++ gate ∷ rest)) size
         ∙ ap (λ (l : List ℕ). text (SetUp s ∷ []) ++ l) (drop-append-add (magic ++ gate ∷ []) rest (length body))
 
+  -- a blank disk with its first record written is the text of the setup, and then any bytes
   pub set-up : (cells : Cells) → IsBlank cells → with_first_record s cells ≡ firm (text (SetUp s ∷ []) ++ drop (length (text (SetUp s ∷ []))) (reads cells))
   set-up cells is =
       let bytes_are = is.stands.bytes_are in
@@ -143,6 +147,7 @@ module _ (s : Setup) where
   closed-blank : (cells : Cells) → IsBlank cells → IsClosed magic cells
   closed-blank cells is = subst (IsClosed magic) (sym is.firm_is) (read_is_closed is.bytes [] is.stands)
 
+  -- an append of the setup to a blank disk is at its start, behind no records
   pub begun : (a : Append) (told : Option Cells) (r : Record) → r ≡ SetUp s → IsTrue (is_in_grammar r) → gate_of a ≡ 8 → moves_of a ≡ 0 → body_of a ≡ spelling r ++ 0 ∷ [] → IfSome told IsBlank → Appends [] (SetUp s) a told
   begun a told r r_is valid gate_is moves_is body_is blank = record {
     records = refl;
@@ -159,6 +164,7 @@ same-behind n old new long same =
     let n_is : n ≡ 9 + (n - 9) = omega (arith, long) in
     ap (λ (k : ℕ). drop k new) n_is ∙ sym (drop-drop (n - 9) 9 new) ∙ ap (drop (n - 9)) same ∙ sym (ap (λ (k : ℕ). drop k old) n_is ∙ sym (drop-drop (n - 9) 9 old))
 
+-- a disk made ready, with the setup as its first record, is set up
 pub set-up-on : (s : Setup) (told mid new : Option Cells) → Goes IsReadied told mid → new ≡ option_map (with_first_record s) mid → Goes (IsSetUpOn s) told new
 set-up-on s None None new ready made = subst (λ (o : Option Cells). Goes (IsSetUpOn s) None o) (sym made) tt
 set-up-on s None (Some mid) new ready made = absurd ready

@@ -33,6 +33,7 @@ FirstStands told w = EachImage told (ShowsFirst w)
 abbrev pub Shows : State → List ℕ → Type 0
 Shows w image = StandsPlain w image ⊎ (StandsWithDoubt w image ⊎ StandsSwitched w image)
 
+-- an image that shows a state with a whole journal stands for its history, or that and the record in doubt
 pub shows-first : (w : State) (image : List ℕ) → IsWholeJournal w → Shows w image → ShowsFirst w image
 shows-first w image whole (inl (inl s)) = inl (inl (subst (λ (rs : List Record). StandsFor image rs) whole.journal s.1))
 shows-first w image whole (inl (inr e)) = inl (inr (sym whole.journal ∙ e.0, e.1))
@@ -46,9 +47,11 @@ first-shows w image whole (inl (inr e)) = inl (inr (whole.journal ∙ e.0, e.1))
 first-shows w image whole (inr d) =
     inr (inl (record { doubt = d.doubt; in_doubt = d.in_doubt; stands = (whole.area, subst (λ (rs : List Record). StandsFor image (d.doubt.entry ∷ rs)) (sym whole.journal) d.stands) }))
 
+-- so does each image of a disk that stands for such a state
 pub first-images : (told : Option Cells) (w : State) → IsWholeJournal w → StandsForState told w → FirstStands told w
 first-images told w whole = each_image-mono told (Shows w) (ShowsFirst w) (λ image h. shows-first w image whole h)
 
+-- a disk whose images all do so stands for such a state
 pub images-first : (told : Option Cells) (w : State) → IsWholeJournal w → FirstStands told w → StandsForState told w
 images-first told w whole = each_image-mono told (ShowsFirst w) (Shows w) (λ image h. first-shows w image whole h)
 

@@ -18,6 +18,7 @@ stops-behind : (bytes : List ℕ) (rs : List Record) (at : ℕ) → StopsAt byte
 stops-behind bytes rs at (inl end) = inl end
 stops-behind bytes rs at (inr break) = inr (inl break)
 
+-- where reading stops behind accepted records is the first place at which the bytes go wrong
 pub stopped : (bytes : List ℕ) (rs : List Record) (at : ℕ) → AreAccepted rs → StopsAt bytes rs at → IsBadStart bytes at
 stopped bytes rs at accepted stops = inr (rs, accepted, stops-behind bytes rs at stops)
 

@@ -41,6 +41,7 @@ use Rattle.record_defs.proofs.Standing.{stands-front, stands-take}
 
 -- ---- what bytes stand for
 
+-- an answer that is an error with a given cause is this error
 pub err-is : {T E : Type 0} (r : Result T E) (x : E) → IsErrAnd r (λ e. e ≡ x) → r ≡ Err x
 err-is (Ok t) x is = absurd is
 err-is (Err e) x is = ap (λ y. Err y) is
@@ -104,6 +105,7 @@ others-refused (RepairDue number counts ∷ q ∷ rs) a h = others-refused (q �
 
 -- ---- counts of faults
 
+-- a fault whose cause rose later has a cause that rose since any time before
 pub cause-after : (a b c : ℕ) (F G : Type 0) → a ≤ b → HasCause b c F → (G → F) → HasCause a c G
 cause-after a b c F G le cause step =
     let never = cause.never_falls in
@@ -128,6 +130,7 @@ module _ (s : Setup) (w : State) (moment : ℕ) (providers : List Provider) wher
   happens outcome new closed valid h =
       subst (λ (b : Bool). Inits w s b outcome new) (sym closed) (subst (λ (b : Bool). InitsBy w s b outcome new) (sym valid) h)
 
+  -- an init with a setup beyond its limits is refused, as an event of the machine
   pub bad-setup : (told : Option Cells) (d : Devices) → MayInit w told → AreDevices d w → is_setup s ≡ false → MakesInit w moment s (Err init_fault.BadSetup) d
   bad-setup told d may are bad = record {
     state = w;
@@ -333,6 +336,7 @@ module _ (s : Setup) (w : State) (moment : ℕ) (providers : List Provider) wher
   untold None is may = false≢true may.told_is
   untold (Some cells) is may = absurd cc
 
+  -- an init that fails before its append is an event of the machine
   pub prepared-event : (old new : Option Cells) (f0 f1 : ℕ) (why : InitFault) → MayInit w old → AreDevices (devices old f0 providers) w → is_setup s ≡ true
       → IfSome old (λ cells. IsInitFault (journal_read cells) s why) → (IsNoWrite why → new ≡ option_map synced old) → IfSome old (λ cells. IsHalfReady cells new)
       → HasCause f0 f1 (why ≡ init_fault.DiskFault) → MakesInit w moment s (Err why) (devices new f1 providers)
@@ -346,6 +350,7 @@ module _ (s : Setup) (w : State) (moment : ℕ) (providers : List Provider) wher
   prepared-event (Some old) new f0 f1 (init_fault.BadJournal at) may are valid fault looked half cause =
       absurd (no-bad w providers old f0 may are at fault.0 fault.1 (read w providers old f0 may are))
 
+  -- an init whose append fails is an event of the machine
   pub append-event : (old mid new : Option Cells) (f0 f1 : ℕ) (fault : WriteFault) → MayInit w old → AreDevices (devices old f0 providers) w → is_setup s ≡ true
       → Goes IsReadied old mid → MayStandFor [] (SetUp s) new → HasCause f0 f1 (fault ≡ write_fault.Failed) → MakesInit w moment s (Err (init_answer fault)) (devices new f1 providers)
   append-event None mid new f0 f1 fault may are valid goes left cause = absurd (untold None refl may)
@@ -353,17 +358,19 @@ module _ (s : Setup) (w : State) (moment : ℕ) (providers : List Provider) wher
   append-event (Some old) (Some mid) new f0 f1 write_fault.Failed may are valid goes left cause = append-failed s w moment providers old f0 may are valid new f1 cause.never_falls mid goes left (cause.rose refl)
   append-event (Some old) (Some mid) new f0 f1 write_fault.Memory may are valid goes left cause = append-wanting s w moment providers old f0 may are valid new f1 cause.never_falls mid goes left
 
+  -- an init that is done is an event of the machine
   pub ready-event : (old new : Option Cells) (f0 f1 : ℕ) → MayInit w old → AreDevices (devices old f0 providers) w → is_setup s ≡ true
       → Goes (IsSetUpOn s) old new → IsTrue (is_in_grammar (SetUp s)) → f0 ≤ f1 → MakesInit w moment s (Ok tt) (devices new f1 providers)
   ready-event None new f0 f1 may are valid goes spelled never = absurd (untold None refl may)
   ready-event (Some old) None f0 f1 may are valid goes spelled never = absurd goes
   ready-event (Some old) (Some new) f0 f1 may are valid goes spelled never = ready s w moment providers old f0 may are valid f1 never new goes spelled
 
+-- a setup beyond its limits is refused for that cause, whatever the disk reads
 pub bad-refused : (s : Setup) (told : Option Cells) → is_setup s ≡ false → IfSome told (λ cells. IsInitFault (journal_read cells) s init_fault.BadSetup)
 bad-refused s None bad = tt
 bad-refused s (Some cells) bad = bad
 
-pub fault-failed : (fault : WriteFault) → fault ≡ write_fault.Failed → init_answer fault ≡ init_fault.DiskFault
+fault-failed : (fault : WriteFault) → fault ≡ write_fault.Failed → init_answer fault ≡ init_fault.DiskFault
 fault-failed fault is = ap init_answer is
 
 -- what a disk has on which the append can begin

@@ -30,10 +30,12 @@ half-image : (cells : Cells) (new : Option Cells) → Goes IsResynced (Some cell
 half-image cells None goes = absurd goes
 half-image cells (Some new) goes = image-resynced cells new goes
 
+-- a disk that was synced, or left as it was, has only images that it had before
 pub half-resynced : (told new : Option Cells) → Goes IsResynced told new → IfSome told (λ cells. IsHalfReady cells new)
 half-resynced None new goes = tt
 half-resynced (Some cells) new goes = inl (half-image cells new goes)
 
+-- a short disk of which a fault leaves only short images is one that a fault may leave on the way
 pub half-empty : (told mid new : Option Cells) → mid ≡ option_map synced told → IfSome told IsShort → (IfSome mid IsShort → EachImage new (λ image. length image ≤ 9))
     → IfSome told (λ cells. IsHalfReady cells new)
 half-empty None mid new is short left = tt
@@ -49,12 +51,14 @@ text-at cells bytes init_fault.Memory s is bad = absurd bad
 text-at cells bytes init_fault.BadSetup s is bad = absurd bad
 text-at cells bytes init_fault.DiskFault s is bad = absurd bad
 
+-- a fault that lies in the text is one that an init may tell of this disk
 pub text_fault : (told : Option Cells) (bytes : List ℕ) (why : InitFault) (s : Setup) → IsLookedAt told bytes → IsTextFault bytes why → IfSome told (λ cells. IsInitFault (journal_read cells) s why)
 text_fault None bytes why s is bad = tt
 text_fault (Some cells) bytes why s is bad = text-at cells bytes why s is bad
 
 -- ---- how it is made ready
 
+-- a short disk, once synced and emptied, is ready
 pub readied-empty : (told mid new : Option Cells) → mid ≡ option_map synced told → new ≡ option_map emptied mid → IfSome told IsShort → Goes IsReadied told new
 readied-empty None mid new is made short = subst (λ (o : Option Cells). Goes IsReadied None o) (sym (made ∙ ap (option_map emptied) is)) tt
 readied-empty (Some cells) mid new is made short =
@@ -66,6 +70,7 @@ readied-empty (Some cells) mid new is made short =
       same = ap (λ (c : Cells). drop 9 (reads c)) whole ∙ sym (drop_all 9 (reads cells) short);
     })
 
+-- a disk that stands for no records, once synced, is ready
 pub readied-read : (told mid : Option Cells) (bytes : List ℕ) → mid ≡ option_map synced told → IsLookedAt told bytes → StandsFor bytes [] → Goes IsReadied told mid
 readied-read None mid bytes is looked stands = subst (λ (o : Option Cells). Goes IsReadied None o) (sym is) tt
 readied-read (Some cells) mid bytes is looked stands =
@@ -86,10 +91,12 @@ half-left-at : (s : Setup) (cells : Cells) (new : Option Cells) → IsHalfReady 
 half-left-at s cells new (inl same) = each-left s cells new (IsImage cells) (λ image is. inl is) same
 half-left-at s cells new (inr short) = each-left s cells new (λ image. length image ≤ 9) (λ image is. inr (inl short.0, inl is)) short.1
 
+-- what a fault on the way leaves of a disk is what a failed init may leave
 pub half-left : (s : Setup) (told new : Option Cells) → IfSome told (λ cells. IsHalfReady cells new) → IfSome told (λ cells. EachImage new (MayBeLeft s cells))
 half-left s None new half = tt
 half-left s (Some cells) new half = half-left-at s cells new half
 
+-- what a failed append of the setup leaves of a ready disk is what a failed init may leave
 pub append-left : (s : Setup) (told mid new : Option Cells) → Goes IsReadied told mid → MayStandFor [] (SetUp s) new → IfSome told (λ cells. EachImage new (MayBeLeft s cells))
 append-left s None mid new ready stands = tt
 append-left s (Some cells) None new ready stands = absurd ready

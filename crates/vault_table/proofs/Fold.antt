@@ -47,6 +47,7 @@ same-first (Resume id audit) = refl
 same-first (InEffect id size profile name) = refl
 same-first (RepairDue number counts) = refl
 
+-- a table refuses a record for the same cause as the fold of the records below it
 pub same-refusal : (t : Kept) (rs : List Record) (r : Record) → IsFoldOf rs t → refusal t r ≡ refused rs r
 same-refusal t rs r is = grind (arith, is.setup, same-after t rs r is, same-first r)
 
@@ -99,6 +100,7 @@ has-setup t (RepairDue number counts) other p = grind (arith, p)
 none-started : (t : Kept) (k : ℕ) → t.passed + length t.started ≡ 0 → started_at t k ≡ None
 none-started t k none = grind (arith, nat_tests, name-past t.started (k - suc t.passed), none)
 
+-- a table that refuses no record is, with it, the fold of the records with it on top
 pub goes-on : (t : Kept) (rs : List Record) (r : Record) → IsFoldOf rs t → refusal t r ≡ None → IsFoldOf (r ∷ rs) (with_record t r)
 goes-on t rs (SetUp s) is p =
     record { setup = refl; version = is.version; files = is.files; started = is.started; id = is.id; audit = is.audit; running = is.running; due = is.due }
@@ -175,7 +177,7 @@ goes-on t rs (RepairDue number counts) is p =
 -- ---- reading a started put
 
 -- the place of a started put is inside
-pub at-inside : (t : Kept) (id : ℕ) (name : List ℕ) → started_at t id ≡ Some name → (t.passed < id) × (id - t.passed - 1 < length t.started)
+at-inside : (t : Kept) (id : ℕ) (name : List ℕ) → started_at t id ≡ Some name → (t.passed < id) × (id - t.passed - 1 < length t.started)
 at-inside t id name e = elim (cases_lt t.passed id) [
   | inl later ↦ elim (cases_lt (id - suc t.passed) (length t.started)) [
     | inl lt ↦ (later, omega (arith, later, lt))

@@ -11,18 +11,21 @@ use Rattle.record_defs.proofs.OrderLaws.{before-trans, below-trans}
 use Rattle.record_defs.proofs.PackLaws.{before-not_same}
 use Rattle.vault_table.specs.Orders.{order_of, comes_after, comes_before, IsHere, IsBetween}
 
+-- a name that compares as less comes before the other
 pub order-less : (a b : List ℕ) → order_of a b ≡ Less → is_name_before a b ≡ true
 order-less [] [] p = absurd cc
 order-less [] (y ∷ b) p = refl
 order-less (x ∷ a) [] p = absurd cc
 order-less (x ∷ a) (y ∷ b) p = grind (arith, nat_tests, p, order-less a b)
 
+-- names that compare as equal are equal
 pub order-equal : (a b : List ℕ) → order_of a b ≡ Equal → a ≡ b
 order-equal [] [] p = refl
 order-equal [] (y ∷ b) p = absurd cc
 order-equal (x ∷ a) [] p = absurd cc
 order-equal (x ∷ a) (y ∷ b) p = grind (arith, nat_tests, p, order-equal a b)
 
+-- a name that compares as greater comes behind the other
 pub order-greater : (a b : List ℕ) → order_of a b ≡ Greater → is_name_before b a ≡ true
 order-greater [] [] p = absurd cc
 order-greater [] (y ∷ b) p = absurd cc
@@ -35,6 +38,7 @@ below-at name [] i d lt p = absurd (omega (arith, lt))
 below-at name (f ∷ fs) zero d lt p = grind (arith, p)
 below-at name (f ∷ fs) (suc i) d lt p = let q : comes_before name fs ≡ true = grind (arith, p) in below-at name fs i d (omega (arith, lt)) q
 
+-- in order, a name behind that of a place comes behind all up to this place
 pub front-after : (fs : List File) (i : ℕ) (d : File) (name : List ℕ) → are_ordered fs ≡ true → i < length fs
     → is_name_before (get_or fs i d).name name ≡ true → comes_after name (take (i + 1) fs) ≡ true
 front-after [] i d name o lt p = absurd (omega (arith, lt))
@@ -48,6 +52,7 @@ front-after (f ∷ fs) (suc i) d name o lt p =
     let n : suc i + 1 ≡ suc (i + 1) = omega arith in
     rw (n, before, rest) refl
 
+-- in order, a name before that of a place comes before all from this place on
 pub back-before : (fs : List File) (i : ℕ) (d : File) (name : List ℕ) → are_ordered fs ≡ true → i < length fs
     → is_name_before name (get_or fs i d).name ≡ true → comes_before name (drop i fs) ≡ true
 back-before [] i d name o lt p = absurd (omega (arith, lt))
@@ -74,6 +79,7 @@ split-at [] i d lt = absurd (omega (arith, lt))
 split-at (f ∷ fs) zero d lt = refl
 split-at (f ∷ fs) (suc i) d lt = ap (λ (l : List File). f ∷ l) (split-at fs i d (omega (arith, lt)))
 
+-- in order, the file of a name is at the place that has this name
 pub is_here : (fs : List File) (i : ℕ) (d : File) (name : List ℕ) → are_ordered fs ≡ true → i < length fs → (get_or fs i d).name ≡ name → IsHere fs name i
 is_here fs i d name o lt same =
     record {
@@ -88,24 +94,25 @@ is_here fs i d name o lt same =
 
 -- ---- comparing two names byte by byte
 
-pub order-same : (a b : List ℕ) (i : ℕ) → i < length a → i < length b → get_or a i 0 ≡ get_or b i 0 → order_of (drop i a) (drop i b) ≡ order_of (drop (i + 1) a) (drop (i + 1) b)
+order-same : (a b : List ℕ) (i : ℕ) → i < length a → i < length b → get_or a i 0 ≡ get_or b i 0 → order_of (drop i a) (drop i b) ≡ order_of (drop (i + 1) a) (drop (i + 1) b)
 order-same [] b i lt_a lt_b e = absurd (omega (arith, lt_a))
 order-same (x ∷ a) [] i lt_a lt_b e = absurd (omega (arith, lt_b))
 order-same (x ∷ a) (y ∷ b) zero lt_a lt_b e = grind (arith, nat_tests, e)
 order-same (x ∷ a) (y ∷ b) (suc i) lt_a lt_b e = let n : suc i + 1 ≡ suc (i + 1) = omega arith in rw n (order-same a b i (omega (arith, lt_a)) (omega (arith, lt_b)) e)
 
-pub order-first : (a b : List ℕ) (i : ℕ) → i < length a → i < length b → get_or a i 0 < get_or b i 0 → order_of (drop i a) (drop i b) ≡ Less
+order-first : (a b : List ℕ) (i : ℕ) → i < length a → i < length b → get_or a i 0 < get_or b i 0 → order_of (drop i a) (drop i b) ≡ Less
 order-first [] b i lt_a lt_b e = absurd (omega (arith, lt_a))
 order-first (x ∷ a) [] i lt_a lt_b e = absurd (omega (arith, lt_b))
 order-first (x ∷ a) (y ∷ b) zero lt_a lt_b e = grind (arith, nat_tests, e)
 order-first (x ∷ a) (y ∷ b) (suc i) lt_a lt_b e = order-first a b i (omega (arith, lt_a)) (omega (arith, lt_b)) e
 
-pub order-last : (a b : List ℕ) (i : ℕ) → i < length a → i < length b → get_or b i 0 < get_or a i 0 → order_of (drop i a) (drop i b) ≡ Greater
+order-last : (a b : List ℕ) (i : ℕ) → i < length a → i < length b → get_or b i 0 < get_or a i 0 → order_of (drop i a) (drop i b) ≡ Greater
 order-last [] b i lt_a lt_b e = absurd (omega (arith, lt_a))
 order-last (x ∷ a) [] i lt_a lt_b e = absurd (omega (arith, lt_b))
 order-last (x ∷ a) (y ∷ b) zero lt_a lt_b e = grind (arith, nat_tests, e)
 order-last (x ∷ a) (y ∷ b) (suc i) lt_a lt_b e = order-last a b i (omega (arith, lt_a)) (omega (arith, lt_b)) e
 
+-- a name that ends where the other goes on compares as less
 pub order-shorter : (a b : List ℕ) (i : ℕ) → i ≡ length a → i < length b → order_of (drop i a) (drop i b) ≡ Less
 order-shorter [] [] i e lt = absurd (omega (arith, lt))
 order-shorter [] (y ∷ b) i e lt = rw e refl
@@ -113,13 +120,14 @@ order-shorter (x ∷ a) [] i e lt = absurd (omega (arith, lt))
 order-shorter (x ∷ a) (y ∷ b) zero e lt = absurd (omega (arith, e))
 order-shorter (x ∷ a) (y ∷ b) (suc i) e lt = order-shorter a b i (omega (arith, e)) (omega (arith, lt))
 
+-- a name that goes on where the other ends compares as greater
 pub order-longer : (a b : List ℕ) (i : ℕ) → i ≡ length b → i < length a → order_of (drop i a) (drop i b) ≡ Greater
 order-longer [] b i e lt = absurd (omega (arith, lt))
 order-longer (x ∷ a) [] i e lt = rw e refl
 order-longer (x ∷ a) (y ∷ b) zero e lt = absurd (omega (arith, e))
 order-longer (x ∷ a) (y ∷ b) (suc i) e lt = order-longer a b i (omega (arith, e)) (omega (arith, lt))
 
-pub order-ended : (a b : List ℕ) (i : ℕ) → i ≡ length a → i ≡ length b → order_of (drop i a) (drop i b) ≡ Equal
+order-ended : (a b : List ℕ) (i : ℕ) → i ≡ length a → i ≡ length b → order_of (drop i a) (drop i b) ≡ Equal
 order-ended [] [] i e f = rw e refl
 order-ended [] (y ∷ b) i e f = absurd (omega (arith, e, f))
 order-ended (x ∷ a) [] i e f = absurd (omega (arith, e, f))
@@ -159,15 +167,18 @@ with-before f [] p = refl
 with-before f (g ∷ back) p = grind (arith, p, before-not_after f.name g.name)
 
 module _ (fs : List File) (name : List ℕ) (i : ℕ) where
+  -- the file of a name is found at its place
   pub find-here : (here : IsHere fs name i) → find_file fs name ≡ Some here.file
   find-here here =
       ap (λ (l : List File). find_file l name) here.parts ∙ skip-find name (take i fs) (here.file ∷ here.behind) here.after
       ∙ grind (arith, here.same, same-refl name)
 
+  -- a read at its place gives the file
   pub file-here : (here : IsHere fs name i) (d : File) → get_or fs i d ≡ here.file
   file-here here d =
       ap (λ (l : List File). get_or l i d) here.parts ∙ get_or_at (take i fs) here.file here.behind d i (length-take-le i fs (omega (arith, here.within)))
 
+  -- a name that would stand between two files has none
   pub find-between : IsBetween fs name i → find_file fs name ≡ None
   find-between is =
       ap (λ (l : List File). find_file l name) (sym (take-append-drop i fs)) ∙ skip-find name (take i fs) (drop i fs) is.after ∙ find-before name (drop i fs) is.before
@@ -182,14 +193,16 @@ module _ (fs : List File) (name : List ℕ) (i : ℕ) where
       let size : length (take i fs ++ here.file ∷ []) ≡ suc i = omega (arith, length-append (take i fs) (here.file ∷ []), length-take i fs, here.within) in
       sym (ap (λ (l : List File). drop (suc i) l) (here.parts ∙ sym (append_assoc (take i fs) (here.file ∷ []) here.behind)) ∙ drop_at (take i fs ++ here.file ∷ []) here.behind (suc i) size)
 
+  -- to drop a name takes the file at its place out
   pub drop-here : IsHere fs name i → without_file fs name ≡ remove fs i
   drop-here here = without-here here ∙ ap (λ (l : List File). take i fs ++ l) (behind-is here)
 
-  pub drop-between : IsBetween fs name i → without_file fs name ≡ fs
+  drop-between : IsBetween fs name i → without_file fs name ≡ fs
   drop-between is =
       ap (λ (l : List File). without_file l name) (sym (take-append-drop i fs)) ∙ skip-without name (take i fs) (drop i fs) is.after
       ∙ ap (λ (l : List File). take i fs ++ l) (without-before name (drop i fs) is.before) ∙ take-append-drop i fs
 
+  -- to put a file of a name that there is sets it at its place
   pub put-here : (f : File) → f.name ≡ name → IsHere fs name i → with_file (without_file fs name) f ≡ set fs i f
   put-here f e here =
       let after : comes_after f.name (take i fs) ≡ true = subst (λ (n : List ℕ). comes_after n (take i fs) ≡ true) (sym e) here.after in
@@ -199,6 +212,7 @@ module _ (fs : List File) (name : List ℕ) (i : ℕ) where
       ∙ ap (λ (l : List File). take i fs ++ l) (with-before f here.behind before)
       ∙ sym (ap (λ (l : List File). set l i f) here.parts ∙ set_at (take i fs) here.file here.behind f i size)
 
+  -- to put a file of a new name sets it in between
   pub put-between : (f : File) → f.name ≡ name → IsBetween fs name i → with_file (without_file fs name) f ≡ insert fs i f
   put-between f e is =
       let after : comes_after f.name (take i fs) ≡ true = subst (λ (n : List ℕ). comes_after n (take i fs) ≡ true) (sym e) is.after in
