@@ -3,7 +3,7 @@ use crate::name::Name;
 use crate::setup::Setup;
 
 /// A record of the journal. Lengths are bytes of a file; ids number puts, and numbers count audits, both from 1 on.
-#[derive(Clone, Copy, Debug)]
+#[derive(Clone, Copy)]
 pub enum Record {
     /// What the store is set up with, and its master key.
     Setup {

@@ -2,9 +2,11 @@ ghost use Rattle.std.specs.Prelude.{◌≡◌, ◌++◌, ◌∷◌, [], ◌+◌,
 ghost use Rattle.std.specs.Int.{w32, w64, to_le_bytes};
 ghost use Rattle.std.specs.List.{flat_map};
 ghost use Rattle.record_defs.specs.Records.{record_size};
-ghost use Rattle.record_defs.specs.Spellings.{spelling, setup_bytes};
-ghost use Rattle.record_codec.specs.Entries.{entry_of, with_master, HasSpelling};
+ghost use Rattle.record_defs.specs.Spellings.{spelling, setup_bytes, name_bytes, counts_bytes};
+ghost use Rattle.record_codec.specs.Entries.{entry_of, with_master, counted, HasSpelling};
 
+use crate::counts::Counts;
+use crate::name::Name;
 use crate::records::Record;
 use crate::setup::Setup;
 
@@ -49,16 +51,59 @@ fn put_setup(out: &mut [u8], at: usize, setup: &Setup, master: &[u8; 32]) -> usi
     put(out, at, master)
 }
 
+/// Writes a kind, and a number behind it.
+fn put_number(out: &mut [u8], kind: u8, number: u64) -> usize
+    requires { 9 ≤ length out.old }
+    ensures at { result ≡ 9 }
+    ensures front { take result out.new ≡ kind ∷ to_le_bytes w64 number }
+{
+    let at = put(out, 0, &[kind]);
+    put(out, at, &number.to_le_bytes())
+}
+
 /// Writes a kind, and the number, length and profile of an object behind it.
 fn put_object(out: &mut [u8], kind: u8, id: u64, size: u32, profile: u8) -> usize
     requires { 14 ≤ length out.old }
     ensures at { result ≡ 14 }
     ensures front { take result out.new ≡ kind ∷ to_le_bytes w64 id ++ to_le_bytes w32 size ++ profile ∷ [] }
 {
-    let at = put(out, 0, &[kind]);
-    let at = put(out, at, &id.to_le_bytes());
+    let at = put_number(out, kind, id);
     let at = put(out, at, &size.to_le_bytes());
     put(out, at, &[profile])
+}
+
+/// Writes a name behind its length.
+fn put_name(out: &mut [u8], at: usize, name: &Name) -> usize
+    requires { at + length (name_bytes name.now) ≤ length out.old }
+    ensures at { result ≡ at + length (name_bytes name.now) }
+    ensures front { take result out.new ≡ take at out.old ++ name_bytes name.now }
+{
+    let name = name.as_bytes();
+    let at = put(out, at, &[name.len() as u8]);
+    put(out, at, name)
+}
+
+/// Writes the counts of the providers behind their number.
+fn put_counts(out: &mut [u8], at: usize, counts: &Counts) -> usize
+    requires few { counts.now.n ≤ 16 }
+    requires room { at + 1 + 4 * length (counted counts.now) ≤ length out.old }
+    ensures at { result ≡ at + 1 + 4 * length (counted counts.now) }
+    ensures front { take result out.new ≡ take at out.old ++ counts_bytes (counted counts.now) }
+{
+    let at = put(out, at, &[counts.n]);
+    put_numbers(out, at, &counts.by[..counts.n as usize])
+}
+
+fn put_audit_done(out: &mut [u8], number: u64, undecided: u32, counts: &Counts) -> usize
+    requires few { counts.now.n ≤ 16 }
+    requires room { 14 + 4 * length (counted counts.now) ≤ length out.old }
+    ensures at { result ≡ 14 + 4 * length (counted counts.now) }
+    ensures front { take result out.new
+        ≡ 6 ∷ to_le_bytes w64 number ++ to_le_bytes w32 undecided ++ counts_bytes (counted counts.now) }
+{
+    let at = put_number(out, 6, number);
+    let at = put(out, at, &undecided.to_le_bytes());
+    put_counts(out, at, counts)
 }
 
 impl Record {
@@ -76,41 +121,24 @@ impl Record {
                 put_setup(out, at, setup, master)
             }
             Record::PutStart { id, name } => {
-                let name = name.as_bytes();
-                let at = put(out, 0, &[2]);
-                let at = put(out, at, &id.to_le_bytes());
-                let at = put(out, at, &[name.len() as u8]);
-                put(out, at, name)
+                let at = put_number(out, 2, *id);
+                put_name(out, at, name)
             }
             Record::PutDone { id, length } => {
-                let at = put(out, 0, &[3]);
-                let at = put(out, at, &id.to_le_bytes());
+                let at = put_number(out, 3, *id);
                 put(out, at, &length.to_le_bytes())
             }
             Record::Drop { name } => {
-                let name = name.as_bytes();
-                let at = put(out, 0, &[4, name.len() as u8]);
-                put(out, at, name)
+                let at = put(out, 0, &[4]);
+                put_name(out, at, name)
             }
-            Record::AuditStart { number } => {
-                let at = put(out, 0, &[5]);
-                put(out, at, &number.to_le_bytes())
-            }
+            Record::AuditStart { number } => put_number(out, 5, *number),
             Record::AuditDone {
                 number,
                 undecided,
                 counts,
-            } => {
-                let at = put(out, 0, &[6]);
-                let at = put(out, at, &number.to_le_bytes());
-                let at = put(out, at, &undecided.to_le_bytes());
-                let at = put(out, at, &[counts.n]);
-                put_numbers(out, at, &counts.by[..counts.n as usize])
-            }
-            Record::RepairDone { number } => {
-                let at = put(out, 0, &[7]);
-                put(out, at, &number.to_le_bytes())
-            }
+            } => put_audit_done(out, *number, *undecided, counts),
+            Record::RepairDone { number } => put_number(out, 7, *number),
             Record::PutDoneIn {
                 id,
                 length,
@@ -118,8 +146,7 @@ impl Record {
             } => put_object(out, 8, *id, *length, *profile),
             Record::Version => put(out, 0, &[9, 2]),
             Record::Resume { id, audit } => {
-                let at = put(out, 0, &[10]);
-                let at = put(out, at, &id.to_le_bytes());
+                let at = put_number(out, 10, *id);
                 put(out, at, &audit.to_le_bytes())
             }
             Record::File {
@@ -128,16 +155,12 @@ impl Record {
                 profile,
                 name,
             } => {
-                let name = name.as_bytes();
                 let at = put_object(out, 11, *id, *length, *profile);
-                let at = put(out, at, &[name.len() as u8]);
-                put(out, at, name)
+                put_name(out, at, name)
             }
             Record::Due { number, counts } => {
-                let at = put(out, 0, &[12]);
-                let at = put(out, at, &number.to_le_bytes());
-                let at = put(out, at, &[counts.n]);
-                put_numbers(out, at, &counts.by[..counts.n as usize])
+                let at = put_number(out, 12, *number);
+                put_counts(out, at, counts)
             }
         }
     }
