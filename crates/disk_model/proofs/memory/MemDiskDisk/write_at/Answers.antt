@@ -1,6 +1,6 @@
-use Rattle.std.proofs.Common.{subst, ap}
+use Rattle.std.proofs.Common.{◌≡◌, ◌⊎◌, subst, ap}
 use Rattle.device_defs.specs.Cells.{Cells}
-use Rattle.device_defs.specs.Disks.{Torn}
+use Rattle.device_defs.specs.Disks.{Torn, halved, marked}
 use Rattle.std.specs.Prelude.{length}
 use Rattle.device_defs.proofs.TearLaws.{Torn-either}
 use Rattle.disk_model.specs.InMemory.{DiskInMemory}
@@ -8,4 +8,12 @@ use Rattle.disk_model.proofs.memory.MemDiskDisk.write_at.Goals as goal
 
 pub returns-then-next-clause-torn : goal.returns-then-next-clause-torn
 returns-then-next-clause-torn c =
-    λ failed. subst (λ (cells : Cells). Torn c.args.at (length c.args.bytes.now) cells c.tear_at.new.self.cells) (ap (λ (d : DiskInMemory). d.cells) c.self.view_is) (Torn-either c.args.at c.args.bytes.now c.self.inside.inner.cells c.tear_at.new.self.cells c.tear_at.ensures.torn)
+    λ failed. subst (λ (cells : Cells). Torn c.args.at (length c.args.bytes.now) cells c.tear_at.new.self.cells)
+    (ap (λ (d : DiskInMemory). d.cells) c.self.view_is)
+    (Torn-either c.args.at c.args.bytes.now c.self.inside.inner.cells c.tear_at.new.self.cells c.tear_at.ensures.torn)
+
+pub returns-then-next-clause-failed : goal.returns-then-next-clause-failed
+returns-then-next-clause-failed c =
+    λ failed. subst (λ (d : DiskInMemory). (c.tear_at.new.self.cells ≡ halved c.args.at c.args.bytes.now d.cells)
+    ⊎ (c.tear_at.new.self.cells ≡ marked c.args.at (length c.args.bytes.now) d.cells))
+    c.self.view_is c.tear_at.ensures.torn

@@ -2,6 +2,7 @@ use Rattle.std.proofs.Common.{refl, ℕ, ◌+◌, [], ◌∷◌, length, subst, 
 use Rattle.std.specs.Prelude.{IfSome, Err}
 use Rattle.stream_model.specs.declared.fault.WriteFault.{WriteFault}
 use Rattle.std.specs.Option.{option_map}
+use Rattle.std.proofs.lemmas.Bool.Decides.{Decides-eqb}
 use Rattle.device_defs.specs.Disks.{written, Torn}
 use Rattle.device_defs.specs.Told.{Goes}
 use Rattle.record_defs.specs.Journal.{before_gate}
@@ -165,3 +166,17 @@ returns-clause-beyond g c = synced_beyond (gate_of c.args.self.now + 1 + length 
 
 pub returns-in_err-sync-clause-beyond : goal.returns-in_err-sync-clause-beyond
 returns-in_err-sync-clause-beyond g c = goes_still (gate_of c.args.self.now + 1 + length (body_of c.args.self.now)) _ _ (c.in_err-sync.ensures.failed refl)
+
+-- ---- the count of moves
+
+pub returns-clause-last : goal.returns-clause-last
+returns-clause-last g c = Decides-eqb (moves_of c.args.self.now + 1) 4
+
+pub returns-in_err-write_at-clause-failed : goal.returns-in_err-write_at-clause-failed
+returns-in_err-write_at-clause-failed g c = on_err c.from_residual.result _ refl
+
+pub returns-in_err-write_at-2-clause-failed : goal.returns-in_err-write_at-2-clause-failed
+returns-in_err-write_at-2-clause-failed g c = on_err c.from_residual-in_err-write_at-2.result _ refl
+
+pub returns-in_err-sync-clause-failed : goal.returns-in_err-sync-clause-failed
+returns-in_err-sync-clause-failed g c = on_err c.from_residual-in_err-sync.result _ refl
