@@ -180,6 +180,15 @@ returns-in_err-sync-clause-beyond g c = goes_still (gate_of c.args.self.now + 1 
 pub returns-clause-last : goal.returns-clause-last
 returns-clause-last g c = Decides-eqb (moves_of c.args.self.now + 1) 4
 
+pub returns-clause-failed : goal.returns-clause-failed
+returns-clause-failed g c = tt
+
+pub returns-clause-torn : goal.returns-clause-torn
+returns-clause-torn g c = λ failed. absurd cc
+
+pub returns-clause-given_up : goal.returns-clause-given_up
+returns-clause-given_up g c = λ rs r a. tt
+
 pub returns-in_err-write_at-clause-failed : goal.returns-in_err-write_at-clause-failed
 returns-in_err-write_at-clause-failed g c = on_err c.from_residual.result _ refl
 
