@@ -8,12 +8,16 @@ use Rattle.disk_model.proofs.memory.MemDiskDisk.write_at.Goals as goal
 
 pub returns-then-next-clause-torn : goal.returns-then-next-clause-torn
 returns-then-next-clause-torn c =
-    λ failed. subst (λ (cells : Cells). Torn c.args.at (length c.args.bytes.now) cells c.tear_at.new.self.cells)
+    let new = c.tear_at.new.self.cells in
+    let n = length c.args.bytes.now in
+    λ failed. subst (λ (cells : Cells). Torn c.args.at n cells new)
     (ap (λ (d : DiskInMemory). d.cells) c.self.view_is)
-    (Torn-either c.args.at c.args.bytes.now c.self.inside.inner.cells c.tear_at.new.self.cells c.tear_at.ensures.torn)
+    (Torn-either c.args.at c.args.bytes.now c.self.inside.inner.cells new c.tear_at.ensures.torn)
 
 pub returns-then-next-clause-failed : goal.returns-then-next-clause-failed
 returns-then-next-clause-failed c =
-    λ failed. subst (λ (d : DiskInMemory). (c.tear_at.new.self.cells ≡ halved c.args.at c.args.bytes.now d.cells)
-    ⊎ (c.tear_at.new.self.cells ≡ marked c.args.at (length c.args.bytes.now) d.cells))
+    let new = c.tear_at.new.self.cells in
+    let n = length c.args.bytes.now in
+    λ failed. subst (λ (d : DiskInMemory). (new ≡ halved c.args.at c.args.bytes.now d.cells)
+    ⊎ (new ≡ marked c.args.at n d.cells))
     c.self.view_is c.tear_at.ensures.torn

@@ -7,7 +7,7 @@ use Rattle.device_defs.specs.Disks.{written, Torn}
 use Rattle.device_defs.specs.Told.{Goes}
 use Rattle.record_defs.specs.Journal.{before_gate}
 use Rattle.journal_core.specs.Appends.{body_of, moves_of}
-use Rattle.journal_core.specs.Moves.{IsClosed, IsAfterMoves, IsGivenUp}
+use Rattle.journal_core.specs.Moves.{IsClosed, IsAfterMoves, IsGivenUp, cells_after}
 use Rattle.journal_core.proofs.MoveLemmas.{on_err, from_on_err, IfSome-mapped, body_written, gate_written, body_failed, gate_failed, synced}
 use Rattle.journal_core.proofs.ImageLemmas.{before_after, between_after, after_after, closed_after, before_given_up, between_given_up}
 use Rattle.journal_core.specs.Appends.{gate_of}
@@ -58,6 +58,14 @@ returns-in_err-write_at-clause-before g c = λ rs r a few.
 pub returns-in_err-write_at-clause-between : goal.returns-in_err-write_at-clause-between
 returns-in_err-write_at-clause-between g c = λ rs r a.
     between_given_up rs r a.records a.entry (body_of c.args.self.now) _ a.body (moves_of c.args.self.now) (from_on_err c.from_residual.result _ c.from_residual.ensures.0 (returns-in_err-write_at-clause-given_up g c rs r a))
+
+pub returns-then-self-eq0-clause-does : goal.returns-then-self-eq0-clause-does
+returns-then-self-eq0-clause-does g c =
+    let gate = gate_of c.args.self.now in
+    let body = body_of c.args.self.now in
+    let was = g.D.Disk.holds c.args.disk.now in
+    c.in_ok-write_at.ensures.ok
+    ∙ ap (λ (m : ℕ). option_map (cells_after m gate body) was) (sym c.if-self-eq0.true)
 
 -- ---- the third move
 
@@ -171,6 +179,15 @@ returns-in_err-sync-clause-beyond g c = goes_still (gate_of c.args.self.now + 1 
 
 pub returns-clause-last : goal.returns-clause-last
 returns-clause-last g c = Decides-eqb (moves_of c.args.self.now + 1) 4
+
+pub returns-clause-failed : goal.returns-clause-failed
+returns-clause-failed g c = tt
+
+pub returns-clause-torn : goal.returns-clause-torn
+returns-clause-torn g c = λ failed. absurd cc
+
+pub returns-clause-given_up : goal.returns-clause-given_up
+returns-clause-given_up g c = λ rs r a. tt
 
 pub returns-in_err-write_at-clause-failed : goal.returns-in_err-write_at-clause-failed
 returns-in_err-write_at-clause-failed g c = on_err c.from_residual.result _ refl
