@@ -1,4 +1,5 @@
-ghost use Rattle.std.specs.Prelude.{◌≡◌, ◌++◌, ◌≤◌, ◌-◌, ℕ, [], List, length, take, drop, replicate, IfSome, IfNone, IsTrue};
+ghost use Rattle.std.specs.Prelude.{◌≡◌, ◌++◌, ◌∷◌, ◌≤◌, ◌-◌, ℕ, [], List, length, take, drop, replicate};
+ghost use Rattle.std.specs.Prelude.{IfSome, IfNone, IsTrue};
 ghost use Rattle.std.specs.Option.{option_map};
 ghost use Rattle.std.specs.Int.{w32, w64};
 ghost use Rattle.record_defs.specs.Records.{Record as Entry, is_spelled, is_held};
@@ -179,15 +180,17 @@ fn audit_done_of(bytes: &[u8]) -> Option<(Record, &[u8])>
 {
     let (number, rest) = u64_at(bytes)?;
     let (undecided, rest) = u32_at(rest)?;
-    let (counts, rest) = counts_of(rest)?;
-    Some((
-        Record::AuditDone {
-            number,
-            undecided,
-            counts,
-        },
-        rest,
-    ))
+    match counts_of(rest) {
+        Some((counts, rest)) => Some((
+            Record::AuditDone {
+                number,
+                undecided,
+                counts,
+            },
+            rest,
+        )),
+        None => None,
+    }
 }
 
 #[tactic(auto, unfolding(crate::specs::Reading::repair_done_at))]
@@ -258,8 +261,10 @@ fn resume_of(bytes: &[u8]) -> Option<(Record, &[u8])>
     ensures padded { IfSome result (λ x. HasPadding x.0) }
 {
     let (id, rest) = u64_at(bytes)?;
-    let (audit, rest) = u64_at(rest)?;
-    Some((Record::Resume { id, audit }, rest))
+    match u64_at(rest) {
+        Some((audit, rest)) => Some((Record::Resume { id, audit }, rest)),
+        None => None,
+    }
 }
 
 #[tactic(auto, unfolding(crate::specs::Reading::in_effect_at))]
@@ -288,8 +293,33 @@ fn due_of(bytes: &[u8]) -> Option<(Record, &[u8])>
     ensures padded { IfSome result (λ x. HasPadding x.0) }
 {
     let (number, rest) = u64_at(bytes)?;
-    let (counts, rest) = counts_of(rest)?;
-    Some((Record::Due { number, counts }, rest))
+    match counts_of(rest) {
+        Some((counts, rest)) => Some((Record::Due { number, counts }, rest)),
+        None => None,
+    }
+}
+
+/// Reads a record behind its kind.
+#[tactic(auto, unfolding(crate::specs::Reading::spelled_at))]
+fn kind_of(kind: u8, bytes: &[u8]) -> Option<(Record, &[u8])>
+    ensures value { option_map (λ x. (entry_of x.0, x.1.now)) result ≡ spelled_at (kind ∷ bytes.now) }
+    ensures padded { IfSome result (λ x. HasPadding x.0) }
+{
+    match kind {
+        1 => setup_of(bytes),
+        2 => put_start_of(bytes),
+        3 => put_done_of(bytes),
+        4 => drop_of(bytes),
+        5 => audit_start_of(bytes),
+        6 => audit_done_of(bytes),
+        7 => repair_done_of(bytes),
+        8 => put_done_in_of(bytes),
+        9 => version_of(bytes),
+        10 => resume_of(bytes),
+        11 => file_of(bytes),
+        12 => due_of(bytes),
+        _ => None,
+    }
 }
 
 /// Reads a record of any kind.
@@ -299,18 +329,7 @@ fn spelled_of(bytes: &[u8]) -> Option<(Record, &[u8])>
     ensures padded { IfSome result (λ x. HasPadding x.0) }
 {
     match bytes {
-        [1, rest @ ..] => setup_of(rest),
-        [2, rest @ ..] => put_start_of(rest),
-        [3, rest @ ..] => put_done_of(rest),
-        [4, rest @ ..] => drop_of(rest),
-        [5, rest @ ..] => audit_start_of(rest),
-        [6, rest @ ..] => audit_done_of(rest),
-        [7, rest @ ..] => repair_done_of(rest),
-        [8, rest @ ..] => put_done_in_of(rest),
-        [9, rest @ ..] => version_of(rest),
-        [10, rest @ ..] => resume_of(rest),
-        [11, rest @ ..] => file_of(rest),
-        [12, rest @ ..] => due_of(rest),
+        [kind, rest @ ..] => kind_of(*kind, rest),
         _ => None,
     }
 }

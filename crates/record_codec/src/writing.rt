@@ -33,12 +33,13 @@ fn put_numbers(out: &mut [u8], at: usize, ks: &[u32]) -> usize
     end
 }
 
-fn put_setup(out: &mut [u8], at: usize, setup: &Setup, master: &[u8; 32]) -> usize
-    requires { at + 40 ≤ length out.old }
-    ensures at { result ≡ at + 40 }
-    ensures front { take result out.new ≡ take at out.old ++ setup_bytes (with_master setup.now master.now) }
+fn put_setup(out: &mut [u8], setup: &Setup, master: &[u8; 32]) -> usize
+    requires { 41 ≤ length out.old }
+    ensures at { result ≡ 41 }
+    ensures front { take result out.new ≡ 1 ∷ setup_bytes (with_master setup.now master.now) }
 {
     let numbers = [
+        1,
         setup.n,
         setup.l,
         setup.b,
@@ -46,7 +47,7 @@ fn put_setup(out: &mut [u8], at: usize, setup: &Setup, master: &[u8; 32]) -> usi
         setup.rounds,
         setup.picks,
     ];
-    let at = put(out, at, &numbers);
+    let at = put(out, 0, &numbers);
     let at = put(out, at, &setup.tolerance.to_le_bytes());
     put(out, at, master)
 }
@@ -116,10 +117,7 @@ impl Record {
         ensures bytes { take result out.new ≡ spelling (entry_of self.now) }
     {
         match self {
-            Record::Setup { setup, master } => {
-                let at = put(out, 0, &[1]);
-                put_setup(out, at, setup, master)
-            }
+            Record::Setup { setup, master } => put_setup(out, setup, master),
             Record::PutStart { id, name } => {
                 let at = put_number(out, 2, *id);
                 put_name(out, at, name)
