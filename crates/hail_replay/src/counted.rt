@@ -17,8 +17,8 @@ ghost use Rattle.hail_replay.specs.UnderWay.{HasRun, HasCounted};
 use crate::Tally;
 use crate::event::perform;
 use crate::heard::HeardLists;
-use crate::schedule::{Replayed, heard_of, named};
-use command_lines::{NO_MEMORY, write_text};
+use crate::schedule::{Replayed, heard_of, named, tell};
+use command_lines::NO_MEMORY;
 use disk_model::Disk;
 use hail_client::Client;
 use provider_model::Tamper;
@@ -106,39 +106,40 @@ fn trial_events<D: Disk, P: Tamper>(
 /// Does the events of a trial, from a client with no vault open, and counts what they come to.
 fn count_events<D: Disk, P: Tamper>(
     alloc: Global,
-    expected: &[u8],
-    events: Vec<Event>,
+    trial: Trial,
     tally: &mut Tally,
     heard: &mut HeardLists,
     disk: &mut D,
     providers: &mut [P],
 ) -> Result<(), Memory>
-    requires few { length events.items < 2 ^ 32 - 2 }
-    requires zero { tally.old ≡ counts_of expected.now [] [] }
+    requires few { length trial.events.items < 2 ^ 32 - 2 }
+    requires zero { (expected : List ℕ) → tally.old ≡ counts_of expected [] [] }
     requires nothing { entries_heard heard.old ≡ [] }
     ensures ok { OnOk result ((start : State) (before : List Moment) → IsSome (D.holds disk.old)
         → AreLeft start before (devices_of D.Disk P.Provider disk.old providers.old)
-        → CountsTo expected.now start before (commands_of events.items) tally.new (entries_heard heard.new)
-        (devices_of D.Disk P.Provider disk.new providers.new)) }
+        → CountsTo trial.expected start before (commands_of trial.events.items) tally.new
+        (entries_heard heard.new) (devices_of D.Disk P.Provider disk.new providers.new)) }
     ensures err { OnErr result ((start : State) (before : List Moment) → IsSome (D.holds disk.old) → AreLeft
         start before (devices_of D.Disk P.Provider disk.old providers.old)
-        → RunsTo start before (commands_of events.items) (entries_heard heard.new)
+        → RunsTo start before (commands_of trial.events.items) (entries_heard heard.new)
         (devices_of D.Disk P.Provider disk.new providers.new)) }
     ensures tells { is_some (D.holds disk.new) ≡ is_some (D.holds disk.old) }
     ensures counts { NoCountFell (devices_of D.Disk P.Provider disk.old providers.old)
         (devices_of D.Disk P.Provider disk.new providers.new) }
 {
+    let Trial { events, expected } = trial;
     let mut client = Client::new();
-    trial_events(
+    let counted = trial_events(
         alloc,
-        expected,
+        expected.as_slice(),
         events,
         &mut client,
         tally,
         heard,
         disk,
         providers,
-    )
+    );
+    counted
 }
 
 /// Does the events of a trial and writes its six lines.
@@ -168,14 +169,9 @@ fn tell_trial<D: Disk, P: Tamper, K: Sink>(
     ensures sink_count { K.faults sink.old ≤ K.faults sink.new }
 {
     sizes_of_a_trial(number);
-    let Trial { events, expected } = trial;
     let mut tally = Tally::new(alloc);
-    let expected = expected.as_slice();
-    if count_events(alloc, expected, events, &mut tally, heard, disk, providers).is_err() {
-        return NO_MEMORY;
-    }
-    match tally.lines(alloc, number) {
-        Ok(text) => write_text(text.as_slice(), sink),
+    match count_events(alloc, trial, &mut tally, heard, disk, providers) {
+        Ok(()) => tell(tally.lines(alloc, number), sink),
         Err(Memory) => NO_MEMORY,
     }
 }

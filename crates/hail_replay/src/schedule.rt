@@ -1,7 +1,6 @@
 // The events of a schedule, one after the other, each with its lines.
-ghost use Rattle.std.specs.Prelude.{◌≡◌, ◌≤◌, ◌<◌, ◌-◌, ◌^◌, ℕ, List, [], ◌∷◌, Option, Some, IsSome, is_some, length};
+ghost use Rattle.std.specs.Prelude.{◌≡◌, ◌≤◌, ◌<◌, ◌-◌, ◌^◌, ℕ, List, [], ◌∷◌, Option, Some, IsSome, IfOk, is_some, length};
 ghost use Rattle.command_defs.specs.Sinking.{Sinking, WritesLine};
-ghost use Rattle.machine_defs.specs.Lines.{lines_of};
 ghost use Rattle.machine_defs.specs.Runs.{Moment};
 ghost use Rattle.machine_defs.specs.States.{State};
 ghost use Rattle.machine_defs.specs.Transcripts.{Instruction};
@@ -24,7 +23,7 @@ use hail_client::Client;
 use provider_model::Tamper;
 use schedule_text::Event;
 use std::alloc::Global;
-use stream_model::{Memory, Sink};
+use stream_model::{Bytes, Memory, Sink};
 use vault::{HeardList, Turn};
 
 /// How the events of a schedule ended: the status, which is 0, 15 or 70, and what their jobs heard.
@@ -55,13 +54,13 @@ pub(crate) fn heard_of(came: Came<'_>) -> HeardList
     }
 }
 
-/// Writes the lines of an event.
-fn tell<K: Sink>(alloc: Global, came: &Came<'_>, sink: &mut K) -> u8
-    ensures writes { WritesLine (lines_of (came_outcome came.now)) result
-        (sinking_of K.Sink sink.old sink.new) }
+/// Writes a text, for which there may have been no memory.
+pub(crate) fn tell<K: Sink>(text: Result<Bytes, Memory>, sink: &mut K) -> u8
+    ensures writes { (lines : List ℕ) → IfOk text (λ bytes. bytes ≡ lines)
+        → WritesLine lines result (sinking_of K.Sink sink.old sink.new) }
     ensures count { K.faults sink.old ≤ K.faults sink.new }
 {
-    match came_lines(alloc, came) {
+    match text {
         Ok(text) => write_text(text.as_slice(), sink),
         Err(Memory) => NO_MEMORY,
     }
@@ -94,7 +93,7 @@ fn replay_event<D: Disk, P: Tamper, K: Sink>(
 {
     let came = perform(alloc, client, event, disk, providers);
     let came = named(came, client);
-    let status = tell(alloc, &came, sink);
+    let status = tell(came_lines(alloc, &came), sink);
     heard.push(heard_of(came));
     status
 }
