@@ -73,4 +73,11 @@ impl Client {
             None => None,
         }
     }
+
+    /// Gives the client up, and its vault, where one is open.
+    pub fn close(self) {
+        if let Some(vault) = self.vault {
+            vault.close();
+        }
+    }
 }

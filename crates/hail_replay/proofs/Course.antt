@@ -3,6 +3,8 @@ use Rattle.std.proofs.Common.{◌≡◌, ℕ, ◌≤◌, List, [], ◌∷◌, �
 use Rattle.std.specs.Prelude.{OnOk, OnErr}
 use Rattle.std.proofs.lemmas.List.{append_assoc, reverse-append}
 use Rattle.command_defs.specs.Sinking.{WritesLine}
+use Rattle.headline.proofs.Parts.{headline}
+use Rattle.second_half_laws.proofs.Failed.{failures_rose}
 use Rattle.machine_defs.specs.Failures.{Count, count_in, HasFailures, RoseBy}
 use Rattle.machine_defs.specs.Heard.{Entry, heard_in}
 use Rattle.machine_defs.specs.Lines.{lines_of}
@@ -111,17 +113,14 @@ come-first start before c d L sound stands = record {
 
 -- a run of instructions that goes on with an earlier run has its headline
 pub carries-on : (start : State) (before : List Moment) (done : List Instruction) (later : List Moment) (lines : List ℕ) (heard : List Entry) (c : Client) (d : Devices)
-    → ((limit : ℕ) (start : State) (ms : List Moment) → IsStart start → IsRun limit start ms → Headline start ms)
-    → ((limit : ℕ) (start : State) (later ms : List Moment) (count : Count) (n : ℕ) → IsRun limit start (later ++ ms) →
-    HasFailures count (now start ms) later n → RoseBy (count_in count (now start ms)) (count_in count (now start (later ++ ms))) n)
     → AreLeft start before d → (e : Devices) → HasCome start (called_behind start before) done later lines heard c e → CarriesOn start before done later lines heard e
-carries-on start before done later lines heard c d law failures L e H = record {
+carries-on start before done later lines heard c d L e H = record {
   carried_out = H.carried_out;
   run = H.reached.run;
   last = devices-of c.vault c.next_job e (now start (later ++ called_behind start before)) H.reached.stands;
   heard_is = H.heard_is;
-  counted = λ count n fails. failures 8 start later (called_behind start before) count n H.reached.run fails;
-  headline = law 8 start (later ++ called_behind start before) L.starts H.reached.run;
+  counted = λ count n fails. failures_rose 8 start later (called_behind start before) count n H.reached.run fails;
+  headline = headline 8 start (later ++ called_behind start before) L.starts H.reached.run;
 }
 
 -- the next of the commands left is done

@@ -4,13 +4,13 @@ use Rattle.std.specs.Prelude.{IsSome, is_some}
 use Rattle.std.proofs.lemmas.Bool.{false≢true}
 use Rattle.std.proofs.lemmas.List.{append-nil, reverse-reverse}
 use Rattle.command_defs.specs.Sinking.{Sinking, WritesLine}
-use Rattle.machine_defs.specs.Failures.{Count, count_in, HasFailures, RoseBy}
 use Rattle.machine_defs.specs.Heard.{Entry}
 use Rattle.machine_defs.specs.Runs.{Moment, now, IsRun}
 use Rattle.machine_defs.specs.States.{State, IsStart, continued}
 use Rattle.machine_defs.specs.Transcripts.{Instruction}
-use Rattle.headline.specs.Headline.{Headline}
-use Rattle.state_laws.specs.Sound.{IsLimit, IsSound}
+use Rattle.headline.proofs.Parts.{headline}
+use Rattle.second_half_laws.proofs.Failed.{failures_rose}
+use Rattle.state_laws.proofs.Events.{run-sound}
 use Rattle.trial_maker.specs.Trials.{trial_bytes, trial_commands}
 use Rattle.hail_replay.specs.Counts.{TrialCounts, counts_of, trial_lines}
 use Rattle.vault_open.specs.Devices.{Devices, AreDevices}
@@ -20,7 +20,7 @@ use Rattle.hail_client.specs.Stands.{ClientStands}
 use Rattle.hail_client.proofs.Settled.{same-images}
 use Rattle.hail_replay.specs.Performed.{StandsWhereOpen, NoCountFell, KeepsStanding}
 use Rattle.hail_replay.specs.Replayed.{CarriesOn, Replays}
-use Rattle.hail_replay.specs.Starts.{AreLeft, called_behind}
+use Rattle.hail_replay.specs.Starts.{AreLeft, IsFresh, called_behind}
 use Rattle.hail_replay.specs.Trials.{RunsTrial, RunsTo, CountsTo}
 use Rattle.hail_replay.specs.UnderWay.{HasDone, HasRun, HasCounted}
 use Rattle.hail_replay.proofs.Counts.{none-fell, then-fell}
@@ -44,19 +44,9 @@ abbrev pub AreCounted : List ℕ → List Instruction → List Instruction → C
 AreCounted expected all left c old new counts heard = (start : State) (before : List Moment) → IsSome old.holds → AreLeft start before old →
     (done : List Instruction) × (all ≡ reverse done ++ left) × HasCounted expected start (called_behind start before) done counts heard c new
 
--- the laws that a run is judged by
-pub record Laws : Type 0 where
-  pub sound : (limit : ℕ) (start : State) (ms : List Moment) → IsLimit limit → IsStart start → IsRun limit start ms → IsSound limit (now start ms)
-  pub headline : (limit : ℕ) (start : State) (ms : List Moment) → IsStart start → IsRun limit start ms → Headline start ms
-  pub failures : (limit : ℕ) (start : State) (later ms : List Moment) (count : Count) (n : ℕ) → IsRun limit start (later ++ ms) →
-      HasFailures count (now start ms) later n → RoseBy (count_in count (now start ms)) (count_in count (now start (later ++ ms))) n
-
-abbrev pub Begins : Client → Type 0
-Begins c = (d : Devices) (w : State) → IsSound 8 w → AreDevices d w → ClientStands c d (continued w)
-
 -- ---- the course
 
-first-course : (all : List Instruction) (c : Client) (d : Devices) → is_open c ≡ false → client_next_job c ≡ 1 → IsOnCourse all all c d d
+pub first-course : (all : List Instruction) (c : Client) (d : Devices) → is_open c ≡ false → client_next_job c ≡ 1 → IsOnCourse all all c d d
 first-course all c d closed first = record {
   standing = λ opened. absurd (false≢true (sym closed ∙ opened));
   jobs = omega (arith, first);
@@ -64,7 +54,7 @@ first-course all c d closed first = record {
   counts = none-fell d;
 }
 
-course-on : (all left : List Instruction) (command : Instruction) (c next : Client) (old mid new : Devices) → IsOnCourse all (command ∷ left) c old mid → KeepsStanding c next mid new
+pub course-on : (all left : List Instruction) (command : Instruction) (c next : Client) (old mid new : Devices) → IsOnCourse all (command ∷ left) c old mid → KeepsStanding c next mid new
     → IsOnCourse all left next old new
 course-on all left command c next old mid new W K = record {
   standing = K.standing;
@@ -75,15 +65,14 @@ course-on all left command c next old mid new W K = record {
 
 -- ---- a schedule
 
--- before the first instruction none is done
-pub none-done : Laws → (all : List Instruction) (c : Client) (d : Devices) (first : Option (List ℕ)) (b : ℕ) → Begins c → AreDone all all c d d first first b b []
-none-done laws all c d first b begins start before told L = (
+pub none-done : (all : List Instruction) (c : Client) (d : Devices) (first : Option (List ℕ)) (b : ℕ) → IsFresh c → AreDone all all c d d first first b b []
+none-done all c d first b fresh start before told L = (
   [],
   refl,
   record {
     later = [];
     lines = [];
-    come = come-first start before c d L (laws.sound 8 start before (omega arith, omega arith) L.starts L.run) begins;
+    come = come-first start before c d L (run-sound 8 start before (omega arith, omega arith) L.starts L.run) fresh.stands;
     wrote = nothing-written first b;
   },
 )
@@ -96,7 +85,7 @@ DoesOne command c next old new mid last f g status heard after = (start : State)
 module _ (all left : List Instruction) (command : Instruction) (c next : Client) (old mid new : Devices) (first told last : Option (List ℕ)) (b f g status : ℕ) (heard after : List Entry)
     (tells : is_some mid.holds ≡ is_some old.holds) (low : b ≤ f)
     (so_far : AreDone all (command ∷ left) c old mid first told b f heard) (one : DoesOne command c next mid new told last f g status heard after) where
-  done-more : status ≡ 0 → AreDone all left next old new first last b g after
+  pub done-more : status ≡ 0 → AreDone all left next old new first last b g after
   done-more ok start before is_told L =
       (let D = so_far start before is_told L in (
         command ∷ D.0,
@@ -105,8 +94,8 @@ module _ (all left : List Instruction) (command : Instruction) (c next : Client)
             (one start (called_behind start before) D.0 first b (tells ∙ is_told) low D.2),
       ))
 
-  done-last : Laws → status ≢ 0 → (start : State) (before : List Moment) → IsSome old.holds → AreLeft start before old → Replays start before all status (sank first last b g) after new
-  done-last laws amiss start before is_told L =
+  pub done-last : status ≢ 0 → (start : State) (before : List Moment) → IsSome old.holds → AreLeft start before old → Replays start before all status (sank first last b g) after new
+  done-last amiss start before is_told L =
       (let D = so_far start before is_told L in
       let H = one start (called_behind start before) D.0 first b (tells ∙ is_told) low D.2 in
       record {
@@ -116,12 +105,12 @@ module _ (all left : List Instruction) (command : Instruction) (c next : Client)
         whole = λ ok. absurd (amiss ok);
         later = H.later;
         lines = H.lines;
-        carries = carries-on start before (command ∷ D.0) H.later H.lines after next old laws.headline laws.failures L new H.come;
+        carries = carries-on start before (command ∷ D.0) H.later H.lines after next old L new H.come;
         wrote = H.wrote;
       })
 
-module _ (laws : Laws) (all : List Instruction) (c : Client) (old new : Devices) (first last : Option (List ℕ)) (b f : ℕ) (heard : List Entry) where
-  all-done : AreDone all [] c old new first last b f heard → (start : State) (before : List Moment) → IsSome old.holds → AreLeft start before old
+module _ (all : List Instruction) (c : Client) (old new : Devices) (first last : Option (List ℕ)) (b f : ℕ) (heard : List Entry) where
+  pub all-done : AreDone all [] c old new first last b f heard → (start : State) (before : List Moment) → IsSome old.holds → AreLeft start before old
       → Replays start before all 0 (sank first last b f) heard new
   all-done so_far start before is_told L =
       (let D = so_far start before is_told L in
@@ -132,11 +121,10 @@ module _ (laws : Laws) (all : List Instruction) (c : Client) (old new : Devices)
         whole = λ ok. refl;
         later = D.2.later;
         lines = D.2.lines;
-        carries = carries-on start before D.0 D.2.later D.2.lines heard c old laws.headline laws.failures L new D.2.come;
+        carries = carries-on start before D.0 D.2.later D.2.lines heard c old L new D.2.come;
         wrote = D.2.wrote;
       })
 
-  -- where there was no memory for what was heard, the lines so far were written
   pub cut-off : (left : List Instruction) → AreDone all left c old new first last b f heard → (start : State) (before : List Moment) → IsSome old.holds → AreLeft start before old
       → Replays start before all 70 (sank first last b f) heard new
   cut-off left so_far start before is_told L =
@@ -148,21 +136,21 @@ module _ (laws : Laws) (all : List Instruction) (c : Client) (old new : Devices)
         whole = λ ok. absurd (omega (arith, ok));
         later = D.2.later;
         lines = D.2.lines;
-        carries = carries-on start before D.0 D.2.later D.2.lines heard c old laws.headline laws.failures L new D.2.come;
+        carries = carries-on start before D.0 D.2.later D.2.lines heard c old L new D.2.come;
         wrote = written-out first last b f D.2.lines D.2.wrote;
       })
 
 -- ---- a trial
 
-none-counted : Laws → (expected : List ℕ) (all : List Instruction) (c : Client) (d : Devices) (counts : TrialCounts) → Begins c → counts ≡ counts_of expected [] []
+pub none-counted : (expected : List ℕ) (all : List Instruction) (c : Client) (d : Devices) (counts : TrialCounts) → IsFresh c → counts ≡ counts_of expected [] []
     → AreCounted expected all all c d d counts []
-none-counted laws expected all c d counts begins is start before told L = (
+none-counted expected all c d counts fresh is start before told L = (
   [],
   refl,
   record {
     later = [];
     lines = [];
-    come = come-first start before c d L (laws.sound 8 start before (omega arith, omega arith) L.starts L.run) begins;
+    come = come-first start before c d L (run-sound 8 start before (omega arith, omega arith) L.starts L.run) fresh.stands;
     counts_are = is;
   },
 )
@@ -179,14 +167,14 @@ RunsOne command c next old new heard after = (start : State) (base : List Moment
 
 module _ (expected : List ℕ) (all left : List Instruction) (command : Instruction) (c next : Client) (old mid new : Devices) (counts : TrialCounts) (heard after : List Entry)
     (tells : is_some mid.holds ≡ is_some old.holds) (so_far : AreCounted expected all (command ∷ left) c old mid counts heard) where
-  counted-more : (more : TrialCounts) → CountsOne expected command c next mid new counts more heard after → AreCounted expected all left next old new more after
+  pub counted-more : (more : TrialCounts) → CountsOne expected command c next mid new counts more heard after → AreCounted expected all left next old new more after
   counted-more more one start before is_told L =
       (let D = so_far start before is_told L in
       (command ∷ D.0, next-done all D.0 left command D.1, one start (called_behind start before) D.0 (tells ∙ is_told) D.2))
 
-  uncounted : Laws → RunsOne command c next mid new heard after → (start : State) (before : List Moment) → IsSome old.holds → AreLeft start before old
+  pub uncounted : RunsOne command c next mid new heard after → (start : State) (before : List Moment) → IsSome old.holds → AreLeft start before old
       → RunsTo start before all after new
-  uncounted laws one start before is_told L =
+  uncounted one start before is_told L =
       (let D = so_far start before is_told L in
       let H = one start (called_behind start before) D.0 (tells ∙ is_told) (record { later = D.2.later; lines = D.2.lines; come = D.2.come }) in
       record {
@@ -195,11 +183,11 @@ module _ (expected : List ℕ) (all left : List Instruction) (command : Instruct
         order = next-done all D.0 left command D.1;
         later = H.later;
         lines = H.lines;
-        carries = carries-on start before (command ∷ D.0) H.later H.lines after next old laws.headline laws.failures L new H.come;
+        carries = carries-on start before (command ∷ D.0) H.later H.lines after next old L new H.come;
       })
 
-module _ (laws : Laws) (expected : List ℕ) (all : List Instruction) (c : Client) (old new : Devices) (counts : TrialCounts) (heard : List Entry) where
-  all-counted : AreCounted expected all [] c old new counts heard → (start : State) (before : List Moment) → IsSome old.holds → AreLeft start before old
+module _ (expected : List ℕ) (all : List Instruction) (c : Client) (old new : Devices) (counts : TrialCounts) (heard : List Entry) where
+  pub all-counted : AreCounted expected all [] c old new counts heard → (start : State) (before : List Moment) → IsSome old.holds → AreLeft start before old
       → CountsTo expected start before all counts heard new
   all-counted so_far start before is_told L =
       (let D = so_far start before is_told L in
@@ -207,11 +195,11 @@ module _ (laws : Laws) (expected : List ℕ) (all : List Instruction) (c : Clien
       record {
         later = D.2.later;
         lines = D.2.lines;
-        carries = subst (λ (cs : List Instruction). CarriesOn start before cs D.2.later D.2.lines heard new) whole (carries-on start before D.0 D.2.later D.2.lines heard c old laws.headline laws.failures L new D.2.come);
+        carries = subst (λ (cs : List Instruction). CarriesOn start before cs D.2.later D.2.lines heard new) whole (carries-on start before D.0 D.2.later D.2.lines heard c old L new D.2.come);
         counts_are = D.2.counts_are ∙ ap (λ (cs : List Instruction). counts_of expected cs D.2.later) whole;
       })
 
-  left-uncounted : (left : List Instruction) → AreCounted expected all left c old new counts heard → (start : State) (before : List Moment) → IsSome old.holds → AreLeft start before old
+  pub left-uncounted : (left : List Instruction) → AreCounted expected all left c old new counts heard → (start : State) (before : List Moment) → IsSome old.holds → AreLeft start before old
       → RunsTo start before all heard new
   left-uncounted left so_far start before is_told L =
       (let D = so_far start before is_told L in
@@ -221,7 +209,7 @@ module _ (laws : Laws) (expected : List ℕ) (all : List Instruction) (c : Clien
         order = D.1;
         later = D.2.later;
         lines = D.2.lines;
-        carries = carries-on start before D.0 D.2.later D.2.lines heard c old laws.headline laws.failures L new D.2.come;
+        carries = carries-on start before D.0 D.2.later D.2.lines heard c old L new D.2.come;
       })
 
 -- the six lines of its counts
@@ -248,7 +236,7 @@ trial-untold number start before commands expected counts heard d told b f cs es
     trial-told number start before commands expected (trial_lines number counts) counts heard d 70 (sank told told b f) cs es C refl
     (inr (inr (refl, nothing-taken told (trial_lines number counts))))
 
-trial-cut : (number : ℕ) (start : State) (before : List Moment) (commands : List Instruction) (heard : List Entry) (d : Devices) → commands ≡ trial_commands number
+pub trial-cut : (number : ℕ) (start : State) (before : List Moment) (commands : List Instruction) (heard : List Entry) (d : Devices) → commands ≡ trial_commands number
     → RunsTo start before commands heard d → RunsTo start before (trial_commands number) heard d
 trial-cut number start before commands heard d cs R = subst (λ (k : List Instruction). RunsTo start before k heard d) cs R
 
@@ -261,8 +249,8 @@ continued-devices d w A = record {
 }
 
 -- no event was done
-pub none-run : Laws → (all : List Instruction) (d : Devices) (start : State) (before : List Moment) → AreLeft start before d → RunsTo start before all [] d
-none-run laws all d start before L =
+pub none-run : (all : List Instruction) (d : Devices) (start : State) (before : List Moment) → AreLeft start before d → RunsTo start before all [] d
+none-run all d start before L =
     (let run : IsRun 8 start (called_behind start before) = (tt, refl, L.run) in
     record {
       done = [];
@@ -275,30 +263,28 @@ none-run laws all d start before L =
         run = run;
         last = continued-devices d (now start before) L.devices;
         heard_is = refl;
-        counted = λ count n fails. laws.failures 8 start [] (called_behind start before) count n run fails;
-        headline = laws.headline 8 start (called_behind start before) L.starts run;
+        counted = λ count n fails. failures_rose 8 start [] (called_behind start before) count n run fails;
+        headline = headline 8 start (called_behind start before) L.starts run;
       };
     })
 
 -- ---- the loops as they stand in the code
 
--- a replay begins with no vault open, and nothing done
-pub begin-course : (laws : Laws) (all left : List Instruction) (c : Client) (d : Devices) (first : Option (List ℕ)) (b : ℕ) (heard : List Entry) → left ≡ all → heard ≡ []
-    → is_open c ≡ false → client_next_job c ≡ 1 → Begins c → IsOnCourse all left c d d × AreDone all left c d d first first b b heard × (b ≤ b)
-begin-course laws all left c d first b heard is none closed number begins = (
-  subst (λ (l : List Instruction). IsOnCourse all l c d d) (sym is) (first-course all c d closed number),
+pub begin-course : (all left : List Instruction) (c : Client) (d : Devices) (first : Option (List ℕ)) (b : ℕ) (heard : List Entry) → left ≡ all → heard ≡ []
+    → IsFresh c → IsOnCourse all left c d d × AreDone all left c d d first first b b heard × (b ≤ b)
+begin-course all left c d first b heard is none fresh = (
+  subst (λ (l : List Instruction). IsOnCourse all l c d d) (sym is) (first-course all c d fresh.closed fresh.first),
   subst (λ (l : List Instruction). AreDone all l c d d first first b b heard) (sym is)
-      (subst (λ (h : List Entry). AreDone all all c d d first first b b h) (sym none) (none-done laws all c d first b begins)),
+      (subst (λ (h : List Entry). AreDone all all c d d first first b b h) (sym none) (none-done all c d first b fresh)),
   omega arith,
 )
 
--- so does a trial, with all counts 0
-pub begin-count : (laws : Laws) (expected : List ℕ) (all left : List Instruction) (c : Client) (d : Devices) (counts : TrialCounts) (heard : List Entry) → left ≡ all → heard ≡ []
-    → is_open c ≡ false → client_next_job c ≡ 1 → Begins c → counts ≡ counts_of expected [] [] → IsOnCourse all left c d d × AreCounted expected all left c d d counts heard
-begin-count laws expected all left c d counts heard is none closed number begins zero_counts = (
-  subst (λ (l : List Instruction). IsOnCourse all l c d d) (sym is) (first-course all c d closed number),
+pub begin-count : (expected : List ℕ) (all left : List Instruction) (c : Client) (d : Devices) (counts : TrialCounts) (heard : List Entry) → left ≡ all → heard ≡ []
+    → IsFresh c → counts ≡ counts_of expected [] [] → IsOnCourse all left c d d × AreCounted expected all left c d d counts heard
+begin-count expected all left c d counts heard is none fresh zero_counts = (
+  subst (λ (l : List Instruction). IsOnCourse all l c d d) (sym is) (first-course all c d fresh.closed fresh.first),
   subst (λ (l : List Instruction). AreCounted expected all l c d d counts heard) (sym is)
-      (subst (λ (h : List Entry). AreCounted expected all all c d d counts h) (sym none) (none-counted laws expected all c d counts begins zero_counts)),
+      (subst (λ (h : List Entry). AreCounted expected all all c d d counts h) (sym none) (none-counted expected all c d counts fresh zero_counts)),
 )
 
 module _ (all left rest : List Instruction) (command : Instruction) (c next : Client) (old mid new : Devices) (first told last : Option (List ℕ)) (b f g status : ℕ) (heard kept after : List Entry)
@@ -314,7 +300,6 @@ module _ (all left rest : List Instruction) (command : Instruction) (c next : Cl
   does : DoesOne command c next mid new told last f g status heard after
   does = subst (λ (h : List Entry). DoesOne command c next mid new told last f g status h after) kept_is one
 
-  -- after an instruction whose line was written the others are left
   pub go-on : status ≡ 0 → IsOnCourse all rest next old new × AreDone all rest next old new first last b g after × (b ≤ g)
   go-on ok = (
     course-on all rest command c next old mid new course keeps,
@@ -322,21 +307,20 @@ module _ (all left rest : List Instruction) (command : Instruction) (c next : Cl
     (let l = way.2 in omega (arith, l, never)),
   )
 
-  -- a line that could not be written ends the replay there
-  pub go-wrong : Laws → status ≢ 0 → (start : State) (before : List Moment) → IsSome old.holds → AreLeft start before old → Replays start before all status (sank first last b g) after new
-  go-wrong laws amiss = done-last all rest command c next old mid new first told last b f g status heard after way.0.tells way.2 done does laws amiss
+  pub go-wrong : status ≢ 0 → (start : State) (before : List Moment) → IsSome old.holds → AreLeft start before old → Replays start before all status (sank first last b g) after new
+  go-wrong amiss = done-last all rest command c next old mid new first told last b f g status heard after way.0.tells way.2 done does amiss
 
 -- no memory for what the next job hears
-pub go-short : (laws : Laws) (all left : List Instruction) (c : Client) (old new : Devices) (first last : Option (List ℕ)) (b f : ℕ) (heard kept : List Entry) → kept ≡ heard
+pub go-short : (all left : List Instruction) (c : Client) (old new : Devices) (first last : Option (List ℕ)) (b f : ℕ) (heard kept : List Entry) → kept ≡ heard
     → AreDone all left c old new first last b f heard → (start : State) (before : List Moment) → IsSome old.holds → AreLeft start before old → Replays start before all 70 (sank first last b f) kept new
-go-short laws all left c old new first last b f heard kept is so_far start before told L =
-    subst (λ (h : List Entry). Replays start before all 70 (sank first last b f) h new) (sym is) (cut-off laws all c old new first last b f heard left so_far start before told L)
+go-short all left c old new first last b f heard kept is so_far start before told L =
+    subst (λ (h : List Entry). Replays start before all 70 (sank first last b f) h new) (sym is) (cut-off all c old new first last b f heard left so_far start before told L)
 
 -- all are done
-pub go-home : (laws : Laws) (all left : List Instruction) (c : Client) (old new : Devices) (first last : Option (List ℕ)) (b f : ℕ) (heard : List Entry) → left ≡ []
+pub go-home : (all left : List Instruction) (c : Client) (old new : Devices) (first last : Option (List ℕ)) (b f : ℕ) (heard : List Entry) → left ≡ []
     → AreDone all left c old new first last b f heard → (start : State) (before : List Moment) → IsSome old.holds → AreLeft start before old → Replays start before all 0 (sank first last b f) heard new
-go-home laws all left c old new first last b f heard is so_far =
-    all-done laws all c old new first last b f heard (subst (λ (l : List Instruction). AreDone all l c old new first last b f heard) is so_far)
+go-home all left c old new first last b f heard is so_far =
+    all-done all c old new first last b f heard (subst (λ (l : List Instruction). AreDone all l c old new first last b f heard) is so_far)
 
 module _ (expected : List ℕ) (all left rest : List Instruction) (command : Instruction) (c next : Client) (old mid new : Devices) (counts : TrialCounts) (heard kept after : List Entry)
     (left_is : left ≡ command ∷ rest) (kept_is : kept ≡ heard)
@@ -345,26 +329,21 @@ module _ (expected : List ℕ) (all left rest : List Instruction) (command : Ins
   so_far = subst (λ (h : List Entry). AreCounted expected all (command ∷ rest) c old mid counts h) (sym kept_is)
       (subst (λ (l : List Instruction). AreCounted expected all l c old mid counts heard) left_is counted)
 
-  -- after an instruction of a trial the others are left
   pub count-course : KeepsStanding c next mid new → IsOnCourse all rest next old new
   count-course keeps = course-on all rest command c next old mid new (subst (λ (l : List Instruction). IsOnCourse all l c old mid) left_is course) keeps
 
-  -- its outcome is counted
   pub count-on : (more : TrialCounts) → CountsOne expected command c next mid new counts more kept after → AreCounted expected all rest next old new more after
   count-on more one = counted-more expected all rest command c next old mid new counts kept after course.tells so_far more one
 
-  -- an instruction without memory ends the trial there
-  pub count-wrong : Laws → RunsOne command c next mid new kept after → (start : State) (before : List Moment) → IsSome old.holds → AreLeft start before old → RunsTo start before all after new
-  count-wrong laws one = uncounted expected all rest command c next old mid new counts kept after course.tells so_far laws one
+  pub count-wrong : RunsOne command c next mid new kept after → (start : State) (before : List Moment) → IsSome old.holds → AreLeft start before old → RunsTo start before all after new
+  count-wrong one = uncounted expected all rest command c next old mid new counts kept after course.tells so_far one
 
--- what was heard so far is heard at the end, also where the trial was cut
-pub count-short : (laws : Laws) (expected : List ℕ) (all left : List Instruction) (c : Client) (old new : Devices) (counts : TrialCounts) (heard kept : List Entry) → kept ≡ heard
+pub count-short : (expected : List ℕ) (all left : List Instruction) (c : Client) (old new : Devices) (counts : TrialCounts) (heard kept : List Entry) → kept ≡ heard
     → AreCounted expected all left c old new counts heard → (start : State) (before : List Moment) → IsSome old.holds → AreLeft start before old → RunsTo start before all kept new
-count-short laws expected all left c old new counts heard kept is so_far start before told L =
-    subst (λ (h : List Entry). RunsTo start before all h new) (sym is) (left-uncounted laws expected all c old new counts heard left so_far start before told L)
+count-short expected all left c old new counts heard kept is so_far start before told L =
+    subst (λ (h : List Entry). RunsTo start before all h new) (sym is) (left-uncounted expected all c old new counts heard left so_far start before told L)
 
--- at the end all outcomes are counted
-pub count-home : (laws : Laws) (expected : List ℕ) (all left : List Instruction) (c : Client) (old new : Devices) (counts : TrialCounts) (heard : List Entry) → left ≡ []
+pub count-home : (expected : List ℕ) (all left : List Instruction) (c : Client) (old new : Devices) (counts : TrialCounts) (heard : List Entry) → left ≡ []
     → AreCounted expected all left c old new counts heard → (start : State) (before : List Moment) → IsSome old.holds → AreLeft start before old → CountsTo expected start before all counts heard new
-count-home laws expected all left c old new counts heard is so_far =
-    all-counted laws expected all c old new counts heard (subst (λ (l : List Instruction). AreCounted expected all l c old new counts heard) is so_far)
+count-home expected all left c old new counts heard is so_far =
+    all-counted expected all c old new counts heard (subst (λ (l : List Instruction). AreCounted expected all l c old new counts heard) is so_far)

@@ -1,5 +1,5 @@
 -- The lines of several events, one behind the other.
-use Rattle.std.proofs.Common.{◌≡◌, ◌≢◌, inl, inr, ℕ, suc, ◌+◌, ◌≤◌, List, [], ◌∷◌, ◌++◌, length, take, Option, refl, ap, sym, ◌∙◌, arith}
+use Rattle.std.proofs.Common.{◌≡◌, ◌≢◌, inl, inr, ℕ, suc, ◌+◌, ◌≤◌, List, [], ◌∷◌, ◌++◌, length, take, Option, Result, Ok, Err, IfOk, refl, ap, sym, ◌∙◌, arith}
 use Rattle.std.proofs.lemmas.List.{length-append, take_all}
 use Rattle.device_defs.specs.Told.{told_then, TakesFront}
 use Rattle.device_defs.proofs.Lasting.{rose-before, told_then-nothing}
@@ -10,6 +10,12 @@ use Rattle.stream_model.proofs.ToldLemmas.{told_then-append}
 -- a sink told and counted these
 abbrev pub sank : Option (List ℕ) → Option (List ℕ) → ℕ → ℕ → Sinking
 sank old new before now = record { old = old; new = new; before = before; now = now }
+
+-- what holds of the value of a result that is known
+pub ok-is : {E : Type 0} (result : Result (List ℕ) E) (value lines : List ℕ) → result ≡ Ok value
+    → IfOk result (λ text. text ≡ lines) → value ≡ lines
+ok-is (Ok text) value lines is same = (let h : value ≡ text = cc in h) ∙ same
+ok-is (Err fault) value lines is same = absurd cc
 
 -- ---- what is told
 

@@ -7,24 +7,22 @@ ghost use Rattle.schedule_text.specs.Events.{event_command, commands_of};
 ghost use Rattle.trial_maker.specs.Trials.{trial_bytes, trial_commands};
 ghost use Rattle.hail_client.specs.Client.{client_next_job};
 ghost use Rattle.hail_replay.specs.Answers.{CarriedOut};
+ghost use Rattle.hail_replay.specs.Counts.{counts_of};
 ghost use Rattle.hail_replay.specs.Heard.{entries_heard, room_of};
 ghost use Rattle.hail_replay.specs.Performed.{StandsWhereOpen, KeepsStanding, NoCountFell};
-ghost use Rattle.hail_replay.specs.Starts.{devices_of, sinking_of, AreLeft};
+ghost use Rattle.hail_replay.specs.Starts.{devices_of, sinking_of, AreLeft, IsFresh};
 ghost use Rattle.hail_replay.specs.Trials.{RunsTrial, RunsTo, CountsTo};
 ghost use Rattle.hail_replay.specs.UnderWay.{HasRun, HasCounted};
 
 use crate::Tally;
 use crate::event::perform;
 use crate::heard::HeardLists;
-use crate::schedule::{Replayed, heard_of, named};
-use command_lines::{NO_MEMORY, write_text};
+use crate::schedule::{Replayed, heard_of, named, tell};
+use command_lines::NO_MEMORY;
 use disk_model::Disk;
 use hail_client::Client;
-use headline::laws::every_run_keeps_the_headline;
 use provider_model::Tamper;
 use schedule_text::Event;
-use second_half_laws::laws::failed_calls_are_counted;
-use state_laws::laws::runs_are_sound;
 use std::alloc::Global;
 use stream_model::{Memory, Sink};
 use trial_maker::laws::sizes_of_a_trial;
@@ -69,21 +67,25 @@ fn trial_event<D: Disk, P: Tamper>(
     seen
 }
 
-/// Does the events of a trial, from a client with no vault open, and counts what they come to; gets are to give the expected bytes.
+/// Does the events of a trial by a client that is new, and counts what they come to; gets are to give the expected bytes.
 /// Want of memory ends it. Condition: there are fewer events than numbers of jobs.
-fn count_events<D: Disk, P: Tamper>(
+fn trial_events<D: Disk, P: Tamper>(
     alloc: Global,
     expected: &[u8],
     events: Vec<Event>,
+    client: &mut Client,
+    tally: &mut Tally,
     heard: &mut HeardLists,
     disk: &mut D,
     providers: &mut [P],
-) -> Result<Tally, Memory>
+) -> Result<(), Memory>
     requires few { length events.items < 2 ^ 32 - 2 }
+    requires fresh { IsFresh client.old }
+    requires zero { tally.old ≡ counts_of expected.now [] [] }
     requires nothing { entries_heard heard.old ≡ [] }
-    ensures ok { IfOk result (λ tally. (start : State) (before : List Moment) → IsSome (D.holds disk.old)
+    ensures ok { OnOk result ((start : State) (before : List Moment) → IsSome (D.holds disk.old)
         → AreLeft start before (devices_of D.Disk P.Provider disk.old providers.old)
-        → CountsTo expected.now start before (commands_of events.items) tally (entries_heard heard.new)
+        → CountsTo expected.now start before (commands_of events.items) tally.new (entries_heard heard.new)
         (devices_of D.Disk P.Provider disk.new providers.new)) }
     ensures err { OnErr result ((start : State) (before : List Moment) → IsSome (D.holds disk.old) → AreLeft
         start before (devices_of D.Disk P.Provider disk.old providers.old)
@@ -93,26 +95,51 @@ fn count_events<D: Disk, P: Tamper>(
     ensures counts { NoCountFell (devices_of D.Disk P.Provider disk.old providers.old)
         (devices_of D.Disk P.Provider disk.new providers.new) }
 {
-    every_run_keeps_the_headline();
-    failed_calls_are_counted();
-    runs_are_sound();
-    let mut client = Client::new();
-    let mut tally = Tally::new(alloc);
     let mut left = events.into_iter();
     while let Some(event) = left.next() {
         heard.reserve(alloc)?;
-        trial_event(
-            alloc,
-            &mut client,
-            heard,
-            &mut tally,
-            expected,
-            event,
-            disk,
-            providers,
-        )?;
+        trial_event(alloc, client, heard, tally, expected, event, disk, providers)?;
     }
-    Ok(tally)
+    Ok(())
+}
+
+/// Does the events of a trial, from a client with no vault open, and counts what they come to.
+fn count_events<D: Disk, P: Tamper>(
+    alloc: Global,
+    trial: Trial,
+    tally: &mut Tally,
+    heard: &mut HeardLists,
+    disk: &mut D,
+    providers: &mut [P],
+) -> Result<(), Memory>
+    requires few { length trial.events.items < 2 ^ 32 - 2 }
+    requires zero { (expected : List ℕ) → tally.old ≡ counts_of expected [] [] }
+    requires nothing { entries_heard heard.old ≡ [] }
+    ensures ok { OnOk result ((start : State) (before : List Moment) → IsSome (D.holds disk.old)
+        → AreLeft start before (devices_of D.Disk P.Provider disk.old providers.old)
+        → CountsTo trial.expected start before (commands_of trial.events.items) tally.new
+        (entries_heard heard.new) (devices_of D.Disk P.Provider disk.new providers.new)) }
+    ensures err { OnErr result ((start : State) (before : List Moment) → IsSome (D.holds disk.old) → AreLeft
+        start before (devices_of D.Disk P.Provider disk.old providers.old)
+        → RunsTo start before (commands_of trial.events.items) (entries_heard heard.new)
+        (devices_of D.Disk P.Provider disk.new providers.new)) }
+    ensures tells { is_some (D.holds disk.new) ≡ is_some (D.holds disk.old) }
+    ensures counts { NoCountFell (devices_of D.Disk P.Provider disk.old providers.old)
+        (devices_of D.Disk P.Provider disk.new providers.new) }
+{
+    let Trial { events, expected } = trial;
+    let mut client = Client::new();
+    let counted = trial_events(
+        alloc,
+        expected.as_slice(),
+        events,
+        &mut client,
+        tally,
+        heard,
+        disk,
+        providers,
+    );
+    counted
 }
 
 /// Does the events of a trial and writes its six lines.
@@ -142,12 +169,9 @@ fn tell_trial<D: Disk, P: Tamper, K: Sink>(
     ensures sink_count { K.faults sink.old ≤ K.faults sink.new }
 {
     sizes_of_a_trial(number);
-    let Trial { events, expected } = trial;
-    let Ok(tally) = count_events(alloc, expected.as_slice(), events, heard, disk, providers) else {
-        return NO_MEMORY;
-    };
-    match tally.lines(alloc, number) {
-        Ok(text) => write_text(text.as_slice(), sink),
+    let mut tally = Tally::new(alloc);
+    match count_events(alloc, trial, &mut tally, heard, disk, providers) {
+        Ok(()) => tell(tally.lines(alloc, number), sink),
         Err(Memory) => NO_MEMORY,
     }
 }
@@ -174,9 +198,6 @@ pub fn trial<D: Disk, P: Tamper, K: Sink>(
         (devices_of D.Disk P.Provider disk.new providers.new) }
     ensures sink_count { K.faults sink.old ≤ K.faults sink.new }
 {
-    every_run_keeps_the_headline();
-    failed_calls_are_counted();
-    runs_are_sound();
     let mut heard = HeardLists::new(alloc);
     match make_trial(alloc, number) {
         Ok(trial) => {

@@ -1,7 +1,6 @@
 // The events of a schedule, one after the other, each with its lines.
-ghost use Rattle.std.specs.Prelude.{◌≡◌, ◌≤◌, ◌<◌, ◌-◌, ◌^◌, ℕ, List, ◌∷◌, Option, Some, IsSome, is_some, length};
+ghost use Rattle.std.specs.Prelude.{◌≡◌, ◌≤◌, ◌<◌, ◌-◌, ◌^◌, ℕ, List, [], ◌∷◌, Option, Some, IsSome, IfOk, is_some, length};
 ghost use Rattle.command_defs.specs.Sinking.{Sinking, WritesLine};
-ghost use Rattle.machine_defs.specs.Lines.{lines_of};
 ghost use Rattle.machine_defs.specs.Runs.{Moment};
 ghost use Rattle.machine_defs.specs.States.{State};
 ghost use Rattle.machine_defs.specs.Transcripts.{Instruction};
@@ -12,7 +11,7 @@ ghost use Rattle.hail_replay.specs.Answers.{CarriedOut};
 ghost use Rattle.hail_replay.specs.Heard.{entries_heard, room_of};
 ghost use Rattle.hail_replay.specs.Performed.{outcome_in, heard_in_came, StandsWhereOpen, KeepsStanding, NoCountFell};
 ghost use Rattle.hail_replay.specs.Replayed.{Replays};
-ghost use Rattle.hail_replay.specs.Starts.{devices_of, sinking_of, sinking_since, AreLeft};
+ghost use Rattle.hail_replay.specs.Starts.{devices_of, sinking_of, sinking_since, AreLeft, IsFresh};
 ghost use Rattle.hail_replay.specs.UnderWay.{HasDone};
 
 use crate::event::perform;
@@ -21,13 +20,10 @@ use crate::{Came, came_lines};
 use command_lines::{NO_MEMORY, WRITTEN, write_text};
 use disk_model::Disk;
 use hail_client::Client;
-use headline::laws::every_run_keeps_the_headline;
 use provider_model::Tamper;
 use schedule_text::Event;
-use second_half_laws::laws::failed_calls_are_counted;
-use state_laws::laws::runs_are_sound;
 use std::alloc::Global;
-use stream_model::{Memory, Sink};
+use stream_model::{Bytes, Memory, Sink};
 use vault::{HeardList, Turn};
 
 /// How the events of a schedule ended: the status, which is 0, 15 or 70, and what their jobs heard.
@@ -58,13 +54,13 @@ pub(crate) fn heard_of(came: Came<'_>) -> HeardList
     }
 }
 
-/// Writes the lines of an event.
-fn tell<K: Sink>(alloc: Global, came: &Came<'_>, sink: &mut K) -> u8
-    ensures writes { WritesLine (lines_of (came_outcome came.now)) result
-        (sinking_of K.Sink sink.old sink.new) }
+/// Writes a text, for which there may have been no memory.
+pub(crate) fn tell<K: Sink>(text: Result<Bytes, Memory>, sink: &mut K) -> u8
+    ensures writes { (lines : List ℕ) → IfOk text (λ bytes. bytes ≡ lines)
+        → WritesLine lines result (sinking_of K.Sink sink.old sink.new) }
     ensures count { K.faults sink.old ≤ K.faults sink.new }
 {
-    match came_lines(alloc, came) {
+    match text {
         Ok(text) => write_text(text.as_slice(), sink),
         Err(Memory) => NO_MEMORY,
     }
@@ -97,9 +93,46 @@ fn replay_event<D: Disk, P: Tamper, K: Sink>(
 {
     let came = perform(alloc, client, event, disk, providers);
     let came = named(came, client);
-    let status = tell(alloc, &came, sink);
+    let status = tell(came_lines(alloc, &came), sink);
     heard.push(heard_of(came));
     status
+}
+
+/// Does the events of a schedule, each with its lines, by a client that is new, and adds what their jobs heard.
+fn replay_events<D: Disk, P: Tamper, K: Sink>(
+    alloc: Global,
+    events: Vec<Event>,
+    client: &mut Client,
+    heard: &mut HeardLists,
+    disk: &mut D,
+    providers: &mut [P],
+    sink: &mut K,
+) -> u8
+    requires few { length events.items < 2 ^ 32 - 2 }
+    requires fresh { IsFresh client.old }
+    requires nothing { entries_heard heard.old ≡ [] }
+    ensures runs { (start : State) (before : List Moment) → IsSome (D.holds disk.old)
+        → AreLeft start before (devices_of D.Disk P.Provider disk.old providers.old)
+        → Replays start before (commands_of events.items) result
+        (sinking_of K.Sink sink.old sink.new) (entries_heard heard.new)
+        (devices_of D.Disk P.Provider disk.new providers.new) }
+    ensures ends { CarriedOut result (sinking_of K.Sink sink.old sink.new) }
+    ensures tells { is_some (D.holds disk.new) ≡ is_some (D.holds disk.old) }
+    ensures counts { NoCountFell (devices_of D.Disk P.Provider disk.old providers.old)
+        (devices_of D.Disk P.Provider disk.new providers.new) }
+    ensures sink_count { K.faults sink.old ≤ K.faults sink.new }
+{
+    let mut left = events.into_iter();
+    while let Some(event) = left.next() {
+        if heard.reserve(alloc).is_err() {
+            return NO_MEMORY;
+        }
+        let status = replay_event(alloc, client, heard, event, disk, providers, sink);
+        if status != WRITTEN {
+            return status;
+        }
+    }
+    WRITTEN
 }
 
 /// Does the events of a schedule, each with its lines, from a client with no vault open: up to a fault of the sink or want of memory.
@@ -123,26 +156,8 @@ pub fn replay<D: Disk, P: Tamper, K: Sink>(
         (devices_of D.Disk P.Provider disk.new providers.new) }
     ensures sink_count { K.faults sink.old ≤ K.faults sink.new }
 {
-    every_run_keeps_the_headline();
-    failed_calls_are_counted();
-    runs_are_sound();
     let mut client = Client::new();
     let mut heard = HeardLists::new(alloc);
-    let mut left = events.into_iter();
-    while let Some(event) = left.next() {
-        if heard.reserve(alloc).is_err() {
-            return Replayed {
-                status: NO_MEMORY,
-                heard,
-            };
-        }
-        let status = replay_event(alloc, &mut client, &mut heard, event, disk, providers, sink);
-        if status != WRITTEN {
-            return Replayed { status, heard };
-        }
-    }
-    Replayed {
-        status: WRITTEN,
-        heard,
-    }
+    let status = replay_events(alloc, events, &mut client, &mut heard, disk, providers, sink);
+    Replayed { status, heard }
 }

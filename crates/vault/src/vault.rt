@@ -35,4 +35,7 @@ impl Vault {
     {
         self.desk.core.next_job()
     }
+
+    /// Gives the vault up: a job that is under way goes on no more. What the disk and the providers hold stays.
+    pub fn close(self) {}
 }

@@ -1,12 +1,13 @@
-use Rattle.std.proofs.Common.{inl, ◌∙◌}
-use Rattle.hail_replay.proofs.Loops.{trial-told, trial-untold}
+use Rattle.std.proofs.Common.{inl, refl}
+use Rattle.hail_replay.specs.Counts.{trial_lines}
+use Rattle.hail_replay.proofs.Loops.{trial-told}
+use Rattle.hail_replay.proofs.Wrote.{ends-of}
 use Rattle.hail_replay.proofs.counted.tell_trial.Goals as goal
 
-pub returns-in-Ok-lines-clause-runs : goal.returns-in-Ok-lines-clause-runs
-returns-in-Ok-lines-clause-runs g c = λ start before told L.
-    inl (trial-told c.args.number start before _ _ _ _ _ _ _ _ c.requires.events (c.as_slice.ensures ∙ c.requires.expected) (c.in-Ok.ensures.ok start before told L)
-    c.in-Ok-lines.ensures (rw c.as_slice-in-Ok-lines.ensures at c.write_text.ensures.writes))
+pub returns-in-Ok-clause-runs : goal.returns-in-Ok-clause-runs
+returns-in-Ok-clause-runs g c = λ start before told L.
+    inl (trial-told c.args.number start before _ _ (trial_lines c.args.number c.count_events.new.tally) c.count_events.new.tally _ _ _ _ c.requires.events c.requires.expected (c.in-Ok.ensures.ok start before told L)
+    refl (c.tell.ensures.writes _ c.lines.ensures))
 
-pub returns-clause-runs : goal.returns-clause-runs
-returns-clause-runs g c = λ start before told L.
-    inl (trial-untold c.args.number start before _ _ _ _ _ _ _ _ c.requires.events (c.as_slice.ensures ∙ c.requires.expected) (c.in-Ok.ensures.ok start before told L))
+pub returns-in-Ok-clause-ends : goal.returns-in-Ok-clause-ends
+returns-in-Ok-clause-ends g c = ends-of _ _ _ (c.tell.ensures.writes _ c.lines.ensures)

@@ -12,5 +12,5 @@ returns-in-Err-clause-runs g c = λ start before told L.
       refl,
       refl,
       subst (λ (es : List Entry). RunsTo start before (trial_commands c.args.number) es (devices_of g.D.Disk g.P.Provider c.args.disk.now c.args.providers.now)) (sym c.new-heard.ensures)
-          (none-run (record { sound = c.runs_are_sound.ensures; headline = c.every_run_keeps_the_headline.ensures; failures = c.failed_calls_are_counted.ensures }) _ _ start before L),
+          (none-run _ _ start before L),
     )

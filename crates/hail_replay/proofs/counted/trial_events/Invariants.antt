@@ -4,7 +4,7 @@ use Rattle.schedule_text.specs.Events.{commands_of}
 use Rattle.hail_replay.specs.Heard.{entries_heard}
 use Rattle.hail_replay.specs.Starts.{devices_of}
 use Rattle.hail_replay.proofs.Loops.{IsOnCourse, AreCounted}
-use Rattle.hail_replay.proofs.counted.count_events.Given as goal
+use Rattle.hail_replay.proofs.counted.trial_events.Given as goal
 
 abbrev pub invariant-loop-event : goal.invariant-loop-event
 invariant-loop-event g l =
