@@ -1,17 +1,18 @@
 ghost use Rattle.std.specs.Prelude.{◌≡◌, ◌≤◌, length};
 ghost use Rattle.algebra_laws.specs.Field.{Apart};
 
+use crate::given::*;
 use dispersal_code::{encode_row, open_row};
 use hail_field::{Shape, Symbol};
 use hail_poly::Work;
 
-/// The values at the first three points of the polynomial that a row opens to.
+/// The numbers of the values at the first three points of the polynomial that a row opens to.
 fn opened(
     points: &[Symbol],
     seen: &[Option<Symbol>],
     shape: Shape,
     work: &mut Work,
-) -> Option<[Symbol; 3]>
+) -> Option<[u128; 3]>
     requires apart { Apart points.now }
     requires even { length points.now ≡ length seen.now }
     requires whole { length seen.now ≡ shape.n }
@@ -24,45 +25,66 @@ fn opened(
     let first = work.value(points[0]);
     let second = work.value(points[1]);
     let third = work.value(points[2]);
-    Some([first, second, third])
+    Some([first.0, second.0, third.0])
 }
 
-/// A symbol that is seen.
-fn s(number: u128) -> Option<Symbol> {
-    Some(Symbol(number))
-}
+/// A shape, the numbers of the symbols seen at the points 0, 1 and so on, and those of the first three symbols
+/// of the opened row.
+type Row = ([u8; 3], &'static [Option<u128>], Option<[u128; 3]>);
 
-#[test]
-fn rows_of_four_open_where_three_symbols_agree(rt: HostRuntime) {
-    let points = [Symbol(0), Symbol(1), Symbol(2), Symbol(3)];
-    let shape = Shape::new(4, 1, 1).expect(&rt, "a shape");
-    let mut work = Work::new(rt.alloc(), 16).expect(&rt, "memory");
-    let sevens = Some([Symbol(7), Symbol(7), Symbol(7)]);
-    let one_wrong = opened(&points, &[s(7), s(7), s(7), s(9)], shape, &mut work);
-    assert_eq!(rt; one_wrong, sevens);
-    let one_absent = opened(&points, &[s(7), s(7), s(7), None], shape, &mut work);
-    assert_eq!(rt; one_absent, sevens);
-    let two_wrong = opened(&points, &[s(7), s(7), s(9), s(9)], shape, &mut work);
-    assert_eq!(rt; two_wrong, None);
-}
+static ROWS: [Row; 8] = [
+    (
+        [4, 1, 1],
+        &[Some(7), Some(7), Some(7), Some(9)],
+        Some([7, 7, 7]),
+    ),
+    (
+        [4, 1, 1],
+        &[Some(7), Some(7), Some(7), None],
+        Some([7, 7, 7]),
+    ),
+    ([4, 1, 1], &[Some(7), Some(7), Some(9), Some(9)], None),
+    (
+        [5, 2, 1],
+        &[Some(0), Some(5), Some(10), Some(0), Some(2)],
+        Some([0, 5, 10]),
+    ),
+    (
+        [5, 2, 1],
+        &[Some(9), Some(5), Some(10), Some(15), Some(2)],
+        Some([0, 5, 10]),
+    ),
+    (
+        [5, 2, 1],
+        &[Some(0), Some(5), Some(10), Some(0), Some(0)],
+        None,
+    ),
+    (
+        [7, 3, 1],
+        &[
+            Some(1),
+            Some(1),
+            Some(1),
+            Some(1),
+            Some(1),
+            Some(1),
+            Some(2),
+        ],
+        Some([1, 1, 1]),
+    ),
+    (
+        [7, 3, 1],
+        &[Some(1), Some(1), Some(1), Some(1), Some(1), None, Some(2)],
+        None,
+    ),
+];
 
-#[test]
-fn rows_of_five_open_where_four_symbols_lie_on_a_line(rt: HostRuntime) {
-    let points = [Symbol(0), Symbol(1), Symbol(2), Symbol(3), Symbol(4)];
-    let shape = Shape::new(5, 2, 1).expect(&rt, "a shape");
-    let mut work = Work::new(rt.alloc(), 16).expect(&rt, "memory");
-    let line = Some([Symbol(0), Symbol(5), Symbol(10)]);
-    let one_wrong = opened(&points, &[s(0), s(5), s(10), s(0), s(2)], shape, &mut work);
-    assert_eq!(rt; one_wrong, line);
-    let first_wrong = opened(&points, &[s(9), s(5), s(10), s(15), s(2)], shape, &mut work);
-    assert_eq!(rt; first_wrong, line);
-    let two_wrong = opened(&points, &[s(0), s(5), s(10), s(0), s(0)], shape, &mut work);
-    assert_eq!(rt; two_wrong, None);
-}
-
-#[test]
-fn rows_of_seven_open_where_six_symbols_lie_on_a_parabola(rt: HostRuntime) {
-    let points = [
+/// The points 0 to 6.
+fn points() -> [Symbol; 7]
+    ensures apart { Apart result }
+    ensures length { length result ≡ 7 }
+{
+    [
         Symbol(0),
         Symbol(1),
         Symbol(2),
@@ -70,33 +92,76 @@ fn rows_of_seven_open_where_six_symbols_lie_on_a_parabola(rt: HostRuntime) {
         Symbol(4),
         Symbol(5),
         Symbol(6),
-    ];
-    let shape = Shape::new(7, 3, 1).expect(&rt, "a shape");
-    let mut work = Work::new(rt.alloc(), 16).expect(&rt, "memory");
-    let one_wrong = opened(
-        &points,
-        &[s(1), s(1), s(1), s(1), s(1), s(1), s(2)],
-        shape,
-        &mut work,
-    );
-    assert_eq!(rt; one_wrong, Some([Symbol(1), Symbol(1), Symbol(1)]));
-    let five_agree = opened(
-        &points,
-        &[s(1), s(1), s(1), s(1), s(1), None, s(2)],
-        shape,
-        &mut work,
-    );
-    assert_eq!(rt; five_agree, None);
+    ]
+}
+
+/// The symbol of a number.
+fn symbol(number: Option<u128>) -> Option<Symbol> {
+    match number {
+        Some(number) => Some(Symbol(number)),
+        None => None,
+    }
+}
+
+/// Puts the symbols of these numbers to the front.
+fn put_symbols(numbers: &[Option<u128>], out: &mut [Option<Symbol>])
+    requires { length numbers.now ≤ length out.old }
+    ensures { length out.new ≡ length out.old }
+{
+    for place in 0..numbers.len() {
+        out[place] = symbol(numbers[place]);
+    }
+}
+
+/// What the symbols of these numbers open to.
+fn opened_numbers(shape: Shape, numbers: &[Option<u128>], work: &mut Work) -> Option<[u128; 3]>
+    requires { 16 ≤ work.old.size }
+{
+    let n = numbers.len();
+    let mut seen = [None; 7];
+    if n != usize::from(shape.n) || n > 7 {
+        return None;
+    }
+    put_symbols(numbers, &mut seen);
+    opened(&points()[..n], &seen[..n], shape, work)
+}
+
+/// Whether the row opens as it says.
+fn opens_so((shape, numbers, wanted): &Row, work: &mut Work) -> bool {
+    let [n, l, b] = *shape;
+    match Shape::new(n, l, b) {
+        Some(shape) if work.size() >= 16 => opened_numbers(shape, numbers, work) == *wanted,
+        _ => false,
+    }
+}
+
+/// The place of the first row that opens otherwise.
+fn first_other(work: &mut Work) -> Option<usize> {
+    for (place, row) in ROWS.iter().enumerate() {
+        if !opens_so(row, work) {
+            return Some(place);
+        }
+    }
+    None
+}
+
+#[test]
+fn rows_open_where_all_symbols_but_few_lie_on_one_polynomial(rt: HostRuntime) {
+    let mut work = work(&rt, rt.alloc(), 16);
+    no_other(&rt, first_other(&mut work));
+}
+
+/// Whether the row of the values of 5 x is made of the first two.
+fn encodes_a_line(work: &mut Work) -> bool
+    requires { 16 ≤ work.old.size }
+{
+    let mut row = [Symbol(99); 7];
+    encode_row(&points(), &[Symbol(0), Symbol(5)], &mut row, work);
+    are_numbers(&row, &[0, 5, 10, 15, 2, 7, 8])
 }
 
 #[test]
 fn rows_are_the_values_of_the_polynomial_through_their_primary_symbols(rt: HostRuntime) {
-    let points = [Symbol(0), Symbol(1), Symbol(2), Symbol(3), Symbol(4)];
-    let mut work = Work::new(rt.alloc(), 16).expect(&rt, "memory");
-    let mut row = [Symbol(99); 5];
-    encode_row(&points, &[Symbol(0), Symbol(5)], &mut row, &mut work);
-    assert_eq!(rt;
-        row,
-        [Symbol(0), Symbol(5), Symbol(10), Symbol(15), Symbol(2)]
-    );
+    let mut work = work(&rt, rt.alloc(), 16);
+    assert!(rt; encodes_a_line(&mut work));
 }

@@ -8,8 +8,6 @@ mod dispersal;
 #[cfg(test)]
 mod field;
 #[cfg(test)]
-mod gao;
-#[cfg(test)]
 mod given;
 #[cfg(test)]
 mod points;
