@@ -1,4 +1,3 @@
-use crate::job::Job;
 use forged_stores::Stored;
 
 /// Something that is done to a store or seen of it, and what is to come of it. A command is a line of words and the bytes of its source;
@@ -21,8 +20,6 @@ pub enum Deed {
     HeardHeld(usize),
     /// It ended with 0, and wrote other bytes than those of the file of a store.
     WroteOther(Stored),
-    /// A job over a vault that is opened for it ends so.
-    Runs(Job, &'static str),
     /// The disk is another, which reads these bytes.
     DiskBecomes(&'static [u8]),
     /// The disk is another, which reads the journal of a store.

@@ -46,7 +46,6 @@ impl<P: Holder + Drop> Store<P> {
                 line, input, call, status, text,
             ),
             Deed::Again(line, input, text, status) => self.ends_again(line, input, text, status),
-            Deed::Runs(job, word) => self.job_ends(job) == word,
             _ => self.is_done(deed),
         }
     }

@@ -4,13 +4,15 @@ use crate::rows::SURE;
 use crate::store::{KEY, Store, disk_of};
 use provider_model::MemProvider;
 
-/// A set-up of four providers, over a disk that reads these bytes and fails at one of the calls that the set-up makes, and which is then
-/// stopped by these picks.
-pub struct Images {
-    pub before: &'static [u8],
+/// The set-up of a row of stops.
+#[derive(Clone, Copy)]
+pub struct Stop<'a> {
+    /// The bytes that the disk reads before.
+    pub before: &'a [u8],
     /// How many calls the set-up makes.
     pub calls: u64,
-    pub picks: &'static [u8],
+    /// The picks by which the disk is stopped.
+    pub picks: &'a [u8],
 }
 
 /// The set-up.
@@ -35,8 +37,8 @@ fn may_be_left(before: &[u8], bytes: &[u8]) -> bool {
 }
 
 /// How the set-up is to end over a disk that fails at a call.
-fn ending(images: &Images, call: u64) -> Deed {
-    if call < images.calls {
+fn ending(stop: &Stop<'_>, call: u64) -> Deed {
+    if call < stop.calls {
         Deed::Refused(INIT, KEY, 12, 0)
     } else {
         Deed::Done(INIT, KEY, b"ready\n")
@@ -45,18 +47,18 @@ fn ending(images: &Images, call: u64) -> Deed {
 
 impl Store<MemProvider> {
     /// Whether the set-up over a disk that fails at a call ends so, and the stop then leaves what it may.
-    fn leaves_right(&mut self, images: &Images, call: u64) -> bool {
+    fn leaves_right(&mut self, stop: &Stop<'_>, call: u64) -> bool {
         let told = self.renew(&SURE)
-            && self.takes(disk_of(self.alloc, images.before, &[call]))
-            && self.goes(&ending(images, call));
-        self.stops(images.picks);
-        told && may_be_left(images.before, self.journal())
+            && self.takes(disk_of(self.alloc, stop.before, &[call]))
+            && self.goes(&ending(stop, call));
+        self.stops(stop.picks);
+        told && may_be_left(stop.before, self.journal())
     }
 
     /// The first call whose failure leaves something else, of all that the set-up makes and two more.
-    pub fn first_wrong_image(&mut self, images: &Images) -> Option<usize> {
-        for call in 0..images.calls.saturating_add(2) {
-            if !self.leaves_right(images, call) {
+    pub fn first_wrong_image(&mut self, stop: &Stop<'_>) -> Option<usize> {
+        for call in 0..stop.calls.saturating_add(2) {
+            if !self.leaves_right(stop, call) {
                 return Some(call as usize);
             }
         }

@@ -8,7 +8,6 @@ mod goes;
 mod heard;
 mod holder;
 mod image;
-mod job;
 mod rows;
 mod schedule;
 mod shows;
@@ -17,9 +16,7 @@ mod told;
 
 pub use case::Case;
 pub use deed::Deed;
-pub use image::Images;
-pub use job::Job;
-pub use rows::{Rows, first_wrong, first_wrong_again, first_wrong_lied, first_wrong_untold};
+pub use rows::{Rows, first_wrong};
 pub use schedule::Schedules;
 pub use store::KEY;
 pub use told::{NONE_FAILS, Told, tell};

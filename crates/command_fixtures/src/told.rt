@@ -48,7 +48,7 @@ fn answer<D: Disk, P: Tamper, S: Source, K: Sink>(
     hail(alloc, words, disk, providers, source, sink)
 }
 
-/// Answers words over some devices and streams.
+/// What is told of words over some devices and streams.
 fn told_of<D: Disk, P: Tamper>(
     alloc: Global,
     words: &[String],
@@ -61,6 +61,20 @@ fn told_of<D: Disk, P: Tamper>(
     Told { report, sink }
 }
 
+/// What is told of words with this input over some devices. Want of memory for the source and the sink is the one refusal.
+fn tell_words<D: Disk, P: Tamper>(
+    alloc: Global,
+    words: &[String],
+    input: &[u8],
+    faults: Faults,
+    disk: &mut D,
+    providers: &mut Vec<P>,
+) -> Option<Told> {
+    let mut source = MemSource::new(alloc, input, &[faults.read]).ok()?;
+    let sink = MemSink::new(alloc, &[faults.write]).ok()?;
+    Some(told_of(alloc, words, disk, providers, &mut source, sink))
+}
+
 /// What is told of a line with this input over some devices. Want of memory for the words, the source and the sink is the one refusal.
 pub fn tell<D: Disk, P: Tamper>(
     alloc: Global,
@@ -71,9 +85,7 @@ pub fn tell<D: Disk, P: Tamper>(
     providers: &mut Vec<P>,
 ) -> Option<Told> {
     let words = words(alloc, line)?;
-    let mut source = MemSource::new(alloc, input, &[faults.read]).ok()?;
-    let sink = MemSink::new(alloc, &[faults.write]).ok()?;
-    Some(told_of(alloc, &words, disk, providers, &mut source, sink))
+    tell_words(alloc, &words, input, faults, disk, providers)
 }
 
 impl Told {

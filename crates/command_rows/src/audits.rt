@@ -1,9 +1,10 @@
+use crate::check::check;
 use crate::setups::{FOUR, SIX, STORED, THREE};
 use command_fixtures::Deed::{Done, Holders, Keeps, Loses, Mended, Refused};
-use command_fixtures::{Rows, first_wrong};
+use command_fixtures::Rows;
 
 /// Of six blocks one is lost.
-const LOST: Rows = Rows::Deeds(&[
+const LOST: &[Rows] = &[Rows::Deeds(&[
     SIX,
     STORED,
     Holders(6),
@@ -18,15 +19,15 @@ const LOST: Rows = Rows::Deeds(&[
     Done("repair", b"", b"repaired 1\n"),
     Refused("repair", b"new", 7, 0),
     Mended,
-]);
+])];
 
 #[test]
 fn a_lost_block_is_found_and_mended(rt: HostRuntime) {
-    assert_eq!(rt; first_wrong(rt.alloc(), &LOST), None);
+    check(&rt, LOST);
 }
 
 /// Of four blocks two are lost.
-const UNDECIDED: Rows = Rows::Deeds(&[
+const UNDECIDED: &[Rows] = &[Rows::Deeds(&[
     FOUR,
     THREE,
     Loses(0),
@@ -42,9 +43,9 @@ const UNDECIDED: Rows = Rows::Deeds(&[
         b"audit 2 undecided 1\nprovider 0 count 0 ok\nprovider 1 count 0 ok\nprovider 2 count 0 ok\nprovider 3 count 0 ok\n",
     ),
     Refused("repair", b"new", 7, 0),
-]);
+])];
 
 #[test]
 fn a_round_with_two_lost_answers_is_undecided(rt: HostRuntime) {
-    assert_eq!(rt; first_wrong(rt.alloc(), &UNDECIDED), None);
+    check(&rt, UNDECIDED);
 }

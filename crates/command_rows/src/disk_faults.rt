@@ -1,9 +1,10 @@
+use crate::check::check;
 use crate::setups::{FOUR, THREE};
 use command_fixtures::Deed::{Done, Holds, Lacks, Refused};
-use command_fixtures::{Case, KEY, Rows, first_wrong};
+use command_fixtures::{Case, KEY, Rows};
 
 /// Setting up syncs, asks the length, writes the empty journal and syncs, and appends one record in four calls.
-const SET_UP: Rows = Rows::Cut(Case {
+const SET_UP: &[Rows] = &[Rows::Cut(Case {
     before: &[],
     line: "init 4 1 1 0 1 1 0",
     input: KEY,
@@ -15,15 +16,15 @@ const SET_UP: Rows = Rows::Cut(Case {
         Refused("init 4 1 1 0 1 1 0", KEY, 10, 0),
         Done("list", b"", b""),
     ],
-});
+})];
 
 #[test]
 fn a_set_up_stands_from_its_last_sync_on(rt: HostRuntime) {
-    assert_eq!(rt; first_wrong(rt.alloc(), &SET_UP), None);
+    check(&rt, SET_UP);
 }
 
 /// Opening makes the calls 0 to 2, and each of the two records four; the last one opens the gate of the second record at 9.
-const PUT: Rows = Rows::Cut(Case {
+const PUT: &[Rows] = &[Rows::Cut(Case {
     before: &[FOUR],
     line: "put a",
     input: b"abc",
@@ -32,15 +33,15 @@ const PUT: Rows = Rows::Cut(Case {
     stands: 10,
     without: &[Refused("get a", b"", 3, 0), Done("list", b"", b"")],
     with: &[Done("get a", b"", b"abc"), Done("list", b"", b"a 3\n")],
-});
+})];
 
 #[test]
 fn a_put_stands_from_its_last_sync_on(rt: HostRuntime) {
-    assert_eq!(rt; first_wrong(rt.alloc(), &PUT), None);
+    check(&rt, PUT);
 }
 
 /// The first record of a put, which draws its number, stands from the call 6 on; the next put then takes the number 2.
-const NUMBER: Rows = Rows::Cut(Case {
+const NUMBER: &[Rows] = &[Rows::Cut(Case {
     before: &[FOUR],
     line: "put a",
     input: b"abc",
@@ -49,15 +50,15 @@ const NUMBER: Rows = Rows::Cut(Case {
     stands: 6,
     without: &[THREE, Lacks(0, 2), Lacks(0, 3)],
     with: &[THREE, Holds(0, 2), Lacks(0, 3)],
-});
+})];
 
 #[test]
 fn a_put_cut_off_uses_its_number_once_it_is_begun(rt: HostRuntime) {
-    assert_eq!(rt; first_wrong(rt.alloc(), &NUMBER), None);
+    check(&rt, NUMBER);
 }
 
 /// A put over a name.
-const REPLACED: Rows = Rows::Cut(Case {
+const REPLACED: &[Rows] = &[Rows::Cut(Case {
     before: &[FOUR, THREE],
     line: "put a",
     input: b"other",
@@ -66,15 +67,15 @@ const REPLACED: Rows = Rows::Cut(Case {
     stands: 10,
     without: &[Done("get a", b"", b"abc")],
     with: &[Done("get a", b"", b"other")],
-});
+})];
 
 #[test]
 fn a_file_stands_until_the_put_of_another_does(rt: HostRuntime) {
-    assert_eq!(rt; first_wrong(rt.alloc(), &REPLACED), None);
+    check(&rt, REPLACED);
 }
 
 /// A drop.
-const DROPPED: Rows = Rows::Cut(Case {
+const DROPPED: &[Rows] = &[Rows::Cut(Case {
     before: &[FOUR, THREE],
     line: "drop a",
     input: b"",
@@ -83,15 +84,15 @@ const DROPPED: Rows = Rows::Cut(Case {
     stands: 6,
     without: &[Done("get a", b"", b"abc")],
     with: &[Refused("get a", b"", 3, 0)],
-});
+})];
 
 #[test]
 fn a_drop_stands_from_its_last_sync_on(rt: HostRuntime) {
-    assert_eq!(rt; first_wrong(rt.alloc(), &DROPPED), None);
+    check(&rt, DROPPED);
 }
 
 /// A get.
-const GOT: Rows = Rows::Cut(Case {
+const GOT: &[Rows] = &[Rows::Cut(Case {
     before: &[FOUR, THREE],
     line: "get a",
     input: b"",
@@ -100,10 +101,10 @@ const GOT: Rows = Rows::Cut(Case {
     stands: 0,
     without: &[],
     with: &[Done("get a", b"", b"abc"), Done("list", b"", b"a 3\n")],
-});
+})];
 
 /// A list.
-const LISTED: Rows = Rows::Cut(Case {
+const LISTED: &[Rows] = &[Rows::Cut(Case {
     before: &[FOUR, THREE],
     line: "list",
     input: b"",
@@ -112,10 +113,10 @@ const LISTED: Rows = Rows::Cut(Case {
     stands: 0,
     without: &[],
     with: &[Done("get a", b"", b"abc"), Done("list", b"", b"a 3\n")],
-});
+})];
 
 #[test]
 fn a_get_and_a_list_call_the_disk_to_open_alone(rt: HostRuntime) {
-    assert_eq!(rt; first_wrong(rt.alloc(), &GOT), None);
-    assert_eq!(rt; first_wrong(rt.alloc(), &LISTED), None);
+    check(&rt, GOT);
+    check(&rt, LISTED);
 }

@@ -4,13 +4,17 @@
 #[cfg(test)]
 mod audits;
 #[cfg(test)]
+mod check;
+#[cfg(test)]
+mod cuts;
+#[cfg(test)]
 mod damage;
 #[cfg(test)]
 mod disk_faults;
 #[cfg(test)]
 mod files;
 #[cfg(test)]
-mod jobs;
+mod folders;
 #[cfg(test)]
 mod journals;
 #[cfg(test)]

@@ -1,11 +1,11 @@
+use crate::check::check;
 use crate::setups::{FOUR, SIX, THREE};
 use crate::upkeep_faults::FLAGGED;
 use command_fixtures::Deed::{Done, Holds, Lacks, Loses, Refused};
-use command_fixtures::{Deed, Rows, first_wrong};
-use std::alloc::Global;
+use command_fixtures::{Deed, Rows};
 
 /// The calls of the provider are the store of the put, the ask of the audit, and the fetch and the store of the repair.
-const REPAIR: Rows = Rows::Failing(
+const REPAIR: &[Rows] = &[Rows::Failing(
     3,
     &[
         FOUR,
@@ -18,15 +18,15 @@ const REPAIR: Rows = Rows::Failing(
         Refused("repair", b"", 7, 0),
         Done("get a", b"", b"abc"),
     ],
-);
+)];
 
 #[test]
 fn a_repair_whose_store_fails_is_made_again(rt: HostRuntime) {
-    assert_eq!(rt; first_wrong(rt.alloc(), &REPAIR), None);
+    check(&rt, REPAIR);
 }
 
 /// The first call of the provider is the store of the put.
-const PUT: Rows = Rows::Failing(
+const PUT: &[Rows] = &[Rows::Failing(
     0,
     &[
         FOUR,
@@ -35,37 +35,27 @@ const PUT: Rows = Rows::Failing(
         THREE,
         Done("get a", b"", b"abc"),
     ],
-);
+)];
 
 #[test]
 fn a_put_whose_store_fails_is_not_in_effect(rt: HostRuntime) {
-    assert_eq!(rt; first_wrong(rt.alloc(), &PUT), None);
+    check(&rt, PUT);
 }
 
 /// A failed fetch is an absent block, a failed ask an absent answer, and a failed removal is passed over.
-const OTHERS: [Rows; 3] = [
+const OTHERS: &[Rows] = &[
     Rows::Failing(1, &[FOUR, THREE, Done("get a", b"", b"abc")]),
     Rows::Failing(1, &[FOUR, THREE, Done("audit", b"", FLAGGED)]),
     Rows::Failing(1, &[FOUR, THREE, Done("drop a", b"", b"dropped a\n")]),
 ];
 
-/// The place of the first of these that goes otherwise.
-fn first_wrong_of(alloc: Global, all: &[Rows]) -> Option<usize> {
-    for place in 0..all.len() {
-        if first_wrong(alloc, &all[place]).is_some() {
-            return Some(place);
-        }
-    }
-    None
-}
-
 #[test]
 fn another_failed_call_is_as_if_nothing_came(rt: HostRuntime) {
-    assert_eq!(rt; first_wrong_of(rt.alloc(), &OTHERS), None);
+    check(&rt, OTHERS);
 }
 
 /// The second put stores under 2 and then removes the object 1, in the call 2 of each provider.
-const REMOVAL: Rows = Rows::Failing(
+const REMOVAL: &[Rows] = &[Rows::Failing(
     2,
     &[
         FOUR,
@@ -81,11 +71,11 @@ const REMOVAL: Rows = Rows::Failing(
         Holds(3, 2),
         Lacks(3, 1),
     ],
-);
+)];
 
 #[test]
 fn a_block_whose_removal_fails_is_left_there(rt: HostRuntime) {
-    assert_eq!(rt; first_wrong(rt.alloc(), &REMOVAL), None);
+    check(&rt, REMOVAL);
 }
 
 /// A file of three stripes is stored.
@@ -99,7 +89,7 @@ const ONE_COUNTS: Deed = Done(
 );
 
 /// The put makes the calls 0 to 2 of a provider, and the four rounds of the audit 3 to 6: each of them is an ask, and no block is fetched.
-const ASKS: [Rows; 4] = [
+const ASKS: &[Rows] = &[
     Rows::Failing(3, &[SIX, LONG, ONE_COUNTS]),
     Rows::Failing(4, &[SIX, LONG, ONE_COUNTS]),
     Rows::Failing(5, &[SIX, LONG, ONE_COUNTS]),
@@ -108,11 +98,11 @@ const ASKS: [Rows; 4] = [
 
 #[test]
 fn an_audit_asks_each_provider_once_a_round(rt: HostRuntime) {
-    assert_eq!(rt; first_wrong_of(rt.alloc(), &ASKS), None);
+    check(&rt, ASKS);
 }
 
 /// The next call of the provider, 7, is the store of the next put.
-const NEXT: Rows = Rows::Failing(
+const NEXT: &[Rows] = &[Rows::Failing(
     7,
     &[
         SIX,
@@ -124,9 +114,9 @@ const NEXT: Rows = Rows::Failing(
         ),
         Refused("put a", b"abc", 13, 2),
     ],
-);
+)];
 
 #[test]
 fn an_audit_makes_no_other_call(rt: HostRuntime) {
-    assert_eq!(rt; first_wrong(rt.alloc(), &NEXT), None);
+    check(&rt, NEXT);
 }

@@ -1,9 +1,10 @@
+use crate::check::check;
 use crate::setups::FOUR;
 use command_fixtures::Deed::{DiskFails, DiskHas, Done, Heard, OverSink, Providers, Refused};
-use command_fixtures::{Rows, Schedules, first_wrong};
+use command_fixtures::{Rows, Schedules};
 
 /// A file is put, and then put anew: so many steps of the second put, a stop, and a get.
-const STOPPED_PUTS: Rows = Rows::Replayed(Schedules {
+const STOPPED_PUTS: &[Rows] = &[Rows::Replayed(Schedules {
     before: &[FOUR],
     front: "reopen\nbegin put a 6f6c64\nrun 1\nbegin put a 6e6577\n",
     told_front: "opened\njob 1\nput\njob 2\n",
@@ -30,88 +31,88 @@ const STOPPED_PUTS: Rows = Rows::Replayed(Schedules {
             "stopped\nopened\njob 3\ngot 6e6577\n",
         ),
     ],
-});
+})];
 
 #[test]
 fn a_stopped_put_leaves_the_old_file_or_the_new(rt: HostRuntime) {
-    assert_eq!(rt; first_wrong(rt.alloc(), &STOPPED_PUTS), None);
+    check(&rt, STOPPED_PUTS);
 }
 
 /// Schedules with each event.
-const LINES: Rows = Rows::Each(&[
-    &[FOUR, Done("replay", b"", b"")],
-    &[
+const LINES: &[Rows] = &[
+    Rows::Deeds(&[FOUR, Done("replay", b"", b"")]),
+    Rows::Deeds(&[
         FOUR,
         Done(
             "replay",
             b"reopen\nbegin put a 00\nbegin get a\nrun 1\nstep 1\nlist\nbegin drop a\nrun 2\nlist\n",
             b"opened\njob 1\nrefused NoSuchName\nput\nrefused NoSuchJob\nnames 1\na 1\njob 2\ndropped\nnames 0\n",
         ),
-    ],
-    &[
+    ]),
+    Rows::Deeds(&[
         FOUR,
         Done(
             "replay",
             b"list\nstep 1\nrun 1\nbegin audit\n# nothing\n\nreopen\nalter 0 1 0 0 5\nlose 99 1 0\nstep 1\nbegin repair\nstop -\nlist\n",
             b"closed\nclosed\nclosed\nclosed\nopened\nnothing held\nnothing held\nrefused NoSuchJob\nrefused NothingDue\nstopped\nclosed\n",
         ),
-    ],
-    &[
+    ]),
+    Rows::Deeds(&[
         FOUR,
         Done(
             "replay",
             b"reopen\nbegin put a 6f6c64\nbegin put b 00\nstep 1\nstep 2\nstep 1\nstep 1\nstep 1\nrun 2\nrun 1\nlist\nlose 0 1 0\n",
             b"opened\njob 1\njob 2\nmore\nwaiting 1\nmore\nmore\nmore\nput\nput\nnames 2\na 3\nb 1\nreplaced\n",
         ),
-    ],
-    &[
+    ]),
+    Rows::Deeds(&[
         FOUR,
         Done(
             "replay",
             b"reopen\nbegin put a 6f6c64\nrun 1\nbegin get a\nbegin put a 6e6577\nrun 3\nrun 2\nbegin get a\nrun 4\nlose 0 1 0\nlose 1 1 0\nlose 2 1 0\nlose 3 1 0\n",
             b"opened\njob 1\nput\njob 2\njob 3\nput\ngot 6f6c64\njob 4\ngot 6e6577\nreplaced\nreplaced\nreplaced\nreplaced\n",
         ),
-    ],
-    &[
+    ]),
+    Rows::Deeds(&[
         FOUR,
         Done(
             "replay",
             b"reopen\nbegin put a 00\nbegin audit\n",
             b"opened\njob 1\nrefused Busy\n",
         ),
-    ],
-    &[
+    ]),
+    Rows::Deeds(&[
         FOUR,
         Done(
             "replay",
             b"reopen\nbegin put a -\nrun 1\nbegin get a\nrun 2\nbegin audit\nrun 3\n",
             b"opened\njob 1\nput\njob 2\ngot -\njob 3\naudited 1 undecided 0 counts 0 0 0 0\n",
         ),
-    ],
-]);
+    ]),
+];
 
 #[test]
 fn lines_are_those_of_the_events(rt: HostRuntime) {
-    assert_eq!(rt; first_wrong(rt.alloc(), &LINES), None);
+    check(&rt, LINES);
 }
 
 /// Nine gets beside one another.
-const CROWDED: Rows = Rows::Deeds(&[
+const CROWDED: &[Rows] = &[Rows::Deeds(&[
     FOUR,
     Done(
         "replay",
         b"reopen\nbegin put a 00\nrun 1\nbegin get a\nbegin get a\nbegin get a\nbegin get a\nbegin get a\nbegin get a\nbegin get a\nbegin get a\nbegin get a\nrun 9\nbegin get a\nrun 2\n",
         b"opened\njob 1\nput\njob 2\njob 3\njob 4\njob 5\njob 6\njob 7\njob 8\njob 9\nrefused Busy\ngot 00\njob 10\ngot 00\n",
     ),
-]);
+])];
 
 #[test]
 fn eight_jobs_run_and_a_ninth_is_busy(rt: HostRuntime) {
-    assert_eq!(rt; first_wrong(rt.alloc(), &CROWDED), None);
+    check(&rt, CROWDED);
 }
 
 /// Two drops beside one another.
-const TWO_DROPS: Rows = Rows::Deeds(&[
+const TWO_DROPS: &[Rows] = &[Rows::Deeds(&[
     FOUR,
     Done(
         "replay",
@@ -119,11 +120,11 @@ const TWO_DROPS: Rows = Rows::Deeds(&[
         b"opened\njob 1\nput\njob 2\njob 3\ndropped\ndropped\n",
     ),
     DiskHas(81),
-]);
+])];
 
 #[test]
 fn two_drops_of_a_name_write_one_record(rt: HostRuntime) {
-    assert_eq!(rt; first_wrong(rt.alloc(), &TWO_DROPS), None);
+    check(&rt, TWO_DROPS);
 }
 
 /// Nothing is in effect; the object that is lost first is the one that the next put makes.
@@ -133,7 +134,7 @@ const NOT_KEPT: &str = "stopped\nopened\nnames 0\njob 2\nput\nreplaced\nnothing 
 const KEPT: &str = "stopped\nopened\nnames 1\na 3\njob 2\nput\nreplaced\nnothing held\n";
 
 /// A put is stopped after so many steps; what is listed then, and which object the next put makes.
-const STOPS: Rows = Rows::Replayed(Schedules {
+const STOPS: &[Rows] = &[Rows::Replayed(Schedules {
     before: &[FOUR],
     front: "reopen\nbegin put a 6f6c64\n",
     told_front: "opened\njob 1\n",
@@ -185,40 +186,40 @@ const STOPS: Rows = Rows::Replayed(Schedules {
             KEPT,
         ),
     ],
-});
+})];
 
 #[test]
 fn stops_leave_what_the_loose_bytes_say(rt: HostRuntime) {
-    assert_eq!(rt; first_wrong(rt.alloc(), &STOPS), None);
+    check(&rt, STOPS);
 }
 
 /// Schedules with a bad line, of which nothing is done.
-const BAD_LINES: Rows = Rows::Each(&[
-    &[
+const BAD_LINES: &[Rows] = &[
+    Rows::Deeds(&[
         FOUR,
         Refused("replay", b"reopen\nlist\nfly", 19, 3),
         Done("list", b"", b""),
-    ],
-    &[
+    ]),
+    Rows::Deeds(&[
         FOUR,
         Refused("replay", b"fly", 19, 1),
         Done("list", b"", b""),
-    ],
-    &[
+    ]),
+    Rows::Deeds(&[
         FOUR,
         Refused("replay", b"init 4 1 1 0 1 1 0 00\n", 19, 1),
         Done("list", b"", b""),
-    ],
-    &[
+    ]),
+    Rows::Deeds(&[
         FOUR,
         Refused("replay", b"reopen\n\n#\nstep -1\nlist\n", 19, 4),
         Done("list", b"", b""),
-    ],
-]);
+    ]),
+];
 
 #[test]
 fn bad_lines_are_told_by_their_number(rt: HostRuntime) {
-    assert_eq!(rt; first_wrong(rt.alloc(), &BAD_LINES), None);
+    check(&rt, BAD_LINES);
 }
 
 /// The front of schedules that set a store up, with two rounds of two picks.
@@ -226,7 +227,7 @@ const ANEW: &str =
     "begin get a\nreopen\ninit 4 1 1 0 2 2 0 000102030405060708090a0b0c0d0e0f101112131415161718191a1b1c1d1e1f\n";
 
 /// Schedules that set a store up over four providers.
-const FROM_NEW: Rows = Rows::Replayed(Schedules {
+const FROM_NEW: &[Rows] = &[Rows::Replayed(Schedules {
     before: &[Providers(4)],
     front: ANEW,
     told_front: "closed\nrefused NotSetUp\nready\n",
@@ -248,21 +249,21 @@ const FROM_NEW: Rows = Rows::Replayed(Schedules {
             "opened\njob 1\nput\nreplaced\nreplaced\nnothing held\nnothing held\nnothing held\nrefused NothingDue\njob 2\naudited 1 undecided 0 counts 0 0 2 0\njob 3\nrepaired 1\nreplaced\njob 4\ngot 6861696c\n",
         ),
     ],
-});
+})];
 
 /// One that does so over three.
-const TOO_FEW: Rows = Rows::Replayed(Schedules {
+const TOO_FEW: &[Rows] = &[Rows::Replayed(Schedules {
     before: &[Providers(3)],
     front: ANEW,
     told_front: "closed\nrefused NotSetUp\nready\n",
     step: "",
     rests: &[(0, "reopen\nlist\n", "refused TooFewProviders\nclosed\n")],
-});
+})];
 
 #[test]
 fn a_store_is_set_up_and_opened_by_a_schedule(rt: HostRuntime) {
-    assert_eq!(rt; first_wrong(rt.alloc(), &FROM_NEW), None);
-    assert_eq!(rt; first_wrong(rt.alloc(), &TOO_FEW), None);
+    check(&rt, FROM_NEW);
+    check(&rt, TOO_FEW);
 }
 
 /// A schedule of nine events.
@@ -270,11 +271,11 @@ const NINE: &[u8] =
     b"reopen\nbegin put a 00\nbegin get a\nrun 1\nstep 1\nlist\nbegin drop a\nrun 2\nlist\n";
 
 /// Each write of the sink fails in turn.
-const CUT: Rows = Rows::Each(&[
-    &[FOUR, OverSink("replay", NINE, 0, 15, b"")],
-    &[FOUR, OverSink("replay", NINE, 1, 15, b"opened\n")],
-    &[FOUR, OverSink("replay", NINE, 2, 15, b"opened\njob 1\n")],
-    &[
+const CUT: &[Rows] = &[
+    Rows::Deeds(&[FOUR, OverSink("replay", NINE, 0, 15, b"")]),
+    Rows::Deeds(&[FOUR, OverSink("replay", NINE, 1, 15, b"opened\n")]),
+    Rows::Deeds(&[FOUR, OverSink("replay", NINE, 2, 15, b"opened\njob 1\n")]),
+    Rows::Deeds(&[
         FOUR,
         OverSink(
             "replay",
@@ -283,8 +284,8 @@ const CUT: Rows = Rows::Each(&[
             15,
             b"opened\njob 1\nrefused NoSuchName\n",
         ),
-    ],
-    &[
+    ]),
+    Rows::Deeds(&[
         FOUR,
         OverSink(
             "replay",
@@ -293,8 +294,8 @@ const CUT: Rows = Rows::Each(&[
             15,
             b"opened\njob 1\nrefused NoSuchName\nput\n",
         ),
-    ],
-    &[
+    ]),
+    Rows::Deeds(&[
         FOUR,
         OverSink(
             "replay",
@@ -303,8 +304,8 @@ const CUT: Rows = Rows::Each(&[
             15,
             b"opened\njob 1\nrefused NoSuchName\nput\nrefused NoSuchJob\n",
         ),
-    ],
-    &[
+    ]),
+    Rows::Deeds(&[
         FOUR,
         OverSink(
             "replay",
@@ -313,8 +314,8 @@ const CUT: Rows = Rows::Each(&[
             15,
             b"opened\njob 1\nrefused NoSuchName\nput\nrefused NoSuchJob\nnames 1\na 1\n",
         ),
-    ],
-    &[
+    ]),
+    Rows::Deeds(&[
         FOUR,
         OverSink(
             "replay",
@@ -323,8 +324,8 @@ const CUT: Rows = Rows::Each(&[
             15,
             b"opened\njob 1\nrefused NoSuchName\nput\nrefused NoSuchJob\nnames 1\na 1\njob 2\n",
         ),
-    ],
-    &[
+    ]),
+    Rows::Deeds(&[
         FOUR,
         OverSink(
             "replay",
@@ -333,16 +334,16 @@ const CUT: Rows = Rows::Each(&[
             15,
             b"opened\njob 1\nrefused NoSuchName\nput\nrefused NoSuchJob\nnames 1\na 1\njob 2\ndropped\n",
         ),
-    ],
-]);
+    ]),
+];
 
 #[test]
 fn a_fault_of_the_sink_ends_the_replay(rt: HostRuntime) {
-    assert_eq!(rt; first_wrong(rt.alloc(), &CUT), None);
+    check(&rt, CUT);
 }
 
 /// A get, an audit and a get, which hear four providers each.
-const THREE_HEAR: Rows = Rows::Deeds(&[
+const THREE_HEAR: &[Rows] = &[Rows::Deeds(&[
     FOUR,
     Done(
         "replay",
@@ -350,15 +351,15 @@ const THREE_HEAR: Rows = Rows::Deeds(&[
         b"opened\njob 1\nput\njob 2\ngot 00\njob 3\naudited 1 undecided 0 counts 0 0 0 0\nstopped\nopened\njob 4\ngot 00\n",
     ),
     Heard(&[4, 4, 4]),
-]);
+])];
 
 #[test]
 fn what_jobs_heard_is_told_in_the_order_of_their_ends(rt: HostRuntime) {
-    assert_eq!(rt; first_wrong(rt.alloc(), &THREE_HEAR), None);
+    check(&rt, THREE_HEAR);
 }
 
 /// The twelfth call of the disk fails.
-const REOPENED: Rows = Rows::Deeds(&[
+const REOPENED: &[Rows] = &[Rows::Deeds(&[
     Providers(4),
     DiskFails(&[11]),
     Done(
@@ -366,9 +367,9 @@ const REOPENED: Rows = Rows::Deeds(&[
         b"init 4 1 1 0 2 2 0 000102030405060708090a0b0c0d0e0f101112131415161718191a1b1c1d1e1f\nreopen\nbegin put a 6861696c\nrun 1\nstep 1\nbegin get a\nreopen\nbegin put a 6861696c\nrun 2\n",
         b"ready\nopened\njob 1\ndisk fault\nrefused MustReopen\nrefused MustReopen\nopened\njob 2\nput\n",
     ),
-]);
+])];
 
 #[test]
 fn a_vault_is_reopened_after_a_fault_of_the_disk(rt: HostRuntime) {
-    assert_eq!(rt; first_wrong(rt.alloc(), &REOPENED), None);
+    check(&rt, REOPENED);
 }

@@ -1,9 +1,10 @@
+use crate::check::check;
 use crate::setups::{FOUR, THREE};
 use command_fixtures::Deed::{DiskHas, Done, OverSink, OverSource, Providers, Refused};
-use command_fixtures::{Rows, first_wrong};
+use command_fixtures::Rows;
 
 /// The first read gives the bytes and the second their end; a source that failed is told before a bad name.
-const SOURCES: Rows = Rows::Deeds(&[
+const SOURCES: &[Rows] = &[Rows::Deeds(&[
     FOUR,
     OverSource("put a", 0, 14),
     DiskHas(51),
@@ -13,23 +14,23 @@ const SOURCES: Rows = Rows::Deeds(&[
     DiskHas(51),
     OverSource("put a", 2, 0),
     Done("get a", b"", b"abc"),
-]);
+])];
 
 #[test]
 fn a_source_that_fails_leaves_the_journal_alone(rt: HostRuntime) {
-    assert_eq!(rt; first_wrong(rt.alloc(), &SOURCES), None);
+    check(&rt, SOURCES);
 }
 
 /// A set-up.
-const KEY_SOURCE: Rows = Rows::Deeds(&[OverSource("init 4 1 1 0 1 1 0", 0, 14), DiskHas(0)]);
+const KEY_SOURCE: &[Rows] = &[Rows::Deeds(&[OverSource("init 4 1 1 0 1 1 0", 0, 14), DiskHas(0)])];
 
 #[test]
 fn a_source_that_fails_sets_nothing_up(rt: HostRuntime) {
-    assert_eq!(rt; first_wrong(rt.alloc(), &KEY_SOURCE), None);
+    check(&rt, KEY_SOURCE);
 }
 
 /// With no file in effect a list writes nothing.
-const SINKS: Rows = Rows::Deeds(&[
+const SINKS: &[Rows] = &[Rows::Deeds(&[
     FOUR,
     OverSink("list", b"abc", 0, 0, b""),
     OverSink("put a", b"abc", 0, 15, b""),
@@ -38,15 +39,15 @@ const SINKS: Rows = Rows::Deeds(&[
     OverSink("audit", b"abc", 0, 15, b""),
     OverSink("drop a", b"abc", 0, 15, b""),
     Refused("get a", b"", 3, 0),
-]);
+])];
 
 #[test]
 fn a_sink_that_fails_leaves_the_effect_of_a_command(rt: HostRuntime) {
-    assert_eq!(rt; first_wrong(rt.alloc(), &SINKS), None);
+    check(&rt, SINKS);
 }
 
 /// Three providers are left of four.
-const FEW: Rows = Rows::Deeds(&[
+const FEW: &[Rows] = &[Rows::Deeds(&[
     FOUR,
     THREE,
     Providers(3),
@@ -55,23 +56,23 @@ const FEW: Rows = Rows::Deeds(&[
     Refused("put a/b", b"", 22, 0),
     Refused("audit", b"", 22, 0),
     Refused("init 4 1 1 0 1 1 0", b"", 22, 0),
-]);
+])];
 
 #[test]
 fn fewer_providers_than_were_set_up_are_refused(rt: HostRuntime) {
-    assert_eq!(rt; first_wrong(rt.alloc(), &FEW), None);
+    check(&rt, FEW);
 }
 
 /// What is refused leaves the journal.
-const WORDS: Rows = Rows::Deeds(&[
+const WORDS: &[Rows] = &[Rows::Deeds(&[
     FOUR,
     Refused("put a/b", b"abc", 17, 0),
     Refused("fly", b"", 2, 0),
     Refused("put", b"abc", 2, 0),
     DiskHas(51),
-]);
+])];
 
 #[test]
 fn a_bad_name_and_an_unknown_word_are_refused(rt: HostRuntime) {
-    assert_eq!(rt; first_wrong(rt.alloc(), &WORDS), None);
+    check(&rt, WORDS);
 }

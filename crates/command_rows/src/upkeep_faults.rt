@@ -1,6 +1,7 @@
+use crate::check::check;
 use crate::setups::{FOUR, THREE};
 use command_fixtures::Deed::{Done, Loses, Refused};
-use command_fixtures::{Case, Rows, first_wrong};
+use command_fixtures::{Case, Rows};
 
 /// What an audit of four providers tells that counts none, the first and the second time.
 const ALL_OK: &[u8] =
@@ -14,7 +15,7 @@ pub const FLAGGED: &[u8] =
     b"audit 1 undecided 0\nprovider 0 count 0 ok\nprovider 1 count 0 ok\nprovider 2 count 1 flagged\nprovider 3 count 0 ok\n";
 
 /// The record that an audit begins is there from the call 6 on, and the number of the audit is not given again.
-const AUDIT: Rows = Rows::Cut(Case {
+const AUDIT: &[Rows] = &[Rows::Cut(Case {
     before: &[FOUR, THREE],
     line: "audit",
     input: b"",
@@ -23,15 +24,15 @@ const AUDIT: Rows = Rows::Cut(Case {
     stands: 6,
     without: &[Refused("repair", b"", 7, 0), Done("audit", b"", ALL_OK)],
     with: &[Refused("repair", b"", 7, 0), Done("audit", b"", STILL_OK)],
-});
+})];
 
 #[test]
 fn an_audit_cut_off_uses_its_number_once_it_is_begun(rt: HostRuntime) {
-    assert_eq!(rt; first_wrong(rt.alloc(), &AUDIT), None);
+    check(&rt, AUDIT);
 }
 
 /// An audit that finds a lost block.
-const FOUND: Rows = Rows::Cut(Case {
+const FOUND: &[Rows] = &[Rows::Cut(Case {
     before: &[FOUR, THREE, Loses(2)],
     line: "audit",
     input: b"",
@@ -43,15 +44,15 @@ const FOUND: Rows = Rows::Cut(Case {
         Refused("audit", b"", 6, 0),
         Done("repair", b"", b"repaired 1\n"),
     ],
-});
+})];
 
 #[test]
 fn a_repair_is_due_from_the_last_sync_of_an_audit_on(rt: HostRuntime) {
-    assert_eq!(rt; first_wrong(rt.alloc(), &FOUND), None);
+    check(&rt, FOUND);
 }
 
 /// The repair of it.
-const REPAIR: Rows = Rows::Cut(Case {
+const REPAIR: &[Rows] = &[Rows::Cut(Case {
     before: &[FOUR, THREE, Loses(2), Done("audit", b"", FLAGGED)],
     line: "repair",
     input: b"",
@@ -64,9 +65,9 @@ const REPAIR: Rows = Rows::Cut(Case {
         Done("audit", b"", STILL_OK),
     ],
     with: &[Refused("repair", b"", 7, 0), Done("audit", b"", STILL_OK)],
-});
+})];
 
 #[test]
 fn a_repair_stays_due_until_its_last_sync(rt: HostRuntime) {
-    assert_eq!(rt; first_wrong(rt.alloc(), &REPAIR), None);
+    check(&rt, REPAIR);
 }

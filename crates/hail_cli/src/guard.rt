@@ -1,6 +1,5 @@
 // What stands between a home and other programs: streams that are open, and a lock.
-ghost use Rattle.std.specs.Prelude.{◌≡◌, ◌↔◌, ◌⊎◌, codes, IsTrue};
-
+use program_words::only_reads;
 use std::fs::{self, File};
 use std::io::{self, ErrorKind};
 use std::os::unix::io::AsRawFd;
@@ -30,21 +29,6 @@ pub fn hold_streams(rt: &HostRuntime) -> io::Result<HeldStreams> {
     Ok(HeldStreams {
         held: [stand_in(rt)?, stand_in(rt)?, stand_in(rt)?],
     })
-}
-
-/// Whether the command of this name only reads the home.
-fn is_reader(command: &str) -> bool
-    ensures { IsTrue result ↔ ((command.now ≡ codes "get") ⊎ (command.now ≡ codes "list")) }
-{
-    command == "get" || command == "list"
-}
-
-/// Whether the words are a command that only reads the home.
-fn only_reads(words: &[String]) -> bool {
-    match words {
-        [command, ..] => is_reader(command.as_str()),
-        [] => false,
-    }
 }
 
 /// Waits until no other program is at work in the home, and keeps others out until the file is dropped: a command that only

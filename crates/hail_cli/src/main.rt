@@ -1,30 +1,12 @@
 //! `hail`: keeps files on several providers.
 #![tactic(auto)]
 
-ghost use Rattle.std.specs.Prelude.{◌≡◌, ◌⊎◌, IfErr};
-
 mod guard;
 mod run;
-mod text;
 
-use hail_top::{NO_MEMORY, USAGE};
+use program_words::{has_place, text_of, words};
 use run::{Told, run};
-use std::env::{self, Env};
 use std::process::ExitCode;
-use text::{has_place, text_of};
-
-/// The words after the program's name. Words that are no text are a faulty command line.
-fn words(rt: &(impl Env + AllocGlobal)) -> Result<Vec<String>, u8>
-    ensures { IfErr result (λ status. (status ≡ 2) ⊎ (status ≡ 70)) }
-{
-    let Ok(all) = env::args(rt) else {
-        return Err(USAGE);
-    };
-    match all.skip(1).collect(rt.alloc()) {
-        Ok(words) => Ok(words),
-        Err(_) => Err(NO_MEMORY),
-    }
-}
 
 fn main(rt: HostRuntime) -> ExitCode {
     let told = match words(&rt) {

@@ -46,7 +46,7 @@ AreCounted expected all left c old new counts heard = (start : State) (before : 
 
 -- ---- the course
 
-pub first-course : (all : List Instruction) (c : Client) (d : Devices) → is_open c ≡ false → client_next_job c ≡ 1 → IsOnCourse all all c d d
+first-course : (all : List Instruction) (c : Client) (d : Devices) → is_open c ≡ false → client_next_job c ≡ 1 → IsOnCourse all all c d d
 first-course all c d closed first = record {
   standing = λ opened. absurd (false≢true (sym closed ∙ opened));
   jobs = omega (arith, first);
@@ -54,7 +54,7 @@ first-course all c d closed first = record {
   counts = none-fell d;
 }
 
-pub course-on : (all left : List Instruction) (command : Instruction) (c next : Client) (old mid new : Devices) → IsOnCourse all (command ∷ left) c old mid → KeepsStanding c next mid new
+course-on : (all left : List Instruction) (command : Instruction) (c next : Client) (old mid new : Devices) → IsOnCourse all (command ∷ left) c old mid → KeepsStanding c next mid new
     → IsOnCourse all left next old new
 course-on all left command c next old mid new W K = record {
   standing = K.standing;
@@ -65,6 +65,7 @@ course-on all left command c next old mid new W K = record {
 
 -- ---- a schedule
 
+-- before the first instruction none is done
 pub none-done : (all : List Instruction) (c : Client) (d : Devices) (first : Option (List ℕ)) (b : ℕ) → IsFresh c → AreDone all all c d d first first b b []
 none-done all c d first b fresh start before told L = (
   [],
@@ -85,7 +86,7 @@ DoesOne command c next old new mid last f g status heard after = (start : State)
 module _ (all left : List Instruction) (command : Instruction) (c next : Client) (old mid new : Devices) (first told last : Option (List ℕ)) (b f g status : ℕ) (heard after : List Entry)
     (tells : is_some mid.holds ≡ is_some old.holds) (low : b ≤ f)
     (so_far : AreDone all (command ∷ left) c old mid first told b f heard) (one : DoesOne command c next mid new told last f g status heard after) where
-  pub done-more : status ≡ 0 → AreDone all left next old new first last b g after
+  done-more : status ≡ 0 → AreDone all left next old new first last b g after
   done-more ok start before is_told L =
       (let D = so_far start before is_told L in (
         command ∷ D.0,
@@ -94,7 +95,7 @@ module _ (all left : List Instruction) (command : Instruction) (c next : Client)
             (one start (called_behind start before) D.0 first b (tells ∙ is_told) low D.2),
       ))
 
-  pub done-last : status ≢ 0 → (start : State) (before : List Moment) → IsSome old.holds → AreLeft start before old → Replays start before all status (sank first last b g) after new
+  done-last : status ≢ 0 → (start : State) (before : List Moment) → IsSome old.holds → AreLeft start before old → Replays start before all status (sank first last b g) after new
   done-last amiss start before is_told L =
       (let D = so_far start before is_told L in
       let H = one start (called_behind start before) D.0 first b (tells ∙ is_told) low D.2 in
@@ -110,7 +111,7 @@ module _ (all left : List Instruction) (command : Instruction) (c next : Client)
       })
 
 module _ (all : List Instruction) (c : Client) (old new : Devices) (first last : Option (List ℕ)) (b f : ℕ) (heard : List Entry) where
-  pub all-done : AreDone all [] c old new first last b f heard → (start : State) (before : List Moment) → IsSome old.holds → AreLeft start before old
+  all-done : AreDone all [] c old new first last b f heard → (start : State) (before : List Moment) → IsSome old.holds → AreLeft start before old
       → Replays start before all 0 (sank first last b f) heard new
   all-done so_far start before is_told L =
       (let D = so_far start before is_told L in
@@ -125,6 +126,7 @@ module _ (all : List Instruction) (c : Client) (old new : Devices) (first last :
         wrote = D.2.wrote;
       })
 
+  -- where there was no memory for what was heard, the lines so far were written
   pub cut-off : (left : List Instruction) → AreDone all left c old new first last b f heard → (start : State) (before : List Moment) → IsSome old.holds → AreLeft start before old
       → Replays start before all 70 (sank first last b f) heard new
   cut-off left so_far start before is_told L =
@@ -142,7 +144,7 @@ module _ (all : List Instruction) (c : Client) (old new : Devices) (first last :
 
 -- ---- a trial
 
-pub none-counted : (expected : List ℕ) (all : List Instruction) (c : Client) (d : Devices) (counts : TrialCounts) → IsFresh c → counts ≡ counts_of expected [] []
+none-counted : (expected : List ℕ) (all : List Instruction) (c : Client) (d : Devices) (counts : TrialCounts) → IsFresh c → counts ≡ counts_of expected [] []
     → AreCounted expected all all c d d counts []
 none-counted expected all c d counts fresh is start before told L = (
   [],
@@ -167,12 +169,12 @@ RunsOne command c next old new heard after = (start : State) (base : List Moment
 
 module _ (expected : List ℕ) (all left : List Instruction) (command : Instruction) (c next : Client) (old mid new : Devices) (counts : TrialCounts) (heard after : List Entry)
     (tells : is_some mid.holds ≡ is_some old.holds) (so_far : AreCounted expected all (command ∷ left) c old mid counts heard) where
-  pub counted-more : (more : TrialCounts) → CountsOne expected command c next mid new counts more heard after → AreCounted expected all left next old new more after
+  counted-more : (more : TrialCounts) → CountsOne expected command c next mid new counts more heard after → AreCounted expected all left next old new more after
   counted-more more one start before is_told L =
       (let D = so_far start before is_told L in
       (command ∷ D.0, next-done all D.0 left command D.1, one start (called_behind start before) D.0 (tells ∙ is_told) D.2))
 
-  pub uncounted : RunsOne command c next mid new heard after → (start : State) (before : List Moment) → IsSome old.holds → AreLeft start before old
+  uncounted : RunsOne command c next mid new heard after → (start : State) (before : List Moment) → IsSome old.holds → AreLeft start before old
       → RunsTo start before all after new
   uncounted one start before is_told L =
       (let D = so_far start before is_told L in
@@ -187,7 +189,7 @@ module _ (expected : List ℕ) (all left : List Instruction) (command : Instruct
       })
 
 module _ (expected : List ℕ) (all : List Instruction) (c : Client) (old new : Devices) (counts : TrialCounts) (heard : List Entry) where
-  pub all-counted : AreCounted expected all [] c old new counts heard → (start : State) (before : List Moment) → IsSome old.holds → AreLeft start before old
+  all-counted : AreCounted expected all [] c old new counts heard → (start : State) (before : List Moment) → IsSome old.holds → AreLeft start before old
       → CountsTo expected start before all counts heard new
   all-counted so_far start before is_told L =
       (let D = so_far start before is_told L in
@@ -199,7 +201,7 @@ module _ (expected : List ℕ) (all : List Instruction) (c : Client) (old new : 
         counts_are = D.2.counts_are ∙ ap (λ (cs : List Instruction). counts_of expected cs D.2.later) whole;
       })
 
-  pub left-uncounted : (left : List Instruction) → AreCounted expected all left c old new counts heard → (start : State) (before : List Moment) → IsSome old.holds → AreLeft start before old
+  left-uncounted : (left : List Instruction) → AreCounted expected all left c old new counts heard → (start : State) (before : List Moment) → IsSome old.holds → AreLeft start before old
       → RunsTo start before all heard new
   left-uncounted left so_far start before is_told L =
       (let D = so_far start before is_told L in
@@ -236,7 +238,7 @@ trial-untold number start before commands expected counts heard d told b f cs es
     trial-told number start before commands expected (trial_lines number counts) counts heard d 70 (sank told told b f) cs es C refl
     (inr (inr (refl, nothing-taken told (trial_lines number counts))))
 
-pub trial-cut : (number : ℕ) (start : State) (before : List Moment) (commands : List Instruction) (heard : List Entry) (d : Devices) → commands ≡ trial_commands number
+trial-cut : (number : ℕ) (start : State) (before : List Moment) (commands : List Instruction) (heard : List Entry) (d : Devices) → commands ≡ trial_commands number
     → RunsTo start before commands heard d → RunsTo start before (trial_commands number) heard d
 trial-cut number start before commands heard d cs R = subst (λ (k : List Instruction). RunsTo start before k heard d) cs R
 
@@ -270,6 +272,7 @@ none-run all d start before L =
 
 -- ---- the loops as they stand in the code
 
+-- a replay begins with no vault open, and nothing done
 pub begin-course : (all left : List Instruction) (c : Client) (d : Devices) (first : Option (List ℕ)) (b : ℕ) (heard : List Entry) → left ≡ all → heard ≡ []
     → IsFresh c → IsOnCourse all left c d d × AreDone all left c d d first first b b heard × (b ≤ b)
 begin-course all left c d first b heard is none fresh = (
@@ -279,6 +282,7 @@ begin-course all left c d first b heard is none fresh = (
   omega arith,
 )
 
+-- so does a trial, with all counts 0
 pub begin-count : (expected : List ℕ) (all left : List Instruction) (c : Client) (d : Devices) (counts : TrialCounts) (heard : List Entry) → left ≡ all → heard ≡ []
     → IsFresh c → counts ≡ counts_of expected [] [] → IsOnCourse all left c d d × AreCounted expected all left c d d counts heard
 begin-count expected all left c d counts heard is none fresh zero_counts = (
@@ -300,6 +304,7 @@ module _ (all left rest : List Instruction) (command : Instruction) (c next : Cl
   does : DoesOne command c next mid new told last f g status heard after
   does = subst (λ (h : List Entry). DoesOne command c next mid new told last f g status h after) kept_is one
 
+  -- after an instruction whose line was written the others are left
   pub go-on : status ≡ 0 → IsOnCourse all rest next old new × AreDone all rest next old new first last b g after × (b ≤ g)
   go-on ok = (
     course-on all rest command c next old mid new course keeps,
@@ -307,6 +312,7 @@ module _ (all left rest : List Instruction) (command : Instruction) (c next : Cl
     (let l = way.2 in omega (arith, l, never)),
   )
 
+  -- a line that could not be written ends the replay there
   pub go-wrong : status ≢ 0 → (start : State) (before : List Moment) → IsSome old.holds → AreLeft start before old → Replays start before all status (sank first last b g) after new
   go-wrong amiss = done-last all rest command c next old mid new first told last b f g status heard after way.0.tells way.2 done does amiss
 
@@ -329,20 +335,25 @@ module _ (expected : List ℕ) (all left rest : List Instruction) (command : Ins
   so_far = subst (λ (h : List Entry). AreCounted expected all (command ∷ rest) c old mid counts h) (sym kept_is)
       (subst (λ (l : List Instruction). AreCounted expected all l c old mid counts heard) left_is counted)
 
+  -- after an instruction of a trial the others are left
   pub count-course : KeepsStanding c next mid new → IsOnCourse all rest next old new
   count-course keeps = course-on all rest command c next old mid new (subst (λ (l : List Instruction). IsOnCourse all l c old mid) left_is course) keeps
 
+  -- its outcome is counted
   pub count-on : (more : TrialCounts) → CountsOne expected command c next mid new counts more kept after → AreCounted expected all rest next old new more after
   count-on more one = counted-more expected all rest command c next old mid new counts kept after course.tells so_far more one
 
+  -- an instruction without memory ends the trial there
   pub count-wrong : RunsOne command c next mid new kept after → (start : State) (before : List Moment) → IsSome old.holds → AreLeft start before old → RunsTo start before all after new
   count-wrong one = uncounted expected all rest command c next old mid new counts kept after course.tells so_far one
 
+-- what was heard so far is heard at the end, also where the trial was cut
 pub count-short : (expected : List ℕ) (all left : List Instruction) (c : Client) (old new : Devices) (counts : TrialCounts) (heard kept : List Entry) → kept ≡ heard
     → AreCounted expected all left c old new counts heard → (start : State) (before : List Moment) → IsSome old.holds → AreLeft start before old → RunsTo start before all kept new
 count-short expected all left c old new counts heard kept is so_far start before told L =
     subst (λ (h : List Entry). RunsTo start before all h new) (sym is) (left-uncounted expected all c old new counts heard left so_far start before told L)
 
+-- at the end all outcomes are counted
 pub count-home : (expected : List ℕ) (all left : List Instruction) (c : Client) (old new : Devices) (counts : TrialCounts) (heard : List Entry) → left ≡ []
     → AreCounted expected all left c old new counts heard → (start : State) (before : List Moment) → IsSome old.holds → AreLeft start before old → CountsTo expected start before all counts heard new
 count-home expected all left c old new counts heard is so_far =

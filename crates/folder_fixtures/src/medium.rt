@@ -271,12 +271,20 @@ impl Medium {
     }
 
     /// The bytes of a file as they were written.
-    pub fn bytes_at(&self, path: &str) -> Option<&[u8]> {
+    fn bytes_at(&self, path: &str) -> Option<&[u8]> {
         let node = self.nodes.get(self.find(path)?)?;
         if node.is_folder {
             return None;
         }
         Some(&node.written)
+    }
+
+    /// Whether both have a file with some bytes at this path, and the same.
+    pub fn has_same(&self, other: &Medium, path: &str) -> bool {
+        match (self.bytes_at(path), other.bytes_at(path)) {
+            (Some(bytes), Some(others)) => bytes.len() > 0 && bytes == others,
+            _ => false,
+        }
     }
 
     /// Lets a path that has named something name a node, or nothing; says whether there is such a path.

@@ -1,6 +1,6 @@
 // The line on standard error, by the status.
 ghost use Rattle.std.specs.Prelude.{◌≡◌, ◌↔◌, ◌⊎◌, IsTrue};
-ghost use Rattle.hail_cli.specs.Text.{status_text, speaks_of_place};
+ghost use Rattle.program_words.specs.Text.{status_text, speaks_of_place};
 
 use hail_top::{
     ALREADY_SET_UP, BAD_FRAME, BAD_JOURNAL, BAD_KEY, BAD_NAME, BAD_SCHEDULE, BAD_SETUP, DISK_FAULT,

@@ -1,0 +1,44 @@
+use crate::home::Devices;
+use crate::stand_in::StandIn;
+use command_fixtures::{NONE_FAILS, Told, tell};
+use std::alloc::Global;
+
+/// A command, its input, and how it ends: its status, and what it writes.
+#[derive(Clone, Copy)]
+pub struct Row {
+    pub line: &'static str,
+    pub input: &'static [u8],
+    pub status: u8,
+    pub text: &'static [u8],
+}
+
+/// What is told of a command over the journal and the providers of the home. Want of memory is the one refusal.
+fn told(files: &StandIn, alloc: Global, row: &Row) -> Option<Told> {
+    let mut home = Devices::new(files, alloc)?;
+    tell(
+        alloc,
+        row.line,
+        row.input,
+        NONE_FAILS,
+        &mut home.disk,
+        &mut home.providers,
+    )
+}
+
+/// Whether a command ends as its row says.
+pub fn goes(files: &StandIn, alloc: Global, row: &Row) -> bool {
+    match told(files, alloc, row) {
+        Some(told) => told.is(row.status, 0, row.text),
+        None => false,
+    }
+}
+
+/// Whether each command ends as its row says.
+pub fn all_go(files: &StandIn, alloc: Global, rows: &[Row]) -> bool {
+    for row in rows {
+        if !goes(files, alloc, row) {
+            return false;
+        }
+    }
+    true
+}
