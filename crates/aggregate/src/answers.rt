@@ -15,8 +15,9 @@ fn symbol_in<B: Blocks>(challenge: &Challenge, blocks: &B, row: u64) -> Option<S
     blocks.at((row / size) as u32, (row % size) as u32, challenge.size)
 }
 
-/// The honest answer to a challenge that was drawn: the sum, over the picks `k`, of `alpha ^ (k + 1)` times the symbol held
-/// in row `k`; none where one of these rows has no symbol. It takes one product a pick (Horner's rule).
+/// The honest answer to a challenge that was drawn: the sum, over the picks `k`, of `alpha ^ (k + 1)` times
+/// the symbol held in row `k`; none where one of these rows has no symbol. It takes one product a pick
+/// (Horner's rule).
 pub fn answer_drawn<B: Blocks>(drawn: &Drawn, blocks: &B) -> Option<Symbol>
     ensures { result ≡ honest_answer (asked drawn.now.challenge) (B.held blocks.now) }
 {

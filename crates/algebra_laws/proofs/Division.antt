@@ -47,13 +47,6 @@ module _ {A : Type 0} (F : FieldOf A) (laws : IsField F) where
       let c : A = get_or (a ∷ remainder F d m w p) m 𝟘 ⊗ w in
       omega (arith, length-take m (plus F (a ∷ remainder F d m w p) (scale F c d)))
 
-  -- the quotient has as many coefficients as the dividend
-  length-quotient : (d : List A) (m : ℕ) (w : A) (p : List A) → length (quotient F d m w p) ≡ length p
-  unfolding quotient
-  length-quotient d m w [] = refl
-  length-quotient d m w (a ∷ p) =
-      let h : length (quotient F d m w p) ≡ length p = length-quotient d m w p in omega arith
-
   -- the dividend is the quotient times the divisor, plus the remainder
   pub value-divided : (d : List A) (m : ℕ) (w : A) → length d ≡ suc m → w ⊗ get_or d m 𝟘 ≡ 𝟙 →
       (p : List A) (x : A) →

@@ -38,15 +38,6 @@ module _ {A : Type 0} (F : FieldOf A) (laws : IsField F) where
       solve laws.ring (a ∷ x ∷ value F r x ∷ value F (shifted F s c) x ∷ value F d x ∷ [])
       (v 0 ⊞ (v 1 ⊡ (v 2 ⊞ (v 3 ⊡ v 4)))) ((v 0 ⊞ (v 1 ⊡ v 2)) ⊞ ((o ⊞ (v 1 ⊡ v 3)) ⊡ v 4)) refl
 
-  -- what is added to the front leaves the rest
-  plus-front : (u w e : List A) → length e ≤ length u → plus F (u ++ w) e ≡ plus F u e ++ w
-  unfolding plus
-  plus-front [] [] [] h = refl
-  plus-front [] (b ∷ w) [] h = refl
-  plus-front [] w (c ∷ e) h = absurd (omega arith)
-  plus-front (a ∷ u) w [] h = refl
-  plus-front (a ∷ u) w (c ∷ e) h = ap (λ t. F.add a c ∷ t) (plus-front u w e (omega arith))
-
   -- the front of such a sum
   pub take-added : (r e : List A) (s n : ℕ) → s + length e ≡ n → n ≤ length r →
       take n (take s r ++ plus F (drop s r) e) ≡ take s (take n r) ++ plus F (drop s (take n r)) e

@@ -66,8 +66,8 @@ pub fn one_takes_values<T>()
         Takes F (interpolate F points values) points values }
 {}
 
-/// Two polynomials of degree below `keep` that each agree with a word of N places, some of them absent, at N - `wrong` places
-/// are one, if N - 2 `wrong` is `keep` or more.
+/// Two polynomials of degree below `keep` that each agree with a word of N places, some of them absent, at N
+/// - `wrong` places are one, if N - 2 `wrong` is `keep` or more.
 pub fn at_most_one_is_near<T>()
     ensures { (F : FieldOf T) → IsField F → (points p q : List T) (seen : List (Option T)) (keep wrong : ℕ)
         → Apart points →
@@ -77,7 +77,8 @@ pub fn at_most_one_is_near<T>()
         trim F p ≡ trim F q }
 {}
 
-/// Division with remainder, by a polynomial of degree `m`: what it gives makes up the dividend, and the remainder has degree below `m`.
+/// Division with remainder, by a polynomial of degree `m`: what it gives makes up the dividend, and the
+/// remainder has degree below `m`.
 pub fn division_gives_dividend_back<T>()
     ensures dividend { (F : FieldOf T) → IsField F → (p d : List T) (m : ℕ) → length d ≡ m + 1
         → get_or d m F.zero ≢ F.zero → (x : T) →
@@ -88,8 +89,8 @@ pub fn division_gives_dividend_back<T>()
         → length (remainder F d m w p) ≤ m }
 {}
 
-/// The first row of Euclid's algorithm, on the product of all x + point and the interpolating polynomial, of degree below `below`:
-/// its degrees, its equation, and that its cofactor is not 0.
+/// The first row of Euclid's algorithm, on the product of all x + point and the interpolating polynomial, of
+/// degree below `below`: its degrees, its equation, and that its cofactor is not 0.
 pub fn first_row_solves_key_equation<T>()
     ensures { (F : FieldOf T) → IsField F → IsEndless T → (points values r f : List T) (below : ℕ)
         → Apart points →
@@ -98,9 +99,10 @@ pub fn first_row_solves_key_equation<T>()
         IsKeyEquation F points values below r f }
 {}
 
-/// 'Divide, look at the degree, count' is exact: where a polynomial of degree below `keep` takes all values but `fix`, it is the one
-/// quotient of the first row by its cofactor. So where there is no quotient, or one of a higher degree or that agrees too seldom,
-/// no polynomial does. Each bound `below` from `fix + keep` to N - `fix` serves.
+/// 'Divide, look at the degree, count' is exact: where a polynomial of degree below `keep` takes all values
+/// but `fix`, it is the one quotient of the first row by its cofactor. So where there is no quotient, or one
+/// of a higher degree or that agrees too seldom, no polynomial does. Each bound `below` from `fix + keep` to
+/// N - `fix` serves.
 pub fn quotient_of_first_row_decodes<T>()
     ensures divides { (F : FieldOf T) → IsField F → IsEndless T
         → (points values r f p : List T) (keep fix below : ℕ) → Apart points →

@@ -9,15 +9,15 @@ ghost use Rattle.command_defs.specs.Commands.{Answers};
 ghost use Rattle.command_laws.specs.Ends.{opens_store};
 ghost use Rattle.answer_laws.specs.Judged.{Judged, JudgedByInit, AnsweredFor};
 
-/// Any bytes are no store, or those of a store whose records a start accepts, or there is a first place at which they are neither. An
-/// init finds them free, or a store, or bad at a first place.
+/// Any bytes are no store, or those of a store whose records a start accepts, or there is a first place at
+/// which they are neither. An init finds them free, or a store, or bad at a first place.
 pub fn any_bytes_are_judged()
     ensures start { (bytes : List ℕ) → AreBytes bytes → Judged bytes }
     ensures init { (bytes : List ℕ) → AreBytes bytes → JudgedByInit bytes }
 {}
 
-/// Whatever bytes a disk tells that does not fail, a command over a store tells what they are, or it runs over the records that they stand
-/// for, or it found no memory.
+/// Whatever bytes a disk tells that does not fail, a command over a store tells what they are, or it runs
+/// over the records that they stand for, or it found no memory.
 pub fn any_disk_is_answered_for()
     ensures { (command : Command) (cells : Cells) (old new : Seen) (end : Ending)
         → Answers command old new end → opens_store command ≡ true →

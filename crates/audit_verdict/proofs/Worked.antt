@@ -26,18 +26,21 @@ right-itself o bytes c j some size = go (right_answer o bytes j c) refl
     go : (answer : Option ℕ) → right_answer o bytes j c ≡ answer → is_right o bytes c j answer ≡ true
     go None e =
         let f : None ≡ Some (value (right_row o bytes c) (point o j)) =
-        sym (ap (bare_answer o c j) e ∙ bare-absent o c j) ∙ (IsRightRow-right_row o bytes c some size).values j in
+        sym (ap (bare_answer o c j) e ∙ bare-absent o c j)
+        ∙ (IsRightRow-right_row o bytes c some size).values j in
         absurd cc
     go (Some x) e = ap (is_seen x) e ∙ seen-same x
 
 -- one of the four answers is not right
-one-wrong : (master bytes : List ℕ) → wrong_answers (example master) bytes (one_pick master bytes) (three_heard master bytes) ≡ 1
+one-wrong : (master bytes : List ℕ) →
+    wrong_answers (example master) bytes (one_pick master bytes) (three_heard master bytes) ≡ 1
 one-wrong master bytes =
     let at = λ (j : ℕ). right-itself (example master) bytes (one_pick master bytes) j (omega arith) refl in
     simp (at 0, at 1, at 2) refl
 
 -- of the four answers of the worked round few are wrong
-pub few-wrong : (master bytes : List ℕ) → HasFewWrong (example master) bytes (one_pick master bytes) (three_heard master bytes)
+pub few-wrong : (master bytes : List ℕ) →
+    HasFewWrong (example master) bytes (one_pick master bytes) (three_heard master bytes)
 few-wrong master bytes = record {
   shape = example-shape;
   some_size = omega arith;
@@ -47,33 +50,41 @@ few-wrong master bytes = record {
 }
 
 -- a right answer agrees
-agrees : (master bytes : List ℕ) (j : ℕ) → is_seen (value (right_row (example master) bytes (one_pick master bytes)) (point (example master) j))
-    (bare_answer (example master) (one_pick master bytes) j (right_answer (example master) bytes j (one_pick master bytes))) ≡ true
+agrees : (master bytes : List ℕ) (j : ℕ) →
+    is_seen (value (right_row (example master) bytes (one_pick master bytes)) (point (example master) j))
+    (bare_answer (example master) (one_pick master bytes) j
+    (right_answer (example master) bytes j (one_pick master bytes))) ≡ true
 agrees master bytes j =
     ap (is_seen (value (right_row (example master) bytes (one_pick master bytes)) (point (example master) j)))
     ((IsRightRow-right_row (example master) bytes (one_pick master bytes) (omega arith) refl).values j)
     ∙ seen-same (value (right_row (example master) bytes (one_pick master bytes)) (point (example master) j))
 
 -- so the fourth counts
-counts-one : (master bytes : List ℕ) → counts_after (right_row (example master) bytes (one_pick master bytes)) (points (example master))
-    (bare_answers (example master) (one_pick master bytes) 0 (three_heard master bytes)) (0 ∷ 0 ∷ 0 ∷ 0 ∷ []) ≡ 0 ∷ 0 ∷ 0 ∷ 1 ∷ []
+counts-one : (master bytes : List ℕ) →
+    counts_after (right_row (example master) bytes (one_pick master bytes)) (points (example master))
+    (bare_answers (example master) (one_pick master bytes) 0 (three_heard master bytes)) (0 ∷ 0 ∷ 0 ∷ 0 ∷ [])
+    ≡ 0 ∷ 0 ∷ 0 ∷ 1 ∷ []
 counts-one master bytes =
     simp (
       agrees master bytes 0,
       agrees master bytes 1,
       agrees master bytes 2,
       bare-absent (example master) (one_pick master bytes) 3,
-      is_seen-none (value (right_row (example master) bytes (one_pick master bytes)) (point (example master) 3)),
+      is_seen-none (value (right_row (example master) bytes (one_pick master bytes))
+          (point (example master) 3)),
     ) refl
 
 -- the worked round counts its one wrong provider
-pub judged-one : (master bytes : List ℕ) → Judges (example master) (one_pick master bytes) (three_heard master bytes)
-    (record { counts = 0 ∷ 0 ∷ 0 ∷ 0 ∷ []; undecided = 0 }) (record { counts = 0 ∷ 0 ∷ 0 ∷ 1 ∷ []; undecided = 0 })
+pub judged-one : (master bytes : List ℕ) →
+    Judges (example master) (one_pick master bytes) (three_heard master bytes)
+    (record { counts = 0 ∷ 0 ∷ 0 ∷ 0 ∷ []; undecided = 0 })
+    (record { counts = 0 ∷ 0 ∷ 0 ∷ 1 ∷ []; undecided = 0 })
 judged-one master bytes =
     let few = few-wrong master bytes in
     inl (
       right_row (example master) bytes (one_pick master bytes),
-      right-decides (example master) bytes (one_pick master bytes) (three_heard master bytes) few.shape few.some_size few.size few.all_heard few.few,
+      right-decides (example master) bytes (one_pick master bytes)
+          (three_heard master bytes) few.shape few.some_size few.size few.all_heard few.few,
       ap (λ (counts : List ℕ). record { counts = counts; undecided = 0 }) (sym (counts-one master bytes)),
     )
 
@@ -81,11 +92,13 @@ judged-one master bytes =
 off-by_one : (x : ℕ) → nim_add 1 x ≢ x
 off-by_one x e =
     let zero : nim_add (nim_add 1 x) x ≡ 0 = ap (λ y. nim_add y x) e ∙ nim_ring.add_self x in
-    let one : nim_add (nim_add 1 x) x ≡ 1 = nim_ring.add_assoc 1 x x ∙ ap (nim_add 1) (nim_ring.add_self x) ∙ nim_ring.add_zero 1 in
+    let one : nim_add (nim_add 1 x) x ≡ 1 = nim_ring.add_assoc 1 x x ∙ ap (nim_add 1) (nim_ring.add_self x)
+    ∙ nim_ring.add_zero 1 in
     omega (arith, zero, one)
 
 -- at a place of a block that is off by 1
-off-at : (block : List ℕ) (place : ℕ) → place < length block → slice_get (map (nim_add 1) block) place ≢ slice_get block place
+off-at : (block : List ℕ) (place : ℕ) → place < length block →
+    slice_get (map (nim_add 1) block) place ≢ slice_get block place
 off-at [] place h e = absurd (omega (arith, h))
 off-at (x ∷ block) zero h e = off-by_one x cc
 off-at (x ∷ block) (suc place) h e = off-at block place (omega (arith, h)) e
@@ -96,7 +109,8 @@ length-off [] = refl
 length-off (x ∷ block) = ap suc (length-off block)
 
 -- what stands in a block of the size
-at-size : (block : List ℕ) (size place : ℕ) → length block ≡ size → symbol_at size place (Some block) ≡ slice_get block place
+at-size : (block : List ℕ) (size place : ℕ) → length block ≡ size →
+    symbol_at size place (Some block) ≡ slice_get block place
 at-size block size place e = ap (λ b. if b then slice_get block place else None) (same (length block) size e)
   where
     same : (m n : ℕ) → m ≡ n → (m == n) ≡ true
@@ -113,9 +127,11 @@ differs-once master bytes = record {
 }
   where
     long : (stripe : ℕ) → length (columns (example master) bytes 3 stripe) ≡ 6
-    long stripe = length-column_of_symbols (example master) (symbols_in (example master) bytes stripe) 3 stripe
+    long stripe = length-column_of_symbols (example master)
+        (symbols_in (example master) bytes stripe) 3 stripe
 
-    other : (row : ℕ) → held_symbol 6 (λ stripe. Some (map (nim_add 1) (columns (example master) bytes 3 stripe))) row
+    other : (row : ℕ) → held_symbol 6
+        (λ stripe. Some (map (nim_add 1) (columns (example master) bytes 3 stripe))) row
         ≢ own_symbol (example master) bytes 3 6 row
     other row e =
         let block = columns (example master) bytes 3 (row / 6) in

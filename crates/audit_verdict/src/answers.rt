@@ -65,7 +65,8 @@ fn bare_answer(
     }
 }
 
-/// Fills `out` with the answers of all providers, to a challenge that was drawn, with their mask sums taken off.
+/// Fills `out` with the answers of all providers, to a challenge that was drawn, with their mask sums taken
+/// off.
 pub fn bare_answers_into(
     master: &Master,
     file: &FileShape,

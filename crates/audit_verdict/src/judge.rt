@@ -15,10 +15,12 @@ use hail_poly::Work;
 use key_schedule::Master;
 use record_codec::Counts;
 
-/// Adds a round of audit `number` to `counts` and `undecided`. `heard` has what the providers answered to the challenge of
-/// the round, which picks `picks` rows of the file. Where a polynomial of degree below `l` agrees with all but `b` of the
-/// answers without their mask sums, each provider whose answer is absent or does not agree counts one more; else the round
-/// is one more undecided one, and nobody counts. What stands behind the counts of the `n` providers stays. The file must have a row (`FileShape::rows`). It takes no memory.
+/// Adds a round of audit `number` to `counts` and `undecided`. `heard` has what the providers answered to the
+/// challenge of the round, which picks `picks` rows of the file. Where a polynomial of degree below `l`
+/// agrees with all but `b` of the answers without their mask sums, each provider whose answer is absent or
+/// does not agree counts one more; else the round is one more undecided one, and nobody counts. What stands
+/// behind the counts of the `n` providers stays. The file must have a row (`FileShape::rows`). It takes no
+/// memory.
 pub fn judge_round(
     master: &Master,
     file: &FileShape,

@@ -9,7 +9,8 @@ ghost use Rattle.column_laws.specs.Example.{example};
 ghost use Rattle.audit_verdict.specs.Rounds.{answer_of, HasFewWrong, DiffersOnce, count_of_provider};
 ghost use Rattle.audit_verdict.specs.Example.{one_pick, three_heard};
 
-/// The right answers to a challenge, with the mask sums taken off, are the values of one polynomial of degree below `l`.
+/// The right answers to a challenge, with the mask sums taken off, are the values of one polynomial of degree
+/// below `l`.
 pub use aggregate::laws::right_answers_are_a_row;
 
 /// A round in which at most `b` answers are not right is decided.
@@ -27,8 +28,8 @@ pub fn right_answers_are_not_counted()
         answer_of heard j ≡ right_answer o bytes j c → count_of_provider new j ≡ count_of_provider old j }
 {}
 
-/// In such a round a provider is counted whose answer is absent, or is honest over blocks of which exactly one pick falls on a
-/// symbol that differs from the provider's own.
+/// In such a round a provider is counted whose answer is absent, or is honest over blocks of which exactly
+/// one pick falls on a symbol that differs from the provider's own.
 pub fn wrong_answers_are_counted()
     ensures absent { (o : Object) (bytes : List ℕ) (c : Challenge) (heard : List (Option ℕ))
         (old new : Sums) (j : ℕ) →
@@ -44,8 +45,9 @@ pub fn wrong_answers_are_counted()
         count_of_provider new j ≡ count_of_provider old j + 1 }
 {}
 
-/// An instance, for each master key and file: to a challenge of one pick three of four providers answer rightly and the fourth does
-/// not answer. It is decided, and the fourth counts. Blocks that are off by 1 everywhere differ in that one pick.
+/// An instance, for each master key and file: to a challenge of one pick three of four providers answer
+/// rightly and the fourth does not answer. It is decided, and the fourth counts. Blocks that are off by 1
+/// everywhere differ in that one pick.
 pub fn one_absent_answer_of_four_counts()
     ensures few { (master bytes : List ℕ) →
         HasFewWrong (example master) bytes (one_pick master bytes) (three_heard master bytes) }

@@ -80,14 +80,16 @@ impl Challenge {
         }
     }
 
-    /// The weight of the challenge: the symbol of the words 0 to 3, the first word lowest, and 1 if these are all 0.
+    /// The weight of the challenge: the symbol of the words 0 to 3, the first word lowest, and 1 if these are
+    /// all 0.
     pub fn alpha(&self) -> Symbol
         ensures { result ≡ spec.alpha self.now.seed }
     {
         self.draw().weight
     }
 
-    /// The row of pick `k`, below `rows`: the number of the words `4 + 2 * k`, the low one, and `5 + 2 * k`, modulo `rows`.
+    /// The row of pick `k`, below `rows`: the number of the words `4 + 2 * k`, the low one, and `5 + 2 * k`,
+    /// modulo `rows`.
     pub fn row(&self, k: u32) -> u64
         requires { k < self.now.picks }
         ensures value { result ≡ spec.picked_row self.now.seed self.now.rows k }

@@ -5,7 +5,8 @@ ghost use Rattle.challenge.specs.Rows.{AreRows, AreBelow};
 use crate::question::Challenge;
 use hail_field::Symbol;
 
-/// A challenge with its weight and with the rows of its picks, the first `picks` of `rows`, read off one generator.
+/// A challenge with its weight and with the rows of its picks, the first `picks` of `rows`, read off one
+/// generator.
 #[derive(Clone, Copy, Debug, PartialEq, Eq)]
 pub struct Drawn {
     pub challenge: Challenge,

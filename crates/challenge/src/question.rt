@@ -1,7 +1,7 @@
 ghost use Rattle.std.specs.Prelude.{◌≤◌, ◌^◌};
 
-/// A challenge to a file of `rows` rows, of which it picks `picks`, in blocks of `size` symbols. Its picks and weights
-/// are words of stream 0 of ChaCha20 (RFC 8439) under its seed.
+/// A challenge to a file of `rows` rows, of which it picks `picks`, in blocks of `size` symbols. Its picks
+/// and weights are words of stream 0 of ChaCha20 (RFC 8439) under its seed.
 #[derive(Clone, Copy, Debug, PartialEq, Eq)]
 pub struct Challenge {
     pub seed: [u8; 32],

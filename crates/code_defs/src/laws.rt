@@ -9,8 +9,9 @@ ghost use Rattle.code_defs.specs.ServerCode.{IsNear};
 ghost use Rattle.code_defs.specs.DispersalCode.{Accepts};
 ghost use Rattle.code_defs.specs.Polynomials.{value, vanish, interpolate, trim, agree, TakesSymbols};
 
-/// The points 0 and 1 are apart, and 1 + 2 x takes the values 1 and 3 there: it is the interpolating polynomial, spelt with a zero
-/// at its end too, and divided by 1 + x, whose leading coefficient is not 0, it leaves 3.
+/// The points 0 and 1 are apart, and 1 + 2 x takes the values 1 and 3 there: it is the interpolating
+/// polynomial, spelt with a zero at its end too, and divided by 1 + x, whose leading coefficient is not 0, it
+/// leaves 3.
 pub fn a_line_is_determined()
     ensures field { IsField nim × IsEndless ℕ × Apart {A = ℕ} (0 ∷ 1 ∷ []) }
     ensures takes { TakesSymbols (1 ∷ 2 ∷ []) (0 ∷ 1 ∷ []) (1 ∷ 3 ∷ []) }
@@ -20,9 +21,10 @@ pub fn a_line_is_determined()
     ensures divided { (x : ℕ) → value (1 ∷ 2 ∷ []) x ≡ nim_add (nim_mul 2 (value (1 ∷ 1 ∷ []) x)) 3 }
 {}
 
-/// The polynomial 1 of one coefficient takes the values 1, 1, 1, 2 at the points 0, 1, 2, 3 but for one, and is near them. Euclid's
-/// algorithm comes in one step to the row of 1 + 2 x and its cofactor 1 + 2 x, with the bound 2: it is between 1 + 1 and 4 - 1,
-/// though below half of 4 + 1. So the row is its cofactor times the polynomial 1.
+/// The polynomial 1 of one coefficient takes the values 1, 1, 1, 2 at the points 0, 1, 2, 3 but for one, and
+/// is near them. Euclid's algorithm comes in one step to the row of 1 + 2 x and its cofactor 1 + 2 x, with
+/// the bound 2: it is between 1 + 1 and 4 - 1, though below half of 4 + 1. So the row is its cofactor times
+/// the polynomial 1.
 pub fn one_wrong_of_four_is_decoded()
     ensures bounds { (1 + 1 ≤ 2) × (2 + 1 ≤ 4) × ¬ (4 + 1 ≤ 2 * 2) × (1 + 2 * 1 ≤ 4) }
     ensures apart { Apart {A = ℕ} (0 ∷ 1 ∷ 2 ∷ 3 ∷ []) }
@@ -35,8 +37,9 @@ pub fn one_wrong_of_four_is_decoded()
     ensures divides { (x : ℕ) → value (1 ∷ 2 ∷ []) x ≡ nim_mul (value (1 ∷ 2 ∷ []) x) (value (1 ∷ []) x) }
 {}
 
-/// The coefficients of a polynomial near a block of symbols are symbols, and so are those of one that is accepted for symbols seen at
-/// points that are symbols and apart: it takes symbols at as many points as it has coefficients.
+/// The coefficients of a polynomial near a block of symbols are symbols, and so are those of one that is
+/// accepted for symbols seen at points that are symbols and apart: it takes symbols at as many points as it
+/// has coefficients.
 pub fn coefficients_are_symbols()
     ensures near { (number : ℕ) (block p : List ℕ) → All is_symbol block
         → IsNear (profile_of number) block p → All is_symbol p }
@@ -46,8 +49,8 @@ pub fn coefficients_are_symbols()
         → All is_symbol p }
 {}
 
-/// An instance: 1 is near the block of six symbols 1 of the first profile, and is accepted for the symbols 1, 1, 1, 2 at the points
-/// 0, 1, 2, 3 with one of degree 0 and one wrong.
+/// An instance: 1 is near the block of six symbols 1 of the first profile, and is accepted for the symbols 1,
+/// 1, 1, 2 at the points 0, 1, 2, 3 with one of degree 0 and one wrong.
 pub fn ones_are_opened()
     ensures block { All is_symbol (1 ∷ 1 ∷ 1 ∷ 1 ∷ 1 ∷ 1 ∷ []) }
     ensures near { IsNear (profile_of 0) (1 ∷ 1 ∷ 1 ∷ 1 ∷ 1 ∷ 1 ∷ []) (1 ∷ []) }

@@ -53,7 +53,8 @@ fn kept_row(place: usize, out: &mut [Symbol])
     out[place] = Symbol::ONE;
 }
 
-/// Fills `out` with the multipliers of the kept points among these, in order: `parity_row` takes them for each row.
+/// Fills `out` with the multipliers of the kept points among these, in order: `parity_row` takes them for
+/// each row.
 pub fn kept_multipliers(profile: Profile, out: &mut [u8])
     requires { length out.old ≡ profile.keep }
     ensures { AreKeptMultipliers profile.keep out.new }
@@ -63,8 +64,8 @@ pub fn kept_multipliers(profile: Profile, out: &mut [u8])
     }
 }
 
-/// Fills `out` with the coefficients by which the codeword's symbol at a place behind the kept ones is a sum over the kept symbols, by
-/// Lagrange's formula. They are bytes.
+/// Fills `out` with the coefficients by which the codeword's symbol at a place behind the kept ones is a sum
+/// over the kept symbols, by Lagrange's formula. They are bytes.
 pub fn parity_row(profile: Profile, multipliers: &[u8], place: u32, out: &mut [Symbol])
     requires behind { profile.keep ≤ place }
     requires place { place < profile.size }
@@ -107,8 +108,8 @@ fn parity_row_in_front(profile: Profile, place: u32, room: &mut [u8], out: &mut 
     parity_row_within(profile, place, &mut room[..profile.keep as usize], out);
 }
 
-/// Fills `out` with the coefficients by which the codeword's symbol at `place` is a sum over the kept symbols.
-/// They are bytes, since the points are.
+/// Fills `out` with the coefficients by which the codeword's symbol at `place` is a sum over the kept
+/// symbols. They are bytes, since the points are.
 pub fn generator_row(profile: Profile, place: u32, out: &mut [Symbol])
     requires place { place < profile.size }
     requires out { length out.old ≡ profile.keep }

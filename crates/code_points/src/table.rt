@@ -7,7 +7,8 @@ use hail_field::Symbol;
 /// The multipliers of profile 0, by place.
 const FIRST: [u8; 6] = [3, 3, 2, 2, 1, 1];
 
-/// The inverse of the product, over all other points of the profile, of the point at `place` plus that point. It is a byte.
+/// The inverse of the product, over all other points of the profile, of the point at `place` plus that point.
+/// It is a byte.
 pub fn byte_multiplier(profile: Profile, place: u32) -> u8
     requires { place < profile.size }
     ensures { result ≡ multiplier_of place (upto profile.size) }

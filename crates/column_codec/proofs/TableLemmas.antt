@@ -21,7 +21,8 @@ next_power h = let e : 4 * (h + 1) ≡ 4 * h + 4 = omega arith in ap (λ n. 2 ^ 
 
 -- one half byte more of the rest
 pub next_rest : (x rest h : ℕ) → rest ≡ x / 2 ^ (4 * h) → rest / 16 ≡ x / 2 ^ (4 * (h + 1))
-next_rest x rest h e = ap (λ n. n / 16) e ∙ div-div-eq-div-mul x (2 ^ (4 * h)) 16 ∙ ap (λ n. x / n) (sym (next_power h))
+next_rest x rest h e =
+    ap (λ n. n / 16) e ∙ div-div-eq-div-mul x (2 ^ (4 * h)) 16 ∙ ap (λ n. x / n) (sym (next_power h))
 
 -- what a place of a half byte holds
 pub product_at-place : (c h v : ℕ) → v < 16 → product_at c (16 * h + v) ≡ nim_mul c (v * 2 ^ (4 * h))
@@ -30,12 +31,14 @@ product_at-place c h v small =
     ap (product_at c) e ∙ (λ i. nim_mul c (mod-mul-add h 16 v small i * 2 ^ (4 * div-mul-add h 16 v small i)))
 
 -- one half byte more of a product
-pub product_more : (c x h sum rest y : ℕ) → sum ≡ nim_mul c (x % 2 ^ (4 * h)) → rest ≡ x / 2 ^ (4 * h) → y ≡ product_at c (16 * h + rest % 16) →
+pub product_more : (c x h sum rest y : ℕ) → sum ≡ nim_mul c (x % 2 ^ (4 * h)) → rest ≡ x / 2 ^ (4 * h) →
+    y ≡ product_at c (16 * h + rest % 16) →
     nim_add sum y ≡ nim_mul c (x % 2 ^ (4 * (h + 1)))
 product_more c x h sum rest y es er ey =
     let p = 2 ^ (4 * h) in
     let digit = x / p % 16 in
-    (λ i. nim_add (es i) ((ey ∙ ap (λ r. product_at c (16 * h + r % 16)) er ∙ product_at-place c h digit (mod_below (x / p) 16 (omega arith))) i))
+    (λ i. nim_add (es i) ((ey ∙ ap (λ r. product_at c (16 * h + r % 16)) er
+    ∙ product_at-place c h digit (mod_below (x / p) 16 (omega arith))) i))
     ∙ sym (nim_ring.mul_add c (x % p) (digit * p))
     ∙ ap (nim_mul c) (add_above digit (4 * h) (x % p) (mod_below x p (pow_pos (4 * h)))
     ∙ sym (mod-mul x {m = 16} {c = p} (omega arith) (pow_pos (4 * h)))
@@ -50,10 +53,14 @@ product_split c h k v bit is within highest small =
     let sum : low + bit ≡ v = omega (arith, within) in
     let place : 2 ^ (k + 4 * h) ≡ bit * p = pow-add 2 k (4 * h) ∙ ap (λ n. n * p) (sym is) in
     let high : bit * p ≡ 1 * 2 ^ (k + 4 * h) = omega (arith, place) in
-    let below : low * p < 2 ^ (k + 4 * h) = subst (λ (n : ℕ). low * p < n) (sym place) (mul-lt-mul_of_pos_right {m = low} {n = bit} {k = p} (omega (arith, within, highest)) (pow_pos (4 * h))) in
-    (λ i. nim_add (product_at-place c h low (omega (arith, within, small)) i) (product_at-place c h bit (omega (arith, within, small)) i))
+    let below : low * p < 2 ^ (k + 4 * h) = subst (λ (n : ℕ). low * p < n) (sym place)
+    (mul-lt-mul_of_pos_right {m = low} {n = bit} {k = p} (omega (arith, within, highest))
+    (pow_pos (4 * h))) in
+    (λ i. nim_add (product_at-place c h low (omega (arith, within, small)) i)
+    (product_at-place c h bit (omega (arith, within, small)) i))
     ∙ sym (nim_ring.mul_add c (low * p) (bit * p))
-    ∙ ap (nim_mul c) (ap (nim_add (low * p)) high ∙ add_above 1 (k + 4 * h) (low * p) below ∙ ap (λ n. n + low * p) (sym high)
+    ∙ ap (nim_mul c) (ap (nim_add (low * p)) high ∙ add_above 1 (k + 4 * h) (low * p) below
+    ∙ ap (λ n. n + low * p) (sym high)
     ∙ grind (arith, sum))
     ∙ sym (product_at-place c h v small)
 
@@ -63,10 +70,12 @@ mul-none c x = sym (ap (nim_mul c) (let e : x % 1 ≡ 0 = omega arith in e) ∙ 
 
 -- no bit, no product
 pub product_at-zero : (c place : ℕ) → place % 16 ≡ 0 → product_at c place ≡ 0
-product_at-zero c place none = ap (λ v. nim_mul c (v * 2 ^ (4 * (place / 16)))) none ∙ ap (nim_mul c) (let e : 0 * 2 ^ (4 * (place / 16)) ≡ 0 = omega arith in e) ∙ nim_ring.mul_zero c
+product_at-zero c place none = ap (λ v. nim_mul c (v * 2 ^ (4 * (place / 16)))) none
+    ∙ ap (nim_mul c) (let e : 0 * 2 ^ (4 * (place / 16)) ≡ 0 = omega arith in e) ∙ nim_ring.mul_zero c
 
 -- the same of a place
-pub product_at-sum : (c k place first second : ℕ) → first ≡ place - 2 ^ k → second ≡ place - place % 16 + 2 ^ k → 2 ^ k ≤ place % 16 → place % 16 < 2 * 2 ^ k →
+pub product_at-sum : (c k place first second : ℕ) → first ≡ place - 2 ^ k →
+    second ≡ place - place % 16 + 2 ^ k → 2 ^ k ≤ place % 16 → place % 16 < 2 * 2 ^ k →
     nim_add (product_at c first) (product_at c second) ≡ product_at c place
 product_at-sum c k place first second is_first is_second within highest =
     let h = place / 16 in

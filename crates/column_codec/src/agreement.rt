@@ -92,7 +92,8 @@ impl ObjectKeys {
         }
     }
 
-    /// The first kept place whose row, by these primary symbols, too few providers agree with; none where all are accepted.
+    /// The first kept place whose row, by these primary symbols, too few providers agree with; none where all
+    /// are accepted.
     pub(crate) fn uncarried(
         &self,
         marks: &[bool; 16],

@@ -37,7 +37,8 @@ impl ObjectKeys {
         code.is_codeword(out)
     }
 
-    /// The mark of a provider after a look at its block, if one is wanted: whether it is a codeword as it was seen.
+    /// The mark of a provider after a look at its block, if one is wanted: whether it is a codeword as it was
+    /// seen.
     fn look_present(
         &self,
         code: &AnyCode,
@@ -80,8 +81,8 @@ impl ObjectKeys {
         )
     }
 
-    /// Marks blocks of some providers that are codewords as they were seen, until there are `most` of them, and tells how many
-    /// are marked.
+    /// Marks blocks of some providers that are codewords as they were seen, until there are `most` of them,
+    /// and tells how many are marked.
     fn mark_clean(
         &self,
         code: &AnyCode,
@@ -126,8 +127,9 @@ impl ObjectKeys {
         count
     }
 
-    /// Marks further blocks of some providers, until there are `most`, and fills `rows` with the symbols of the stripe where
-    /// enough are marked and agree on them, trying `more` guesses after the first. Where it is false, nothing is said.
+    /// Marks further blocks of some providers, until there are `most`, and fills `rows` with the symbols of
+    /// the stripe where enough are marked and agree on them, trying `more` guesses after the first. Where it
+    /// is false, nothing is said.
     fn carry_marked(
         &self,
         code: &AnyCode,
@@ -171,9 +173,9 @@ impl ObjectKeys {
         self.carry(marks, scratch, more, trust, rows, work)
     }
 
-    /// Fills `rows` with the symbols of a stripe where enough blocks are codewords as they were seen and agree on them; where
-    /// it is false, nothing is said. Those of trusted providers are looked at first, the others only where these are too few
-    /// or don't agree.
+    /// Fills `rows` with the symbols of a stripe where enough blocks are codewords as they were seen and
+    /// agree on them; where it is false, nothing is said. Those of trusted providers are looked at first, the
+    /// others only where these are too few or don't agree.
     pub(crate) fn carry_clean(
         &self,
         code: &AnyCode,

@@ -16,7 +16,8 @@ use key_schedule::Master;
 use server_code::AnyCode;
 
 impl ObjectKeys {
-    /// Fills `rows` with the symbols of a stripe of a file of these bytes, in layout order. Those past the end are zero.
+    /// Fills `rows` with the symbols of a stripe of a file of these bytes, in layout order. Those past the
+    /// end are zero.
     #[tactic(auto, using(crate::proofs::Places::stripe_small, crate::proofs::RowLemmas::profile_small))]
     pub fn symbols_into(&self, stripe: u32, bytes: &[u8], rows: &mut [Symbol])
         requires { length rows.old ≡ self.now.file.shape.l * self.now.file.profile.keep }
@@ -48,10 +49,11 @@ impl ObjectKeys {
         }
     }
 
-    /// Fills the blocks that the providers are to hold of a stripe of a file of these bytes (HAIL, 2009): n blocks of as many
-    /// symbols as the profile has, in the order of providers, with masks on the secondary ones. Bytes past the file's end
-    /// count as zeros. It takes no memory and refuses nothing. Blocks keep their sizes, so the next stripe can be made in
-    /// them; `masks` spares making masks again, and decides nothing.
+    /// Fills the blocks that the providers are to hold of a stripe of a file of these bytes (HAIL, 2009): n
+    /// blocks of as many symbols as the profile has, in the order of providers, with masks on the secondary
+    /// ones. Bytes past the file's end count as zeros. It takes no memory and refuses nothing. Blocks keep
+    /// their sizes, so the next stripe can be made in them; `masks` spares making masks again, and decides
+    /// nothing.
     #[tactic(auto, using(crate::proofs::Places::stripe_small, crate::proofs::RowLemmas::profile_small))]
     pub fn encode_stripe(
         &self,
@@ -77,8 +79,9 @@ impl ObjectKeys {
     }
 }
 
-/// Leaves in `out` the blocks that the providers are to hold of a stripe of a file of these bytes, with masks. It takes
-/// no memory. Where more stripes of one object are made, `ObjectKeys` saves deriving its keys each time.
+/// Leaves in `out` the blocks that the providers are to hold of a stripe of a file of these bytes, with
+/// masks. It takes no memory. Where more stripes of one object are made, `ObjectKeys` saves deriving its keys
+/// each time.
 pub fn encode_stripe(
     master: &Master,
     file: &FileShape,
@@ -102,7 +105,8 @@ pub fn encode_stripe(
     keys.encode_stripe(code, stripe, bytes, &mut MasksAtHand::new(), out);
 }
 
-/// Fills `out` with one provider's block of the stripe whose symbols are `rows`, in layout order. It takes no memory.
+/// Fills `out` with one provider's block of the stripe whose symbols are `rows`, in layout order. It takes no
+/// memory.
 pub fn column_block(
     master: &Master,
     file: &FileShape,

@@ -1,4 +1,5 @@
-//! A guess at the symbols of a stripe. Nothing is said of it but that it is one: whether it is right is counted afterwards.
+//! A guess at the symbols of a stripe. Nothing is said of it but that it is one: whether it is right is
+//! counted afterwards.
 ghost use Rattle.std.specs.Prelude.{◌≡◌, ◌≤◌, ◌<◌, IfSome, length};
 
 use crate::block::Block;
@@ -114,7 +115,8 @@ impl ObjectKeys {
         add_each(out, self.kept_of(blocks, provider));
     }
 
-    /// Adds to the symbols of a primary provider those residues, of the first trusted secondary ones, by their shares in it.
+    /// Adds to the symbols of a primary provider those residues, of the first trusted secondary ones, by
+    /// their shares in it.
     fn add_residues(
         &self,
         trusted: &[bool; 16],
@@ -189,8 +191,9 @@ impl ObjectKeys {
         self.fill_lacking(trusted, end, &residues[..lacking], rows);
     }
 
-    /// Fills `rows` with a guess at the symbols of a stripe by the trusted providers: what the primary ones hold, and in the
-    /// place of those that are not trusted what follows from as many trusted secondary ones. False where these are too few.
+    /// Fills `rows` with a guess at the symbols of a stripe by the trusted providers: what the primary ones
+    /// hold, and in the place of those that are not trusted what follows from as many trusted secondary ones.
+    /// False where these are too few.
     pub(crate) fn guess(&self, trusted: &[bool; 16], blocks: &[Block], rows: &mut [Symbol]) -> bool
         requires blocks { length blocks.now ≡ self.now.file.shape.n }
         requires sizes { (j : ℕ) → j < length blocks.now

@@ -9,9 +9,10 @@ use hail_field::{Memory, Shape, Symbol};
 use key_schedule::{Master, file_key, point};
 use std::alloc::Global;
 
-/// What the columns of one object are made with: its points, the weights of the primary symbols at the points of its
-/// secondary providers, and the keys of its masks. They are derived once, so keep this for as long as stripes of the
-/// object are made or opened. With tables of the weights, which take memory, rows take a tenth of the time.
+/// What the columns of one object are made with: its points, the weights of the primary symbols at the points
+/// of its secondary providers, and the keys of its masks. They are derived once, so keep this for as long as
+/// stripes of the object are made or opened. With tables of the weights, which take memory, rows take a tenth
+/// of the time.
 #[derive(Drop)]
 pub struct ObjectKeys {
     pub master: Master,
@@ -77,7 +78,8 @@ impl ObjectKeys {
         }
     }
 
-    /// The same keys with tables of the weights: 8 KiB for each secondary provider and each primary one but the first.
+    /// The same keys with tables of the weights: 8 KiB for each secondary provider and each primary one but
+    /// the first.
     pub fn with_tables(
         alloc: Global,
         master: &Master,
@@ -91,7 +93,8 @@ impl ObjectKeys {
         Ok(keys)
     }
 
-    /// Turns to another object of the same shape and profile. Tables, where there are any, are made anew in their room.
+    /// Turns to another object of the same shape and profile. Tables, where there are any, are made anew in
+    /// their room.
     pub fn turn_to(&mut self, id: u64)
         ensures master { self.new.master ≡ self.old.master }
         ensures id { self.new.file.id ≡ id }

@@ -74,9 +74,9 @@ impl MaskWindow {
     }
 }
 
-/// The masks of sixteen rows of each provider, which are made at once: in blocks of less than sixteen symbols the stripes
-/// that come in sequence share them. Keep one for as long as stripes of an object are made or opened. It decides only what
-/// is made anew, and never what a mask is.
+/// The masks of sixteen rows of each provider, which are made at once: in blocks of less than sixteen symbols
+/// the stripes that come in sequence share them. Keep one for as long as stripes of an object are made or
+/// opened. It decides only what is made anew, and never what a mask is.
 #[derive(Clone, Copy)]
 pub struct MasksAtHand {
     windows: [MaskWindow; 16],
@@ -90,7 +90,8 @@ impl MasksAtHand {
         }
     }
 
-    /// Fills `out`, at most 16 symbols, with the masks of a stripe's rows under a provider's key, as `mask_block` does.
+    /// Fills `out`, at most 16 symbols, with the masks of a stripe's rows under a provider's key, as
+    /// `mask_block` does.
     pub(crate) fn fill(&mut self, provider: usize, key: &[u8; 32], stripe: u32, out: &mut [Symbol])
         requires provider { provider < 16 }
         requires few { length out.old ≤ 16 }

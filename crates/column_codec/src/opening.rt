@@ -66,7 +66,8 @@ fn put_row(work: &Work, keep: usize, place: usize, l: usize, out: &mut [Symbol])
     }
 }
 
-/// The row of this number is not accepted: no polynomial of degree below `l` agrees with enough providers' blocks.
+/// The row of this number is not accepted: no polynomial of degree below `l` agrees with enough providers'
+/// blocks.
 #[derive(Clone, Copy, Debug, PartialEq, Eq)]
 pub struct RowLost {
     pub row: u64,
@@ -129,8 +130,8 @@ impl ObjectKeys {
         }
     }
 
-    /// Marks as a liar each provider that does not agree with the polynomial that a row is accepted with. False where there
-    /// is none.
+    /// Marks as a liar each provider that does not agree with the polynomial that a row is accepted with.
+    /// False where there is none.
     fn learn(
         &self,
         marks: &[bool; 16],
@@ -155,9 +156,9 @@ impl ObjectKeys {
         true
     }
 
-    /// Looks whether all rows at kept places are accepted, and fills `rows` with their values: guesses them by the providers
-    /// that opened, and again, at most so many times more, without those that do not agree with a row that a guess missed,
-    /// which are then no longer trusted. Where it is false, nothing is said.
+    /// Looks whether all rows at kept places are accepted, and fills `rows` with their values: guesses them
+    /// by the providers that opened, and again, at most so many times more, without those that do not agree
+    /// with a row that a guess missed, which are then no longer trusted. Where it is false, nothing is said.
     pub(crate) fn carry(
         &self,
         marks: &[bool; 16],
@@ -262,8 +263,8 @@ impl ObjectKeys {
         }
     }
 
-    /// Opens the seen blocks of a stripe, and fills `rows` with its symbols in layout order. `RowLost` names the lowest row
-    /// at a kept place that is not accepted; `rows` is then all zero.
+    /// Opens the seen blocks of a stripe, and fills `rows` with its symbols in layout order. `RowLost` names
+    /// the lowest row at a kept place that is not accepted; `rows` is then all zero.
     pub fn open_stripe(
         &self,
         code: &AnyCode,
@@ -292,10 +293,11 @@ impl ObjectKeys {
     }
 }
 
-/// Fills `rows` with the symbols of a stripe in layout order, opened from the blocks that were seen of all providers: each
-/// to the codeword near it, each row to the polynomial of degree below `l` that agrees with enough of them. `RowLost`
-/// comes exactly where some row at a kept place is not accepted, with the lowest such row; `rows` is then all zero.
-/// It takes no memory. Where more stripes of one object are opened, `ObjectKeys` saves deriving its keys each time.
+/// Fills `rows` with the symbols of a stripe in layout order, opened from the blocks that were seen of all
+/// providers: each to the codeword near it, each row to the polynomial of degree below `l` that agrees with
+/// enough of them. `RowLost` comes exactly where some row at a kept place is not accepted, with the lowest
+/// such row; `rows` is then all zero. It takes no memory. Where more stripes of one object are opened,
+/// `ObjectKeys` saves deriving its keys each time.
 pub fn open_stripe(
     master: &Master,
     file: &FileShape,

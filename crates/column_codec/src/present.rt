@@ -16,7 +16,8 @@ impl ObjectKeys {
     ghost use Rattle.column_codec.specs.OpenedBlocks.{opened_of};
     ghost use Rattle.column_codec.specs.PresentBlocks.{present_blocks};
 
-    /// Opens the block of one provider, among blocks that lie one after the other, into `out`, if it is present.
+    /// Opens the block of one provider, among blocks that lie one after the other, into `out`, if it is
+    /// present.
     fn open_present_block(
         &self,
         code: &AnyCode,
@@ -99,8 +100,8 @@ impl ObjectKeys {
         marks
     }
 
-    /// Opens a stripe like `open_stripe`, from blocks that lie one after the other in `seen`, one a provider, each with a
-    /// flag in `present`; what lies in the place of an absent one does not count.
+    /// Opens a stripe like `open_stripe`, from blocks that lie one after the other in `seen`, one a provider,
+    /// each with a flag in `present`; what lies in the place of an absent one does not count.
     pub fn open_present(
         &self,
         code: &AnyCode,
@@ -139,7 +140,8 @@ impl ObjectKeys {
         )
     }
 
-    /// The same, begun by the providers that the stripes before left trusted. What it opens to is the same for each trust.
+    /// The same, begun by the providers that the stripes before left trusted. What it opens to is the same
+    /// for each trust.
     pub fn open_trusting(
         &self,
         code: &AnyCode,

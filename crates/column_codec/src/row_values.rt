@@ -37,8 +37,8 @@ impl ObjectKeys {
     ghost use Rattle.file_layout.specs.Files.{shaped_object};
     ghost use Rattle.column_codec.specs.Rows.{row_value};
 
-    /// Adds to each symbol the weight of a primary provider at a secondary one's point times the difference of the two at
-    /// its place.
+    /// Adds to each symbol the weight of a primary provider at a secondary one's point times the difference
+    /// of the two at its place.
     fn add_weighted(
         &self,
         provider: usize,
@@ -67,8 +67,8 @@ impl ObjectKeys {
         }
     }
 
-    /// The values of a stripe's kept rows at a secondary provider's point: the first symbol of each row, and each other
-    /// one's difference from it times its weight.
+    /// The values of a stripe's kept rows at a secondary provider's point: the first symbol of each row, and
+    /// each other one's difference from it times its weight.
     pub(crate) fn kept_into(&self, symbols: &[Symbol], provider: usize, kept: &mut [Symbol])
         requires secondary { self.now.file.shape.l ≤ provider }
         requires provider { provider < self.now.file.shape.n }

@@ -4,8 +4,8 @@ ghost use Rattle.column_codec.specs.Tables.{product_at, HoldsProducts};
 use hail_field::Symbol;
 use std::marker::Model;
 
-/// The products of one constant with the sixteen numbers of each half byte, 8 KiB, by which a product with it takes 32
-/// look-ups. Contracts see it as the constant.
+/// The products of one constant with the sixteen numbers of each half byte, 8 KiB, by which a product with it
+/// takes 32 look-ups. Contracts see it as the constant.
 #[derive(Drop)]
 pub struct ConstantTable {
     constant: Symbol,

@@ -7,8 +7,8 @@ use hail_field::{Memory, Shape, Symbol};
 use std::alloc::{AllocError, Global};
 use std::marker::Model;
 
-/// The tables of the weights of an object that are not 1 less than the others: of each secondary provider those of the
-/// primary ones but the first. Contracts see them as the list of these weights.
+/// The tables of the weights of an object that are not 1 less than the others: of each secondary provider
+/// those of the primary ones but the first. Contracts see them as the list of these weights.
 #[derive(Drop)]
 pub(crate) struct WeightTables {
     items: Vec<ConstantTable>,

@@ -1,8 +1,9 @@
 use crate::guess::lacking;
 
-/// The providers that the stripes before were opened without, since they gave codewords of other symbols. Keep one for as
-/// long as stripes of an object are opened: the next stripe is tried first without their blocks, so that it takes them for
-/// liars once and not in each stripe. It decides only what is looked at first, and never what a stripe opens to.
+/// The providers that the stripes before were opened without, since they gave codewords of other symbols.
+/// Keep one for as long as stripes of an object are opened: the next stripe is tried first without their
+/// blocks, so that it takes them for liars once and not in each stripe. It decides only what is looked at
+/// first, and never what a stripe opens to.
 #[derive(Clone, Copy)]
 pub struct Trust {
     trusted: [bool; 16],
@@ -32,8 +33,8 @@ impl Trust {
         &self.trusted
     }
 
-    /// Loses trust in some providers; and in those that were doubted before no longer, if they would be more than `most` in
-    /// all.
+    /// Loses trust in some providers; and in those that were doubted before no longer, if they would be more
+    /// than `most` in all.
     pub(crate) fn lose(&mut self, lost: &[bool; 16], most: u8) {
         let kept = without(&self.trusted, lost);
         self.trusted = if lacking(&kept, 16) <= usize::from(most) {

@@ -28,8 +28,8 @@ fn product_of_gaps(x: Symbol, l: u8) -> Symbol
     product
 }
 
-/// The weight of the primary provider at a point, where `whole` is the product of x + point over all l of them, by
-/// Lagrange's formula.
+/// The weight of the primary provider at a point, where `whole` is the product of x + point over all l of
+/// them, by Lagrange's formula.
 fn weight(whole: Symbol, x: Symbol, point: Symbol, l: u8) -> Symbol
     requires { x ≢ point }
     ensures { result ≡ nim_mul whole

@@ -11,7 +11,8 @@ ghost use Rattle.column_defs.specs.Opened.{SeenBlock, bare};
 ghost use Rattle.column_defs.specs.Forgeries.{IsForgery, IsStripeForgery};
 ghost use Rattle.column_defs.specs.Challenges.{alpha, picked_row};
 
-/// Keys, a point, a seed and a mask under the master key of the bytes 0 to 31, and the challenge of that seed.
+/// Keys, a point, a seed and a mask under the master key of the bytes 0 to 31, and the challenge of that
+/// seed.
 pub fn worked_keys()
     ensures mask_key { file_key (upto 32) 77 1 3 ≡ 167 ∷ 187 ∷ 129 ∷ 227 ∷ 41 ∷ 81 ∷ 35 ∷ 176 ∷ 235 ∷ 147 ∷ 63
         ∷ 13 ∷ 2 ∷ 213 ∷ 109 ∷ 34 ∷ 52 ∷ 201 ∷ 92 ∷ 41 ∷ 237 ∷ 226 ∷ 202 ∷ 15 ∷ 106 ∷ 128 ∷ 223 ∷ 167 ∷ 102
@@ -51,7 +52,8 @@ pub fn worked_layout()
     ensures bytes { bytes_of_symbols (513 ∷ []) ≡ 1 ∷ 2 ∷ replicate 14 0 }
 {}
 
-/// An absent block is wrong, but not for a file of no stripes; a block differs from its codeword at three places.
+/// An absent block is wrong, but not for a file of no stripes; a block differs from its codeword at three
+/// places.
 pub fn worked_wrong()
     ensures absent { (master : List ℕ) →
         is_wrong (record { shape = record { n = 4; l = 1; b = 1 }; profile = profile_of 0; master = master; id = 1 })

@@ -11,7 +11,8 @@ ghost use Rattle.column_defs.specs.Opened.{SeenBlock, bare, OpensTo, AllOpen, sy
 ghost use Rattle.column_defs.specs.Forgeries.{count_of, IsRow, IsStripeForgery};
 ghost use Rattle.column_laws.specs.Example.{example, three_seen, three_opened};
 
-/// In each profile a block has the kept symbols and two more for each wrong one that is corrected, and the points 0 to size - 1 differ.
+/// In each profile a block has the kept symbols and two more for each wrong one that is corrected, and the
+/// points 0 to size - 1 differ.
 pub fn profiles_are_sound()
     ensures size { (number : ℕ) → (profile_of number).size ≡ (profile_of number).keep + 2 *
         (profile_of number).fix }
@@ -31,8 +32,8 @@ pub fn accepted_row_is_unique()
         AcceptsRow o opened place p → AcceptsRow o opened place q → (x : ℕ) → value p x ≡ value q x }
 {}
 
-/// A block that is not wrong opens to its provider's column without masks, so its opened symbol at each place is the value, at the
-/// provider's point, of the row's polynomial.
+/// A block that is not wrong opens to its provider's column without masks, so its opened symbol at each place
+/// is the value, at the provider's point, of the row's polynomial.
 pub fn right_block_opens_to_column()
     ensures opens { (o : Object) (bytes : List ℕ) (j stripe : ℕ) (seen : SeenBlock) → j < 256 →
         is_wrong_block o bytes j stripe seen ≡ false
@@ -52,8 +53,8 @@ pub fn stripe_gives_or_loses()
         GivesSymbols o stripe seen symbols → LosesRow o stripe seen row → ⊥ }
 {}
 
-/// Where at most `b` providers' blocks of a stripe are wrong, each row is accepted with the file's own polynomial, so no row is lost,
-/// and the blocks give the file's symbols and no others.
+/// Where at most `b` providers' blocks of a stripe are wrong, each row is accepted with the file's own
+/// polynomial, so no row is lost, and the blocks give the file's symbols and no others.
 pub fn few_wrong_leave_rows_right()
     ensures rows { (o : Object) (bytes : List ℕ) (number stripe place : ℕ) (seen opened : List SeenBlock)
         → o.profile ≡ profile_of number →
@@ -78,7 +79,8 @@ pub fn few_wrong_leave_rows_right()
         LosesRow o stripe seen row → ⊥ }
 {}
 
-/// Wherever a row is accepted with another polynomial than the file's own, the seen blocks hold a forgery against the file at that row.
+/// Wherever a row is accepted with another polynomial than the file's own, the seen blocks hold a forgery
+/// against the file at that row.
 pub fn other_accepted_row_is_forgery()
     ensures { (o : Object) (bytes : List ℕ) (number : ℕ) (seen : ℕ → List SeenBlock) (stripe place : ℕ)
         (opened : List SeenBlock) (p : List ℕ) →
@@ -88,8 +90,8 @@ pub fn other_accepted_row_is_forgery()
         IsStripeForgery o bytes seen stripe place }
 {}
 
-/// An instance, for each master key and file: of four blocks three are the providers' own and one is absent, so one is wrong. They
-/// open to the columns, row 0 is accepted, and they give the file's symbols.
+/// An instance, for each master key and file: of four blocks three are the providers' own and one is absent,
+/// so one is wrong. They open to the columns, row 0 is accepted, and they give the file's symbols.
 pub fn three_of_four_give_the_file()
     ensures shape { IsShape 4 1 1 }
     ensures right { (master bytes : List ℕ) →
@@ -113,8 +115,8 @@ pub fn no_blocks_lose_a_row()
     ensures { (master : List ℕ) → LosesRow (example master) 0 (None ∷ None ∷ None ∷ None ∷ []) 0 }
 {}
 
-/// An instance: the blocks of the file of one byte 8 are accepted with its row, which is another than that of the file of one byte 7,
-/// and so they hold a forgery against the latter.
+/// An instance: the blocks of the file of one byte 8 are accepted with its row, which is another than that of
+/// the file of one byte 7, and so they hold a forgery against the latter.
 pub fn another_file_is_a_forgery()
     ensures row { (master : List ℕ) → IsRow (example master) (7 ∷ []) 0 0 }
     ensures accepted { (master : List ℕ)

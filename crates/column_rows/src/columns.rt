@@ -221,8 +221,8 @@ fn given(
     block
 }
 
-// Whether a stripe of ones opens, and opens again by those that are trusted then, where some of seven providers give
-// codewords of other symbols, and one symbol of each block is wrong if all err.
+// Whether a stripe of ones opens, and opens again by those that are trusted then, where some of seven
+// providers give codewords of other symbols, and one symbol of each block is wrong if all err.
 fn opens_beside(rt: &impl Abort, alloc: Global, liars: [bool; 7], err: bool) -> bool {
     let profile = find_profile(0).expect(rt, "a profile");
     let file = FileShape {

@@ -9,7 +9,8 @@ use hail_poly::Work;
 use std::alloc::Global;
 use std::process::Abort;
 
-// What the answers to a round come to, from counts of zero: the file of 33 bytes 1 over five providers, audit 7, round 2.
+// What the answers to a round come to, from counts of zero: the file of 33 bytes 1 over five providers, audit
+// 7, round 2.
 fn judged(rt: &impl Abort, heard: &[Option<Symbol>], work: &mut Work) -> (Counts, u32)
     requires { 16 ≤ work.old.size }
     ensures { work.new.size ≡ work.old.size }

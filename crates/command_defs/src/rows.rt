@@ -40,7 +40,8 @@ pub fn refusals()
     ensures new_version { refusal_over (Version ∷ one_file) UpgradeJob ≡ Some NewVersion }
 {}
 
-/// A file's object and its stripes are those of its own profile; a number that no file has is given the other profile.
+/// A file's object and its stripes are those of its own profile; a number that no file has is given the other
+/// profile.
 pub fn objects()
     ensures own { (object_in_effect one_file (file_as (codes "a") 7 100 3)).profile.keep ≡ 48 }
     ensures first { (object_in_effect one_file (file_as (codes "a") 7 100 0)).profile.keep ≡ 2 }

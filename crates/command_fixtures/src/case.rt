@@ -42,7 +42,8 @@ impl Case {
 }
 
 impl Store<MemProvider> {
-    /// Whether the command of a case, over a disk that fails at a call, and what a disk without faults shows afterwards, go as they are to.
+    /// Whether the command of a case, over a disk that fails at a call, and what a disk without faults shows
+    /// afterwards, go as they are to.
     fn bears(&mut self, case: &Case, call: u64) -> bool {
         self.renew(&SURE)
             && self.all_go(case.before)
@@ -52,7 +53,8 @@ impl Store<MemProvider> {
             && self.all_go(case.later(call))
     }
 
-    /// The first call at which a failing disk lets a case go otherwise, of all that its command makes and two more.
+    /// The first call at which a failing disk lets a case go otherwise, of all that its command makes and two
+    /// more.
     pub fn first_wrong_call(&mut self, case: &Case) -> Option<usize> {
         for call in 0..case.calls.saturating_add(2) {
             if !self.bears(case, call) {

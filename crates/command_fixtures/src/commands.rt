@@ -37,7 +37,8 @@ impl<P: Tamper + Drop> Store<P> {
         self.is_told(status, at, text)
     }
 
-    /// Whether a command whose source has the bytes `abc` and fails at one of its calls ends with this status.
+    /// Whether a command whose source has the bytes `abc` and fails at one of its calls ends with this
+    /// status.
     pub fn over_source(&mut self, line: &str, read: u64, status: u8) -> bool {
         self.make(line, b"abc", Faults { read, ..NONE_FAILS });
         match &self.last {
@@ -88,7 +89,8 @@ impl<P: Tamper + Drop> Store<P> {
         again
     }
 
-    /// Whether a command ends with 0, and writes this where that is looked at; or finds no memory, and then ends so, or with a status.
+    /// Whether a command ends with 0, and writes this where that is looked at; or finds no memory, and then
+    /// ends so, or with a status.
     pub fn ends_again(
         &mut self,
         line: &str,

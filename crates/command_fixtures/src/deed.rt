@@ -1,7 +1,8 @@
 use forged_stores::Stored;
 
-/// Something that is done to a store or seen of it, and what is to come of it. A command is a line of words and the bytes of its source;
-/// a block is the first one of an object, and of the object 1 where none is told.
+/// Something that is done to a store or seen of it, and what is to come of it. A command is a line of words
+/// and the bytes of its source; a block is the first one of an object, and of the object 1 where none is
+/// told.
 #[derive(Clone, Copy)]
 pub enum Deed {
     /// A command ends with 0 and writes this.
@@ -12,7 +13,8 @@ pub enum Deed {
     OverSource(&'static str, u64, u8),
     /// A command whose sink fails at one of its calls ends with this status, and has written this.
     OverSink(&'static str, &'static [u8], u64, u8, &'static [u8]),
-    /// A command ends with 0, and writes this where that is looked at; or it finds no memory and, made again, ends so, or with this status.
+    /// A command ends with 0, and writes this where that is looked at; or it finds no memory and, made again,
+    /// ends so, or with this status.
     Again(&'static str, &'static [u8], Option<&'static [u8]>, u8),
     /// The jobs of the last command that heard something heard so much each.
     Heard(&'static [usize]),

@@ -2,7 +2,8 @@ use hail_field::Symbol;
 use hail_top::Report;
 use vault::{Heard, HeardList};
 
-/// What is still wanted behind a list, of what jobs heard that heard something; None where it heard otherwise.
+/// What is still wanted behind a list, of what jobs heard that heard something; None where it heard
+/// otherwise.
 fn behind<'a>(list: &HeardList, wanted: &'a [usize]) -> Option<&'a [usize]> {
     match wanted {
         _ if list.len() == 0 => Some(wanted),

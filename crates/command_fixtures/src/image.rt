@@ -30,8 +30,8 @@ fn reads(bytes: &[u8], text: &[u8]) -> bool {
     }
 }
 
-/// Whether a set-up that failed may leave these bytes of a disk that read others: it read them before, or they are nine at most, or no
-/// record, or this setup alone.
+/// Whether a set-up that failed may leave these bytes of a disk that read others: it read them before, or
+/// they are nine at most, or no record, or this setup alone.
 fn may_be_left(before: &[u8], bytes: &[u8]) -> bool {
     bytes == before || bytes.len() <= 9 || reads(bytes, b"HAILJRN1") || reads(bytes, SET_UP)
 }

@@ -1,4 +1,5 @@
-//! Stores over devices in memory, for the rows of the commands: what is done to them, and what is to come of it.
+//! Stores over devices in memory, for the rows of the commands: what is done to them, and what is to come of
+//! it.
 #![tactic(auto)]
 
 mod case;

@@ -7,7 +7,8 @@ use crate::store::Store;
 use provider_model::{Liar, MemProvider, Untold};
 use std::alloc::Global;
 
-/// Rows over devices of their own: an empty disk and sixteen providers, which do not fail but where it is told.
+/// Rows over devices of their own: an empty disk and sixteen providers, which do not fail but where it is
+/// told.
 pub enum Rows {
     /// Deeds one after another.
     Deeds(&'static [Deed]),
@@ -21,8 +22,9 @@ pub enum Rows {
     Again(&'static [Deed]),
     /// A command whose disk fails at each of its calls in turn.
     Cut(Case),
-    /// A set-up over a disk that reads these bytes, makes so many calls of it, fails at each of them in turn, and is then stopped by these
-    /// picks: the disk reads what it did, nine bytes at most, no record, or this setup alone.
+    /// A set-up over a disk that reads these bytes, makes so many calls of it, fails at each of them in turn,
+    /// and is then stopped by these picks: the disk reads what it did, nine bytes at most, no record, or this
+    /// setup alone.
     Stopped(&'static [u8], u64, &'static [u8]),
     /// Schedules.
     Replayed(Schedules),

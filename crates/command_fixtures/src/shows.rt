@@ -98,7 +98,8 @@ impl<P: Holder + Drop> Store<P> {
         }
     }
 
-    /// Whether the first job of the last command heard from a provider the first block of the object 1 that the provider holds.
+    /// Whether the first job of the last command heard from a provider the first block of the object 1 that
+    /// the provider holds.
     fn heard_from(&self, provider: usize) -> bool {
         match (&self.last, self.block(provider, 1)) {
             (Some(told), Some(block)) => told.has_block_at(provider, block),

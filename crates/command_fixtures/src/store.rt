@@ -8,7 +8,8 @@ use std::alloc::Global;
 /// The bytes of the master key are 0 to 31.
 pub const KEY: &[u8] = b"000102030405060708090a0b0c0d0e0f101112131415161718191a1b1c1d1e1f\n";
 
-/// A disk and providers in memory, what is told of the last command over them, and symbols that are kept in mind.
+/// A disk and providers in memory, what is told of the last command over them, and symbols that are kept in
+/// mind.
 #[derive(Drop)]
 pub struct Store<P: Drop> {
     pub alloc: Global,
@@ -50,7 +51,8 @@ impl<P: Holder + Drop> Store<P> {
         })
     }
 
-    /// The disk is empty again, and the providers are others, of these kinds. Answers whether there was memory.
+    /// The disk is empty again, and the providers are others, of these kinds. Answers whether there was
+    /// memory.
     pub fn renew(&mut self, kinds: &[P::Kind]) -> bool {
         match providers_of(self.alloc, kinds) {
             Some(providers) => {

@@ -61,7 +61,8 @@ fn told_of<D: Disk, P: Tamper>(
     Told { report, sink }
 }
 
-/// What is told of words with this input over some devices. Want of memory for the source and the sink is the one refusal.
+/// What is told of words with this input over some devices. Want of memory for the source and the sink is the
+/// one refusal.
 fn tell_words<D: Disk, P: Tamper>(
     alloc: Global,
     words: &[String],
@@ -75,7 +76,8 @@ fn tell_words<D: Disk, P: Tamper>(
     Some(told_of(alloc, words, disk, providers, &mut source, sink))
 }
 
-/// What is told of a line with this input over some devices. Want of memory for the words, the source and the sink is the one refusal.
+/// What is told of a line with this input over some devices. Want of memory for the words, the source and the
+/// sink is the one refusal.
 pub fn tell<D: Disk, P: Tamper>(
     alloc: Global,
     line: &str,

@@ -41,22 +41,30 @@ use Rattle.command_jobs.proofs.Fresh.{OpensAll, ThereIsOne, over-opened, just-op
 
 -- what the laws on commands say of what is left
 abbrev pub LeavesAll : Type 0
-LeavesAll = (records : List Record) (kind : Kind) (answer : Answer) (old new : Seen) (heard : List Entry) → opens.IsOpened old records → IsSpelledKind kind → length new.providers ≡ length old.providers →
+LeavesAll = (records : List Record) (kind : Kind) (answer : Answer) (old new : Seen) (heard : List Entry) →
+    opens.IsOpened old records → IsSpelledKind kind → length new.providers ≡ length old.providers →
     RunsAlone records kind answer old new heard → LeftAlone records kind answer old new heard
 
 -- ---- what the disk reads past the text, from the time before the opening on
 
-past-of : (rs : List Record) (a b : Option Cells) → option_map reads b ≡ option_map reads a → option_map (past rs) b ≡ option_map (past rs) a
+past-of : (rs : List Record) (a b : Option Cells) → option_map reads b ≡ option_map reads a →
+    option_map (past rs) b ≡ option_map (past rs) a
 past-of rs a b e = sym (through b) ∙ (ap (option_map (drop (text_size rs))) e ∙ through a)
   where
-    through : (told : Option Cells) → option_map (drop (text_size rs)) (option_map reads told) ≡ option_map (past rs) told
+    through : (told : Option Cells) → option_map (drop (text_size rs)) (option_map reads told)
+        ≡ option_map (past rs) told
     through None = refl
     through (Some cells) = refl
 
-behind-before : (kind : Kind) (before after : List Record) (a b c : Option Cells) → option_map reads b ≡ option_map reads a → SameBehind kind before after b c → SameBehind kind before after a c
-behind-before kind before after a b c e h = record { next = h.next; is_next = h.is_next; same = h.same ∙ past-of (with_next h.next after) a b e }
+behind-before : (kind : Kind) (before after : List Record) (a b c : Option Cells) →
+    option_map reads b ≡ option_map reads a → SameBehind kind before after b c →
+    SameBehind kind before after a c
+behind-before kind before after a b c e h =
+    record { next = h.next; is_next = h.is_next; same = h.same ∙ past-of (with_next h.next after) a b e }
 
-past-before : (kind : Kind) (how : Answer) (before after : List Record) (a b c : Option Cells) → option_map reads b ≡ option_map reads a → SamePast kind how before after b c → SamePast kind how before after a c
+past-before : (kind : Kind) (how : Answer) (before after : List Record) (a b c : Option Cells) →
+    option_map reads b ≡ option_map reads a → SamePast kind how before after b c →
+    SamePast kind how before after a c
 past-before kind answer.Put before after a b c e h = h ∙ past-of after a b e
 past-before kind (answer.Got bytes) before after a b c e h = h ∙ past-of after a b e
 past-before kind answer.Dropped before after a b c e h = h ∙ past-of after a b e
@@ -74,10 +82,12 @@ past-before kind (answer.Packed length_before length_after) before after a b c e
 
 -- what the vault says of its begin
 abbrev pub BeginsAs : Vault → Kind → ℕ → Vault → Type 0
-BeginsAs old kind number new = (w : State) (d : Devices) (moment : ℕ) → Stands old d w → MakesBegin w moment kind (Ok number) new d
+BeginsAs old kind number new =
+    (w : State) (d : Devices) (moment : ℕ) → Stands old d w → MakesBegin w moment kind (Ok number) new d
 
 abbrev pub RefusesAs : Vault → Kind → BeginFault → Vault → Type 0
-RefusesAs old kind why new = (w : State) (d : Devices) (moment : ℕ) → Stands old d w → MakesBegin w moment kind (Err why) new d
+RefusesAs old kind why new =
+    (w : State) (d : Devices) (moment : ℕ) → Stands old d w → MakesBegin w moment kind (Err why) new d
 
 -- a job that began over a state just opened
 record HasBegun (w : State) (moment : ℕ) (kind : Kind) (number : ℕ) (v : Vault) (d : Devices) : Type 0 where
@@ -87,7 +97,8 @@ record HasBegun (w : State) (moment : ℕ) (kind : Kind) (number : ℕ) (v : Vau
   only : IsOnly w kind made.state
   unrefused : commands.refusal_over w.records kind ≡ None
 
-has-begun : (w : State) (moment : ℕ) (kind : Kind) (number : ℕ) (old new : Vault) (d : Devices) → IsOpenAtRest w 1 → Stands old d w → BeginsAs old kind number new → HasBegun w moment kind number new d
+has-begun : (w : State) (moment : ℕ) (kind : Kind) (number : ℕ) (old new : Vault) (d : Devices) →
+    IsOpenAtRest w 1 → Stands old d w → BeginsAs old kind number new → HasBegun w moment kind number new d
 has-begun w moment kind number old new d O stands begins =
     (let M = begins w d moment stands in
     let s = spelled-begun w M.state moment kind number O.rest.idle.0 M.begins M.stands.core.sound in
@@ -102,27 +113,46 @@ has-begun w moment kind number old new d O stands begins =
 
 -- ---- over a vault that was just opened
 
-module _ (law : OpensAll) (there : ThereIsOne) (v : Vault) (records : List Record) (holds : Option Cells) (faults : ℕ) (F : IsFreshOver v records holds faults) where
+module _ (law : OpensAll) (there : ThereIsOne) (v : Vault) (records : List Record) (holds : Option Cells)
+    (faults : ℕ) (F : IsFreshOver v records holds faults) where
   -- a state that was just opened, for which the vault stands
   record Opened (providers : List Provider) (w : State) : Type 0 where
     over : IsOpenedOver w records faults providers
     opened : IsOpenAtRest w 1
     stands : Stands v (devices holds faults providers) w
 
-  opened-at : (providers : List Provider) (w : State) → (setup_in_effect records).n ≤ length providers → IsOpenedOver w records faults providers → Opened providers w
+  opened-at : (providers : List Provider) (w : State) → (setup_in_effect records).n ≤ length providers →
+      IsOpenedOver w records faults providers → Opened providers w
   opened-at providers w enough over =
       (let O = over-opened law w records faults providers F.read enough over in
-      record { over = over; opened = O; stands = F.stands w providers (just-opened w records faults providers O over) })
+      record {
+        over = over;
+        opened = O;
+        stands = F.stands w providers (just-opened w records faults providers O over);
+      })
 
-  opened-one : (providers : List Provider) → (setup_in_effect records).n ≤ length providers → (w : State) × Opened providers w
-  opened-one providers enough = (let x = there records faults providers F.read.accepted in (x.0, opened-at providers x.0 enough x.1))
+  opened-one : (providers : List Provider) → (setup_in_effect records).n ≤ length providers →
+      (w : State) × Opened providers w
+  opened-one providers enough =
+      (let x = there records faults providers F.read.accepted in (x.0, opened-at providers x.0 enough x.1))
 
   -- the one job that was begun has number 1 and is under way
-  pub under-way : (next : Vault) (kind : Kind) (number : ℕ) (providers : List Provider) → (setup_in_effect records).n ≤ length providers → BeginsAs v kind number next → (number ≡ 1) × IsUnderWay next (devices holds faults providers)
+  pub under-way : (next : Vault) (kind : Kind) (number : ℕ) (providers : List Provider) →
+      (setup_in_effect records).n ≤ length providers → BeginsAs v kind number next →
+      (number ≡ 1) × IsUnderWay next (devices holds faults providers)
   under-way next kind number providers enough begins =
       (let x = opened-one providers enough in
-      let h = has-begun x.0 1 kind number v next (devices holds faults providers) x.1.opened x.1.stands begins in
-      (h.first, record { start = x.0; kind = kind; state = h.made.state; only = h.only; stands = h.made.stands }))
+      let h = has-begun x.0 1 kind number v next (devices holds faults providers) x.1.opened x.1.stands
+      begins in (
+        h.first,
+        record {
+          start = x.0;
+          kind = kind;
+          state = h.made.state;
+          only = h.only;
+          stands = h.made.stands;
+        },
+      ))
 
   memory-is : (why : BeginFault) → refusal_of why ≡ refusal.Memory → why ≡ begin_fault.Memory
   memory-is begin_fault.MustReopen e = cc
@@ -137,29 +167,41 @@ module _ (law : OpensAll) (there : ThereIsOne) (v : Vault) (records : List Recor
   memory-is begin_fault.Memory e = refl
 
   -- a begin is refused for the first cause over what the journal holds
-  pub refused-over : (next : Vault) (kind : Kind) (why : BeginFault) → RefusesAs v kind why next → IsRefusedOver records kind why
+  pub refused-over : (next : Vault) (kind : Kind) (why : BeginFault) → RefusesAs v kind why next →
+      IsRefusedOver records kind why
   refused-over next kind why refuses =
       (let ps : List Provider = replicate (setup_in_effect records).n nobody in
-      let few : (setup_in_effect records).n ≤ length ps = (let e = length-replicate (setup_in_effect records).n nobody in omega (arith, e)) in
+      let few : (setup_in_effect records).n ≤ length ps =
+      (let e = length-replicate (setup_in_effect records).n nobody in omega (arith, e)) in
       let x = opened-one ps few in
       let O = x.1.opened in
       let M = refuses x.0 (devices holds faults ps) 1 x.1.stands in
       elim M.begins.1 [
-        | inl e ↦ inr (subst (λ rs. commands.refusal_over rs kind ≡ Some (refusal_of why)) x.1.over.records (sym (refusal-of x.0 kind O.rest.idle.0 O.rest.idle.3 O.rest.idle.2 O.rest.whole) ∙ e))
+        | inl e ↦ inr (subst (λ rs. commands.refusal_over rs kind ≡ Some (refusal_of why)) x.1.over.records
+            (sym (refusal-of x.0 kind O.rest.idle.0 O.rest.idle.3 O.rest.idle.2 O.rest.whole) ∙ e))
         | inr e ↦ inl (memory-is why e)
       ])
 
-  module _ (leaves : LeavesAll) (next last : Vault) (kind : Kind) (number : ℕ) (ended : Ended) (providers after : List Provider) (new_holds : Option Cells) (new_faults : ℕ) (begins : BeginsAs v kind number next)
-      (goes : (start w : State) (kind : Kind) (moment : ℕ) → IsOnly start kind w → Stands next (devices holds faults providers) w → GoesToEnd start kind w moment ended last (devices holds faults providers) (devices new_holds new_faults after))
+  module _ (leaves : LeavesAll) (next last : Vault) (kind : Kind) (number : ℕ) (ended : Ended)
+      (providers after : List Provider) (new_holds : Option Cells) (new_faults : ℕ)
+      (begins : BeginsAs v kind number next)
+      (goes : (start w : State) (kind : Kind) (moment : ℕ) → IsOnly start kind w →
+      Stands next (devices holds faults providers) w →
+      GoesToEnd start kind w moment ended last (devices holds faults providers)
+      (devices new_holds new_faults after))
       (same : length after ≡ length providers)
-      (old new : Seen) (R : opens.IsOpened old records) (B : IsSeenBefore old (devices holds faults providers)) (A : IsSeenAfter new (devices new_holds new_faults after)) where
+      (old new : Seen) (R : opens.IsOpened old records)
+      (B : IsSeenBefore old (devices holds faults providers))
+      (A : IsSeenAfter new (devices new_holds new_faults after)) where
     enough : (setup_in_effect records).n ≤ length providers
     enough = subst (λ (ps : List Provider). (setup_in_effect records).n ≤ length ps) B.providers R.enough
 
-    ran-alone : (w : State) (moment : ℕ) → IsOpenedOver w records faults providers → RanAlone records kind (machine_answer ended.answer) old new ended.heard faults w moment
+    ran-alone : (w : State) (moment : ℕ) → IsOpenedOver w records faults providers →
+        RanAlone records kind (machine_answer ended.answer) old new ended.heard faults w moment
     ran-alone w moment over =
         (let x = opened-at providers w enough over in
-        let h = has-begun w moment kind number v next (devices holds faults providers) x.opened x.stands begins in
+        let h = has-begun w moment kind number v next
+        (devices holds faults providers) x.opened x.stands begins in
         let G = goes w h.made.state kind (moment + 1) h.only h.made.stands in
         record {
           last = G.last;
@@ -167,28 +209,43 @@ module _ (law : OpensAll) (there : ThereIsOne) (v : Vault) (records : List Recor
             begun = h.made.state;
             job = number;
             begins = h.made.begins;
-            goes_on = subst (λ n. GoesOnTo h.made.state (moment + 1) n (machine_answer ended.answer) ended.heard G.last) (sym h.first) G.goes;
+            goes_on = subst (λ n. GoesOnTo h.made.state (moment + 1) n
+                (machine_answer ended.answer) ended.heard G.last) (sym h.first) G.goes;
           };
           images = subst (λ told. StandsForState told G.last) (sym A.disk) G.stands.devices.images;
           faults_are = G.stands.devices.faults ∙ sym A.faults;
-          handed = subst (λ (ps : List Provider). AreHanded ps G.last) (sym A.providers) G.stands.devices.providers;
-          past_text = subst (λ told. SamePast kind (machine_answer ended.answer) records G.last.records old.disk told) (sym A.disk)
-              (past-before kind (machine_answer ended.answer) records G.last.records old.disk holds new_holds B.reads
-              (subst (λ rs. SamePast kind (machine_answer ended.answer) rs G.last.records holds new_holds) over.records G.past_text));
+          handed = subst (λ (ps : List Provider). AreHanded ps G.last)
+              (sym A.providers) G.stands.devices.providers;
+          past_text = subst (λ told. SamePast kind (machine_answer ended.answer) records G.last.records
+              old.disk told) (sym A.disk)
+              (past-before kind (machine_answer ended.answer) records G.last.records old.disk holds new_holds
+              B.reads
+              (subst (λ rs. SamePast kind (machine_answer ended.answer) rs G.last.records holds new_holds)
+              over.records G.past_text));
         })
 
     runs-alone : RunsAlone records kind (machine_answer ended.answer) old new ended.heard
     runs-alone = record {
       faults = faults;
       before = B.faults;
-      ran = λ w moment over. ran-alone w moment (subst (λ (ps : List Provider). IsOpenedOver w records faults ps) B.providers over);
+      ran = λ w moment over. ran-alone w moment
+          (subst (λ (ps : List Provider). IsOpenedOver w records faults ps) B.providers over);
     }
 
-    begun-one : (w : State) × (HasBegun w 1 kind number next (devices holds faults providers) × (w.records ≡ records))
-    begun-one = (let x = opened-one providers enough in (x.0, (has-begun x.0 1 kind number v next (devices holds faults providers) x.1.opened x.1.stands begins, x.1.over.records)))
+    begun-one : (w : State) ×
+        (HasBegun w 1 kind number next (devices holds faults providers) × (w.records ≡ records))
+    begun-one = (let x = opened-one providers enough in (
+      x.0,
+      (
+        has-begun x.0 1 kind number v next (devices holds faults providers) x.1.opened x.1.stands
+            begins,
+        x.1.over.records,
+      ),
+    ))
 
     left-alone : LeftAlone records kind (machine_answer ended.answer) old new ended.heard
-    left-alone = leaves records kind (machine_answer ended.answer) old new ended.heard R begun-one.1.0.spelled (ap length A.providers ∙ (same ∙ sym (ap length B.providers))) runs-alone
+    left-alone = leaves records kind (machine_answer ended.answer) old new ended.heard R begun-one.1.0.spelled
+        (ap length A.providers ∙ (same ∙ sym (ap length B.providers))) runs-alone
 
     -- how the one job ended, over what the journal held
     pub ends-over : EndsOver records kind ended old new

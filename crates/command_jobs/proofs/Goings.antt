@@ -45,7 +45,8 @@ goes-same : (n : ℕ) (told : Option Cells) → Goes (SameFrom n) told told
 goes-same n None = tt
 goes-same n (Some cells) = refl
 
-goes-on-same : (m n : ℕ) (a b c : Option Cells) → m ≤ n → Goes (SameFrom m) a b → Goes (SameFrom n) b c → Goes (SameFrom n) a c
+goes-on-same : (m n : ℕ) (a b c : Option Cells) → m ≤ n → Goes (SameFrom m) a b → Goes (SameFrom n) b c →
+    Goes (SameFrom n) a c
 goes-on-same m n None None None l h k = tt
 goes-on-same m n (Some a) (Some b) (Some c) l h k = k ∙ drop-further m n (reads b) (reads a) l h
 goes-on-same m n None (Some b) c l h k = absurd h
@@ -59,15 +60,19 @@ goes-further m n (Some a) (Some b) l h = drop-further m n (reads b) (reads a) l 
 goes-further m n None (Some b) l h = absurd h
 goes-further m n (Some a) None l h = absurd h
 
-past-same : (rs : List Record) (a b : Option Cells) → Goes (SameFrom (text_size rs)) a b → option_map (past rs) b ≡ option_map (past rs) a
+past-same : (rs : List Record) (a b : Option Cells) → Goes (SameFrom (text_size rs)) a b →
+    option_map (past rs) b ≡ option_map (past rs) a
 past-same rs None None h = refl
 past-same rs (Some a) (Some b) h = ap (λ (bytes : List ℕ). Some bytes) h
 past-same rs None (Some b) h = absurd h
 past-same rs (Some a) None h = absurd h
 
 -- past the text it reads as before, by how the job ended
-same-past : (kind : Kind) (how : Answer) (before after : List Record) (a b : Option Cells) → ((how ≡ answer.DiskFault → ⊥) → (how ≡ answer.Memory → ⊥) → option_map (past after) b ≡ option_map (past after) a)
-    → (how ≡ answer.DiskFault → SameBehind kind before after a b) → (how ≡ answer.Memory → SameBehind kind before after a b) → SamePast kind how before after a b
+same-past : (kind : Kind) (how : Answer) (before after : List Record) (a b : Option Cells) →
+    ((how ≡ answer.DiskFault → ⊥) → (how ≡ answer.Memory → ⊥) →
+    option_map (past after) b ≡ option_map (past after) a)
+    → (how ≡ answer.DiskFault → SameBehind kind before after a b) →
+    (how ≡ answer.Memory → SameBehind kind before after a b) → SamePast kind how before after a b
 same-past kind answer.Put before after a b h d m = h (λ e. cc) (λ e. cc)
 same-past kind (answer.Got bytes) before after a b h d m = h (λ e. cc) (λ e. cc)
 same-past kind answer.Dropped before after a b h d m = h (λ e. cc) (λ e. cc)
@@ -90,14 +95,19 @@ flying-same rs None = refl
 flying-same rs (Some a) = refl
 
 -- the text with the record in flight is no longer than that with the one that was being appended
-flying-le : (rs : List Record) (entry : Record) (o : Option Append) → ((a : Append) → o ≡ Some a → a.entry ≡ entry) → text_size (records_in_flight rs o) ≤ text_size (entry ∷ rs)
+flying-le : (rs : List Record) (entry : Record) (o : Option Append) →
+    ((a : Append) → o ≡ Some a → a.entry ≡ entry) →
+    text_size (records_in_flight rs o) ≤ text_size (entry ∷ rs)
 flying-le rs entry None same = omega arith
-flying-le rs entry (Some a) same = (let e : text_size (a.entry ∷ rs) ≡ text_size (entry ∷ rs) = ap (λ (r : Record). text_size (r ∷ rs)) (same a refl) in omega (arith, e))
+flying-le rs entry (Some a) same =
+    (let e : text_size (a.entry ∷ rs) ≡ text_size (entry ∷ rs) =
+    ap (λ (r : Record). text_size (r ∷ rs)) (same a refl) in omega (arith, e))
 
 -- ---- the job on its way
 
 -- the job has made these steps, and vault and devices stand for the state after them
-pub record OnWay (start : State) (kind : Kind) (w : State) (moment : ℕ) (v : Vault) (old new : Devices) : Type 0 where
+pub record OnWay (start : State) (kind : Kind) (w : State) (moment : ℕ) (v : Vault)
+    (old new : Devices) : Type 0 where
   pub steps : List Moment
   pub are_steps : AreSteps w moment 1 steps
   pub only : IsOnly start kind (now w steps)
@@ -105,105 +115,177 @@ pub record OnWay (start : State) (kind : Kind) (w : State) (moment : ℕ) (v : V
   pub beyond : IsSameBeyond (now w steps) old new
 
 -- before its first step a job is on its way
-pub no-steps : (start : State) (kind : Kind) (w : State) (moment : ℕ) (v : Vault) (d : Devices) → IsOnly start kind w → Stands v d w → OnWay start kind w moment v d d
-no-steps start kind w moment v d only stands = record { steps = []; are_steps = tt; only = only; stands = stands; beyond = goes-same (text_size (records_in_flight w.records w.append)) d.holds }
+pub no-steps : (start : State) (kind : Kind) (w : State) (moment : ℕ) (v : Vault) (d : Devices) →
+    IsOnly start kind w → Stands v d w → OnWay start kind w moment v d d
+no-steps start kind w moment v d only stands =
+    record {
+      steps = [];
+      are_steps = tt;
+      only = only;
+      stands = stands;
+      beyond = goes-same (text_size (records_in_flight w.records w.append)) d.holds;
+    }
 
 -- a step goes on, or ends the job
-pub steps-turn : (start : State) (kind : Kind) (w : State) (moment number : ℕ) (result : Turn) (v : Vault) (old new : Devices) → IsOnly start kind w → number ≡ 1 → MakesStep w moment number result v old new →
+pub steps-turn : (start : State) (kind : Kind) (w : State) (moment number : ℕ) (result : Turn) (v : Vault)
+    (old new : Devices) → IsOnly start kind w → number ≡ 1 → MakesStep w moment number result v old new →
     (outcome_of result ≡ More) ⊎ ((how : Answer) × (outcome_of result ≡ Ended how))
 steps-turn start kind w moment number result v old new only first M =
-    step-turn start only.opened kind w only.job only.walked moment (outcome_of result) M.state (subst (λ n. Happens 8 moment w (Step n) (outcome_of result) M.state) first M.happens)
+    step-turn start only.opened kind w only.job only.walked moment (outcome_of result) M.state
+    (subst (λ n. Happens 8 moment w (Step n) (outcome_of result) M.state) first M.happens)
 
-module _ (start : State) (kind : Kind) (w : State) (moment number : ℕ) (first : number ≡ 1) (v next : Vault) (old mid new : Devices) (way : OnWay start kind w moment v old mid) where
+module _ (start : State) (kind : Kind) (w : State) (moment number : ℕ) (first : number ≡ 1) (v next : Vault)
+    (old mid new : Devices) (way : OnWay start kind w moment v old mid) where
   abbrev here : State
   here = now w way.steps
 
   -- one more step, and it is still on its way
-  pub one-more : MakesStep here (moment + length way.steps) number turn.More next mid new → OnWay start kind w moment next old new
+  pub one-more : MakesStep here (moment + length way.steps) number turn.More next mid new →
+      OnWay start kind w moment next old new
   one-more M =
-      (let happens : Happens 8 (moment + length way.steps) here (Step 1) More M.state = subst (λ n. Happens 8 (moment + length way.steps) here (Step n) More M.state) first M.happens in
-      let walk = walk-step start way.only.opened kind here way.only.job way.only.walked (moment + length way.steps) M.state happens in
+      (let happens : Happens 8 (moment + length way.steps) here (Step 1) More M.state =
+      subst (λ n. Happens 8 (moment + length way.steps) here (Step n) More M.state) first M.happens in
+      let walk = walk-step start way.only.opened kind here way.only.job way.only.walked
+      (moment + length way.steps) M.state happens in
       record {
         steps = record { event = Step 1; outcome = More; state = M.state } ∷ way.steps;
         are_steps = (refl, refl, happens, way.are_steps);
         only = record { opened = way.only.opened; job = walk.0; walked = walk.1 };
         stands = M.stands;
-        beyond = goes-on-same (text_size (records_in_flight here.records here.append)) (text_size (records_in_flight M.state.records M.state.append)) old.holds mid.holds new.holds
-            (step-grows start way.only.opened kind here way.only.job way.only.walked (moment + length way.steps) M.state happens) way.beyond (M.beyond (λ e. cc));
+        beyond = goes-on-same (text_size (records_in_flight here.records here.append))
+            (text_size (records_in_flight M.state.records M.state.append)) old.holds mid.holds new.holds
+            (step-grows start way.only.opened kind here way.only.job way.only.walked
+            (moment + length way.steps) M.state happens) way.beyond (M.beyond (λ e. cc));
       })
 
-  -- the step that ends it brings it to its end
-  pub at-end : (ended : EndedJob) → MakesStep here (moment + length way.steps) number (turn.Done ended) next mid new → GoesToEnd start kind w moment ended next old new
-  at-end ended M = record {
-    last = M.state;
-    goes = record { steps = way.steps; are_steps = way.are_steps; ends = happens; heard_is = subst (λ n. ended.heard ≡ heard_by (job_of here.jobs n)) first M.heard };
-    stands = M.stands;
-    past_text = same-past kind (machine_answer ended.answer) start.records M.state.records old.holds new.holds past_end past_fault past_memory;
-  }
-    where
-      happens : Happens 8 (moment + length way.steps) here (Step 1) (Ended (machine_answer ended.answer)) M.state
-      happens = subst (λ n. Happens 8 (moment + length way.steps) here (Step n) (Ended (machine_answer ended.answer)) M.state) first M.happens
+  -- a step that ends the job
+  module _ (ended : EndedJob)
+      (M : MakesStep here (moment + length way.steps) number (turn.Done ended) next mid new) where
+    happens : Happens 8 (moment + length way.steps) here (Step 1)
+        (Ended (machine_answer ended.answer)) M.state
+    happens = subst (λ n. Happens 8 (moment + length way.steps) here (Step n)
+        (Ended (machine_answer ended.answer)) M.state) first M.happens
 
-      past_end : (machine_answer ended.answer ≡ answer.DiskFault → ⊥) → (machine_answer ended.answer ≡ answer.Memory → ⊥) → option_map (past M.state.records) new.holds ≡ option_map (past M.state.records) old.holds
-      past_end d m =
-          (let s = step-ends start way.only.opened kind here way.only.job way.only.walked (moment + length way.steps) (machine_answer ended.answer) M.state d m happens in
-          let before : Goes (SameFrom (text_size M.state.records)) old.holds mid.holds =
-          subst (λ rs. Goes (SameFrom (text_size rs)) old.holds mid.holds) (sym s.2) (subst (λ (o : Option Append). Goes (SameFrom (text_size (records_in_flight here.records o))) old.holds mid.holds) s.0 way.beyond) in
-          let after : Goes (SameFrom (text_size M.state.records)) mid.holds new.holds =
-          subst (λ (o : Option Append). Goes (SameFrom (text_size (records_in_flight M.state.records o))) mid.holds new.holds) s.1 (M.beyond (λ e. d (same-answer (machine_answer ended.answer) answer.DiskFault e))) in
-          past-same M.state.records old.holds new.holds (goes-on-same (text_size M.state.records) (text_size M.state.records) old.holds mid.holds new.holds (omega arith) before after))
-        where
-          same-answer : (a b : Answer) → Ended a ≡ Ended b → a ≡ b
-          same-answer a b e = cc
+    past_end : (machine_answer ended.answer ≡ answer.DiskFault → ⊥) →
+        (machine_answer ended.answer ≡ answer.Memory → ⊥) →
+        option_map (past M.state.records) new.holds ≡ option_map (past M.state.records) old.holds
+    past_end d m =
+        (let s = step-ends start way.only.opened kind here way.only.job way.only.walked
+        (moment + length way.steps) (machine_answer ended.answer) M.state d m happens in
+        let before : Goes (SameFrom (text_size M.state.records)) old.holds mid.holds =
+        subst (λ rs. Goes (SameFrom (text_size rs)) old.holds mid.holds) (sym s.2)
+        (subst (λ (o : Option Append). Goes (SameFrom (text_size (records_in_flight here.records o)))
+        old.holds mid.holds) s.0 way.beyond) in
+        let after : Goes (SameFrom (text_size M.state.records)) mid.holds new.holds =
+        subst (λ (o : Option Append). Goes (SameFrom (text_size (records_in_flight M.state.records o)))
+        mid.holds new.holds) s.1
+        (M.beyond (λ e. d (same-answer (machine_answer ended.answer) answer.DiskFault e))) in
+        past-same M.state.records old.holds new.holds
+        (goes-on-same (text_size M.state.records) (text_size M.state.records) old.holds mid.holds new.holds
+        (omega arith) before after))
+      where
+        same-answer : (a b : Answer) → Ended a ≡ Ended b → a ≡ b
+        same-answer a b e = cc
 
-      one_end : (how : Answer) → machine_answer ended.answer ≡ how → Happens 8 (moment + length way.steps) here (Step 1) (Ended how) M.state
-      one_end how e = subst (λ (x : Answer). Happens 8 (moment + length way.steps) here (Step 1) (Ended x) M.state) e happens
+    one_end : (how : Answer) → machine_answer ended.answer ≡ how →
+        Happens 8 (moment + length way.steps) here (Step 1) (Ended how) M.state
+    one_end how e = subst
+        (λ (x : Answer). Happens 8 (moment + length way.steps) here (Step 1) (Ended x) M.state) e happens
 
-      past_fault : machine_answer ended.answer ≡ answer.DiskFault → SameBehind kind start.records M.state.records old.holds new.holds
-      past_fault e =
-          (let T = M.torn (ap Ended e) in
-          let same = fault-records start way.only.opened kind here way.only.job way.only.walked (moment + length way.steps) M.state (one_end answer.DiskFault e) in
-          let next = next-written start way.only.opened kind here way.only.job way.only.walked T.entry (subst (λ n. IsWriting here n T.entry) first T.writing) in
-          let both = goes-on-same (text_size (records_in_flight here.records here.append)) (text_size (T.entry ∷ here.records)) old.holds mid.holds new.holds (flying-le here.records T.entry here.append T.in_flight) way.beyond T.same in
-          subst (λ rs. SameBehind kind start.records rs old.holds new.holds) (sym same)
-          (record { next = Some T.entry; is_next = next; same = past-same (T.entry ∷ here.records) old.holds new.holds both }))
+    past_fault : machine_answer ended.answer ≡ answer.DiskFault →
+        SameBehind kind start.records M.state.records old.holds new.holds
+    past_fault e =
+        (let T = M.torn (ap Ended e) in
+        let same = fault-records start way.only.opened kind here way.only.job way.only.walked
+        (moment + length way.steps) M.state (one_end answer.DiskFault e) in
+        let next = next-written start way.only.opened kind here way.only.job way.only.walked T.entry
+        (subst (λ n. IsWriting here n T.entry) first T.writing) in
+        let both = goes-on-same (text_size (records_in_flight here.records here.append))
+        (text_size (T.entry ∷ here.records)) old.holds mid.holds new.holds
+        (flying-le here.records T.entry here.append T.in_flight) way.beyond T.same in
+        subst (λ rs. SameBehind kind start.records rs old.holds new.holds) (sym same)
+        (record {
+          next = Some T.entry;
+          is_next = next;
+          same = past-same (T.entry ∷ here.records) old.holds new.holds both;
+        }))
 
-      past_memory : machine_answer ended.answer ≡ answer.Memory → SameBehind kind start.records M.state.records old.holds new.holds
-      past_memory e =
-          (let c = memory-clears start way.only.opened kind here way.only.job way.only.walked (moment + length way.steps) M.state (one_end answer.Memory e) in
-          let last : Goes (SameFrom (text_size here.records)) mid.holds new.holds =
-          subst (λ rs. Goes (SameFrom (text_size rs)) mid.holds new.holds) c.0
-          (subst (λ (o : Option Append). Goes (SameFrom (text_size (records_in_flight M.state.records o))) mid.holds new.holds) c.1 (M.beyond (λ f. no_fault (machine_answer ended.answer) e f))) in
-          subst (λ rs. SameBehind kind start.records rs old.holds new.holds) (sym c.0) (by_flight here.append refl last))
-        where
-          no_fault : (a : Answer) → a ≡ answer.Memory → Ended a ≡ Ended answer.DiskFault → ⊥
-          no_fault a m f = (let g : Ended answer.Memory ≡ Ended answer.DiskFault = ap Ended (sym m) ∙ f in cc)
+    past_memory : machine_answer ended.answer ≡ answer.Memory →
+        SameBehind kind start.records M.state.records old.holds new.holds
+    past_memory e =
+        (let c = memory-clears start way.only.opened kind here way.only.job way.only.walked
+        (moment + length way.steps) M.state (one_end answer.Memory e) in
+        let last : Goes (SameFrom (text_size here.records)) mid.holds new.holds =
+        subst (λ rs. Goes (SameFrom (text_size rs)) mid.holds new.holds) c.0
+        (subst (λ (o : Option Append). Goes (SameFrom (text_size (records_in_flight M.state.records o)))
+        mid.holds new.holds) c.1 (M.beyond (λ f. no_fault (machine_answer ended.answer) e f))) in
+        subst (λ rs. SameBehind kind start.records rs old.holds new.holds) (sym c.0)
+        (by_flight here.append refl last))
+      where
+        no_fault : (a : Answer) → a ≡ answer.Memory → Ended a ≡ Ended answer.DiskFault → ⊥
+        no_fault a m f = (let g : Ended answer.Memory ≡ Ended answer.DiskFault = ap Ended (sym m) ∙ f in cc)
 
-          flight-le : (o : Option Append) → text_size here.records ≤ text_size (records_in_flight here.records o)
-          flight-le None = omega arith
-          flight-le (Some a) = omega arith
+        flight-le : (o : Option Append) →
+            text_size here.records ≤ text_size (records_in_flight here.records o)
+        flight-le None = omega arith
+        flight-le (Some a) = omega arith
 
-          flight-next : (o : Option Append) → here.append ≡ o → IfSome (flying o) (IsNext kind start.records here.records)
-          flight-next None is = tt
-          flight-next (Some a) is = next-flight start way.only.opened kind here way.only.job way.only.walked a is
+        flight-next : (o : Option Append) → here.append ≡ o →
+            IfSome (flying o) (IsNext kind start.records here.records)
+        flight-next None is = tt
+        flight-next (Some a) is =
+            next-flight start way.only.opened kind here way.only.job way.only.walked a is
 
-          by_flight : (o : Option Append) → here.append ≡ o → Goes (SameFrom (text_size here.records)) mid.holds new.holds → SameBehind kind start.records here.records old.holds new.holds
-          by_flight o is last =
-              (let beyond : Goes (SameFrom (text_size (records_in_flight here.records o))) old.holds mid.holds = subst (λ (x : Option Append). Goes (SameFrom (text_size (records_in_flight here.records x))) old.holds mid.holds) is way.beyond in
-              let on = goes-further (text_size here.records) (text_size (records_in_flight here.records o)) mid.holds new.holds (flight-le o) last in
-              record {
-                next = flying o;
-                is_next = flight-next o is;
-                same = past-same (with_next (flying o) here.records) old.holds new.holds
-                    (subst (λ rs. Goes (SameFrom (text_size rs)) old.holds new.holds) (flying-same here.records o)
-                    (goes-on-same (text_size (records_in_flight here.records o)) (text_size (records_in_flight here.records o)) old.holds mid.holds new.holds (omega arith) beyond on));
-              })
+        by_flight : (o : Option Append) → here.append ≡ o →
+            Goes (SameFrom (text_size here.records)) mid.holds new.holds →
+            SameBehind kind start.records here.records old.holds new.holds
+        by_flight o is last =
+            (let beyond : Goes (SameFrom (text_size (records_in_flight here.records o))) old.holds
+            mid.holds = subst (λ (x : Option Append). Goes
+            (SameFrom (text_size (records_in_flight here.records x))) old.holds mid.holds) is
+            way.beyond in
+            let on = goes-further (text_size here.records)
+            (text_size (records_in_flight here.records o)) mid.holds new.holds (flight-le o) last in
+            record {
+              next = flying o;
+              is_next = flight-next o is;
+              same = past-same (with_next (flying o) here.records) old.holds new.holds
+                  (subst (λ rs. Goes (SameFrom (text_size rs)) old.holds new.holds)
+                  (flying-same here.records o)
+                  (goes-on-same (text_size (records_in_flight here.records o))
+                  (text_size (records_in_flight here.records o)) old.holds mid.holds new.holds
+                  (omega arith) beyond on));
+            })
+
+    -- the step that ends it brings it to its end
+    pub at-end : GoesToEnd start kind w moment ended next old new
+    at-end = record {
+      last = M.state;
+      goes = record {
+        steps = way.steps;
+        are_steps = way.are_steps;
+        ends = happens;
+        heard_is = subst (λ n. ended.heard ≡ heard_by (job_of here.jobs n)) first M.heard;
+      };
+      stands = M.stands;
+      past_text = same-past kind (machine_answer ended.answer) start.records M.state.records old.holds
+          new.holds
+          past_end past_fault past_memory;
+    }
 
 -- other turns do not come
-pub never-stops : (r : Turn) → ((holder : ℕ) × (r ≡ turn.Waiting holder)) ⊎ ((r ≡ turn.NoSuchJob) ⊎ (r ≡ turn.MustReopen)) → (outcome_of r ≡ More) ⊎ ((how : Answer) × (outcome_of r ≡ Ended how)) → ⊥
-never-stops r (inl (holder, e)) (inl f) = (let g : outcome_of (turn.Waiting holder) ≡ More = sym (ap outcome_of e) ∙ f in cc)
-never-stops r (inl (holder, e)) (inr (how, f)) = (let g : outcome_of (turn.Waiting holder) ≡ Ended how = sym (ap outcome_of e) ∙ f in cc)
-never-stops r (inr (inl e)) (inl f) = (let g : outcome_of turn.NoSuchJob ≡ More = sym (ap outcome_of e) ∙ f in cc)
-never-stops r (inr (inl e)) (inr (how, f)) = (let g : outcome_of turn.NoSuchJob ≡ Ended how = sym (ap outcome_of e) ∙ f in cc)
-never-stops r (inr (inr e)) (inl f) = (let g : outcome_of turn.MustReopen ≡ More = sym (ap outcome_of e) ∙ f in cc)
-never-stops r (inr (inr e)) (inr (how, f)) = (let g : outcome_of turn.MustReopen ≡ Ended how = sym (ap outcome_of e) ∙ f in cc)
+pub never-stops : (r : Turn) → ((holder : ℕ) × (r ≡ turn.Waiting holder)) ⊎
+    ((r ≡ turn.NoSuchJob) ⊎ (r ≡ turn.MustReopen)) →
+    (outcome_of r ≡ More) ⊎ ((how : Answer) × (outcome_of r ≡ Ended how)) → ⊥
+never-stops r (inl (holder, e)) (inl f) =
+    (let g : outcome_of (turn.Waiting holder) ≡ More = sym (ap outcome_of e) ∙ f in cc)
+never-stops r (inl (holder, e)) (inr (how, f)) =
+    (let g : outcome_of (turn.Waiting holder) ≡ Ended how = sym (ap outcome_of e) ∙ f in cc)
+never-stops r (inr (inl e)) (inl f) =
+    (let g : outcome_of turn.NoSuchJob ≡ More = sym (ap outcome_of e) ∙ f in cc)
+never-stops r (inr (inl e)) (inr (how, f)) =
+    (let g : outcome_of turn.NoSuchJob ≡ Ended how = sym (ap outcome_of e) ∙ f in cc)
+never-stops r (inr (inr e)) (inl f) =
+    (let g : outcome_of turn.MustReopen ≡ More = sym (ap outcome_of e) ∙ f in cc)
+never-stops r (inr (inr e)) (inr (how, f)) =
+    (let g : outcome_of turn.MustReopen ≡ Ended how = sym (ap outcome_of e) ∙ f in cc)

@@ -24,7 +24,8 @@ pub enum Unopened {
     DiskFault,
     /// The disk has at most nine bytes, or a journal with no record.
     NotSetUp,
-    /// More than nine bytes are no journal, or a record may not follow those before it: the offset of the first bad byte.
+    /// More than nine bytes are no journal, or a record may not follow those before it: the offset of the
+    /// first bad byte.
     BadJournal { at: u64 },
     /// Fewer providers are handed in than the store was set up with.
     TooFewProviders,

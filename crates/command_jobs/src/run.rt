@@ -20,8 +20,8 @@ use job_laws::alone::{opened_states, told_jobs_leave};
 use provider_model::Provider;
 use vault::{BeginFault, Ended, Turn, Vault};
 
-/// Runs the one job of a vault to its end. Condition: the vault was just opened over this disk, and as many providers are handed
-/// in as the store was set up with, or more, of which only these are used.
+/// Runs the one job of a vault to its end. Condition: the vault was just opened over this disk, and as many
+/// providers are handed in as the store was set up with, or more, of which only these are used.
 pub fn run_job<D: Disk, P: Provider>(
     mut vault: Vault,
     job: Job,

@@ -461,6 +461,7 @@ repair-has name bytes records due spoilt old new end A done K is_due H steady fe
           | inr free ↦ wrong-same (object_in_effect records H.file) bytes j (provider_at old.providers j).held
               (provider_at new.providers j).held
               (g.0 free)
-              (H.right j below (and-off (spoilt j) (is_flagged (setup_in_effect records).tolerance due.counts j)
+              (H.right j below (and-off (spoilt j)
+              (is_flagged (setup_in_effect records).tolerance due.counts j)
               clean free))
         ])

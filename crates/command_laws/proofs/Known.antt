@@ -226,7 +226,8 @@ pub refused-only : (kind : Kind) (records : List Record) (old new : Seen) (end :
     status_of why ≢ 70 → end.status ≡ status_of why → refusal_over records kind ≡ Some why
 refused-only kind records old new end why (AnswersJob.refused other is synced r) own e =
     elim (refused-at other) [
-      | inl lost ↦ absurd (none-some end.status why (ap refusal_at (r.status_is ∙ lost)) (at-some why end own e))
+      | inl lost ↦ absurd (none-some end.status why (ap refusal_at (r.status_is ∙ lost))
+          (at-some why end own e))
       | inr at ↦ (let both : Some other ≡ Some why = sym (ap refusal_at r.status_is ∙ at)
           ∙ at-some why end own e in is ∙ both)
     ]

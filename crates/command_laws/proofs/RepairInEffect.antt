@@ -114,9 +114,11 @@ module _ (name bytes : List ℕ) (records : List Record) (due : Due) (spoilt : �
                   (provider_at new.providers j).held H.size
                   (goes-tells _ (provider_at old.providers j).held (provider_at new.providers j).held
                   (tells j below flagged) (W.held j below))
-                  (λ stripe within. holds-right x (shape-at old records S.known.opened) due W name H.file bytes
+                  (λ stripe within. holds-right x (shape-at old records S.known.opened) due W name H.file
+                  bytes
                   H.in_effect H.size fewer S.known.opened.read.accepted stripe within j below flagged)
-              | inr free ↦ wrong-same (object_in_effect records H.file) bytes j (provider_at old.providers j).held
+              | inr free ↦ wrong-same (object_in_effect records H.file) bytes j
+                  (provider_at old.providers j).held
                   (provider_at new.providers j).held
                   (flag-off H.file.id (is_flagged (setup_in_effect records).tolerance due.counts j) _
                   (provider_at old.providers j).held (provider_at new.providers j).held free (W.held j below))

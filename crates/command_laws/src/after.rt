@@ -1,5 +1,5 @@
-//! What a user may believe between two commands: the store is known again, by the status of the last one, and so the next one is
-//! spoken of. No run of a job and no state stands in these clauses.
+//! What a user may believe between two commands: the store is known again, by the status of the last one, and
+//! so the next one is spoken of. No run of a job and no state stands in these clauses.
 ghost use Rattle.std.specs.Prelude.{◌≡◌, ◌≢◌, ◌⊎◌, ℕ, ◌+◌, ◌<◌, ◌≤◌, ◌&&◌, true, false, Bool, not, List, [], ◌∷◌, length, Option, Some, None, is_some};
 ghost use Rattle.column_defs.specs.Verdicts.{is_flagged};
 ghost use Rattle.device_defs.specs.Cells.{Cells};
@@ -22,9 +22,10 @@ ghost use Rattle.command_laws.specs.After.{IsSure, Follows, IsThen, is_refusal, 
 ghost use Rattle.command_laws.specs.Kept.{after_start};
 ghost use Rattle.command_laws.specs.Opened.{IsKeyed};
 
-/// A store that is known stays known, whatever comes of a command, and a stop after it: its records are those before, or these with the
-/// first few of those that the job of the command appends. After a refusal they are those before, and nothing has changed; nor has it after a
-/// row, after words that are no command, and after an init, whatever comes of it.
+/// A store that is known stays known, whatever comes of a command, and a stop after it: its records are those
+/// before, or these with the first few of those that the job of the command appends. After a refusal they are
+/// those before, and nothing has changed; nor has it after a row, after words that are no command, and after
+/// an init, whatever comes of it.
 pub fn stores_stay_known()
     ensures always { (command : Command) (records : List Record) (old new next : Seen) (end : Ending)
         → Answers command old new end →
@@ -51,7 +52,8 @@ pub fn stores_stay_known()
         → IsSure old records → IsSure new records }
 {}
 
-/// After a command that is done, and after 4 or 13, the store is known, with the records that are said; and no stop harms it.
+/// After a command that is done, and after 4 or 13, the store is known, with the records that are said; and
+/// no stop harms it.
 pub fn done_commands_leave_known_stores()
     ensures init { (numbers : Numbers) (key : List ℕ) (old new : Seen) (end : Ending)
         → Answers (InitWith numbers) old new end → IsDone end →
@@ -86,11 +88,12 @@ pub fn done_commands_leave_known_stores()
         (end.status ≡ 4) ⊎ (end.status ≡ 13) → IsKnown old records → IsSure new records }
 {}
 
-/// A put that is done leaves its file, right on every provider that tells what it holds, and so does one that was cut off or found no
-/// memory, where the next command finds its end in effect. Between two commands the file stays so on each provider that nobody touches. A
-/// get, a list, an audit, a put and a drop of another name leave it as it is, whatever comes of them, and so does a refusal. A repair that is
-/// done makes each flagged provider right for it, where at most b providers are spoilt or fail; so does one that was cut off, where the next
-/// command finds its end in effect.
+/// A put that is done leaves its file, right on every provider that tells what it holds, and so does one that
+/// was cut off or found no memory, where the next command finds its end in effect. Between two commands the
+/// file stays so on each provider that nobody touches. A get, a list, an audit, a put and a drop of another
+/// name leave it as it is, whatever comes of them, and so does a refusal. A repair that is done makes each
+/// flagged provider right for it, where at most b providers are spoilt or fail; so does one that was cut off,
+/// where the next command finds its end in effect.
 pub fn files_stay()
     ensures put { (name bytes : List ℕ) (records : List Record) (spoilt : ℕ → Bool) (old new : Seen)
         (end : Ending) →
@@ -148,8 +151,8 @@ pub fn files_stay()
         (λ j. spoilt j && not (is_flagged (setup_in_effect records).tolerance due.counts j)) }
 {}
 
-/// However an audit ended, where the next command finds its end in effect, it has asked each question of each provider, and its counts are the
-/// verdicts on what it heard.
+/// However an audit ended, where the next command finds its end in effect, it has asked each question of each
+/// provider, and its counts are the verdicts on what it heard.
 pub fn audits_in_effect_count_what_they_heard()
     ensures { (records : List Record) (undecided : ℕ) (counts : List ℕ) (old new next : Seen) (end : Ending)
         → Answers AuditAll old new end →
@@ -160,9 +163,10 @@ pub fn audits_in_effect_count_what_they_heard()
         (next_audit records) undecided counts }
 {}
 
-/// A get of such a file gives its bytes, or finds no memory, where at most b providers are spoilt or fail in it, unless the disk or the sink
-/// failed; with at most b + 1 of them status 0 means that it gave its bytes. A get of a name that has no file ends with 3, or finds no
-/// memory, unless the disk failed. A get of an empty file never ends in a fault of the sink.
+/// A get of such a file gives its bytes, or finds no memory, where at most b providers are spoilt or fail in
+/// it, unless the disk or the sink failed; with at most b + 1 of them status 0 means that it gave its bytes.
+/// A get of a name that has no file ends with 3, or finds no memory, unless the disk failed. A get of an
+/// empty file never ends in a fault of the sink.
 pub fn gets_tell_what_stands()
     ensures complete { (name bytes : List ℕ) (records : List Record) (spoilt : ℕ → Bool) (old new : Seen)
         (end : Ending) →
@@ -188,10 +192,12 @@ pub fn gets_tell_what_stands()
         IsKnown old records → file_of records name ≡ Some file → file.size ≡ 0 → end.status ≢ 15 }
 {}
 
-/// An init, a put and a get over the same devices, where at most b providers are spoilt since the put or fail in the get: the get gives the
-/// bytes of the put, unless the disk or the sink fails in it, or no memory is found. Stops between the commands do no harm. Over a fresh disk
-/// with a good key, name and length, all three end with 0, unless a device fails or no memory is found. A get after a drop ends with 3, and
-/// after a put, an audit and a repair it gives the bytes of the put though others are spoilt by then than those that were flagged.
+/// An init, a put and a get over the same devices, where at most b providers are spoilt since the put or fail
+/// in the get: the get gives the bytes of the put, unless the disk or the sink fails in it, or no memory is
+/// found. Stops between the commands do no harm. Over a fresh disk with a good key, name and length, all
+/// three end with 0, unless a device fails or no memory is found. A get after a drop ends with 3, and after a
+/// put, an audit and a repair it gives the bytes of the put though others are spoilt by then than those that
+/// were flagged.
 pub fn put_files_are_got()
     ensures whole { (numbers : Numbers) (key name bytes : List ℕ) (spoilt : ℕ → Bool) (cells : Cells)
         (a b c d e f : Seen) (first second last : Ending) →

@@ -1,4 +1,5 @@
-//! What a user may believe of a command, from its status and the counts of its devices: no run of its job and no state stands in it.
+//! What a user may believe of a command, from its status and the counts of its devices: no run of its job and
+//! no state stands in it.
 ghost use Rattle.std.specs.Prelude.{◌≡◌, ◌≢◌, ◌⊎◌, ℕ, ◌+◌, ◌<◌, ◌≤◌, true, List, length, Option, Some, None};
 ghost use Rattle.column_defs.specs.Verdicts.{is_flagged};
 ghost use Rattle.device_defs.specs.Cells.{Cells};
@@ -23,10 +24,12 @@ ghost use Rattle.job_laws.specs.Failing.{bad_seen};
 ghost use Rattle.command_laws.specs.Ends.{IsDone, IsKnown, GivesUnlessMemory, EndsInOrder, SameHolds, opens_store, FaultsHaveCauses, AreSafe, HoldsFile, IsWholePut, IsDropped, IsAudited, IsRepaired};
 ghost use Rattle.command_laws.specs.Kept.{LosesFile, LosesRepair};
 
-/// A get of a file gives it whole, or finds no memory, where at most b providers are wrong for the file or failed, unless the disk or the
-/// sink failed. With at most b + 1 such providers what it heard holds no forgery, it never gives a wrong byte, and at status 0 it gave
-/// the file. However many there are, a wrong byte means that what it heard holds a forgery. Over any devices, also such as tell nothing, a get
-/// ends with its text, or finds no memory, or is refused with its cause, or has found a row lost, unless the disk or the sink failed.
+/// A get of a file gives it whole, or finds no memory, where at most b providers are wrong for the file or
+/// failed, unless the disk or the sink failed. With at most b + 1 such providers what it heard holds no
+/// forgery, it never gives a wrong byte, and at status 0 it gave the file. However many there are, a wrong
+/// byte means that what it heard holds a forgery. Over any devices, also such as tell nothing, a get ends
+/// with its text, or finds no memory, or is refused with its cause, or has found a row lost, unless the disk
+/// or the sink failed.
 pub fn gets_give_the_file()
     ensures complete { (name bytes : List ℕ) (records : List Record) (file : File) (old new : Seen)
         (end : Ending) → Answers (GetOf name) old new end →
@@ -74,9 +77,10 @@ pub fn reads_leave_what_is_held()
     ensures audit { (old new : Seen) (end : Ending) → Answers AuditAll old new end → SameHolds old new }
 {}
 
-/// A put of status 0 or 15 has stored its whole source on every provider, and brought it into effect. A put ends so, or finds no memory,
-/// or is refused with its cause, unless a count of faults rose: the disk's, that of a provider's stores, the source's or the sink's. Over a
-/// disk and a source that tell, one that is not refused ends so.
+/// A put of status 0 or 15 has stored its whole source on every provider, and brought it into effect. A put
+/// ends so, or finds no memory, or is refused with its cause, unless a count of faults rose: the disk's, that
+/// of a provider's stores, the source's or the sink's. Over a disk and a source that tell, one that is not
+/// refused ends so.
 pub fn puts_store_the_source()
     ensures done { (name : List ℕ) (old new : Seen) (end : Ending) → Answers (PutUnder name) old new end
         → IsDone end → IsWholePut name old new end }
@@ -96,8 +100,9 @@ pub fn puts_store_the_source()
         → EndsInOrder (PutUnder name) old new end }
 {}
 
-/// A drop of status 0 or 15 has taken the file out of effect and away from each provider, but for blocks that stay where a count rose. A drop
-/// ends so, or finds no memory, or is refused with its cause, unless the disk or the sink failed.
+/// A drop of status 0 or 15 has taken the file out of effect and away from each provider, but for blocks that
+/// stay where a count rose. A drop ends so, or finds no memory, or is refused with its cause, unless the disk
+/// or the sink failed.
 pub fn drops_take_the_file_away()
     ensures done { (name : List ℕ) (old new : Seen) (end : Ending) → Answers (DropOf name) old new end
         → IsDone end → IsDropped name old new end }
@@ -111,8 +116,8 @@ pub fn drops_take_the_file_away()
         (Rose old.sink_faults new.sink_faults → ⊥) → EndsInOrder (DropOf name) old new end }
 {}
 
-/// An audit of status 0 or 15 has counted the verdicts on what it heard. An audit ends so, or finds no memory, or is refused with its
-/// cause, unless the disk or the sink failed, whatever providers do.
+/// An audit of status 0 or 15 has counted the verdicts on what it heard. An audit ends so, or finds no
+/// memory, or is refused with its cause, unless the disk or the sink failed, whatever providers do.
 pub fn audits_count_what_they_hear()
     ensures done { (old new : Seen) (end : Ending) → Answers AuditAll old new end → IsDone end
         → IsAudited old new end }
@@ -126,10 +131,12 @@ pub fn audits_count_what_they_hear()
         (Rose old.sink_faults new.sink_faults → ⊥) → EndsInOrder AuditAll old new end }
 {}
 
-/// A repair of status 0 or 15 has written each flagged provider anew, from what the fetches gave; of each file for which at most b providers are
-/// wrong or failed, whatever is of the others, these are the very blocks. A repair that is not refused ends so, or finds
-/// no memory, where it is so of each file, unless a count of faults rose: the disk's, that of a provider's stores, or the sink's. Over any
-/// devices a repair ends so, or finds no memory, or is refused with its cause, or has found a row lost, unless such a count rose.
+/// A repair of status 0 or 15 has written each flagged provider anew, from what the fetches gave; of each
+/// file for which at most b providers are wrong or failed, whatever is of the others, these are the very
+/// blocks. A repair that is not refused ends so, or finds no memory, where it is so of each file, unless a
+/// count of faults rose: the disk's, that of a provider's stores, or the sink's. Over any devices a repair
+/// ends so, or finds no memory, or is refused with its cause, or has found a row lost, unless such a count
+/// rose.
 pub fn repairs_write_anew()
     ensures done { (old new : Seen) (end : Ending) → Answers RepairDue old new end → IsDone end
         → IsRepaired old new end }
@@ -157,9 +164,9 @@ pub fn repairs_write_anew()
         → EndsInOrder RepairDue old new end ⊎ LosesRepair old new end }
 {}
 
-/// A job has the status of a refusal only where that is the first of its refusals to apply; and where one applies, the command ends with its
-/// status, or that of no memory, and has changed nothing. So it is of the job of a command over records that were read, and of a command over
-/// a disk that tells.
+/// A job has the status of a refusal only where that is the first of its refusals to apply; and where one
+/// applies, the command ends with its status, or that of no memory, and has changed nothing. So it is of the
+/// job of a command over records that were read, and of a command over a disk that tells.
 pub fn refusals_are_exact()
     ensures only { (kind : Kind) (records : List Record) (old new : Seen) (end : Ending) (why : Refusal)
         → AnswersJob kind records old new end →
@@ -190,9 +197,9 @@ pub fn refusals_are_exact()
         IsRefused (status_of why) 0 old new end ⊎ IsRefused 70 0 old new end }
 {}
 
-/// A command that looks at a store ends with 9 only where the disk has none, with 8 only where its bytes are no journal from the place on
-/// that is told, and with 22 only where too few providers are handed in; and where it is so it ends with that status, or finds no memory,
-/// unless the disk failed.
+/// A command that looks at a store ends with 9 only where the disk has none, with 8 only where its bytes are
+/// no journal from the place on that is told, and with 22 only where too few providers are handed in; and
+/// where it is so it ends with that status, or finds no memory, unless the disk failed.
 pub fn unopened_stores_are_told()
     ensures not_set_up_only { (command : Command) (cells : Cells) (old new : Seen) (end : Ending)
         → Answers command old new end →
@@ -223,8 +230,8 @@ pub fn unopened_stores_are_told()
         (Rose old.disk_faults new.disk_faults → ⊥) → (end.status ≡ 22) ⊎ (end.status ≡ 70) }
 {}
 
-/// A command ends with the status of a fault only where the count of that device rose: of the disk (12), of the stores of the provider that is
-/// told (13), of the source (14) or of the sink (15).
+/// A command ends with the status of a fault only where the count of that device rose: of the disk (12), of
+/// the stores of the provider that is told (13), of the source (14) or of the sink (15).
 pub fn faults_have_causes()
     ensures store { (command : Command) (old new : Seen) (end : Ending) → Answers command old new end
         → opens_store command ≡ true →

@@ -14,8 +14,9 @@ ghost use Rattle.command_defs.specs.Commands.{Answers};
 ghost use Rattle.command_laws.specs.Ends.{IsDone, IsKnown, GivesUnlessMemory, EndsInOrder};
 ghost use Rattle.command_laws.specs.Opened.{IsKeyed, IsInit, IsListed};
 
-/// An init of status 0 or 15 has read its source to the end, a key, and has set a store up with it. With a key, over a disk that
-/// reads no records, an init ends so, or finds no memory, unless the source, the disk or the sink failed.
+/// An init of status 0 or 15 has read its source to the end, a key, and has set a store up with it. With a
+/// key, over a disk that reads no records, an init ends so, or finds no memory, unless the source, the disk
+/// or the sink failed.
 pub fn inits_set_up()
     ensures done { (numbers : Numbers) (old new : Seen) (end : Ending)
         → Answers (InitWith numbers) old new end → IsDone end →
@@ -27,9 +28,10 @@ pub fn inits_set_up()
         (Rose old.sink_faults new.sink_faults → ⊥) → GivesUnlessMemory ready_line old new end }
 {}
 
-/// The refusals of an init: numbers that are no setup (20), too few providers (22), a source that tells no key (18), a disk whose bytes are
-/// no journal or begin with another record (8, with the place), and one that is set up already (10). Each status comes only where it is so;
-/// and where it is so, and no cause before it applies, it comes, or no memory is found, unless the source or the disk failed.
+/// The refusals of an init: numbers that are no setup (20), too few providers (22), a source that tells no
+/// key (18), a disk whose bytes are no journal or begin with another record (8, with the place), and one that
+/// is set up already (10). Each status comes only where it is so; and where it is so, and no cause before it
+/// applies, it comes, or no memory is found, unless the source or the disk failed.
 pub fn init_refusals_are_exact()
     ensures bad_setup_only { (numbers : Numbers) (old new : Seen) (end : Ending)
         → Answers (InitWith numbers) old new end → end.status ≡ 20 →
@@ -75,9 +77,10 @@ pub fn init_refusals_are_exact()
         (end.status ≡ 10) ⊎ (end.status ≡ 70) }
 {}
 
-/// A list of status 0 or 15 has written the lines of the files in effect, or a part of them at 15. Over a disk that tells a list ends with
-/// all of them, or finds no memory, unless the disk or the sink failed; where there is no file, never in a fault of the sink. Over any
-/// devices a list ends with its lines, or finds no memory, or its store is not opened, with the cause, unless the sink failed.
+/// A list of status 0 or 15 has written the lines of the files in effect, or a part of them at 15. Over a
+/// disk that tells a list ends with all of them, or finds no memory, unless the disk or the sink failed;
+/// where there is no file, never in a fault of the sink. Over any devices a list ends with its lines, or
+/// finds no memory, or its store is not opened, with the cause, unless the sink failed.
 pub fn lists_give_the_files()
     ensures done { (old new : Seen) (end : Ending) → Answers ListAll old new end → IsDone end
         → IsListed old new end }

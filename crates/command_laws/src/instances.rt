@@ -1,4 +1,5 @@
-//! Concrete values that meet what the laws suppose of a store, its file and commands over it: these laws are not empty.
+//! Concrete values that meet what the laws suppose of a store, its file and commands over it: these laws are
+//! not empty.
 ghost use Rattle.std.specs.Prelude.{◌≤◌, false, [], ◌∷◌};
 ghost use Rattle.record_defs.specs.Table.{files_of};
 ghost use Rattle.machine_defs.specs.States.{State};
@@ -13,8 +14,9 @@ ghost use Rattle.command_laws.specs.Opened.{IsKeyed};
 ghost use Rattle.command_laws.specs.Pieces.{IsStore, IsLater, IsChain};
 ghost use Rattle.command_laws.specs.Instances.{store, small_setup, small_numbers, key_devices, ready_store, put_store, held_name, held_file, other_name, set_up_records, held_records, due_records, audited_store, repaired_store, empty_devices, with_sink, ends, get_held, get_other};
 
-/// A store that was set up, one with one empty file, and one with a repair due are known, in each image of the disk. The file is right on all
-/// providers, none of which is wrong or failed; the next command finds it so; and a state of the abstract client stands for the store.
+/// A store that was set up, one with one empty file, and one with a repair due are known, in each image of
+/// the disk. The file is right on all providers, none of which is wrong or failed; the next command finds it
+/// so; and a state of the abstract client stands for the store.
 pub fn there_are_known_stores()
     ensures set_up { IsSure (store set_up_records) set_up_records }
     ensures sure { IsSure (store held_records) held_records }
@@ -32,10 +34,11 @@ pub fn there_are_known_stores()
     ensures state { (w : State) × IsStore w (store held_records) }
 {}
 
-/// An init with a key sets up an empty disk. Over a store that was set up a put of the empty file is done, and leaves that store. Over it a get
-/// gives the file, a get of another name ends with 3, and a list gives the files; over an empty disk a get ends with 9; a row whose numbers
-/// are no shape ends with 20, and words that are no command with 2. Over a store with no file an audit is done, and a repair that was due.
-/// Two gets are a chain.
+/// An init with a key sets up an empty disk. Over a store that was set up a put of the empty file is done,
+/// and leaves that store. Over it a get gives the file, a get of another name ends with 3, and a list gives
+/// the files; over an empty disk a get ends with 9; a row whose numbers are no shape ends with 20, and words
+/// that are no command with 2. Over a store with no file an audit is done, and a repair that was due. Two
+/// gets are a chain.
 pub fn there_are_answers()
     ensures got { Answers (GetOf held_name) (store held_records) (store held_records) (ends 0) }
     ensures missing { Answers (GetOf other_name) (store held_records) (store held_records) (ends 3) }

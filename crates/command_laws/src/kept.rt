@@ -1,4 +1,5 @@
-//! What commands leave however they end: the disk's images, fetches, and what a store that failed or a lost row leaves due.
+//! What commands leave however they end: the disk's images, fetches, and what a store that failed or a lost
+//! row leaves due.
 ghost use Rattle.std.specs.Prelude.{◌≡◌, ◌≢◌, ◌⊎◌, ℕ, true, List, [], Option};
 ghost use Rattle.device_defs.specs.Images.{EachImage};
 ghost use Rattle.record_defs.specs.Records.{Record};
@@ -10,8 +11,9 @@ ghost use Rattle.command_defs.specs.Commands.{Answers};
 ghost use Rattle.command_laws.specs.Ends.{IsKnown, RunsKind, opens_store};
 ghost use Rattle.command_laws.specs.Kept.{KeepsImages, IsAfter, LeavesImages, InitImages, SameFetches, stores_blocks, opens_rows, FailsToPut, FailsToRepair, LosesFile, LosesRepair};
 
-/// What a stop may leave of the disk after a command: what it could have left before, or, where a job was run, the records that were read
-/// with the first few of those that the job wrote. An init leaves a store that is set up as it is.
+/// What a stop may leave of the disk after a command: what it could have left before, or, where a job was
+/// run, the records that were read with the first few of those that the job wrote. An init leaves a store
+/// that is set up as it is.
 pub fn images_stand()
     ensures refused { (status at : ℕ) (old new : Seen) (end : Ending) → IsRefused status at old new end
         → KeepsImages old new }
@@ -45,8 +47,8 @@ pub fn others_fetch_nothing()
         → Answers (InitWith numbers) old new end → SameFetches old new }
 {}
 
-/// A put of status 13 has used its number, and no file came into effect or went out of it. A repair of status 13 stays due.
-/// No other command ends so.
+/// A put of status 13 has used its number, and no file came into effect or went out of it. A repair of status
+/// 13 stays due. No other command ends so.
 pub fn failed_stores_leave()
     ensures put { (name : List ℕ) (old new : Seen) (end : Ending) → Answers (PutUnder name) old new end
         → end.status ≡ 13 →
@@ -58,8 +60,8 @@ pub fn failed_stores_leave()
         stores_blocks command ≡ true }
 {}
 
-/// A get or a repair of status 4 tells a row that was not accepted, the lowest of the first stripe that has one, from what the fetches
-/// gave. A repair stays due. But for a row, no other command ends so.
+/// A get or a repair of status 4 tells a row that was not accepted, the lowest of the first stripe that has
+/// one, from what the fetches gave. A repair stays due. But for a row, no other command ends so.
 pub fn lost_rows_are_told()
     ensures get { (name : List ℕ) (old new : Seen) (end : Ending) → Answers (GetOf name) old new end
         → end.status ≡ 4 →

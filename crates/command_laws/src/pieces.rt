@@ -1,4 +1,5 @@
-//! Commands as pieces of one run: each is a later call of the program, a reopening, the begin of its job and its steps, from any moment.
+//! Commands as pieces of one run: each is a later call of the program, a reopening, the begin of its job and
+//! its steps, from any moment.
 ghost use Rattle.std.specs.Prelude.{◌≡◌, ℕ, true, List, ◌++◌};
 ghost use Rattle.machine_defs.specs.Runs.{Moment, now, IsRun};
 ghost use Rattle.machine_defs.specs.States.{State};
@@ -10,9 +11,9 @@ ghost use Rattle.command_laws.specs.Ends.{opens_store};
 ghost use Rattle.command_laws.specs.After.{IsSure};
 ghost use Rattle.command_laws.specs.Pieces.{IsStore, IsSpelledCommand, IsCall, IsLater, AreBetween, Call, last_seen, IsChain, AreCalls};
 
-/// A put, a get, a drop, a list, an audit and a repair over devices that a run left go on with that run, whatever comes of them; so do stops
-/// and replacements between commands. So commands one after the other are one run of the machine. Over each known store there is a state
-/// from which such a run begins.
+/// A put, a get, a drop, a list, an audit and a repair over devices that a run left go on with that run,
+/// whatever comes of them; so do stops and replacements between commands. So commands one after the other are
+/// one run of the machine. Over each known store there is a state from which such a run begins.
 pub fn commands_are_runs()
     ensures call { (start : State) (ms : List Moment) (command : Command) (old new : Seen) (end : Ending)
         → IsRun 8 start ms →

@@ -8,7 +8,8 @@ ghost use Rattle.command_defs.specs.Seen.{Seen, Ending};
 ghost use Rattle.command_defs.specs.Commands.{Answers};
 ghost use Rattle.command_laws.specs.After.{is_ending};
 
-/// A command whose words have a form ends with 0, 3, 4, 6 to 18, 20, 21, 22 or 70; so 2 comes only of words that have none.
+/// A command whose words have a form ends with 0, 3, 4, 6 to 18, 20, 21, 22 or 70; so 2 comes only of words
+/// that have none.
 pub fn commands_end_with_a_status()
     ensures ending { (command : Command) (old new : Seen) (end : Ending) → Answers command old new end
         → is_ending end.status ≡ true }
@@ -16,8 +17,8 @@ pub fn commands_end_with_a_status()
         → end.status ≢ 2 }
 {}
 
-/// A row ends with 20 only where its numbers are no shape, and with 4 only where they are one and no polynomial is accepted; and where it is
-/// so it ends with that status, or finds no memory.
+/// A row ends with 20 only where its numbers are no shape, and with 4 only where they are one and no
+/// polynomial is accepted; and where it is so it ends with that status, or finds no memory.
 pub fn rows_have_causes()
     ensures no_shape_only { (n l b : ℕ) (seen : List (Option ℕ)) (old new : Seen) (end : Ending)
         → Answers (RowOf n l b seen) old new end →

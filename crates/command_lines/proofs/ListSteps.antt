@@ -8,8 +8,10 @@ use Rattle.machine_defs.specs.Lines.{file_line}
 use Rattle.command_defs.specs.Lines.{list_lines}
 
 -- one file more
-pub listed_more : (files : List File) (start text : List ℕ) (place : ℕ) (file : File) → slice_get files place ≡ Some file
-    → text ≡ start ++ list_lines (take place files) → text ++ file_line file ≡ start ++ list_lines (take (place + 1) files)
+pub listed_more : (files : List File) (start text : List ℕ) (place : ℕ) (file : File) →
+    slice_get files place ≡ Some file
+    → text ≡ start ++ list_lines (take place files) →
+    text ++ file_line file ≡ start ++ list_lines (take (place + 1) files)
 listed_more files start text place file at before =
     let more : take (place + 1) files ≡ take place files ++ file ∷ [] =
     take_more files place file (slice_get_within files place file at)

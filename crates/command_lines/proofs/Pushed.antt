@@ -3,7 +3,8 @@ use Rattle.std.proofs.Common.{◌≡◌, ℕ, List, [], ◌∷◌, ◌++◌, Res
 use Rattle.machine_defs.specs.Lines.{line}
 
 -- two pieces, one behind the other
-pub both : {mid new : List ℕ} (old first last : List ℕ) → mid ≡ old ++ first → new ≡ mid ++ last → new ≡ old ++ (first ++ last)
+pub both : {mid new : List ℕ} (old first last : List ℕ) → mid ≡ old ++ first → new ≡ mid ++ last →
+    new ≡ old ++ (first ++ last)
 both old first last before behind =
     behind ∙ ap (λ (text : List ℕ). text ++ last) before ∙ append_assoc old first last
 
@@ -16,7 +17,8 @@ then_last (Err fault) old mid new first last before behind = tt
 -- the same, where the last piece was put there by the vector itself
 pub then_slice : {T E : Type 0} (result : Result T E) (old mid new first last : List ℕ) → mid ≡ old ++ first
     → new ≡ (if is_ok result then mid ++ last else mid) → OnOk result (new ≡ old ++ (first ++ last))
-then_slice (Ok done) old mid new first last before behind = then_last {E = ℕ} (Ok done) old mid new first last before behind
+then_slice (Ok done) old mid new first last before behind =
+    then_last {E = ℕ} (Ok done) old mid new first last before behind
 then_slice (Err fault) old mid new first last before behind = tt
 
 -- what was put behind a text, told otherwise
@@ -26,6 +28,8 @@ told_as (Ok done) old new piece other same is = is ∙ ap (λ (text : List ℕ).
 told_as (Err fault) old new piece other same is = tt
 
 -- two pieces in one, behind others
-pub behind_two : (front word number end : List ℕ) → front ++ ((word ++ number) ++ end) ≡ ((front ++ word) ++ number) ++ end
+pub behind_two : (front word number end : List ℕ) →
+    front ++ ((word ++ number) ++ end) ≡ ((front ++ word) ++ number) ++ end
 behind_two front word number end =
-    sym (append_assoc front (word ++ number) end) ∙ ap (λ (text : List ℕ). text ++ end) (sym (append_assoc front word number))
+    sym (append_assoc front (word ++ number) end)
+    ∙ ap (λ (text : List ℕ). text ++ end) (sym (append_assoc front word number))

@@ -73,8 +73,8 @@ fn push_counts(
     Ok(())
 }
 
-/// The lines after an audit: its number and how many rounds were undecided, then a line for each provider with its count,
-/// flagged where the count exceeds the tolerance. Want of memory is its one refusal.
+/// The lines after an audit: its number and how many rounds were undecided, then a line for each provider
+/// with its count, flagged where the count exceeds the tolerance. Want of memory is its one refusal.
 pub fn audit_lines(
     alloc: Global,
     tolerance: u16,

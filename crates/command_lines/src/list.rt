@@ -9,7 +9,8 @@ use std::alloc::{AllocError, Global};
 use stream_model::{Bytes, Memory};
 use vault_table::Table;
 
-/// Puts a line for each file in effect behind the text. After want of memory some front of them may stand there.
+/// Puts a line for each file in effect behind the text. After want of memory some front of them may stand
+/// there.
 pub fn push_files(alloc: Global, text: &mut Vec<u8>, table: &Table) -> Result<(), AllocError>
     ensures { OnOk result (text.new.items ≡ text.old.items ++ list_lines table.now.files) }
 {
@@ -21,8 +22,8 @@ pub fn push_files(alloc: Global, text: &mut Vec<u8>, table: &Table) -> Result<()
     Ok(())
 }
 
-/// A line for each file in effect, in byte order of the names: its name and its length in bytes. Want of memory is its one
-/// refusal.
+/// A line for each file in effect, in byte order of the names: its name and its length in bytes. Want of
+/// memory is its one refusal.
 pub fn list_lines(alloc: Global, table: &Table) -> Result<Bytes, Memory>
     ensures table { IfOk result (λ lines. lines ≡ list_lines table.now.files) }
     ensures records { IfOk result (λ lines. (rs : _) → IsFoldOf rs table.now → lines ≡ list_lines

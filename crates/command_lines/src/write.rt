@@ -7,7 +7,8 @@ ghost use Rattle.command_defs.specs.Sinking.{Sinking, WritesLine, TellsLine};
 use crate::status::{LOST_ROW, NO_MEMORY, SINK_FAULT, WRITTEN};
 use stream_model::{Sink, WriteFault, write_all};
 
-/// Writes the text of a command that succeeded. The sink is not called for an empty text. The status is that of the command.
+/// Writes the text of a command that succeeded. The sink is not called for an empty text. The status is that
+/// of the command.
 pub fn write_text<K: Sink>(text: &[u8], sink: &mut K) -> u8
     ensures writes { WritesLine text.now result
         (record {
@@ -29,7 +30,8 @@ pub fn write_text<K: Sink>(text: &[u8], sink: &mut K) -> u8
     }
 }
 
-/// Writes that no polynomial is accepted for a row. The status is that of a lost row, also where the sink fails.
+/// Writes that no polynomial is accepted for a row. The status is that of a lost row, also where the sink
+/// fails.
 pub fn tell_no_row<K: Sink>(sink: &mut K) -> u8
     ensures tells { TellsLine 4 no_row_line result
         (record {

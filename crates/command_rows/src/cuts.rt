@@ -89,7 +89,8 @@ const FIRST: Shown = Shown {
     blocks: FIRST_BLOCKS,
 };
 
-/// Ends the test where a case goes otherwise: it tells behind how many calls the power was cut, and which of the cuts that was.
+/// Ends the test where a case goes otherwise: it tells behind how many calls the power was cut, and which of
+/// the cuts that was.
 fn check(rt: &(impl Abort + AllocGlobal), case: &Case) {
     assert_eq!(rt; first_wrong_cut(rt.alloc(), case), None);
 }

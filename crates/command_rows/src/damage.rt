@@ -38,7 +38,8 @@ fn two_lost_blocks_are_a_lost_row(rt: HostRuntime) {
 /// Another text of 100 bytes.
 const OTHER: &[u8] = &[b'o'; 100];
 
-/// The providers hold the columns of another text, and the disk is that of a store of the first one, whose journal reads the same.
+/// The providers hold the columns of another text, and the disk is that of a store of the first one, whose
+/// journal reads the same.
 const OTHER_COLUMNS: &[Rows] = &[
     Rows::Deeds(&[SIX, STORED, DiskIs(NOTES_JOURNAL)]),
     Rows::Deeds(&[

@@ -3,7 +3,8 @@ use crate::setups::{FOUR, THREE};
 use command_fixtures::Deed::{Done, Holds, Lacks, Refused};
 use command_fixtures::{Case, KEY, Rows};
 
-/// Setting up syncs, asks the length, writes the empty journal and syncs, and appends one record in four calls.
+/// Setting up syncs, asks the length, writes the empty journal and syncs, and appends one record in four
+/// calls.
 const SET_UP: &[Rows] = &[Rows::Cut(Case {
     before: &[],
     line: "init 4 1 1 0 1 1 0",
@@ -23,7 +24,8 @@ fn a_set_up_stands_from_its_last_sync_on(rt: HostRuntime) {
     check(&rt, SET_UP);
 }
 
-/// Opening makes the calls 0 to 2, and each of the two records four; the last one opens the gate of the second record at 9.
+/// Opening makes the calls 0 to 2, and each of the two records four; the last one opens the gate of the
+/// second record at 9.
 const PUT: &[Rows] = &[Rows::Cut(Case {
     before: &[FOUR],
     line: "put a",
@@ -40,7 +42,8 @@ fn a_put_stands_from_its_last_sync_on(rt: HostRuntime) {
     check(&rt, PUT);
 }
 
-/// The first record of a put, which draws its number, stands from the call 6 on; the next put then takes the number 2.
+/// The first record of a put, which draws its number, stands from the call 6 on; the next put then takes the
+/// number 2.
 const NUMBER: &[Rows] = &[Rows::Cut(Case {
     before: &[FOUR],
     line: "put a",

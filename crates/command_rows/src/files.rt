@@ -24,7 +24,8 @@ fn an_empty_file_has_no_block(rt: HostRuntime) {
     check(&rt, EMPTY);
 }
 
-/// The text of 100 bytes fills seven symbols of the first column; the other two of the file's own columns are zero.
+/// The text of 100 bytes fills seven symbols of the first column; the other two of the file's own columns are
+/// zero.
 const SHORT: &[Rows] = &[Rows::Deeds(&[
     SIX,
     STORED,
@@ -69,7 +70,8 @@ fn a_file_is_listed_and_given_back_until_it_is_dropped(rt: HostRuntime) {
     check(&rt, LISTED);
 }
 
-/// Each job of four providers to its end, or refused; the store is not set up before, and too few providers are left behind it.
+/// Each job of four providers to its end, or refused; the store is not set up before, and too few providers
+/// are left behind it.
 const JOBS: &[Rows] = &[Rows::Deeds(&[
     Providers(4),
     Refused("audit", b"", 9, 0),

@@ -12,7 +12,8 @@ fn a_disk_whose_sync_failed_does_nothing_more(rt: HostRuntime) {
     assert_eq!(rt; done_about_a_failed_sync(rt.alloc()), Some(wanted));
 }
 
-// The store makes and syncs a folder, and a file, and gives it its name, which the disk syncs before it makes, writes and syncs its own.
+// The store makes and syncs a folder, and a file, and gives it its name, which the disk syncs before it
+// makes, writes and syncs its own.
 #[test]
 fn a_block_is_firm_before_the_journal_is_written(rt: HostRuntime) {
     assert_eq!(rt; first_wrong_deed(rt.alloc(), Deed::StoreAndWrite, 14), None);

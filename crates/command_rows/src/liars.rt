@@ -7,7 +7,8 @@ use forged_stores::Stored;
 /// A file of 32 zero bytes is stored over four providers, of which the first has a file's own bytes.
 const ZEROS: Deed = Done("put a", &[0; 32], b"stored a 32\n");
 
-/// A row wants three of the four providers. Three that add the same symbol are two more than are borne, and give two symbols 1.
+/// A row wants three of the four providers. Three that add the same symbol are two more than are borne, and
+/// give two symbols 1.
 const GETS: &[Rows] = &[
     Rows::Lied(
         [0, 0, 0, 0],
@@ -119,8 +120,8 @@ fn a_round_with_two_liars_is_undecided(rt: HostRuntime) {
     check(&rt, TWO);
 }
 
-/// Three of four answer 1, and it is the one honest provider that differs. The repair gives it a block of symbols 1, whose answer is the
-/// weight of the pick and not 1.
+/// Three of four answer 1, and it is the one honest provider that differs. The repair gives it a block of
+/// symbols 1, whose answer is the weight of the pick and not 1.
 const THREE: &[Rows] = &[Rows::Lied(
     [0, 1, 1, 1],
     &[

@@ -2,8 +2,8 @@ use crate::check::check;
 use command_fixtures::Deed::{Again, LosesOne, Providers};
 use command_fixtures::{KEY, Rows};
 
-/// With ample memory each ends well at once. With one allocation refused in the whole run, one of them may find no memory; then it ends
-/// well when it is made again, and nothing is lost.
+/// With ample memory each ends well at once. With one allocation refused in the whole run, one of them may
+/// find no memory; then it ends well when it is made again, and nothing is lost.
 const COMMANDS: &[Rows] = &[Rows::Again(&[
     Providers(4),
     Again("init 4 1 1 0 1 1 0", KEY, Some(b"ready\n"), 10),

@@ -4,7 +4,8 @@ use crate::upkeep_faults::FLAGGED;
 use command_fixtures::Deed::{Done, Holds, Lacks, Loses, Refused};
 use command_fixtures::{Deed, Rows};
 
-/// The calls of the provider are the store of the put, the ask of the audit, and the fetch and the store of the repair.
+/// The calls of the provider are the store of the put, the ask of the audit, and the fetch and the store of
+/// the repair.
 const REPAIR: &[Rows] = &[Rows::Failing(
     3,
     &[
@@ -88,7 +89,8 @@ const ONE_COUNTS: Deed = Done(
     b"audit 1 undecided 0\nprovider 0 count 0 ok\nprovider 1 count 0 ok\nprovider 2 count 1 flagged\nprovider 3 count 0 ok\nprovider 4 count 0 ok\nprovider 5 count 0 ok\n",
 );
 
-/// The put makes the calls 0 to 2 of a provider, and the four rounds of the audit 3 to 6: each of them is an ask, and no block is fetched.
+/// The put makes the calls 0 to 2 of a provider, and the four rounds of the audit 3 to 6: each of them is an
+/// ask, and no block is fetched.
 const ASKS: &[Rows] = &[
     Rows::Failing(3, &[SIX, LONG, ONE_COUNTS]),
     Rows::Failing(4, &[SIX, LONG, ONE_COUNTS]),

@@ -7,7 +7,8 @@ pub const FOUR: Deed = Deed::Done("init 4 1 1 0 1 1 0", KEY, b"ready\n");
 /// Three bytes are stored over them.
 pub const THREE: Deed = Deed::Done("put a", b"abc", b"stored a 3\n");
 
-/// Six providers are set up, of which three have a file's own bytes and three have parity, in blocks of 16 symbols.
+/// Six providers are set up, of which three have a file's own bytes and three have parity, in blocks of 16
+/// symbols.
 pub const SIX: Deed = Deed::Done("init 6 3 1 1 4 8 0", KEY, b"ready\n");
 
 /// The journal that the set-up of six leaves, and the record of the setup and the key in it.

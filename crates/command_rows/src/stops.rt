@@ -1,8 +1,9 @@
 use crate::check::check;
 use command_fixtures::Rows;
 
-/// A disk of nine bytes at most, and one whose journal has no record. Eight calls set the first up; the empty journal of the second one is
-/// there, and its write and sync fall away. A stop leaves what was written, or takes it back, or leaves other bytes in its place.
+/// A disk of nine bytes at most, and one whose journal has no record. Eight calls set the first up; the empty
+/// journal of the second one is there, and its write and sync fall away. A stop leaves what was written, or
+/// takes it back, or leaves other bytes in its place.
 const STOPS: &[Rows] = &[
     Rows::Stopped(b"", 8, &[]),
     Rows::Stopped(b"", 8, &[0; 60]),

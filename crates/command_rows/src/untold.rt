@@ -4,8 +4,9 @@ use command_fixtures::Deed::{DiskOf, Done, Heard, HeardHeld, Known, Providers, W
 use command_fixtures::Rows;
 use forged_stores::Stored;
 
-/// The file of the letter t leaves the journal of its store. Where each provider holds the columns of another file of the same number and
-/// length, and the disk is that of the store of the letter t, the other file is given.
+/// The file of the letter t leaves the journal of its store. Where each provider holds the columns of another
+/// file of the same number and length, and the disk is that of the store of the letter t, the other file is
+/// given.
 const OTHER_COLUMNS: &[Rows] = &[
     Rows::Untold(&[
         SIX,

@@ -14,7 +14,8 @@ const STILL_OK: &[u8] =
 pub const FLAGGED: &[u8] =
     b"audit 1 undecided 0\nprovider 0 count 0 ok\nprovider 1 count 0 ok\nprovider 2 count 1 flagged\nprovider 3 count 0 ok\n";
 
-/// The record that an audit begins is there from the call 6 on, and the number of the audit is not given again.
+/// The record that an audit begins is there from the call 6 on, and the number of the audit is not given
+/// again.
 const AUDIT: &[Rows] = &[Rows::Cut(Case {
     before: &[FOUR, THREE],
     line: "audit",

@@ -56,8 +56,8 @@ pub fn jobs_leave_what_is_said()
     lost_rows_are_told();
 }
 
-/// The causes of the statuses of faults, of stores that are not opened, of refusals and of a lost row; and of the ends over devices that tell
-/// nothing.
+/// The causes of the statuses of faults, of stores that are not opened, of refusals and of a lost row; and of
+/// the ends over devices that tell nothing.
 pub fn statuses_have_their_causes()
     ensures disk { FaultsHaveCauses byte_kept (disk_failed byte_kept) (ends 12) }
     ensures provider { FaultsHaveCauses to_put put_failed (ends 13) }
@@ -97,9 +97,10 @@ pub fn inits_have_their_causes()
     init_refusals_are_exact();
 }
 
-/// After a command that a fault of the disk cut off the store is known, also past a stop, be its last record then in effect or not. Where the end
-/// of a put is found in effect the file is whole; where that of a repair is, the flagged provider is right; where that of an audit is, it has
-/// counted what it heard. After a put whose store failed the records are those before, with its start.
+/// After a command that a fault of the disk cut off the store is known, also past a stop, be its last record
+/// then in effect or not. Where the end of a put is found in effect the file is whole; where that of a repair
+/// is, the flagged provider is right; where that of an audit is, it has counted what it heard. After a put
+/// whose store failed the records are those before, with its start.
 pub fn cut_commands_leave_known_stores()
     ensures gone { (after : List Record) × IsKnown put_gone after
         × IsThen (PutUnder named) four_records to_put put_torn after }
@@ -125,8 +126,8 @@ pub fn cut_commands_leave_known_stores()
     done_commands_leave_known_stores();
 }
 
-/// A put, an audit that finds the lost block, a repair that writes it anew, and a get that gives the file: also where another provider is
-/// spoilt by then. After a drop a get ends with 3.
+/// A put, an audit that finds the lost block, a repair that writes it anew, and a get that gives the file:
+/// also where another provider is spoilt by then. After a drop a get ends with 3.
 pub fn damage_is_mended()
     ensures repaired { GivesUnlessMemory byte mended got (ends_hearing 0 own_blocks_heard) }
     ensures mended { GivesUnlessMemory byte mended got (ends_hearing 0 own_blocks_heard) }
@@ -135,7 +136,8 @@ pub fn damage_is_mended()
     put_files_are_got();
 }
 
-/// Files stay right: after the put, an audit, a put of another file and the repair; and what the audit counts it has heard.
+/// Files stay right: after the put, an audit, a put of another file and the repair; and what the audit counts
+/// it has heard.
 pub fn files_stay_right()
     ensures put { HasRightFile byte_stored (after_put four_records named 1) named byte (λ j. false) }
     ensures audit { HasRightFile byte_audited byte_audited_records named byte (λ j. j == 2) }
@@ -152,7 +154,8 @@ pub fn files_stay_right()
     audits_in_effect_count_what_they_heard();
 }
 
-/// The repair wrote the very block, since no more than one provider was wrong; and the get over what it left is complete.
+/// The repair wrote the very block, since no more than one provider was wrong; and the get over what it left
+/// is complete.
 pub fn few_bad_providers_do_no_harm()
     ensures rewritten { HoldsFile byte_audited_records repaired byte
         (record { name = named; id = 1; size = 1; profile = 0 }) 2 }
@@ -162,7 +165,8 @@ pub fn few_bad_providers_do_no_harm()
     gets_tell_what_stands();
 }
 
-/// There is a state just opened from which a job of each kind runs to its end: done, lost, cut off by a fault, or for want of memory.
+/// There is a state just opened from which a job of each kind runs to its end: done, lost, cut off by a
+/// fault, or for want of memory.
 pub fn jobs_run_alone()
     ensures put { RunsSomewhere (PutJob named byte) Put [] }
     ensures failed_put { RunsSomewhere (PutJob named byte) (ProviderFault 0) [] }

@@ -6,8 +6,9 @@ ghost use Rattle.command_defs.specs.Commands.{Answers};
 ghost use Rattle.command_runs.specs.Devices.{with_source, named, good_numbers, bad_numbers, to_put, put_unmade, byte_kept, due, seen_after_drop, disk_failed, deserted, scrambled, all_hidden};
 ghost use Rattle.command_laws.specs.Instances.{with_sink, key_text, other_name, ends};
 
-/// Faults of the disk, the sink and the source, and want of memory; a disk that reads no journal, and too few providers; begins that are
-/// refused; a row that is accepted and one that is lost; and a list, a get and a repair over devices that tell nothing.
+/// Faults of the disk, the sink and the source, and want of memory; a disk that reads no journal, and too few
+/// providers; begins that are refused; a row that is accepted and one that is lost; and a list, a get and a
+/// repair over devices that tell nothing.
 pub fn commands_end_early()
     ensures disk_fault { Answers ListAll byte_kept (disk_failed byte_kept) (ends 12) }
     ensures sink_fault { Answers ListAll byte_kept (record byte_kept { sink_faults = 1 }) (ends 15) }
@@ -28,8 +29,8 @@ pub fn commands_end_early()
     ensures hidden_get { Answers (GetOf other_name) all_hidden all_hidden (ends 3) }
 {}
 
-/// An init: of numbers that are no setup, over too few providers, of a source that failed or tells no key, over a disk that is set up
-/// already, and over one that reads no journal.
+/// An init: of numbers that are no setup, over too few providers, of a source that failed or tells no key,
+/// over a disk that is set up already, and over one that reads no journal.
 pub fn inits_are_refused()
     ensures bad_setup { Answers (InitWith bad_numbers) byte_kept byte_kept (ends 20) }
     ensures too_few { Answers (InitWith good_numbers) deserted deserted (ends 22) }

@@ -18,7 +18,8 @@ pub record SpellsInit (words : List Word) (numbers : Numbers) (word : Word) : Ty
   pub tolerance : word ≡ get_or words 7 word → IsNumberWord (string_bytes word) numbers.tolerance
 
 -- the words of an `init` spell its numbers
-pub IsInitForm-spells : (words : List Word) (numbers : Numbers) (word : Word) → IsInitForm words numbers → SpellsInit words numbers word
+pub IsInitForm-spells : (words : List Word) (numbers : Numbers) (word : Word) → IsInitForm words numbers →
+    SpellsInit words numbers word
 IsInitForm-spells (c ∷ n ∷ l ∷ b ∷ profile ∷ rounds ∷ picks ∷ tolerance ∷ []) numbers word form = record {
   command = λ is. rw is form.0;
   n = λ is. rw is form.1.0;
@@ -37,21 +38,25 @@ IsInitForm-spells (c ∷ n ∷ l ∷ b ∷ []) numbers word form = absurd form.1
 IsInitForm-spells (c ∷ n ∷ l ∷ b ∷ profile ∷ []) numbers word form = absurd form.1
 IsInitForm-spells (c ∷ n ∷ l ∷ b ∷ profile ∷ rounds ∷ []) numbers word form = absurd form.1
 IsInitForm-spells (c ∷ n ∷ l ∷ b ∷ profile ∷ rounds ∷ picks ∷ []) numbers word form = absurd form.1
-IsInitForm-spells (c ∷ n ∷ l ∷ b ∷ profile ∷ rounds ∷ picks ∷ tolerance ∷ more ∷ words) numbers word form = absurd form.1
+IsInitForm-spells (c ∷ n ∷ l ∷ b ∷ profile ∷ rounds ∷ picks ∷ tolerance ∷ more ∷ words) numbers word form =
+    absurd form.1
 
 -- a list of eight words is its eight items
 pub eight_words : (words : List Word) (a b c d e f g h : Word) → 8 ≤ length words → length words < 9
     → a ≡ get_or words 0 a → b ≡ get_or words 1 b → c ≡ get_or words 2 c → d ≡ get_or words 3 d
     → e ≡ get_or words 4 e → f ≡ get_or words 5 f → g ≡ get_or words 6 g → h ≡ get_or words 7 h
     → words ≡ a ∷ b ∷ c ∷ d ∷ e ∷ f ∷ g ∷ h ∷ []
-eight_words (w0 ∷ w1 ∷ w2 ∷ w3 ∷ w4 ∷ w5 ∷ w6 ∷ w7 ∷ []) a b c d e f g h least below at_a at_b at_c at_d at_e at_f at_g at_h = cc
+eight_words (w0 ∷ w1 ∷ w2 ∷ w3 ∷ w4 ∷ w5 ∷ w6 ∷ w7 ∷ []) a b c d e f g h least below at_a at_b at_c at_d at_e at_f at_g at_h =
+    cc
 eight_words [] a b c d e f g h least below _ _ _ _ _ _ _ _ = absurd (omega arith)
 eight_words (w0 ∷ []) a b c d e f g h least below _ _ _ _ _ _ _ _ = absurd (omega arith)
 eight_words (w0 ∷ w1 ∷ []) a b c d e f g h least below _ _ _ _ _ _ _ _ = absurd (omega arith)
 eight_words (w0 ∷ w1 ∷ w2 ∷ []) a b c d e f g h least below _ _ _ _ _ _ _ _ = absurd (omega arith)
 eight_words (w0 ∷ w1 ∷ w2 ∷ w3 ∷ []) a b c d e f g h least below _ _ _ _ _ _ _ _ = absurd (omega arith)
 eight_words (w0 ∷ w1 ∷ w2 ∷ w3 ∷ w4 ∷ []) a b c d e f g h least below _ _ _ _ _ _ _ _ = absurd (omega arith)
-eight_words (w0 ∷ w1 ∷ w2 ∷ w3 ∷ w4 ∷ w5 ∷ []) a b c d e f g h least below _ _ _ _ _ _ _ _ = absurd (omega arith)
-eight_words (w0 ∷ w1 ∷ w2 ∷ w3 ∷ w4 ∷ w5 ∷ w6 ∷ []) a b c d e f g h least below _ _ _ _ _ _ _ _ = absurd (omega arith)
+eight_words (w0 ∷ w1 ∷ w2 ∷ w3 ∷ w4 ∷ w5 ∷ []) a b c d e f g h least below _ _ _ _ _ _ _ _ =
+    absurd (omega arith)
+eight_words (w0 ∷ w1 ∷ w2 ∷ w3 ∷ w4 ∷ w5 ∷ w6 ∷ []) a b c d e f g h least below _ _ _ _ _ _ _ _ =
+    absurd (omega arith)
 eight_words (w0 ∷ w1 ∷ w2 ∷ w3 ∷ w4 ∷ w5 ∷ w6 ∷ w7 ∷ more ∷ words) a b c d e f g h least below _ _ _ _ _ _ _ _ =
     absurd (omega arith)

@@ -13,34 +13,48 @@ abbrev pub Word : Type 0
 Word = String Global
 
 -- one word more
-pub AreSymbolWords-push : (words : List Word) (symbols : List (Option ℕ)) (word : Word) (symbol : Option ℕ) → AreSymbolWords words symbols → IsSymbolWord (string_bytes word) symbol → AreSymbolWords (words ++ word ∷ []) (symbols ++ symbol ∷ [])
+pub AreSymbolWords-push : (words : List Word) (symbols : List (Option ℕ)) (word : Word) (symbol : Option ℕ) →
+    AreSymbolWords words symbols → IsSymbolWord (string_bytes word) symbol →
+    AreSymbolWords (words ++ word ∷ []) (symbols ++ symbol ∷ [])
 AreSymbolWords-push [] [] word symbol before here = (here, tt)
-AreSymbolWords-push (w ∷ words) (s ∷ symbols) word symbol before here = (before.0, AreSymbolWords-push words symbols word symbol before.1 here)
+AreSymbolWords-push (w ∷ words) (s ∷ symbols) word symbol before here =
+    (before.0, AreSymbolWords-push words symbols word symbol before.1 here)
 AreSymbolWords-push [] (s ∷ symbols) word symbol before here = absurd before
 AreSymbolWords-push (w ∷ words) [] word symbol before here = absurd before
 
 -- each word spells a symbol
-pub AreSymbolWords-at : (words : List Word) (symbols : List (Option ℕ)) (i : ℕ) (word : Word) → AreSymbolWords words symbols → i < length words → word ≡ get_or words i word → (symbol : Option ℕ) × IsSymbolWord (string_bytes word) symbol
+pub AreSymbolWords-at : (words : List Word) (symbols : List (Option ℕ)) (i : ℕ) (word : Word) →
+    AreSymbolWords words symbols → i < length words → word ≡ get_or words i word →
+    (symbol : Option ℕ) × IsSymbolWord (string_bytes word) symbol
 AreSymbolWords-at [] symbols i word all within is = absurd (omega arith)
 AreSymbolWords-at (w ∷ words) [] i word all within is = absurd all
 AreSymbolWords-at (w ∷ words) (s ∷ symbols) zero word all within is = rw is (s, all.0)
-AreSymbolWords-at (w ∷ words) (s ∷ symbols) (suc i) word all within is = AreSymbolWords-at words symbols i word all.1 (omega arith) is
+AreSymbolWords-at (w ∷ words) (s ∷ symbols) (suc i) word all within is =
+    AreSymbolWords-at words symbols i word all.1 (omega arith) is
 
 -- the five parts of the words make the form
-pub IsRowForm-from_parts : (words : List Word) (command first second third : Word) (n l b : ℕ) (seen : List (Option ℕ))
-    → 4 ≤ length words → command ≡ get_or words 0 command → first ≡ get_or words 1 first → second ≡ get_or words 2 second → third ≡ get_or words 3 third
-    → string_bytes command ≡ codes "row" → IsNumberWord (string_bytes first) n → IsNumberWord (string_bytes second) l → IsNumberWord (string_bytes third) b
+pub IsRowForm-from_parts : (words : List Word) (command first second third : Word) (n l b : ℕ)
+    (seen : List (Option ℕ))
+    → 4 ≤ length words → command ≡ get_or words 0 command → first ≡ get_or words 1 first →
+    second ≡ get_or words 2 second → third ≡ get_or words 3 third
+    → string_bytes command ≡ codes "row" → IsNumberWord (string_bytes first) n →
+    IsNumberWord (string_bytes second) l → IsNumberWord (string_bytes third) b
     → length (drop 4 words) ≡ n → AreSymbolWords (drop 4 words) seen → IsRowForm words n l b seen
 IsRowForm-from_parts (c ∷ f ∷ s ∷ t ∷ words) command first second third n l b seen long is_c is_f is_s is_t row n_word l_word b_word count symbols =
     ((rw (← is_c) row), (rw (← is_f) n_word), (rw (← is_s) l_word), (rw (← is_t) b_word), count, symbols)
-IsRowForm-from_parts [] command first second third n l b seen long is_c is_f is_s is_t row n_word l_word b_word count symbols = absurd (omega arith)
-IsRowForm-from_parts (c ∷ []) command first second third n l b seen long is_c is_f is_s is_t row n_word l_word b_word count symbols = absurd (omega arith)
-IsRowForm-from_parts (c ∷ f ∷ []) command first second third n l b seen long is_c is_f is_s is_t row n_word l_word b_word count symbols = absurd (omega arith)
-IsRowForm-from_parts (c ∷ f ∷ s ∷ []) command first second third n l b seen long is_c is_f is_s is_t row n_word l_word b_word count symbols = absurd (omega arith)
+IsRowForm-from_parts [] command first second third n l b seen long is_c is_f is_s is_t row n_word l_word b_word count symbols =
+    absurd (omega arith)
+IsRowForm-from_parts (c ∷ []) command first second third n l b seen long is_c is_f is_s is_t row n_word l_word b_word count symbols =
+    absurd (omega arith)
+IsRowForm-from_parts (c ∷ f ∷ []) command first second third n l b seen long is_c is_f is_s is_t row n_word l_word b_word count symbols =
+    absurd (omega arith)
+IsRowForm-from_parts (c ∷ f ∷ s ∷ []) command first second third n l b seen long is_c is_f is_s is_t row n_word l_word b_word count symbols =
+    absurd (omega arith)
 
 -- texts that `!=` does not tell apart are the same
 pub same_from_ne : (text other : List ℕ) → false ≡ not (bytes_eq text other) → text ≡ other
-same_from_ne text other not_different = (bytes_eq-Decides text other).0 (equal (bytes_eq text other) not_different)
+same_from_ne text other not_different =
+    (bytes_eq-Decides text other).0 (equal (bytes_eq text other) not_different)
   where
     equal : (test : Bool) → false ≡ not test → test ≡ true
     equal true is = refl

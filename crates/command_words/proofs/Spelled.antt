@@ -72,19 +72,25 @@ symbol-word text (Some s) word = at (bytes_eq text (codes "-")) refl
     no_digit : IsNumeral 10 (codes "-") → ⊥
     no_digit numeral = omega (arith, numeral.1.0)
 
-    at : (test : Bool) → bytes_eq text (codes "-") ≡ test → cond test None (Some (digits_value 10 text)) ≡ Some s
-    at true is = absurd (no_digit (subst (λ (t : List ℕ). IsNumeral 10 t) ((bytes_eq-Decides text (codes "-")).0 is) word.numeral))
+    at : (test : Bool) → bytes_eq text (codes "-") ≡ test →
+        cond test None (Some (digits_value 10 text)) ≡ Some s
+    at true is = absurd (no_digit
+        (subst (λ (t : List ℕ). IsNumeral 10 t) ((bytes_eq-Decides text (codes "-")).0 is) word.numeral))
     at false is = ap (λ (n : ℕ). Some n) word.value
 
 -- and so are symbol words
-symbols-words : (words : List Word) (seen : List (Option ℕ)) → AreSymbolWords words seen → symbols words ≡ seen
+symbols-words : (words : List Word) (seen : List (Option ℕ)) → AreSymbolWords words seen →
+    symbols words ≡ seen
 symbols-words [] [] all = refl
 symbols-words [] (s ∷ seen) all = absurd all
 symbols-words (w ∷ words) [] all = absurd all
-symbols-words (w ∷ words) (s ∷ seen) all = ap (λ (x : Option ℕ). x ∷ symbols words) (symbol-word (string_bytes w) s all.0) ∙ ap (λ (xs : List (Option ℕ)). s ∷ xs) (symbols-words words seen all.1)
+symbols-words (w ∷ words) (s ∷ seen) all = ap (λ (x : Option ℕ). x ∷ symbols words)
+    (symbol-word (string_bytes w) s all.0)
+    ∙ ap (λ (xs : List (Option ℕ)). s ∷ xs) (symbols-words words seen all.1)
 
 -- the words of a row
-spelled-row : (words : List Word) (n l b : ℕ) (seen : List (Option ℕ)) → IsRowForm words n l b seen → spelled words ≡ Some (RowOf n l b seen)
+spelled-row : (words : List Word) (n l b : ℕ) (seen : List (Option ℕ)) → IsRowForm words n l b seen →
+    spelled words ≡ Some (RowOf n l b seen)
 spelled-row (c ∷ f ∷ s ∷ t ∷ words) n l b seen form =
     ap (λ (text : List ℕ). by_word text (f ∷ s ∷ t ∷ words)) form.0
     ∙ cc (form.1.value, form.2.value, form.3.value, symbols-words words seen form.5)
@@ -94,7 +100,8 @@ spelled-row (c ∷ f ∷ []) n l b seen form = absurd form
 spelled-row (c ∷ f ∷ s ∷ []) n l b seen form = absurd form
 
 -- seven number words
-init-words : (words : List Word) (numbers : Numbers) → AreNumbers words numbers → init words ≡ Some (InitWith numbers)
+init-words : (words : List Word) (numbers : Numbers) → AreNumbers words numbers →
+    init words ≡ Some (InitWith numbers)
 init-words (n ∷ l ∷ b ∷ profile ∷ rounds ∷ picks ∷ tolerance ∷ []) numbers all =
     ap (λ (x : Numbers). Some (InitWith x)) (λ i. record {
       n = all.0.value i;
@@ -115,21 +122,26 @@ init-words (n ∷ l ∷ b ∷ profile ∷ rounds ∷ picks ∷ []) numbers all =
 init-words (n ∷ l ∷ b ∷ profile ∷ rounds ∷ picks ∷ tolerance ∷ more ∷ words) numbers all = absurd all
 
 -- the words of an `init`
-spelled-init : (words : List Word) (numbers : Numbers) → IsInitForm words numbers → spelled words ≡ Some (InitWith numbers)
+spelled-init : (words : List Word) (numbers : Numbers) → IsInitForm words numbers →
+    spelled words ≡ Some (InitWith numbers)
 spelled-init [] numbers form = absurd form
-spelled-init (c ∷ words) numbers form = ap (λ (text : List ℕ). by_word text words) form.0 ∙ init-words words numbers form.1
+spelled-init (c ∷ words) numbers form =
+    ap (λ (text : List ℕ). by_word text words) form.0 ∙ init-words words numbers form.1
 
 -- a command word and a name
-spelled-named : (words : List Word) (word name : List ℕ) (made : List ℕ → Command) → IsNamedForm word words name
+spelled-named : (words : List Word) (word name : List ℕ) (made : List ℕ → Command) →
+    IsNamedForm word words name
     → ((rest : List Word) → by_word word rest ≡ named made rest) → spelled words ≡ Some (made name)
 spelled-named (c ∷ n ∷ []) word name made form by =
-    ap (λ (text : List ℕ). by_word text (n ∷ [])) form.0 ∙ by (n ∷ []) ∙ ap (λ (text : List ℕ). Some (made text)) form.1
+    ap (λ (text : List ℕ). by_word text (n ∷ [])) form.0 ∙ by (n ∷ [])
+    ∙ ap (λ (text : List ℕ). Some (made text)) form.1
 spelled-named [] word name made form by = absurd form
 spelled-named (c ∷ []) word name made form by = absurd form
 spelled-named (c ∷ n ∷ more ∷ words) word name made form by = absurd form
 
 -- a command word alone
-spelled-bare : (words : List Word) (word : List ℕ) (command : Command) → IsBareForm word words → by_word word [] ≡ Some command → spelled words ≡ Some command
+spelled-bare : (words : List Word) (word : List ℕ) (command : Command) → IsBareForm word words →
+    by_word word [] ≡ Some command → spelled words ≡ Some command
 spelled-bare (c ∷ []) word command form by = ap (λ (text : List ℕ). by_word text []) form ∙ by
 spelled-bare [] word command form by = absurd form
 spelled-bare (c ∷ more ∷ words) word command form by = absurd form
@@ -138,13 +150,18 @@ spelled-bare (c ∷ more ∷ words) word command form by = absurd form
 spelled-IsForm : (words : List Word) (command : Command) → IsForm words command → spelled words ≡ Some command
 spelled-IsForm words (RowOf n l b seen) form = spelled-row words n l b seen form
 spelled-IsForm words (InitWith numbers) form = spelled-init words numbers form
-spelled-IsForm words (PutUnder name) form = spelled-named words (codes "put") name (λ n. PutUnder n) form (λ rest. refl)
-spelled-IsForm words (GetOf name) form = spelled-named words (codes "get") name (λ n. GetOf n) form (λ rest. refl)
-spelled-IsForm words (DropOf name) form = spelled-named words (codes "drop") name (λ n. DropOf n) form (λ rest. refl)
+spelled-IsForm words (PutUnder name) form =
+    spelled-named words (codes "put") name (λ n. PutUnder n) form (λ rest. refl)
+spelled-IsForm words (GetOf name) form =
+    spelled-named words (codes "get") name (λ n. GetOf n) form (λ rest. refl)
+spelled-IsForm words (DropOf name) form =
+    spelled-named words (codes "drop") name (λ n. DropOf n) form (λ rest. refl)
 spelled-IsForm words ListAll form = spelled-bare words (codes "list") ListAll form refl
 spelled-IsForm words AuditAll form = spelled-bare words (codes "audit") AuditAll form refl
 spelled-IsForm words RepairDue form = spelled-bare words (codes "repair") RepairDue form refl
 
 -- words spell one command at most
-pub IsForm-once : (words : List Word) (command other : Command) → IsForm words command → IsForm words other → command ≡ other
-IsForm-once words command other first second = cc (sym (spelled-IsForm words command first) ∙ spelled-IsForm words other second)
+pub IsForm-once : (words : List Word) (command other : Command) → IsForm words command → IsForm words other →
+    command ≡ other
+IsForm-once words command other first second =
+    cc (sym (spelled-IsForm words command first) ∙ spelled-IsForm words other second)

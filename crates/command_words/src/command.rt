@@ -8,7 +8,8 @@ use crate::row::{Row, read_row};
 use hail_field::Memory;
 use std::alloc::Global;
 
-/// A command that words spell. A name is the bytes of its word, whatever they are: they may be no name of a file.
+/// A command that words spell. A name is the bytes of its word, whatever they are: they may be no name of a
+/// file.
 #[derive(PartialEq, Eq, Drop)]
 pub enum Command<'a> {
     /// `row` with a shape and the symbols that were seen.
@@ -58,7 +59,8 @@ fn read_named<'a>(word: &'a String, name: &'a String) -> Option<Command<'a>>
     }
 }
 
-/// The command that the words spell, or `None` where they are no form of a command. Only words that begin with `row` take memory.
+/// The command that the words spell, or `None` where they are no form of a command. Only words that begin
+/// with `row` take memory.
 pub fn read_command<'a>(alloc: Global, words: &'a [String]) -> Result<Option<Command<'a>>, Memory>
     ensures memory { OnErr result (BeginWithRow words.now) }
     ensures found { IfOk result (λ found. MatchOption found

@@ -61,7 +61,8 @@ fn in_fields(numbers: &Numbers) -> Option<Setup>
     })
 }
 
-/// The setup of these numbers, or `None` where they are outside the limits of a setup; one that does not fit its field is.
+/// The setup of these numbers, or `None` where they are outside the limits of a setup; one that does not fit
+/// its field is.
 pub fn read_setup(numbers: &Numbers) -> Option<Setup>
     ensures found { MatchOption result
         (is_setup (setup_with (numbers_of numbers.now) []) ≡ false)

@@ -14,8 +14,8 @@ fn is_line_end(behind: &[u8]) -> bool
     matches!(behind, [] | [b'\n'] | [b'\r', b'\n'])
 }
 
-/// The master key that the text spells: 64 hexadecimal digits of either case, then nothing, a newline, or a carriage return and
-/// a newline; `None` where the text is anything else.
+/// The master key that the text spells: 64 hexadecimal digits of either case, then nothing, a newline, or a
+/// carriage return and a newline; `None` where the text is anything else.
 pub fn read_key(text: &[u8]) -> Option<Master>
     ensures { MatchOption result
         ((key : List ℕ) → IsKeyForm text.now key → ⊥)

@@ -1,4 +1,5 @@
-//! The words of a command line: which command they spell, the setup of its numbers, and the master key of a text.
+//! The words of a command line: which command they spell, the setup of its numbers, and the master key of a
+//! text.
 #![tactic(auto)]
 
 mod command;

@@ -146,7 +146,8 @@ found = (
                                         (
                                           tt,
                                           (
-                                            λ j h. unmissed j h.provider h.unflagged h.name h.file h.in_effect h.wrong,
+                                            λ j h. unmissed j h.provider h.unflagged h.name h.file h.in_effect
+                                                h.wrong,
                                             (
                                               tt,
                                               (
@@ -207,7 +208,16 @@ found = (
                                                                                                       tt,
                                                                                                       (
                                                                                                         tt,
-                                                                                                        (tt, (tt, (tt, (tt, (tt, tt))))),
+                                                                                                        (
+                                                                                                          tt,
+                                                                                                          (
+                                                                                                            tt,
+                                                                                                            (
+                                                                                                              tt,
+                                                                                                              (tt, (tt, tt)),
+                                                                                                            ),
+                                                                                                          ),
+                                                                                                        ),
                                                                                                       ),
                                                                                                     ),
                                                                                                   ),

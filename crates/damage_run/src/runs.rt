@@ -19,21 +19,23 @@ ghost use Rattle.second_half_laws.specs.MarkedRuns.{IsCalmRun};
 ghost use Rattle.record_defs.specs.Records.{RepairDone};
 ghost use Rattle.second_half_laws.specs.FewWrong.{is_wrong_seen};
 
-/// A run of 57 events at limit 8, and both halves of it: a put; a get and an audit that run at once; a lost block that the audit finds and
-/// a repair restores; another lost block, and a get over it. Two providers were damaged in all, where one may be wrong.
+/// A run of 57 events at limit 8, and both halves of it: a put; a get and an audit that run at once; a lost
+/// block that the audit finds and a repair restores; another lost block, and a get over it. Two providers
+/// were damaged in all, where one may be wrong.
 pub fn damage_is_found_and_repaired()
     ensures run { (ms : List Moment) × IsOutright ms }
     ensures halves { (ms : List Moment) → IsOutright ms
         → Headline set_up ms × FirstHalf set_up ms × SecondHalf set_up ms }
 {}
 
-/// The premises of the laws over runs are met: of the same moments, where a put, a get, an audit and a repair run, end, are in doubt and
-/// take effect, where damage is, and which moment is the mark.
+/// The premises of the laws over runs are met: of the same moments, where a put, a get, an audit and a repair
+/// run, end, are in doubt and take effect, where damage is, and which moment is the mark.
 pub fn premises_are_met()
     ensures { (ms : List Moment) × IsOutright ms × HasPoints ms }
 {}
 
-/// So are those of the laws on what blocks open to: of the file's four blocks one is absent, and the others open to the file.
+/// So are those of the laws on what blocks open to: of the file's four blocks one is absent, and the others
+/// open to the file.
 pub fn blocks_with_one_absent_open()
     ensures opens { OpensFile (object_of four 1) 1 without_two byte }
     ensures few { count_of (λ j. is_wrong_seen (object_of four 1) byte j 0 (block_at (without_two 0) j))
@@ -44,14 +46,15 @@ pub fn blocks_with_one_absent_open()
     ensures bytes { AreBytes byte }
 {}
 
-/// And so are those of the law on damage that is new while a repair's record is in doubt: up to there the moments are those of the run,
-/// and then a block that the repair had stored is lost once more.
+/// And so are those of the law on damage that is new while a repair's record is in doubt: up to there the
+/// moments are those of the run, and then a block that the repair had stored is lost once more.
 pub fn a_block_is_lost_while_a_repair_ends()
     ensures { (ms : List Moment) × IsCalmRun 8 set_up ms × InDoubt (now set_up ms) (RepairDone 1)
         × IsDamaged (now set_up ms) 2 }
 {}
 
-/// And so are those of the laws on gets that are lost: after the run a second block is lost, and a get over the two that are left ends lost.
+/// And so are those of the laws on gets that are lost: after the run a second block is lost, and a get over
+/// the two that are left ends lost.
 pub fn a_get_is_lost()
     ensures { (ms : List Moment) × IsRun 8 set_up ms × EndsBy ms 63 6 (Lost 0 0) }
 {}

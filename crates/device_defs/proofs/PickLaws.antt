@@ -44,14 +44,3 @@ All-picks_for P ((b, false) ∷ cells) (i ∷ image) all = All-picks_for P cells
 All-picks_for P ((b, true) ∷ cells) (i ∷ image) all =
     All-cons P i (picks_for cells image) (All-head P i image all)
     (All-picks_for P cells image (All-tail P i image all))
-
-All-picked : (P : ℕ → Type 0) (cells : Cells) (picks : List ℕ) → All P (reads cells) → All P picks →
-    All P (picked cells picks)
-All-picked P [] picks all ps = All-nil P
-All-picked P ((b, false) ∷ cells) picks all ps = All-cons P b (picked cells picks)
-    (All-head P b (reads cells) all) (All-picked P cells picks (All-tail P b (reads cells) all) ps)
-All-picked P ((b, true) ∷ cells) [] all ps = All-cons P b (picked cells []) (All-head P b (reads cells) all)
-    (All-picked P cells [] (All-tail P b (reads cells) all) ps)
-All-picked P ((b, true) ∷ cells) (p ∷ picks) all ps =
-    All-cons P p (picked cells picks) (All-head P p picks ps)
-    (All-picked P cells picks (All-tail P b (reads cells) all) (All-tail P p picks ps))

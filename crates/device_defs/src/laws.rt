@@ -30,8 +30,8 @@ pub fn offsets()
     ensures listed { (cells : Cells) (k : ℕ) → is_among (loose_offsets cells) k ≡ is_loose_at cells k }
 {}
 
-/// A write replaces or adds bytes, with zero bytes in a gap. It makes loose the offsets that it writes, a gap's too, and
-/// no other.
+/// A write replaces or adds bytes, with zero bytes in a gap. It makes loose the offsets that it writes, a
+/// gap's too, and no other.
 pub fn writes()
     ensures reads { (at : ℕ) (bytes : List ℕ) (cells : Cells)
         → reads (written at bytes cells)

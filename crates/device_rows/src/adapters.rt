@@ -190,7 +190,8 @@ fn blocks_are_altered_and_lost(rt: HostRuntime) {
     assert_eq!(rt; seen, Some(None));
 }
 
-// A hole of 4,095 stripes hides nothing; an entry that is no file is a fault, behind which the removal goes on.
+// A hole of 4,095 stripes hides nothing; an entry that is no file is a fault, behind which the removal goes
+// on.
 #[test]
 fn only_blocks_of_the_object_are_removed(rt: HostRuntime) {
     let deeds = [
@@ -211,8 +212,8 @@ fn only_blocks_of_the_object_are_removed(rt: HostRuntime) {
     assert_eq!(rt; seen, Some(None));
 }
 
-// A link is not followed, and a store puts a block in its place, and in that of what a cut store left. A folder that is a file
-// holds nothing.
+// A link is not followed, and a store puts a block in its place, and in that of what a cut store left. A
+// folder that is a file holds nothing.
 #[test]
 fn only_plain_files_are_blocks(rt: HostRuntime) {
     let alloc = rt.alloc();

@@ -1,12 +1,13 @@
-// Calls of a provider and what they are to answer. What is tested is called through functions with no clause: a test is proved to
-// be safe, and shows the rest by running.
+// Calls of a provider and what they are to answer. What is tested is called through functions with no clause:
+// a test is proved to be safe, and shows the rest by running.
 use crate::given::CHALLENGE;
 use challenge::Challenge;
 use hail_field::Symbol;
 use provider_model::{Provider, StoreFault, Tamper};
 use stream_model::Failed;
 
-/// A call of a provider, and what it is to answer. The first number is the object, the second the stripe; blocks have at most six symbols.
+/// A call of a provider, and what it is to answer. The first number is the object, the second the stripe;
+/// blocks have at most six symbols.
 #[derive(Clone, Copy)]
 pub enum Call {
     /// A block is stored.

@@ -22,8 +22,8 @@ fn disk_of(alloc: Global, bytes: &[u8], fails: &[u64]) -> Option<MemDisk> {
     MemDisk::new(alloc, bytes, fails).ok()
 }
 
-/// The first of these calls that is answered otherwise by a disk in memory whose listed calls fail, and whether it then has some bytes
-/// and gives them as its front.
+/// The first of these calls that is answered otherwise by a disk in memory whose listed calls fail, and
+/// whether it then has some bytes and gives them as its front.
 fn by_memory(
     alloc: Global,
     bytes: &[u8],
@@ -47,7 +47,8 @@ fn sure_disk_of(alloc: Global, bytes: &[u8]) -> Option<SureDisk> {
     SureDisk::new(alloc, bytes).ok()
 }
 
-/// The first of these calls that is answered otherwise by a disk in memory that never fails, and whether it then has some bytes.
+/// The first of these calls that is answered otherwise by a disk in memory that never fails, and whether it
+/// then has some bytes.
 fn by_sure(
     alloc: Global,
     bytes: &[u8],

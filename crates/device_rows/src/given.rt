@@ -1,8 +1,9 @@
 use challenge::Challenge;
 use hail_field::Symbol;
 
-/// Four of the 96 rows of 16 stripes of six, by the seed of the first round of the first audit to object 1 under the master
-/// key of the bytes 0 to 31. A ChaCha20 written in Python from RFC 8439 gives it the rows 19, 70, 6 and 24, and the weight below.
+/// Four of the 96 rows of 16 stripes of six, by the seed of the first round of the first audit to object 1
+/// under the master key of the bytes 0 to 31. A ChaCha20 written in Python from RFC 8439 gives it the rows
+/// 19, 70, 6 and 24, and the weight below.
 pub const CHALLENGE: Challenge = Challenge {
     seed: [
         177, 74, 118, 122, 222, 48, 6, 117, 101, 126, 116, 193, 72, 36, 68, 4, 49, 129, 168, 69,

@@ -1,4 +1,5 @@
-//! Worked rows of devices: streams, the disk and providers, in memory, behind a wire and as real files and folders.
+//! Worked rows of devices: streams, the disk and providers, in memory, behind a wire and as real files and
+//! folders.
 #![tactic(auto)]
 
 #[cfg(test)]

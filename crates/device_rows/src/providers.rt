@@ -24,8 +24,8 @@ fn is_held(held: Option<&[Symbol]>, wanted: Option<&[u128]>) -> bool {
     }
 }
 
-/// The first of these calls that is answered otherwise by a provider in memory whose listed calls fail, and whether it then holds this
-/// as the first block of an object.
+/// The first of these calls that is answered otherwise by a provider in memory whose listed calls fail, and
+/// whether it then holds this as the first block of an object.
 fn by_memory(
     alloc: Global,
     fails: &[u64],
@@ -168,7 +168,8 @@ fn a_liar_adds_its_symbol_to_an_answer(rt: HostRuntime) {
     assert_eq!(rt; seen, (None, true));
 }
 
-/// The same by a provider whose listed calls fail and that tells nothing, which then is to hold no first block of the object 1.
+/// The same by a provider whose listed calls fail and that tells nothing, which then is to hold no first
+/// block of the object 1.
 fn by_untold(alloc: Global, fails: &[u64], calls: &[Call]) -> Option<(Option<usize>, bool)> {
     let inner = MemProvider::new(alloc, fails).ok()?;
     let mut untold = Untold::new(inner);

@@ -226,8 +226,8 @@ fn is_broken<L: Link>(provider: &LinkProvider<L>) -> bool {
     provider.broken()
 }
 
-/// The first of these calls that is answered otherwise over a loop to a provider whose listed calls fail, and whether the link is out of
-/// step then.
+/// The first of these calls that is answered otherwise over a loop to a provider whose listed calls fail, and
+/// whether the link is out of step then.
 fn over_a_loop(alloc: Global, fails: &[u64], calls: &[Call]) -> Option<(Option<usize>, bool)> {
     let mut provider = looped(alloc, fails)?;
     let wrong = first_wrong(&mut provider, calls);

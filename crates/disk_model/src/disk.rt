@@ -8,7 +8,8 @@ ghost use Rattle.device_defs.specs.Disks.{written, Torn, synced, Stopped};
 
 use stream_model::{Failed, WriteFault};
 
-/// A disk of bytes. Offsets written since the last successful `sync` are loose: a `stop` may leave any bytes there.
+/// A disk of bytes. Offsets written since the last successful `sync` are loose: a `stop` may leave any bytes
+/// there.
 pub trait Disk {
     /// Each byte that the disk reads, with whether it is loose, where the disk tells them.
     ghost holds: { Self → Option Cells };

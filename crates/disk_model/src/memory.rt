@@ -82,8 +82,8 @@ impl Disk for MemDisk {
         self.inner.read_at(at, out)
     }
 
-    /// A failing write makes loose what the range had, and writes the first half of the bytes, rounded down, if there
-    /// is room for it.
+    /// A failing write makes loose what the range had, and writes the first half of the bytes, rounded down,
+    /// if there is room for it.
     fn write_at(&mut self, at: u64, bytes: &[u8]) -> Result<(), WriteFault>
         requires { at + length bytes.now ≤ 2 ^ 24 }
         ensures ok { OnOk result (self.new.cells ≡ written at bytes.now self.old.cells) }
@@ -118,7 +118,8 @@ impl Disk for MemDisk {
         self.inner.sync()
     }
 
-    /// The picks stand for the loose bytes in order; loose bytes past the end of the picks stay. It is no counted call.
+    /// The picks stand for the loose bytes in order; loose bytes past the end of the picks stay. It is no
+    /// counted call.
     fn stop(&mut self, picks: &[u8])
         ensures picked { self.new.cells ≡ firm (picked self.old.cells picks.now) }
         ensures image { Stopped self.old.cells self.new.cells }

@@ -57,8 +57,8 @@ impl SureDisk {
         &self.held
     }
 
-    /// What a failing write of the disk in memory does: it writes the first half of the bytes, rounded down, if it has
-    /// room, and none otherwise.
+    /// What a failing write of the disk in memory does: it writes the first half of the bytes, rounded down,
+    /// if it has room, and none otherwise.
     pub(crate) fn tear_at(&mut self, at: u64, bytes: &[u8])
         requires { at + length bytes.now ≤ 2 ^ 24 }
         ensures torn { (self.new.cells ≡ halved at bytes.now self.old.cells)

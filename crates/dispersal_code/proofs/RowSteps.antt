@@ -8,15 +8,6 @@ use Rattle.code_defs.specs.Polynomials.{value, interpolate, trim}
 use Rattle.code_defs.specs.Points.{values_at}
 use Rattle.code_defs.specs.DispersalCode.{row_of}
 
--- one value more
-values_more : (p points : List ℕ) (k x : ℕ) → k < length points → x ≡ get_or points k x →
-    values_at (take (k + 1) points) p ≡ values_at (take k points) p ++ value p x ∷ []
-values_more p points k x lt read =
-    let is_x : get_or points k 0 ≡ x = sym (get_or_read points k x lt read 0) in
-    let more : take (k + 1) points ≡ take k points ++ x ∷ [] = take_more points k 0 lt
-    ∙ ap (λ (y : ℕ). take k points ++ y ∷ []) is_x in
-    rw more (map-append (value p) (take k points) (x ∷ []))
-
 -- the values of a polynomial without zeros at its end
 values-trim : (p points : List ℕ) → values_at points (trim p) ≡ values_at points p
 values-trim p [] = refl

@@ -5,8 +5,9 @@ ghost use Rattle.code_defs.specs.DispersalCode.{row_of};
 use hail_field::Symbol;
 use hail_poly::Work;
 
-/// Fills `out` with a row: the values, at all points, of the polynomial of degree below the number of
-/// primary symbols that takes these at the first points (Bowers, Juels and Oprea, HAIL, 2009: a systematic Reed-Solomon code).
+/// Fills `out` with a row: the values, at all points, of the polynomial of degree below the number of primary
+/// symbols that takes these at the first points (Bowers, Juels and Oprea, HAIL, 2009: a systematic
+/// Reed-Solomon code).
 pub fn encode_row(points: &[Symbol], primary: &[Symbol], out: &mut [Symbol], work: &mut Work)
     requires apart { Apart points.now }
     requires few { length points.now ≤ 16 }

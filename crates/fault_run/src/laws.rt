@@ -54,8 +54,8 @@ pub fn failed_calls_raise_counts()
     failed_calls_are_counted();
 }
 
-/// The begins of a get that are refused are so for causes that may be; the get that is lost, is so by faults, and what it was not given was
-/// not replaced, but not given for a fault.
+/// The begins of a get that are refused are so for causes that may be; the get that is lost, is so by faults,
+/// and what it was not given was not replaced, but not given for a fault.
 pub fn gets_are_refused_or_lost_by_faults()
     ensures must_reopen { (ms : List Moment) → IsFaulty ms → HasFaults ms → IsGetRefusal refusal.MustReopen }
     ensures no_memory { (ms : List Moment) → IsFaulty ms → HasFaults ms → IsGetRefusal refusal.Memory }
@@ -71,8 +71,8 @@ pub fn gets_are_refused_or_lost_by_faults()
     damage_of_pinned_files_is_new();
 }
 
-/// The put that was cut off is whole, though its job ended in a fault: while its record is in doubt, and when a stop brings it into effect. The
-/// first file is kept past the fault, the stop and the reopenings.
+/// The put that was cut off is whole, though its job ended in a fault: while its record is in doubt, and when
+/// a stop brings it into effect. The first file is kept past the fault, the stop and the reopenings.
 pub fn puts_survive_faults()
     ensures in_doubt { (ms : List Moment) → IsFaulty ms → HasFaults ms
         → (job : Job) × PutIsWhole set_up (first_moments 37 ms) job 3 0 0 }
@@ -94,8 +94,8 @@ pub fn reports_have_it()
     reports_have_what_jobs_heard();
 }
 
-/// The headline of the run: its start is a mark, so the second half holds of it too; and so is the begin of its last finished scrub, which
-/// is its start, as no scrub begins.
+/// The headline of the run: its start is a mark, so the second half holds of it too; and so is the begin of
+/// its last finished scrub, which is its start, as no scrub begins.
 pub fn headline_of_it()
     ensures headline { (ms : List Moment) → IsFaulty ms → Headline set_up ms }
     ensures mark { (ms : List Moment) → IsFaulty ms → IsMarkedRun 8 (λ moments. 0) set_up ms }
@@ -111,8 +111,8 @@ pub fn headline_of_it()
     finished_scrubs_are_marks();
 }
 
-/// The mark of a finished scrub, of the run of the second version: its scrub mends a block that was altered before, and the get that comes
-/// after counts from the scrub's begin, at event 22.
+/// The mark of a finished scrub, of the run of the second version: its scrub mends a block that was altered
+/// before, and the get that comes after counts from the scrub's begin, at event 22.
 pub fn a_finished_scrub_is_a_mark()
     ensures { (ms : List Moment) × HasAll ms × IsScrubCalm set_up ms × (scrubbed set_up ms ≡ 22)
         × IsMarkedRun 8 (scrubbed set_up) set_up ms × SecondHalf set_up ms }
@@ -120,8 +120,8 @@ pub fn a_finished_scrub_is_a_mark()
     finished_scrubs_are_marks();
 }
 
-/// The numbers that the first put has stored under and the audit has asked under are below the next ones, and no other put and no other
-/// audit used them; the audit whose end is in flight is whole.
+/// The numbers that the first put has stored under and the audit has asked under are below the next ones, and
+/// no other put and no other audit used them; the audit whose end is in flight is whole.
 pub fn numbers_are_drawn_once()
     ensures object { (ms : List Moment) → IsFaulty ms → HasFaults ms → 1 < next_id (at 7 ms).records }
     ensures audit { (ms : List Moment) → IsFaulty ms → HasFaults ms → 1 < next_audit (at 54 ms).records }

@@ -1,4 +1,5 @@
-//! A run of the machine, given outright, in which calls of every device fail; and laws that have it as an instance.
+//! A run of the machine, given outright, in which calls of every device fail; and laws that have it as an
+//! instance.
 #![tactic(auto)]
 
 pub mod laws;

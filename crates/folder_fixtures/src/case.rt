@@ -75,7 +75,8 @@ impl Uncut {
 }
 
 impl Case {
-    /// Whether the commands before it go as they are to, and the block that is to be lost was there and is found to be lost.
+    /// Whether the commands before it go as they are to, and the block that is to be lost was there and is
+    /// found to be lost.
     fn is_begun(&self, files: &StandIn, alloc: Global) -> bool {
         all_go(files, alloc, self.before)
             && match &self.lost {
@@ -121,7 +122,8 @@ impl Case {
         self.uncut_from(alloc, self.start(alloc)?)
     }
 
-    /// Whether what a cut left shows the effect, or nothing of it, which it may where the effect was not acknowledged.
+    /// Whether what a cut left shows the effect, or nothing of it, which it may where the effect was not
+    /// acknowledged.
     fn is_right(&self, alloc: Global, uncut: &Uncut, cut: &CutOff, stays: Stays) -> bool {
         uncut.shows(cut, alloc, stays, self.with)
             || (!cut.acknowledged && uncut.shows(cut, alloc, stays, self.without))
@@ -156,7 +158,8 @@ impl Case {
         }
     }
 
-    /// The first cut at which things go otherwise, from before the first call that changes something on to behind the last.
+    /// The first cut at which things go otherwise, from before the first call that changes something on to
+    /// behind the last.
     fn first_wrong(&self, alloc: Global, uncut: &Uncut) -> Option<Cut> {
         for calls in 0..uncut.calls.saturating_add(2) {
             if let Some(place) = self.first_wrong_behind(alloc, uncut, calls) {
@@ -167,8 +170,8 @@ impl Case {
     }
 }
 
-/// The first cut at which a case goes otherwise. Where the command that is not cut goes otherwise than its row says, that is told behind the
-/// last call of all.
+/// The first cut at which a case goes otherwise. Where the command that is not cut goes otherwise than its
+/// row says, that is told behind the last call of all.
 pub fn first_wrong_cut(alloc: Global, case: &Case) -> Option<Cut> {
     match case.uncut(alloc) {
         Some(uncut) => case.first_wrong(alloc, &uncut),

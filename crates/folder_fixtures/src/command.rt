@@ -12,7 +12,8 @@ pub struct Row {
     pub text: &'static [u8],
 }
 
-/// What is told of a command over the journal and the providers of the home. Want of memory is the one refusal.
+/// What is told of a command over the journal and the providers of the home. Want of memory is the one
+/// refusal.
 fn told(files: &StandIn, alloc: Global, row: &Row) -> Option<Told> {
     let mut home = Devices::new(files, alloc)?;
     tell(

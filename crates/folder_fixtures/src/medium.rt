@@ -32,7 +32,8 @@ pub enum Part {
     All,
 }
 
-/// What stays of unsynced changes when the power is cut: whether the names in folders do, and how much of the bytes of files.
+/// What stays of unsynced changes when the power is cut: whether the names in folders do, and how much of the
+/// bytes of files.
 #[derive(Clone, Copy)]
 pub struct Stays {
     pub names: bool,
@@ -66,8 +67,9 @@ pub const CUTS: [Stays; 5] = [
     ALL,
 ];
 
-/// A file system in memory that keeps what was written apart from what was synced. A name is on the medium once its folder is synced,
-/// a file's bytes once the file is. Its power is cut behind so many calls that change something: each call after them fails.
+/// A file system in memory that keeps what was written apart from what was synced. A name is on the medium
+/// once its folder is synced, a file's bytes once the file is. Its power is cut behind so many calls that
+/// change something: each call after them fails.
 #[derive(Drop)]
 pub struct Medium {
     alloc: Global,

@@ -52,8 +52,8 @@ fn block_left(files: &StandIn, alloc: Global, stays: Stays) -> Option<[Symbol; 2
     block_at(&left, alloc)
 }
 
-/// Whether a store over a block, cut behind so many calls that change something, leaves one of the two, and the new one where it was
-/// acknowledged.
+/// Whether a store over a block, cut behind so many calls that change something, leaves one of the two, and
+/// the new one where it was acknowledged.
 fn leaves_one(files: &StandIn, alloc: Global, calls: u64, stays: Stays) -> Option<bool> {
     let (first, second) = stores_over(files, alloc, calls)?;
     let found = block_left(files, alloc, stays)?;
@@ -102,7 +102,8 @@ fn found_left(files: &StandIn, alloc: Global, stays: Stays) -> Option<(u64, bool
     Devices::new(&left, alloc)?.found()
 }
 
-/// Whether a journal that has something behind a cut has the block too, and both are there where all was done.
+/// Whether a journal that has something behind a cut has the block too, and both are there where all was
+/// done.
 fn block_is_first(files: &StandIn, alloc: Global, calls: u64, stays: Stays) -> Option<bool> {
     let all = is_all_done(files, alloc, calls)?;
     let (length, found) = found_left(files, alloc, stays)?;
@@ -114,7 +115,8 @@ fn block_is_first(files: &StandIn, alloc: Global, calls: u64, stays: Stays) -> O
 pub enum Deed {
     /// A store over a block leaves one of the two, and the new one where it was acknowledged.
     StoreOver,
-    /// A store and then a write of the journal leave no journal without the block, and both where all was done.
+    /// A store and then a write of the journal leave no journal without the block, and both where all was
+    /// done.
     StoreAndWrite,
 }
 
@@ -154,10 +156,12 @@ pub fn first_wrong_deed(alloc: Global, deed: Deed, most: u64) -> Option<Cut> {
     None
 }
 
-/// Whether a disk writes and syncs before, in and behind a sync that fails, and whether its length is told then.
+/// Whether a disk writes and syncs before, in and behind a sync that fails, and whether its length is told
+/// then.
 pub type Done = ([(bool, bool); 3], bool);
 
-/// What a disk does: the system may call the next sync behind a failed one done, with bytes that never reached the medium.
+/// What a disk does: the system may call the next sync behind a failed one done, with bytes that never
+/// reached the medium.
 fn before_in_and_behind<D: Disk>(files: &StandIn, disk: &mut D) -> Done {
     let before = writes_and_syncs(disk);
     files.cut_after(1);

@@ -1,4 +1,5 @@
--- A store of the rows is known by its journal, so that a get that ended well and wrote other bytes than its file's heard a forgery.
+-- A store of the rows is known by its journal, so that a get that ended well and wrote other bytes than its
+-- file's heard a forgery.
 use Rattle.std.proofs.Common.{◌≡◌, ◌≢◌, ◌⊎◌, ℕ, ◌≤◌, List, [], length, Some, refl, sym, ◌∙◌, ap, inl, inr, arith}
 use Rattle.std.specs.Prelude.{IsTrue}
 use Rattle.std.specs.List.{list_all}
@@ -33,7 +34,8 @@ are-accepted stored.SixLetters = (refl, (refl, (refl, tt)))
 
 has-room : (s : Stored) → text_size (records_of s) ≤ largest_journal
 has-room stored.FourZeros = (let e : text_size (records_of stored.FourZeros) ≡ 77 = refl in omega (arith, e))
-has-room stored.SixLetters = (let e : text_size (records_of stored.SixLetters) ≡ 77 = refl in omega (arith, e))
+has-room stored.SixLetters =
+    (let e : text_size (records_of stored.SixLetters) ≡ 77 = refl in omega (arith, e))
 
 are-bytes : (s : Stored) → AreBytes (stored_bytes s)
 are-bytes stored.FourZeros = refl
@@ -41,36 +43,61 @@ are-bytes stored.SixLetters = refl
 
 -- the file of a store
 the-file : Stored → File
-the-file s = record { name = name_of_file; id = 1; size = length (stored_bytes s); profile = (setup_numbers s).profile }
+the-file s = record {
+  name = name_of_file;
+  id = 1;
+  size = length (stored_bytes s);
+  profile = (setup_numbers s).profile;
+}
 
 in-effect : (s : Stored) → file_of (records_of s) name_of_file ≡ Some (the-file s)
 unfolding the-file
 in-effect s = refl
 
 stands : (s : Stored) (image : List ℕ) → image ≡ text (records_of s) → StandsFor image (records_of s)
-stands s image is = record { in_grammar = in-grammar s; gate = 0; rest = []; closed = λ e. omega (arith, e); bytes_are = is }
+stands s image is = record {
+  in_grammar = in-grammar s;
+  gate = 0;
+  rest = [];
+  closed = λ e. omega (arith, e);
+  bytes_are = is;
+}
 
-known : (s : Stored) (old : Seen) (cells : Cells) → old.disk ≡ Some cells → reads cells ≡ text (records_of s) → (setup_numbers s).n ≤ length old.providers →
+known : (s : Stored) (old : Seen) (cells : Cells) → old.disk ≡ Some cells →
+    reads cells ≡ text (records_of s) → (setup_numbers s).n ≤ length old.providers →
     IsKnown old (records_of s)
 known s old cells is reads_are enough = known-good (setup_numbers s) old cells (records_of s) is
-    (record { some = λ e. cc; accepted = are-accepted s; room = has-room s; setup = refl; stands = stands s (reads cells) reads_are }) enough
+    (record {
+      some = λ e. cc;
+      accepted = are-accepted s;
+      room = has-room s;
+      setup = refl;
+      stands = stands s (reads cells) reads_are;
+    }) enough
 
 -- ---- the forgery
 
 -- what is known of every get that ended well, of a store that is known
 abbrev pub WritesOrForged : Type 0
-WritesOrForged = (name bytes : List ℕ) (records : List Record) (file : File) (old new : Seen) (end : Ending) → Answers (GetOf name) old new end →
-    IsKnown old records → file_of records name ≡ Some file → AreBytes bytes → length bytes ≡ file.size → end.status ≡ 0 →
+WritesOrForged = (name bytes : List ℕ) (records : List Record) (file : File) (old new : Seen) (end : Ending) →
+    Answers (GetOf name) old new end →
+    IsKnown old records → file_of records name ≡ Some file → AreBytes bytes → length bytes ≡ file.size →
+    end.status ≡ 0 →
     (new.sink ≡ told_then old.sink bytes) ⊎ HoldsForgery (object_in_effect records file) bytes 1 end.heard
 
 -- a get of one of the stores that ends well with other bytes has heard a forgery
-pub other-forged : (s : Stored) (old new : Seen) (end : Ending) (cells : Cells) (written : List ℕ) → WritesOrForged → Answers (GetOf name_of_file) old new end →
-    old.disk ≡ Some cells → reads cells ≡ text (records_of s) → (setup_numbers s).n ≤ length old.providers → old.sink ≡ Some [] → new.sink ≡ Some written →
-    end.status ≡ 0 → written ≢ stored_bytes s → HoldsForgery (object_of (setup_numbers s) 1) (stored_bytes s) 1 end.heard
+pub other-forged : (s : Stored) (old new : Seen) (end : Ending) (cells : Cells) (written : List ℕ) →
+    WritesOrForged → Answers (GetOf name_of_file) old new end →
+    old.disk ≡ Some cells → reads cells ≡ text (records_of s) → (setup_numbers s).n ≤ length old.providers →
+    old.sink ≡ Some [] → new.sink ≡ Some written →
+    end.status ≡ 0 → written ≢ stored_bytes s →
+    HoldsForgery (object_of (setup_numbers s) 1) (stored_bytes s) 1 end.heard
 unfolding the-file
 other-forged s old new end cells written law answers is reads_are enough empty wrote ended other =
-    elim (law name_of_file (stored_bytes s) (records_of s) (the-file s) old new end answers (known s old cells is reads_are enough) (in-effect s) (are-bytes s) refl ended) [
-      | inl same ↦ absurd (other (written-is (sym wrote ∙ same ∙ ap (λ told. told_then told (stored_bytes s)) empty)))
+    elim (law name_of_file (stored_bytes s) (records_of s) (the-file s) old new end answers
+    (known s old cells is reads_are enough) (in-effect s) (are-bytes s) refl ended) [
+      | inl same ↦ absurd (other
+          (written-is (sym wrote ∙ same ∙ ap (λ told. told_then told (stored_bytes s)) empty)))
       | inr forged ↦ forged
     ]
   where

@@ -12,8 +12,9 @@ ghost use Rattle.forged_stores.specs.declared.stored.Stored.{Stored as Kept};
 
 use command_laws::ends::gets_give_the_file;
 
-/// A get of the file of a store whose journal the disk reads, and that is handed enough providers, whatever they are: where it ended with 0
-/// and wrote other bytes than the file's, what it heard holds a forgery against the file.
+/// A get of the file of a store whose journal the disk reads, and that is handed enough providers, whatever
+/// they are: where it ended with 0 and wrote other bytes than the file's, what it heard holds a forgery
+/// against the file.
 pub fn other_bytes_are_a_forgery()
     ensures { (s : Kept) (old new : Seen) (end : Ending) (cells : Cells) (written : List ℕ)
         → Answers (GetOf name_of_file) old new end →

@@ -13,8 +13,8 @@ use std::io;
 use std::marker::Model;
 use stream_model::{Failed, WriteFault};
 
-/// A file as a disk, seen in contracts as its counts of faults and calls. It tells nothing of what it holds. Behind a sync that failed each
-/// call fails.
+/// A file as a disk, seen in contracts as its counts of faults and calls. It tells nothing of what it holds.
+/// Behind a sync that failed each call fails.
 #[derive(Drop)]
 pub struct FileDisk<R: Files + Clone + Drop> {
     file: KeptFile<R>,

@@ -50,8 +50,8 @@ impl LastBlock {
 }
 
 impl<R: Files + Clone + Drop> Folder<R> {
-    /// Opens nothing, and makes room for the path of a block, so that no later call has to. A store marks the folder as
-    /// unsynced; where there is no mark it syncs the folder itself.
+    /// Opens nothing, and makes room for the path of a block, so that no later call has to. A store marks the
+    /// folder as unsynced; where there is no mark it syncs the folder itself.
     pub fn new(
         rt: &R,
         alloc: Global,
@@ -152,7 +152,8 @@ impl<R: Files + Clone + Drop> Folder<R> {
         Ok(true)
     }
 
-    /// Reads the symbol in a row; none where there is no block of the challenge's size. A block that was read last is not read again.
+    /// Reads the symbol in a row; none where there is no block of the challenge's size. A block that was read
+    /// last is not read again.
     fn symbol_in(
         &mut self,
         object: u64,
@@ -197,9 +198,9 @@ impl<R: Files + Clone + Drop> Folder<R> {
         Ok(removed.is_some())
     }
 
-    /// Removes the files of an object's blocks, and no other file, by their numbers, and goes on past one that cannot be
-    /// removed. It ends behind 4,096 stripes in a row of which none was removed: a longer hole hides what is behind it. The
-    /// answer is the last error.
+    /// Removes the files of an object's blocks, and no other file, by their numbers, and goes on past one
+    /// that cannot be removed. It ends behind 4,096 stripes in a row of which none was removed: a longer hole
+    /// hides what is behind it. The answer is the last error.
     pub fn remove(&mut self, object: u64) -> io::Result<()> {
         let mut misses = 0;
         let mut answer = Ok(());

@@ -13,8 +13,8 @@ use std::fs::Files;
 use std::marker::Model;
 use stream_model::{Failed, WriteFault};
 
-/// A folder as a provider, seen in contracts as its counts. It tells nothing of what it holds. The block of object I and
-/// stripe S is the file `I-S` in it, 16 bytes a symbol.
+/// A folder as a provider, seen in contracts as its counts. It tells nothing of what it holds. The block of
+/// object I and stripe S is the file `I-S` in it, 16 bytes a symbol.
 #[derive(Drop)]
 pub struct FolderProvider<R: Files + Clone + Drop> {
     folder: Folder<R>,
@@ -38,8 +38,8 @@ impl<R: Files + Clone + Drop> Model for FolderProvider<R> {
 }
 
 impl<R: Files + Clone + Drop> FolderProvider<R> {
-    /// The folder at this path, which the first store makes. Each store syncs it. Opens nothing; want of memory is its one
-    /// refusal.
+    /// The folder at this path, which the first store makes. Each store syncs it. Opens nothing; want of
+    /// memory is its one refusal.
     pub fn new(rt: &R, alloc: Global, path: &str) -> Result<FolderProvider<R>, Memory>
         ensures { IfOk result (λ provider. provider ≡ fresh_counts) }
     {

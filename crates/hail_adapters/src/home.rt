@@ -11,8 +11,8 @@ use hail_field::Memory;
 use std::alloc::{AllocError, Global};
 use std::fs::Files;
 
-/// The disk of a home: its file `journal`. A write comes after the sync of the providers' folders that are marked. Opens
-/// nothing; want of memory is its one refusal.
+/// The disk of a home: its file `journal`. A write comes after the sync of the providers' folders that are
+/// marked. Opens nothing; want of memory is its one refusal.
 pub fn journal_disk<R: Files + Clone + Drop>(
     rt: &R,
     alloc: Global,
@@ -41,8 +41,8 @@ fn folder_provider<R: Files + Clone + Drop>(
     FolderProvider::marking(rt, alloc, &path, unsynced.mark(k.into())?)
 }
 
-/// The sixteen providers of a home: its folders `provider-0` to `provider-15`. A store marks its provider's folder. Opens
-/// nothing; want of memory is its one refusal.
+/// The sixteen providers of a home: its folders `provider-0` to `provider-15`. A store marks its provider's
+/// folder. Opens nothing; want of memory is its one refusal.
 pub fn folder_providers<R: Files + Clone + Drop>(
     rt: &R,
     alloc: Global,

@@ -8,9 +8,10 @@ use std::alloc::Global;
 use std::fs::{self, Files, OpenFile};
 use std::io::{self, ErrorKind, Seek, SeekFrom, Write};
 
-/// A plain file that is opened when it is first needed, and then kept open. One that isn't there reads as empty, and the first
-/// write makes it, for its owner alone. A folder, a pipe or a device in its place is an error. Behind a sync that failed each call
-/// fails: the system may show bytes that never reached the medium, and call a later sync done.
+/// A plain file that is opened when it is first needed, and then kept open. One that isn't there reads as
+/// empty, and the first write makes it, for its owner alone. A folder, a pipe or a device in its place is an
+/// error. Behind a sync that failed each call fails: the system may show bytes that never reached the medium,
+/// and call a later sync done.
 #[derive(Drop)]
 pub struct KeptFile<R: Files + Clone + Drop> {
     rt: R,
@@ -74,7 +75,8 @@ impl<R: Files + Clone + Drop> KeptFile<R> {
         Ok(())
     }
 
-    /// How many bytes the file has; 0 where there is none. An error is std's, or comes behind a sync that failed.
+    /// How many bytes the file has; 0 where there is none. An error is std's, or comes behind a sync that
+    /// failed.
     pub fn len(&mut self) -> io::Result<u64>
         ensures { IsTrue self.old.has_failed → IsErr result }
     {
@@ -111,8 +113,8 @@ impl<R: Files + Clone + Drop> KeptFile<R> {
         }
     }
 
-    /// Brings what was written to the medium, and at the first time the file's name in its folder too: another program may have made
-    /// the file and ended before it synced.
+    /// Brings what was written to the medium, and at the first time the file's name in its folder too:
+    /// another program may have made the file and ended before it synced.
     pub fn sync(&mut self) -> io::Result<()>
         ensures given_up { IsTrue self.old.has_failed → IsErr result }
         ensures failed { OnErr result (IsTrue self.new.has_failed) }
@@ -152,7 +154,8 @@ impl<R: Files + Clone + Drop> KeptFile<R> {
     }
 }
 
-/// Writes at an offset. Where nothing is to be written past the end, the gap before it is all that there is to fill.
+/// Writes at an offset. Where nothing is to be written past the end, the gap before it is all that there is
+/// to fill.
 fn put<F: Seek + Write + OpenFile>(file: &mut F, at: u64, bytes: &[u8]) -> io::Result<()> {
     if bytes.is_empty() {
         if file.metadata()?.len() < at {

@@ -12,7 +12,8 @@ use std::rc::Rc;
 /// The bytes of a provider's folder behind the home.
 const FOLDER_BYTES: usize = 14;
 
-/// Says that a folder has names that are not on the medium yet: a store sets it, and the sync of the folder takes it back.
+/// Says that a folder has names that are not on the medium yet: a store sets it, and the sync of the folder
+/// takes it back.
 #[derive(Drop)]
 pub struct Mark {
     is_set: Rc<Cell<bool>>,
@@ -39,8 +40,8 @@ impl Mark {
     }
 }
 
-/// Which of the sixteen folders of a home's providers have blocks whose names are not on the medium yet. A store marks its
-/// provider's, and a write of the journal syncs those that are marked.
+/// Which of the sixteen folders of a home's providers have blocks whose names are not on the medium yet. A
+/// store marks its provider's, and a write of the journal syncs those that are marked.
 #[derive(Drop)]
 pub struct Unsynced {
     marks: Vec<Mark>,

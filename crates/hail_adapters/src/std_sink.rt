@@ -9,8 +9,8 @@ use std::marker::Model;
 use std::rt::Runtime;
 use stream_model::{Sink, WriteFault};
 
-/// Standard output as a sink, seen in contracts as its count of faults. It tells nothing of what was written. A write that
-/// takes nothing of a piece that is not empty is a fault too.
+/// Standard output as a sink, seen in contracts as its count of faults. It tells nothing of what was written.
+/// A write that takes nothing of a piece that is not empty is a fault too.
 #[derive(Drop)]
 pub struct StdSink<R: Runtime> {
     rt: R,

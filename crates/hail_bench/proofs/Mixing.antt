@@ -23,8 +23,11 @@ pub length-kept_symbols : (n keep : ℕ) → length (kept_symbols n keep) ≡ ke
 length-kept_symbols n keep = length-map-range_with_len (λ k. number_after (n + k)) 0 keep
 
 -- one block more is encoded
-pub encoding_more : (profile : Profile) (n sum next : ℕ) (kept block : List ℕ) → next ≡ mixed_all sum block → sum ≡ encoding_checksum profile n →
-    block ≡ codeword profile kept → kept ≡ kept_symbols n profile.keep → next ≡ encoding_checksum profile (n + 1)
+pub encoding_more : (profile : Profile) (n sum next : ℕ) (kept block : List ℕ) → next ≡ mixed_all sum block →
+    sum ≡ encoding_checksum profile n →
+    block ≡ codeword profile kept → kept ≡ kept_symbols n profile.keep →
+    next ≡ encoding_checksum profile (n + 1)
 encoding_more profile n sum next kept block is_next is_sum is_block is_kept =
-    is_next ∙ ap (λ s. mixed_all s block) is_sum ∙ ap (mixed_all (encoding_checksum profile n)) (is_block ∙ ap (codeword profile) is_kept) ∙
+    is_next ∙ ap (λ s. mixed_all s block) is_sum
+    ∙ ap (mixed_all (encoding_checksum profile n)) (is_block ∙ ap (codeword profile) is_kept) ∙
     ap (encoding_checksum profile) (sym (add-one n))

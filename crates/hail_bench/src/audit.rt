@@ -53,7 +53,8 @@ impl Blocks for Held {
     }
 }
 
-/// Rounds of an audit of a file of 65,536 bytes at profile 4, of which all providers hold what they are to hold.
+/// Rounds of an audit of a file of 65,536 bytes at profile 4, of which all providers hold what they are to
+/// hold.
 #[derive(Drop)]
 pub struct AuditWork {
     coded: Coded,
@@ -97,7 +98,8 @@ fn held_by(
     Ok(Held { blocks })
 }
 
-/// The bytes of the audited file: 7 first, then each 5 times the one before, and 1. An audit takes as long whatever they are.
+/// The bytes of the audited file: 7 first, then each 5 times the one before, and 1. An audit takes as long
+/// whatever they are.
 fn audited_bytes(alloc: Global, length: u32) -> Result<Vec<u8>, Failure> {
     let mut bytes = vec![in alloc; 0_u8; length as usize]?;
     let mut next: u8 = 7;
@@ -135,7 +137,8 @@ fn file_over(n: &str, l: &str, b: &str) -> Result<FileShape, Failure> {
 }
 
 impl AuditWork {
-    /// The work that these words name: a shape, a count of rounds and one of picks, each at most 64. Makes the blocks.
+    /// The work that these words name: a shape, a count of rounds and one of picks, each at most 64. Makes
+    /// the blocks.
     pub fn from_words(alloc: Global, words: &[String]) -> Result<AuditWork, Failure> {
         let [n, l, b, rounds, picks] = words else {
             return Err(Failure::Usage);
@@ -195,7 +198,8 @@ impl AuditWork {
         sum
     }
 
-    /// Does the rounds. The checksum is of each answer, then of each provider's count, and of how many rounds were undecided.
+    /// Does the rounds. The checksum is of each answer, then of each provider's count, and of how many rounds
+    /// were undecided.
     pub fn run(&self, alloc: Global) -> Result<Outcome, Failure>
         ensures { IfOk result (λ outcome. outcome.count ≡ self.now.rounds) }
     {

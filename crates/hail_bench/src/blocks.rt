@@ -1,4 +1,5 @@
-//! What the works on blocks have in common: the kept symbols that they begin with, and the checksum of blocks.
+//! What the works on blocks have in common: the kept symbols that they begin with, and the checksum of
+//! blocks.
 ghost use Rattle.std.specs.Prelude.{◌≡◌, ◌+◌, length};
 ghost use Rattle.hail_bench.specs.Checksum.{number_after};
 ghost use Rattle.hail_bench.specs.Blocks.{kept_symbols, mixed, mixed_all};

@@ -35,8 +35,8 @@ pub fn spoil(errors: u32, error: Symbol, block: &mut [Symbol])
 }
 
 impl DecodeWork {
-    /// The work that these words name: a profile, a count of blocks, and how many symbols are wrong in each, which must be no more than
-    /// the profile corrects. Makes the code, which takes memory.
+    /// The work that these words name: a profile, a count of blocks, and how many symbols are wrong in each,
+    /// which must be no more than the profile corrects. Makes the code, which takes memory.
     pub fn from_words(alloc: Global, words: &[String]) -> Result<DecodeWork, Failure> {
         let [profile, count, errors] = words else {
             return Err(Failure::Usage);
@@ -71,8 +71,8 @@ impl DecodeWork {
         }
     }
 
-    /// Encodes the first block, with room for its kept symbols and for its codeword, spoils and corrects it again and again, and gives the
-    /// checksum.
+    /// Encodes the first block, with room for its kept symbols and for its codeword, spoils and corrects it
+    /// again and again, and gives the checksum.
     fn correct_all(&self, kept: &mut [Symbol], block: &mut [Symbol], work: &mut Work) -> u128
         requires kept { length kept.old ≡ (code_profile self.now.code).keep }
         requires block { length block.old ≡ (code_profile self.now.code).size }
@@ -91,7 +91,8 @@ impl DecodeWork {
         sum
     }
 
-    /// Corrects the blocks. The checksum is of how many symbols were changed, and of each symbol of the corrected block, for each block.
+    /// Corrects the blocks. The checksum is of how many symbols were changed, and of each symbol of the
+    /// corrected block, for each block.
     pub fn run(&self, alloc: Global) -> Result<Outcome, Failure>
         ensures count { IfOk result (λ outcome. outcome.count ≡ self.now.count) }
         ensures checksum { IfOk result (λ outcome.

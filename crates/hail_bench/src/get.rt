@@ -16,8 +16,8 @@ use hail_field::Symbol;
 use hail_poly::Work;
 use std::alloc::Global;
 
-/// Opening of each stripe of a file, from the blocks of all providers as they were made, or spoilt, which lie one after the
-/// other.
+/// Opening of each stripe of a file, from the blocks of all providers as they were made, or spoilt, which lie
+/// one after the other.
 #[derive(Drop)]
 pub struct GetWork {
     coded: Coded,
@@ -57,8 +57,8 @@ fn make(
     keys.column_into(&coded.code, stripe, rows, provider as usize, masks, block);
 }
 
-/// Appends the blocks of all stripes of a file of these bytes to `seen`, by stripe and then by provider, with room for the
-/// symbols of a stripe and for a block.
+/// Appends the blocks of all stripes of a file of these bytes to `seen`, by stripe and then by provider, with
+/// room for the symbols of a stripe and for a block.
 fn append_all(
     coded: &Coded,
     keys: &ObjectKeys,
@@ -106,8 +106,8 @@ fn made_all(alloc: Global, coded: &Coded, spoilt: Spoilt) -> Result<Vec<Symbol>,
 }
 
 impl GetWork {
-    /// The work on the file that these words name, a shape, a profile and a count of bytes, whose first providers spoil their blocks so.
-    /// Makes the code and the blocks.
+    /// The work on the file that these words name, a shape, a profile and a count of bytes, whose first
+    /// providers spoil their blocks so. Makes the code and the blocks.
     pub fn from_words(alloc: Global, spoilt: Spoilt, words: &[String]) -> Result<GetWork, Failure> {
         let coded = Coded::from_words(alloc, words)?;
         if !spoilt.fits(coded.file.shape) {
@@ -121,7 +121,8 @@ impl GetWork {
         })
     }
 
-    /// The same, where the first words say how the first providers spoil their blocks and how many of them do.
+    /// The same, where the first words say how the first providers spoil their blocks and how many of them
+    /// do.
     pub fn spoilt_from_words(alloc: Global, words: &[String]) -> Result<GetWork, Failure> {
         let [way, count, rest @ ..] = words else {
             return Err(Failure::Usage);

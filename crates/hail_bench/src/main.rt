@@ -1,4 +1,5 @@
-//! `hail_bench WORK COUNT ..`: does a piece of hail's work, writes a checksum of its answers, and tells how long it took.
+//! `hail_bench WORK COUNT ..`: does a piece of hail's work, writes a checksum of its answers, and tells how
+//! long it took.
 #![tactic(auto)]
 
 mod audit;

@@ -9,11 +9,12 @@ use crate::stripes::Coded;
 use column_codec::{MasksAtHand, ObjectKeys};
 use hail_field::{Shape, Symbol};
 
-/// How the first providers spoil their blocks: so many give others than their own, and after these so many in all give their
-/// own with as many wrong symbols as are corrected.
+/// How the first providers spoil their blocks: so many give others than their own, and after these so many in
+/// all give their own with as many wrong symbols as are corrected.
 #[derive(Clone, Copy)]
 pub struct Spoilt {
-    /// Whether the others are far from each codeword. Else they are codewords of other symbols, with the masks.
+    /// Whether the others are far from each codeword. Else they are codewords of other symbols, with the
+    /// masks.
     pub garbage: bool,
     pub liars: u8,
     pub erring: u8,

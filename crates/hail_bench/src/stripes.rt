@@ -1,4 +1,5 @@
-//! What the works on stripes have in common: the file, the blocks with room for a stripe, and the checksum of blocks.
+//! What the works on stripes have in common: the file, the blocks with room for a stripe, and the checksum of
+//! blocks.
 ghost use Rattle.std.specs.Prelude.{◌≡◌, ◌≤◌, ◌*◌, IfOk, replicate, length};
 ghost use Rattle.server_code.specs.Any.{code_profile};
 ghost use Rattle.hail_bench.specs.Stripes.{file_bytes, mixed_blocks};
@@ -28,7 +29,8 @@ pub struct Coded {
 }
 
 impl Coded {
-    /// The file that these words name, with its code, which takes memory: a shape, a profile, and a count of bytes.
+    /// The file that these words name, with its code, which takes memory: a shape, a profile, and a count of
+    /// bytes.
     pub fn from_words(alloc: Global, words: &[String]) -> Result<Coded, Failure> {
         Coded::new(alloc, file_named(words)?)
     }

@@ -13,8 +13,8 @@ use std::alloc::Global;
 pub const FORMS: &str =
     "product|square|inverse COUNT, encode PROFILE BLOCKS, decode PROFILE BLOCKS ERRORS, put-stripes|get-stripes N L B PROFILE BYTES, get-spoilt codewords|garbage|errors COUNT N L B PROFILE BYTES, or audit N L B ROUNDS PICKS";
 
-/// A piece of work that the words of a command line name. Each kind of work stands in a file of its own, as a type with `from_words`
-/// and `run`; a further kind is one more variant here, and its forms in `FORMS`.
+/// A piece of work that the words of a command line name. Each kind of work stands in a file of its own, as a
+/// type with `from_words` and `run`; a further kind is one more variant here, and its forms in `FORMS`.
 #[derive(Drop)]
 pub enum Work {
     /// Products, squares or inverses of symbols.

@@ -13,7 +13,8 @@ pub struct HeldStreams {
     held: [Option<File>; 3],
 }
 
-/// Opens a folder that is there always. Neither a read nor a write of it is done, so a stream that came closed fails.
+/// Opens a folder that is there always. Neither a read nor a write of it is done, so a stream that came
+/// closed fails.
 fn stand_in(rt: &HostRuntime) -> io::Result<Option<File>> {
     let file = fs::open(rt, "/")?;
     Ok(if file.as_raw_fd() < FIRST_FREE {
@@ -23,16 +24,17 @@ fn stand_in(rt: &HostRuntime) -> io::Result<Option<File>> {
     })
 }
 
-/// Holds each standard stream that came closed, so that no file of the home gets its descriptor. A read of standard input and a
-/// write to standard output then fail.
+/// Holds each standard stream that came closed, so that no file of the home gets its descriptor. A read of
+/// standard input and a write to standard output then fail.
 pub fn hold_streams(rt: &HostRuntime) -> io::Result<HeldStreams> {
     Ok(HeldStreams {
         held: [stand_in(rt)?, stand_in(rt)?, stand_in(rt)?],
     })
 }
 
-/// Waits until no other program is at work in the home, and keeps others out until the file is dropped: a command that only
-/// reads keeps out those that write. A home that is no folder needs no lock, since nothing can be stored in it.
+/// Waits until no other program is at work in the home, and keeps others out until the file is dropped: a
+/// command that only reads keeps out those that write. A home that is no folder needs no lock, since nothing
+/// can be stored in it.
 pub fn lock_home(rt: &HostRuntime, home: &str, words: &[String]) -> io::Result<Option<File>> {
     let folder = format!(in rt.alloc(); "{home}/")?;
     match fs::open(rt, &folder) {

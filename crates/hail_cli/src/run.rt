@@ -64,7 +64,8 @@ fn answer<D: Disk, P: Tamper, S: Source, K: Sink>(
     }
 }
 
-/// Answers the words over some devices and the standard streams. Want of memory for the streams is the one refusal.
+/// Answers the words over some devices and the standard streams. Want of memory for the streams is the one
+/// refusal.
 fn run_over<D: Disk, P: Tamper>(
     rt: &HostRuntime,
     words: &[String],
@@ -76,8 +77,8 @@ fn run_over<D: Disk, P: Tamper>(
     Some(answer(rt.alloc(), words, disk, providers, &mut source, &mut sink))
 }
 
-/// Answers the words over an empty memory and these providers, which are gone afterwards. Want of memory for the devices is the
-/// one refusal.
+/// Answers the words over an empty memory and these providers, which are gone afterwards. Want of memory for
+/// the devices is the one refusal.
 fn run_in_memory<P: Tamper + Drop>(
     rt: &HostRuntime,
     words: &[String],
@@ -123,7 +124,8 @@ fn home_providers(
     folder_providers(rt, rt.alloc(), home, unsynced).ok()
 }
 
-/// Answers the words over the journal and the providers of a home. Want of memory for the devices is the one refusal.
+/// Answers the words over the journal and the providers of a home. Want of memory for the devices is the one
+/// refusal.
 fn run_at_home(rt: &HostRuntime, home: &str, words: &[String]) -> Option<Told> {
     let unsynced = Unsynced::new(rt.alloc()).ok()?;
     let mut disk = journal_disk(rt, rt.alloc(), home, &unsynced).ok()?;
@@ -131,8 +133,8 @@ fn run_at_home(rt: &HostRuntime, home: &str, words: &[String]) -> Option<Told> {
     run_over(rt, words, &mut disk, &mut providers)
 }
 
-/// Answers the words over a home that no other program is at work in meanwhile. A home that cannot be locked is a fault of the
-/// disk, and then nothing is touched.
+/// Answers the words over a home that no other program is at work in meanwhile. A home that cannot be locked
+/// is a fault of the disk, and then nothing is touched.
 fn run_alone(rt: &HostRuntime, home: &str, words: &[String]) -> Option<Told> {
     let fault = Told {
         status: DISK_FAULT,
@@ -157,8 +159,8 @@ fn run_linked(rt: &HostRuntime, words: &[String]) -> Option<Told> {
     run_in_memory(rt, words, linked_providers(rt.alloc())?)
 }
 
-/// Answers the words of a command line: the first is `-` for memory, `+` for memory behind links, or else a home. No words are
-/// answered as no command.
+/// Answers the words of a command line: the first is `-` for memory, `+` for memory behind links, or else a
+/// home. No words are answered as no command.
 pub fn run(rt: &HostRuntime, words: &[String]) -> Told {
     let told = match words {
         [] => run_unlinked(rt, words),

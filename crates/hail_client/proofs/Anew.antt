@@ -47,7 +47,8 @@ pub by-told : {A X : Type 0} (told : Option A) → (IsSome told → X) → (is_s
 by-told None f g = g refl
 by-told (Some a) f g = f refl
 
-untold-goes : {A : Type 0} (step : A → A → Type 0) (old new : Option A) → is_some old ≡ false → Goes step old new → new ≡ None
+untold-goes : {A : Type 0} (step : A → A → Type 0) (old new : Option A) → is_some old ≡ false →
+    Goes step old new → new ≡ None
 untold-goes step None None is goes = refl
 untold-goes step None (Some new) is goes = absurd goes
 untold-goes step (Some old) new is goes = absurd (false≢true (sym is))
@@ -73,7 +74,8 @@ closed-over rs next faults ps = record {
   is_barred = false;
 }
 
-rests-over : (rs : List Record) → AreAccepted rs → IsTrue (list_all is_in_grammar rs) → text_size rs ≤ largest_journal →
+rests-over : (rs : List Record) → AreAccepted rs → IsTrue (list_all is_in_grammar rs) →
+    text_size rs ≤ largest_journal →
     (next faults : ℕ) (ps : List Provider) → IsAtRest (closed-over rs next faults ps)
 rests-over rs accepted spelled room next faults ps = record {
   idle = (refl, refl, refl, refl);
@@ -91,8 +93,10 @@ none-rests : (next faults : ℕ) (ps : List Provider) → IsAtRest (closed-over 
 none-rests = rests-over [] tt refl (omega arith)
 
 -- devices that stand for it
-stands-over : (rs : List Record) → ((next faults : ℕ) (ps : List Provider) → IsAtRest (closed-over rs next faults ps)) →
-    (next faults : ℕ) (ps : List Provider) (holds : Option Cells) → StandsForState holds (closed-over rs next faults ps) →
+stands-over : (rs : List Record) →
+    ((next faults : ℕ) (ps : List Provider) → IsAtRest (closed-over rs next faults ps)) →
+    (next faults : ℕ) (ps : List Provider) (holds : Option Cells) →
+    StandsForState holds (closed-over rs next faults ps) →
     StandsClosed next (devices holds faults ps) (closed-over rs next faults ps)
 stands-over rs rest next faults ps holds images = record {
   devices = record { images = images; faults = refl; providers = record { count = refl; each = each-at ps } };
@@ -106,25 +110,34 @@ untold-images : (holds : Option Cells) (w : State) → holds ≡ None → Stands
 untold-images holds w is = subst (λ (o : Option Cells). StandsForState o w) (sym is) tt
 
 -- where no vault is open, client and devices stand for a state over no record
-pub closed-standing : (o : Option Vault) (next faults : ℕ) (ps : List Provider) (holds : Option Cells) → is_some o ≡ false → holds ≡ None →
+pub closed-standing : (o : Option Vault) (next faults : ℕ) (ps : List Provider) (holds : Option Cells) →
+    is_some o ≡ false → holds ≡ None →
     IsStanding (record { vault = o; next_job = next }) (devices holds faults ps)
 closed-standing (Some v) next faults ps holds none is = absurd (false≢true (sym none))
 closed-standing None next faults ps holds none is =
-    record { state = closed-over [] next faults ps; stands = stands-over [] none-rests next faults ps holds (untold-images holds (closed-over [] next faults ps) is) }
+    record {
+      state = closed-over [] next faults ps;
+      stands = stands-over [] none-rests next faults ps holds
+          (untold-images holds (closed-over [] next faults ps) is);
+    }
 
 -- ---- reopenings
 
 -- a closed state whose disk is read again stays
-same-rereads-over : (rs : List Record) (next f : ℕ) (ps : List Provider) → Rereads (closed-over rs next f ps) (closed-over rs next f ps)
+same-rereads-over : (rs : List Record) (next f : ℕ) (ps : List Provider) →
+    Rereads (closed-over rs next f ps) (closed-over rs next f ps)
 same-rereads-over rs next f ps = (rs, A, inl (refl, refl), inl refl)
 
-module _ (moment next f g : ℕ) (ps : List Provider) (old new : Option Cells) (old_is : old ≡ None) (new_is : new ≡ None) (never : f ≤ g) where
+module _ (moment next f g : ℕ) (ps : List Provider) (old new : Option Cells) (old_is : old ≡ None)
+    (new_is : new ≡ None) (never : f ≤ g) where
   abbrev AnewBy : Outcome → Client → Type 0
   AnewBy outcome c = IsMadeAnew moment next Reopen outcome c (devices old f ps) (devices new g ps)
 
   -- no vault is open afterwards, over the same records
-  closed-anew : (rs : List Record) → ((n h : ℕ) (qs : List Provider) → IsAtRest (closed-over rs n h qs)) → (why : refusal.Refusal) →
-      Reopens (closed-over rs next f ps) (events.Refused why) (closed-over rs next g ps) → AnewBy (events.Refused why) (without_vault next)
+  closed-anew : (rs : List Record) → ((n h : ℕ) (qs : List Provider) → IsAtRest (closed-over rs n h qs)) →
+      (why : refusal.Refusal) →
+      Reopens (closed-over rs next f ps) (events.Refused why) (closed-over rs next g ps) →
+      AnewBy (events.Refused why) (without_vault next)
   closed-anew rs rest why happens = record {
     before = closed-over rs next f ps;
     stands_before = stands-over rs rest next f ps old (untold-images old (closed-over rs next f ps) old_is);
@@ -137,15 +150,20 @@ module _ (moment next f g : ℕ) (ps : List Provider) (old new : Option Cells) (
   }
 
   fault-anew : (why : StartFault) → (why ≡ start_fault.DiskFault → Rose f g) →
-      UnlessBadJournal (Err (reopen_fault.NotOpened why)) (AnewBy (events.Refused (start_refusal why)) (without_vault next))
-  fault-anew start_fault.DiskFault rose = closed-anew [] none-rests refusal.DiskFault (g, never, rose refl, refl)
+      UnlessBadJournal (Err (reopen_fault.NotOpened why))
+      (AnewBy (events.Refused (start_refusal why)) (without_vault next))
+  fault-anew start_fault.DiskFault rose =
+      closed-anew [] none-rests refusal.DiskFault (g, never, rose refl, refl)
   fault-anew start_fault.Memory rose = closed-anew [] none-rests refusal.Memory (g, never, refl)
-  fault-anew start_fault.NotSetUp rose = closed-anew [] none-rests refusal.NotSetUp (closed-over [] next f ps, same-rereads-over [] next f ps, refl, (g, never, refl))
+  fault-anew start_fault.NotSetUp rose = closed-anew [] none-rests refusal.NotSetUp
+      (closed-over [] next f ps, same-rereads-over [] next f ps, refl, (g, never, refl))
   fault-anew (start_fault.BadJournal at) rose = tt
 
 -- records were read
-module _ (told : Option Cells) (rs : List Record) (is_read : IsRead told rs) (v : Vault) (holds : Option Cells) (g next : ℕ)
-    (stands : (u : State) (qs : List Provider) → IsJustOpened u rs next g qs → Stands v (devices holds g qs) u) where
+module _ (told : Option Cells) (rs : List Record) (is_read : IsRead told rs) (v : Vault)
+    (holds : Option Cells) (g next : ℕ)
+    (stands : (u : State) (qs : List Provider) → IsJustOpened u rs next g qs →
+    Stands v (devices holds g qs) u) where
   rest : (n h : ℕ) (qs : List Provider) → IsAtRest (closed-over rs n h qs)
   rest = rests-over rs is_read.accepted is_read.in_grammar is_read.room
 
@@ -164,16 +182,21 @@ module _ (told : Option Cells) (rs : List Record) (is_read : IsRead told rs) (v 
 
     -- the vault that was opened has as many providers as the setup that it read
     pub uses-as : provider_count v ≡ (setup_in start).n
-    uses-as = count-is start rs sound whole is_read.in_grammar (inl refl) is_read.some v holds g next refl stands
+    uses-as = count-is start rs sound whole is_read.in_grammar
+        (inl refl) is_read.some v holds g next refl stands
 
     -- with enough providers, the vault that was opened stands for an open state over them
-    pub stands-open : provider_count v ≤ length ps → Stands v (devices holds g ps) (opened start rs (provider_or_empty ps) (length ps) g)
+    pub stands-open : provider_count v ≤ length ps →
+        Stands v (devices holds g ps) (opened start rs (provider_or_empty ps) (length ps) g)
     stands-open enough =
-        stands-opened start rs sound whole is_read.in_grammar (inl refl) is_read.some v holds g next refl stands (provider_or_empty ps) ps (record { count = refl; each = each-at ps })
+        stands-opened start rs sound whole is_read.in_grammar
+        (inl refl) is_read.some v holds g next refl stands (provider_or_empty ps) ps
+        (record { count = refl; each = each-at ps })
         (let e = uses-as in omega (arith, enough, e))
 
     -- there is a state that was just opened over them
-    pub just-opened : provider_count v ≤ length ps → IsJustOpened (record (closed-over rs next g ps) { is_open = true }) rs next g ps
+    pub just-opened : provider_count v ≤ length ps →
+        IsJustOpened (record (closed-over rs next g ps) { is_open = true }) rs next g ps
     unfolding setup_in
     just-opened enough = record {
       at_rest = record {
@@ -196,52 +219,87 @@ module _ (told : Option Cells) (rs : List Record) (is_read : IsRead told rs) (v 
       handed = record { count = refl; each = each-at ps };
     }
 
-    module _ (moment : ℕ) (old : Option Cells) (old_is : old ≡ None) (holds_is : holds ≡ None) (never : f ≤ g) where
-      few-anew : length ps < provider_count v → IsMadeAnew moment next Reopen (events.Refused refusal.TooFewProviders) (without_vault next) (devices old f ps) (devices holds g ps)
+    module _ (moment : ℕ) (old : Option Cells) (old_is : old ≡ None) (holds_is : holds ≡ None)
+        (never : f ≤ g) where
+      few-anew : length ps < provider_count v →
+          IsMadeAnew moment next Reopen (events.Refused refusal.TooFewProviders) (without_vault next)
+          (devices old f ps) (devices holds g ps)
       few-anew few =
-          closed-anew moment next f g ps old holds old_is holds_is never rs rest refusal.TooFewProviders
-          (start, same-rereads-over rs next f ps, is-up, (let e = uses-as in omega (arith, few, e)), (g, never, refl))
+          closed-anew moment next f g ps old holds old_is holds_is never rs rest refusal.TooFewProviders (
+            start,
+            same-rereads-over rs next f ps,
+            is-up,
+            (let e = uses-as in omega (arith, few, e)),
+            (g, never, refl),
+          )
 
-      opened-anew : provider_count v ≤ length ps → IsMadeAnew moment next Reopen events.Opened (record { vault = Some v; next_job = next }) (devices old f ps) (devices holds g ps)
+      opened-anew : provider_count v ≤ length ps →
+          IsMadeAnew moment next Reopen events.Opened (record { vault = Some v; next_job = next })
+          (devices old f ps) (devices holds g ps)
       opened-anew enough = record {
         before = start;
         stands_before = stands-over rs rest next f ps old (untold-images old start old_is);
         makes = record {
           state = opened start rs (provider_or_empty ps) (length ps) g;
           spelled = tt;
-          happens = (start, same-rereads-over rs next f ps, is-up, (let e = uses-as in omega (arith, enough, e)), (g, never, refl));
+          happens = (
+            start,
+            same-rereads-over rs next f ps,
+            is-up,
+            (let e = uses-as in omega (arith, enough, e)),
+            (g, never, refl),
+          );
           stands = stands-open enough;
         };
       }
 
 -- ---- by the client
 
-module _ (c left : Client) (left_is : left ≡ without_vault (client_next_job c)) (old new : Option Cells) (f g : ℕ) where
-  module _ (moment : ℕ) (ps : List Provider) (none : is_some old ≡ false) (goes : Goes IsResynced old new) (never : f ≤ g) where
+module _ (c left : Client) (left_is : left ≡ without_vault (client_next_job c)) (old new : Option Cells)
+    (f g : ℕ) where
+  module _ (moment : ℕ) (ps : List Provider) (none : is_some old ≡ false) (goes : Goes IsResynced old new)
+      (never : f ≤ g) where
     -- a reopening that fails, for what it read or by the disk, is an event of some closed state
-    pub refused-anew : (why : StartFault) (result : Result Unit ReopenFault) → IsErrAnd result (λ e. e ≡ reopen_fault.NotOpened why) → (why ≡ start_fault.DiskFault → Rose f g) →
-        UnlessBadJournal result (IsMadeAnew moment (client_next_job c) Reopen (reopen_outcome result) left (devices old f ps) (devices new g ps))
+    pub refused-anew : (why : StartFault) (result : Result Unit ReopenFault) →
+        IsErrAnd result (λ e. e ≡ reopen_fault.NotOpened why) → (why ≡ start_fault.DiskFault → Rose f g) →
+        UnlessBadJournal result
+        (IsMadeAnew moment (client_next_job c) Reopen (reopen_outcome result) left (devices old f ps)
+        (devices new g ps))
     refused-anew why result is rose =
-        subst (λ (x : Client). UnlessBadJournal result (IsMadeAnew moment (client_next_job c) Reopen (reopen_outcome result) x (devices old f ps) (devices new g ps))) (sym left_is)
-        (subst (λ (r : Result Unit ReopenFault). UnlessBadJournal r (IsMadeAnew moment (client_next_job c) Reopen (reopen_outcome r) (without_vault (client_next_job c)) (devices old f ps) (devices new g ps)))
+        subst (λ (x : Client). UnlessBadJournal result
+        (IsMadeAnew moment (client_next_job c) Reopen (reopen_outcome result) x (devices old f ps)
+        (devices new g ps))) (sym left_is)
+        (subst (λ (r : Result Unit ReopenFault). UnlessBadJournal r
+        (IsMadeAnew moment (client_next_job c) Reopen (reopen_outcome r)
+        (without_vault (client_next_job c)) (devices old f ps) (devices new g ps)))
         (sym (err-is result (reopen_fault.NotOpened why) is))
-        (fault-anew moment (client_next_job c) f g ps old new (is_some-none old none) (untold-goes IsResynced old new none goes) never why rose))
+        (fault-anew moment (client_next_job c) f g ps old new (is_some-none old none)
+        (untold-goes IsResynced old new none goes) never why rose))
 
     -- a reopening with too few providers is refused, as an event of some closed state
     pub few-are : (v : Vault) → WasOpened v old new g left.next_job → length ps < provider_count v →
-        IsMadeAnew moment (client_next_job c) Reopen (events.Refused refusal.TooFewProviders) left (devices old f ps) (devices new g ps)
+        IsMadeAnew moment (client_next_job c) Reopen (events.Refused refusal.TooFewProviders) left
+        (devices old f ps) (devices new g ps)
     few-are v was few =
-        (let all : WasOpened v old new g (client_next_job c) = subst (λ (x : Client). WasOpened v old new g x.next_job) left_is was in
-        subst (λ (x : Client). IsMadeAnew moment (client_next_job c) Reopen (events.Refused refusal.TooFewProviders) x (devices old f ps) (devices new g ps)) (sym left_is)
-        (few-anew old all.0 all.1 v new g (client_next_job c) all.2 f ps moment old (is_some-none old none) (untold-goes IsResynced old new none goes) never few))
+        (let all : WasOpened v old new g (client_next_job c) =
+        subst (λ (x : Client). WasOpened v old new g x.next_job) left_is was in
+        subst (λ (x : Client). IsMadeAnew moment (client_next_job c) Reopen
+        (events.Refused refusal.TooFewProviders) x (devices old f ps) (devices new g ps)) (sym left_is)
+        (few-anew old all.0 all.1 v new g (client_next_job c) all.2 f ps moment old (is_some-none old none)
+        (untold-goes IsResynced old new none goes) never few))
 
     -- a reopening with enough providers opens, as an event of some closed state
     pub enough-are : (v : Vault) → WasOpened v old new g left.next_job → provider_count v ≤ length ps →
-        IsMadeAnew moment (client_next_job c) Reopen events.Opened (record { vault = Some v; next_job = left.next_job }) (devices old f ps) (devices new g ps)
+        IsMadeAnew moment (client_next_job c) Reopen events.Opened
+        (record { vault = Some v; next_job = left.next_job }) (devices old f ps) (devices new g ps)
     enough-are v was enough =
-        (let all : WasOpened v old new g (client_next_job c) = subst (λ (x : Client). WasOpened v old new g x.next_job) left_is was in
-        subst (λ (x : Client). IsMadeAnew moment (client_next_job c) Reopen events.Opened (record { vault = Some v; next_job = x.next_job }) (devices old f ps) (devices new g ps)) (sym left_is)
-        (opened-anew old all.0 all.1 v new g (client_next_job c) all.2 f ps moment old (is_some-none old none) (untold-goes IsResynced old new none goes) never enough))
+        (let all : WasOpened v old new g (client_next_job c) =
+        subst (λ (x : Client). WasOpened v old new g x.next_job) left_is was in
+        subst (λ (x : Client). IsMadeAnew moment (client_next_job c) Reopen events.Opened
+        (record { vault = Some v; next_job = x.next_job }) (devices old f ps) (devices new g ps))
+        (sym left_is)
+        (opened-anew old all.0 all.1 v new g (client_next_job c) all.2 f ps moment old (is_some-none old none)
+        (untold-goes IsResynced old new none goes) never enough))
 
     -- a client that holds no vault stands, with its devices, for some closed state
     pub left-standing : IsStanding left (devices new g ps)
@@ -250,17 +308,20 @@ module _ (c left : Client) (left_is : left ≡ without_vault (client_next_job c)
         (closed-standing None (client_next_job c) g ps new refl (untold-goes IsResynced old new none goes))
 
   -- a vault over enough providers stands for each state just opened over what was read, and there is one
-  pub opens-over : (v : Vault) (handed : ℕ) → WasOpened v old new g left.next_job → provider_count v ≤ handed →
+  pub opens-over : (v : Vault) (handed : ℕ) → WasOpened v old new g left.next_job →
+      provider_count v ≤ handed →
       OpensOver old (client_next_job c) handed (record { vault = Some v; next_job = left.next_job }) new g
   opens-over v handed was enough =
-      (let all : WasOpened v old new g (client_next_job c) = subst (λ (x : Client). WasOpened v old new g x.next_job) left_is was in
+      (let all : WasOpened v old new g (client_next_job c) =
+      subst (λ (x : Client). WasOpened v old new g x.next_job) left_is was in
       record {
         records = all.0;
         is_read = all.1;
         each = λ w providers just. all.2 w providers just;
         one = λ providers as_many. (
           record (closed-over all.0 (client_next_job c) g providers) { is_open = true },
-          just-opened old all.0 all.1 v new g (client_next_job c) all.2 g providers (omega (arith, enough, as_many)),
+          just-opened old all.0 all.1 v new g (client_next_job c) all.2 g providers
+              (omega (arith, enough, as_many)),
         );
       })
 

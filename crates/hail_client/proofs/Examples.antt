@@ -50,7 +50,10 @@ fresh-stands = start-stands fresh (start_of fresh []) fresh-start fresh-devices
 
 -- from there a run of one moment is reached, in which the closed client is asked for its files
 pub fresh-run : (m : Moment) × IsReached (start_of fresh []) (m ∷ []) closed_client fresh
-fresh-run = (record { event = Names; outcome = Closed; state = start_of fresh [] }, record { run = (tt, refl, tt); stands = fresh-stands })
+fresh-run = (
+  record { event = Names; outcome = Closed; state = start_of fresh [] },
+  record { run = (tt, refl, tt); stands = fresh-stands },
+)
 
 -- over devices of no known state there is a state before the first event, and they are its devices
 pub hidden-start : IsStart (start_of hidden []) × AreDevices hidden (start_of hidden [])
@@ -64,10 +67,15 @@ hidden-stands = start-stands hidden (start_of hidden []) hidden-start.0 hidden-s
 
 one-held : AreHeld (λ id. hundred) one_file
 one-held name file is = elim (cases_Bool (is_same_name (codes "notes.txt") name)) [
-  | inl t ↦ (let e : Some (record { name = name; id = 1; size = 100; profile = 1 }) ≡ Some file = sym (cond_true (is_same_name (codes "notes.txt") name) (Some (record { name = name; id = 1; size = 100; profile = 1 })) None t) ∙ is in
-      let f : record { name = name; id = 1; size = 100; profile = 1 } ≡ file = (let z : ◌≡◌ {A = File} (record { name = name; id = 1; size = 100; profile = 1 }) file = cc in z) in
+  | inl t ↦ (let e : Some (record { name = name; id = 1; size = 100; profile = 1 }) ≡ Some file =
+      sym (cond_true (is_same_name (codes "notes.txt") name)
+      (Some (record { name = name; id = 1; size = 100; profile = 1 })) None t) ∙ is in
+      let f : record { name = name; id = 1; size = 100; profile = 1 } ≡ file =
+      (let z : ◌≡◌ {A = File} (record { name = name; id = 1; size = 100; profile = 1 }) file = cc in z) in
       (refl, ap (λ (z : File). z.size) f))
-  | inr n ↦ absurd (let e : None ≡ Some file = sym (cond_false (is_same_name (codes "notes.txt") name) (Some (record { name = name; id = 1; size = 100; profile = 1 })) None n) ∙ is in cc)
+  | inr n ↦ absurd (let e : None ≡ Some file = sym
+      (cond_false (is_same_name (codes "notes.txt") name)
+      (Some (record { name = name; id = 1; size = 100; profile = 1 })) None n) ∙ is in cc)
 ]
 
 stored-rests : IsAtRest stored_state

@@ -19,28 +19,48 @@ none-loose at [] e = refl
 none-loose at ((b, false) ∷ cells) e = ap (λ (l : Cells). (b, false) ∷ l) (none-loose (suc at) cells e)
 none-loose at ((b, true) ∷ cells) e = absurd cc
 
-fresh-reads : (bytes : List ℕ) (rs : List Record) → ((bytes ≡ []) × (rs ≡ [])) ⊎ ((s : Setup) × (rs ≡ SetUp s ∷ []) × StandsFor bytes rs) → StandsOrIsEmpty bytes rs
+fresh-reads : (bytes : List ℕ) (rs : List Record) →
+    ((bytes ≡ []) × (rs ≡ [])) ⊎ ((s : Setup) × (rs ≡ SetUp s ∷ []) × StandsFor bytes rs) →
+    StandsOrIsEmpty bytes rs
 fresh-reads bytes rs (inl (empty, none)) = inr (none, (let e = ap length empty in omega (arith, e)))
 fresh-reads bytes rs (inr (s, one, stands)) = inl stands
 
 -- a disk before its first use stands for each state with its records, in area A
-pub fresh-stands : (cells : Cells) (rs : List Record) (w : State) → IsFresh cells rs → w.journal ≡ rs → w.area ≡ A → StandsForState (Some cells) w
+pub fresh-stands : (cells : Cells) (rs : List Record) (w : State) → IsFresh cells rs → w.journal ≡ rs →
+    w.area ≡ A → StandsForState (Some cells) w
 fresh-stands cells rs w fresh same area =
     subst (λ (c : Cells). StandsForState (Some c) w) (sym (none-loose 0 cells fresh.firm))
-    (firm-stands (reads cells) w area (subst (StandsOrIsEmpty (reads cells)) (sym same) (fresh-reads (reads cells) rs fresh.stands)))
+    (firm-stands (reads cells) w area
+    (subst (StandsOrIsEmpty (reads cells)) (sym same) (fresh-reads (reads cells) rs fresh.stands)))
 
 -- ---- the state before the first event
 
-fresh-first : (bytes : List ℕ) (rs : List Record) → ((bytes ≡ []) × (rs ≡ [])) ⊎ ((s : Setup) × (rs ≡ SetUp s ∷ []) × StandsFor bytes rs) → AreFirst rs
+fresh-first : (bytes : List ℕ) (rs : List Record) →
+    ((bytes ≡ []) × (rs ≡ [])) ⊎ ((s : Setup) × (rs ≡ SetUp s ∷ []) × StandsFor bytes rs) → AreFirst rs
 fresh-first bytes rs (inl (empty, none)) = inl none
-fresh-first bytes rs (inr (s, one, stands)) = inr (s, spelled (subst (λ (l : List Record). IsTrue (list_all is_in_grammar l)) one stands.in_grammar), one)
+fresh-first bytes rs (inr (s, one, stands)) = inr
+    (s, spelled (subst (λ (l : List Record). IsTrue (list_all is_in_grammar l)) one stands.in_grammar), one)
   where
     spelled : IsTrue (list_all is_in_grammar (SetUp s ∷ [])) → IsTrue (is_in_grammar (SetUp s))
     spelled all = grind (arith, all)
 
 -- over a disk before its first use there is a state before the first event
-pub is-start : (d : Devices) (cells : Cells) (rs : List Record) → d.holds ≡ Some cells → IsFresh cells rs → IsStart (start_of d rs)
-is-start d cells rs told fresh = record { records = fresh-first (reads cells) rs fresh.stands; journal = refl; first_area = refl; unswitched = refl; none_alone = refl; jobs = refl; first_job = refl; append = refl; doubt = refl; closed = refl; unbarred = refl }
+pub is-start : (d : Devices) (cells : Cells) (rs : List Record) → d.holds ≡ Some cells → IsFresh cells rs →
+    IsStart (start_of d rs)
+is-start d cells rs told fresh =
+    record {
+      records = fresh-first (reads cells) rs fresh.stands;
+      journal = refl;
+      first_area = refl;
+      unswitched = refl;
+      none_alone = refl;
+      jobs = refl;
+      first_job = refl;
+      append = refl;
+      doubt = refl;
+      closed = refl;
+      unbarred = refl;
+    }
 
 -- the provider of each place is the one handed in there
 pub each-at : (ps : List Provider) (j : ℕ) → j < length ps → slice_get ps j ≡ Some (provider_or_empty ps j)
@@ -55,17 +75,32 @@ start-tells (p ∷ ps) tell zero = tell zero p refl
 start-tells (p ∷ ps) tell (suc j) = start-tells ps (λ k q h. tell (suc k) q h) j
 
 -- devices with a disk before its first use are those of that state
-pub are-devices : (d : Devices) (cells : Cells) (rs : List Record) → d.holds ≡ Some cells → IsFresh cells rs → AreDevices d (start_of d rs)
+pub are-devices : (d : Devices) (cells : Cells) (rs : List Record) → d.holds ≡ Some cells → IsFresh cells rs →
+    AreDevices d (start_of d rs)
 are-devices d cells rs told fresh = record {
-  images = subst (λ (o : Option Cells). StandsForState o (start_of d rs)) (sym told) (fresh-stands cells rs (start_of d rs) fresh refl refl);
+  images = subst (λ (o : Option Cells). StandsForState o (start_of d rs)) (sym told)
+      (fresh-stands cells rs (start_of d rs) fresh refl refl);
   faults = refl;
   providers = record { count = refl; each = each-at d.providers };
 }
 
 -- a disk that tells nothing
-pub untold-start : (d : Devices) (rs : List Record) → d.holds ≡ None → AreFirst rs → IsStart (start_of d rs) × AreDevices d (start_of d rs)
+pub untold-start : (d : Devices) (rs : List Record) → d.holds ≡ None → AreFirst rs →
+    IsStart (start_of d rs) × AreDevices d (start_of d rs)
 untold-start d rs none first = (
-  record { records = first; journal = refl; first_area = refl; unswitched = refl; none_alone = refl; jobs = refl; first_job = refl; append = refl; doubt = refl; closed = refl; unbarred = refl },
+  record {
+    records = first;
+    journal = refl;
+    first_area = refl;
+    unswitched = refl;
+    none_alone = refl;
+    jobs = refl;
+    first_job = refl;
+    append = refl;
+    doubt = refl;
+    closed = refl;
+    unbarred = refl;
+  },
   record {
     images = subst (λ (o : Option Cells). StandsForState o (start_of d rs)) (sym none) tt;
     faults = refl;
@@ -74,8 +109,12 @@ untold-start d rs none first = (
 )
 
 -- a disk that reads nothing
-pub started : (d : Devices) (cells : Cells) → d.holds ≡ Some cells → cells ≡ [] → (w : State) × IsStart w × AreDevices d w
+pub started : (d : Devices) (cells : Cells) → d.holds ≡ Some cells → cells ≡ [] →
+    (w : State) × IsStart w × AreDevices d w
 started d cells told e = (start_of d [], is-start d cells [] told none, are-devices d cells [] told none)
   where
     none : IsFresh cells []
-    none = record { firm = ap (λ (c : Cells). loose_from 0 c) e; stands = inl (ap (λ (c : Cells). reads c) e, refl) }
+    none = record {
+      firm = ap (λ (c : Cells). loose_from 0 c) e;
+      stands = inl (ap (λ (c : Cells). reads c) e, refl);
+    }

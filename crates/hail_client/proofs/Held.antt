@@ -14,5 +14,8 @@ zeros rs id = replicate (size_by_id (files_of rs) id) 0
 
 -- over accepted records, zeros of their sizes are bytes for all files in effect
 pub zeros-held : (rs : List Record) → AreAccepted rs → AreHeld (zeros rs) rs
-zeros-held rs accepted name file is =
-    (zeros-bytes (size_by_id (files_of rs) file.id), length-replicate (size_by_id (files_of rs) file.id) 0 ∙ size-in_effect rs accepted name file is)
+zeros-held rs accepted name file is = (
+  zeros-bytes (size_by_id (files_of rs) file.id),
+  length-replicate (size_by_id (files_of rs) file.id) 0
+      ∙ size-in_effect rs accepted name file is,
+)

@@ -24,32 +24,47 @@ use Rattle.hail_client.specs.Outcomes.{client_begin_outcome, names_outcome}
 use Rattle.hail_client.specs.Stands.{StandsBy, ClientStands, MakesEvent, ClientMakesStep}
 
 -- an open vault makes them
-pub begin-of : (c : Client) (v next : Vault) (kind : Kind) (result : Result ℕ BeginFault) → c.vault ≡ Some v → IsSpelledKind kind → ((w : State) (d : Devices) (moment : ℕ) → Stands v d w → MakesBegin w moment kind result next d) →
-    (w : State) (d : Devices) (moment : ℕ) → ClientStands c d w → MakesEvent w moment (Begin kind) (client_begin_outcome (Some result)) (record { vault = Some next; next_job = c.next_job }) d
+pub begin-of : (c : Client) (v next : Vault) (kind : Kind) (result : Result ℕ BeginFault) → c.vault ≡ Some v →
+    IsSpelledKind kind → ((w : State) (d : Devices) (moment : ℕ) → Stands v d w →
+    MakesBegin w moment kind result next d) →
+    (w : State) (d : Devices) (moment : ℕ) → ClientStands c d w →
+    MakesEvent w moment (Begin kind) (client_begin_outcome (Some result))
+    (record { vault = Some next; next_job = c.next_job }) d
 begin-of c v next kind result is spelled makes w d moment S =
     (let M = makes w d moment (subst (λ (o : Option Vault). StandsBy o c.next_job d w) is S) in
     record { state = M.state; spelled = spelled; happens = M.begins; stands = M.stands })
 
-module _ (c : Client) (v next : Vault) (number : ℕ) (turn : Turn) (old new : Devices) (is : c.vault ≡ Some v) (makes : (w : State) (moment : ℕ) → Stands v old w → vault.MakesStep w moment number turn next old new) where
+module _ (c : Client) (v next : Vault) (number : ℕ) (turn : Turn) (old new : Devices) (is : c.vault ≡ Some v)
+    (makes : (w : State) (moment : ℕ) → Stands v old w →
+    vault.MakesStep w moment number turn next old new) where
   opened : (w : State) → ClientStands c old w → Stands v old w
   opened w S = subst (λ (o : Option Vault). StandsBy o c.next_job old w) is S
 
   -- a step of an open client's vault is a step of the machine's job
-  pub step-of : number < 2 ^ 32 → (w : State) (moment : ℕ) → ClientStands c old w → ClientMakesStep w moment number (Some turn) (record { vault = Some next; next_job = c.next_job }) old new
+  pub step-of : number < 2 ^ 32 → (w : State) (moment : ℕ) → ClientStands c old w →
+      ClientMakesStep w moment number (Some turn) (record { vault = Some next; next_job = c.next_job }) old
+      new
   step-of spelled w moment S = (let M = makes w moment (opened w S) in
-      record { makes = record { state = M.state; spelled = spelled; happens = M.happens; stands = M.stands }; beyond = M.beyond; torn = M.torn })
+      record {
+        makes = record { state = M.state; spelled = spelled; happens = M.happens; stands = M.stands };
+        beyond = M.beyond;
+        torn = M.torn;
+      })
 
   -- what a vault's job heard by its end is what the machine's job heard
-  pub heard-of : (w : State) → ClientStands c old w → IfEnded turn (λ ended. ended.heard ≡ heard_by (job_of w.jobs number))
+  pub heard-of : (w : State) → ClientStands c old w →
+      IfEnded turn (λ ended. ended.heard ≡ heard_by (job_of w.jobs number))
   heard-of w S = (makes w 0 (opened w S)).heard
 
 -- none does where no vault is open
-closed-by : (o : Option Vault) (next : ℕ) (w : State) (d : Devices) → o ≡ None → StandsBy o next d w → w.is_open ≡ false
+closed-by : (o : Option Vault) (next : ℕ) (w : State) (d : Devices) → o ≡ None → StandsBy o next d w →
+    w.is_open ≡ false
 closed-by (Some v) next w d none S = absurd cc
 closed-by None next w d none S = S.closed
 
 -- a step of a client with no vault is one of the machine that changes nothing
-pub step-closed : (c : Client) (number : ℕ) (d : Devices) → c.vault ≡ None → number < 2 ^ 32 → (w : State) (moment : ℕ) → ClientStands c d w → ClientMakesStep w moment number None c d d
+pub step-closed : (c : Client) (number : ℕ) (d : Devices) → c.vault ≡ None → number < 2 ^ 32 →
+    (w : State) (moment : ℕ) → ClientStands c d w → ClientMakesStep w moment number None c d d
 step-closed c number d none spelled w moment S = record {
   makes = record {
     state = w;
@@ -62,10 +77,21 @@ step-closed c number d none spelled w moment S = record {
 }
 
 -- the files in effect are listed
-names-by : (o : Option Vault) (next : ℕ) (w : State) (d : Devices) → StandsBy o next d w → Lists w w.is_open (names_outcome (option_map table_of o)) w
-names-by (Some v) next w d S = subst (λ b. Lists w b (events.Listed (table_of v).files) w) (sym S.core.is_open) (S.core.table.files, refl)
+names-by : (o : Option Vault) (next : ℕ) (w : State) (d : Devices) → StandsBy o next d w →
+    Lists w w.is_open (names_outcome (option_map table_of o)) w
+names-by (Some v) next w d S = subst (λ b. Lists w b (events.Listed (table_of v).files) w)
+    (sym S.core.is_open) (S.core.table.files, refl)
 names-by None next w d S = subst (λ b. Lists w b Closed w) (sym S.closed) refl
 
 -- the files that a client lists are those of the machine
-pub names : (w : State) (moment : ℕ) (c : Client) (d : Devices) (tables : Option Kept) → tables ≡ option_map table_of c.vault → ClientStands c d w → MakesEvent w moment Names (names_outcome tables) c d
-names w moment c d tables is S = record { state = w; spelled = tt; happens = subst (λ (t : Option Kept). Lists w w.is_open (names_outcome t) w) (sym is) (names-by c.vault c.next_job w d S); stands = S }
+pub names : (w : State) (moment : ℕ) (c : Client) (d : Devices) (tables : Option Kept) →
+    tables ≡ option_map table_of c.vault → ClientStands c d w →
+    MakesEvent w moment Names (names_outcome tables) c d
+names w moment c d tables is S =
+    record {
+      state = w;
+      spelled = tt;
+      happens = subst (λ (t : Option Kept). Lists w w.is_open (names_outcome t) w) (sym is)
+          (names-by c.vault c.next_job w d S);
+      stands = S;
+    }

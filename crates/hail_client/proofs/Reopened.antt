@@ -58,16 +58,19 @@ has-setup w sound some = elim (cases_Bool (is_some (setup_of w.records))) [
 
 -- the vault was opened over these records, and so many providers are handed in
 abbrev pub opened : State → List Record → (ℕ → Provider) → ℕ → ℕ → State
-opened w rs providers handed faults = record (settled w rs) { is_open = true; providers = providers; handed = handed; disk_faults = faults }
+opened w rs providers handed faults =
+    record (settled w rs) { is_open = true; providers = providers; handed = handed; disk_faults = faults }
 
-module _ (w : State) (rs : List Record) (sound : IsSound 8 w) (whole : IsWholeJournal w) (good : IsTrue (list_all is_in_grammar rs)) (kept : AreKept w rs) (some : rs ≢ []) where
+module _ (w : State) (rs : List Record) (sound : IsSound 8 w) (whole : IsWholeJournal w)
+    (good : IsTrue (list_all is_in_grammar rs)) (kept : AreKept w rs) (some : rs ≢ []) where
   mid : IsSound 8 (settled w rs)
   mid = settled-sound w rs sound whole kept
 
   up : IsSetUp (settled w rs)
   up = has-setup (settled w rs) mid some
 
-  rests : (providers : ℕ → Provider) (handed faults : ℕ) → (setup_in (settled w rs)).n ≤ handed → IsAtRest (opened w rs providers handed faults)
+  rests : (providers : ℕ → Provider) (handed faults : ℕ) → (setup_in (settled w rs)).n ≤ handed →
+      IsAtRest (opened w rs providers handed faults)
   unfolding setup_in
   rests providers handed faults enough = record {
     idle = (refl, refl, refl, refl);
@@ -75,22 +78,35 @@ module _ (w : State) (rs : List Record) (sound : IsSound 8 w) (whole : IsWholeJo
     whole = record { journal = refl; area = whole.area; unswitched = refl };
     accepted = mid.accepted;
     in_grammar = good;
-    room = (let a = mid.room in let e = whole-end (settled w rs) (settled-whole w rs whole) in omega (arith, a, e));
+    room = (let a = mid.room in let e = whole-end (settled w rs) (settled-whole w rs whole) in
+        omega (arith, a, e));
     files = mid.files;
     set_up = λ is. up;
     handed = λ is. enough;
   }
 
   module _ (v : Vault) (holds : Option Cells) (faults first : ℕ) (is_first : w.next_job ≡ first)
-      (stands : (u : State) (ps : List Provider) → IsJustOpened u rs first faults ps → Stands v (devices holds faults ps) u) where
-    just : (u : State) (ps : List Provider) → IsAtRest u → u.is_open ≡ true → u.records ≡ rs → u.next_job ≡ first → u.disk_faults ≡ faults → AreHanded ps u → Stands v (devices holds faults ps) u
-    just u ps rest opens records next faults_are handed = stands u ps (record { at_rest = record { rest = rest; opened = opens; next = next }; records = records; faults_are = faults_are; handed = handed })
+      (stands : (u : State) (ps : List Provider) → IsJustOpened u rs first faults ps →
+      Stands v (devices holds faults ps) u) where
+    just : (u : State) (ps : List Provider) → IsAtRest u → u.is_open ≡ true → u.records ≡ rs →
+        u.next_job ≡ first → u.disk_faults ≡ faults → AreHanded ps u → Stands v (devices holds faults ps) u
+    just u ps rest opens records next faults_are handed =
+        stands u ps (record {
+          at_rest = record { rest = rest; opened = opens; next = next };
+          records = records;
+          faults_are = faults_are;
+          handed = handed;
+        })
 
     -- a vault opened over a whole journal stands for the machine's state once it is open
-    pub stands-opened : (providers : ℕ → Provider) (ps : List Provider) → AreHanded ps (record (settled w rs) { providers = providers; handed = length ps }) → (setup_in (settled w rs)).n ≤ length ps →
+    pub stands-opened : (providers : ℕ → Provider) (ps : List Provider) →
+        AreHanded ps (record (settled w rs) { providers = providers; handed = length ps }) →
+        (setup_in (settled w rs)).n ≤ length ps →
         Stands v (devices holds faults ps) (opened w rs providers (length ps) faults)
     stands-opened providers ps handed enough =
-        just (opened w rs providers (length ps) faults) ps (rests providers (length ps) faults enough) refl refl is_first refl (record { count = refl; each = handed.each })
+        just (opened w rs providers (length ps) faults) ps
+        (rests providers (length ps) faults enough) refl refl is_first refl
+        (record { count = refl; each = handed.each })
 
     -- the vault uses as many providers as the setup in effect says
     pub count-is : provider_count v ≡ (setup_in (settled w rs)).n
@@ -100,7 +116,8 @@ module _ (w : State) (rs : List Record) (sound : IsSound 8 w) (whole : IsWholeJo
         let ps : List Provider = replicate n anyone in
         let e : length ps ≡ n = length-replicate n anyone in
         let enough : n ≤ length ps = omega (arith, e) in
-        let S = stands-opened (λ j. anyone) ps (record { count = refl; each = λ j l. each-anyone n j (omega (arith, l, e)) }) enough in
+        let S = stands-opened (λ j. anyone) ps
+        (record { count = refl; each = λ j l. each-anyone n j (omega (arith, l, e)) }) enough in
         sym (ap (λ (z : Setup). z.n) S.setup))
 
 -- ---- events
@@ -109,35 +126,57 @@ module _ (w : State) (rs : List Record) (sound : IsSound 8 w) (whole : IsWholeJo
 abbrev pub without_vault : ℕ → Client
 without_vault next = record { vault = None; next_job = next }
 
-module _ (w : State) (moment next : ℕ) (old : Cells) (f0 f1 : ℕ) (ps : List Provider) (sound : IsSound 8 w) (are : AreDevices (devices (Some old) f0 ps) w) (is_next : w.next_job ≡ next) (never : f0 ≤ f1) where
+module _ (w : State) (moment next : ℕ) (old : Cells) (f0 f1 : ℕ) (ps : List Provider) (sound : IsSound 8 w)
+    (are : AreDevices (devices (Some old) f0 ps) w) (is_next : w.next_job ≡ next) (never : f0 ≤ f1) where
   le : w.disk_faults ≤ f1
   le = (let e = are.faults in omega (arith, e, never))
 
   -- the disk holds the whole history
   whole_journal : IsWholeJournal w
-  whole_journal = sound.journal.whole (version-shown 8 w (reads old) sound (are.images (reads old) (IsImage-reads old)))
+  whole_journal = sound.journal.whole
+      (version-shown 8 w (reads old) sound (are.images (reads old) (IsImage-reads old)))
 
   read : ShowsFirst w (reads old)
   read = shows-first w (reads old) whole_journal (are.images (reads old) (IsImage-reads old))
 
   -- a state in which no vault is open, and job numbers go on
-  closed-at : (new : Option Cells) (u : State) → Reopens w events.Opened u ⊎ ((why : refusal.Refusal) × Reopens w (events.Refused why) u) → StandsForState new u → u.disk_faults ≡ f1 → u.handed ≡ w.handed → ((j : ℕ) → u.providers j ≡ w.providers j) →
+  closed-at : (new : Option Cells) (u : State) → Reopens w events.Opened u ⊎
+      ((why : refusal.Refusal) × Reopens w (events.Refused why) u) → StandsForState new u →
+      u.disk_faults ≡ f1 → u.handed ≡ w.handed → ((j : ℕ) → u.providers j ≡ w.providers j) →
       u.is_open ≡ false → u.next_job ≡ w.next_job → StandsClosed next (devices new f1 ps) u
   closed-at new u happens images faults handed providers closed same = record {
-    devices = record { images = images; faults = faults; providers = record { count = handed ∙ are.providers.count; each = λ j l. are.providers.each j l ∙ ap Some (sym (providers j)) } };
+    devices = record {
+      images = images;
+      faults = faults;
+      providers = record {
+        count = handed ∙ are.providers.count;
+        each = λ j l. are.providers.each j l
+            ∙ ap Some (sym (providers j));
+      };
+    };
     sound = by happens;
     closed = closed;
     next_job_is = same ∙ is_next;
   }
     where
-      by : Reopens w events.Opened u ⊎ ((why : refusal.Refusal) × Reopens w (events.Refused why) u) → IsSound 8 u
+      by : Reopens w events.Opened u ⊎ ((why : refusal.Refusal) × Reopens w (events.Refused why) u) →
+          IsSound 8 u
       by (inl h) = events-sound 8 moment w sound (omega arith, omega arith) Reopen events.Opened u tt h
-      by (inr (why, h)) = events-sound 8 moment w sound (omega arith, omega arith) Reopen (events.Refused why) u tt h
+      by (inr (why, h)) = events-sound 8 moment w sound (omega arith, omega arith) Reopen
+          (events.Refused why) u tt h
 
-  refused-at : (new : Option Cells) (why : refusal.Refusal) (u : State) → Reopens w (events.Refused why) u → StandsForState new u → u.disk_faults ≡ f1 → u.handed ≡ w.handed → ((j : ℕ) → u.providers j ≡ w.providers j) →
-      u.is_open ≡ false → u.next_job ≡ w.next_job → MakesEvent w moment Reopen (events.Refused why) (without_vault next) (devices new f1 ps)
+  refused-at : (new : Option Cells) (why : refusal.Refusal) (u : State) → Reopens w (events.Refused why) u →
+      StandsForState new u → u.disk_faults ≡ f1 → u.handed ≡ w.handed →
+      ((j : ℕ) → u.providers j ≡ w.providers j) →
+      u.is_open ≡ false → u.next_job ≡ w.next_job →
+      MakesEvent w moment Reopen (events.Refused why) (without_vault next) (devices new f1 ps)
   refused-at new why u happens images faults handed providers closed same =
-      record { state = u; spelled = tt; happens = happens; stands = closed-at new u (inr (why, happens)) images faults handed providers closed same }
+      record {
+        state = u;
+        spelled = tt;
+        happens = happens;
+        stands = closed-at new u (inr (why, happens)) images faults handed providers closed same;
+      }
 
   -- what the disk reads it reads still
   abbrev left : State
@@ -145,25 +184,33 @@ module _ (w : State) (moment next : ℕ) (old : Cells) (f0 f1 : ℕ) (ps : List 
 
   resynced-images : (new : Option Cells) → Goes IsResynced (Some old) new → StandsForState new left
   resynced-images None goes = absurd goes
-  resynced-images (Some new) (inl same) = same-images (Some new) w left refl refl refl refl (subst (λ (c : Cells). StandsForState (Some c) w) (sym same) are.images)
-  resynced-images (Some new) (inr same) = same-images (Some new) w left refl refl refl refl (subst (λ (c : Cells). StandsForState (Some c) w) (sym same) one)
+  resynced-images (Some new) (inl same) = same-images (Some new) w left refl refl refl refl
+      (subst (λ (c : Cells). StandsForState (Some c) w) (sym same) are.images)
+  resynced-images (Some new) (inr same) = same-images (Some new) w left refl refl refl refl
+      (subst (λ (c : Cells). StandsForState (Some c) w) (sym same) one)
     where
       one : StandsForState (Some (synced old)) w
-      one image of = subst (Shows w) (sym (image-firm (reads old) image of)) (are.images (reads old) (IsImage-reads old))
+      one image of = subst (Shows w) (sym (image-firm (reads old) image of))
+          (are.images (reads old) (IsImage-reads old))
 
-  synced-images : (new : Option Cells) (u : State) → new ≡ option_map synced (Some old) → u.area ≡ A → StandsOrIsEmpty (reads old) u.journal → StandsForState new u
-  synced-images new u is area stands = subst (λ (o : Option Cells). StandsForState o u) (sym is) (firm-stands (reads old) u area stands)
+  synced-images : (new : Option Cells) (u : State) → new ≡ option_map synced (Some old) → u.area ≡ A →
+      StandsOrIsEmpty (reads old) u.journal → StandsForState new u
+  synced-images new u is area stands =
+      subst (λ (o : Option Cells). StandsForState o u) (sym is) (firm-stands (reads old) u area stands)
 
   -- bytes that are no journal are not read
   not-bad : (at : ℕ) → IsStartFault (journal_read old) (start_fault.BadJournal at) → ⊥
   not-bad at (long, bad) = by_read read
     where
       none : (rs : List Record) → AreKept w rs → StandsFor (reads old) rs → ⊥
-      none rs kept stands = bad-none (journal_read old) at rs (kept-accepted w rs sound whole_journal kept) (stands-take largest_journal (reads old) rs stands (kept-fits w rs sound whole_journal kept)) bad
+      none rs kept stands = bad-none (journal_read old) at rs (kept-accepted w rs sound whole_journal kept)
+          (stands-take largest_journal (reads old) rs stands (kept-fits w rs sound whole_journal kept)) bad
 
       by_read : ShowsFirst w (reads old) → ⊥
       by_read (inl (inl stands)) = none w.records (inl refl) stands
-      by_read (inl (inr empty)) = (let short = empty.1 in let e = length-take largest_journal (reads old) in omega (arith, long, short, e))
+      by_read (inl (inr empty)) =
+          (let short = empty.1 in let e = length-take largest_journal (reads old) in
+          omega (arith, long, short, e))
       by_read (inr d) = none (d.doubt.entry ∷ w.records) (inr (d.doubt, d.in_doubt, refl)) d.stands
 
   -- a disk on which nothing is set up
@@ -172,20 +219,30 @@ module _ (w : State) (moment next : ℕ) (old : Cells) (f0 f1 : ℕ) (ps : List 
   free-read (inr none) = inl (whole-read old [] none)
 
   -- a start that fails, by the disk or by what it read, is a reopening that the machine refuses
-  pub fault-event : (new : Option Cells) (why : StartFault) → Goes IsResynced (Some old) new → IsStartFault (journal_read old) why → (LiesInJournal why → new ≡ option_map synced (Some old)) → (why ≡ start_fault.DiskFault → Rose f0 f1) →
+  pub fault-event : (new : Option Cells) (why : StartFault) → Goes IsResynced (Some old) new →
+      IsStartFault (journal_read old) why → (LiesInJournal why → new ≡ option_map synced (Some old)) →
+      (why ≡ start_fault.DiskFault → Rose f0 f1) →
       MakesEvent w moment Reopen (events.Refused (start_refusal why)) (without_vault next) (devices new f1 ps)
   fault-event new start_fault.DiskFault goes is lies rose =
-      refused-at new refusal.DiskFault left (f1, le, subst (λ (k : ℕ). Rose k f1) (sym are.faults) (rose refl), refl) (resynced-images new goes) refl refl (λ j. refl) refl refl
-  fault-event new start_fault.Memory goes is lies rose = refused-at new refusal.Memory left (f1, le, refl) (resynced-images new goes) refl refl (λ j. refl) refl refl
+      refused-at new refusal.DiskFault left
+      (f1, le, subst (λ (k : ℕ). Rose k f1) (sym are.faults) (rose refl), refl)
+      (resynced-images new goes) refl refl (λ j. refl) refl refl
+  fault-event new start_fault.Memory goes is lies rose =
+      refused-at new refusal.Memory left (f1, le, refl) (resynced-images new goes) refl refl
+      (λ j. refl) refl refl
   fault-event new start_fault.NotSetUp goes is lies rose =
       (let kept = read-kept w (reads old) [] (free-read is) read in
-      refused-at new refusal.NotSetUp (record (settled w []) { disk_faults = f1 }) (settled w [], rereads w [] whole_journal kept, refl, (f1, le, refl))
-      (synced-images new (record (settled w []) { disk_faults = f1 }) (lies tt) whole_journal.area (free-read is)) refl refl (λ j. refl) refl refl)
+      refused-at new refusal.NotSetUp (record (settled w []) { disk_faults = f1 })
+      (settled w [], rereads w [] whole_journal kept, refl, (f1, le, refl))
+      (synced-images new (record (settled w []) { disk_faults = f1 }) (lies tt) whole_journal.area
+      (free-read is)) refl refl (λ j. refl) refl refl)
   fault-event new (start_fault.BadJournal at) goes is lies rose = absurd (not-bad at is)
 
   -- records were read
-  module _ (new : Option Cells) (rs : List Record) (is_read : IsRead (Some old) rs) (is_synced : new ≡ option_map synced (Some old)) (v : Vault)
-      (stands : (u : State) (qs : List Provider) → IsJustOpened u rs next f1 qs → Stands v (devices new f1 qs) u) where
+  module _ (new : Option Cells) (rs : List Record) (is_read : IsRead (Some old) rs)
+      (is_synced : new ≡ option_map synced (Some old)) (v : Vault)
+      (stands : (u : State) (qs : List Provider) → IsJustOpened u rs next f1 qs →
+      Stands v (devices new f1 qs) u) where
     whole : StandsOrIsEmpty (reads old) rs
     whole = inl (whole-read old rs is_read.reads_are.1)
 
@@ -193,18 +250,31 @@ module _ (w : State) (moment next : ℕ) (old : Cells) (f0 f1 : ℕ) (ps : List 
     kept = read-kept w (reads old) rs whole read
 
     uses-as : provider_count v ≡ (setup_in (settled w rs)).n
-    uses-as = count-is w rs sound whole_journal is_read.in_grammar kept is_read.some v new f1 next is_next stands
+    uses-as = count-is w rs sound whole_journal is_read.in_grammar kept is_read.some v new f1 next is_next
+        stands
 
     -- a start with too few providers is a reopening that the machine refuses
-    pub few-event : length ps < provider_count v → MakesEvent w moment Reopen (events.Refused refusal.TooFewProviders) (without_vault next) (devices new f1 ps)
+    pub few-event : length ps < provider_count v →
+        MakesEvent w moment Reopen (events.Refused refusal.TooFewProviders) (without_vault next)
+        (devices new f1 ps)
     few-event few =
         (let count = are.providers.count in
-        let fewer : w.handed < (setup_in (settled w rs)).n = (let e = uses-as in omega (arith, count, few, e)) in
-        refused-at new refusal.TooFewProviders (record (settled w rs) { disk_faults = f1 }) (settled w rs, rereads w rs whole_journal kept, up w rs sound whole_journal is_read.in_grammar kept is_read.some, fewer, (f1, le, refl))
-        (synced-images new (record (settled w rs) { disk_faults = f1 }) is_synced whole_journal.area whole) refl refl (λ j. refl) refl refl)
+        let fewer : w.handed < (setup_in (settled w rs)).n =
+        (let e = uses-as in omega (arith, count, few, e)) in
+        refused-at new refusal.TooFewProviders (record (settled w rs) { disk_faults = f1 }) (
+          settled w rs,
+          rereads w rs whole_journal kept,
+          up w rs sound whole_journal is_read.in_grammar kept is_read.some,
+          fewer,
+          (f1, le, refl),
+        )
+        (synced-images new (record (settled w rs) { disk_faults = f1 }) is_synced whole_journal.area whole)
+        refl refl (λ j. refl) refl refl)
 
     -- a start with enough providers is a reopening that the machine makes
-    pub opened-event : provider_count v ≤ length ps → MakesEvent w moment Reopen events.Opened (record { vault = Some v; next_job = next }) (devices new f1 ps)
+    pub opened-event : provider_count v ≤ length ps →
+        MakesEvent w moment Reopen events.Opened (record { vault = Some v; next_job = next })
+        (devices new f1 ps)
     opened-event enough =
         (let count = are.providers.count in
         let many : (setup_in (settled w rs)).n ≤ length ps = (let e = uses-as in omega (arith, enough, e)) in
@@ -212,7 +282,14 @@ module _ (w : State) (moment next : ℕ) (old : Cells) (f0 f1 : ℕ) (ps : List 
         record {
           state = opened w rs w.providers w.handed f1;
           spelled = tt;
-          happens = (settled w rs, rereads w rs whole_journal kept, up w rs sound whole_journal is_read.in_grammar kept is_read.some, many_handed, (f1, le, refl));
+          happens = (
+            settled w rs,
+            rereads w rs whole_journal kept,
+            up w rs sound whole_journal is_read.in_grammar kept is_read.some,
+            many_handed,
+            (f1, le, refl),
+          );
           stands = subst (λ (k : ℕ). Stands v (devices new f1 ps) (opened w rs w.providers k f1)) (sym count)
-              (stands-opened w rs sound whole_journal is_read.in_grammar kept is_read.some v new f1 next is_next stands w.providers ps (record { count = refl; each = are.providers.each }) many);
+              (stands-opened w rs sound whole_journal is_read.in_grammar kept is_read.some v new f1 next
+              is_next stands w.providers ps (record { count = refl; each = are.providers.each }) many);
         })

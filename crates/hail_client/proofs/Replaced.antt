@@ -24,28 +24,51 @@ use Rattle.hail_client.proofs.Settled.{same-images}
 use Rattle.hail_client.proofs.Standing.{devices-of, sound-of}
 
 -- what a provider that tells goes to, or one that does not
-pub replaces : (IsThere : Held → Type 0) (change : Held → Held) (answer : Bool) (told : Option Held) (stores others fetches : ℕ) (new : Provider) → IfSome told (λ held. IsTrue answer ↔ IsThere held) →
-    new.held ≡ (if answer then option_map change told else told) → new.store_faults ≡ stores → others ≤ new.other_faults → (IsSome told → new.other_faults ≡ others) → new.fetches ≡ fetches →
-    Replaces IsThere change answer (record { held = told; store_faults = stores; other_faults = others; fetches = fetches }) new
-replaces IsThere change true (Some held) stores others fetches new there holds same_stores more same_others same_fetches =
-    (there, λ i. record { held = holds i; store_faults = same_stores i; other_faults = same_others refl i; fetches = same_fetches i })
-replaces IsThere change false (Some held) stores others fetches new there holds same_stores more same_others same_fetches =
-    (there, λ i. record { held = holds i; store_faults = same_stores i; other_faults = same_others refl i; fetches = same_fetches i })
+pub replaces : (IsThere : Held → Type 0) (change : Held → Held) (answer : Bool) (told : Option Held)
+    (stores others fetches : ℕ) (new : Provider) → IfSome told (λ held. IsTrue answer ↔ IsThere held) →
+    new.held ≡ (if answer then option_map change told else told) → new.store_faults ≡ stores →
+    others ≤ new.other_faults → (IsSome told → new.other_faults ≡ others) → new.fetches ≡ fetches →
+    Replaces IsThere change answer
+    (record { held = told; store_faults = stores; other_faults = others; fetches = fetches }) new
+replaces IsThere change true (Some held) stores others fetches new there holds same_stores more same_others same_fetches = (
+  there,
+  λ i. record {
+    held = holds i;
+    store_faults = same_stores i;
+    other_faults = same_others refl i;
+    fetches = same_fetches i;
+  },
+)
+replaces IsThere change false (Some held) stores others fetches new there holds same_stores more same_others same_fetches = (
+  there,
+  λ i. record {
+    held = holds i;
+    store_faults = same_stores i;
+    other_faults = same_others refl i;
+    fetches = same_fetches i;
+  },
+)
 replaces IsThere change true None stores others fetches new there holds same_stores more same_others same_fetches =
     (holds, record { store_faults = same_stores; other_faults = more; fetches = same_fetches })
 replaces IsThere change false None stores others fetches new there holds same_stores more same_others same_fetches =
     (holds, record { store_faults = same_stores; other_faults = more; fetches = same_fetches })
 
-module _ (holds : Option Cells) (faults : ℕ) (ps qs : List Provider) (w : State) (providers : ℕ → Provider) where
+module _ (holds : Option Cells) (faults : ℕ) (ps qs : List Provider) (w : State)
+    (providers : ℕ → Provider) where
   abbrev after : State
   after = record w { providers = providers }
 
-  stands-open : (v : Vault) → Stands v (devices holds faults ps) w → AreHanded qs after → IsSound 8 after → Stands v (devices holds faults qs) after
+  stands-open : (v : Vault) → Stands v (devices holds faults ps) w → AreHanded qs after → IsSound 8 after →
+      Stands v (devices holds faults qs) after
   unfolding setup_in
   stands-open v S handed sound =
       let same : setup_in after ≡ setup_in w = setup_same w after refl in
       record {
-        devices = record { images = same-images holds w after refl refl refl refl S.devices.images; faults = S.devices.faults; providers = handed };
+        devices = record {
+          images = same-images holds w after refl refl refl refl S.devices.images;
+          faults = S.devices.faults;
+          providers = handed;
+        };
         core = record {
           sound = sound;
           is_open = S.core.is_open;
@@ -65,10 +88,15 @@ module _ (holds : Option Cells) (faults : ℕ) (ps qs : List Provider) (w : Stat
         flight = S.flight;
       }
 
-  stands-after : (o : Option Vault) (next : ℕ) → StandsBy o next (devices holds faults ps) w → AreHanded qs after → IsSound 8 after → StandsBy o next (devices holds faults qs) after
+  stands-after : (o : Option Vault) (next : ℕ) → StandsBy o next (devices holds faults ps) w →
+      AreHanded qs after → IsSound 8 after → StandsBy o next (devices holds faults qs) after
   stands-after (Some v) next S handed sound = stands-open v S handed sound
   stands-after None next S handed sound = record {
-    devices = record { images = same-images holds w after refl refl refl refl S.devices.images; faults = S.devices.faults; providers = handed };
+    devices = record {
+      images = same-images holds w after refl refl refl refl S.devices.images;
+      faults = S.devices.faults;
+      providers = handed;
+    };
     sound = sound;
     closed = S.closed;
     next_job_is = S.next_job_is;
@@ -77,33 +105,56 @@ module _ (holds : Option Cells) (faults : ℕ) (ps qs : List Provider) (w : Stat
 -- ---- events
 
 -- a provider that is not handed in is not replaced
-pub not-handed : (event : Event) (w : State) (moment j : ℕ) (IsThere : Held → Type 0) (change : Held → Held) (c : Client) (holds : Option Cells) (faults : ℕ) (ps : List Provider) → IsSpelled event →
-    ((outcome : Outcome) (new : State) → ReplacesIf (nat_lt j w.handed) w j IsThere change outcome new → Happens 8 moment w event outcome new) → length ps ≤ j →
-    ClientStands c (devices holds faults ps) w → MakesEvent w moment event NothingHeld c (devices holds faults ps)
+pub not-handed : (event : Event) (w : State) (moment j : ℕ) (IsThere : Held → Type 0) (change : Held → Held)
+    (c : Client) (holds : Option Cells) (faults : ℕ) (ps : List Provider) → IsSpelled event →
+    ((outcome : Outcome) (new : State) → ReplacesIf (nat_lt j w.handed) w j IsThere change outcome new →
+    Happens 8 moment w event outcome new) → length ps ≤ j →
+    ClientStands c (devices holds faults ps) w →
+    MakesEvent w moment event NothingHeld c (devices holds faults ps)
 not-handed event w moment j IsThere change c holds faults ps spelled is beyond S =
     let count = (devices-of c.vault c.next_job (devices holds faults ps) w S).providers.count in
     let out : nat_lt j w.handed ≡ false = le-ltb j w.handed (omega (arith, count, beyond)) in
-    record { state = w; spelled = spelled; happens = is NothingHeld w (subst (λ b. ReplacesIf b w j IsThere change NothingHeld w) (sym out) refl); stands = S }
+    record {
+      state = w;
+      spelled = spelled;
+      happens =
+          is NothingHeld w (subst (λ b. ReplacesIf b w j IsThere change NothingHeld w) (sym out) refl);
+      stands = S;
+    }
 
 -- one that is handed in goes by the answer
-pub handed : (event : Event) (w : State) (moment j : ℕ) (IsThere : Held → Type 0) (change : Held → Held) (c : Client) (holds : Option Cells) (faults : ℕ) (ps qs : List Provider) (p q : Provider) (answer : Bool) → IsSpelled event →
-    ((outcome : Outcome) (new : State) → ReplacesIf (nat_lt j w.handed) w j IsThere change outcome new → Happens 8 moment w event outcome new) → j < length ps →
+pub handed : (event : Event) (w : State) (moment j : ℕ) (IsThere : Held → Type 0) (change : Held → Held)
+    (c : Client) (holds : Option Cells) (faults : ℕ) (ps qs : List Provider) (p q : Provider)
+    (answer : Bool) → IsSpelled event →
+    ((outcome : Outcome) (new : State) → ReplacesIf (nat_lt j w.handed) w j IsThere change outcome new →
+    Happens 8 moment w event outcome new) → j < length ps →
     slice_get ps j ≡ Some p → qs ≡ slice_set ps j q → Replaces IsThere change answer p q →
-    ClientStands c (devices holds faults ps) w → MakesEvent w moment event (replace_outcome answer) c (devices holds faults qs)
+    ClientStands c (devices holds faults ps) w →
+    MakesEvent w moment event (replace_outcome answer) c (devices holds faults qs)
 handed event w moment j IsThere change c holds faults ps qs p q answer spelled is within p_is qs_are made S =
     let are = (devices-of c.vault c.next_job (devices holds faults ps) w S).providers in
-    let inside : nat_lt j w.handed ≡ true = lt-ltb j w.handed (let count = are.count in omega (arith, count, within)) in
-    let seen : p ≡ w.providers j = (let e : Some p ≡ Some (w.providers j) = sym p_is ∙ are.each j within in cc) in
+    let inside : nat_lt j w.handed ≡ true = lt-ltb j w.handed
+    (let count = are.count in omega (arith, count, within)) in
+    let seen : p ≡ w.providers j =
+    (let e : Some p ≡ Some (w.providers j) = sym p_is ∙ are.each j within in cc) in
     let changed : ℕ → Provider = with_provider w.providers j q in
-    let after_is : AreHanded qs (after holds faults ps qs w changed) = subst (λ (l : List Provider). AreHanded l (after holds faults ps qs w changed)) (sym qs_are) (handed_on ps w (after holds faults ps qs w changed) j q are within refl (λ k. refl)) in
+    let after_is : AreHanded qs (after holds faults ps qs w changed) =
+    subst (λ (l : List Provider). AreHanded l (after holds faults ps qs w changed)) (sym qs_are)
+    (handed_on ps w (after holds faults ps qs w changed) j q are within refl (λ k. refl)) in
     record {
       state = after holds faults ps qs w changed;
       spelled = spelled;
-      happens = is (replace_outcome answer) (after holds faults ps qs w changed) (subst (λ b. ReplacesIf b w j IsThere change (replace_outcome answer) (after holds faults ps qs w changed)) (sym inside)
+      happens = is (replace_outcome answer) (after holds faults ps qs w changed)
+          (subst (λ b. ReplacesIf b w j IsThere change (replace_outcome answer)
+          (after holds faults ps qs w changed)) (sym inside)
           (by_answer answer (subst (λ (x : Provider). Replaces IsThere change answer x q) seen made)));
-      stands = stands-after holds faults ps qs w changed c.vault c.next_job S after_is (devices-sound 8 w changed w.disk_faults (sound-of c.vault c.next_job (devices holds faults ps) w S));
+      stands = stands-after holds faults ps qs w changed c.vault c.next_job S after_is
+          (devices-sound 8 w changed w.disk_faults
+          (sound-of c.vault c.next_job (devices holds faults ps) w S));
     }
   where
-    by_answer : (answer : Bool) → Replaces IsThere change answer (w.providers j) q → ReplacesAt w j IsThere change (replace_outcome answer) (record w { providers = with_provider w.providers j q })
+    by_answer : (answer : Bool) → Replaces IsThere change answer (w.providers j) q →
+        ReplacesAt w j IsThere change (replace_outcome answer)
+        (record w { providers = with_provider w.providers j q })
     by_answer true made = (q, made, refl)
     by_answer false made = (q, made, refl)

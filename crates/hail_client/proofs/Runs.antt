@@ -44,7 +44,8 @@ module _ (start : State) (ms : List Moment) (job : ℕ) where
     abbrev here : State
     here = now start (way.steps ++ ms)
 
-    one-step : MakesEvent here (length (way.steps ++ ms)) (Step job) More next new → IsOnWay start ms job next new
+    one-step : MakesEvent here (length (way.steps ++ ms)) (Step job) More next new →
+        IsOnWay start ms job next new
     one-step M = record {
       steps = record { event = Step job; outcome = More; state = M.state } ∷ way.steps;
       going = (refl, refl, way.going);
@@ -52,8 +53,12 @@ module _ (start : State) (ms : List Moment) (job : ℕ) where
     }
 
     -- with a step that goes on, the job is on its way still
-    pub one-more : (t : Option Turn) → is_more t ≡ true → MakesEvent here (length (way.steps ++ ms)) (Step job) (step_outcome t) next new → IsOnWay start ms job next new
-    one-more t goes M = one-step (subst (λ (x : Option Turn). MakesEvent here (length (way.steps ++ ms)) (Step job) (step_outcome x) next new) (more t goes) M)
+    pub one-more : (t : Option Turn) → is_more t ≡ true →
+        MakesEvent here (length (way.steps ++ ms)) (Step job) (step_outcome t) next new →
+        IsOnWay start ms job next new
+    one-more t goes M = one-step
+        (subst (λ (x : Option Turn). MakesEvent here (length (way.steps ++ ms)) (Step job)
+        (step_outcome x) next new) (more t goes) M)
 
     -- only one turn is told as going on
     goes-on : (t : Option Turn) → step_outcome t ≡ More → t ≡ Some turn.More
@@ -65,8 +70,10 @@ module _ (start : State) (ms : List Moment) (job : ℕ) where
     goes-on None e = absurd cc
 
     -- with a step that does not go on, the job has run to its end, and what it heard is told
-    pub at-end : (t : Option Turn) → t ≢ Some turn.More → MakesEvent here (length (way.steps ++ ms)) (Step job) (step_outcome t) next new →
-        IfSome t (λ t. IfEnded t (λ ended. ended.heard ≡ heard_by (job_of here.jobs job))) → RunsJobOn start ms job t next new
+    pub at-end : (t : Option Turn) → t ≢ Some turn.More →
+        MakesEvent here (length (way.steps ++ ms)) (Step job) (step_outcome t) next new →
+        IfSome t (λ t. IfEnded t (λ ended. ended.heard ≡ heard_by (job_of here.jobs job))) →
+        RunsJobOn start ms job t next new
     at-end t over M heard = record {
       steps = way.steps;
       last = record { event = Step job; outcome = step_outcome t; state = M.state };

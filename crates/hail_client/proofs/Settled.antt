@@ -30,28 +30,35 @@ one-reading bytes a b (inr (none, short)) (inl t) = none ∙ sym (short-none byt
 one-reading bytes a b (inr (none, short)) (inr (also, still)) = none ∙ sym also
 
 -- a disk with no loose byte stands for what it reads
-pub firm-stands : (bytes : List ℕ) (w : State) → w.area ≡ A → StandsOrIsEmpty bytes w.journal → StandsForState (Some (firm bytes)) w
-firm-stands bytes w area is image of = inl (shown (subst (λ (l : List ℕ). StandsOrIsEmpty l w.journal) (sym (image-firm bytes image of)) is))
+pub firm-stands : (bytes : List ℕ) (w : State) → w.area ≡ A → StandsOrIsEmpty bytes w.journal →
+    StandsForState (Some (firm bytes)) w
+firm-stands bytes w area is image of =
+    inl (shown (subst (λ (l : List ℕ). StandsOrIsEmpty l w.journal) (sym (image-firm bytes image of)) is))
   where
     shown : StandsOrIsEmpty image w.journal → StandsPlain w image
     shown (inl stands) = inl (area, stands)
     shown (inr empty) = inr empty
 
 -- images that stand for a state stand for one that holds the same
-pub same-images : (told : Option Cells) (w new : State) → new.journal ≡ w.journal → new.area ≡ w.area → new.is_switching ≡ w.is_switching → new.doubt ≡ w.doubt → StandsForState told w → StandsForState told new
+pub same-images : (told : Option Cells) (w new : State) → new.journal ≡ w.journal → new.area ≡ w.area →
+    new.is_switching ≡ w.is_switching → new.doubt ≡ w.doubt → StandsForState told w → StandsForState told new
 same-images told w new journal area switching doubt = each_image-mono told (Shows w) (Shows new) by
   where
     by : (image : List ℕ) → Shows w image → Shows new image
-    by image (inl (inl s)) = inl (inl (subst (λ (a : Area). StandsIn a image new.journal) (sym area) (subst (λ (l : List Record). StandsIn w.area image l) (sym journal) s)))
+    by image (inl (inl s)) =
+        inl (inl (subst (λ (a : Area). StandsIn a image new.journal) (sym area)
+        (subst (λ (l : List Record). StandsIn w.area image l) (sym journal) s)))
     by image (inl (inr e)) = inl (inr (journal ∙ e.0, e.1))
     by image (inr (inl d)) = inr (inl (record {
       doubt = d.doubt;
       in_doubt = doubt ∙ d.in_doubt;
-      stands = subst (λ (a : Area). StandsIn a image (d.doubt.entry ∷ new.journal)) (sym area) (subst (λ (l : List Record). StandsIn w.area image (d.doubt.entry ∷ l)) (sym journal) d.stands);
+      stands = subst (λ (a : Area). StandsIn a image (d.doubt.entry ∷ new.journal)) (sym area)
+          (subst (λ (l : List Record). StandsIn w.area image (d.doubt.entry ∷ l)) (sym journal) d.stands);
     }))
     by image (inr (inr x)) = inr (inr (record {
       switching = switching ∙ x.switching;
-      stands = subst (λ (a : Area). StandsIn (other_area a) image (packed new.journal)) (sym area) (subst (λ (l : List Record). StandsIn (other_area w.area) image (packed l)) (sym journal) x.stands);
+      stands = subst (λ (a : Area). StandsIn (other_area a) image (packed new.journal)) (sym area)
+          (subst (λ (l : List Record). StandsIn (other_area w.area) image (packed l)) (sym journal) x.stands);
     }))
 
 -- ---- what is in effect once nothing is in doubt
@@ -74,8 +81,10 @@ left-rereads w rs js left = (w.journal, w.area, inl (refl, refl), by left)
     by (inr (d, in_doubt, same, held)) = inr (d, in_doubt, λ i. left_with w (same i) (held i))
 
 -- what is so left of a sound state is sound
-pub left-sound : (w : State) (rs js : List Record) → IsSound 8 w → AreLeft w rs js → IsSound 8 (left_with w rs js)
-left-sound w rs js sound left = events-sound 8 0 w sound (omega arith, omega arith) (Stop []) Stopped (left_with w rs js) refl (left-rereads w rs js left)
+pub left-sound : (w : State) (rs js : List Record) → IsSound 8 w → AreLeft w rs js →
+    IsSound 8 (left_with w rs js)
+left-sound w rs js sound left = events-sound 8 0 w sound (omega arith, omega arith) (Stop []) Stopped
+    (left_with w rs js) refl (left-rereads w rs js left)
 
 -- ---- where the disk holds the whole history
 
@@ -86,7 +95,8 @@ AreKept w rs = (rs ≡ w.records) ⊎ ((d : Doubt) × (w.doubt ≡ Some d) × (r
 -- a journal that holds the whole history leaves just the records that it reads
 pub kept-left : (w : State) (rs : List Record) → IsWholeJournal w → AreKept w rs → AreLeft w rs rs
 kept-left w rs whole (inl e) = inl (e, e ∙ sym whole.journal)
-kept-left w rs whole (inr (d, in_doubt, e)) = inr (d, in_doubt, e, e ∙ ap (λ (l : List Record). d.entry ∷ l) (sym whole.journal))
+kept-left w rs whole (inr (d, in_doubt, e)) =
+    inr (d, in_doubt, e, e ∙ ap (λ (l : List Record). d.entry ∷ l) (sym whole.journal))
 
 -- the vault given up, with these records and nothing in doubt
 abbrev pub settled : State → List Record → State
@@ -101,31 +111,39 @@ pub rereads : (w : State) (rs : List Record) → IsWholeJournal w → AreKept w 
 rereads w rs whole kept = left-rereads w rs rs (kept-left w rs whole kept)
 
 -- a sound state with a whole journal is sound once nothing is in doubt
-pub settled-sound : (w : State) (rs : List Record) → IsSound 8 w → IsWholeJournal w → AreKept w rs → IsSound 8 (settled w rs)
+pub settled-sound : (w : State) (rs : List Record) → IsSound 8 w → IsWholeJournal w → AreKept w rs →
+    IsSound 8 (settled w rs)
 settled-sound w rs sound whole kept = left-sound w rs rs sound (kept-left w rs whole kept)
 
 -- an image stands for one of the two
-pub image-kept : (w : State) (image : List ℕ) → ShowsFirst w image → (rs : List Record) × AreKept w rs × StandsOrIsEmpty image rs
+pub image-kept : (w : State) (image : List ℕ) → ShowsFirst w image →
+    (rs : List Record) × AreKept w rs × StandsOrIsEmpty image rs
 image-kept w image (inl s) = (w.records, inl refl, s)
 image-kept w image (inr d) = (d.doubt.entry ∷ w.records, inr (d.doubt, d.in_doubt, refl), inl d.stands)
 
 -- what bytes stand for is the one of the two that they stand for as an image
-pub read-kept : (w : State) (bytes : List ℕ) (rs : List Record) → StandsOrIsEmpty bytes rs → ShowsFirst w bytes → AreKept w rs
+pub read-kept : (w : State) (bytes : List ℕ) (rs : List Record) → StandsOrIsEmpty bytes rs →
+    ShowsFirst w bytes → AreKept w rs
 read-kept w bytes rs is read =
     (let k = image-kept w bytes read in subst (AreKept w) (one-reading bytes k.0 rs k.2 is) k.1)
 
 -- both are accepted and fit the journal
-pub kept-accepted : (w : State) (rs : List Record) → IsSound 8 w → IsWholeJournal w → AreKept w rs → AreAccepted rs
+pub kept-accepted : (w : State) (rs : List Record) → IsSound 8 w → IsWholeJournal w → AreKept w rs →
+    AreAccepted rs
 kept-accepted w rs sound whole kept = (settled-sound w rs sound whole kept).accepted
 
 -- the records that a whole journal reads fit into the largest journal
-pub kept-fits : (w : State) (rs : List Record) → IsSound 8 w → IsWholeJournal w → AreKept w rs → text_size rs ≤ largest_journal
-kept-fits w rs sound whole kept = (let a = (settled-sound w rs sound whole kept).room in let e = whole-end (settled w rs) (settled-whole w rs whole) in omega (arith, a, e))
+pub kept-fits : (w : State) (rs : List Record) → IsSound 8 w → IsWholeJournal w → AreKept w rs →
+    text_size rs ≤ largest_journal
+kept-fits w rs sound whole kept =
+    (let a = (settled-sound w rs sound whole kept).room in
+    let e = whole-end (settled w rs) (settled-whole w rs whole) in omega (arith, a, e))
 
 -- the bytes that are looked at are as many as are read, where these are few
 pub short-read : (cells : Cells) → length (journal_read cells) ≤ 9 → length (reads cells) ≤ 9
 short-read cells short = (let e = length-take largest_journal (reads cells) in omega (arith, e, short))
 
 -- records that the largest journal's part of a disk stands for are those that the disk reads
-pub whole-read : (cells : Cells) (rs : List Record) → StandsFor (journal_read cells) rs → StandsFor (reads cells) rs
+pub whole-read : (cells : Cells) (rs : List Record) → StandsFor (journal_read cells) rs →
+    StandsFor (reads cells) rs
 whole-read cells rs is = stands-front largest_journal (reads cells) rs is

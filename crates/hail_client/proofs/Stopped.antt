@@ -19,9 +19,12 @@ use Rattle.vault_open.proofs.FirstVersion.{shows-first, version-shown}
 use Rattle.hail_client.proofs.Settled.{AreLeft, left_with, left-rereads, left-sound, kept-left, settled, image-kept, firm-stands}
 
 -- the vault is given up over devices that stand for the state with these records and nothing in doubt
-closed-stands : (w : State) (rs js : List Record) (told : Option Cells) (faults next : ℕ) (ps : List Provider) → IsSound 8 w → AreLeft w rs js → w.next_job ≡ next → w.disk_faults ≡ faults →
-    (ws : AreDevices (devices told faults ps) (left_with w rs js)) → StandsClosed next (devices told faults ps) (left_with w rs js)
-closed-stands w rs js told faults next ps sound left next_is faults_are are = record { devices = are; sound = left-sound w rs js sound left; closed = refl; next_job_is = next_is }
+closed-stands : (w : State) (rs js : List Record) (told : Option Cells) (faults next : ℕ)
+    (ps : List Provider) → IsSound 8 w → AreLeft w rs js → w.next_job ≡ next → w.disk_faults ≡ faults →
+    (ws : AreDevices (devices told faults ps) (left_with w rs js)) →
+    StandsClosed next (devices told faults ps) (left_with w rs js)
+closed-stands w rs js told faults next ps sound left next_is faults_are are =
+    record { devices = are; sound = left-sound w rs js sound left; closed = refl; next_job_is = next_is }
 
 -- the records and the journal that are left, over a disk that was stopped
 record StoppedAt (w : State) (new : Option Cells) : Type 0 where
@@ -31,8 +34,10 @@ record StoppedAt (w : State) (new : Option Cells) : Type 0 where
   stands : StandsForState new (left_with w records journal)
 
 -- where the disk goes, there is one of the two that it stands for
-stopped-left : (w : State) (old new : Option Cells) → IsSound 8 w → Goes Stopped old new → StandsForState old w → StoppedAt w new
-stopped-left w None None sound goes stands = record { records = w.records; journal = w.journal; left = inl (refl, refl); stands = tt }
+stopped-left : (w : State) (old new : Option Cells) → IsSound 8 w → Goes Stopped old new →
+    StandsForState old w → StoppedAt w new
+stopped-left w None None sound goes stands =
+    record { records = w.records; journal = w.journal; left = inl (refl, refl); stands = tt }
 stopped-left w None (Some new) sound goes stands = absurd goes
 stopped-left w (Some old) None sound goes stands = absurd goes
 stopped-left w (Some old) (Some new) sound (image, is, new_is) stands =
@@ -42,12 +47,15 @@ stopped-left w (Some old) (Some new) sound (image, is, new_is) stands =
       records = k.0;
       journal = k.0;
       left = kept-left w k.0 whole k.1;
-      stands = subst (λ (c : Cells). StandsForState (Some c) (settled w k.0)) (sym new_is) (firm-stands image (settled w k.0) whole.area k.2);
+      stands = subst (λ (c : Cells). StandsForState (Some c) (settled w k.0)) (sym new_is)
+          (firm-stands image (settled w k.0) whole.area k.2);
     }
 
 -- a stop of client and disk is one of the machine: the client is left without its vault
-pub stops : (w : State) (moment : ℕ) (picks : List ℕ) (c next : Client) (old new : Option Cells) (f g : ℕ) (ps : List Provider) → AreBytes picks → next ≡ record { vault = None; next_job = client_next_job c } →
-    Goes Stopped old new → g ≡ f → ClientStands c (devices old f ps) w → MakesEvent w moment (Stop picks) events.Stopped next (devices new g ps)
+pub stops : (w : State) (moment : ℕ) (picks : List ℕ) (c next : Client) (old new : Option Cells) (f g : ℕ)
+    (ps : List Provider) → AreBytes picks → next ≡ record { vault = None; next_job = client_next_job c } →
+    Goes Stopped old new → g ≡ f → ClientStands c (devices old f ps) w →
+    MakesEvent w moment (Stop picks) events.Stopped next (devices new g ps)
 stops w moment picks c next old new f g ps spelled next_is goes same S =
     let are = devices-of c.vault c.next_job (devices old f ps) w S in
     let sound = sound-of c.vault c.next_job (devices old f ps) w S in
@@ -58,6 +66,11 @@ stops w moment picks c next old new f g ps spelled next_is goes same S =
       spelled = spelled;
       happens = left-rereads w k.records k.journal k.left;
       stands = subst (λ (x : Client). ClientStands x (devices new g ps) after) (sym next_is)
-          (closed-stands w k.records k.journal new g (client_next_job c) ps sound k.left (next-of c.vault c.next_job (devices old f ps) w S) (are.faults ∙ sym same)
-          (record { images = k.stands; faults = are.faults ∙ sym same; providers = record { count = are.providers.count; each = are.providers.each } }));
+          (closed-stands w k.records k.journal new g (client_next_job c) ps sound k.left
+          (next-of c.vault c.next_job (devices old f ps) w S) (are.faults ∙ sym same)
+          (record {
+            images = k.stands;
+            faults = are.faults ∙ sym same;
+            providers = record { count = are.providers.count; each = are.providers.each };
+          }));
     }

@@ -13,7 +13,8 @@ use vault_table::Table;
 /// The number of the first job.
 const FIRST_JOB: u32 = 1;
 
-/// A client: a vault with its jobs, where one is open, over a disk and providers, which it does not hold: each call is lent them.
+/// A client: a vault with its jobs, where one is open, over a disk and providers, which it does not hold:
+/// each call is lent them.
 #[derive(Drop)]
 pub struct Client {
     pub(crate) vault: Option<Vault>,

@@ -19,8 +19,8 @@ ghost use Rattle.hail_client.specs.Examples.{closed_client, fresh, hidden, store
 ghost use Rattle.hail_client.specs.Start.{start_of, TellAll};
 ghost use Rattle.hail_client.specs.Stands.{ClientStands, MakesEvent, IsReached, ImageHasFile, moment_of};
 
-/// The devices of a client are those of each state that it stands for, which is sound; no more providers are used than are handed
-/// in, and the numbers of jobs are the same.
+/// The devices of a client are those of each state that it stands for, which is sound; no more providers are
+/// used than are handed in, and the numbers of jobs are the same.
 pub fn what_a_client_stands_for()
     ensures devices { (c : Client) (d : Devices) (w : State) → ClientStands c d w → AreDevices d w }
     ensures sound { (c : Client) (d : Devices) (w : State) → ClientStands c d w → IsSound 8 w }
@@ -30,22 +30,23 @@ pub fn what_a_client_stands_for()
         → w.next_job ≡ client_next_job c }
 {}
 
-/// Each image of the disk of a client stands for records that have every file which is kept: in effect, also with the record in
-/// doubt added.
+/// Each image of the disk of a client stands for records that have every file which is kept: in effect, also
+/// with the record in doubt added.
 pub fn images_have_the_files()
     ensures { (c : Client) (d : Devices) (w : State) (name : List ℕ) (file : File) → ClientStands c d w
         → IsKept w name file →
         EachImage d.holds (ImageHasFile name file) }
 {}
 
-/// A disk before its first use stands for each state whose journal, in the first area, is of the records that it reads.
+/// A disk before its first use stands for each state whose journal, in the first area, is of the records that
+/// it reads.
 pub fn fresh_disks_stand()
     ensures { (cells : Cells) (rs : List Record) (w : State) → IsFresh cells rs → w.journal ≡ rs
         → w.area ≡ A → StandsForState (Some cells) w }
 {}
 
-/// So there is a state before the first event for every disk that tells, before its first use, and for all providers; for a disk that
-/// tells nothing there is one over each list of first records.
+/// So there is a state before the first event for every disk that tells, before its first use, and for all
+/// providers; for a disk that tells nothing there is one over each list of first records.
 pub fn there_is_a_start()
     ensures start { (d : Devices) (cells : Cells) (rs : List Record) → d.holds ≡ Some cells
         → IsFresh cells rs → IsStart (start_of d rs) }
@@ -55,7 +56,8 @@ pub fn there_is_a_start()
         → IsStart (start_of d rs) × AreDevices d (start_of d rs) }
 {}
 
-/// A client that stands for a state has made the run of no event from there, and a run goes on by each call that is an event.
+/// A client that stands for a state has made the run of no event from there, and a run goes on by each call
+/// that is an event.
 pub fn runs_go_on()
     ensures starts { (start : State) (c : Client) (d : Devices) → ClientStands c d start
         → IsReached start [] c d }
@@ -65,13 +67,15 @@ pub fn runs_go_on()
         → IsReached start (moment_of m ∷ ms) next new }
 {}
 
-/// Where every provider that is handed in tells what it holds, so does every provider of the state before the first event.
+/// Where every provider that is handed in tells what it holds, so does every provider of the state before the
+/// first event.
 pub fn told_providers_tell()
     ensures { (d : Devices) (rs : List Record) → TellAll d.providers → AllTell (start_of d rs) }
 {}
 
-/// A client with no vault open over a disk that reads nothing and four providers that hold nothing: there is a start, all its providers
-/// tell, the client stands for it, and its list of files is a run of one moment. The same over devices of no known state.
+/// A client with no vault open over a disk that reads nothing and four providers that hold nothing: there is
+/// a start, all its providers tell, the client stands for it, and its list of files is a run of one moment.
+/// The same over devices of no known state.
 pub fn a_fresh_disk_has_a_start()
     ensures fresh { IsFresh [] [] × (fresh.holds ≡ Some []) }
     ensures start { IsStart (start_of fresh []) × AreDevices fresh (start_of fresh []) }
@@ -82,8 +86,8 @@ pub fn a_fresh_disk_has_a_start()
         × ClientStands closed_client hidden (start_of hidden []) }
 {}
 
-/// A client with no vault open over a disk that reads a journal with one file stands for a state in which the file is kept, so each
-/// image of the disk has it.
+/// A client with no vault open over a disk that reads a journal with one file stands for a state in which the
+/// file is kept, so each image of the disk has it.
 pub fn a_stored_file_is_kept()
     ensures stands { ClientStands closed_client stored stored_state }
     ensures kept { IsKept stored_state (codes "notes.txt") notes }

@@ -93,8 +93,8 @@ impl Client {
         init(alloc, disk, master, setup)
     }
 
-    /// Gives up an open vault with its jobs, and opens one over what the disk reads, where so many providers are handed in. Job
-    /// numbers go on. After an error no vault is open.
+    /// Gives up an open vault with its jobs, and opens one over what the disk reads, where so many providers
+    /// are handed in. Job numbers go on. After an error no vault is open.
     pub fn reopen<D: Disk>(
         &mut self,
         alloc: Global,
@@ -141,8 +141,8 @@ impl Client {
         Ok(())
     }
 
-    /// Gives up an open vault with its jobs, and stops the disk, of which one of its images is left: a disk in memory makes it by
-    /// the picks.
+    /// Gives up an open vault with its jobs, and stops the disk, of which one of its images is left: a disk
+    /// in memory makes it by the picks.
     pub fn stop<D: Disk>(&mut self, disk: &mut D, picks: &[u8])
         ensures machine { (w : State) (providers : List Provider) (moment : ℕ)
             → ClientStands self.old (devices (D.holds disk.old) (D.faults disk.old) providers) w

@@ -32,8 +32,8 @@ fn lose_of<P: Tamper>(held: &mut P, object: u64, stripe: u32) -> bool
 }
 
 impl Client {
-    /// Replaces one symbol of a block that a provider holds, and answers whether it was there; false where the provider is not
-    /// handed in.
+    /// Replaces one symbol of a block that a provider holds, and answers whether it was there; false where
+    /// the provider is not handed in.
     pub fn alter<P: Tamper>(
         &self,
         providers: &mut [P],
@@ -57,7 +57,8 @@ impl Client {
         alter_of(&mut providers[index], object, stripe, place, symbol)
     }
 
-    /// Takes away one block that a provider holds, and answers whether it was there; false where the provider is not handed in.
+    /// Takes away one block that a provider holds, and answers whether it was there; false where the provider
+    /// is not handed in.
     pub fn lose<P: Tamper>(
         &self,
         providers: &mut [P],

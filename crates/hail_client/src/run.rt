@@ -22,8 +22,9 @@ fn goes_on(answer: &Option<Turn>) -> bool
 }
 
 impl Client {
-    /// Makes as many steps of a job as it takes until the answer is not that it goes on; None where no vault is open. Condition:
-    /// where a vault is open, client and devices stand for some state, as they do at each moment of a run.
+    /// Makes as many steps of a job as it takes until the answer is not that it goes on; None where no vault
+    /// is open. Condition: where a vault is open, client and devices stand for some state, as they do at each
+    /// moment of a run.
     pub fn run<D: Disk, P: Provider>(
         &mut self,
         job: u32,

@@ -19,9 +19,9 @@ use provider_model::Provider;
 use vault::Turn;
 
 impl Client {
-    /// Makes the next action of a job, with its one call of a device, if it has one; None where no vault is open. Conditions:
-    /// as many providers as the open vault uses, or more, of which only these are used; and the disk is the one that it was
-    /// opened over.
+    /// Makes the next action of a job, with its one call of a device, if it has one; None where no vault is
+    /// open. Conditions: as many providers as the open vault uses, or more, of which only these are used; and
+    /// the disk is the one that it was opened over.
     pub fn step<D: Disk, P: Provider>(
         &mut self,
         job: u32,

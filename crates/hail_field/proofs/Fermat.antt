@@ -69,11 +69,15 @@ next_square k =
   where
     apart : (k : ℕ) → 1 * 2 ^ width k + 2 ^ width k / 2 ≡ bit_xor (2 ^ width k) (2 ^ width k / 2)
     apart k =
-        let high : number (suc k) (unit k, none k) ≡ 2 ^ width k = ap₂ (λ a b. a * 2 ^ width k + b) (number_unit k) (number_none k) ∙ omega arith in
-        let half : number (suc k) (none k, highest k) ≡ 2 ^ width k / 2 = ap₂ (λ a b. a * 2 ^ width k + b) (number_none k) (number_highest k) ∙ omega arith in
+        let high : number (suc k) (unit k, none k) ≡ 2 ^ width k =
+        ap₂ (λ a b. a * 2 ^ width k + b) (number_unit k) (number_none k) ∙ omega arith in
+        let half : number (suc k) (none k, highest k) ≡ 2 ^ width k / 2 =
+        ap₂ (λ a b. a * 2 ^ width k + b) (number_none k) (number_highest k) ∙ omega arith in
         let R = ring_at k in
-        sym (ap₂ bit_xor (sym high) (sym half) ∙ sym (number_add (suc k) (unit k, none k) (none k, highest k)) ∙
-        ap₂ (λ a b. a * 2 ^ width k + b) (ap (number k) (R.add_zero (unit k)) ∙ number_unit k) (ap (number k) (R.add_comm (none k) (highest k) ∙ R.add_zero (highest k)) ∙ number_highest k))
+        sym (ap₂ bit_xor (sym high) (sym half) ∙ sym (number_add (suc k) (unit k, none k) (none k, highest k))
+        ∙
+        ap₂ (λ a b. a * 2 ^ width k + b) (ap (number k) (R.add_zero (unit k)) ∙ number_unit k)
+        (ap (number k) (R.add_comm (none k) (highest k) ∙ R.add_zero (highest k)) ∙ number_highest k))
 
 -- 256 xor 128
 pub half_of_256 : nim_add 256 128 ≡ 384

@@ -23,7 +23,8 @@ pub fn symbol_is_number(a: Symbol)
     ensures { is_symbol a }
 {}
 
-/// Each symbol of a slice is such a number. A check learns it of an element once it is read, so this reads them all.
+/// Each symbol of a slice is such a number. A check learns it of an element once it is read, so this reads
+/// them all.
 pub fn symbols_are_numbers(items: &[Symbol])
     ensures { All is_symbol items.now }
 {
@@ -106,8 +107,8 @@ pub fn inverse_is_one(a: Symbol, b: Symbol)
     ensures { b ≡ nim_inv a }
 {}
 
-/// The product of two numbers of width `2 ^ level` is of that width, and the same at each greater width. Levels 0 to 7 are the widths
-/// 1, 2, 4, 8, 16, 32, 64 and 128.
+/// The product of two numbers of width `2 ^ level` is of that width, and the same at each greater width.
+/// Levels 0 to 7 are the widths 1, 2, 4, 8, 16, 32, 64 and 128.
 pub fn product_keeps_width(level: u8, above: u8, a: u128, b: u128)
     requires levels { level ≤ above }
     requires a_fits { a < 2 ^ width level }
@@ -116,14 +117,15 @@ pub fn product_keeps_width(level: u8, above: u8, a: u128, b: u128)
     ensures same { product above a b ≡ nim_mul a b }
 {}
 
-/// Each number below 2^(2^level) that is not 0 has an inverse below that bound. Levels 0 to 7 are the widths 1, 2, 4, 8, 16, 32, 64
-/// and 128.
+/// Each number below 2^(2^level) that is not 0 has an inverse below that bound. Levels 0 to 7 are the widths
+/// 1, 2, 4, 8, 16, 32, 64 and 128.
 pub fn inverse_keeps_width()
     ensures within { (level a : ℕ) → a < 2 ^ width level → nim_inv a < 2 ^ width level }
     ensures inverse { (level a : ℕ) → a < 2 ^ width level → a ≢ 0 → nim_mul a (nim_inv a) ≡ 1 }
 {}
 
-/// `F = 2^(2^level)`, the first number past a level, times a smaller number is their product as numbers, and F times F is F xor F / 2.
+/// `F = 2^(2^level)`, the first number past a level, times a smaller number is their product as numbers, and
+/// F times F is F xor F / 2.
 pub fn products_by_level_bound()
     ensures smaller { (level x : ℕ) → x < 2 ^ width level
         → nim_mul (2 ^ width level) x ≡ 2 ^ width level * x }
@@ -131,7 +133,8 @@ pub fn products_by_level_bound()
         (2 ^ width level / 2) }
 {}
 
-/// An instance: 2 is below 2^(2^1) and not 0, its inverse is 3; and 256 = 2^(2^3) times 200 is 51,200, 256 times 256 is 384.
+/// An instance: 2 is below 2^(2^1) and not 0, its inverse is 3; and 256 = 2^(2^3) times 200 is 51,200, 256
+/// times 256 is 384.
 pub fn two_and_256_are_multiplied()
     ensures premise { (2 < 2 ^ width 1) × (200 < 2 ^ width 3) }
     ensures inverse { nim_inv 2 ≡ 3 }
@@ -156,7 +159,8 @@ pub fn shape_fits(shape: Shape)
     let _ = shape;
 }
 
-/// The numbers below 256 act on each byte of a symbol by itself: the bytes of the product are the products of the bytes.
+/// The numbers below 256 act on each byte of a symbol by itself: the bytes of the product are the products of
+/// the bytes.
 pub fn bytes_of_product(a: Symbol, c: u8)
     ensures bytes { to_le_bytes w128 (nim_mul a c) ≡ map (λ byte. nim_mul byte c) (to_le_bytes w128 a) }
     ensures number { nim_mul a c ≡ from_le_bytes w128 (map (λ byte. nim_mul byte c) (to_le_bytes w128 a)) }
@@ -168,7 +172,8 @@ pub fn exp_is_power(exponent: u16)
     ensures { slice_index EXP exponent ≡ nim_pow 18 exponent }
 {}
 
-/// Each entry of `LOG` but the first is the exponent, below 255, at which the power of 18 is the entry's index.
+/// Each entry of `LOG` but the first is the exponent, below 255, at which the power of 18 is the entry's
+/// index.
 pub fn log_is_exponent(byte: u8)
     requires { byte ≢ 0 }
     ensures power { nim_pow 18 (slice_index LOG byte) ≡ byte }
@@ -185,7 +190,8 @@ pub fn by_16_is_multiple(byte: u8)
     ensures { slice_index BY_16 byte ≡ nim_mul 16 byte }
 {}
 
-/// Each byte of an entry of `MULTIPLES`, lowest first, is the product of its place and the index of the entry.
+/// Each byte of an entry of `MULTIPLES`, lowest first, is the product of its place and the index of the
+/// entry.
 pub fn multiples_are_products(byte: u8, place: u8)
     requires { place < 16 }
     ensures { slice_index (to_le_bytes w128 (slice_index MULTIPLES byte)) place ≡ nim_mul place byte }

@@ -1,4 +1,5 @@
-//! The nim field: the numbers below 2^128 under XOR and the product of J. H. Conway, On Numbers and Games, chapter 6.
+//! The nim field: the numbers below 2^128 under XOR and the product of J. H. Conway, On Numbers and Games,
+//! chapter 6.
 #![tactic(auto)]
 
 mod lanes;

@@ -1,8 +1,8 @@
 ghost use Rattle.std.specs.Prelude.{◌≡◌, ◌↔◌, IsSome, IfSome};
 ghost use Rattle.hail_field.specs.Shape.{IsShape};
 
-/// How a row of symbols is spread: over `n` providers, 4 to 16, of which the first `l` hold the row's own symbols, and of which `b`
-/// may be wrong, with `l + 2 b + 1 <= n`.
+/// How a row of symbols is spread: over `n` providers, 4 to 16, of which the first `l` hold the row's own
+/// symbols, and of which `b` may be wrong, with `l + 2 b + 1 <= n`.
 #[derive(Clone, Copy, Debug, PartialEq, Eq)]
 pub struct Shape {
     pub n: u8,

@@ -10,9 +10,11 @@ use Rattle.hail_poly.specs.Key.{power, key}
 use Rattle.hail_poly.specs.Registers.{Registers, IsLoaded}
 
 -- a 1 behind zeros is a power of x
-pub power_made : (zeros : List ℕ) (n m : ℕ) → zeros ≡ replicate m 0 → n < m → take (n + 1) (set zeros n 1) ≡ power n
+pub power_made : (zeros : List ℕ) (n m : ℕ) → zeros ≡ replicate m 0 → n < m →
+    take (n + 1) (set zeros n 1) ≡ power n
 power_made zeros n m is lt =
-    rw is (take_more_set (replicate m 0) n 1 (omega (arith, length-replicate {A = ℕ} m 0)) ∙ ap (λ (p : List ℕ). p ++ 1 ∷ []) (take-replicate n m 0 (omega arith)))
+    rw is (take_more_set (replicate m 0) n 1 (omega (arith, length-replicate {A = ℕ} m 0))
+    ∙ ap (λ (p : List ℕ). p ++ 1 ∷ []) (take-replicate n m 0 (omega arith)))
 
 -- it has no zeros at the end
 pub power-trimmed : (m : ℕ) → power m ≡ trim (power m)
@@ -22,16 +24,16 @@ power-trimmed m = sym (trim-last nim nim_laws (replicate m 0) 1 (omega arith))
 pub length-power : (m : ℕ) → length (power m) ≡ m + 1
 length-power m = omega (arith, length-append {A = ℕ} (replicate m 0) (1 ∷ []), length-replicate {A = ℕ} m 0)
 
--- the coefficients in turn, at the front of a longer buffer
-pub reversed_front : (from into : List ℕ) → take (length from) (reverse from ++ into) ≡ reverse from
-reversed_front from into =
-    ap (λ n. take n (reverse from ++ into)) (sym (length-reverse from)) ∙ take-append_seam (reverse from) into
-
 -- after load_key, euclid may be called
 pub key_loaded : (syndromes : List ℕ) (m size : ℕ) (work : Registers) → length syndromes ≤ m →
     work ≡ record { size = size; whole = power m; rest = key syndromes; factor = 1 ∷ [] } → IsLoaded work
 key_loaded syndromes m size work few e =
     rw e (record {
-      shorter = omega (arith, length-power m, length-trim nim nim_laws (reverse syndromes), length-reverse syndromes);
+      shorter = omega (
+        arith,
+        length-power m,
+        length-trim nim nim_laws (reverse syndromes),
+        length-reverse syndromes,
+      );
       one = refl;
     })

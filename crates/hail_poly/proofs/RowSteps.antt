@@ -21,7 +21,8 @@ pub trim-zeros : (n : ℕ) → trim (replicate n 0) ≡ []
 trim-zeros n = trim-zero nim nim_laws (replicate n 0) (Each-zeros n)
 
 -- two buffers of zeros are a row
-pub new_row : (rest factor : List ℕ) (room : ℕ) → rest ≡ replicate room 0 → factor ≡ replicate room 0 → IsDivisionRow rest 0 factor 0
+pub new_row : (rest factor : List ℕ) (room : ℕ) → rest ≡ replicate room 0 → factor ≡ replicate room 0 →
+    IsDivisionRow rest 0 factor 0
 unfolding trim_over
 new_row rest factor room r f =
     record {
@@ -33,7 +34,8 @@ new_row rest factor room r f =
     }
 
 -- the cofactor becomes 0
-pub cleared : (rest factor zeros : List ℕ) (n m : ℕ) → IsDivisionRow rest n factor m → zeros ≡ replicate (length factor) 0 → IsDivisionRow rest n zeros 0
+pub cleared : (rest factor zeros : List ℕ) (n m : ℕ) → IsDivisionRow rest n factor m →
+    zeros ≡ replicate (length factor) 0 → IsDivisionRow rest n zeros 0
 cleared rest factor zeros n m row z =
     record {
       same = ap length z ∙ length-replicate {A = ℕ} (length factor) 0 ∙ row.same;
@@ -49,7 +51,8 @@ unfolding trim_over front
 trim-one n = rw (trim-zeros n) refl
 
 -- the cofactor becomes 1
-pub started : (rest factor zeros : List ℕ) (n m : ℕ) → IsDivisionRow rest n factor m → zeros ≡ replicate (length factor) 0 → 0 < length rest → IsDivisionRow rest n (set zeros 0 1) 1
+pub started : (rest factor zeros : List ℕ) (n m : ℕ) → IsDivisionRow rest n factor m →
+    zeros ≡ replicate (length factor) 0 → 0 < length rest → IsDivisionRow rest n (set zeros 0 1) 1
 started rest [] zeros n m row z some = absurd (let h = row.same in omega arith)
 started rest (a ∷ factor) zeros n m row z some =
     rw z (record {

@@ -16,7 +16,8 @@ value_past p k x h = value-past nim p k x h
 pub add_scaled_step : (into from : List ℕ) (c k : ℕ) → k < length into → k < length from →
     take k into ++ plus (drop k into) (scale c (drop k from)) ≡
     take (k + 1) (set into k (nim_add (get_or into k 0) (nim_mul c (get_or from k 0)))) ++
-    plus (drop (k + 1) (set into k (nim_add (get_or into k 0) (nim_mul c (get_or from k 0))))) (scale c (drop (k + 1) from))
+    plus (drop (k + 1) (set into k (nim_add (get_or into k 0) (nim_mul c (get_or from k 0)))))
+    (scale c (drop (k + 1) from))
 add_scaled_step into from c k h e = rw add-one (step_add_scaled nim into from c k h e)
 
 -- all coefficients are added

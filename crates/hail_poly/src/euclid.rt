@@ -6,7 +6,8 @@ use crate::read::used;
 use crate::slices::add_shifted;
 use hail_field::Symbol;
 
-/// Takes multiples of the row (r1, f1) from the row (r0, f0) until its remainder is shorter than r1, and gives its length.
+/// Takes multiples of the row (r1, f1) from the row (r0, f0) until its remainder is shorter than r1, and
+/// gives its length.
 pub fn reduce(
     r0: &mut [Symbol],
     len: usize,

@@ -12,7 +12,8 @@ pub fn division_is_unique()
         → r ≡ t }
 {}
 
-/// A polynomial of degree below `l` is the one that interpolation makes of its values at the first `l` points.
+/// A polynomial of degree below `l` is the one that interpolation makes of its values at the first `l`
+/// points.
 pub fn interpolation_gives_polynomial_back()
     ensures coefficients { (points p : List ℕ) (l : ℕ) → Apart points → length p ≤ l → l ≤ length points
         → trim (interpolate (take l points) (values_at (take l points) p)) ≡ trim p }

@@ -5,8 +5,8 @@ use hail_field::{Memory, Symbol};
 use std::alloc::Global;
 use std::marker::Model;
 
-/// A polynomial over the nim field, seen as the list of its coefficients, lowest first and without a zero at the end:
-/// 0 is the empty list. The one refusal of its calls is `Memory`.
+/// A polynomial over the nim field, seen as the list of its coefficients, lowest first and without a zero at
+/// the end: 0 is the empty list. The one refusal of its calls is `Memory`.
 #[derive(Drop)]
 pub struct Poly {
     alloc: Global,
@@ -102,7 +102,8 @@ impl Poly {
         Ok(Poly::from_vec(self.alloc, product))
     }
 
-    /// The quotient and the remainder of the division by a polynomial that is not 0. No other two polynomials fit.
+    /// The quotient and the remainder of the division by a polynomial that is not 0. No other two polynomials
+    /// fit.
     pub fn div_rem(&self, by: &Poly) -> Result<(Poly, Poly), Memory>
         requires { by.now ≢ [] }
         ensures { IfOk result (λ r. IsDivision self.now by.now r.0 r.1) }

@@ -117,7 +117,8 @@ impl Row {
         self.factor_len = 1;
     }
 
-    /// The remainder becomes the polynomial that takes the values at the points, and `whole` the product of all x + point.
+    /// The remainder becomes the polynomial that takes the values at the points, and `whole` the product of
+    /// all x + point.
     pub fn load(&mut self, points: &[Symbol], values: &[Symbol], whole: &mut [Symbol])
         requires apart { Apart points.now }
         requires even { length points.now ≡ length values.now }
@@ -134,7 +135,8 @@ impl Row {
         self.rest_len = used(&self.rest[..points.len()]);
     }
 
-    /// Takes multiples of a polynomial away, so that the remainder is shorter, and as many times 1 from the cofactor.
+    /// Takes multiples of a polynomial away, so that the remainder is shorter, and as many times 1 from the
+    /// cofactor.
     pub fn divide_by(&mut self, by: &[Symbol])
         requires some { 0 < length by.now }
         requires trimmed { by.now ≡ trim by.now }

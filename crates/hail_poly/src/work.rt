@@ -9,8 +9,9 @@ use std::marker::Model;
 pub const MOST: usize = 128;
 
 /// The registers of a decoder: three polynomials `whole`, `rest` and `factor`, in memory that `new` reserves.
-/// No other call takes any. For Gao's decoder (A new algorithm for decoding Reed-Solomon codes, 2003), and for the decoder by
-/// syndromes (Sugiyama and others, A method for solving key equation for decoding Goppa codes, 1975).
+/// No other call takes any. For Gao's decoder (A new algorithm for decoding Reed-Solomon codes, 2003), and
+/// for the decoder by syndromes (Sugiyama and others, A method for solving key equation for decoding Goppa
+/// codes, 1975).
 #[derive(Drop)]
 pub struct Work {
     size: usize,
@@ -73,8 +74,8 @@ impl Work {
         self.size
     }
 
-    /// `whole` becomes the product of all x + point, `rest` the polynomial of degree below the number of points
-    /// that takes the values at the points, and `factor` 1.
+    /// `whole` becomes the product of all x + point, `rest` the polynomial of degree below the number of
+    /// points that takes the values at the points, and `factor` 1.
     pub fn load(&mut self, points: &[Symbol], values: &[Symbol])
         requires apart { Apart points.now }
         requires even { length points.now ≡ length values.now }
@@ -91,7 +92,8 @@ impl Work {
         self.whole_len = points.len() + 1;
     }
 
-    /// For m syndromes, `whole` becomes x^m, `rest` the sum of syndrome k times x^(m - 1 - k), and `factor` 1.
+    /// For m syndromes, `whole` becomes x^m, `rest` the sum of syndrome k times x^(m - 1 - k), and `factor`
+    /// 1.
     pub fn load_key(&mut self, syndromes: &[Symbol])
         requires { length syndromes.now ≤ self.old.size }
         ensures { self.new ≡ record {
@@ -107,8 +109,9 @@ impl Work {
         self.whole_len = syndromes.len() + 1;
     }
 
-    /// Runs Euclid's algorithm on `whole` and `rest`, which `load` or `load_key` has made: `rest` and `factor` become the remainder
-    /// and its cofactor of the first row after `whole` itself whose remainder has degree below `below`.
+    /// Runs Euclid's algorithm on `whole` and `rest`, which `load` or `load_key` has made: `rest` and
+    /// `factor` become the remainder and its cofactor of the first row after `whole` itself whose remainder
+    /// has degree below `below`.
     pub fn euclid(&mut self, below: usize)
         requires { IsLoaded self.old }
         ensures size { self.new.size ≡ self.old.size }
@@ -123,7 +126,8 @@ impl Work {
         go_on(&mut self.spare, &mut self.row, below);
     }
 
-    /// Whether `factor` divides `rest`. Then `rest` becomes the quotient and `factor` 1; else nothing changes.
+    /// Whether `factor` divides `rest`. Then `rest` becomes the quotient and `factor` 1; else nothing
+    /// changes.
     pub fn divide(&mut self) -> bool
         requires { self.old.factor ≢ [] }
         ensures size { self.new.size ≡ self.old.size }

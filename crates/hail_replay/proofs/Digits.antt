@@ -25,7 +25,8 @@ digit : (d : ℕ) → d < 16 → slice_index lower_digits d ≡ hex_digit d
 digit d below = same_below-at 16 d refl below
 
 -- bytes in the digits of the table
-pub hex-is : (bytes : List ℕ) → ((i : ℕ) → slice_index bytes i < 256) → encode_with lower_digits bytes ≡ hex bytes
+pub hex-is : (bytes : List ℕ) → ((i : ℕ) → slice_index bytes i < 256) →
+    encode_with lower_digits bytes ≡ hex bytes
 unfolding encode_with
 hex-is [] fits = refl
 hex-is (b ∷ bytes) fits =

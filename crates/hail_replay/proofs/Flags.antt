@@ -6,7 +6,8 @@ use Rattle.std.proofs.lemmas.Bool.Decides.{nat_tests}
 use Rattle.hail_replay.specs.Counts.{flag_of, flagged_from}
 
 -- one provider more, behind others
-flagged_from-snoc : (j : ℕ) (counts : List ℕ) (count : ℕ) → flagged_from j (counts ++ count ∷ []) ≡ flagged_from j counts ++ flag_of (j + length counts) count
+flagged_from-snoc : (j : ℕ) (counts : List ℕ) (count : ℕ) →
+    flagged_from j (counts ++ count ∷ []) ≡ flagged_from j counts ++ flag_of (j + length counts) count
 flagged_from-snoc j [] count =
     let here : j ≡ j + 0 = omega arith in
     append-nil (flag_of j count) ∙ ap (λ (k : ℕ). flag_of k count) here
@@ -18,11 +19,13 @@ flagged_from-snoc j (x ∷ counts) count =
 
 -- one provider more
 pub flagged_more : (counts : List ℕ) (place default : ℕ) → place < length counts
-    → flagged_from 0 (take (place + 1) counts) ≡ flagged_from 0 (take place counts) ++ flag_of place (get_or counts place default)
+    → flagged_from 0 (take (place + 1) counts) ≡ flagged_from 0 (take place counts) ++ flag_of place
+    (get_or counts place default)
 flagged_more counts place default within =
     let front = take place counts in
     let count = get_or counts place default in
-    let size : 0 + length front ≡ place = omega (arith, length-take-le place counts (omega (arith, within))) in
+    let size : 0 + length front ≡ place =
+    omega (arith, length-take-le place counts (omega (arith, within))) in
     ap (λ (cs : List ℕ). flagged_from 0 cs) (take_more counts place default within)
     ∙ flagged_from-snoc 0 front count
     ∙ ap (λ (k : ℕ). flagged_from 0 front ++ flag_of k count) size

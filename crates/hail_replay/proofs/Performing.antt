@@ -33,21 +33,27 @@ use Rattle.hail_replay.proofs.Standing.{lists}
 -- it is this event
 pub performed-as : (event other : Read) (came : Option Came) (c next : Client) (d e : Devices) → event ≡ other
     → IsPerformed (event_command other) came c next d e → IsPerformed (event_command event) came c next d e
-performed-as event other came c next d e is P = subst (λ (x : Read). IsPerformed (event_command x) came c next d e) (sym is) P
+performed-as event other came c next d e is P =
+    subst (λ (x : Read). IsPerformed (event_command x) came c next d e) (sym is) P
 
 -- a begin
-pub begun : (c next : Client) (d : Devices) (kind : Kind) (result : Option (Result ℕ BeginFault)) → StandsWhereOpen c d
-    → ((w : State) (there : Devices) (moment : ℕ) → ClientStands c there w → MakesEvent w moment (Begin kind) (client_begin_outcome result) next there)
+pub begun : (c next : Client) (d : Devices) (kind : Kind) (result : Option (Result ℕ BeginFault)) →
+    StandsWhereOpen c d
+    → ((w : State) (there : Devices) (moment : ℕ) → ClientStands c there w →
+    MakesEvent w moment (Begin kind) (client_begin_outcome result) next there)
     → IsPerformed (Once (Begin kind)) (Some (came.Begun result)) c next d d
 begun c next d kind result S makes = record {
-  machine = λ start ms told R. once (Begin kind) (Some (came.Begun result)) c next d d (λ w moment T. makes w d moment T) (λ w es T. refl) start ms R;
+  machine = λ start ms told R. once (Begin kind) (Some (came.Begun result)) c next d d
+      (λ w moment T. makes w d moment T) (λ w es T. refl) start ms R;
   kept = begun-kept c next d kind (client_begin_outcome result) S makes;
 }
 
 -- a step, which does nothing where no vault is open
-pub stepped : (job : ℕ) (c next : Client) (d e : Devices) (t : Option Turn) → StandsWhereOpen c d → is_some e.holds ≡ is_some d.holds
+pub stepped : (job : ℕ) (c next : Client) (d e : Devices) (t : Option Turn) → StandsWhereOpen c d →
+    is_some e.holds ≡ is_some d.holds
     → ((w : State) (moment : ℕ) → ClientStands c d w → MakesEvent w moment (Step job) (step_outcome t) next e)
-    → ((w : State) → ClientStands c d w → IfSome t (λ t. IfEnded t (λ ended. ended.heard ≡ heard_by (job_of w.jobs job))))
+    → ((w : State) → ClientStands c d w →
+    IfSome t (λ t. IfEnded t (λ ended. ended.heard ≡ heard_by (job_of w.jobs job))))
     → (client_coming c job ≡ IsNoJob → IsSame c next × (e ≡ d))
     → IsPerformed (Once (Step job)) (Some (came.Stepped t)) c next d e
 stepped job c next d e t S tells makes heard none = record {
@@ -55,12 +61,14 @@ stepped job c next d e t S tells makes heard none = record {
       (λ w es T. ap (λ (x : List Entry). es ++ x) (turn-heard w job t (heard w T))) start ms R;
   kept = elim (cases_Bool (is_open c)) [
     | inl opened ↦ step-kept c next d e tells job (step_outcome t) S opened makes
-    | inr closed ↦ (let n = none (closed-coming c job closed) in subst (λ (x : Devices). KeepsStanding c next d x) (sym n.1) (closed-kept c next d closed n.0))
+    | inr closed ↦ (let n = none (closed-coming c job closed) in
+        subst (λ (x : Devices). KeepsStanding c next d x) (sym n.1) (closed-kept c next d closed n.0))
   ];
 }
 
 -- a run of a job over an open vault
-pub ran : (job : ℕ) (c next : Client) (d e : Devices) (t : Option Turn) → StandsWhereOpen c d → is_open c ≡ true → is_some e.holds ≡ is_some d.holds
+pub ran : (job : ℕ) (c next : Client) (d e : Devices) (t : Option Turn) → StandsWhereOpen c d →
+    is_open c ≡ true → is_some e.holds ≡ is_some d.holds
     → ((start : State) (ms : List Moment) → IsReached start ms c d → RunsJobOn start ms job t next e)
     → IsPerformed (RunJob job) (Some (came.Stepped t)) c next d e
 ran job c next d e t S opened tells runs = record {
@@ -77,14 +85,19 @@ not-ran job c d spelled S closed = record {
 }
 
 -- an alteration or a loss
-pub replaced : (event : Event) (c : Client) (holds : Option Cells) (faults : ℕ) (ps qs : List Provider) (result : Bool)
+pub replaced : (event : Event) (c : Client) (holds : Option Cells) (faults : ℕ) (ps qs : List Provider)
+    (result : Bool)
     → ((w u : State) → Happens 8 0 w event (replace_outcome result) u → Same w u)
-    → ((w : State) (es : List Entry) → reported_after event es ++ heard_at w event (replace_outcome result) ≡ es ++ [])
-    → ((w : State) (holds : Option Cells) (faults moment : ℕ) → ClientStands c (devices holds faults ps) w → MakesEvent w moment event (replace_outcome result) c (devices holds faults qs))
+    → ((w : State) (es : List Entry) → reported_after event es ++ heard_at w event (replace_outcome result)
+    ≡ es ++ [])
+    → ((w : State) (holds : Option Cells) (faults moment : ℕ) → ClientStands c (devices holds faults ps) w →
+    MakesEvent w moment event (replace_outcome result) c (devices holds faults qs))
     → StandsWhereOpen c (devices holds faults ps)
-    → IsPerformed (Once event) (Some (came.Replaced result)) c c (devices holds faults ps) (devices holds faults qs)
+    → IsPerformed (Once event) (Some (came.Replaced result)) c c (devices holds faults ps)
+    (devices holds faults qs)
 replaced event c holds faults ps qs result leaves quiet makes S = record {
-  machine = λ start ms told R. once event (Some (came.Replaced result)) c c (devices holds faults ps) (devices holds faults qs)
+  machine = λ start ms told R. once event (Some (came.Replaced result)) c c (devices holds faults ps)
+      (devices holds faults qs)
       (λ w moment T. makes w holds faults moment T) (λ w es T. quiet w es) start ms R;
   kept = replaced-kept c event (replace_outcome result) holds faults ps qs leaves makes S;
 }
@@ -92,6 +105,7 @@ replaced event c holds faults ps qs result leaves quiet makes S = record {
 -- a list
 pub listed : (c : Client) (d : Devices) → StandsWhereOpen c d → IsPerformed (Once Names) None c c d d
 listed c d S = record {
-  machine = λ start ms told R. once Names None c c d d (λ w moment T. lists w moment c d T) (λ w es T. refl) start ms R;
+  machine = λ start ms told R. once Names None c c d d (λ w moment T. lists w moment c d T)
+      (λ w es T. refl) start ms R;
   kept = same-kept c d S;
 }

@@ -8,11 +8,13 @@ use Rattle.hail_replay.specs.Counts.{TrialCounts, one_if, how_many, is_got, is_e
 use Rattle.hail_replay.specs.Seen.{SeesOne}
 
 -- steps that went on are not counted
-how_many-more : (is_one : Outcome → Bool) → is_one More ≡ false → (job : ℕ) (steps ms : List Moment) → GoOn job steps
+how_many-more : (is_one : Outcome → Bool) → is_one More ≡ false → (job : ℕ) (steps ms : List Moment) →
+    GoOn job steps
     → how_many is_one (steps ++ ms) ≡ how_many is_one ms
 how_many-more is_one none job [] ms on = refl
 how_many-more is_one none job (m ∷ steps) ms on =
-    let here : one_if (is_one m.outcome) ≡ 0 = ap (λ (o : Outcome). one_if (is_one o)) on.1 ∙ ap (λ (b : Bool). one_if b) none in
+    let here : one_if (is_one m.outcome) ≡ 0 = ap (λ (o : Outcome). one_if (is_one o)) on.1
+    ∙ ap (λ (b : Bool). one_if b) none in
     let same = how_many-more is_one none job steps ms on.2 in
     ap (λ (n : ℕ). how_many is_one (steps ++ ms) + n) here ∙ plus_none (how_many is_one (steps ++ ms)) ∙ same
   where
@@ -23,31 +25,45 @@ how_many-more is_one none job (m ∷ steps) ms on =
 flagged-more : (job : ℕ) (steps ms : List Moment) → GoOn job steps → flagged_in (steps ++ ms) ≡ flagged_in ms
 flagged-more job [] ms on = refl
 flagged-more job (m ∷ steps) ms on =
-    ap (λ (o : Outcome). flagged_in (steps ++ ms) ++ flagged_by o) on.1 ∙ append-nil (flagged_in (steps ++ ms)) ∙ flagged-more job steps ms on.2
+    ap (λ (o : Outcome). flagged_in (steps ++ ms) ++ flagged_by o) on.1
+    ∙ append-nil (flagged_in (steps ++ ms)) ∙ flagged-more job steps ms on.2
 
 -- counts of these numbers
 unfoldable made : ℕ → ℕ → ℕ → ℕ → List ℕ → ℕ → ℕ → TrialCounts
 made events gets right audits flagged repairs stops =
-    record { events = events; gets = gets; right = right; audits = audits; flagged = flagged; repairs = repairs; stops = stops }
+    record {
+      events = events;
+      gets = gets;
+      right = right;
+      audits = audits;
+      flagged = flagged;
+      repairs = repairs;
+      stops = stops;
+    }
 
 -- counts of the same numbers are the same
-made-same : (a b c d f g h i j k m n : ℕ) (e l : List ℕ) → a ≡ h → b ≡ i → c ≡ j → d ≡ k → e ≡ l → f ≡ m → g ≡ n → made a b c d e f g ≡ made h i j k l m n
+made-same : (a b c d f g h i j k m n : ℕ) (e l : List ℕ) → a ≡ h → b ≡ i → c ≡ j → d ≡ k → e ≡ l → f ≡ m →
+    g ≡ n → made a b c d e f g ≡ made h i j k l m n
 made-same a b c d f g h i j k m n e l o p q r s t u = cc
 
 -- one command more
-on-one : (expected : List ℕ) (commands : List Instruction) (command : Instruction) (ms steps : List Moment) (m : Moment) (job : ℕ) → GoOn job steps
-    → counts_on expected m.outcome (counts_of expected commands ms) ≡ counts_of expected (command ∷ commands) (m ∷ (steps ++ ms))
+on-one : (expected : List ℕ) (commands : List Instruction) (command : Instruction) (ms steps : List Moment)
+    (m : Moment) (job : ℕ) → GoOn job steps
+    → counts_on expected m.outcome (counts_of expected commands ms)
+    ≡ counts_of expected (command ∷ commands) (m ∷ (steps ++ ms))
 unfolding made
 on-one expected commands command ms steps m job on =
     let one : length commands + 1 ≡ length (command ∷ commands) = omega arith in
     let same = λ (is_one : Outcome → Bool) (none : is_one More ≡ false).
     ap (λ (n : ℕ). n + one_if (is_one m.outcome)) (sym (how_many-more is_one none job steps ms on)) in
-    made-same _ _ _ _ _ _ _ _ _ _ _ _ _ _ one (same is_got refl) (same (is_expected expected) refl) (same is_audited refl)
+    made-same _ _ _ _ _ _ _ _ _ _ _ _ _ _ one (same is_got refl) (same (is_expected expected) refl)
+    (same is_audited refl)
     (ap (λ (js : List ℕ). js ++ flagged_by m.outcome) (sym (flagged-more job steps ms on)))
     (same is_repaired refl) (same is_stopped refl)
 
 -- counts that took an outcome in saw one
-pub sees_one : (expected : List ℕ) (outcome : Outcome) (old new : TrialCounts) → new ≡ counts_on expected outcome old → SeesOne expected outcome old new
+pub sees_one : (expected : List ℕ) (outcome : Outcome) (old new : TrialCounts) →
+    new ≡ counts_on expected outcome old → SeesOne expected outcome old new
 sees_one expected outcome old new is commands command ms steps m job came on before =
     is
     ∙ ap (λ (c : TrialCounts). counts_on expected outcome c) before

@@ -21,17 +21,22 @@ ok-is (Err fault) value lines is same = absurd cc
 
 take-behind : (xs ys : List ℕ) (n : ℕ) → take (length xs + n) (xs ++ ys) ≡ xs ++ take n ys
 take-behind [] ys n = ap (λ k. take k ys) (let e : 0 + n ≡ n = omega arith in e)
-take-behind (x ∷ xs) ys n = ap (λ k. take k (x ∷ (xs ++ ys))) (let e : length (x ∷ xs) + n ≡ suc (length xs + n) = omega arith in e) ∙ ap (λ l. x ∷ l) (take-behind xs ys n)
+take-behind (x ∷ xs) ys n = ap (λ k. take k (x ∷ (xs ++ ys)))
+    (let e : length (x ∷ xs) + n ≡ suc (length xs + n) = omega arith in e)
+    ∙ ap (λ l. x ∷ l) (take-behind xs ys n)
 
-front-behind : (first mid last : Option (List ℕ)) (xs ys : List ℕ) → mid ≡ told_then first xs → TakesFront mid last ys → TakesFront first last (xs ++ ys)
+front-behind : (first mid last : Option (List ℕ)) (xs ys : List ℕ) → mid ≡ told_then first xs →
+    TakesFront mid last ys → TakesFront first last (xs ++ ys)
 front-behind first mid last xs ys is (n, few, takes) = (
   length xs + n,
   (let l = length-append xs ys in omega (arith, l, few)),
-  takes ∙ ap (λ t. told_then t (take n ys)) is ∙ told_then-append first xs (take n ys) ∙ ap (told_then first) (sym (take-behind xs ys n)),
+  takes ∙ ap (λ t. told_then t (take n ys)) is ∙ told_then-append first xs (take n ys)
+      ∙ ap (told_then first) (sym (take-behind xs ys n)),
 )
 
 whole-front : (first mid : Option (List ℕ)) (xs : List ℕ) → mid ≡ told_then first xs → TakesFront first mid xs
-whole-front first mid xs is = (length xs, omega arith, is ∙ ap (told_then first) (sym (take_all (length xs) xs (omega arith))))
+whole-front first mid xs is =
+    (length xs, omega arith, is ∙ ap (told_then first) (sym (take_all (length xs) xs (omega arith))))
 
 -- a sink that took nothing took a front
 pub nothing-taken : (told : Option (List ℕ)) (text : List ℕ) → TakesFront told told text
@@ -39,7 +44,8 @@ nothing-taken told text = (0, omega arith, told_then-nothing told)
 
 -- ---- what was written
 
-all-written : (first mid : Option (List ℕ)) (b f : ℕ) (lines : List ℕ) → WritesLine lines 0 (sank first mid b f) → mid ≡ told_then first lines
+all-written : (first mid : Option (List ℕ)) (b f : ℕ) (lines : List ℕ) →
+    WritesLine lines 0 (sank first mid b f) → mid ≡ told_then first lines
 all-written first mid b f lines (inl (s, is)) = is
 all-written first mid b f lines (inr (inl (ne, s, rose, front))) = absurd (omega (arith, s))
 all-written first mid b f lines (inr (inr (s, front))) = absurd (omega (arith, s))
@@ -53,29 +59,34 @@ not-empty [] ys ne e = ne e
 not-empty (x ∷ xs) ys ne e = absurd cc
 
 -- the lines of one event more
-pub written-on : (first mid last : Option (List ℕ)) (b f g : ℕ) (lines more : List ℕ) (status : ℕ) → b ≤ f → f ≤ g
-    → WritesLine lines 0 (sank first mid b f) → WritesLine more status (sank mid last f g) → WritesLine (lines ++ more) status (sank first last b g)
+pub written-on : (first mid last : Option (List ℕ)) (b f g : ℕ) (lines more : List ℕ) (status : ℕ) → b ≤ f →
+    f ≤ g
+    → WritesLine lines 0 (sank first mid b f) → WritesLine more status (sank mid last f g) →
+    WritesLine (lines ++ more) status (sank first last b g)
 written-on first mid last b f g lines more status low never so_far (inl (s, is)) =
     (let here = all-written first mid b f lines so_far in
     inl (s, is ∙ ap (λ t. told_then t more) here ∙ told_then-append first lines more))
 written-on first mid last b f g lines more status low never so_far (inr (inl (ne, s, rose, front))) =
     (let here = all-written first mid b f lines so_far in
-    inr (inl (not-empty lines more ne, s, rose-before b f g low never rose, front-behind first mid last lines more here front)))
+    inr (inl (
+      not-empty lines more ne,
+      s,
+      rose-before b f g low never rose,
+      front-behind first mid last lines more here front,
+    )))
 written-on first mid last b f g lines more status low never so_far (inr (inr (s, front))) =
     (let here = all-written first mid b f lines so_far in
     inr (inr (s, front-behind first mid last lines more here front)))
 
 -- want of memory before the next event
-pub written-out : (first mid : Option (List ℕ)) (b f : ℕ) (lines : List ℕ) → WritesLine lines 0 (sank first mid b f) → WritesLine lines 70 (sank first mid b f)
-written-out first mid b f lines so_far = inr (inr (refl, whole-front first mid lines (all-written first mid b f lines so_far)))
+pub written-out : (first mid : Option (List ℕ)) (b f : ℕ) (lines : List ℕ) →
+    WritesLine lines 0 (sank first mid b f) → WritesLine lines 70 (sank first mid b f)
+written-out first mid b f lines so_far =
+    inr (inr (refl, whole-front first mid lines (all-written first mid b f lines so_far)))
 
 -- how it ends
-pub ends-of : (lines : List ℕ) (status : ℕ) (sink : Sinking) → WritesLine lines status sink → CarriedOut status sink
+pub ends-of : (lines : List ℕ) (status : ℕ) (sink : Sinking) → WritesLine lines status sink →
+    CarriedOut status sink
 ends-of lines status sink (inl (s, is)) = inl s
 ends-of lines status sink (inr (inl (ne, s, rose, front))) = inr (inl (s, rose))
 ends-of lines status sink (inr (inr (s, front))) = inr (inr s)
-
-ends-since : (first mid last : Option (List ℕ)) (b f g status : ℕ) → b ≤ f → f ≤ g → CarriedOut status (sank mid last f g) → CarriedOut status (sank first last b g)
-ends-since first mid last b f g status low never (inl s) = inl s
-ends-since first mid last b f g status low never (inr (inl (s, rose))) = inr (inl (s, rose-before b f g low never rose))
-ends-since first mid last b f g status low never (inr (inr s)) = inr (inr s)

@@ -28,8 +28,8 @@ fn name_of(fault: BeginFault) -> &'static str
     }
 }
 
-/// The line of a begin: the number of its job, or why it was refused, or that no vault is open. Want of memory is its one
-/// refusal.
+/// The line of a begin: the number of its job, or why it was refused, or that no vault is open. Want of
+/// memory is its one refusal.
 pub fn begin_line(alloc: Global, answer: Option<Result<u32, BeginFault>>) -> Result<Bytes, Memory>
     ensures { IfOk result (λ text. text ≡ lines_of (client_begin_outcome answer)) }
 {

@@ -13,7 +13,8 @@ use stream_model::{Bytes, Memory};
 use vault::{BeginFault, InitFault, Turn};
 use vault_table::Table;
 
-/// What came of an event of a schedule: what the client's call for it answered. A run of a job is told by its last step.
+/// What came of an event of a schedule: what the client's call for it answered. A run of a job is told by its
+/// last step.
 #[derive(Drop)]
 pub enum Came<'a> {
     Inited(Result<(), InitFault>),

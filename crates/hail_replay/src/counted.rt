@@ -67,8 +67,8 @@ fn trial_event<D: Disk, P: Tamper>(
     seen
 }
 
-/// Does the events of a trial by a client that is new, and counts what they come to; gets are to give the expected bytes.
-/// Want of memory ends it. Condition: there are fewer events than numbers of jobs.
+/// Does the events of a trial by a client that is new, and counts what they come to; gets are to give the
+/// expected bytes. Want of memory ends it. Condition: there are fewer events than numbers of jobs.
 fn trial_events<D: Disk, P: Tamper>(
     alloc: Global,
     expected: &[u8],
@@ -98,7 +98,9 @@ fn trial_events<D: Disk, P: Tamper>(
     let mut left = events.into_iter();
     while let Some(event) = left.next() {
         heard.reserve(alloc)?;
-        trial_event(alloc, client, heard, tally, expected, event, disk, providers)?;
+        trial_event(
+            alloc, client, heard, tally, expected, event, disk, providers,
+        )?;
     }
     Ok(())
 }
@@ -176,7 +178,8 @@ fn tell_trial<D: Disk, P: Tamper, K: Sink>(
     }
 }
 
-/// Does the events of the trial of a number, whose lines are not written, and writes the six lines that tell its counts.
+/// Does the events of the trial of a number, whose lines are not written, and writes the six lines that tell
+/// its counts.
 pub fn trial<D: Disk, P: Tamper, K: Sink>(
     alloc: Global,
     number: u64,

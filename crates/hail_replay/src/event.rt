@@ -34,8 +34,9 @@ fn run_job<D: Disk, P: Tamper>(
     }
 }
 
-/// Performs an event, and answers what it came to; None for a list, which the client's own table answers. Conditions: where a vault
-/// is open, client and devices stand for some state, as they do at each moment of a replay; and a further job finds a number.
+/// Performs an event, and answers what it came to; None for a list, which the client's own table answers.
+/// Conditions: where a vault is open, client and devices stand for some state, as they do at each moment of a
+/// replay; and a further job finds a number.
 pub fn perform<D: Disk, P: Tamper>(
     alloc: Global,
     client: &mut Client,

@@ -6,7 +6,8 @@ use std::alloc::Global;
 use stream_model::Memory;
 use vault::HeardList;
 
-/// What several jobs heard, in the order of their ends. Their lists are kept as they came, and no block is copied.
+/// What several jobs heard, in the order of their ends. Their lists are kept as they came, and no block is
+/// copied.
 #[derive(Drop)]
 pub struct HeardLists {
     pub(crate) first: HeardList,
@@ -62,7 +63,8 @@ impl HeardLists {
         }
     }
 
-    /// What was heard, job by job: the first list, and those behind it. A list may be of a job that heard nothing.
+    /// What was heard, job by job: the first list, and those behind it. A list may be of a job that heard
+    /// nothing.
     pub fn lists(&self) -> (&HeardList, &[HeardList])
         ensures { entries_heard self.now ≡ result.0.now ++ joined result.1.now }
     {

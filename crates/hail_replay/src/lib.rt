@@ -1,4 +1,5 @@
-//! Carries out schedules and trials: each event is performed by a client over its devices, and what came of it is written or counted.
+//! Carries out schedules and trials: each event is performed by a client over its devices, and what came of
+//! it is written or counted.
 #![tactic(auto)]
 
 mod begun;

@@ -19,8 +19,8 @@ fn listed_lines(alloc: Global, table: &Table) -> Result<Bytes, Memory>
     Ok(Bytes::from_vec(text))
 }
 
-/// The lines of a list: how many files are in effect, and a line for each in byte order of the names, or that no vault is open.
-/// Want of memory is its one refusal.
+/// The lines of a list: how many files are in effect, and a line for each in byte order of the names, or that
+/// no vault is open. Want of memory is its one refusal.
 pub fn names_lines(alloc: Global, table: Option<&Table>) -> Result<Bytes, Memory>
     ensures { IfOk result (λ text. text ≡ lines_of (names_outcome (option_copied table.entry))) }
 {

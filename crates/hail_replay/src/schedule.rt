@@ -98,7 +98,8 @@ fn replay_event<D: Disk, P: Tamper, K: Sink>(
     status
 }
 
-/// Does the events of a schedule, each with its lines, by a client that is new, and adds what their jobs heard.
+/// Does the events of a schedule, each with its lines, by a client that is new, and adds what their jobs
+/// heard.
 fn replay_events<D: Disk, P: Tamper, K: Sink>(
     alloc: Global,
     events: Vec<Event>,
@@ -135,8 +136,8 @@ fn replay_events<D: Disk, P: Tamper, K: Sink>(
     WRITTEN
 }
 
-/// Does the events of a schedule, each with its lines, from a client with no vault open: up to a fault of the sink or want of memory.
-/// Condition: there are fewer events than numbers of jobs.
+/// Does the events of a schedule, each with its lines, from a client with no vault open: up to a fault of the
+/// sink or want of memory. Condition: there are fewer events than numbers of jobs.
 pub fn replay<D: Disk, P: Tamper, K: Sink>(
     alloc: Global,
     events: Vec<Event>,
@@ -158,6 +159,14 @@ pub fn replay<D: Disk, P: Tamper, K: Sink>(
 {
     let mut client = Client::new();
     let mut heard = HeardLists::new(alloc);
-    let status = replay_events(alloc, events, &mut client, &mut heard, disk, providers, sink);
+    let status = replay_events(
+        alloc,
+        events,
+        &mut client,
+        &mut heard,
+        disk,
+        providers,
+        sink,
+    );
     Replayed { status, heard }
 }

@@ -10,8 +10,8 @@ use std::alloc::Global;
 use stream_model::{Bytes, Memory};
 use vault::Turn;
 
-/// The line of a step, or of the last of many: that the job goes on or waits, how it ended, why it was refused, or that no vault
-/// is open. Want of memory is its one refusal.
+/// The line of a step, or of the last of many: that the job goes on or waits, how it ended, why it was
+/// refused, or that no vault is open. Want of memory is its one refusal.
 pub fn step_line(alloc: Global, answer: &Option<Turn>) -> Result<Bytes, Memory>
     ensures { IfOk result (λ text. text ≡ lines_of (step_outcome answer.now)) }
 {

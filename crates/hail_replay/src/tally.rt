@@ -9,8 +9,8 @@ use std::alloc::Global;
 use std::marker::Model;
 use stream_model::Memory;
 
-/// What a trial counts: events that were done, gets that ended with bytes and those with the right ones, audits that ended and
-/// whom they flagged, in order, repairs that ended, and stops.
+/// What a trial counts: events that were done, gets that ended with bytes and those with the right ones,
+/// audits that ended and whom they flagged, in order, repairs that ended, and stops.
 #[derive(Drop)]
 pub struct Tally {
     pub(crate) events: u64,
@@ -57,8 +57,8 @@ impl Tally {
         self.events
     }
 
-    /// Counts one more event that came to this; gets are to give the expected bytes. Want of memory is its one refusal. Condition:
-    /// fewer than 2^64 - 1 events were counted (`events` tells).
+    /// Counts one more event that came to this; gets are to give the expected bytes. Want of memory is its
+    /// one refusal. Condition: fewer than 2^64 - 1 events were counted (`events` tells).
     pub fn see(&mut self, alloc: Global, expected: &[u8], came: &Came<'_>) -> Result<(), Memory>
         requires { self.old.events < 2 ^ 64 - 1 }
         ensures ok { OnOk result (self.new ≡ counts_on expected.now (came_outcome came.now) self.old) }

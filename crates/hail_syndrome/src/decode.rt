@@ -34,9 +34,9 @@ fn load_syndromes(
     work.load_key(&buffer[..count]);
 }
 
-/// The decoder by syndromes, with Euclid's algorithm (Sugiyama and others, 1975). Looks for the polynomial of degree below `keep` that
-/// takes all the values at the points but `fix` of them; where there is one, it is then the rest of `work`. None exactly where there
-/// is none.
+/// The decoder by syndromes, with Euclid's algorithm (Sugiyama and others, 1975). Looks for the polynomial of
+/// degree below `keep` that takes all the values at the points but `fix` of them; where there is one, it is
+/// then the rest of `work`. None exactly where there is none.
 pub fn decode_syndromes(
     points: &[Symbol],
     values: &[Symbol],

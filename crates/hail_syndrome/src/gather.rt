@@ -5,7 +5,8 @@ ghost use Rattle.hail_syndrome.specs.Sound.{sound_points, sound_values};
 use hail_field::Symbol;
 use hail_poly::Work;
 
-/// Writes the points at which `factor` is not 0, and the values there, to the front of two buffers, and tells how many they are.
+/// Writes the points at which `factor` is not 0, and the values there, to the front of two buffers, and tells
+/// how many they are.
 pub fn gather(
     points: &[Symbol],
     values: &[Symbol],

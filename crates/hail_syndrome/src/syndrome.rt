@@ -19,9 +19,10 @@ fn add_powers(out: &mut [Symbol], x: Symbol, c: Symbol)
     }
 }
 
-/// Fills `out` with the syndromes of values at points: the sums of multiplier times value times the powers of the point, where the
-/// multiplier is the inverse of the product of the point plus each other point. They are all 0 exactly where the values are those
-/// of a polynomial of degree below `keep` (MacWilliams and Sloane, The Theory of Error-Correcting Codes, 1977, chapter 10).
+/// Fills `out` with the syndromes of values at points: the sums of multiplier times value times the powers of
+/// the point, where the multiplier is the inverse of the product of the point plus each other point. They are
+/// all 0 exactly where the values are those of a polynomial of degree below `keep` (MacWilliams and Sloane,
+/// The Theory of Error-Correcting Codes, 1977, chapter 10).
 pub fn syndromes(points: &[Symbol], values: &[Symbol], keep: usize, out: &mut [Symbol])
     requires apart { Apart points.now }
     requires even { length points.now ≡ length values.now }

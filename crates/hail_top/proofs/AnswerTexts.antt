@@ -12,7 +12,8 @@ use Rattle.hail_top.specs.declared.tell.Subject.{Subject}
 use Rattle.hail_top.specs.Telling.{TellsOf, IsTextOf, IsFaultEnd, TellsAnswer}
 
 -- the text that was told is that of the kind of job, since its answer is one of this kind
-text-by_kind : (x : Ran) (s : Subject) (tolerance : ℕ) (answer : Answer) (kind : Kind) (text : List ℕ) → LeavesBy x kind answer → TellsOf s tolerance kind
+text-by_kind : (x : Ran) (s : Subject) (tolerance : ℕ) (answer : Answer) (kind : Kind) (text : List ℕ) →
+    LeavesBy x kind answer → TellsOf s tolerance kind
     → IsTextOf s answer text → text ≡ text_of tolerance kind answer
 text-by_kind x s tolerance Put (PutJob name bytes) text leaves subject is =
     is ∙ ap (λ (n : List ℕ). stored_line n s.length) subject.0 ∙ ap (λ (n : ℕ). stored_line name n) subject.1
@@ -29,16 +30,23 @@ text-by_kind x s tolerance (Got got) RepairJob text leaves subject is = absurd l
 text-by_kind x s tolerance (Got got) UpgradeJob text leaves subject is = absurd leaves.0
 text-by_kind x s tolerance Dropped (PutJob name bytes) text leaves subject is = absurd leaves.0
 text-by_kind x s tolerance Dropped (GetJob name) text leaves subject is = absurd leaves.gives
-text-by_kind x s tolerance Dropped (DropJob name) text leaves subject is = is ∙ ap (λ (n : List ℕ). dropped_line n) subject
+text-by_kind x s tolerance Dropped (DropJob name) text leaves subject is =
+    is ∙ ap (λ (n : List ℕ). dropped_line n) subject
 text-by_kind x s tolerance Dropped AuditJob text leaves subject is = absurd leaves.gives
 text-by_kind x s tolerance Dropped RepairJob text leaves subject is = absurd leaves.0.gives
 text-by_kind x s tolerance Dropped UpgradeJob text leaves subject is = absurd leaves.0
-text-by_kind x s tolerance (Audited number undecided counts) (PutJob name bytes) text leaves subject is = absurd leaves.0
-text-by_kind x s tolerance (Audited number undecided counts) (GetJob name) text leaves subject is = absurd leaves.gives
-text-by_kind x s tolerance (Audited number undecided counts) (DropJob name) text leaves subject is = absurd leaves.0
-text-by_kind x s tolerance (Audited number undecided counts) AuditJob text leaves subject is = is ∙ ap (λ (t : ℕ). audit_lines t number undecided counts) subject
-text-by_kind x s tolerance (Audited number undecided counts) RepairJob text leaves subject is = absurd leaves.0.gives
-text-by_kind x s tolerance (Audited number undecided counts) UpgradeJob text leaves subject is = absurd leaves.0
+text-by_kind x s tolerance (Audited number undecided counts) (PutJob name bytes) text leaves subject is =
+    absurd leaves.0
+text-by_kind x s tolerance (Audited number undecided counts) (GetJob name) text leaves subject is =
+    absurd leaves.gives
+text-by_kind x s tolerance (Audited number undecided counts) (DropJob name) text leaves subject is =
+    absurd leaves.0
+text-by_kind x s tolerance (Audited number undecided counts) AuditJob text leaves subject is =
+    is ∙ ap (λ (t : ℕ). audit_lines t number undecided counts) subject
+text-by_kind x s tolerance (Audited number undecided counts) RepairJob text leaves subject is =
+    absurd leaves.0.gives
+text-by_kind x s tolerance (Audited number undecided counts) UpgradeJob text leaves subject is =
+    absurd leaves.0
 text-by_kind x s tolerance (Repaired number) (PutJob name bytes) text leaves subject is = absurd leaves.0
 text-by_kind x s tolerance (Repaired number) (GetJob name) text leaves subject is = absurd leaves.gives
 text-by_kind x s tolerance (Repaired number) (DropJob name) text leaves subject is = absurd leaves.0
@@ -62,12 +70,14 @@ front-none old new text same = (0, omega arith, same ∙ nothing old)
     nothing (Some bytes) = ap (λ (xs : List ℕ). Some xs) (sym (append-nil bytes))
 
 -- an answer whose text was written
-written-ends : (s : Subject) (answer : Answer) (text : List ℕ) (old new : Seen) (end : Ending) → IsTextOf s answer text → WritesLine text end.status (sinking old new) → end.at ≡ 0
+written-ends : (s : Subject) (answer : Answer) (text : List ℕ) (old new : Seen) (end : Ending) →
+    IsTextOf s answer text → WritesLine text end.status (sinking old new) → end.at ≡ 0
     → EndsByAnswer text answer old new end
 written-ends s Put text old new end is writes place = record { written = writes; place = place }
 written-ends s (Got bytes) text old new end is writes place = record { written = writes; place = place }
 written-ends s Dropped text old new end is writes place = record { written = writes; place = place }
-written-ends s (Audited number undecided counts) text old new end is writes place = record { written = writes; place = place }
+written-ends s (Audited number undecided counts) text old new end is writes place =
+    record { written = writes; place = place }
 written-ends s (Repaired number) text old new end is writes place = record { written = writes; place = place }
 written-ends s (Lost stripe row) text old new end is writes place = absurd is
 written-ends s (ProviderFault provider) text old new end is writes place = absurd is
@@ -78,24 +88,41 @@ written-ends s (Scrubbed stripes symbols blocks) text old new end is writes plac
 written-ends s (Packed before after) text old new end is writes place = absurd is
 
 -- an answer of which nothing was written
-fault-ends : (answer : Answer) (text : List ℕ) (old new : Seen) (end : Ending) → IsFaultEnd answer end.status end.at → new.sink ≡ old.sink → EndsByAnswer text answer old new end
-fault-ends Put text old new end fault silent = record { written = inr (inr (fault.0, front-none old.sink new.sink text silent)); place = fault.1 }
-fault-ends (Got bytes) text old new end fault silent = record { written = inr (inr (fault.0, front-none old.sink new.sink text silent)); place = fault.1 }
-fault-ends Dropped text old new end fault silent = record { written = inr (inr (fault.0, front-none old.sink new.sink text silent)); place = fault.1 }
-fault-ends (Audited number undecided counts) text old new end fault silent = record { written = inr (inr (fault.0, front-none old.sink new.sink text silent)); place = fault.1 }
-fault-ends (Repaired number) text old new end fault silent = record { written = inr (inr (fault.0, front-none old.sink new.sink text silent)); place = fault.1 }
-fault-ends (Lost stripe row) text old new end fault silent = record { status_is = fault.0; place = fault.1; sink = silent }
-fault-ends (ProviderFault provider) text old new end fault silent = record { status_is = fault.0; place = fault.1; sink = silent }
-fault-ends DiskFault text old new end fault silent = record { status_is = fault.0; place = fault.1; sink = silent }
-fault-ends Memory text old new end fault silent = record { status_is = fault.0; place = fault.1; sink = silent }
-fault-ends Upgraded text old new end fault silent = record { written = inr (inr (fault.0, front-none old.sink new.sink text silent)); place = fault.1 }
-fault-ends (Scrubbed stripes symbols blocks) text old new end fault silent = record { written = inr (inr (fault.0, front-none old.sink new.sink text silent)); place = fault.1 }
-fault-ends (Packed before after) text old new end fault silent = record { written = inr (inr (fault.0, front-none old.sink new.sink text silent)); place = fault.1 }
+fault-ends : (answer : Answer) (text : List ℕ) (old new : Seen) (end : Ending) →
+    IsFaultEnd answer end.status end.at → new.sink ≡ old.sink → EndsByAnswer text answer old new end
+fault-ends Put text old new end fault silent =
+    record { written = inr (inr (fault.0, front-none old.sink new.sink text silent)); place = fault.1 }
+fault-ends (Got bytes) text old new end fault silent =
+    record { written = inr (inr (fault.0, front-none old.sink new.sink text silent)); place = fault.1 }
+fault-ends Dropped text old new end fault silent =
+    record { written = inr (inr (fault.0, front-none old.sink new.sink text silent)); place = fault.1 }
+fault-ends (Audited number undecided counts) text old new end fault silent =
+    record { written = inr (inr (fault.0, front-none old.sink new.sink text silent)); place = fault.1 }
+fault-ends (Repaired number) text old new end fault silent =
+    record { written = inr (inr (fault.0, front-none old.sink new.sink text silent)); place = fault.1 }
+fault-ends (Lost stripe row) text old new end fault silent =
+    record { status_is = fault.0; place = fault.1; sink = silent }
+fault-ends (ProviderFault provider) text old new end fault silent =
+    record { status_is = fault.0; place = fault.1; sink = silent }
+fault-ends DiskFault text old new end fault silent =
+    record { status_is = fault.0; place = fault.1; sink = silent }
+fault-ends Memory text old new end fault silent =
+    record { status_is = fault.0; place = fault.1; sink = silent }
+fault-ends Upgraded text old new end fault silent =
+    record { written = inr (inr (fault.0, front-none old.sink new.sink text silent)); place = fault.1 }
+fault-ends (Scrubbed stripes symbols blocks) text old new end fault silent =
+    record { written = inr (inr (fault.0, front-none old.sink new.sink text silent)); place = fault.1 }
+fault-ends (Packed before after) text old new end fault silent =
+    record { written = inr (inr (fault.0, front-none old.sink new.sink text silent)); place = fault.1 }
 
 -- how the command ends whose job's answer was told
-pub answer-ends : (x : Ran) (s : Subject) (tolerance : ℕ) (answer : Answer) (kind : Kind) (old new : Seen) (end : Ending) → LeavesBy x kind answer → TellsOf s tolerance kind
-    → TellsAnswer s answer end.status end.at (sinking old new) → EndsByAnswer (text_of tolerance kind answer) answer old new end
+pub answer-ends : (x : Ran) (s : Subject) (tolerance : ℕ) (answer : Answer) (kind : Kind) (old new : Seen)
+    (end : Ending) → LeavesBy x kind answer → TellsOf s tolerance kind
+    → TellsAnswer s answer end.status end.at (sinking old new) →
+    EndsByAnswer (text_of tolerance kind answer) answer old new end
 answer-ends x s tolerance answer kind old new end leaves subject (inl w) =
-    subst (λ (text : List ℕ). EndsByAnswer text answer old new end) (text-by_kind x s tolerance answer kind w.text leaves subject w.text_is)
+    subst (λ (text : List ℕ). EndsByAnswer text answer old new end)
+    (text-by_kind x s tolerance answer kind w.text leaves subject w.text_is)
     (written-ends s answer w.text old new end w.text_is w.written w.place)
-answer-ends x s tolerance answer kind old new end leaves subject (inr f) = fault-ends answer (text_of tolerance kind answer) old new end f.fault f.silent
+answer-ends x s tolerance answer kind old new end leaves subject (inr f) =
+    fault-ends answer (text_of tolerance kind answer) old new end f.fault f.silent

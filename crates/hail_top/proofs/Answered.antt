@@ -21,12 +21,16 @@ use Rattle.hail_top.proofs.Refused.{refused-told}
 use Rattle.hail_top.proofs.AnswerTexts.{front-none}
 
 -- it is this command
-pub answered : (command other : Command) (old new : Seen) (end : Ending) → command ≡ other → Answers (command_of other) old new end → Answers (command_of command) old new end
-answered command other old new end is answers = subst (λ (c : Command). Answers (command_of c) old new end) (sym is) answers
+pub answered : (command other : Command) (old new : Seen) (end : Ending) → command ≡ other →
+    Answers (command_of other) old new end → Answers (command_of command) old new end
+answered command other old new end is answers =
+    subst (λ (c : Command). Answers (command_of c) old new end) (sym is) answers
 
 -- a command for which there was no memory, and no device was called
-pub no_memory-told : (command : Spelled) (same : Seen) (end : Ending) → end ≡ ending_with 70 0 → Answers command same same end
-no_memory-told command same end is = subst (λ (e : Ending). Answers command same same e) (sym is) (by_command command)
+pub no_memory-told : (command : Spelled) (same : Seen) (end : Ending) → end ≡ ending_with 70 0 →
+    Answers command same same end
+no_memory-told command same end is =
+    subst (λ (e : Ending). Answers command same same e) (sym is) (by_command command)
   where
     refused : IsRefused 70 0 same same (ending_with 70 0)
     refused = refused-told 70 0 same same (ending_with 70 0) refl (resynced-same same.disk) refl refl
@@ -42,8 +46,17 @@ no_memory-told command same end is = subst (λ (e : Ending). Answers command sam
     }
 
     by_command : (command : Spelled) → Answers command same same (ending_with 70 0)
-    by_command (RowOf n l b symbols) =
-        (row n l b symbols, record { disk = refl; disk_faults = refl; providers = refl; source = (refl, refl); place = refl; heard = refl })
+    by_command (RowOf n l b symbols) = (
+      row n l b symbols,
+      record {
+        disk = refl;
+        disk_faults = refl;
+        providers = refl;
+        source = (refl, refl);
+        place = refl;
+        heard = refl;
+      },
+    )
     by_command (InitWith numbers) = inits.no_memory (none-taken longest_key same.source) refused
     by_command (PutUnder name) = commands.unstarted (opens.no_memory refused) (refl, refl)
     by_command (GetOf name) = (commands.unstarted (opens.no_memory refused), (refl, refl))

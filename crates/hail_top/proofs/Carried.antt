@@ -22,7 +22,8 @@ use Rattle.hail_replay.specs.Performed.{NoCountFell}
 use Rattle.hail_top.specs.Endings.{ending_with}
 
 -- no event was done
-pub undone : (status at : ℕ) (old new : Seen) (end : Ending) → end ≡ ending_with status at → new.disk ≡ old.disk → new.disk_faults ≡ old.disk_faults
+pub undone : (status at : ℕ) (old new : Seen) (end : Ending) → end ≡ ending_with status at →
+    new.disk ≡ old.disk → new.disk_faults ≡ old.disk_faults
     → new.providers ≡ old.providers → new.sink ≡ old.sink → IsUndone status at old new end
 undone status at old new end is disk faults providers sink = record {
   status_is = ap (λ (e : Ending). e.status) is;
@@ -34,12 +35,9 @@ undone status at old new end is disk faults providers sink = record {
   sink = sink;
 }
 
--- the counts of all devices
-pub all-fell : (old new : Seen) → NoCountFell (devices_of_seen old) (devices_of_seen new) → old.source_faults ≤ new.source_faults → old.sink_faults ≤ new.sink_faults → NoCountFalls old new
-all-fell old new F source sink = record { disk = F.disk; handed = F.handed; stores = F.stores; others = F.others; source = source; sink = sink }
-
 -- where the devices stayed no count fell
-pub none-fell : (old new : Seen) → new.disk_faults ≡ old.disk_faults → new.providers ≡ old.providers → NoCountFell (devices_of_seen old) (devices_of_seen new)
+pub none-fell : (old new : Seen) → new.disk_faults ≡ old.disk_faults → new.providers ≡ old.providers →
+    NoCountFell (devices_of_seen old) (devices_of_seen new)
 none-fell old new faults providers = record {
   disk = omega (arith, faults);
   handed = ap length providers;
@@ -48,19 +46,26 @@ none-fell old new faults providers = record {
 }
 
 -- how a report of a replay ends
-pub carried-status : {status at before now : ℕ} {heard : List Entry} {end : Ending} → end ≡ record { status = status; at = at; heard = heard }
-    → (status ≡ 0) ⊎ ((status ≡ 15) × Rose before now) ⊎ (status ≡ 70) → (end.status ≡ 0) ⊎ ((end.status ≡ 15) × Rose before now) ⊎ (end.status ≡ 70)
+pub carried-status : {status at before now : ℕ} {heard : List Entry} {end : Ending} →
+    end ≡ record { status = status; at = at; heard = heard }
+    → (status ≡ 0) ⊎ ((status ≡ 15) × Rose before now) ⊎ (status ≡ 70) →
+    (end.status ≡ 0) ⊎ ((end.status ≡ 15) × Rose before now) ⊎ (end.status ≡ 70)
 carried-status {status} {at} {before} {now} {heard} {end} is c =
     subst (λ (e : Ending). (e.status ≡ 0) ⊎ ((e.status ≡ 15) × Rose before now) ⊎ (e.status ≡ 70)) (sym is) c
 
 -- an ending with no place tells none
-pub carried-place : {status : ℕ} {heard : List Entry} {end : Ending} → end ≡ record { status = status; at = 0; heard = heard } → end.at ≡ 0
+pub carried-place : {status : ℕ} {heard : List Entry} {end : Ending} →
+    end ≡ record { status = status; at = 0; heard = heard } → end.at ≡ 0
 carried-place {status} {heard} {end} is = ap (λ (e : Ending). e.at) is
 
 -- an ending tells what was heard
-pub carried-heard : {status at : ℕ} {heard : List Entry} {end : Ending} {start : State} {before : List Moment} {commands : List Instruction} {sink : Sinking} {d : Devices}
-    → end ≡ record { status = status; at = at; heard = heard } → Replays start before commands status sink heard d → Replays start before commands end.status sink end.heard d
-carried-heard {status} {at} {heard} {end} {start} {before} {commands} {sink} {d} is r = subst (λ (e : Ending). Replays start before commands e.status sink e.heard d) (sym is) r
+pub carried-heard : {status at : ℕ} {heard : List Entry} {end : Ending} {start : State} {before : List Moment}
+    {commands : List Instruction} {sink : Sinking} {d : Devices}
+    → end ≡ record { status = status; at = at; heard = heard } →
+    Replays start before commands status sink heard d →
+    Replays start before commands end.status sink end.heard d
+carried-heard {status} {at} {heard} {end} {start} {before} {commands} {sink} {d} is r =
+    subst (λ (e : Ending). Replays start before commands e.status sink e.heard d) (sym is) r
 
 -- ---- the headline
 
@@ -70,35 +75,53 @@ replay-keeps old new end (answers.too_long front reads long undone) = inl (16, 0
 replay-keeps old new end (answers.bad_line text number reads short bad undone) = inl (19, number, undone)
 replay-keeps old new end (answers.no_memory reads undone) = inl (70, 0, undone)
 replay-keeps old new end (answers.done text reads short does) = inr (λ start before told left.
-    (let R = does.runs start before told left in record { done = R.done; later = R.later; lines = R.lines; carries = R.carries }))
+    (let R = does.runs start before told left in
+    record { done = R.done; later = R.later; lines = R.lines; carries = R.carries }))
 
-trial-goes-on : (number : ℕ) (start : State) (before : List Moment) (status : ℕ) (sink : Sinking) (same : Type 0) (heard : List Entry) (d : Devices)
-    → RunsTrial number start before status sink heard d ⊎ ((status ≡ 70) × same × RunsTo start before (trial_commands number) heard d) → RunGoesOn start before heard d
+trial-goes-on : (number : ℕ) (start : State) (before : List Moment) (status : ℕ) (sink : Sinking)
+    (same : Type 0) (heard : List Entry) (d : Devices)
+    → RunsTrial number start before status sink heard d ⊎
+    ((status ≡ 70) × same × RunsTo start before (trial_commands number) heard d) →
+    RunGoesOn start before heard d
 trial-goes-on number start before status sink same heard d (inl R) =
-    record { done = reverse (trial_commands number); later = R.later; lines = R.left_out; carries = R.carries }
+    record {
+      done = reverse (trial_commands number);
+      later = R.later;
+      lines = R.left_out;
+      carries = R.carries;
+    }
 trial-goes-on number start before status sink same heard d (inr (is, at, R)) =
     record { done = R.done; later = R.later; lines = R.lines; carries = R.carries }
 
-trial-keeps : (number : ℕ) (old new : Seen) (end : Ending) → AnswersTrial number old new end → KeepsTheHeadline old new end
+trial-keeps : (number : ℕ) (old new : Seen) (end : Ending) → AnswersTrial number old new end →
+    KeepsTheHeadline old new end
 trial-keeps number old new end (answers.too_few few same undone) = inl (22, 0, undone)
 trial-keeps number old new end (answers.no_memory same undone) = inl (70, 0, undone)
 trial-keeps number old new end (answers.done enough same does) = inr (λ start before told left.
-    trial-goes-on number start before end.status (sinking old new) (new.sink ≡ old.sink) end.heard (devices_of_seen new) (does.runs start before told left))
+    trial-goes-on number start before end.status (sinking old new) (new.sink ≡ old.sink) end.heard
+    (devices_of_seen new) (does.runs start before told left))
 
 -- what any form answers keeps the headline
-pub form-keeps : (form : Form) (old new : Seen) (end : Ending) → AnswersForm form old new end → KeepsTheHeadline old new end
+pub form-keeps : (form : Form) (old new : Seen) (end : Ending) → AnswersForm form old new end →
+    KeepsTheHeadline old new end
 form-keeps forms.Replay old new end a = replay-keeps old new end a
 form-keeps (forms.Trial number) old new end a = trial-keeps number old new end a
 
 -- a form for which there was no memory, and no device was called
-pub unstarted-form : (form : Form) (same : Seen) (end : Ending) → end ≡ ending_with 70 0 → AnswersForm form same same end
-unstarted-form forms.Replay same end is = answers.no_memory (none-taken (longest_schedule + 1) same.source) (undone 70 0 same same end is refl refl refl refl)
-unstarted-form (forms.Trial number) same end is = answers.no_memory (refl, refl) (undone 70 0 same same end is refl refl refl refl)
+pub unstarted-form : (form : Form) (same : Seen) (end : Ending) → end ≡ ending_with 70 0 →
+    AnswersForm form same same end
+unstarted-form forms.Replay same end is = answers.no_memory (none-taken (longest_schedule + 1) same.source)
+    (undone 70 0 same same end is refl refl refl refl)
+unstarted-form (forms.Trial number) same end is =
+    answers.no_memory (refl, refl) (undone 70 0 same same end is refl refl refl refl)
 
 -- it is this form
-pub carried-as : (form other : Form) (old new : Seen) (end : Ending) → form ≡ other → AnswersForm other old new end → AnswersForm form old new end
+pub carried-as : (form other : Form) (old new : Seen) (end : Ending) → form ≡ other →
+    AnswersForm other old new end → AnswersForm form old new end
 carried-as form other old new end is a = subst (λ (f : Form). AnswersForm f old new end) (sym is) a
 
 -- what holds of a list and what was left of it holds of the same under other names
-pub over-lists : {X : Type 0} (F : List X → List X → Type 0) (held old left new : List X) → held ≡ old → left ≡ new → F held new → F old left
-over-lists F held old left new held_is left_is h = subst (λ o. F o left) held_is (subst (λ n. F held n) (sym left_is) h)
+pub over-lists : {X : Type 0} (F : List X → List X → Type 0) (held old left new : List X) → held ≡ old →
+    left ≡ new → F held new → F old left
+over-lists F held old left new held_is left_is h =
+    subst (λ o. F o left) held_is (subst (λ n. F held n) (sym left_is) h)

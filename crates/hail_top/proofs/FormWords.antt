@@ -1,4 +1,5 @@
--- The forms of the two commands that carry events out: words spell one of them at most, and then no other command.
+-- The forms of the two commands that carry events out: words spell one of them at most, and then no other
+-- command.
 use Rattle.std.proofs.Common.{◌≡◌, ℕ, true, false, List, [], ◌∷◌, String, refl, ap, sym, subst, ◌∙◌}
 use Rattle.std.specs.Prelude.{Option, codes}
 use Rattle.std.specs.Str.{bytes_eq}
@@ -20,23 +21,28 @@ replay-alone (first ∷ []) number one other = other
 replay-alone (first ∷ second ∷ words) number one other = one
 
 -- the number of a trial is told by its word
-trial-once : (words : List (String Global)) (number other : ℕ) → IsTrialForm words number → IsTrialForm words other → number ≡ other
+trial-once : (words : List (String Global)) (number other : ℕ) → IsTrialForm words number →
+    IsTrialForm words other → number ≡ other
 trial-once [] number other one two = absurd one
 trial-once (first ∷ []) number other one two = absurd one
 trial-once (first ∷ second ∷ []) number other one two = sym one.1.value ∙ two.1.value
 trial-once (first ∷ second ∷ third ∷ words) number other one two = absurd one
 
 -- words spell one form at most
-form-once : (words : List (String Global)) (form other : Form) → IsFormOf words form → IsFormOf words other → form ≡ other
+form-once : (words : List (String Global)) (form other : Form) → IsFormOf words form → IsFormOf words other →
+    form ≡ other
 form-once words forms.Replay forms.Replay one two = refl
 form-once words forms.Replay (forms.Trial other) one two = absurd (replay-alone words other one two)
 form-once words (forms.Trial number) forms.Replay one two = absurd (replay-alone words number two one)
-form-once words (forms.Trial number) (forms.Trial other) one two = ap (λ (n : ℕ). forms.Trial n) (trial-once words number other one two)
+form-once words (forms.Trial number) (forms.Trial other) one two =
+    ap (λ (n : ℕ). forms.Trial n) (trial-once words number other one two)
 
 -- the form that was read was answered, so the one that the words spell was
-pub answered-form : (words : List (String Global)) (form other : Form) (old new : Seen) (end : Ending) → IsFormOf words form → AnswersForm form old new end
+pub answered-form : (words : List (String Global)) (form other : Form) (old new : Seen) (end : Ending) →
+    IsFormOf words form → AnswersForm form old new end
     → IsFormOf words other → AnswersForm other old new end
-answered-form words form other old new end found a is = subst (λ (f : Form). AnswersForm f old new end) (form-once words form other found is) a
+answered-form words form other old new end found a is =
+    subst (λ (f : Form). AnswersForm f old new end) (form-once words form other found is) a
 
 -- ---- words that spell a command
 
@@ -58,36 +64,42 @@ abbrev pub form-word : Form → List ℕ
 form-word forms.Replay = codes "replay"
 form-word (forms.Trial number) = codes "trial"
 
-row-first : (words : List (String Global)) (n l b : ℕ) (seen : List (Option ℕ)) → IsRowForm words n l b seen → first-word words ≡ codes "row"
+row-first : (words : List (String Global)) (n l b : ℕ) (seen : List (Option ℕ)) → IsRowForm words n l b seen →
+    first-word words ≡ codes "row"
 row-first (c ∷ f ∷ s ∷ t ∷ words) n l b seen form = form.0
 row-first [] n l b seen form = absurd form
 row-first (c ∷ []) n l b seen form = absurd form
 row-first (c ∷ f ∷ []) n l b seen form = absurd form
 row-first (c ∷ f ∷ s ∷ []) n l b seen form = absurd form
 
-init-first : (words : List (String Global)) (numbers : Numbers) → IsInitForm words numbers → first-word words ≡ codes "init"
+init-first : (words : List (String Global)) (numbers : Numbers) → IsInitForm words numbers →
+    first-word words ≡ codes "init"
 init-first [] numbers form = absurd form
 init-first (c ∷ words) numbers form = form.0
 
-named-first : (command : List ℕ) (words : List (String Global)) (name : List ℕ) → IsNamedForm command words name → first-word words ≡ command
+named-first : (command : List ℕ) (words : List (String Global)) (name : List ℕ) →
+    IsNamedForm command words name → first-word words ≡ command
 named-first command [] name form = absurd form
 named-first command (c ∷ []) name form = absurd form
 named-first command (c ∷ n ∷ []) name form = form.0
 named-first command (c ∷ n ∷ more ∷ words) name form = absurd form
 
-bare-first : (command : List ℕ) (words : List (String Global)) → IsBareForm command words → first-word words ≡ command
+bare-first : (command : List ℕ) (words : List (String Global)) → IsBareForm command words →
+    first-word words ≡ command
 bare-first command [] form = absurd form
 bare-first command (c ∷ []) form = form
 bare-first command (c ∷ more ∷ words) form = absurd form
 
-trial-first : (words : List (String Global)) (number : ℕ) → IsTrialForm words number → first-word words ≡ codes "trial"
+trial-first : (words : List (String Global)) (number : ℕ) → IsTrialForm words number →
+    first-word words ≡ codes "trial"
 trial-first [] number form = absurd form
 trial-first (c ∷ []) number form = absurd form
 trial-first (c ∷ n ∷ []) number form = form.0
 trial-first (c ∷ n ∷ more ∷ words) number form = absurd form
 
 -- the first word of a form is that of its command
-pub command-first : (words : List (String Global)) (command : Spelled) → IsForm words command → first-word words ≡ command-word command
+pub command-first : (words : List (String Global)) (command : Spelled) → IsForm words command →
+    first-word words ≡ command-word command
 command-first words (RowOf n l b seen) form = row-first words n l b seen form
 command-first words (InitWith numbers) form = init-first words numbers form
 command-first words (PutUnder name) form = named-first (codes "put") words name form
@@ -98,7 +110,8 @@ command-first words AuditAll form = bare-first (codes "audit") words form
 command-first words RepairDue form = bare-first (codes "repair") words form
 
 -- the first word tells the form
-pub form-first : (words : List (String Global)) (form : Form) → IsFormOf words form → first-word words ≡ form-word form
+pub form-first : (words : List (String Global)) (form : Form) → IsFormOf words form →
+    first-word words ≡ form-word form
 form-first words forms.Replay is = bare-first (codes "replay") words is
 form-first words (forms.Trial number) is = trial-first words number is
 
@@ -131,7 +144,9 @@ word-same forms.Replay = refl
 word-same (forms.Trial number) = refl
 
 -- words that spell a command spell no such form
-pub no-form : (words : List (String Global)) (command : Spelled) (form : Form) → IsForm words command → IsFormOf words form → ⊥
+pub no-form : (words : List (String Global)) (command : Spelled) (form : Form) → IsForm words command →
+    IsFormOf words form → ⊥
 no-form words command form spelled is =
     (let meet = sym (command-first words command spelled) ∙ form-first words form is in
-    false≢true (sym (words-apart command form) ∙ (ap (λ (word : List ℕ). bytes_eq word (form-word form)) meet ∙ word-same form)))
+    false≢true (sym (words-apart command form)
+    ∙ (ap (λ (word : List ℕ). bytes_eq word (form-word form)) meet ∙ word-same form)))

@@ -27,27 +27,37 @@ use Rattle.hail_top.proofs.Told.{resynced}
 use Rattle.hail_top.proofs.AnswerTexts.{answer-ends}
 
 -- the job ran to its end, and that was told
-pub ended-told : (subject : Subject) (tolerance : ℕ) (kind : Kind) (records : List Record) (old new : Seen) (end : Ending) (ended : Ended) (written : Option (List ℕ)) (count : ℕ)
-    → old.sink ≡ written → old.sink_faults ≡ count → TellsOf subject tolerance kind → tolerance ≡ (setup_in_effect records).tolerance → EndsOver records kind ended old new
-    → TellsAnswer subject (machine_answer ended.answer) end.status end.at (record { old = written; new = new.sink; before = count; now = new.sink_faults })
+pub ended-told : (subject : Subject) (tolerance : ℕ) (kind : Kind) (records : List Record) (old new : Seen)
+    (end : Ending) (ended : Ended) (written : Option (List ℕ)) (count : ℕ)
+    → old.sink ≡ written → old.sink_faults ≡ count → TellsOf subject tolerance kind →
+    tolerance ≡ (setup_in_effect records).tolerance → EndsOver records kind ended old new
+    → TellsAnswer subject (machine_answer ended.answer) end.status end.at
+    (record { old = written; new = new.sink; before = count; now = new.sink_faults })
     → end.heard ≡ ended.heard → AnswersOver kind records old new end
-ended-told subject tolerance kind records old new end ended written count is_written is_count is_subject is over told heard = record {
-  answers = jobs.ended (machine_answer ended.answer) over.unrefused
-      (subst (λ (entries : List Entry). RunsAlone records kind (machine_answer ended.answer) old new entries) (sym heard) over.runs)
-      (subst (λ (entries : List Entry). LeftAlone records kind (machine_answer ended.answer) old new entries) (sym heard) over.left)
-      (answer-ends (ran_alone records old new ended.heard over.left.faults over.left.after over.left.doubt) subject (setup_in_effect records).tolerance (machine_answer ended.answer) kind old new end
-      over.left.leaves.by_kind (subst (λ (t : ℕ). TellsOf subject t kind) is is_subject) told_here);
-  counts = over.counts;
-}
+ended-told subject tolerance kind records old new end ended written count is_written is_count is_subject is over told heard =
+    record {
+      answers = jobs.ended (machine_answer ended.answer) over.unrefused
+          (subst (λ (entries : List Entry). RunsAlone records kind (machine_answer ended.answer) old new entries)
+          (sym heard) over.runs)
+          (subst (λ (entries : List Entry). LeftAlone records kind (machine_answer ended.answer) old new entries)
+          (sym heard) over.left)
+          (answer-ends (ran_alone records old new ended.heard over.left.faults over.left.after over.left.doubt)
+          subject (setup_in_effect records).tolerance (machine_answer ended.answer) kind old new end
+          over.left.leaves.by_kind (subst (λ (t : ℕ). TellsOf subject t kind) is is_subject) told_here);
+      counts = over.counts;
+    }
   where
     told_here : TellsAnswer subject (machine_answer ended.answer) end.status end.at (sinking old new)
     told_here =
-        subst (λ (n : ℕ). TellsAnswer subject (machine_answer ended.answer) end.status end.at (record { old = old.sink; new = new.sink; before = n; now = new.sink_faults })) (sym is_count)
-        (subst (λ (w : Option (List ℕ)). TellsAnswer subject (machine_answer ended.answer) end.status end.at (record { old = w; new = new.sink; before = count; now = new.sink_faults }))
+        subst (λ (n : ℕ). TellsAnswer subject (machine_answer ended.answer) end.status end.at
+        (record { old = old.sink; new = new.sink; before = n; now = new.sink_faults })) (sym is_count)
+        (subst (λ (w : Option (List ℕ)). TellsAnswer subject (machine_answer ended.answer) end.status end.at
+        (record { old = w; new = new.sink; before = count; now = new.sink_faults }))
         (sym is_written) told)
 
 -- devices that are as they were lost no fault
-pub untouched : (old new : Seen) (d : Devices) → IsSeenBefore old d → new.disk_faults ≡ d.faults → new.providers ≡ d.providers → NoFaultUndone old new
+pub untouched : (old new : Seen) (d : Devices) → IsSeenBefore old d → new.disk_faults ≡ d.faults →
+    new.providers ≡ d.providers → NoFaultUndone old new
 untouched old new d before faults providers =
     let same : new.providers ≡ old.providers = providers ∙ sym before.providers in
     record {
@@ -58,9 +68,12 @@ untouched old new d before faults providers =
     }
 
 -- the job was refused, and that was told
-pub refused-over : (kind : Kind) (records : List Record) (old new : Seen) (d : Devices) (end : Ending) (why : BeginFault)
-    → IsSeenBefore old d → d.holds ≡ option_map synced old.disk → IsRefusedOver records kind why → end ≡ ending_with (status_of (refusal_of why)) 0
-    → new.disk ≡ d.holds → new.disk_faults ≡ d.faults → new.providers ≡ d.providers → new.sink ≡ old.sink → AnswersOver kind records old new end
+pub refused-over : (kind : Kind) (records : List Record) (old new : Seen) (d : Devices) (end : Ending)
+    (why : BeginFault)
+    → IsSeenBefore old d → d.holds ≡ option_map synced old.disk → IsRefusedOver records kind why →
+    end ≡ ending_with (status_of (refusal_of why)) 0
+    → new.disk ≡ d.holds → new.disk_faults ≡ d.faults → new.providers ≡ d.providers → new.sink ≡ old.sink →
+    AnswersOver kind records old new end
 refused-over kind records old new d end why before was_synced over is disk faults providers silent = record {
   answers = by_cause over;
   counts = untouched old new d before faults providers;
@@ -76,5 +89,9 @@ refused-over kind records old new d end why before was_synced over is disk fault
     same_providers = providers ∙ sym before.providers
 
     by_cause : IsRefusedOver records kind why → AnswersJob kind records old new end
-    by_cause (inl memory) = jobs.no_memory synced_here (refused-told 70 0 old new end (is ∙ ap (λ (w : BeginFault). ending_with (status_of (refusal_of w)) 0) memory) kept same_providers silent)
-    by_cause (inr some) = jobs.refused (refusal_of why) some synced_here (refused-told (status_of (refusal_of why)) 0 old new end is kept same_providers silent)
+    by_cause (inl memory) = jobs.no_memory synced_here
+        (refused-told 70 0 old new end
+        (is ∙ ap (λ (w : BeginFault). ending_with (status_of (refusal_of w)) 0) memory) kept
+        same_providers silent)
+    by_cause (inr some) = jobs.refused (refusal_of why) some synced_here
+        (refused-told (status_of (refusal_of why)) 0 old new end is kept same_providers silent)

@@ -7,14 +7,16 @@ use Rattle.command_jobs.specs.Opened.{IsReadFor}
 use Rattle.command_jobs.specs.Ends.{NoFaultUndone}
 
 -- the records are read, and enough providers are handed in
-pub opened-read : (old : Seen) (records : List Record) (handed : ℕ) → handed ≡ length old.providers → IsReadFor old.disk records handed → IsOpened old records
+pub opened-read : (old : Seen) (records : List Record) (handed : ℕ) → handed ≡ length old.providers →
+    IsReadFor old.disk records handed → IsOpened old records
 opened-read old records handed as_many for = record {
   read = for.read;
   enough = subst (λ (n : ℕ). (setup_in_effect records).n ≤ n) as_many for.enough;
 }
 
 -- no count falls where none of the disk or of a provider does, nor of the streams
-pub no_count_falls : (old new : Seen) → NoFaultUndone old new → old.source_faults ≤ new.source_faults → old.sink_faults ≤ new.sink_faults → NoCountFalls old new
+pub no_count_falls : (old new : Seen) → NoFaultUndone old new → old.source_faults ≤ new.source_faults →
+    old.sink_faults ≤ new.sink_faults → NoCountFalls old new
 no_count_falls old new counts source sink = record {
   disk = counts.disk;
   handed = counts.handed;

@@ -19,21 +19,30 @@ use Rattle.hail_top.proofs.Told.{resynced}
 use Rattle.hail_top.proofs.JobEnds.{untouched}
 
 -- the source was read, and the job was refused or ended
-pub begun-put : (name bytes : List ℕ) (records : List Record) (old new : Seen) (end : Ending) (left : Option (List ℕ)) → old.source ≡ left → IsOpened old records
-    → ReadsUpTo (largest_file + 1) left new.source bytes → AnswersOver (PutJob name bytes) records old new end → PutsOver name old new end
+pub begun-put : (name bytes : List ℕ) (records : List Record) (old new : Seen) (end : Ending)
+    (left : Option (List ℕ)) → old.source ≡ left → IsOpened old records
+    → ReadsUpTo (largest_file + 1) left new.source bytes →
+    AnswersOver (PutJob name bytes) records old new end → PutsOver name old new end
 begun-put name bytes records old new end left is opened read over = record {
-  answers = begun records bytes opened (subst (λ (told : Option (List ℕ)). ReadsUpTo (largest_file + 1) told new.source bytes) (sym is) read) over.answers;
+  answers = begun records bytes opened
+      (subst (λ (told : Option (List ℕ)). ReadsUpTo (largest_file + 1) told new.source bytes) (sym is) read)
+      over.answers;
   counts = over.counts;
 }
 
 -- the source was not read
-pub unread-put : (name : List ℕ) (records : List Record) (old new : Seen) (d : Devices) (end : Ending) (fault : ReadFault) (count : ℕ) (left : Option (List ℕ)) → old.source_faults ≡ count → old.source ≡ left → ReadsAtMost (largest_file + 1) left new.source
-    → IsOpened old records → IsSeenBefore old d → d.holds ≡ option_map synced old.disk → end ≡ unread_ending fault → (fault ≡ read_fault.Failed → Rose count new.source_faults)
-    → new.disk ≡ d.holds → new.disk_faults ≡ d.faults → new.providers ≡ d.providers → new.sink ≡ old.sink → PutsOver name old new end
-unread-put name records old new d end fault count left is_count is_left few opened before was_synced is rose disk faults providers silent = record {
-  answers = by_fault fault is rose;
-  counts = untouched old new d before faults providers;
-}
+pub unread-put : (name : List ℕ) (records : List Record) (old new : Seen) (d : Devices) (end : Ending)
+    (fault : ReadFault) (count : ℕ) (left : Option (List ℕ)) → old.source_faults ≡ count → old.source ≡ left →
+    ReadsAtMost (largest_file + 1) left new.source
+    → IsOpened old records → IsSeenBefore old d → d.holds ≡ option_map synced old.disk →
+    end ≡ unread_ending fault → (fault ≡ read_fault.Failed → Rose count new.source_faults)
+    → new.disk ≡ d.holds → new.disk_faults ≡ d.faults → new.providers ≡ d.providers → new.sink ≡ old.sink →
+    PutsOver name old new end
+unread-put name records old new d end fault count left is_count is_left few opened before was_synced is rose disk faults providers silent =
+    record {
+      answers = by_fault fault is rose;
+      counts = untouched old new d before faults providers;
+    }
   where
     synced_here : IsSynced old new
     synced_here = disk ∙ was_synced
@@ -45,9 +54,13 @@ unread-put name records old new d end fault count left is_count is_left few open
     same_providers = providers ∙ sym before.providers
 
     taken : ReadsAtMost (largest_file + 1) old.source new.source
-    taken = subst (λ (told : Option (List ℕ)). ReadsAtMost (largest_file + 1) told new.source) (sym is_left) few
+    taken = subst (λ (told : Option (List ℕ)). ReadsAtMost (largest_file + 1) told new.source)
+        (sym is_left) few
 
-    by_fault : (fault : ReadFault) → end ≡ unread_ending fault → (fault ≡ read_fault.Failed → Rose count new.source_faults) → AnswersPut name old new end
+    by_fault : (fault : ReadFault) → end ≡ unread_ending fault →
+        (fault ≡ read_fault.Failed → Rose count new.source_faults) → AnswersPut name old new end
     by_fault read_fault.Failed is rose =
-        source_fault records opened (subst (λ (n : ℕ). Rose n new.source_faults) (sym is_count) (rose refl)) synced_here taken (refused-told 14 0 old new end is kept same_providers silent)
-    by_fault read_fault.Memory is rose = no_memory taken (refused-told 70 0 old new end is kept same_providers silent)
+        source_fault records opened (subst (λ (n : ℕ). Rose n new.source_faults) (sym is_count) (rose refl))
+        synced_here taken (refused-told 14 0 old new end is kept same_providers silent)
+    by_fault read_fault.Memory is rose =
+        no_memory taken (refused-told 70 0 old new end is kept same_providers silent)

@@ -4,7 +4,8 @@ use Rattle.command_defs.specs.Seen.{Seen, Ending, KeepsDisk, IsRefused}
 use Rattle.hail_top.specs.Endings.{ending_with}
 
 -- the disk was at most synced, the providers are as before, and nothing was written
-pub refused-told : (status at : ℕ) (old new : Seen) (end : Ending) → end ≡ ending_with status at → KeepsDisk old new → new.providers ≡ old.providers → new.sink ≡ old.sink
+pub refused-told : (status at : ℕ) (old new : Seen) (end : Ending) → end ≡ ending_with status at →
+    KeepsDisk old new → new.providers ≡ old.providers → new.sink ≡ old.sink
     → IsRefused status at old new end
 refused-told status at old new end is kept same silent =
     subst (λ (e : Ending). IsRefused status at old new e) (sym is)

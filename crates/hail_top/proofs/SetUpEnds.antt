@@ -18,7 +18,8 @@ use Rattle.hail_top.specs.Endings.{ending_with}
 use Rattle.hail_top.specs.SetUps.{init_ending}
 
 -- a store is ready, and that was told
-pub ready-told : (s : Setup) (old new : Seen) (end : Ending) (line : List ℕ) (status : ℕ) → end ≡ ending_with status 0 → line ≡ ready_line → WritesLine line status (sinking old new)
+pub ready-told : (s : Setup) (old new : Seen) (end : Ending) (line : List ℕ) (status : ℕ) →
+    end ≡ ending_with status 0 → line ≡ ready_line → WritesLine line status (sinking old new)
     → Goes (IsSetUpOn s) old.disk new.disk → new.providers ≡ old.providers → InitsDisk s old new end
 ready-told s old new end line status is line_is written set_up same =
     subst (λ (e : Ending). InitsDisk s old new e) (sym is) (inits.ready (record {
@@ -40,13 +41,24 @@ not_set_up-told s old new end why is cause looked left rose same silent =
     subst (λ (e : Ending). InitsDisk s old new e) (sym is) (by_fault why cause looked rose)
   where
     failed : (status : ℕ) → FailsToInit status s old new (ending_with status 0)
-    failed status = record { status_is = refl; place = refl; heard = refl; images = left; providers = same; sink = silent }
+    failed status = record {
+      status_is = refl;
+      place = refl;
+      heard = refl;
+      images = left;
+      providers = same;
+      sink = silent;
+    }
 
-    refused : (status at : ℕ) → Goes IsResynced old.disk new.disk → IsRefused status at old new (ending_with status at)
-    refused status at goes = record { status_is = refl; place = refl; heard = refl; disk = goes; providers = same; sink = silent }
+    refused : (status at : ℕ) → Goes IsResynced old.disk new.disk →
+        IsRefused status at old new (ending_with status at)
+    refused status at goes =
+        record { status_is = refl; place = refl; heard = refl; disk = goes; providers = same; sink = silent }
 
-    by_fault : (why : InitFault) → IfSome old.disk (λ cells. IsInitFault (journal_read cells) s why) → (IsNoWrite why → Goes IsResynced old.disk new.disk)
-        → (why ≡ init_fault.DiskFault → Rose old.disk_faults new.disk_faults) → InitsDisk s old new (init_ending why)
+    by_fault : (why : InitFault) → IfSome old.disk (λ cells. IsInitFault (journal_read cells) s why) →
+        (IsNoWrite why → Goes IsResynced old.disk new.disk)
+        → (why ≡ init_fault.DiskFault → Rose old.disk_faults new.disk_faults) →
+        InitsDisk s old new (init_ending why)
     by_fault init_fault.BadSetup cause looked rose = inits.no_memory (failed 70)
     by_fault init_fault.DiskFault cause looked rose = inits.disk_fault (rose refl) (failed 12)
     by_fault (init_fault.BadJournal at) cause looked rose =

@@ -21,9 +21,12 @@ take-few (suc n) [] = omega arith
 take-few (suc n) (x ∷ xs) = (let h = take-few n xs in omega (arith, h))
 
 -- these bytes were taken before, and so many came now
-pub more-taken : (most count : ℕ) (old mid new : Option (List ℕ)) (bytes out : List ℕ) → old ≡ then_told bytes mid → mid ≡ then_told (take count out) new → length bytes + count ≤ most → ReadsAtMost most old new
+pub more-taken : (most count : ℕ) (old mid new : Option (List ℕ)) (bytes out : List ℕ) →
+    old ≡ then_told bytes mid → mid ≡ then_told (take count out) new → length bytes + count ≤ most →
+    ReadsAtMost most old new
 more-taken most count old mid new bytes out before now few = record {
   bytes = bytes ++ take count out;
   front = before ∙ (ap (then_told bytes) now ∙ both-told bytes (take count out) new);
-  few = (let a = length-append bytes (take count out) in let b = take-few count out in omega (arith, a, b, few));
+  few = (let a = length-append bytes (take count out) in let b = take-few count out in
+      omega (arith, a, b, few));
 }

@@ -9,4 +9,5 @@ use Rattle.opening_defs.specs.Journals.{IsResynced}
 -- a disk that was synced
 pub resynced : (old new : Option Cells) → new ≡ option_map synced old → Goes IsResynced old new
 resynced None new is = subst (λ (told : Option Cells). Goes IsResynced None told) (sym is) tt
-resynced (Some cells) new is = subst (λ (told : Option Cells). Goes IsResynced (Some cells) told) (sym is) (inr refl)
+resynced (Some cells) new is =
+    subst (λ (told : Option Cells). Goes IsResynced (Some cells) told) (sym is) (inr refl)

@@ -19,8 +19,8 @@ pub fn row_has_one_line()
     accepted_polynomial_is_unique();
 }
 
-/// A row with an accepted polynomial is answered with status 0, or with that of no memory, where the sink's count of faults stands
-/// still below its last value.
+/// A row with an accepted polynomial is answered with status 0, or with that of no memory, where the sink's
+/// count of faults stands still below its last value.
 pub fn row_answer_is_complete()
     ensures { (n l b : ℕ) (seen : List (Option ℕ)) (p : List ℕ) (status : ℕ) (sink : Sinking)
         → IsShape n l b → Accepts (upto n) seen l b p → AnswersRow n l b seen status sink

@@ -70,9 +70,10 @@ pub const BAD_FRAME: u8 = 25;
 /// There was no memory.
 pub const NO_MEMORY: u8 = 70;
 
-/// How a command ended: its status, which the program ends with; the place that the status speaks of; and what its jobs heard, in the
-/// order of their ends. The place is the offset of the first bad byte at status 8, the row at status 4, the provider at status 13,
-/// the line at status 19, and the offset of the bad request at status 25; it is 0 at every other status.
+/// How a command ended: its status, which the program ends with; the place that the status speaks of; and
+/// what its jobs heard, in the order of their ends. The place is the offset of the first bad byte at status
+/// 8, the row at status 4, the provider at status 13, the line at status 19, and the offset of the bad
+/// request at status 25; it is 0 at every other status.
 #[derive(Drop)]
 pub struct Report {
     pub status: u8,

@@ -13,8 +13,8 @@ use std::alloc::Global;
 use stream_model::{Bytes, Memory, Sink};
 use vault::{Answer, Ended};
 
-/// What the lines of answers speak of beside the answer: the name and the length of a job's file, and how many wrong rounds an
-/// audit tolerates.
+/// What the lines of answers speak of beside the answer: the name and the length of a job's file, and how
+/// many wrong rounds an audit tolerates.
 #[derive(Clone, Copy)]
 pub struct Subject<'a> {
     pub name: &'a [u8],

@@ -562,7 +562,8 @@ module _ (start new : State) (how : Answer) (heard : List Entry) (O : IsOpenAtRe
           | inl none ↦ inl (ap (option_map (λ (d : Doubt). d.entry)) none)
           | inr (d, in_doubt, writes) ↦
               elim (wrote start O AuditJob E.before E.job E.walked d.entry F.left writes) [
-                | Wrote.first l is entry ↦ inr (ap (option_map (λ (z : Doubt). z.entry)) in_doubt ∙ ap Some entry)
+                | Wrote.first l is entry ↦
+                    inr (ap (option_map (λ (z : Doubt). z.entry)) in_doubt ∙ ap Some entry)
                 | Wrote.second l is sec ↦ absurd (omega (arith, l, two))
               ]
         ]

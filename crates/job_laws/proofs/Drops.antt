@@ -281,7 +281,8 @@ module _ (start new : State) (name : List ℕ) (how : Answer) (heard : List Entr
           a.1,
           d.1,
           subst (λ f. Made drop_with (remove_actions (setup_in start) E.job) start.providers f a.1
-              d.1) (sym end) (subst (λ f. Made drop_with (remove_actions (setup_in start) E.job) f d.0 a.1 d.1)
+              d.1) (sym end) (subst
+              (λ f. Made drop_with (remove_actions (setup_in start) E.job) f d.0 a.1 d.1)
               first d.2),
         ))
 

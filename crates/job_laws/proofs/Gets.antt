@@ -222,12 +222,6 @@ module _ (s : Setup) (id : ℕ) where
       piece = flat-append (entry_for 1 now) (fetches a) (Work id a ∷ [])
           ∙ (append-nil (flat_map (entry_for 1 now) (fetches a)) ∙ entries-fetches now a)
 
-  entries-cut : (now : List Given) (a k : ℕ) → flat_map (entry_for 1 now) (reads a k ++ fetches (a + k))
-      ≡ flat_map (entries_at now) (range_with_len a (suc k))
-  entries-cut now a k = sym (append-nil (flat_map (entry_for 1 now) (reads a k ++ fetches (a + k))))
-      ∙ (sym (flat-append (entry_for 1 now) (reads a k ++ fetches (a + k)) (Work id (a + k) ∷ []))
-      ∙ (ap (flat_map (entry_for 1 now)) (sym (reads-last a k)) ∙ entries-reads now a (suc k)))
-
 -- ---- what fetches gave
 
 -- a fetch, or the work on a stripe
@@ -306,7 +300,8 @@ module _ (x : With) (j : ℕ) (held : Held) (now : List Given) where
             (call-hit old k (λ p q. Fetches (object_made x o).profile.size o t p block q) mid called))
         | inr miss ↦ still-step (Fetch k o t) (old j) (mid j) (λ e. absurd (miss e))
             (cond_false (k == j) (lacks (block_given now o t k) (has o t)) 0 (ne_eqb k j miss))
-            (call-miss old k (λ p q. Fetches (object_made x o).profile.size o t p block q) mid j miss called) h
+            (call-miss old k (λ p q. Fetches (object_made x o).profile.size o t p block q) mid j miss called)
+            h
       ]
   read-step (Work o t) actions old mid new given so_far reading over (symbols, gives, still, is) rest h =
       still-step (Work o t) (old j) (mid j) tt refl (ap (λ f. f j) still) h

@@ -53,23 +53,6 @@ over-append WriteGate xs ys a b = tt
 over-append SyncGate xs ys a b = tt
 over-append End xs ys a b = tt
 
-over-take : (x : Action) (xs : List Action) (p : ℕ) → IsOver x xs → IsOver x (take p xs)
-over-take (Fetch j o s) xs p a = each_take (IsNot (Fetch j o s)) xs p a
-over-take (Ask j o r) xs p a = each_take (IsNot (Ask j o r)) xs p a
-over-take (Work o s) xs p a = each_take (IsNot (Work o s)) xs p a
-over-take (Store j o s) xs p a = tt
-over-take (Remove j o) xs p a = tt
-over-take WriteBody xs p a = tt
-over-take SyncBody xs p a = tt
-over-take WriteGate xs p a = tt
-over-take SyncGate xs p a = tt
-over-take End xs p a = tt
-
-distinct-take : (xs : List Action) (p : ℕ) → AreDistinct xs → AreDistinct (take p xs)
-distinct-take xs zero d = tt
-distinct-take [] (suc p) d = tt
-distinct-take (x ∷ xs) (suc p) d = (over-take x xs p d.0, distinct-take xs p d.1)
-
 -- two lists of distinct actions are distinct together, where the first ones do not come again
 pub distinct-append : (xs ys : List Action) → AreDistinct xs → AreDistinct ys → Each (λ x. IsOver x ys) xs →
     AreDistinct (xs ++ ys)

@@ -259,9 +259,11 @@ module _ (start new : State) (kind : Kind) (how : Answer) (heard : List Entry) (
       elim (calls-at E.before.providers k (λ p q. (q.held ≡ p.held) × StoreCounts p q) new.providers j call) [
         | inl e ↦ e
         | inr c ↦ absurd (let b : k < (setup_in start).n =
-            each_get (IsBelow (setup_in start).n) (actions_of (setup_in start) E.job) E.job.place (Store k o s)
+            each_get (IsBelow (setup_in start).n) (actions_of (setup_in start) E.job) E.job.place
+            (Store k o s)
             (below (setup_in start) E.job)
-            (subst (λ (t : Setup). slice_get (actions_of t E.job) E.job.place ≡ Some (Store k o s)) E.walked.setup
+            (subst (λ (t : Setup). slice_get (actions_of t E.job) E.job.place ≡ Some (Store k o s))
+            E.walked.setup
             (next_stands E.before E.job (Store k o s) (E.next ∙ ap Some at) (λ e. cc))) in
             let f = c.0 in omega (arith, b, f, l))
       ]

@@ -154,8 +154,3 @@ module _ (w : State) (O : IsOpenAtRest w 1) where
       (among-plain (setup_at_begin x).profile (files_of x.records) id
       (subst (λ rs. Each (λ (f : File). f.profile ≡ (setup_at_begin (record x { records = rs })).profile)
       (files_of rs)) (sym same) (plain-files w O)))
-
-  begin-plain : (x : Ran) → x.records ≡ w.records → (file : File) →
-      file.profile ≡ (setup_at_begin x).profile → object_at_begin x file
-      ≡ object_of (setup_at_begin x) file.id
-  begin-plain x same file e = ap (λ p. object_of (profiled (setup_at_begin x) p) file.id) e

@@ -23,10 +23,6 @@ use Rattle.job_laws.proofs.Providers.{Called, calls-at, made-keeps}
 use Rattle.job_laws.proofs.Truth.{call-hit, call-miss}
 use Rattle.job_laws.proofs.Leaving.{LastCall}
 
--- and so did one that rose before
-rose-on : (a b c : ℕ) → b ≤ c → Rose a b → Rose a c
-rose-on a b c m rose below = (let r = rose below in omega (arith, m, r))
-
 -- before an append one is left
 pub left-within : (xs ys : List Action) (p : ℕ) → p < length xs → 0 < appends_in ys →
     0 < appends_in (drop p (xs ++ ys))
@@ -68,18 +64,6 @@ pub goes-by : (R : Held → Held → Type 0) (old new : Option Held) → (old �
     ((p : Held) → old ≡ Some p → (q : Held) × (new ≡ Some q) × R p q) → Goes R old new
 goes-by R None new none some = subst (Goes R None) (sym (none refl)) tt
 goes-by R (Some p) new none some = (let r = some p refl in subst (Goes R (Some p)) (sym r.1) r.2)
-
-goes-none : (R : Held → Held → Type 0) (old new : Option Held) → Goes R old new → old ≡ None → new ≡ None
-goes-none R None None g e = refl
-goes-none R None (Some q) g e = absurd g
-goes-none R (Some p) new g e = absurd (let f : Some p ≡ None = e in cc)
-
-goes-some : (R : Held → Held → Type 0) (old new : Option Held) (p : Held) → Goes R old new → old ≡ Some p →
-    (q : Held) × (new ≡ Some q) × R p q
-goes-some R None new p g e = absurd (let f : None ≡ Some p = e in cc)
-goes-some R (Some r) None p g e = absurd g
-goes-some R (Some r) (Some q) p g e =
-    (q, refl, subst (λ z. R z q) (let f : Some r ≡ Some p = e in let h : r ≡ p = cc in h) g)
 
 -- what is told and stays goes by a relation of each to itself
 pub goes-same : (R : Held → Held → Type 0) → ((p : Held) → R p p) → (h : Option Held) → Goes R h h

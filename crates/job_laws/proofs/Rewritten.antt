@@ -259,7 +259,8 @@ module _ (x : With) (repairs : x.kind ≡ RepairJob) (last : List Given) (j : �
         | inr miss ↦ still begin held (Fetch k o s) (old j) (mid j) (λ e. absurd (miss e))
             (cond_false (k == j) (lacks (block_given last o s k)
             (sized (object_made x o).profile.size (begin o s))) 0 (ne_eqb k j miss)) refl
-            (call-miss old k (λ p q. Fetches (object_made x o).profile.size o s p block q) mid j miss called) h
+            (call-miss old k (λ p q. Fetches (object_made x o).profile.size o s p block q) mid j miss called)
+            h
       ]
   one-step begin held (Store k o s) actions old mid new given so_far fit order kept (called, is) rest h =
       elim (cases_eq k j) [

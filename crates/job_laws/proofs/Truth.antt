@@ -143,7 +143,8 @@ module _ (x : With) (j : ℕ) (held : Held) (now : List Given) where
             (subst (λ n. Asks (honest_answer (challenge_made x o r)) o (old n) symbol (mid n)) hit
             (call-hit old k (λ p q. Asks (honest_answer (challenge_made x o r)) o p symbol q) mid called))
         | inr miss ↦ other-ask k o r (old j) (mid j) miss
-            (call-miss old k (λ p q. Asks (honest_answer (challenge_made x o r)) o p symbol q) mid j miss called)
+            (call-miss old k (λ p q. Asks (honest_answer (challenge_made x o r)) o p symbol q) mid j miss
+            called)
             h
       ]
   one-step (Fetch k o s) actions old mid new given so_far quiet over (block, called, is) rest h =
@@ -157,7 +158,8 @@ module _ (x : With) (j : ℕ) (held : Held) (now : List Given) where
                   λ l. (let low = c.counts.other_faults in omega (arith, low));
             })
         | inr miss ↦ same-step (Fetch k o s) (old j) (mid j) tt refl
-            (call-miss old k (λ p q. Fetches (object_made x o).profile.size o s p block q) mid j miss called) h
+            (call-miss old k (λ p q. Fetches (object_made x o).profile.size o s p block q) mid j miss called)
+            h
       ]
   one-step (Store k o s) actions old mid new given so_far quiet over did rest h = absurd quiet
   one-step (Remove k o) actions old mid new given so_far quiet over did rest h = absurd quiet
@@ -210,5 +212,6 @@ range-hit j f g a (suc n) h l u =
       | inl e ↦ (let r = range-miss j 0 f g (a + 1) n h (omega (arith, e)) in let s = ap (λ k. f (g k)) e in
           omega (arith, r, s))
       | inr n0 ↦ (let z = h a n0 in
-          let r = range-hit j f g (a + 1) n h (omega (arith, l, n0)) (omega (arith, u)) in omega (arith, z, r))
+          let r = range-hit j f g (a + 1) n h (omega (arith, l, n0)) (omega (arith, u)) in
+          omega (arith, z, r))
     ]

@@ -13,8 +13,8 @@ ghost use Rattle.command_defs.specs.Opens as opens;
 ghost use Rattle.opening_defs.specs.Opened.{IsOpenedOver, IsOpenAtRest};
 ghost use Rattle.command_defs.specs.Jobs.{RunsAlone, LeftAlone};
 
-/// A state that was opened over records which a start has read, with enough providers, is one from which the laws of runs speak; and
-/// over all accepted records there is one.
+/// A state that was opened over records which a start has read, with enough providers, is one from which the
+/// laws of runs speak; and over all accepted records there is one.
 pub fn opened_states()
     ensures opened { (w : State) (old : Seen) (records : List Record) (faults : ℕ)
         → opens.IsOpened old records →

@@ -1,4 +1,5 @@
-//! What gets, puts, drops and upgrades leave that run alone, and when jobs end well, from a state whose vault was just opened.
+//! What gets, puts, drops and upgrades leave that run alone, and when jobs end well, from a state whose vault
+//! was just opened.
 ghost use Rattle.std.specs.Prelude.{◌≡◌, ◌⊎◌, ℕ, ◌+◌, ◌<◌, ◌≤◌, List, length, Some};
 ghost use Rattle.device_defs.specs.Faults.{Rose};
 ghost use Rattle.record_defs.specs.Table.{File};
@@ -20,7 +21,8 @@ pub fn gets_leave()
         RunsJob w moment (GetJob name) answer heard new → Leaves (ran_from w new heard) (GetJob name) answer }
 {}
 
-/// What a put leaves, however it ends: the file on every provider, or a part of it under a number that is not used again.
+/// What a put leaves, however it ends: the file on every provider, or a part of it under a number that is not
+/// used again.
 pub fn puts_leave()
     ensures { (w new : State) (moment : ℕ) (name bytes : List ℕ) (answer : Answer) (heard : List Entry)
         → IsOpenAtRest w 1 → IsSpelledKind (PutJob name bytes) →
@@ -28,7 +30,8 @@ pub fn puts_leave()
         → Leaves (ran_from w new heard) (PutJob name bytes) answer }
 {}
 
-/// What a drop leaves, however it ends: the file on no provider, but for blocks that stay where a count of faults rose.
+/// What a drop leaves, however it ends: the file on no provider, but for blocks that stay where a count of
+/// faults rose.
 pub fn drops_leave()
     ensures { (w new : State) (moment : ℕ) (name : List ℕ) (answer : Answer) (heard : List Entry)
         → IsOpenAtRest w 1 → IsSpelledKind (DropJob name) →
@@ -36,14 +39,16 @@ pub fn drops_leave()
         → Leaves (ran_from w new heard) (DropJob name) answer }
 {}
 
-/// What an upgrade leaves, however it ends: the journal has its second version, and providers hold what they held.
+/// What an upgrade leaves, however it ends: the journal has its second version, and providers hold what they
+/// held.
 pub fn upgrades_leave()
     ensures { (w new : State) (moment : ℕ) (answer : Answer) (heard : List Entry) → IsOpenAtRest w 1
         → RunsJob w moment UpgradeJob answer heard new →
         Leaves (ran_from w new heard) UpgradeJob answer }
 {}
 
-/// What follows for a get from how many providers are wrong for the file, or failed, as the run began and went.
+/// What follows for a get from how many providers are wrong for the file, or failed, as the run began and
+/// went.
 pub fn few_bad_providers_give_file()
     ensures complete { (w new : State) (moment : ℕ) (name bytes : List ℕ) (answer : Answer)
         (heard : List Entry) (file : File) → IsOpenAtRest w 1 →
@@ -64,7 +69,8 @@ pub fn few_bad_providers_give_file()
         length bytes ≡ file.size → (got ≡ bytes) ⊎ HoldsForgery (file_object w file) bytes 1 heard }
 {}
 
-/// A put stores the file, or found no memory, unless a count of faults rose: the disk's, or that of a provider's stores.
+/// A put stores the file, or found no memory, unless a count of faults rose: the disk's, or that of a
+/// provider's stores.
 pub fn puts_end_well()
     ensures { (w new : State) (moment : ℕ) (name bytes : List ℕ) (answer : Answer) (heard : List Entry)
         → IsOpenAtRest w 1 → IsSpelledKind (PutJob name bytes) →
@@ -82,14 +88,16 @@ pub fn drops_end_well()
         → (answer ≡ Dropped) ⊎ (answer ≡ Memory) }
 {}
 
-/// An upgrade gives the journal its second version, or found no memory, unless the disk's count of faults rose.
+/// An upgrade gives the journal its second version, or found no memory, unless the disk's count of faults
+/// rose.
 pub fn upgrades_end_well()
     ensures { (w new : State) (moment : ℕ) (answer : Answer) (heard : List Entry) → IsOpenAtRest w 1
         → RunsJob w moment UpgradeJob answer heard new →
         (Rose w.disk_faults new.disk_faults → ⊥) → (answer ≡ Upgraded) ⊎ (answer ≡ Memory) }
 {}
 
-/// An audit gives its sums, or found no memory, unless the disk's count of faults rose, whatever providers do.
+/// An audit gives its sums, or found no memory, unless the disk's count of faults rose, whatever providers
+/// do.
 pub fn audits_end_well()
     ensures { (w new : State) (moment : ℕ) (answer : Answer) (heard : List Entry) → IsOpenAtRest w 1
         → RunsJob w moment AuditJob answer heard new →
@@ -98,8 +106,9 @@ pub fn audits_end_well()
         ⊎ (answer ≡ Memory) }
 {}
 
-/// A repair writes the flagged providers anew, or found no memory, where for each file in effect at most b providers are wrong for its
-/// bytes or failed, unless a count of faults rose: the disk's, or that of a provider's stores.
+/// A repair writes the flagged providers anew, or found no memory, where for each file in effect at most b
+/// providers are wrong for its bytes or failed, unless a count of faults rose: the disk's, or that of a
+/// provider's stores.
 pub fn repairs_end_well()
     ensures { (w new : State) (moment : ℕ) (answer : Answer) (heard : List Entry) (bytes : ℕ → List ℕ)
         → IsOpenAtRest w 1 → RunsJob w moment RepairJob answer heard new →

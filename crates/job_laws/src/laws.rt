@@ -17,8 +17,8 @@ ghost use Rattle.opening_defs.specs.Opened.{IsOpenedOver, IsOpenAtRest};
 ghost use Rattle.command_defs.specs.JobRuns.{RunsJob};
 ghost use Rattle.command_defs.specs.Jobs.{Leaves};
 
-/// A state that was opened over records that a journal may hold and the fold accepts, with a setup and enough providers, is one whose
-/// vault was just opened.
+/// A state that was opened over records that a journal may hold and the fold accepts, with a setup and enough
+/// providers, is one whose vault was just opened.
 pub fn opened_states_are_opened()
     ensures { (w : State) (records : List Record) (faults : ℕ) (providers : List Provider)
         → IsOpenedOver w records faults providers →

@@ -1,4 +1,5 @@
--- While no byte of the front and of the active text is loose, every image of a disk stands for the records of that text.
+-- While no byte of the front and of the active text is loose, every image of a disk stands for the records of
+-- that text.
 use Rattle.std.proofs.Common.{◌≡◌, ℕ, zero, suc, List, [], ◌∷◌, length, take, drop, refl, sym, arith}
 use Rattle.device_defs.specs.Cells.{Cells, reads}
 use Rattle.device_defs.specs.Images.{IsImage}
@@ -8,7 +9,8 @@ use Rattle.record_defs.specs.Areas.{Area, base_of, entries, StandsActive}
 use Rattle.record_defs.proofs.AreaLaws.{active_again}
 
 -- an image agrees with what is read on the first bytes that are firm
-front_same : (n : ℕ) (cells : Cells) (image : List ℕ) → AreFirm 0 n cells → IsImage cells image → take n (reads cells) ≡ take n image
+front_same : (n : ℕ) (cells : Cells) (image : List ℕ) → AreFirm 0 n cells → IsImage cells image →
+    take n (reads cells) ≡ take n image
 front_same zero cells image firm is = refl
 front_same (suc n) [] [] firm is = refl
 front_same (suc n) [] (b ∷ image) firm is = absurd is
@@ -19,7 +21,8 @@ front_same (suc n) (c ∷ cells) (b ∷ image) firm is =
     (λ i. sym same i ∷ more i))
 
 -- and on those from an offset on
-part_same : (at n : ℕ) (cells : Cells) (image : List ℕ) → AreFirm at n cells → IsImage cells image → take n (drop at (reads cells)) ≡ take n (drop at image)
+part_same : (at n : ℕ) (cells : Cells) (image : List ℕ) → AreFirm at n cells → IsImage cells image →
+    take n (drop at (reads cells)) ≡ take n (drop at image)
 part_same zero n cells image firm is = front_same n cells image firm is
 part_same (suc at) n [] [] firm is = refl
 part_same (suc at) n [] (b ∷ image) firm is = absurd is
@@ -27,7 +30,12 @@ part_same (suc at) n (c ∷ cells) [] firm is = absurd is
 part_same (suc at) n (c ∷ cells) (b ∷ image) firm is = part_same at n cells image firm is.1
 
 -- while the front and the text of the active area are firm, every image stands for its records
-pub images_stand : (area : Area) (rs : List Record) (cells : Cells) → StandsActive (reads cells) area rs → AreFirm 0 8 cells → AreFirm (base_of area) (suc (length (entries rs))) cells →
+pub images_stand : (area : Area) (rs : List Record) (cells : Cells) → StandsActive (reads cells) area rs →
+    AreFirm 0 8 cells → AreFirm (base_of area) (suc (length (entries rs))) cells →
     (image : List ℕ) → IsImage cells image → StandsActive image area rs
 images_stand area rs cells stands front text image is =
-    active_again area rs (reads cells) image (record { front = part_same 0 8 cells image front is; text = part_same (base_of area) (suc (length (entries rs))) cells image text is }) stands
+    active_again area rs (reads cells) image
+    (record {
+      front = part_same 0 8 cells image front is;
+      text = part_same (base_of area) (suc (length (entries rs))) cells image text is;
+    }) stands

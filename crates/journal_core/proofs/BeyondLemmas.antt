@@ -13,7 +13,8 @@ use Rattle.journal_core.specs.Moves.{SameFrom}
 use Rattle.journal_core.proofs.CellLemmas.{settled}
 
 -- past all that was put in place
-drop-spliced : {X : Type 0} (end at : ℕ) (new old : List X) → at ≤ length old → at + length new ≤ end → drop end (spliced at new old) ≡ drop end old
+drop-spliced : {X : Type 0} (end at : ℕ) (new old : List X) → at ≤ length old → at + length new ≤ end →
+    drop end (spliced at new old) ≡ drop end old
 drop-spliced end at new old le past =
     let front : length (take at old) ≡ at = omega (arith, length-take at old) in
     let is : end ≡ length (take at old) + (length new + (end - (at + length new))) = omega (arith, front) in
@@ -29,29 +30,39 @@ same_cells : (end : ℕ) (old new : Cells) → drop end new ≡ drop end old →
 same_cells end old new is = drop-map (λ c. c.0) end new ∙ ap reads is ∙ sym (drop-map (λ c. c.0) end old)
 
 size_of : (k : ℕ) (bytes : List ℕ) → length (loose (replicate k 0 ++ bytes)) ≡ k + length bytes
-size_of k bytes = length-map (replicate k 0 ++ bytes) (λ b. (b, true)) ∙ length-append (replicate k 0) bytes ∙ ap (λ (m : ℕ). m + length bytes) (length-replicate k 0)
+size_of k bytes = length-map (replicate k 0 ++ bytes) (λ b. (b, true)) ∙ length-append (replicate k 0) bytes
+    ∙ ap (λ (m : ℕ). m + length bytes) (length-replicate k 0)
 
-written_same : (end at : ℕ) (bytes : List ℕ) (old : Cells) → at + length bytes ≤ end → SameFrom end old (written at bytes old)
+written_same : (end at : ℕ) (bytes : List ℕ) (old : Cells) → at + length bytes ≤ end →
+    SameFrom end old (written at bytes old)
 written_same end at bytes old past =
-    let size : length (loose (replicate (at - length old) 0 ++ bytes)) ≡ at - length old + length bytes = size_of (at - length old) bytes in
-    let ends : min at (length old) + length (loose (replicate (at - length old) 0 ++ bytes)) ≤ end = omega (arith, size) in
-    same_cells end old _ (drop-spliced end (min at (length old)) (loose (replicate (at - length old) 0 ++ bytes)) old (omega arith) ends)
+    let size : length (loose (replicate (at - length old) 0 ++ bytes)) ≡ at - length old + length bytes =
+    size_of (at - length old) bytes in
+    let ends : min at (length old) + length (loose (replicate (at - length old) 0 ++ bytes)) ≤ end =
+    omega (arith, size) in
+    same_cells end old _ (drop-spliced end (min at (length old))
+    (loose (replicate (at - length old) 0 ++ bytes)) old (omega arith) ends)
 
 torn_same : (end at n : ℕ) (old new : Cells) → at + n ≤ end → Torn at n old new → SameFrom end old new
 torn_same end at n old new past torn =
     let size : length (loose torn.bytes) ≡ length torn.bytes = length-map torn.bytes (λ b. (b, true)) in
-    same_cells end old new (ap (λ (c : Cells). drop end c) torn.held ∙ drop-spliced end (min at (length old)) (loose torn.bytes) old (omega arith) (omega (arith, size, torn.no_longer)))
+    same_cells end old new (ap (λ (c : Cells). drop end c) torn.held
+    ∙ drop-spliced end (min at (length old)) (loose torn.bytes) old (omega arith)
+    (omega (arith, size, torn.no_longer)))
 
 settled_same : (end : ℕ) (old : Cells) → SameFrom end old (settled old)
 settled_same end old = ap (λ (l : List ℕ). drop end l) (reads-firm (reads old))
 
 -- ---- where the disk tells its cells
 
-goes_mapped : (R : Cells → Cells → Type 0) (f : Cells → Cells) → ((cells : Cells) → R cells (f cells)) → (old new : Option Cells) → new ≡ option_map f old → Goes R old new
+goes_mapped : (R : Cells → Cells → Type 0) (f : Cells → Cells) → ((cells : Cells) → R cells (f cells)) →
+    (old new : Option Cells) → new ≡ option_map f old → Goes R old new
 goes_mapped R f step None new is = subst (λ (o : Option Cells). Goes R None o) (sym is) tt
-goes_mapped R f step (Some cells) new is = subst (λ (o : Option Cells). Goes R (Some cells) o) (sym is) (step cells)
+goes_mapped R f step (Some cells) new is =
+    subst (λ (o : Option Cells). Goes R (Some cells) o) (sym is) (step cells)
 
-goes_on : (R S : Cells → Cells → Type 0) → ((old new : Cells) → R old new → S old new) → (old new : Option Cells) → Goes R old new → Goes S old new
+goes_on : (R S : Cells → Cells → Type 0) → ((old new : Cells) → R old new → S old new) →
+    (old new : Option Cells) → Goes R old new → Goes S old new
 goes_on R S step None None goes = tt
 goes_on R S step None (Some new) goes = goes
 goes_on R S step (Some old) None goes = goes
@@ -60,17 +71,24 @@ goes_on R S step (Some old) (Some new) goes = step old new goes
 -- a disk that did not change reads the same from any place on
 pub goes_still : (end : ℕ) (old new : Option Cells) → new ≡ old → Goes (SameFrom end) old new
 goes_still end None new is = subst (λ (o : Option Cells). Goes (SameFrom end) None o) (sym is) tt
-goes_still end (Some cells) new is = subst (λ (o : Option Cells). Goes (SameFrom end) (Some cells) o) (sym is) refl
+goes_still end (Some cells) new is =
+    subst (λ (o : Option Cells). Goes (SameFrom end) (Some cells) o) (sym is) refl
 
 -- a write that ends at or before a place changes nothing from that place on
-pub written_beyond : (end at : ℕ) (bytes : List ℕ) (old new : Option Cells) → at + length bytes ≤ end → new ≡ option_map (written at bytes) old → Goes (SameFrom end) old new
-written_beyond end at bytes old new past is = goes_mapped (SameFrom end) (written at bytes) (λ cells. written_same end at bytes cells past) old new is
+pub written_beyond : (end at : ℕ) (bytes : List ℕ) (old new : Option Cells) → at + length bytes ≤ end →
+    new ≡ option_map (written at bytes) old → Goes (SameFrom end) old new
+written_beyond end at bytes old new past is =
+    goes_mapped (SameFrom end) (written at bytes) (λ cells. written_same end at bytes cells past) old new is
 
 -- a write that failed, of a range up to a place, changes nothing from that place on
-pub failed_beyond : (end at n : ℕ) (fault : WriteFault) (old new : Option Cells) → at + n ≤ end → (fault ≡ write_fault.Failed → Goes (Torn at n) old new) → (fault ≡ write_fault.Memory → new ≡ old) → Goes (SameFrom end) old new
-failed_beyond end at n write_fault.Failed old new past failed memory = goes_on (Torn at n) (SameFrom end) (λ o w t. torn_same end at n o w past t) old new (failed refl)
+pub failed_beyond : (end at n : ℕ) (fault : WriteFault) (old new : Option Cells) → at + n ≤ end →
+    (fault ≡ write_fault.Failed → Goes (Torn at n) old new) → (fault ≡ write_fault.Memory → new ≡ old) →
+    Goes (SameFrom end) old new
+failed_beyond end at n write_fault.Failed old new past failed memory =
+    goes_on (Torn at n) (SameFrom end) (λ o w t. torn_same end at n o w past t) old new (failed refl)
 failed_beyond end at n write_fault.Memory old new past failed memory = goes_still end old new (memory refl)
 
 -- a sync changes nothing from any place on
-pub synced_beyond : (end : ℕ) (old new : Option Cells) → new ≡ option_map settled old → Goes (SameFrom end) old new
+pub synced_beyond : (end : ℕ) (old new : Option Cells) → new ≡ option_map settled old →
+    Goes (SameFrom end) old new
 synced_beyond end old new is = goes_mapped (SameFrom end) settled (settled_same end) old new is

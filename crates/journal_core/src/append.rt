@@ -13,8 +13,9 @@ use disk_model::Disk;
 use record_codec::Record;
 use stream_model::WriteFault;
 
-/// One record on its way into a journal, in four moves: write the body, which is the record and the next closed gate,
-/// behind the closed gate; sync; open the gate; sync. A stop between any two of them leaves the old records or the new.
+/// One record on its way into a journal, in four moves: write the body, which is the record and the next
+/// closed gate, behind the closed gate; sync; open the gate; sync. A stop between any two of them leaves the
+/// old records or the new.
 #[derive(Drop)]
 pub struct Append {
     gate: u64,
@@ -38,7 +39,8 @@ fn copy_front(all: &mut [u8], bytes: &[u8])
 impl Append {
     ghost use Rattle.journal_core.specs.Appends.{gate_of, body_of, moves_of, Appends};
 
-    /// An append at the closed gate at offset `gate`. Condition: the record is in the grammar, and the journal has room.
+    /// An append at the closed gate at offset `gate`. Condition: the record is in the grammar, and the
+    /// journal has room.
     pub fn new(gate: u64, entry: &Record) -> Append
         requires in_grammar { IsInGrammar entry.now }
         requires room { gate + 2 + record_size (entry_of entry.now) ≤ 2 ^ 24 }

@@ -14,7 +14,8 @@ fn has_magic(bytes: &[u8]) -> bool
     bytes.len() >= 8 && bytes[..8] == MAGIC[..]
 }
 
-/// The offset of a journal's first gate, in bytes: behind the magic. Bytes that do not begin with the magic are bad at 0.
+/// The offset of a journal's first gate, in bytes: behind the magic. Bytes that do not begin with the magic
+/// are bad at 0.
 pub fn first_gate(bytes: &[u8]) -> Result<usize, BadJournal>
     ensures ok { IfOk result (IsReadTo bytes.now []) }
     ensures bad { IfErr result (λ bad. (take 8 bytes.now ≢ magic) × (bad.at ≡ 0)) }
@@ -26,9 +27,9 @@ pub fn first_gate(bytes: &[u8]) -> Result<usize, BadJournal>
     }
 }
 
-/// The record behind the gate at an offset, and the offset of the next gate, in bytes; None where the gate is closed, at
-/// which the text ends. Bytes that end before the gate are bad at the gate; where no record stands behind an open gate they
-/// are bad at the byte behind it.
+/// The record behind the gate at an offset, and the offset of the next gate, in bytes; None where the gate is
+/// closed, at which the text ends. Bytes that end before the gate are bad at the gate; where no record stands
+/// behind an open gate they are bad at the byte behind it.
 pub fn next_record(bytes: &[u8], gate: usize) -> Result<Option<(Record, usize)>, BadJournal>
     ensures taken { (rs : List Entry) → IsReadTo bytes.now rs gate
         → IfOk result (TakesRecord bytes.now rs gate) }

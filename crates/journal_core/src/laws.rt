@@ -31,15 +31,16 @@ pub fn read_is_closed()
         → IsClosed (before_gate records) (firm bytes) }
 {}
 
-/// While the first eight bytes of a disk and the text of its active area are firm, every image of it stands for the records
-/// of that text.
+/// While the first eight bytes of a disk and the text of its active area are firm, every image of it stands
+/// for the records of that text.
 pub fn firm_areas_stand()
     ensures { (area : Area) (rs : List Record) (cells : Cells) → StandsActive (reads cells) area rs
         → AreFirm 0 8 cells → AreFirm (base_of area) (suc (length (entries rs))) cells
         → (image : List ℕ) → IsImage cells image → StandsActive image area rs }
 {}
 
-/// An instance: of the firm text of a store that was set up, front and text are firm, and it is that store's in the first area.
+/// An instance: of the firm text of a store that was set up, front and text are firm, and it is that store's
+/// in the first area.
 pub fn firm_text_is_firm()
     ensures active { StandsActive (reads (firm (text four_set_up))) A four_set_up }
     ensures front { AreFirm 0 8 (firm (text four_set_up)) }

@@ -9,7 +9,8 @@ use hex::FromHex;
 pub struct Master(pub [u8; 32]);
 
 impl Master {
-    /// The key that 64 hexadecimal digits of either case spell, the first byte first; none where the text is anything else.
+    /// The key that 64 hexadecimal digits of either case spell, the first byte first; none where the text is
+    /// anything else.
     pub fn from_hex(text: &[u8]) -> Option<Master>
         ensures found { IsSome result ↔ ((length text.now ≡ 64) × AllPass is_hex_digit text.now) }
         ensures value { IfSome result (λ master. decode_of text.now ≡ Ok master.0) }

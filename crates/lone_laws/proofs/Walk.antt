@@ -78,7 +78,8 @@ walk-begin_at moment number start new kind wish named O spelled (opened, allowed
         flagged = refl;
         subject = subject kind;
         older = older kind;
-        records = RecordsAre.none (appends-whole start (beginning start moment kind wish) kind refl refl) refl;
+        records = RecordsAre.none (appends-whole start (beginning start moment kind wish) kind refl refl)
+            refl;
         made = (refl, refl);
         handed = refl;
         disk = omega arith;
@@ -810,7 +811,8 @@ module _ (start : State) (O : IsOpenAtRest start 1) (kind : Kind) {profile : ℕ
         symbol,
         (
           p,
-          subst (λ c. Asks (honest_answer c) object (w.providers j) symbol p) (challenge-made object round) call,
+          subst (λ c. Asks (honest_answer c) object (w.providers j) symbol p)
+              (challenge-made object round) call,
           refl,
         ),
         refl,

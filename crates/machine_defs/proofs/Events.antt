@@ -156,10 +156,12 @@ stored_value old job j object stripe p call i o s b e h =
     here = elim (set_block object stripe (block_to_store old job job.kind j object stripe)
         (old.providers j).held object stripe) [
           | inl hit ↦ some_told (block_to_store old job job.kind j object stripe) (old.providers j).held b
-              (sym hit.2 ∙ (ap (λ (x : Option Held). option_map (λ (g : Held). g object stripe) x) (sym call.held)
+              (sym hit.2 ∙ (ap (λ (x : Option Held). option_map (λ (g : Held). g object stripe) x)
+              (sym call.held)
               ∙ told_here))
           | inr miss ↦ some_at (old.providers j).held
-              (ap (λ (x : Option Held). option_map (λ (g : Held). g object stripe) x) (sym call.held) ∙ told_here)
+              (ap (λ (x : Option Held). option_map (λ (g : Held). g object stripe) x) (sym call.held)
+              ∙ told_here)
         ]
       where
         some_at : (held : Option Held) →
@@ -194,9 +196,6 @@ module _ (limit moment : ℕ) (old : State) where
   ]
 
   module _ (job : Job) (runs : job_of old.jobs job.number ≡ Some job) where
-    e_of : Event
-    e_of = Step job.number
-
     abbrev Result : Outcome → State → Type 0
     Result r new = Changes limit moment old (Step job.number) r new
 

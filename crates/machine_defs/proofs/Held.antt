@@ -188,9 +188,6 @@ module _ (limit : ℕ) (start : State) (m : Moment) (ms : List Moment) (N : num.
         (remove_kinds x x.kind i o refl (is_fair (now start ms) x (Remove i o) next_is)))
   ]
 
-  is_check-repair : is_check (aim_of RepairJob) ≡ true
-  is_check-repair = refl
-
   audited_step : (k : ℕ) (j : Job) (f : Pinned) (i s : ℕ) → job_of m.state.jobs k ≡ Some j →
       j.kind ≡ AuditJob → In f j.pinned → is_replaced_since j.begun i (m ∷ ms) ≡ false →
       told_block m.state i f.id s ≡ told_block (now start (first_moments j.begun (m ∷ ms))) i f.id s
@@ -268,9 +265,11 @@ module _ (limit : ℕ) (start : State) (m : Moment) (ms : List Moment) (N : num.
                   (sym is ∙ told)
                   ∙ ap Some (ap (λ kd. block_to_store (now start ms) y kd i o s)
                   (ap (λ (q : Job). q.kind) e ∙ kind)
-                  ∙ ap (λ p. columns (object_in (now start ms) p o) bytes i s) (ap (λ (q : Job). q.profile) e)))
+                  ∙ ap (λ p. columns (object_in (now start ms) p o) bytes i s)
+                  (ap (λ (q : Job). q.profile) e)))
               | inr q ↦ absurd (let z = (P.pins y.number y q.1.file runs_y q.1.pinned).1 in
-                  let f : None ≡ Some name = sym z ∙ (ap (started_as (now start ms).records) q.1.id_is ∙ st_o) in
+                  let f : None ≡ Some name = sym z
+                  ∙ (ap (started_as (now start ms).records) q.1.id_is ∙ st_o) in
                   cc)
             ]
         | Block_is.scrubbed scrub rest alone next_is is ↦
@@ -379,7 +378,8 @@ module _ (limit : ℕ) (start : State) (m : Moment) (ms : List Moment) (N : num.
           ∙ drawn_later (now start ms) x x.kind (first_above x late) in
           let act = made_back x j name bytes i o s (ap setup_of rec) kx kind subject
           (ap (λ (y : Job). y.profile) is) (ap (λ (y : Job). y.older) is) made in
-          columns_now x.profile j.profile o i s bytes b (sym (ap (λ (y : Job). y.profile) is)) (ap setup_of rec)
+          columns_now x.profile j.profile o i s bytes b (sym (ap (λ (y : Job). y.profile) is))
+          (ap setup_of rec)
           (elim (cases_lt made.place x.place) [
             | inl l ↦ carry k x name bytes i o s b runs kx
                 (ap (λ rs. started_as rs x.subject) (sym rec)
@@ -391,7 +391,8 @@ module _ (limit : ℕ) (start : State) (m : Moment) (ms : List Moment) (N : num.
                 let next_store = next_of x kx
                 (subst (λ n. slice_get (actions_of (setup_in (now start ms)) x) n
                 ≡ Some (Store i o s)) at act) in
-                let z : WriteBody ≡ Store i o s = same_value _ WriteBody (Store i o s) next_is next_store in cc)
+                let z : WriteBody ≡ Store i o s = same_value _ WriteBody (Store i o s) next_is next_store in
+                cc)
           ]))
       | Job_is.finished x a runs next_is flight mine is rec none_ ↦
           absurd (let kx : x.kind ≡ PutJob name bytes = sym (ap (λ (y : Job). y.kind) is) ∙ kind in

@@ -501,7 +501,8 @@ module _ (limit : ℕ) (start : State) (m : Moment) (ms : List Moment) (N : num.
     | Older_is.decided x a name runs next_is flight mine rec takes t ↦
         elim (came_or_stood (one a flight rec) q f hf) [
           | inl stood ↦ out_now k x a name o q f runs next_is x.kind refl
-              (F.wrote a x flight (subst (λ n. job_of (now start ms).jobs n ≡ Some x) (sym mine) runs)) takes t
+              (F.wrote a x flight (subst (λ n. job_of (now start ms).jobs n ≡ Some x) (sym mine) runs)) takes
+              t
               rec stood hf e
           | inr st ↦ (let p = (F.sound.file name t.file t.in_effect).1 in let z : None ≡ Some q = sym p
               ∙ (ap (started_as (now start ms).records) (t.id_is ∙ sym e) ∙ st) in cc)

@@ -25,13 +25,3 @@ mapped g plan = record {
   flagged = plan.flagged;
   pins = map g plan.pins;
 }
-
-plan-mapped : {P Q : Type 0} (g : P → Q) (q : PinsOf Q) (s : Setup) (plan : Plan P) (aim : Aim) →
-    plan_actions q s (mapped g plan) aim ≡ plan_actions (through g q) s plan aim
-plan-mapped g q s plan (ToPut name size) = refl
-plan-mapped g q s plan (ToGet name) = ap (λ l. l ++ End ∷ []) (flat_map-map _ g plan.pins)
-plan-mapped g q s plan (ToDrop name) = refl
-plan-mapped g q s plan ToAudit =
-    ap (λ l. append_actions ++ (l ++ (append_actions ++ End ∷ []))) (flat_map-map _ g plan.pins)
-plan-mapped g q s plan ToRepair = ap (λ l. l ++ (append_actions ++ End ∷ [])) (flat_map-map _ g plan.pins)
-plan-mapped g q s plan ToUpgrade = refl

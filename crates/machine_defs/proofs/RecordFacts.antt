@@ -346,7 +346,8 @@ listed_file (PutDoneIn k size profile ∷ rs) g h = by_start (started_as rs k) r
           | inl e ↦ (let name_is : g.name ≡ n = ap (λ (x : File). x.name) e in
               cond_true (is_start_of g.name (started_as rs k)) _ (file_of rs g.name)
               (ap (is_start_of g.name) is ∙ (ap (λ x. is_same_name n x) name_is ∙ same-refl n))
-              ∙ ap Some (ap (λ (x : List ℕ). record { name = x; id = k; size = size; profile = profile }) name_is
+              ∙ ap Some (ap (λ (x : List ℕ). record { name = x; id = k; size = size; profile = profile })
+              name_is
               ∙ sym e))
           | inr j ↦ (let p = in_without (files_of rs) n g j in
               cond_false (is_start_of g.name (started_as rs k)) _ (file_of rs g.name)
@@ -368,7 +369,8 @@ listed_file (InEffect k size profile n ∷ rs) g h = kept h (listed_file rs g)
           | inl e ↦ (let name_is : g.name ≡ n = ap (λ (x : File). x.name) e in
               cond_true (is_same_name n g.name) _ (file_of rs g.name)
               (ap (λ x. is_same_name n x) name_is ∙ same-refl n)
-              ∙ ap Some (ap (λ (x : List ℕ). record { name = x; id = k; size = size; profile = profile }) name_is
+              ∙ ap Some (ap (λ (x : List ℕ). record { name = x; id = k; size = size; profile = profile })
+              name_is
               ∙ sym e))
           | inr j ↦ (let p = in_without (files_of rs) n g j in
               cond_false (is_same_name n g.name) _ (file_of rs g.name)

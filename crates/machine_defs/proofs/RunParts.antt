@@ -82,10 +82,6 @@ store_call w job j stripe = (
   refl,
 )
 
--- a disk call that fails in no way
-disk_call : (w : State) → DiskCall w w w
-disk_call w = (w.disk_faults, omega arith, refl)
-
 -- an answer that ends a job is not `more`
 abbrev pub is_ended : Outcome → Type 0
 is_ended (Ended how) = Unit {0}

@@ -132,7 +132,8 @@ module _ (s : Setup) (id : ℕ) where
                 | inr v ↦ absurd (let e : Work o2 t ≡ Work id a = v.0 in let z : t ≡ a = cc in omega arith)
               ]
               | inr u ↦ (let r = once n (a + 1) (q - length (open_actions s id a))
-                  (p - length (open_actions s id a)) o o2 t x.1 u.1 in let z = x.0 in let w = u.0 in omega arith)
+                  (p - length (open_actions s id a)) o o2 t x.1 u.1 in let z = x.0 in let w = u.0 in
+                  omega arith)
             ])
       ]
 

@@ -34,7 +34,8 @@ pub fn numbers_never_fall()
         next_audit (now start ms).records ≤ next_audit m.state.records }
 {}
 
-/// Every object number that a put has stored under, and every audit number that was asked, is below the next one.
+/// Every object number that a put has stored under, and every audit number that was asked, is below the next
+/// one.
 pub fn used_numbers_are_below()
     ensures objects { (limit : ℕ) (start : State) (ms : List Moment) (begun object : ℕ) → IsStart start
         → IsRun limit start ms →
@@ -51,7 +52,8 @@ pub fn stores_name_their_own_object()
         HasStored start ms begun object → HasStored start ms other object → begun ≡ other }
 {}
 
-/// No two audits make a challenge for one number, object and round: audits that ask under one number have one begin.
+/// No two audits make a challenge for one number, object and round: audits that ask under one number have one
+/// begin.
 pub fn challenges_are_made_once()
     ensures { (limit : ℕ) (start : State) (ms : List Moment) (begun other number object round : ℕ)
         → IsStart start → IsRun limit start ms →
@@ -59,8 +61,8 @@ pub fn challenges_are_made_once()
         → begun ≡ other }
 {}
 
-/// What an audit works on changes only by replacements while it runs: of a provider that was not replaced since the audit's
-/// begin, each block of a file that the audit works on is as it was at that begin.
+/// What an audit works on changes only by replacements while it runs: of a provider that was not replaced
+/// since the audit's begin, each block of a file that the audit works on is as it was at that begin.
 pub fn audited_files_stay()
     ensures { (limit : ℕ) (start : State) (ms : List Moment) (number : ℕ) (job : Job) (file : Pinned)
         (j stripe : ℕ) →
@@ -71,8 +73,9 @@ pub fn audited_files_stay()
         ≡ told_block (now start (first_moments job.begun ms)) j file.id stripe }
 {}
 
-/// What a put has stored is its columns until its last record is in effect: of a provider that tells what it holds and was not
-/// replaced since the put's begin, each block that the put has stored is the provider's own.
+/// What a put has stored is its columns until its last record is in effect: of a provider that tells what it
+/// holds and was not replaced since the put's begin, each block that the put has stored is the provider's
+/// own.
 pub fn stored_blocks_are_columns()
     ensures { (limit : ℕ) (start : State) (ms : List Moment) (number : ℕ) (job : Job) (name bytes : List ℕ)
         (j object stripe : ℕ) (block : Option (List ℕ)) →
@@ -89,20 +92,21 @@ pub fn ended_puts_came_in()
     ensures { IsAcknowledged }
 {}
 
-/// A file that has come into effect stays so, in the records and in these with the one in doubt added, at every later moment,
-/// until a record that takes it out has come to the third move of its append.
+/// A file that has come into effect stays so, in the records and in these with the one in doubt added, at
+/// every later moment, until a record that takes it out has come to the third move of its append.
 pub fn acknowledged_files_survive()
     ensures { Survives }
 {}
 
-/// A get that ended with bytes gave what its fetches open to: the accepted rows of every stripe of the file that was in effect
-/// under its name at its begin, in layout order and cut to that file's length.
+/// A get that ended with bytes gave what its fetches open to: the accepted rows of every stripe of the file
+/// that was in effect under its name at its begin, in layout order and cut to that file's length.
 pub fn got_bytes_are_opened()
     ensures { GotIsOpened }
 {}
 
-/// What a report has of a job, from the job's end on until a later call of the program begins, is what that job heard, however many
-/// jobs ended besides; so where its fetches hold a forgery the report's entries hold it, and the other way round.
+/// What a report has of a job, from the job's end on until a later call of the program begins, is what that
+/// job heard, however many jobs ended besides; so where its fetches hold a forgery the report's entries hold
+/// it, and the other way round.
 pub fn reports_have_what_jobs_heard()
     ensures given { (limit : ℕ) (start : State) (later ms : List Moment) (m : Moment) (job : Job)
         → IsStart start →

@@ -28,8 +28,8 @@ fn next_symbol(rng: &mut ChaCha20Rng) -> Symbol
     )
 }
 
-/// The mask of a row: the symbol of the words `4 * row` to `4 * row + 3` of stream 0 of ChaCha20 (RFC 8439) under the
-/// key of a provider's masks, the first word lowest.
+/// The mask of a row: the symbol of the words `4 * row` to `4 * row + 3` of stream 0 of ChaCha20 (RFC 8439)
+/// under the key of a provider's masks, the first word lowest.
 #[tactic(auto, unfolding(column_defs::specs::Keys::stream_symbol))]
 pub fn mask(key: &[u8; 32], row: u64) -> Symbol
     ensures { result ≡ mask_of key.now row }
@@ -39,7 +39,8 @@ pub fn mask(key: &[u8; 32], row: u64) -> Symbol
     next_symbol(&mut rng)
 }
 
-/// Fills `out`, at most 128 symbols, with the masks of a stripe's rows, which are those from `stripe * out.len()` on.
+/// Fills `out`, at most 128 symbols, with the masks of a stripe's rows, which are those from `stripe *
+/// out.len()` on.
 #[tactic(auto, unfolding(column_defs::specs::Keys::stream_symbol))]
 pub fn mask_block(key: &[u8; 32], stripe: u32, out: &mut [Symbol])
     requires { length out.old ≤ 128 }

@@ -1,2 +1,3 @@
-//! What a disk reads when a store is set up or opened, and the states whose vault was just opened, as definitions.
+//! What a disk reads when a store is set up or opened, and the states whose vault was just opened, as
+//! definitions.
 #![tactic(auto)]

@@ -16,8 +16,8 @@ use hail_field::Symbol;
 use std::alloc::Global;
 use stream_model::Failed;
 
-/// A provider in memory that never fails, tells nothing, and lies: it adds a symbol to each place of each block that it
-/// hands out, and to each answer to a challenge. With the symbol 0 it is honest.
+/// A provider in memory that never fails, tells nothing, and lies: it adds a symbol to each place of each
+/// block that it hands out, and to each answer to a challenge. With the symbol 0 it is honest.
 #[derive(Drop)]
 pub struct Liar {
     blocks: HeldBlocks,

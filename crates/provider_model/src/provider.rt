@@ -59,7 +59,8 @@ pub trait Provider {
         ensures counted { fetches self.new ≡ one_more (fetches self.old) }
         ensures called { calls self.new ≡ one_more (calls self.old) };
 
-    /// Answers a challenge to an object: a sum over the picked rows of its blocks, none where one of these is not held.
+    /// Answers a challenge to an object: a sum over the picked rows of its blocks, none where one of these is
+    /// not held.
     fn ask(&mut self, object: u64, challenge: &Challenge) -> Result<Option<Symbol>, Failed>
         ensures answer { IfOk result
             (λ answer. IfSome (held self.old)

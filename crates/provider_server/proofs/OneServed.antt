@@ -39,25 +39,37 @@ sink-only serve_end.SinkFault e = refl
 sink-only serve_end.Memory e = absurd cc
 
 -- an end that has its cause in the source has it as an answer too
-pub cause_source : (before now : ℕ) (end : ServeEnd) → HasCause before now (end ≡ serve_end.SourceFault) → HasCause before now (end_of end ≡ SourceFailed)
-cause_source before now end cause = record { never_falls = cause.never_falls; rose = λ e. cause.rose (source-only end e) }
+pub cause_source : (before now : ℕ) (end : ServeEnd) → HasCause before now (end ≡ serve_end.SourceFault) →
+    HasCause before now (end_of end ≡ SourceFailed)
+cause_source before now end cause =
+    record { never_falls = cause.never_falls; rose = λ e. cause.rose (source-only end e) }
 
 -- and so has one of the sink
-pub cause_sink : (before now : ℕ) (end : ServeEnd) → HasCause before now (end ≡ serve_end.SinkFault) → HasCause before now (end_of end ≡ SinkFailed)
-cause_sink before now end cause = record { never_falls = cause.never_falls; rose = λ e. cause.rose (sink-only end e) }
+pub cause_sink : (before now : ℕ) (end : ServeEnd) → HasCause before now (end ≡ serve_end.SinkFault) →
+    HasCause before now (end_of end ≡ SinkFailed)
+cause_sink before now end cause =
+    record { never_falls = cause.never_falls; rose = λ e. cause.rose (sink-only end e) }
 
 -- what is seen of the provider at a place
-seen-at : {X : Type 0} (f : X → Provider) (xs : List X) (k : ℕ) (x : X) → slice_get xs k ≡ Some x → provider_at (map f xs) k ≡ f x
-seen-at f xs k x there = ap (λ (o : Option Provider). unwrap_or o nobody) (slice_get-map f xs k ∙ ap (option_map f) there)
+seen-at : {X : Type 0} (f : X → Provider) (xs : List X) (k : ℕ) (x : X) → slice_get xs k ≡ Some x →
+    provider_at (map f xs) k ≡ f x
+seen-at f xs k x there =
+    ap (λ (o : Option Provider). unwrap_or o nobody) (slice_get-map f xs k ∙ ap (option_map f) there)
 
-seen-other : {X : Type 0} (f : X → Provider) (xs : List X) (p k : ℕ) (y : X) → k ≢ p → provider_at (map f (slice_set xs p y)) k ≡ provider_at (map f xs) k
+seen-other : {X : Type 0} (f : X → Provider) (xs : List X) (p k : ℕ) (y : X) → k ≢ p →
+    provider_at (map f (slice_set xs p y)) k ≡ provider_at (map f xs) k
 seen-other f xs p k y other =
-    ap (λ (o : Option Provider). unwrap_or o nobody) (slice_get-map f (slice_set xs p y) k ∙ ap (option_map f) (get-set_other xs p k y other) ∙ sym (slice_get-map f xs k))
+    ap (λ (o : Option Provider). unwrap_or o nobody)
+    (slice_get-map f (slice_set xs p y) k ∙ ap (option_map f) (get-set_other xs p k y other)
+    ∙ sym (slice_get-map f xs k))
 
-module _ {X : Type 0} (f : X → Provider) (ps : List X) (p : ℕ) (old new : X) (there : slice_get ps p ≡ Some old)
-    (left left' : Option (List ℕ)) (reads reads' : ℕ) (written written' : Option (List ℕ)) (writes writes' : ℕ) (how : End)
+module _ {X : Type 0} (f : X → Provider) (ps : List X) (p : ℕ) (old new : X)
+    (there : slice_get ps p ≡ Some old)
+    (left left' : Option (List ℕ)) (reads reads' : ℕ) (written written' : Option (List ℕ))
+    (writes writes' : ℕ) (how : End)
     (done : HasServed how left left' (f old) (f new) written written')
-    (source : HasCause reads reads' (how ≡ SourceFailed)) (sink : HasCause writes writes' (how ≡ SinkFailed)) where
+    (source : HasCause reads reads' (how ≡ SourceFailed))
+    (sink : HasCause writes writes' (how ≡ SinkFailed)) where
   before : provider_at (map f ps) p ≡ f old
   before = seen-at f ps p old there
 
@@ -68,41 +80,62 @@ module _ {X : Type 0} (f : X → Provider) (ps : List X) (p : ℕ) (old new : X)
   handed = length-map (slice_set ps p new) f ∙ length-set ps p new ∙ sym (length-map ps f)
 
   -- how a server ended is how the command answers
-  pub served-answers : (number : ℕ) → p ≡ number → (end : Served) → end.status ≡ served_status how → end.at ≡ place_of how → (disk : Option Cells) (disk_faults : ℕ)
-      → AnswersServe number (seen disk disk_faults (map f ps) left reads written writes) (seen disk disk_faults (map f (slice_set ps p new)) left' reads' written' writes') (served_ending end)
+  pub served-answers : (number : ℕ) → p ≡ number → (end : Served) → end.status ≡ served_status how →
+      end.at ≡ place_of how → (disk : Option Cells) (disk_faults : ℕ)
+      → AnswersServe number (seen disk disk_faults (map f ps) left reads written writes)
+      (seen disk disk_faults (map f (slice_set ps p new)) left' reads' written' writes') (served_ending end)
   served-answers number same end status place disk disk_faults =
-      subst (λ (k : ℕ). AnswersServe k (seen disk disk_faults (map f ps) left reads written writes) (seen disk disk_faults (map f (slice_set ps p new)) left' reads' written' writes') (served_ending end)) same
+      subst (λ (k : ℕ). AnswersServe k (seen disk disk_faults (map f ps) left reads written writes)
+      (seen disk disk_faults (map f (slice_set ps p new)) left' reads' written' writes')
+      (served_ending end)) same
       (answers.served (omega (arith, length-map ps f, slice_get_within ps p old there)) (record {
         how = how;
         status_is = status;
         place = place;
         heard = refl;
-        served = subst (λ (q : Provider). HasServed how left left' (provider_at (map f ps) p) q written written') (sym after) (subst (λ (q : Provider). HasServed how left left' q (f new) written written') (sym before) done);
+        served = subst (λ (q : Provider). HasServed how left left'
+            (provider_at (map f ps) p) q written written') (sym after)
+            (subst (λ (q : Provider). HasServed how left left' q (f new) written written')
+            (sym before) done);
         source = source;
         sink = sink;
-        only = record { disk = refl; disk_faults = refl; handed = handed; others = λ k other. seen-other f ps p k new other };
+        only = record {
+          disk = refl;
+          disk_faults = refl;
+          handed = handed;
+          others = λ k other. seen-other f ps p k new other;
+        };
       }))
 
   -- a count of the provider served does not fall, nor does that of another
-  kept : (count : Provider → ℕ) → count (f old) ≤ count (f new) → (k : ℕ) → count (provider_at (map f ps) k) ≤ count (provider_at (map f (slice_set ps p new)) k)
+  kept : (count : Provider → ℕ) → count (f old) ≤ count (f new) → (k : ℕ) →
+      count (provider_at (map f ps) k) ≤ count (provider_at (map f (slice_set ps p new)) k)
   kept count rises k =
       elim (cases_lt k p) [
-        | inl less ↦ (let same = ap count (seen-other f ps p k new (λ e. absurd (omega (arith, less, e)))) in omega (arith, same))
+        | inl less ↦ (let same = ap count (seen-other f ps p k new (λ e. absurd (omega (arith, less, e)))) in
+            omega (arith, same))
         | inr more ↦ elim (cases_lt p k) [
-          | inl less ↦ (let same = ap count (seen-other f ps p k new (λ e. absurd (omega (arith, less, e)))) in omega (arith, same))
+          | inl less ↦ (let same =
+              ap count (seen-other f ps p k new (λ e. absurd (omega (arith, less, e)))) in
+              omega (arith, same))
           | inr fewer ↦ (
               let is : k ≡ p = omega arith in
-              let one : count (provider_at (map f ps) k) ≡ count (f old) = ap (λ (m : ℕ). count (provider_at (map f ps) m)) is ∙ ap count before in
-              let two : count (provider_at (map f (slice_set ps p new)) k) ≡ count (f new) = ap (λ (m : ℕ). count (provider_at (map f (slice_set ps p new)) m)) is ∙ ap count after in
+              let one : count (provider_at (map f ps) k) ≡ count (f old) =
+              ap (λ (m : ℕ). count (provider_at (map f ps) m)) is ∙ ap count before in
+              let two : count (provider_at (map f (slice_set ps p new)) k) ≡ count (f new) =
+              ap (λ (m : ℕ). count (provider_at (map f (slice_set ps p new)) m)) is ∙ ap count after in
               omega (arith, one, two, rises)
               )
         ]
       ]
 
   -- over a server no count falls
-  pub served-counts : ((requests : List Request) (replies : List Reply) (a b : Provider) → ServesRequests requests a replies b → (a.store_faults ≤ b.store_faults) × (a.other_faults ≤ b.other_faults))
+  pub served-counts : ((requests : List Request) (replies : List Reply) (a b : Provider) →
+      ServesRequests requests a replies b → (a.store_faults ≤ b.store_faults) ×
+      (a.other_faults ≤ b.other_faults))
       → (disk : Option Cells) (disk_faults : ℕ)
-      → NoCountFalls (seen disk disk_faults (map f ps) left reads written writes) (seen disk disk_faults (map f (slice_set ps p new)) left' reads' written' writes')
+      → NoCountFalls (seen disk disk_faults (map f ps) left reads written writes)
+      (seen disk disk_faults (map f (slice_set ps p new)) left' reads' written' writes')
   served-counts law disk disk_faults =
       let rise = law done.requests done.replies (f old) (f new) done.served in
       record {

@@ -12,8 +12,8 @@ use provider_wire::serve;
 use std::alloc::Global;
 use stream_model::{Sink, Source};
 
-/// Serves the requests that the source gives with the provider of this number, and writes each answer as it comes. Nothing
-/// is touched where the provider was not handed in.
+/// Serves the requests that the source gives with the provider of this number, and writes each answer as it
+/// comes. Nothing is touched where the provider was not handed in.
 pub fn serve_at<P: Provider, S: Source, K: Sink>(
     alloc: Global,
     number: u8,

@@ -26,7 +26,8 @@ pub const BAD_FRAME: u8 = 25;
 /// There was no memory.
 const NO_MEMORY: u8 = 70;
 
-/// How a server ended: its status, and at the status of a bad frame the offset of its first byte, at every other 0.
+/// How a server ended: its status, and at the status of a bad frame the offset of its first byte, at every
+/// other 0.
 #[derive(Clone, Copy, Debug, PartialEq, Eq)]
 pub struct Served {
     pub status: u8,

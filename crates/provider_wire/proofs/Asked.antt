@@ -26,22 +26,27 @@ no_tail Failed other = refl
 no_tail NoMemory other = refl
 
 -- what a block of a wanted size gives has that many symbols
-pub sized-length : (size : ℕ) (block : Option (List ℕ)) (symbols : List ℕ) → Some symbols ≡ sized size block → length symbols ≡ size
+pub sized-length : (size : ℕ) (block : Option (List ℕ)) (symbols : List ℕ) → Some symbols ≡ sized size block →
+    length symbols ≡ size
 sized-length size None symbols e = absurd cc
 sized-length size (Some b) symbols e = by_test (length b == size) refl e
   where
-    by_test : (t : Bool) → (length b == size) ≡ t → Some symbols ≡ (if t then Some b else None) → length symbols ≡ size
+    by_test : (t : Bool) → (length b == size) ≡ t → Some symbols ≡ (if t then Some b else None) →
+        length symbols ≡ size
     by_test true is same = ap length (let h : symbols ≡ b = cc in h) ∙ eqb-true (length b) size is
     by_test false is same = absurd cc
 
 -- the bytes behind a 1 are those of the symbols asked for
-pub tail_size : (r : Request) (a : Reply) (b new : Behind) → AnswersRequest r (provider_behind b) a (provider_behind new) → first_byte_of a ≡ 1 → length (tail_of a) ≡ answer_size r
+pub tail_size : (r : Request) (a : Reply) (b new : Behind) →
+    AnswersRequest r (provider_behind b) a (provider_behind new) → first_byte_of a ≡ 1 →
+    length (tail_of a) ≡ answer_size r
 tail_size (Store o s block) Done b new is one = refl
 tail_size (Store o s block) (Found symbols) b new is one = absurd is
 tail_size (Store o s block) Missing b new is one = absurd is
 tail_size (Store o s block) Failed b new is one = absurd (omega (arith, one))
 tail_size (Store o s block) NoMemory b new is one = absurd (omega (arith, one))
-tail_size (Fetch o s size) (Found symbols) b new is one = length-bytes_of_symbols symbols ∙ ap (λ (n : ℕ). 16 * n) (sized-length size (b.held o s) symbols is.gives)
+tail_size (Fetch o s size) (Found symbols) b new is one =
+    length-bytes_of_symbols symbols ∙ ap (λ (n : ℕ). 16 * n) (sized-length size (b.held o s) symbols is.gives)
 tail_size (Fetch o s size) Done b new is one = absurd is
 tail_size (Fetch o s size) Missing b new is one = absurd (omega (arith, one))
 tail_size (Fetch o s size) Failed b new is one = absurd (omega (arith, one))
@@ -60,20 +65,26 @@ tail_size (Remove o) Failed b new is one = absurd (omega (arith, one))
 tail_size (Remove o) NoMemory b new is one = absurd is
 
 -- a send that is told
-sent_to : (bytes : List ℕ) (old now : Option Behind) (b : Behind) → Goes (Sends bytes) old now → old ≡ Some b → (mid : Behind) × (now ≡ Some mid) × Sends bytes b mid
+sent_to : (bytes : List ℕ) (old now : Option Behind) (b : Behind) → Goes (Sends bytes) old now →
+    old ≡ Some b → (mid : Behind) × (now ≡ Some mid) × Sends bytes b mid
 sent_to bytes None now b g e = absurd cc
 sent_to bytes (Some x) None b g e = absurd g
-sent_to bytes (Some x) (Some m) b g e = (m, refl, subst (λ (y : Behind). Sends bytes y m) (let h : x ≡ b = cc in h) g)
+sent_to bytes (Some x) (Some m) b g e =
+    (m, refl, subst (λ (y : Behind). Sends bytes y m) (let h : x ≡ b = cc in h) g)
 
 -- a request was sent, and its answer received
-pub asked_for : (bytes tail : List ℕ) (old mid now : Option Behind) (result : Option ℕ) (size : ℕ) → Goes (Sends bytes) old mid
-    → ((b : Behind) (kind : ℕ) (rest : List ℕ) → mid ≡ Some b → b.due ≡ kind ∷ rest → (kind ≡ 1 → length rest ≡ size) → (kind ≢ 1 → rest ≡ [])
+pub asked_for : (bytes tail : List ℕ) (old mid now : Option Behind) (result : Option ℕ) (size : ℕ) →
+    Goes (Sends bytes) old mid
+    → ((b : Behind) (kind : ℕ) (rest : List ℕ) → mid ≡ Some b → b.due ≡ kind ∷ rest →
+    (kind ≡ 1 → length rest ≡ size) → (kind ≢ 1 → rest ≡ [])
     → (result ≡ Some kind) × (now ≡ Some (record b { due = [] })) × (kind ≡ 1 → tail ≡ rest))
-    → (b : Behind) (r : Request) → old ≡ Some b → b.due ≡ [] → SpellsRequest bytes r → size ≡ answer_size r → AskedFor r result tail b now
+    → (b : Behind) (r : Request) → old ≡ Some b → b.due ≡ [] → SpellsRequest bytes r → size ≡ answer_size r →
+    AskedFor r result tail b now
 asked_for bytes tail old mid now result size sent came b r e idle spelled size_is =
     let s = sent_to bytes old mid b sent e in
     let a = s.2 r spelled idle in
-    let got = came s.0 (first_byte_of a.0) (tail_of a.0) s.1 (a.2 ∙ parts_of a.0) (λ one. tail_size r a.0 b s.0 a.1 one ∙ sym size_is) (no_tail a.0) in
+    let got = came s.0 (first_byte_of a.0) (tail_of a.0) s.1 (a.2 ∙ parts_of a.0)
+    (λ one. tail_size r a.0 b s.0 a.1 one ∙ sym size_is) (no_tail a.0) in
     record {
       reply = a.0;
       new = record s.0 { due = [] };

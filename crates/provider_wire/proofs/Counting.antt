@@ -12,7 +12,9 @@ pub one_more_is : (n : ℕ) → n < 2 ^ 64 → min (n + 1) last_count ≡ one_mo
 one_more_is n fits = grind (arith, nat_tests, fits)
 
 -- the call went well
-pub went : (result : Option ℕ) (k : ℕ) (was now : Bool) (F : Type 0) (before after : ℕ) → option_eq eqb result (Some k) ≡ true → (IsSome result → now ≡ was) → (was ≡ true → result ≡ None) → (F → ⊥)
+pub went : (result : Option ℕ) (k : ℕ) (was now : Bool) (F : Type 0) (before after : ℕ) →
+    option_eq eqb result (Some k) ≡ true → (IsSome result → now ≡ was) → (was ≡ true → result ≡ None) →
+    (F → ⊥)
     → after ≡ before → CountsFaults was now F before after
 went None k was now F before after is kept out well same = absurd cc
 went (Some x) k was now F before after is kept out well same = record {
@@ -23,7 +25,8 @@ went (Some x) k was now F before after is kept out well same = record {
 }
 
 -- the call failed
-pub lost : (result : Option ℕ) (was now : Bool) (F : Type 0) (before after : ℕ) → now ≡ not (option_eq eqb result (Some 2)) → (was ≡ true → result ≡ None) → F
+pub lost : (result : Option ℕ) (was now : Bool) (F : Type 0) (before after : ℕ) →
+    now ≡ not (option_eq eqb result (Some 2)) → (was ≡ true → result ≡ None) → F
     → after ≡ min (before + 1) last_count → before < 2 ^ 64 → CountsFaults was now F before after
 lost result was now F before after is out failed more fits = record {
   stays = λ e. is ∙ ap (λ (o : Option ℕ). not (option_eq eqb o (Some 2))) (out e);

@@ -10,21 +10,34 @@ use Rattle.wire_defs.specs.Requests.{Request, Store, Fetch, Ask, Remove}
 use Rattle.wire_defs.specs.Replies.{Reply, Done, Found, Missing, Failed, NoMemory, AnswersRequest, Serves, AreClean, is_failed, failed_count, found, reply_to, held_after, served, reply_bytes, replies_text}
 
 -- the answer to one request
-answer_is : (r : Request) (a : Reply) (old new : Provider) (held : Held) → old.held ≡ Some held → AnswersRequest r old a new → AreClean (a ∷ []) → (a ≡ reply_to r held) × (new.held ≡ Some (held_after r held))
-answer_is (Store o s block) Done old new held e is clean = (refl, is.held ∙ ap (option_map (with_block o s block)) e)
+answer_is : (r : Request) (a : Reply) (old new : Provider) (held : Held) → old.held ≡ Some held →
+    AnswersRequest r old a new → AreClean (a ∷ []) →
+    (a ≡ reply_to r held) × (new.held ≡ Some (held_after r held))
+answer_is (Store o s block) Done old new held e is clean =
+    (refl, is.held ∙ ap (option_map (with_block o s block)) e)
 answer_is (Store o s block) (Found symbols) old new held e is clean = absurd is
 answer_is (Store o s block) Missing old new held e is clean = absurd is
 answer_is (Store o s block) Failed old new held e is clean = absurd clean
 answer_is (Store o s block) NoMemory old new held e is clean = absurd clean
-answer_is (Fetch o s size) (Found block) old new held e is clean = (ap found (subst (λ h. FetchGives size o s h (Some block)) e is.gives), is.held ∙ e)
-answer_is (Fetch o s size) Missing old new held e is clean = (ap found (subst (λ h. FetchGives size o s h None) e is.gives), is.held ∙ e)
+answer_is (Fetch o s size) (Found block) old new held e is clean =
+    (ap found (subst (λ h. FetchGives size o s h (Some block)) e is.gives), is.held ∙ e)
+answer_is (Fetch o s size) Missing old new held e is clean =
+    (ap found (subst (λ h. FetchGives size o s h None) e is.gives), is.held ∙ e)
 answer_is (Fetch o s size) Done old new held e is clean = absurd is
 answer_is (Fetch o s size) Failed old new held e is clean = absurd clean
 answer_is (Fetch o s size) NoMemory old new held e is clean = absurd clean
 answer_is (Ask o c) (Found []) old new held e is clean = absurd is
-answer_is (Ask o c) (Found (x ∷ [])) old new held e is clean = (ap (λ (g : Option ℕ). found (option_map (λ symbol. symbol ∷ []) g)) (subst (λ h. AskGives (honest_answer c) o h (Some x)) e is.gives), is.held ∙ e)
+answer_is (Ask o c) (Found (x ∷ [])) old new held e is clean = (
+  ap (λ (g : Option ℕ). found (option_map (λ symbol. symbol ∷ []) g))
+      (subst (λ h. AskGives (honest_answer c) o h (Some x)) e is.gives),
+  is.held ∙ e,
+)
 answer_is (Ask o c) (Found (x ∷ y ∷ more)) old new held e is clean = absurd is
-answer_is (Ask o c) Missing old new held e is clean = (ap (λ (g : Option ℕ). found (option_map (λ symbol. symbol ∷ []) g)) (subst (λ h. AskGives (honest_answer c) o h None) e is.gives), is.held ∙ e)
+answer_is (Ask o c) Missing old new held e is clean = (
+  ap (λ (g : Option ℕ). found (option_map (λ symbol. symbol ∷ []) g))
+      (subst (λ h. AskGives (honest_answer c) o h None) e is.gives),
+  is.held ∙ e,
+)
 answer_is (Ask o c) Done old new held e is clean = absurd is
 answer_is (Ask o c) Failed old new held e is clean = absurd clean
 answer_is (Ask o c) NoMemory old new held e is clean = absurd clean
@@ -41,8 +54,10 @@ clean_parts Missing as_ c = (tt, c)
 clean_parts Failed as_ c = absurd c
 clean_parts NoMemory as_ c = absurd c
 
--- of a server over a told provider, the requests determine the answers and what is held then, where no call failed
-pub determined : (rs : List Request) (as_ : List Reply) (old new : Provider) (held : Held) → old.held ≡ Some held → Serves rs old as_ new → AreClean as_
+-- of a server over a told provider, the requests determine the answers and what is held then, where no call
+-- failed
+pub determined : (rs : List Request) (as_ : List Reply) (old new : Provider) (held : Held) →
+    old.held ≡ Some held → Serves rs old as_ new → AreClean as_
     → (replies_text as_ ≡ (served held rs).0) × (new.held ≡ Some (served held rs).1)
 determined [] [] old new held e is clean = (refl, ap (λ (p : Provider). p.held) is ∙ e)
 determined [] (a ∷ as_) old new held e is clean = absurd is
@@ -60,45 +75,106 @@ pub record Counted (a : Reply) (old new : Provider) : Type 0 where
   pub failed : a ≡ Failed → Rose old.store_faults new.store_faults ⊎ Rose old.other_faults new.other_faults
 
 counted : (r : Request) (a : Reply) (old new : Provider) → AnswersRequest r old a new → Counted a old new
-counted (Store o s block) Done old new is = record { stores = is.counts.store_faults; others = omega (arith, is.counts.other_faults); failed = λ e. absurd (cc e) }
-counted (Store o s block) Failed old new is = record { stores = is.counts.store_faults; others = omega (arith, is.counts.other_faults); failed = λ _. inl is.cause }
-counted (Store o s block) NoMemory old new is = record { stores = is.counts.store_faults; others = omega (arith, is.counts.other_faults); failed = λ e. absurd (cc e) }
+counted (Store o s block) Done old new is =
+    record {
+      stores = is.counts.store_faults;
+      others = omega (arith, is.counts.other_faults);
+      failed = λ e. absurd (cc e);
+    }
+counted (Store o s block) Failed old new is =
+    record {
+      stores = is.counts.store_faults;
+      others = omega (arith, is.counts.other_faults);
+      failed = λ _. inl is.cause;
+    }
+counted (Store o s block) NoMemory old new is =
+    record {
+      stores = is.counts.store_faults;
+      others = omega (arith, is.counts.other_faults);
+      failed = λ e. absurd (cc e);
+    }
 counted (Store o s block) (Found symbols) old new is = absurd is
 counted (Store o s block) Missing old new is = absurd is
-counted (Fetch o s size) (Found block) old new is = record { stores = omega (arith, is.counts.store_faults); others = is.counts.other_faults; failed = λ e. absurd (cc e) }
-counted (Fetch o s size) Missing old new is = record { stores = omega (arith, is.counts.store_faults); others = is.counts.other_faults; failed = λ e. absurd (cc e) }
-counted (Fetch o s size) Failed old new is = record { stores = omega (arith, is.counts.store_faults); others = is.counts.other_faults; failed = λ _. inr is.cause }
+counted (Fetch o s size) (Found block) old new is =
+    record {
+      stores = omega (arith, is.counts.store_faults);
+      others = is.counts.other_faults;
+      failed = λ e. absurd (cc e);
+    }
+counted (Fetch o s size) Missing old new is =
+    record {
+      stores = omega (arith, is.counts.store_faults);
+      others = is.counts.other_faults;
+      failed = λ e. absurd (cc e);
+    }
+counted (Fetch o s size) Failed old new is =
+    record {
+      stores = omega (arith, is.counts.store_faults);
+      others = is.counts.other_faults;
+      failed = λ _. inr is.cause;
+    }
 counted (Fetch o s size) Done old new is = absurd is
 counted (Fetch o s size) NoMemory old new is = absurd is
 counted (Ask o c) (Found []) old new is = absurd is
-counted (Ask o c) (Found (x ∷ [])) old new is = record { stores = omega (arith, is.counts.store_faults); others = is.counts.other_faults; failed = λ e. absurd (cc e) }
+counted (Ask o c) (Found (x ∷ [])) old new is =
+    record {
+      stores = omega (arith, is.counts.store_faults);
+      others = is.counts.other_faults;
+      failed = λ e. absurd (cc e);
+    }
 counted (Ask o c) (Found (x ∷ y ∷ more)) old new is = absurd is
-counted (Ask o c) Missing old new is = record { stores = omega (arith, is.counts.store_faults); others = is.counts.other_faults; failed = λ e. absurd (cc e) }
-counted (Ask o c) Failed old new is = record { stores = omega (arith, is.counts.store_faults); others = is.counts.other_faults; failed = λ _. inr is.cause }
+counted (Ask o c) Missing old new is =
+    record {
+      stores = omega (arith, is.counts.store_faults);
+      others = is.counts.other_faults;
+      failed = λ e. absurd (cc e);
+    }
+counted (Ask o c) Failed old new is =
+    record {
+      stores = omega (arith, is.counts.store_faults);
+      others = is.counts.other_faults;
+      failed = λ _. inr is.cause;
+    }
 counted (Ask o c) Done old new is = absurd is
 counted (Ask o c) NoMemory old new is = absurd is
-counted (Remove o) Done old new is = record { stores = omega (arith, is.counts.store_faults); others = is.counts.other_faults; failed = λ e. absurd (cc e) }
-counted (Remove o) Failed old new is = record { stores = omega (arith, is.counts.store_faults); others = is.counts.other_faults; failed = λ _. inr is.cause }
+counted (Remove o) Done old new is =
+    record {
+      stores = omega (arith, is.counts.store_faults);
+      others = is.counts.other_faults;
+      failed = λ e. absurd (cc e);
+    }
+counted (Remove o) Failed old new is =
+    record {
+      stores = omega (arith, is.counts.store_faults);
+      others = is.counts.other_faults;
+      failed = λ _. inr is.cause;
+    }
 counted (Remove o) (Found symbols) old new is = absurd is
 counted (Remove o) Missing old new is = absurd is
 counted (Remove o) NoMemory old new is = absurd is
 
-rises : (a : Reply) (old new : Provider) → Counted a old new → new.store_faults < last_count → new.other_faults < last_count
-    → old.store_faults + old.other_faults + (if is_failed a then 1 else 0) ≤ new.store_faults + new.other_faults
+rises : (a : Reply) (old new : Provider) → Counted a old new → new.store_faults < last_count →
+    new.other_faults < last_count
+    → old.store_faults + old.other_faults + (if is_failed a then 1
+    else 0) ≤ new.store_faults + new.other_faults
 rises Done old new c s o = omega (arith, c.stores, c.others)
 rises (Found symbols) old new c s o = omega (arith, c.stores, c.others)
 rises Missing old new c s o = omega (arith, c.stores, c.others)
 rises NoMemory old new c s o = omega (arith, c.stores, c.others)
 rises Failed old new c s o =
-    ⊎_elim (λ rose. let more : old.store_faults < new.store_faults = rose (omega (arith, c.stores)) in omega (arith, c.others, more))
-    (λ rose. let more : old.other_faults < new.other_faults = rose (omega (arith, c.others)) in omega (arith, c.stores, more)) (c.failed refl)
+    ⊎_elim (λ rose. let more : old.store_faults < new.store_faults = rose (omega (arith, c.stores)) in
+    omega (arith, c.others, more))
+    (λ rose. let more : old.other_faults < new.other_faults = rose (omega (arith, c.others)) in
+    omega (arith, c.stores, more)) (c.failed refl)
 
 -- while no count stands at its last value, each failed call raised one
-pub failed_counted : (rs : List Request) (as_ : List Reply) (old new : Provider) → Serves rs old as_ new → new.store_faults < last_count → new.other_faults < last_count
+pub failed_counted : (rs : List Request) (as_ : List Reply) (old new : Provider) → Serves rs old as_ new →
+    new.store_faults < last_count → new.other_faults < last_count
     → old.store_faults + old.other_faults + failed_count as_ ≤ new.store_faults + new.other_faults
 failed_counted [] [] old new is s o =
     let a : new.store_faults ≡ old.store_faults = ap (λ (p : Provider). p.store_faults) is in
-    let b : new.other_faults ≡ old.other_faults = ap (λ (p : Provider). p.other_faults) is in omega (arith, a, b)
+    let b : new.other_faults ≡ old.other_faults = ap (λ (p : Provider). p.other_faults) is in
+    omega (arith, a, b)
 failed_counted [] (a ∷ as_) old new is s o = absurd is
 failed_counted (r ∷ rs) [] old new is s o = absurd is
 failed_counted (r ∷ rs) (a ∷ as_) old new is s o =
@@ -108,12 +184,15 @@ failed_counted (r ∷ rs) (a ∷ as_) old new is s o =
     omega (arith, one, before)
 
 -- the counts of a provider do not fall
-pub counts_kept : (rs : List Request) (as_ : List Reply) (old new : Provider) → Serves rs old as_ new → (old.store_faults ≤ new.store_faults) × (old.other_faults ≤ new.other_faults)
+pub counts_kept : (rs : List Request) (as_ : List Reply) (old new : Provider) → Serves rs old as_ new →
+    (old.store_faults ≤ new.store_faults) × (old.other_faults ≤ new.other_faults)
 counts_kept [] [] old new is =
     let a : new.store_faults ≡ old.store_faults = ap (λ (p : Provider). p.store_faults) is in
-    let b : new.other_faults ≡ old.other_faults = ap (λ (p : Provider). p.other_faults) is in (omega (arith, a), omega (arith, b))
+    let b : new.other_faults ≡ old.other_faults = ap (λ (p : Provider). p.other_faults) is in
+    (omega (arith, a), omega (arith, b))
 counts_kept [] (a ∷ as_) old new is = absurd is
 counts_kept (r ∷ rs) [] old new is = absurd is
 counts_kept (r ∷ rs) (a ∷ as_) old new is =
     let c = counted r a is.0 new is.2 in
-    let before = counts_kept rs as_ old is.0 is.1 in (omega (arith, c.stores, before.0), omega (arith, c.others, before.1))
+    let before = counts_kept rs as_ old is.0 is.1 in
+    (omega (arith, c.stores, before.0), omega (arith, c.others, before.1))

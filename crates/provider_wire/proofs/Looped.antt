@@ -12,7 +12,8 @@ use Rattle.wire_defs.specs.Links.{Behind, Sends, Receives}
 use Rattle.provider_wire.proofs.Takes.{one_front}
 
 -- a provider that tells what it holds goes on to tell it, and one that does not never begins to
-pub still_told : (r : Request) (a : Reply) (old new : Provider) → AnswersRequest r old a new → is_some new.held ≡ is_some old.held
+pub still_told : (r : Request) (a : Reply) (old new : Provider) → AnswersRequest r old a new →
+    is_some new.held ≡ is_some old.held
 still_told (Store o s block) Done old new is = ap is_some is.held ∙ is_some-option_map _ old.held
 still_told (Store o s block) Failed old new is = ap is_some is.held
 still_told (Store o s block) NoMemory old new is = ap is_some is.held
@@ -39,50 +40,39 @@ still_told (Remove o) NoMemory old new is = absurd is
 -- bytes are the spelling of one request
 pub same_request : (bytes : List ℕ) (r q : Request) → SpellsRequest bytes r → SpellsRequest bytes q → r ≡ q
 same_request bytes r q a b =
-    (one_front r q [] [] a.is_request b.is_request (append-nil (request_bytes r) ∙ sym a.bytes_are ∙ b.bytes_are ∙ sym (append-nil (request_bytes q)))).0
+    (one_front r q [] [] a.is_request b.is_request (append-nil (request_bytes r) ∙ sym a.bytes_are
+    ∙ b.bytes_are ∙ sym (append-nil (request_bytes q)))).0
 
 abbrev told : ℕ → ℕ → ℕ → List ℕ → Option Held → Option Behind
-told stores others fetches due held = option_map (λ blocks. record { held = blocks; store_faults = stores; other_faults = others; fetches = fetches; due = due }) held
+told stores others fetches due held =
+    option_map (λ blocks. record {
+      held = blocks;
+      store_faults = stores;
+      other_faults = others;
+      fetches = fetches;
+      due = due;
+    }) held
 
 abbrev seen : Option Held → ℕ → ℕ → ℕ → Provider
-seen held stores others fetches = record { held = held; store_faults = stores; other_faults = others; fetches = fetches }
+seen held stores others fetches =
+    record { held = held; store_faults = stores; other_faults = others; fetches = fetches }
 
 -- a send while bytes are due
-pub sent_busy : (held : Option Held) (s o f : ℕ) (due bytes : List ℕ) → 0 < length due → Goes (Sends bytes) (told s o f due held) (told s o f due held)
+pub sent_busy : (held : Option Held) (s o f : ℕ) (due bytes : List ℕ) → 0 < length due →
+    Goes (Sends bytes) (told s o f due held) (told s o f due held)
 sent_busy None s o f due bytes some = tt
-sent_busy (Some h) s o f due bytes some = λ r is e. absurd (let none : length due ≡ 0 = ap length e in omega (arith, none, some))
-
--- a send of what is no request
-pub sent_nothing : (held : Option Held) (s o f : ℕ) (due bytes : List ℕ) → ((r : Request) → SpellsRequest bytes r → ⊥) → Goes (Sends bytes) (told s o f due held) (told s o f due held)
-sent_nothing None s o f due bytes none = tt
-sent_nothing (Some h) s o f due bytes none = λ r is e. absurd (none r is)
+sent_busy (Some h) s o f due bytes some =
+    λ r is e. absurd (let none : length due ≡ 0 = ap length e in omega (arith, none, some))
 
 -- a send of a request
-pub sent_whole : (old new : Option Held) (s o f s' o' f' : ℕ) (due bytes answer : List ℕ) (r : Request) → SpellsRequest bytes r → AnswersIn r (seen old s o f) answer (seen new s' o' f')
+pub sent_whole : (old new : Option Held) (s o f s' o' f' : ℕ) (due bytes answer : List ℕ) (r : Request) →
+    SpellsRequest bytes r → AnswersIn r (seen old s o f) answer (seen new s' o' f')
     → Goes (Sends bytes) (told s o f due old) (told s' o' f' answer new)
 sent_whole None None s o f s' o' f' due bytes answer r spelled is = tt
-sent_whole None (Some h) s o f s' o' f' due bytes answer r spelled is = absurd (let e = still_told r is.0 _ _ is.1 in cc e)
-sent_whole (Some h) None s o f s' o' f' due bytes answer r spelled is = absurd (let e = still_told r is.0 _ _ is.1 in cc e)
+sent_whole None (Some h) s o f s' o' f' due bytes answer r spelled is =
+    absurd (let e = still_told r is.0 _ _ is.1 in cc e)
+sent_whole (Some h) None s o f s' o' f' due bytes answer r spelled is =
+    absurd (let e = still_told r is.0 _ _ is.1 in cc e)
 sent_whole (Some h) (Some k) s o f s' o' f' due bytes answer r spelled is =
-    λ q other e. subst (λ (x : Request). AnswersIn x (seen (Some h) s o f) answer (seen (Some k) s' o' f')) (same_request bytes r q spelled other) is
-
--- a provider that tells nothing goes on so
-pub sent_untold : (old new : Option Held) (s o f s' o' f' : ℕ) (due answer : List ℕ) (r : Request) → AnswersIn r (seen old s o f) answer (seen new s' o' f')
-    → told s o f due old ≡ None → told s' o' f' answer new ≡ None
-sent_untold None None s o f s' o' f' due answer r is e = refl
-sent_untold None (Some h) s o f s' o' f' due answer r is e = absurd (let t = still_told r is.0 _ _ is.1 in cc t)
-sent_untold (Some h) new s o f s' o' f' due answer r is e = absurd (cc e)
-
--- a receive
-pub received : (held : Option Held) (s o f n at : ℕ) (due out : List ℕ) → drop at due ≡ take n out ++ drop (at + n) due → (0 < length out → 0 < length (drop at due) → 0 < n)
-    → Goes (Receives n out) (told s o f (drop at due) held) (told s o f (drop (at + n) due) held)
-received None s o f n at due out given some = tt
-received (Some h) s o f n at due out given some = record {
-  given = given;
-  some = λ room there. some room (not_empty (drop at due) there);
-  provider = refl;
-}
-  where
-    not_empty : (l : List ℕ) → (l ≡ [] → ⊥) → 0 < length l
-    not_empty [] some = absurd (some refl)
-    not_empty (x ∷ l) some = omega arith
+    λ q other e. subst (λ (x : Request). AnswersIn x (seen (Some h) s o f) answer (seen (Some k) s' o' f'))
+    (same_request bytes r q spelled other) is

@@ -22,26 +22,34 @@ use Rattle.provider_wire.proofs.Served.{nothing_told, then_told-append}
 
 text-append : (more rs : List Request) → requests_text (more ++ rs) ≡ requests_text rs ++ requests_text more
 text-append [] rs = sym (append-nil (requests_text rs))
-text-append (r ∷ more) rs = ap (λ (l : List ℕ). l ++ request_bytes r) (text-append more rs) ∙ append_assoc (requests_text rs) (requests_text more) (request_bytes r)
+text-append (r ∷ more) rs = ap (λ (l : List ℕ). l ++ request_bytes r) (text-append more rs)
+    ∙ append_assoc (requests_text rs) (requests_text more) (request_bytes r)
 
-replies_text-append : (more as_ : List Reply) → replies_text (more ++ as_) ≡ replies_text as_ ++ replies_text more
+replies_text-append : (more as_ : List Reply) → replies_text (more ++ as_)
+    ≡ replies_text as_ ++ replies_text more
 replies_text-append [] as_ = sym (append-nil (replies_text as_))
-replies_text-append (a ∷ more) as_ = ap (λ (l : List ℕ). l ++ reply_bytes a) (replies_text-append more as_) ∙ append_assoc (replies_text as_) (replies_text more) (reply_bytes a)
+replies_text-append (a ∷ more) as_ = ap (λ (l : List ℕ). l ++ reply_bytes a) (replies_text-append more as_)
+    ∙ append_assoc (replies_text as_) (replies_text more) (reply_bytes a)
 
-Serves-append : (more rs : List Request) (others as_ : List Reply) (old mid new : Provider) → Serves rs old as_ mid → Serves more mid others new → Serves (more ++ rs) old (others ++ as_) new
-Serves-append [] rs [] as_ old mid new first then_ = subst (λ (p : Provider). Serves rs old as_ p) (sym then_) first
+Serves-append : (more rs : List Request) (others as_ : List Reply) (old mid new : Provider) →
+    Serves rs old as_ mid → Serves more mid others new → Serves (more ++ rs) old (others ++ as_) new
+Serves-append [] rs [] as_ old mid new first then_ =
+    subst (λ (p : Provider). Serves rs old as_ p) (sym then_) first
 Serves-append [] rs (a ∷ others) as_ old mid new first then_ = absurd then_
 Serves-append (r ∷ more) rs [] as_ old mid new first then_ = absurd then_
-Serves-append (r ∷ more) rs (a ∷ others) as_ old mid new first then_ = (then_.0, Serves-append more rs others as_ old mid then_.0 first then_.1, then_.2)
+Serves-append (r ∷ more) rs (a ∷ others) as_ old mid new first then_ =
+    (then_.0, Serves-append more rs others as_ old mid then_.0 first then_.1, then_.2)
 
-AreFrames-append : (bytes others : List ℕ) (more rs : List Request) → AreFrames bytes rs → AreFrames others more → AreFrames (bytes ++ others) (more ++ rs)
+AreFrames-append : (bytes others : List ℕ) (more rs : List Request) → AreFrames bytes rs →
+    AreFrames others more → AreFrames (bytes ++ others) (more ++ rs)
 AreFrames-append bytes others more rs first then_ = record {
   are_requests = list_all-append is_request more rs ∙ and_from _ _ then_.are_requests first.are_requests;
   bytes_are = (λ i. first.bytes_are i ++ then_.bytes_are i) ∙ sym (text-append more rs);
 }
 
 -- so many bytes were read, the whole requests at their front are answered, and the rest waits
-pub record Progress (had left : Option (List ℕ)) (taken : ℕ) (waiting : List ℕ) (old new : Provider) (was now : Option (List ℕ)) : Type 0 where
+pub record Progress (had left : Option (List ℕ)) (taken : ℕ) (waiting : List ℕ) (old new : Provider)
+    (was now : Option (List ℕ)) : Type 0 where
   pub requests : List Request
   pub replies : List Reply
   pub read : List ℕ
@@ -76,10 +84,13 @@ nothing_spells r front rest s e =
     let sum : 0 ≡ length front + length rest = ap length e ∙ length-append front rest in
     let lt : 0 < 0 = omega (arith, some, same, sum) in absurd (omega (arith, lt))
 
-waiting_is_taken : {had left : Option (List ℕ)} {taken : ℕ} {waiting : List ℕ} {old new : Provider} {was now : Option (List ℕ)} → Progress had left taken waiting old new was now → length waiting ≤ taken
-waiting_is_taken {waiting = waiting} p = omega (arith, p.count, ap length p.parts, length-append p.front waiting)
+waiting_is_taken : {had left : Option (List ℕ)} {taken : ℕ} {waiting : List ℕ} {old new : Provider}
+    {was now : Option (List ℕ)} → Progress had left taken waiting old new was now → length waiting ≤ taken
+waiting_is_taken {waiting = waiting} p =
+    omega (arith, p.count, ap length p.parts, length-append p.front waiting)
 
-module _ (had left : Option (List ℕ)) (taken : ℕ) (waiting : List ℕ) (old mid : Provider) (was then_ : Option (List ℕ)) (p : Progress had left taken waiting old mid was then_) where
+module _ (had left : Option (List ℕ)) (taken : ℕ) (waiting : List ℕ) (old mid : Provider)
+    (was then_ : Option (List ℕ)) (p : Progress had left taken waiting old mid was then_) where
   front_size : length p.front ≡ taken - length waiting
   front_size = omega (arith, p.count, ap length p.parts, length-append p.front waiting)
 
@@ -87,7 +98,9 @@ module _ (had left : Option (List ℕ)) (taken : ℕ) (waiting : List ℕ) (old 
   text_size = ap length (sym p.frames.bytes_are) ∙ front_size
 
   -- the source failed
-  pub source_failed : (left' : Option (List ℕ)) → left' ≡ left → taken ≤ most_bytes → SpellsNoRequest waiting → is_bad_request waiting ≡ false → HasServed SourceFailed had left' old mid was then_
+  pub source_failed : (left' : Option (List ℕ)) → left' ≡ left → taken ≤ most_bytes →
+      SpellsNoRequest waiting → is_bad_request waiting ≡ false →
+      HasServed SourceFailed had left' old mid was then_
   source_failed left' same within none fine = record {
     requests = p.requests;
     replies = p.replies;
@@ -103,14 +116,16 @@ module _ (had left : Option (List ℕ)) (taken : ℕ) (waiting : List ℕ) (old 
     ends = (none, fine, omega (arith, p.count));
   }
 
-  ended_left : (left' : Option (List ℕ)) (part : List ℕ) → left ≡ then_told part left' → length part ≡ 0 → left ≡ left'
+  ended_left : (left' : Option (List ℕ)) (part : List ℕ) → left ≡ then_told part left' → length part ≡ 0 →
+      left ≡ left'
   ended_left left' [] got none = got ∙ sym (nothing_told left')
   ended_left left' (b ∷ part) got none = absurd (omega (arith, none))
 
   ended_at : (left' : Option (List ℕ)) → left ≡ left' → IfSome left (λ xs. xs ≡ []) → IsAtEnd left'
   ended_at left' same end = subst IsAtEnd same end
 
-  module _ (left' : Option (List ℕ)) (part : List ℕ) (got : left ≡ then_told part left') (nothing : length part ≡ 0) (end : IfSome left (λ xs. xs ≡ [])) (within : taken ≤ most_bytes) where
+  module _ (left' : Option (List ℕ)) (part : List ℕ) (got : left ≡ then_told part left')
+      (nothing : length part ≡ 0) (end : IfSome left (λ xs. xs ≡ [])) (within : taken ≤ most_bytes) where
     -- the source ended where a request is due
     pub finished : length waiting ≡ 0 → HasServed Finished had left' old mid was then_
     finished empty = record {
@@ -125,7 +140,11 @@ module _ (had left : Option (List ℕ)) (taken : ℕ) (waiting : List ℕ) (old 
       frames = p.frames;
       served = p.served;
       written = p.written;
-      ends = (ended_at left' (ended_left left' part got nothing) end, is_empty waiting empty, omega (arith, p.count));
+      ends = (
+        ended_at left' (ended_left left' part got nothing) end,
+        is_empty waiting empty,
+        omega (arith, p.count),
+      );
     }
       where
         is_empty : (l : List ℕ) → length l ≡ 0 → l ≡ []
@@ -133,7 +152,8 @@ module _ (had left : Option (List ℕ)) (taken : ℕ) (waiting : List ℕ) (old 
         is_empty (x ∷ l) e = absurd (omega (arith, e))
 
     -- the source ended inside a request
-    pub ended_inside : SpellsNoRequest waiting → 0 < length waiting → HasServed (BadAt (taken - length waiting)) had left' old mid was then_
+    pub ended_inside : SpellsNoRequest waiting → 0 < length waiting →
+        HasServed (BadAt (taken - length waiting)) had left' old mid was then_
     ended_inside none some = record {
       requests = p.requests;
       replies = p.replies;
@@ -146,15 +166,27 @@ module _ (had left : Option (List ℕ)) (taken : ℕ) (waiting : List ℕ) (old 
       frames = p.frames;
       served = p.served;
       written = p.written;
-      ends = record { place = sym text_size; cause = inr (ended_at left' (ended_left left' part got nothing) end, λ e. absurd (let z : length waiting ≡ 0 = ap length e in omega (arith, z, some)), none, omega (arith, p.count)) };
+      ends = record {
+        place = sym text_size;
+        cause =
+            inr (
+              ended_at left' (ended_left left' part got nothing) end,
+              λ e. absurd (let z : length waiting ≡ 0 = ap length e in omega (arith, z, some)),
+              none,
+              omega (arith, p.count),
+            );
+      };
     }
 
     -- the same, with its place told otherwise
-    pub ended_inside_at : SpellsNoRequest waiting → 0 < length waiting → (at : ℕ) → at ≡ taken - length waiting → HasServed (BadAt at) had left' old mid was then_
-    ended_inside_at none some at is = subst (λ (k : ℕ). HasServed (BadAt k) had left' old mid was then_) (sym is) (ended_inside none some)
+    pub ended_inside_at : SpellsNoRequest waiting → 0 < length waiting →
+        (at : ℕ) → at ≡ taken - length waiting → HasServed (BadAt at) had left' old mid was then_
+    ended_inside_at none some at is =
+        subst (λ (k : ℕ). HasServed (BadAt k) had left' old mid was then_) (sym is) (ended_inside none some)
 
   -- more bytes were read
-  pub grown : (left' : Option (List ℕ)) (part : List ℕ) (n : ℕ) → left ≡ then_told part left' → length part ≡ n → Progress had left' (taken + n) (waiting ++ part) old mid was then_
+  pub grown : (left' : Option (List ℕ)) (part : List ℕ) (n : ℕ) → left ≡ then_told part left' →
+      length part ≡ n → Progress had left' (taken + n) (waiting ++ part) old mid was then_
   grown left' part n got many = record {
     requests = p.requests;
     replies = p.replies;
@@ -173,7 +205,9 @@ module _ (had left : Option (List ℕ)) (taken : ℕ) (waiting : List ℕ) (old 
   inside w done fits = take-take done w waiting (omega (arith, length-take w waiting))
 
   -- more requests were answered
-  pub served_on : (new : Provider) (now : Option (List ℕ)) (w done : ℕ) → done ≤ length (take w waiting) → ServesAll (take done (take w waiting)) mid new then_ now → Progress had left taken (drop done waiting) old new was now
+  pub served_on : (new : Provider) (now : Option (List ℕ)) (w done : ℕ) → done ≤ length (take w waiting) →
+      ServesAll (take done (take w waiting)) mid new then_ now →
+      Progress had left taken (drop done waiting) old new was now
   served_on new now w done fits s = record {
     requests = s.requests ++ p.requests;
     replies = s.replies ++ p.replies;
@@ -181,30 +215,41 @@ module _ (had left : Option (List ℕ)) (taken : ℕ) (waiting : List ℕ) (old 
     front = p.front ++ take done waiting;
     took = p.took;
     count = p.count;
-    parts = p.parts ∙ ap (λ (l : List ℕ). p.front ++ l) (sym (take-append-drop done waiting)) ∙ sym (append_assoc p.front (take done waiting) (drop done waiting));
-    frames = subst (λ (l : List ℕ). AreFrames (p.front ++ l) (s.requests ++ p.requests)) (inside w done fits) (AreFrames-append p.front (take done (take w waiting)) s.requests p.requests p.frames s.frames);
+    parts = p.parts ∙ ap (λ (l : List ℕ). p.front ++ l) (sym (take-append-drop done waiting))
+        ∙ sym (append_assoc p.front (take done waiting) (drop done waiting));
+    frames = subst (λ (l : List ℕ). AreFrames (p.front ++ l) (s.requests ++ p.requests)) (inside w done fits)
+        (AreFrames-append p.front (take done (take w waiting)) s.requests p.requests p.frames s.frames);
     served = Serves-append s.requests p.requests s.replies p.replies old mid new p.served s.served;
-    written = s.written ∙ ap (λ (t : Option (List ℕ)). told_then t (replies_text s.replies)) p.written ∙ told_then-append was (replies_text p.replies) (replies_text s.replies) ∙ ap (told_then was) (sym (replies_text-append s.replies p.replies));
+    written = s.written ∙ ap (λ (t : Option (List ℕ)). told_then t (replies_text s.replies)) p.written
+        ∙ told_then-append was (replies_text p.replies) (replies_text s.replies)
+        ∙ ap (told_then was) (sym (replies_text-append s.replies p.replies));
   }
 
-  wrote_part : (new : Provider) (now : Option (List ℕ)) (rs : List Request) (as_ : List Reply) → rs ≢ [] → Serves rs mid as_ new → WritesPart then_ now as_ → WritesPart was now (as_ ++ p.replies)
+  wrote_part : (new : Provider) (now : Option (List ℕ)) (rs : List Request) (as_ : List Reply) → rs ≢ [] →
+      Serves rs mid as_ new → WritesPart then_ now as_ → WritesPart was now (as_ ++ p.replies)
   wrote_part new now [] as_ some s part = absurd (some refl)
   wrote_part new now (r ∷ rs) [] some s part = absurd s
   wrote_part new now (r ∷ rs) (a ∷ as_) some s part =
       let same : told_then then_ (replies_text as_) ≡ told_then was (replies_text (as_ ++ p.replies)) =
-      ap (λ (t : Option (List ℕ)). told_then t (replies_text as_)) p.written ∙ told_then-append was (replies_text p.replies) (replies_text as_) ∙ ap (told_then was) (sym (replies_text-append as_ p.replies)) in
+      ap (λ (t : Option (List ℕ)). told_then t (replies_text as_)) p.written
+      ∙ told_then-append was (replies_text p.replies) (replies_text as_)
+      ∙ ap (told_then was) (sym (replies_text-append as_ p.replies)) in
       subst (λ (t : Option (List ℕ)). TakesFront t now (reply_bytes a)) same part
 
   not_empty : (rs others : List Request) → rs ≢ [] → rs ++ others ≢ []
   not_empty [] others some e = absurd (some refl)
   not_empty (r ∷ rs) others some e = absurd (cc e)
 
-  module _ (new : Provider) (now : Option (List ℕ)) (w done : ℕ) (fits : done ≤ length (take w waiting)) (s : ServesPart (take done (take w waiting)) mid new then_ now) (few : taken ≤ most_bytes + 1) where
+  module _ (new : Provider) (now : Option (List ℕ)) (w done : ℕ) (fits : done ≤ length (take w waiting))
+      (s : ServesPart (take done (take w waiting)) mid new then_ now) (few : taken ≤ most_bytes + 1) where
     all_frames : AreFrames (p.front ++ take done waiting) (s.requests ++ p.requests)
-    all_frames = subst (λ (l : List ℕ). AreFrames (p.front ++ l) (s.requests ++ p.requests)) (inside w done fits) (AreFrames-append p.front (take done (take w waiting)) s.requests p.requests p.frames s.frames)
+    all_frames = subst (λ (l : List ℕ). AreFrames (p.front ++ l) (s.requests ++ p.requests))
+        (inside w done fits) (AreFrames-append p.front
+        (take done (take w waiting)) s.requests p.requests p.frames s.frames)
 
     all_parts : p.read ≡ (p.front ++ take done waiting) ++ drop done waiting
-    all_parts = p.parts ∙ ap (λ (l : List ℕ). p.front ++ l) (sym (take-append-drop done waiting)) ∙ sym (append_assoc p.front (take done waiting) (drop done waiting))
+    all_parts = p.parts ∙ ap (λ (l : List ℕ). p.front ++ l) (sym (take-append-drop done waiting))
+        ∙ sym (append_assoc p.front (take done waiting) (drop done waiting))
 
     -- the sink failed
     pub sink_failed : HasServed SinkFailed had left old new was now
@@ -243,7 +288,8 @@ module _ (had left : Option (List ℕ)) (taken : ℕ) (waiting : List ℕ) (old 
   -- what the rest has within the limit
   module _ (few : taken ≤ most_bytes + 1) where
     -- the rest begins no request
-    pub broke : is_bad_request (take (most_bytes - (taken - length waiting)) waiting) ≡ true → HasServed (BadAt (taken - length waiting)) had left old mid was then_
+    pub broke : is_bad_request (take (most_bytes - (taken - length waiting)) waiting) ≡ true →
+        HasServed (BadAt (taken - length waiting)) had left old mid was then_
     broke bad = record {
       requests = p.requests;
       replies = p.replies;
@@ -260,7 +306,10 @@ module _ (had left : Option (List ℕ)) (taken : ℕ) (waiting : List ℕ) (old 
     }
 
     -- the source gave too much
-    pub exceeded : most_bytes < taken → taken ≤ length waiting + most_bytes → SpellsNoRequest (take (most_bytes - (taken - length waiting)) waiting) → is_bad_request (take (most_bytes - (taken - length waiting)) waiting) ≡ false → HasServed TooMany had left old mid was then_
+    pub exceeded : most_bytes < taken → taken ≤ length waiting + most_bytes →
+        SpellsNoRequest (take (most_bytes - (taken - length waiting)) waiting) →
+        is_bad_request (take (most_bytes - (taken - length waiting)) waiting) ≡ false →
+        HasServed TooMany had left old mid was then_
     exceeded more inside_ none fine = record {
       requests = p.requests;
       replies = p.replies;
@@ -282,7 +331,9 @@ module _ (had left : Option (List ℕ)) (taken : ℕ) (waiting : List ℕ) (old 
     }
 
 -- what is left of the bytes within the limit, once whole requests are taken
-pub cut : (waiting : List ℕ) (taken w done : ℕ) → w ≡ length waiting - (taken - most_bytes) → done ≤ w → length waiting ≤ taken → drop done (take w waiting) ≡ take (most_bytes - (taken - length (drop done waiting))) (drop done waiting)
+pub cut : (waiting : List ℕ) (taken w done : ℕ) → w ≡ length waiting - (taken - most_bytes) → done ≤ w →
+    length waiting ≤ taken → drop done (take w waiting)
+    ≡ take (most_bytes - (taken - length (drop done waiting))) (drop done waiting)
 cut waiting taken w done is fits within =
     let rest = drop done waiting in
     let size : length rest ≡ length waiting - done = length-drop done waiting in
@@ -290,21 +341,29 @@ cut waiting taken w done is fits within =
     let sum : w ≡ done + m = omega arith in
     ap (λ (k : ℕ). drop done (take k waiting)) sum ∙ drop-take done m waiting
     ∙ elim (cases_lt most_bytes taken) [
-      | inl more ↦ ap (λ (k : ℕ). take k rest) (let e : m ≡ most_bytes - (taken - length rest) = omega (arith, is, size) in e)
-      | inr less ↦ take_all m rest (omega (arith, is, size)) ∙ sym (take_all (most_bytes - (taken - length rest)) rest (omega (arith, is, size)))
+      | inl more ↦ ap (λ (k : ℕ). take k rest)
+          (let e : m ≡ most_bytes - (taken - length rest) = omega (arith, is, size) in e)
+      | inr less ↦ take_all m rest (omega (arith, is, size))
+          ∙ sym (take_all (most_bytes - (taken - length rest)) rest (omega (arith, is, size)))
     ]
 
 -- more bytes were read, as a window tells it
-pub grown_to : (had left left' : Option (List ℕ)) (taken n most : ℕ) (waiting more : List ℕ) (old mid : Provider) (was then_ : Option (List ℕ))
+pub grown_to : (had left left' : Option (List ℕ)) (taken n most : ℕ) (waiting more : List ℕ)
+    (old mid : Provider) (was then_ : Option (List ℕ))
     → Progress had left taken waiting old mid was then_
-    → (part : List ℕ) × (more ≡ waiting ++ part) × (length part ≡ n) × (n ≤ most) × (left ≡ then_told part left') → Progress had left' (taken + n) more old mid was then_
+    → (part : List ℕ) × (more ≡ waiting ++ part) × (length part ≡ n) × (n ≤ most) ×
+    (left ≡ then_told part left') → Progress had left' (taken + n) more old mid was then_
 grown_to had left left' taken n most waiting more old mid was then_ p given =
-    subst (λ (l : List ℕ). Progress had left' (taken + n) l old mid was then_) (sym given.1) (grown had left taken waiting old mid was then_ p left' given.0 n given.4 given.2)
+    subst (λ (l : List ℕ). Progress had left' (taken + n) l old mid was then_) (sym given.1)
+    (grown had left taken waiting old mid was then_ p left' given.0 n given.4 given.2)
 
 -- a write did nothing
-pub write_failed : (had left : Option (List ℕ)) (taken w : ℕ) (waiting bytes : List ℕ) (old mid new : Provider) (was then_ now : Option (List ℕ)) (fault : WriteFault) (end : ServeEnd)
-    → Progress had left taken waiting old mid was then_ → bytes ≡ take w waiting → taken ≤ most_bytes + 1 → end ≡ end_after fault
-    → (n : ℕ) × (n ≤ length bytes) × ServesPart (take n bytes) mid new then_ now → HasServed (end_of end) had left old new was now
+pub write_failed : (had left : Option (List ℕ)) (taken w : ℕ) (waiting bytes : List ℕ)
+    (old mid new : Provider) (was then_ now : Option (List ℕ)) (fault : WriteFault) (end : ServeEnd)
+    → Progress had left taken waiting old mid was then_ → bytes ≡ take w waiting → taken ≤ most_bytes + 1 →
+    end ≡ end_after fault
+    → (n : ℕ) × (n ≤ length bytes) × ServesPart (take n bytes) mid new then_ now →
+    HasServed (end_of end) had left old new was now
 write_failed had left taken w waiting bytes old mid new was then_ now fault end p is few after s =
     subst (λ (e : ServeEnd). HasServed (end_of e) had left old new was now) (sym after) (by_fault fault)
   where
@@ -315,12 +374,17 @@ write_failed had left taken w waiting bytes old mid new was then_ now fault end 
     fits = subst (λ (l : List ℕ). s.0 ≤ length l) is s.1
 
     by_fault : (f : WriteFault) → HasServed (end_of (end_after f)) had left old new was now
-    by_fault write_fault.Failed = sink_failed had left taken waiting old mid was then_ p new now w s.0 fits part few
-    by_fault write_fault.Memory = out_of_memory had left taken waiting old mid was then_ p new now w s.0 fits part few
+    by_fault write_fault.Failed =
+        sink_failed had left taken waiting old mid was then_ p new now w s.0 fits part few
+    by_fault write_fault.Memory =
+        out_of_memory had left taken waiting old mid was then_ p new now w s.0 fits part few
 
-module _ (had left : Option (List ℕ)) (taken w done : ℕ) (waiting bytes : List ℕ) (old mid new : Provider) (was then_ now : Option (List ℕ))
-    (p : Progress had left taken waiting old mid was then_) (is : bytes ≡ take w waiting) (w_is : w ≡ length waiting - (taken - most_bytes)) (few : taken ≤ most_bytes + 1)
-    (some : 0 < length waiting) (fits : done ≤ length bytes) (s : ServesAll (take done bytes) mid new then_ now) where
+module _ (had left : Option (List ℕ)) (taken w done : ℕ) (waiting bytes : List ℕ) (old mid new : Provider)
+    (was then_ now : Option (List ℕ))
+    (p : Progress had left taken waiting old mid was then_) (is : bytes ≡ take w waiting)
+    (w_is : w ≡ length waiting - (taken - most_bytes)) (few : taken ≤ most_bytes + 1)
+    (some : 0 < length waiting) (fits : done ≤ length bytes)
+    (s : ServesAll (take done bytes) mid new then_ now) where
   short_front : done ≤ length (take w waiting)
   short_front = subst (λ (l : List ℕ). done ≤ length l) is fits
 
@@ -329,7 +393,8 @@ module _ (had left : Option (List ℕ)) (taken w done : ℕ) (waiting bytes : Li
 
   -- the whole requests were answered
   pub turned : Progress had left taken (drop done waiting) old new was now
-  turned = served_on had left taken waiting old mid was then_ p new now w done short_front (subst (λ (l : List ℕ). ServesAll (take done l) mid new then_ now) is s)
+  turned = served_on had left taken waiting old mid was then_ p new now w done short_front
+      (subst (λ (l : List ℕ). ServesAll (take done l) mid new then_ now) is s)
 
   rest_is : drop done bytes ≡ take (most_bytes - (taken - length (drop done waiting))) (drop done waiting)
   rest_is = ap (drop done) is ∙ cut waiting taken w done w_is done_within (waiting_is_taken p)
@@ -337,14 +402,20 @@ module _ (had left : Option (List ℕ)) (taken w done : ℕ) (waiting bytes : Li
   rest_size : length (drop done waiting) ≡ length waiting - done
   rest_size = length-drop done waiting
 
-  turned_bad : (at : ℕ) → at ≡ taken - (length waiting - done) → is_bad_request (drop done bytes) ≡ true → HasServed (BadAt at) had left old new was now
+  turned_bad : (at : ℕ) → at ≡ taken - (length waiting - done) → is_bad_request (drop done bytes) ≡ true →
+      HasServed (BadAt at) had left old new was now
   turned_bad at at_is bad =
-      subst (λ (k : ℕ). HasServed (BadAt k) had left old new was now) (ap (λ (k : ℕ). taken - k) rest_size ∙ sym at_is)
-      (broke had left taken (drop done waiting) old new was now turned few (ap is_bad_request (sym rest_is) ∙ bad))
+      subst (λ (k : ℕ). HasServed (BadAt k) had left old new was now)
+      (ap (λ (k : ℕ). taken - k) rest_size ∙ sym at_is)
+      (broke had left taken (drop done waiting) old new was now turned few
+      (ap is_bad_request (sym rest_is) ∙ bad))
 
-  turned_long : most_bytes < taken → SpellsNoRequest (drop done bytes) → is_bad_request (drop done bytes) ≡ false → HasServed TooMany had left old new was now
+  turned_long : most_bytes < taken → SpellsNoRequest (drop done bytes) →
+      is_bad_request (drop done bytes) ≡ false → HasServed TooMany had left old new was now
   turned_long more none fine =
-      exceeded had left taken (drop done waiting) old new was now turned few more (omega (arith, rest_size, done_within, w_is)) (subst SpellsNoRequest rest_is none) (ap is_bad_request (sym rest_is) ∙ fine)
+      exceeded had left taken (drop done waiting) old new was now turned few more
+      (omega (arith, rest_size, done_within, w_is)) (subst SpellsNoRequest rest_is none)
+      (ap is_bad_request (sym rest_is) ∙ fine)
 
   -- all of the bytes are within the limit
   pub all_within : taken ≤ most_bytes → bytes ≡ waiting
@@ -353,7 +424,8 @@ module _ (had left : Option (List ℕ)) (taken w done : ℕ) (waiting bytes : Li
 -- what a server read once more, as its window tells it
 abbrev pub Given : Option (List ℕ) → Option (List ℕ) → ℕ → ℕ → List ℕ → List ℕ → Type 0
 Given left left' most n waiting more =
-    (part : List ℕ) × (more ≡ waiting ++ part) × (length part ≡ n) × (n ≤ most) × (left ≡ then_told part left')
+    (part : List ℕ) × (more ≡ waiting ++ part) × (length part ≡ n) × (n ≤ most) ×
+    (left ≡ then_told part left')
 
 -- so many bytes are no more than a number of 64 bits holds
 pub most_and_one_fits : Fits w64 16777217
@@ -376,7 +448,8 @@ pub less_to_read : {taken n : ℕ} → taken ≤ 16777216 → n ≢ 0 → 167772
 less_to_read within some = omega arith
 
 -- what waits is short where the rest of the bytes is
-pub rest_is_short : (bytes rest : List ℕ) (done : ℕ) → drop done bytes ≡ rest → length bytes - done < 2062 → length rest < 2062
+pub rest_is_short : (bytes rest : List ℕ) (done : ℕ) → drop done bytes ≡ rest → length bytes - done < 2062 →
+    length rest < 2062
 rest_is_short bytes rest done is small = omega (arith, length-drop done bytes, ap length is)
 
 module _ {had left : Option (List ℕ)} (left' : Option (List ℕ)) {taken n size : ℕ} {waiting more : List ℕ}
@@ -445,32 +518,38 @@ module _ {had left : Option (List ℕ)} (left' : Option (List ℕ)) {taken n siz
       -- so far a server has come then
       pub went_on : Progress had left' (taken + n) (drop done more) old new was now
       went_on =
-          turned had left' (taken + n) (size - over) done more (take (size - over) slice) old mid new was then_ now
+          turned had left' (taken + n) (size - over) done more
+          (take (size - over) slice) old mid new was then_ now
           read_more front_is width_is few_read (some_wait some) fits s
 
       -- the rest is bad
       pub bad_at : is_bad_request (drop done (take (size - over) slice)) ≡ true
           → HasServed (BadAt (taken + n - (size - done))) had left' old new was now
       bad_at bad =
-          turned_bad had left' (taken + n) (size - over) done more (take (size - over) slice) old mid new was then_ now
+          turned_bad had left' (taken + n) (size - over) done more
+          (take (size - over) slice) old mid new was then_ now
           read_more front_is width_is few_read (some_wait some) fits s
           (taken + n - (size - done)) (ap (λ (k : ℕ). taken + n - (k - done)) size_is) bad
 
       -- the source gave too much
       pub too_long : 16777216 < taken + n → SpellsNoRequest (drop done (take (size - over) slice))
-          → is_bad_request (drop done (take (size - over) slice)) ≡ false → HasServed TooMany had left' old new was now
+          → is_bad_request (drop done (take (size - over) slice)) ≡ false →
+          HasServed TooMany had left' old new was now
       too_long more_came none fine =
-          turned_long had left' (taken + n) (size - over) done more (take (size - over) slice) old mid new was then_ now
+          turned_long had left' (taken + n) (size - over) done more
+          (take (size - over) slice) old mid new was then_ now
           read_more front_is width_is few_read (some_wait some) fits s more_came none fine
 
       -- within the limit the rest is what waits for more
       pub rest_waits : taken + n ≤ 16777216 → drop done (take (size - over) slice) ≡ drop done more
       rest_waits less = ap (drop done)
-          (all_within had left' (taken + n) (size - over) done more (take (size - over) slice) old mid new was then_ now
+          (all_within had left' (taken + n) (size - over) done more
+          (take (size - over) slice) old mid new was then_ now
           read_more front_is width_is few_read (some_wait some) fits s less)
 
   -- nothing came, and the source is at its end
-  module _ (none : n ≡ 0) (end : n ≡ 0 → 0 < 16777217 - taken → length waiting < 65536 → IfSome left (λ xs. xs ≡ []))
+  module _ (none : n ≡ 0) (end : n ≡ 0 → 0 < 16777217 - taken → length waiting < 65536 →
+      IfSome left (λ xs. xs ≡ []))
       (small : length waiting < 2062) where
     nothing : length given.0 ≡ 0
     nothing = given.2 ∙ none
@@ -488,13 +567,16 @@ module _ {had left : Option (List ℕ)} (left' : Option (List ℕ)) {taken n siz
         (sym same_size ∙ sym size_is ∙ empty)
 
     -- where something waits, it ended inside a request
-    pub stopped_at : SpellsNoRequest waiting → size ≢ 0 → HasServed (BadAt (taken - size)) had left' old mid was then_
+    pub stopped_at : SpellsNoRequest waiting → size ≢ 0 →
+        HasServed (BadAt (taken - size)) had left' old mid was then_
     stopped_at spells some =
-        ended_inside_at had left taken waiting old mid was then_ p left' given.0 given.4 nothing at_end within spells
+        ended_inside_at had left taken waiting old mid was then_ p left' given.0 given.4 nothing at_end within
+        spells
         (omega (arith, same_size, size_is)) (taken - size) (ap (λ (k : ℕ). taken - k) (size_is ∙ same_size))
 
 -- there was no memory before anything was read
-pub no_memory : (had : Option (List ℕ)) (p : Provider) (w : Option (List ℕ)) → HasServed OutOfMemory had had p p w w
+pub no_memory : (had : Option (List ℕ)) (p : Provider) (w : Option (List ℕ)) →
+    HasServed OutOfMemory had had p p w w
 no_memory had p w = record {
   requests = [];
   replies = [];

@@ -5,7 +5,8 @@ use Rattle.device_defs.specs.Told.{Goes}
 use Rattle.wire_defs.specs.Links.{Behind, Receives, provider_behind}
 
 -- a provider behind a link is known by what is seen of it
-pub same_behind : (old new : Behind) (rest : List ℕ) → provider_behind new ≡ provider_behind old → new.due ≡ rest → new ≡ record old { due = rest }
+pub same_behind : (old new : Behind) (rest : List ℕ) → provider_behind new ≡ provider_behind old →
+    new.due ≡ rest → new ≡ record old { due = rest }
 same_behind old new rest e due = λ i. record {
   held = unwrapped (ap (λ p. p.held) e) i;
   store_faults = (ap (λ p. p.store_faults) e) i;
@@ -18,57 +19,58 @@ same_behind old new rest e due = λ i. record {
     unwrapped h = cc
 
 abbrev pub SoFar : Option Behind → Option Behind → List ℕ → ℕ → Type 0
-SoFar first now out at = (b : Behind) → first ≡ Some b → length out ≤ length b.due → (rest : List ℕ) × (b.due ≡ take at out ++ rest) × (now ≡ Some (record b { due = rest }))
+SoFar first now out at = (b : Behind) → first ≡ Some b → length out ≤ length b.due →
+    (rest : List ℕ) × (b.due ≡ take at out ++ rest) × (now ≡ Some (record b { due = rest }))
 
 -- what a receive told, at what was told before it
-pub step : (mid now : Option Behind) (n : ℕ) (part : List ℕ) → Goes (Receives n part) mid now → (x : Behind) → mid ≡ Some x → (new : Behind) × (now ≡ Some new) × Receives n part x new
+pub step : (mid now : Option Behind) (n : ℕ) (part : List ℕ) → Goes (Receives n part) mid now → (x : Behind) →
+    mid ≡ Some x → (new : Behind) × (now ≡ Some new) × Receives n part x new
 step None now n part g x e = absurd cc
 step (Some m) None n part g x e = absurd g
-step (Some m) (Some k) n part g x e = (k, refl, subst (λ (y : Behind). Receives n part y k) (let h : m ≡ x = cc in h) g)
+step (Some m) (Some k) n part g x e =
+    (k, refl, subst (λ (y : Behind). Receives n part y k) (let h : m ≡ x = cc in h) g)
 
 -- before the first piece nothing of an answer was received
 pub begins : (first : Option Behind) (out : List ℕ) → SoFar first first out 0
 begins first out = λ b e long. (b.due, refl, e)
 
 -- some bytes more came
-pub advance : (first mid now : Option Behind) (out more part : List ℕ) (at n : ℕ) → SoFar first mid out at → Goes (Receives n part) mid now → length more ≡ length out → take (at + n) more ≡ take at out ++ take n part → SoFar first now more (at + n)
+pub advance : (first mid now : Option Behind) (out more part : List ℕ) (at n : ℕ) → SoFar first mid out at →
+    Goes (Receives n part) mid now → length more ≡ length out →
+    take (at + n) more ≡ take at out ++ take n part → SoFar first now more (at + n)
 advance first mid now out more part at n so g same is = λ b e long.
     let s = so b e (omega (arith, long, same)) in
     let t = step mid now n part g (record b { due = s.0 }) s.2 in (
       t.0.due,
-      s.1 ∙ ap (λ (l : List ℕ). take at out ++ l) t.2.given ∙ sym (append_assoc (take at out) (take n part) t.0.due) ∙ ap (λ (l : List ℕ). l ++ t.0.due) (sym is),
+      s.1 ∙ ap (λ (l : List ℕ). take at out ++ l) t.2.given
+          ∙ sym (append_assoc (take at out) (take n part) t.0.due) ∙ ap (λ (l : List ℕ). l ++ t.0.due) (sym is),
       t.1 ∙ ap (λ (x : Behind). Some x) (same_behind (record b { due = s.0 }) t.0 t.0.due t.2.provider refl),
     )
 
--- none came though some are due
-pub stuck : (first mid now : Option Behind) (out part : List ℕ) (at : ℕ) → SoFar first mid out at → Goes (Receives 0 part) mid now → at < length out → 0 < length part
-    → (b : Behind) → first ≡ Some b → length out ≤ length b.due → ⊥
-stuck first mid now out part at so g below room b e long =
-    let s = so b e long in
-    let t = step mid now 0 part g (record b { due = s.0 }) s.2 in
-    let size : length b.due ≡ length (take at out) + length s.0 = ap length s.1 ∙ length-append (take at out) s.0 in
-    let some : 0 < length s.0 = omega (arith, size, length-take at out, below, long) in
-    absurd (let more = t.2.some room (λ none. absurd (let z : length s.0 ≡ 0 = ap length none in omega (arith, z, some))) in omega (arith, more))
-
 -- all came
 pub complete : (first now : Option Behind) (out : List ℕ) (at : ℕ) → SoFar first now out at → length out ≤ at
-    → (b : Behind) → first ≡ Some b → length out ≤ length b.due → (rest : List ℕ) × (b.due ≡ out ++ rest) × (now ≡ Some (record b { due = rest }))
+    → (b : Behind) → first ≡ Some b → length out ≤ length b.due →
+    (rest : List ℕ) × (b.due ≡ out ++ rest) × (now ≡ Some (record b { due = rest }))
 complete first now out at so end b e long =
     let s = so b e long in
     (s.0, s.1 ∙ ap (λ (l : List ℕ). l ++ s.0) (take_all at out end), s.2)
 
 -- the first byte came
-pub first_byte : (due out tail rest : List ℕ) (kind : ℕ) → due ≡ kind ∷ tail → due ≡ out ++ rest → length out ≡ 1 → (get_or out 0 0 ≡ kind) × (rest ≡ tail)
+pub first_byte : (due out tail rest : List ℕ) (kind : ℕ) → due ≡ kind ∷ tail → due ≡ out ++ rest →
+    length out ≡ 1 → (get_or out 0 0 ≡ kind) × (rest ≡ tail)
 first_byte due [] tail rest kind is parts size = absurd (omega (arith, size))
 first_byte due (x ∷ []) tail rest kind is parts size =
-    let e : x ∷ rest ≡ kind ∷ tail = sym parts ∙ is in (let h : x ≡ kind = cc in h, let h : rest ≡ tail = cc in h)
+    let e : x ∷ rest ≡ kind ∷ tail = sym parts ∙ is in
+    (let h : x ≡ kind = cc in h, let h : rest ≡ tail = cc in h)
 first_byte due (x ∷ y ∷ out) tail rest kind is parts size = absurd (omega (arith, size))
 
 -- all of the bytes came
-pub all_came : (due out rest : List ℕ) → due ≡ out ++ rest → length due ≡ length out → (out ≡ due) × (rest ≡ [])
+pub all_came : (due out rest : List ℕ) → due ≡ out ++ rest → length due ≡ length out →
+    (out ≡ due) × (rest ≡ [])
 all_came due out rest parts size =
     let none : length rest ≡ 0 = omega (arith, ap length parts, length-append out rest, size) in
-    let empty = is_empty rest none in (sym (append-nil out) ∙ ap (λ (l : List ℕ). out ++ l) (sym empty) ∙ sym parts, empty)
+    let empty = is_empty rest none in
+    (sym (append-nil out) ∙ ap (λ (l : List ℕ). out ++ l) (sym empty) ∙ sym parts, empty)
   where
     is_empty : (l : List ℕ) → length l ≡ 0 → l ≡ []
     is_empty [] e = refl

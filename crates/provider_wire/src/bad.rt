@@ -33,8 +33,8 @@ fn is_bad_behind(kind: u8, rest: &[u8]) -> bool
     }
 }
 
-/// Whether bytes begin no request, whatever comes behind them: they have no kind of request, or a field that stands whole
-/// in them is out of its limits.
+/// Whether bytes begin no request, whatever comes behind them: they have no kind of request, or a field that
+/// stands whole in them is out of its limits.
 pub fn is_bad(bytes: &[u8]) -> bool
     ensures { result ≡ is_bad_request bytes.now }
 {

@@ -3,7 +3,8 @@
 pub enum ServeEnd {
     /// The source ended where a request is due.
     Done,
-    /// The bytes from this offset on begin no request: an unknown kind, a field out of its limits, or an end inside.
+    /// The bytes from this offset on begin no request: an unknown kind, a field out of its limits, or an end
+    /// inside.
     BadFrame { at: u64 },
     /// The source gave more than 2^24 bytes, and no request before that was bad.
     TooLong,

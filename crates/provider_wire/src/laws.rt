@@ -8,7 +8,8 @@ ghost use Rattle.wire_defs.specs.Serving.{End, BadAt, HasServed, IsOfBytes, Ends
 ghost use Rattle.provider_wire.specs.Loops.{idle};
 ghost use Rattle.wire_defs.specs.Replies.{Reply, Serves, AreClean, served, replies_text, failed_count};
 
-/// A request has one spelling, and no spelling begins another: what is read from the front of bytes is determined.
+/// A request has one spelling, and no spelling begins another: what is read from the front of bytes is
+/// determined.
 pub fn one_spelling()
     ensures { (a b : Request) (front other x y : List ℕ) → SpellsRequest front a → SpellsRequest other b
         → front ++ x ≡ other ++ y → (a ≡ b) × (front ≡ other) × (x ≡ y) }
@@ -25,8 +26,8 @@ pub fn frames_are_one()
         → AreFrames bytes others → requests ≡ others }
 {}
 
-/// What a server does that ends without a fault is said of all the bytes that its source has, whatever the pieces in
-/// which they come and however many of them it read.
+/// What a server does that ends without a fault is said of all the bytes that its source has, whatever the
+/// pieces in which they come and however many of them it read.
 pub fn ends_are_of_all_bytes()
     ensures { (bytes : List ℕ) (end : End) (left was now : Option (List ℕ)) (old new : Provider)
         (served : HasServed end (Some bytes) left old new was now) → IsOfBytes end
@@ -40,16 +41,16 @@ pub fn bytes_have_one_end()
         → (end ≡ other) × (requests ≡ others) }
 {}
 
-/// Where no call failed or found no memory, the answers and the blocks held after them are those that the requests and
-/// the blocks held before them determine.
+/// Where no call failed or found no memory, the answers and the blocks held after them are those that the
+/// requests and the blocks held before them determine.
 pub fn answers_are_determined()
     ensures { (requests : List Request) (replies : List Reply) (old new : Provider) (held : Held)
         → old.held ≡ Some held → Serves requests old replies new → AreClean replies
         → (replies_text replies ≡ (served held requests).0) × (new.held ≡ Some (served held requests).1) }
 {}
 
-/// At most as many answers say that a call failed as the provider's two counts of faults rose, while neither stands at its
-/// last value.
+/// At most as many answers say that a call failed as the provider's two counts of faults rose, while neither
+/// stands at its last value.
 pub fn failed_answers_are_counted()
     ensures { (requests : List Request) (replies : List Reply) (old new : Provider)
         → Serves requests old replies new
@@ -64,7 +65,8 @@ pub fn counts_never_fall()
         → (old.store_faults ≤ new.store_faults) × (old.other_faults ≤ new.other_faults) }
 {}
 
-/// An instance: of a removal of the object 1 and a byte 9 behind it the removal is answered, and the byte is bad.
+/// An instance: of a removal of the object 1 and a byte 9 behind it the removal is answered, and the byte is
+/// bad.
 pub fn a_byte_behind_a_removal_is_bad()
     ensures frames { AreFrames (4 ∷ 1 ∷ 0 ∷ 0 ∷ 0 ∷ 0 ∷ 0 ∷ 0 ∷ 0 ∷ []) (Remove 1 ∷ []) }
     ensures bad { is_bad_request (9 ∷ []) ≡ true }

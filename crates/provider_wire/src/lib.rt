@@ -1,4 +1,5 @@
-//! A provider behind a wire: a server of requests that come from a source, and a provider that sends them over a link.
+//! A provider behind a wire: a server of requests that come from a source, and a provider that sends them
+//! over a link.
 #![tactic(auto)]
 
 mod answer;

@@ -20,8 +20,8 @@ pub trait Link {
         ensures untold { behind self.old ≡ None → behind self.new ≡ None }
         ensures cause { HasCause (faults self.old) (faults self.new) (IsErr result) };
 
-    /// Gives some first bytes that are due, and says how many: none only at the end of the answers, or for a buffer without
-    /// room.
+    /// Gives some first bytes that are due, and says how many: none only at the end of the answers, or for a
+    /// buffer without room.
     fn receive(&mut self, out: &mut [u8]) -> Result<usize, Failed>
         ensures at_most { IfOk result (λ n. n ≤ length out.old) }
         ensures given { IfOk result (λ n. Goes (Receives n out.new) (behind self.old) (behind self.new)) }

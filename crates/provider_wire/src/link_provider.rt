@@ -5,8 +5,8 @@ use crate::link::Link;
 use crate::receive::ask_link;
 use stream_model::Memory;
 
-/// A provider behind a link. Over a link that tells what is behind it, it is seen as the provider there; over any other it
-/// keeps counts of its own.
+/// A provider behind a link. Over a link that tells what is behind it, it is seen as the provider there; over
+/// any other it keeps counts of its own.
 #[derive(Drop)]
 pub struct LinkProvider<L: Link> {
     pub(crate) link: L,
@@ -45,8 +45,8 @@ impl<L: Link> LinkProvider<L> {
         })
     }
 
-    /// Whether the link is out of step: a call of it failed, or an answer ended early or was none of those that there are.
-    /// It stays so. A link that tells what is behind it is never out of step.
+    /// Whether the link is out of step: a call of it failed, or an answer ended early or was none of those
+    /// that there are. It stays so. A link that tells what is behind it is never out of step.
     pub fn broken(&self) -> bool
         ensures value { result ≡ broken_of self.now }
         ensures told { IsSome (L.behind (link_of self.now)) → result ≡ false }
@@ -54,7 +54,8 @@ impl<L: Link> LinkProvider<L> {
         self.broken
     }
 
-    /// Sends a request, unless the link is out of step, and receives its answer. None where the link is out of step then.
+    /// Sends a request, unless the link is out of step, and receives its answer. None where the link is out
+    /// of step then.
     pub(crate) fn request(&mut self, request: &[u8], symbols: &mut [u8]) -> Option<u8>
         requires { (r : Request) × SpellsRequest request.now r × (length symbols.old ≡ answer_size r) }
         ensures told { (b : Behind) (r : Request) → L.behind (link_of self.old) ≡ Some b

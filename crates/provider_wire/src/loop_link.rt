@@ -9,8 +9,8 @@ use crate::request::Request;
 use provider_model::Provider;
 use stream_model::{Failed, Memory};
 
-/// A link to a provider in the same program, which answers by the step that a server takes. Its calls take no memory but
-/// the provider's own. What is no whole request, or is sent while bytes are due, is passed over.
+/// A link to a provider in the same program, which answers by the step that a server takes. Its calls take no
+/// memory but the provider's own. What is no whole request, or is sent while bytes are due, is passed over.
 #[derive(Drop)]
 pub struct LoopLink<P> {
     pub(crate) provider: P,

@@ -1,4 +1,5 @@
-// A provider over a link, as a provider, and over a link in the same program as one whose blocks may be changed.
+// A provider over a link, as a provider, and over a link in the same program as one whose blocks may be
+// changed.
 ghost use Rattle.std.specs.Prelude.{◌≡◌, ◌≤◌, length, IsErr, IsErrOf};
 ghost use Rattle.provider_model.specs.declared.fault.StoreFault.TheVariants as store_fault;
 ghost use Rattle.column_defs.specs.Challenges.{honest_answer};

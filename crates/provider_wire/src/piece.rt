@@ -7,7 +7,8 @@ use std::marker::Model;
 /// The bytes of the longest request: its kind, 8 bytes of object, 4 of stripe, the size and 128 symbols.
 pub const LONGEST: usize = 2062;
 
-/// Bytes of a request or an answer, of which there is room for those of the longest request. Contracts see their list.
+/// Bytes of a request or an answer, of which there is room for those of the longest request. Contracts see
+/// their list.
 #[derive(Drop)]
 pub struct Piece {
     bytes: [u8; 2062],

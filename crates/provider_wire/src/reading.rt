@@ -105,8 +105,8 @@ fn request_in(bytes: &[u8]) -> Option<(Request, &[u8])>
 }
 
 impl Request {
-    /// The request at the front of the bytes, and how many bytes it takes; None exactly where none stands there. Bytes may
-    /// be any, and what stands behind the request does not count.
+    /// The request at the front of the bytes, and how many bytes it takes; None exactly where none stands
+    /// there. Bytes may be any, and what stands behind the request does not count.
     pub fn read(bytes: &[u8]) -> Option<(Request, usize)>
         ensures size { IfSome result (λ x. x.1 ≤ length bytes.now) }
         ensures some { IfSome result (λ x. 0 < x.1) }

@@ -60,8 +60,8 @@ fn receive_answer<L: Link>(link: &mut L, symbols: &mut [u8]) -> Option<u8>
     }
 }
 
-/// Sends a request and receives its answer: its first byte, and behind a 1 the bytes of so many symbols as there is room
-/// for. None where a call of the link failed, or the answer ended early.
+/// Sends a request and receives its answer: its first byte, and behind a 1 the bytes of so many symbols as
+/// there is room for. None where a call of the link failed, or the answer ended early.
 pub fn ask_link<L: Link>(link: &mut L, request: &[u8], symbols: &mut [u8]) -> Option<u8>
     ensures told { (b : Behind) (r : Request) → L.behind link.old ≡ Some b → b.due ≡ []
         → SpellsRequest request.now r

@@ -105,9 +105,9 @@ fn serve_all<P: Provider, S: Source, K: Sink>(
     }
 }
 
-/// Serves the requests of a source with a provider, and writes the answer to each as soon as the request is whole, in the
-/// order of the requests. At most 2^24 bytes of requests are served. Memory is taken before anything is read, and by the
-/// sink.
+/// Serves the requests of a source with a provider, and writes the answer to each as soon as the request is
+/// whole, in the order of the requests. At most 2^24 bytes of requests are served. Memory is taken before
+/// anything is read, and by the sink.
 pub fn serve<P: Provider, S: Source, K: Sink>(
     alloc: Global,
     provider: &mut P,

@@ -9,8 +9,8 @@ use stream_model::{Failed, Memory, Source};
 /// How many bytes a window has room for.
 const ROOM: usize = 65_536;
 
-/// Bytes that were read and wait until their request is whole, seen in contracts as their list. There is room for 65,536
-/// of them, and no call but `new` takes memory.
+/// Bytes that were read and wait until their request is whole, seen in contracts as their list. There is room
+/// for 65,536 of them, and no call but `new` takes memory.
 #[derive(Drop)]
 pub struct Window {
     bytes: Vec<u8>,
@@ -91,8 +91,8 @@ impl Window {
         self.len -= count;
     }
 
-    /// Reads some bytes behind the others, at most so many, and tells how many: none only at the end of the source, or
-    /// where there is no room.
+    /// Reads some bytes behind the others, at most so many, and tells how many: none only at the end of the
+    /// source, or where there is no room.
     pub fn fill<S: Source>(&mut self, most: usize, source: &mut S) -> Result<usize, Failed>
         ensures given { IfOk result (λ n. (part : List ℕ) × (self.new ≡ self.old ++ part)
             × (length part ≡ n) × (n ≤ most)

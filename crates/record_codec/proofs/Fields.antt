@@ -28,7 +28,8 @@ pub IsBytes-rest : (b : ℕ) (bytes : List ℕ) → IsBytes (b ∷ bytes) → Is
 IsBytes-rest b bytes h i = h (suc i)
 
 -- the value of a step that did not fail
-pub bind_some : {A B : Type 0} (r : Option A) (f : A → Option B) (y : B) → (r >>= f) ≡ Some y → (x : A) × (r ≡ Some x) × (f x ≡ Some y)
+pub bind_some : {A B : Type 0} (r : Option A) (f : A → Option B) (y : B) → (r >>= f) ≡ Some y →
+    (x : A) × (r ≡ Some x) × (f x ≡ Some y)
 bind_some (Some x) f y e = (x, refl, e)
 bind_some None f y e = absurd cc
 
@@ -38,12 +39,14 @@ passed true x y e = (refl, cc)
 passed false x y e = absurd cc
 
 -- what a test let through passed it
-pub passed_to : {A : Type 0} (b : Bool) (r : Option A) (y : A) → cond b r None ≡ Some y → (b ≡ true) × (r ≡ Some y)
+pub passed_to : {A : Type 0} (b : Bool) (r : Option A) (y : A) → cond b r None ≡ Some y →
+    (b ≡ true) × (r ≡ Some y)
 passed_to true r y e = (refl, e)
 passed_to false r y e = absurd cc
 
 -- what a test did not stop failed it
-pub stopped : {A : Type 0} (b : Bool) (r : Option A) (y : A) → cond b None r ≡ Some y → (b ≡ false) × (r ≡ Some y)
+pub stopped : {A : Type 0} (b : Bool) (r : Option A) (y : A) → cond b None r ≡ Some y →
+    (b ≡ false) × (r ≡ Some y)
 stopped true r y e = absurd cc
 stopped false r y e = (refl, e)
 
@@ -61,11 +64,16 @@ pub record Takes (bytes text rest : List ℕ) : Type 0 where
 
 -- two takes one behind the other are one of both
 pub Takes-then : (a x b y c : List ℕ) → Takes a x b → Takes b y c → Takes a (x ++ y) c
-Takes-then a x b y c p q = record { parts = p.parts ∙ ap (λ (t : List ℕ). x ++ t) q.parts ∙ sym (append_assoc x y c); rest_fits = q.rest_fits }
+Takes-then a x b y c p q =
+    record {
+      parts = p.parts ∙ ap (λ (t : List ℕ). x ++ t) q.parts ∙ sym (append_assoc x y c);
+      rest_fits = q.rest_fits;
+    }
 
 pub record IsWide (w : Width) (limit : ℕ) : Type 0 where
   pub len : (n : ℕ) → length (to_le_bytes w n) ≡ byte_len w
-  pub back : (bytes : List ℕ) → length bytes ≡ byte_len w → IsBytes bytes → to_le_bytes w (from_le_bytes w bytes) ≡ bytes
+  pub back : (bytes : List ℕ) → length bytes ≡ byte_len w → IsBytes bytes →
+      to_le_bytes w (from_le_bytes w bytes) ≡ bytes
   pub again : (n : ℕ) → n < limit → from_le_bytes w (to_le_bytes w n) ≡ n
   pub below : (bytes : List ℕ) → IsBytes bytes → from_le_bytes w bytes < limit
 
@@ -97,24 +105,41 @@ wide64 = record {
 }
 
 -- a number that is read stands at the front, lowest byte first
-pub number_takes : (w : Width) (limit : ℕ) (wide : IsWide w limit) (bytes : List ℕ) (x : ℕ × List ℕ) → IsBytes bytes → number_at w bytes ≡ Some x → Takes bytes (to_le_bytes w x.0) x.1 × (x.0 < limit)
+pub number_takes : (w : Width) (limit : ℕ) (wide : IsWide w limit) (bytes : List ℕ) (x : ℕ × List ℕ) →
+    IsBytes bytes → number_at w bytes ≡ Some x → Takes bytes (to_le_bytes w x.0) x.1 × (x.0 < limit)
 number_takes w limit wide bytes x fits e =
     let made : ℕ × List ℕ = (from_le_bytes w (take (byte_len w) bytes), drop (byte_len w) bytes) in
     let g = stopped (ltb (length bytes) (byte_len w)) (Some made) x e in
     let long : byte_len w ≤ length bytes = ltb-false _ _ g.0 in
-    let front : to_le_bytes w made.0 ≡ take (byte_len w) bytes = wide.back (take (byte_len w) bytes) (omega (arith, length-take (byte_len w) bytes)) (IsBytes-take (byte_len w) bytes fits) in
-    let took : Takes bytes (to_le_bytes w made.0) made.1 = record { parts = sym (take-append-drop (byte_len w) bytes) ∙ ap (λ (l : List ℕ). l ++ drop (byte_len w) bytes) (sym front); rest_fits = IsBytes-drop (byte_len w) bytes fits } in
-    subst (λ (y : ℕ × List ℕ). Takes bytes (to_le_bytes w y.0) y.1 × (y.0 < limit)) (some_is made x g.1) (took, wide.below (take (byte_len w) bytes) (IsBytes-take (byte_len w) bytes fits))
+    let front : to_le_bytes w made.0 ≡ take (byte_len w) bytes =
+    wide.back (take (byte_len w) bytes) (omega (arith, length-take (byte_len w) bytes))
+    (IsBytes-take (byte_len w) bytes fits) in
+    let took : Takes bytes (to_le_bytes w made.0) made.1 =
+    record {
+      parts = sym (take-append-drop (byte_len w) bytes)
+          ∙ ap (λ (l : List ℕ). l ++ drop (byte_len w) bytes) (sym front);
+      rest_fits = IsBytes-drop (byte_len w) bytes fits;
+    } in
+    subst (λ (y : ℕ × List ℕ). Takes bytes (to_le_bytes w y.0) y.1 × (y.0 < limit)) (some_is made x g.1)
+    (took, wide.below (take (byte_len w) bytes) (IsBytes-take (byte_len w) bytes fits))
 
 -- a number is read back from its bytes
-pub number_again : (w : Width) (limit : ℕ) (wide : IsWide w limit) (n : ℕ) (rest : List ℕ) → n < limit → number_at w (to_le_bytes w n ++ rest) ≡ Some (n, rest)
+pub number_again : (w : Width) (limit : ℕ) (wide : IsWide w limit) (n : ℕ) (rest : List ℕ) → n < limit →
+    number_at w (to_le_bytes w n ++ rest) ≡ Some (n, rest)
 number_again w limit wide n rest lt =
     let len = wide.len n in
-    let long : ltb (length (to_le_bytes w n ++ rest)) (byte_len w) ≡ false = le-ltb _ _ (omega (arith, length-append (to_le_bytes w n) rest)) in
-    rw (long, take_at (to_le_bytes w n) rest (byte_len w) len, drop_at (to_le_bytes w n) rest (byte_len w) len, wide.again n lt) refl
+    let long : ltb (length (to_le_bytes w n ++ rest)) (byte_len w) ≡ false =
+    le-ltb _ _ (omega (arith, length-append (to_le_bytes w n) rest)) in
+    rw (
+      long,
+      take_at (to_le_bytes w n) rest (byte_len w) len,
+      drop_at (to_le_bytes w n) rest (byte_len w) len,
+      wide.again n lt,
+    ) refl
 
 -- a name that is read stands at the front, behind its size
-pub name_takes : (bytes : List ℕ) (x : List ℕ × List ℕ) → IsBytes bytes → name_at bytes ≡ Some x → Takes bytes (name_bytes x.0) x.1 × (is_name x.0 ≡ true)
+pub name_takes : (bytes : List ℕ) (x : List ℕ × List ℕ) → IsBytes bytes → name_at bytes ≡ Some x →
+    Takes bytes (name_bytes x.0) x.1 × (is_name x.0 ≡ true)
 unfolding name_at
 name_takes [] x fits e = absurd cc
 name_takes (n ∷ bytes) x fits e =
@@ -123,12 +148,19 @@ name_takes (n ∷ bytes) x fits e =
     let long : n ≤ length bytes = ltb-false _ _ g.0 in
     let h = passed (is_name (take n bytes)) made x g.1 in
     let len : length (take n bytes) ≡ n = omega (arith, length-take n bytes) in
-    let took : Takes (n ∷ bytes) (name_bytes made.0) made.1 = record { parts = (λ i. sym len i ∷ sym (take-append-drop n bytes) i); rest_fits = IsBytes-drop n bytes (IsBytes-rest n bytes fits) } in
-    subst (λ (y : List ℕ × List ℕ). Takes (n ∷ bytes) (name_bytes y.0) y.1 × (is_name y.0 ≡ true)) h.1 (took, h.0)
+    let took : Takes (n ∷ bytes) (name_bytes made.0) made.1 =
+    record {
+      parts = (λ i. sym len i ∷ sym (take-append-drop n bytes) i);
+      rest_fits = IsBytes-drop n bytes (IsBytes-rest n bytes fits);
+    } in
+    subst (λ (y : List ℕ × List ℕ). Takes (n ∷ bytes) (name_bytes y.0) y.1 × (is_name y.0 ≡ true)) h.1
+    (took, h.0)
 
 -- a name is read back from its bytes
-pub name_again : (name rest : List ℕ) → is_name name ≡ true → name_at (name_bytes name ++ rest) ≡ Some (name, rest)
+pub name_again : (name rest : List ℕ) → is_name name ≡ true →
+    name_at (name_bytes name ++ rest) ≡ Some (name, rest)
 unfolding name_at
 name_again name rest good =
-    let long : ltb (length (name ++ rest)) (length name) ≡ false = le-ltb _ _ (omega (arith, length-append name rest)) in
+    let long : ltb (length (name ++ rest)) (length name) ≡ false =
+    le-ltb _ _ (omega (arith, length-append name rest)) in
     rw (long, take_at name rest (length name) refl, drop_at name rest (length name) refl, good) refl

@@ -9,11 +9,8 @@ pub keyed_no_setup : (s : Setup) (bytes : List ℕ) → is_setup s ≡ false →
 unfolding keyed_at
 keyed_no_setup s bytes bad = rw bad refl
 
-keyed_short : (s : Setup) (bytes : List ℕ) → is_setup s ≡ true → length bytes < 32 → None ≡ keyed_at s bytes
-unfolding keyed_at
-keyed_short s bytes good short = rw (good, lt-ltb _ _ short) refl
-
 -- a setup within its limits and 32 bytes behind it are one record
-pub keyed_found : (s : Setup) (bytes : List ℕ) → is_setup s ≡ true → 32 ≤ length bytes → Some (SetUp (record s { master = take 32 bytes }), drop 32 bytes) ≡ keyed_at s bytes
+pub keyed_found : (s : Setup) (bytes : List ℕ) → is_setup s ≡ true → 32 ≤ length bytes →
+    Some (SetUp (record s { master = take 32 bytes }), drop 32 bytes) ≡ keyed_at s bytes
 unfolding keyed_at
 keyed_found s bytes good long = rw (good, le-ltb _ _ long) refl

@@ -31,7 +31,8 @@ IsBytes-from_all (b ∷ bytes) all (suc i) = IsBytes-from_all bytes (grind (arit
 -- ---- a setup
 
 keyed_takes : (s : Setup) (rest : List ℕ) (x : Record × List ℕ) → IsBytes rest → keyed_at s rest ≡ Some x
-    → (key : List ℕ) × (x.0 ≡ SetUp (record s { master = key })) × Takes rest key x.1 × (is_setup s ≡ true) × (is_master key ≡ true)
+    → (key : List ℕ) × (x.0 ≡ SetUp (record s { master = key })) × Takes rest key x.1 × (is_setup s ≡ true) ×
+    (is_master key ≡ true)
 unfolding keyed_at
 keyed_takes s rest x fits e =
     let made : Record × List ℕ = (SetUp (record s { master = take 32 rest }), drop 32 rest) in
@@ -39,58 +40,97 @@ keyed_takes s rest x fits e =
     let h = stopped (ltb (length rest) 32) (Some made) x g.1 in
     let long : 32 ≤ length rest = ltb-false _ _ h.0 in
     let len : length (take 32 rest) ≡ 32 = omega (arith, length-take 32 rest) in
-    let key : is_master (take 32 rest) ≡ true = grind (arith, nat_tests, len, IsBytes-all (take 32 rest) (IsBytes-take 32 rest fits)) in
-    let took : Takes rest (take 32 rest) (drop 32 rest) = record { parts = sym (take-append-drop 32 rest); rest_fits = IsBytes-drop 32 rest fits } in
-    subst (λ (y : Record × List ℕ). (key : List ℕ) × (y.0 ≡ SetUp (record s { master = key })) × Takes rest key y.1 × (is_setup s ≡ true) × (is_master key ≡ true))
+    let key : is_master (take 32 rest) ≡ true = grind
+    (arith, nat_tests, len, IsBytes-all (take 32 rest) (IsBytes-take 32 rest fits)) in
+    let took : Takes rest (take 32 rest) (drop 32 rest) =
+    record { parts = sym (take-append-drop 32 rest); rest_fits = IsBytes-drop 32 rest fits } in
+    subst (λ (y : Record × List ℕ). (key : List ℕ) × (y.0 ≡ SetUp (record s { master = key })) ×
+    Takes rest key y.1 × (is_setup s ≡ true) × (is_master key ≡ true))
     (some_is made x h.1) (take 32 rest, refl, took, g.0, key)
 
-setup_takes : (rest : List ℕ) (x : Record × List ℕ) → IsBytes rest → setup_at rest ≡ Some x → Found (1 ∷ rest) x
+setup_takes : (rest : List ℕ) (x : Record × List ℕ) → IsBytes rest → setup_at rest ≡ Some x →
+    Found (1 ∷ rest) x
 unfolding setup_at spelling
 setup_takes (n ∷ l ∷ b ∷ profile ∷ rounds ∷ picks ∷ low ∷ high ∷ rest) x fits e =
     let two : List ℕ = low ∷ high ∷ [] in
-    let s : Setup = record { n = n; l = l; b = b; profile = profile; rounds = rounds; picks = picks; tolerance = from_le_bytes w16 two; master = [] } in
+    let s : Setup = record {
+      n = n;
+      l = l;
+      b = b;
+      profile = profile;
+      rounds = rounds;
+      picks = picks;
+      tolerance = from_le_bytes w16 two;
+      master = [];
+    } in
     let inner : IsBytes rest = λ i. fits (suc (suc (suc (suc (suc (suc (suc (suc i)))))))) in
-    let two_fit : IsBytes two = IsBytes-take 2 (low ∷ high ∷ rest) (λ i. fits (suc (suc (suc (suc (suc (suc i))))))) in
+    let two_fit : IsBytes two = IsBytes-take 2 (low ∷ high ∷ rest)
+    (λ i. fits (suc (suc (suc (suc (suc (suc i))))))) in
     let k = keyed_takes s rest x inner e in
     let front : List ℕ = n ∷ l ∷ b ∷ profile ∷ rounds ∷ picks ∷ [] in
-    let parts : 1 ∷ n ∷ l ∷ b ∷ profile ∷ rounds ∷ picks ∷ low ∷ high ∷ rest ≡ spelling (SetUp (record s { master = k.0 })) ++ x.1 =
-    (λ i. 1 ∷ n ∷ l ∷ b ∷ profile ∷ rounds ∷ picks ∷ (sym (wide16.back two refl two_fit) i ++ k.2.parts i)) ∙ (λ i. 1 ∷ n ∷ l ∷ b ∷ profile ∷ rounds ∷ picks ∷ sym (append_assoc (to_le_bytes w16 (from_le_bytes w16 two)) k.0 x.1) i) in
-    let good : is_spelled (SetUp (record s { master = k.0 })) ≡ true = (λ i. k.3 i && k.4 i) in
-    (record { parts = parts ∙ ap (λ (r : Record). spelling r ++ x.1) (sym k.1); rest_fits = k.2.rest_fits }, ap is_spelled k.1 ∙ good)
+    let parts : 1 ∷ n ∷ l ∷ b ∷ profile ∷ rounds ∷ picks ∷ low ∷ high ∷ rest
+    ≡ spelling (SetUp (record s { master = k.0 })) ++ x.1 =
+    (λ i. 1 ∷ n ∷ l ∷ b ∷ profile ∷ rounds ∷ picks ∷ (sym (wide16.back two refl two_fit) i ++ k.2.parts i))
+    ∙ (λ i. 1 ∷ n ∷ l ∷ b ∷ profile ∷ rounds ∷ picks ∷ sym
+    (append_assoc (to_le_bytes w16 (from_le_bytes w16 two)) k.0 x.1) i) in
+    let good : is_spelled (SetUp (record s { master = k.0 })) ≡ true = (λ i. k.3 i && k.4 i) in (
+      record { parts = parts ∙ ap (λ (r : Record). spelling r ++ x.1) (sym k.1); rest_fits = k.2.rest_fits },
+      ap is_spelled k.1 ∙ good,
+    )
 setup_takes bytes x fits e = absurd cc
 
-setup_again : (s : Setup) (rest : List ℕ) → is_setup s ≡ true → is_master s.master ≡ true → setup_at (setup_bytes s ++ rest) ≡ Some (SetUp s, rest)
+setup_again : (s : Setup) (rest : List ℕ) → is_setup s ≡ true → is_master s.master ≡ true →
+    setup_at (setup_bytes s ++ rest) ≡ Some (SetUp s, rest)
 unfolding setup_at keyed_at
 setup_again s rest good key =
     let small : s.tolerance < 2 ^ 16 = grind (arith, nat_tests, good) in
     let len : length s.master ≡ 32 = grind (arith, nat_tests, key) in
-    let long : ltb (length (s.master ++ rest)) 32 ≡ false = le-ltb _ _ (omega (arith, length-append s.master rest)) in
-    rw (wide16.again s.tolerance small, good, long, take_at s.master rest 32 len, drop-front s.master rest 32 len) refl
+    let long : ltb (length (s.master ++ rest)) 32 ≡ false =
+    le-ltb _ _ (omega (arith, length-append s.master rest)) in
+    rw (
+      wide16.again s.tolerance small,
+      good,
+      long,
+      take_at s.master rest 32 len,
+      drop-front s.master rest 32 len,
+    ) refl
 
 -- ---- the others
 
-put_start_takes : (rest : List ℕ) (x : Record × List ℕ) → IsBytes rest → put_start_at rest ≡ Some x → Found (2 ∷ rest) x
+put_start_takes : (rest : List ℕ) (x : Record × List ℕ) → IsBytes rest → put_start_at rest ≡ Some x →
+    Found (2 ∷ rest) x
 unfolding put_start_at spelling
 put_start_takes rest x fits e =
-    let a = bind_some (number_at w64 rest) (λ id. name_at id.1 >>= λ name. Some (PutStart id.0 name.0, name.1)) x e in
+    let a = bind_some (number_at w64 rest)
+    (λ id. name_at id.1 >>= λ name. Some (PutStart id.0 name.0, name.1)) x e in
     let b = bind_some (name_at a.0.1) (λ name. Some (PutStart a.0.0 name.0, name.1)) x a.2 in
     let made : Record × List ℕ = (PutStart a.0.0 b.0.0, b.0.1) in
     let first = number_takes w64 (2 ^ 64) wide64 rest a.0 fits a.1 in
     let second = name_takes a.0.1 b.0 first.0.rest_fits b.1 in
     let both = Takes-then rest (to_le_bytes w64 a.0.0) a.0.1 (name_bytes b.0.0) b.0.1 first.0 second.0 in
-    subst (Found (2 ∷ rest)) (some_is made x b.2) (record { parts = ap (λ (l : List ℕ). 2 ∷ l) both.parts; rest_fits = both.rest_fits }, (λ i. lt-ltb _ _ first.1 i && second.1 i))
+    subst (Found (2 ∷ rest)) (some_is made x b.2) (
+      record { parts = ap (λ (l : List ℕ). 2 ∷ l) both.parts; rest_fits = both.rest_fits },
+      (λ i. lt-ltb _ _ first.1 i && second.1 i),
+    )
 
-put_done_takes : (rest : List ℕ) (x : Record × List ℕ) → IsBytes rest → put_done_at rest ≡ Some x → Found (3 ∷ rest) x
+put_done_takes : (rest : List ℕ) (x : Record × List ℕ) → IsBytes rest → put_done_at rest ≡ Some x →
+    Found (3 ∷ rest) x
 unfolding put_done_at spelling
 put_done_takes rest x fits e =
-    let a = bind_some (number_at w64 rest) (λ id. number_at w32 id.1 >>= λ len. cond (leb len.0 4194304) (Some (PutDone id.0 len.0, len.1)) None) x e in
-    let b = bind_some (number_at w32 a.0.1) (λ len. cond (leb len.0 4194304) (Some (PutDone a.0.0 len.0, len.1)) None) x a.2 in
+    let a = bind_some (number_at w64 rest)
+    (λ id. number_at w32 id.1 >>= λ len. cond (leb len.0 4194304) (Some (PutDone id.0 len.0, len.1)) None) x
+    e in
+    let b = bind_some (number_at w32 a.0.1)
+    (λ len. cond (leb len.0 4194304) (Some (PutDone a.0.0 len.0, len.1)) None) x a.2 in
     let made : Record × List ℕ = (PutDone a.0.0 b.0.0, b.0.1) in
     let g = passed (leb b.0.0 4194304) made x b.2 in
     let first = number_takes w64 (2 ^ 64) wide64 rest a.0 fits a.1 in
     let second = number_takes w32 (2 ^ 32) wide32 a.0.1 b.0 first.0.rest_fits b.1 in
     let both = Takes-then rest (to_le_bytes w64 a.0.0) a.0.1 (to_le_bytes w32 b.0.0) b.0.1 first.0 second.0 in
-    subst (Found (3 ∷ rest)) g.1 (record { parts = ap (λ (l : List ℕ). 3 ∷ l) both.parts; rest_fits = both.rest_fits }, (λ i. lt-ltb _ _ first.1 i && g.0 i))
+    subst (Found (3 ∷ rest)) g.1 (
+      record { parts = ap (λ (l : List ℕ). 3 ∷ l) both.parts; rest_fits = both.rest_fits },
+      (λ i. lt-ltb _ _ first.1 i && g.0 i),
+    )
 
 drop_takes : (rest : List ℕ) (x : Record × List ℕ) → IsBytes rest → drop_at rest ≡ Some x → Found (4 ∷ rest) x
 unfolding drop_at spelling
@@ -98,38 +138,56 @@ drop_takes rest x fits e =
     let a = bind_some (name_at rest) (λ name. Some (Drop name.0, name.1)) x e in
     let made : Record × List ℕ = (Drop a.0.0, a.0.1) in
     let first = name_takes rest a.0 fits a.1 in
-    subst (Found (4 ∷ rest)) (some_is made x a.2) (record { parts = ap (λ (l : List ℕ). 4 ∷ l) first.0.parts; rest_fits = first.0.rest_fits }, first.1)
+    subst (Found (4 ∷ rest)) (some_is made x a.2)
+    (record { parts = ap (λ (l : List ℕ). 4 ∷ l) first.0.parts; rest_fits = first.0.rest_fits }, first.1)
 
-audit_start_takes : (rest : List ℕ) (x : Record × List ℕ) → IsBytes rest → audit_start_at rest ≡ Some x → Found (5 ∷ rest) x
+audit_start_takes : (rest : List ℕ) (x : Record × List ℕ) → IsBytes rest → audit_start_at rest ≡ Some x →
+    Found (5 ∷ rest) x
 unfolding audit_start_at spelling
 audit_start_takes rest x fits e =
     let a = bind_some (number_at w64 rest) (λ number. Some (AuditStart number.0, number.1)) x e in
     let made : Record × List ℕ = (AuditStart a.0.0, a.0.1) in
     let first = number_takes w64 (2 ^ 64) wide64 rest a.0 fits a.1 in
-    subst (Found (5 ∷ rest)) (some_is made x a.2) (record { parts = ap (λ (l : List ℕ). 5 ∷ l) first.0.parts; rest_fits = first.0.rest_fits }, lt-ltb _ _ first.1)
+    subst (Found (5 ∷ rest)) (some_is made x a.2) (
+      record { parts = ap (λ (l : List ℕ). 5 ∷ l) first.0.parts; rest_fits = first.0.rest_fits },
+      lt-ltb _ _ first.1,
+    )
 
-audit_done_takes : (rest : List ℕ) (x : Record × List ℕ) → IsBytes rest → audit_done_at rest ≡ Some x → Found (6 ∷ rest) x
+audit_done_takes : (rest : List ℕ) (x : Record × List ℕ) → IsBytes rest → audit_done_at rest ≡ Some x →
+    Found (6 ∷ rest) x
 unfolding audit_done_at spelling
 audit_done_takes rest x fits e =
-    let a = bind_some (number_at w64 rest) (λ number. number_at w32 number.1 >>= λ undecided. counts_at undecided.1 >>= λ counts. Some (AuditDone number.0 undecided.0 counts.0, counts.1)) x e in
-    let b = bind_some (number_at w32 a.0.1) (λ undecided. counts_at undecided.1 >>= λ counts. Some (AuditDone a.0.0 undecided.0 counts.0, counts.1)) x a.2 in
+    let a = bind_some (number_at w64 rest)
+    (λ number. number_at w32 number.1 >>= λ undecided. counts_at undecided.1 >>= λ counts. Some
+    (AuditDone number.0 undecided.0 counts.0, counts.1)) x e in
+    let b = bind_some (number_at w32 a.0.1)
+    (λ undecided. counts_at undecided.1 >>= λ counts. Some (AuditDone a.0.0 undecided.0 counts.0, counts.1)) x
+    a.2 in
     let d = bind_some (counts_at b.0.1) (λ counts. Some (AuditDone a.0.0 b.0.0 counts.0, counts.1)) x b.2 in
     let made : Record × List ℕ = (AuditDone a.0.0 b.0.0 d.0.0, d.0.1) in
     let first = number_takes w64 (2 ^ 64) wide64 rest a.0 fits a.1 in
     let second = number_takes w32 (2 ^ 32) wide32 a.0.1 b.0 first.0.rest_fits b.1 in
     let third = counts_takes b.0.1 d.0 second.0.rest_fits d.1 in
-    let front = Takes-then rest (to_le_bytes w64 a.0.0) a.0.1 (to_le_bytes w32 b.0.0) b.0.1 first.0 second.0 in
-    let all = Takes-then rest (to_le_bytes w64 a.0.0 ++ to_le_bytes w32 b.0.0) b.0.1 (counts_bytes d.0.0) d.0.1 front third.0 in
-    let good : is_spelled (AuditDone a.0.0 b.0.0 d.0.0) ≡ true = grind (arith, lt-ltb _ _ first.1, lt-ltb _ _ second.1, third.1, third.2) in
-    subst (Found (6 ∷ rest)) (some_is made x d.2) (record { parts = ap (λ (l : List ℕ). 6 ∷ l) all.parts; rest_fits = all.rest_fits }, good)
+    let front = Takes-then rest (to_le_bytes w64 a.0.0) a.0.1
+    (to_le_bytes w32 b.0.0) b.0.1 first.0 second.0 in
+    let all = Takes-then rest (to_le_bytes w64 a.0.0 ++ to_le_bytes w32 b.0.0) b.0.1
+    (counts_bytes d.0.0) d.0.1 front third.0 in
+    let good : is_spelled (AuditDone a.0.0 b.0.0 d.0.0) ≡ true =
+    grind (arith, lt-ltb _ _ first.1, lt-ltb _ _ second.1, third.1, third.2) in
+    subst (Found (6 ∷ rest)) (some_is made x d.2)
+    (record { parts = ap (λ (l : List ℕ). 6 ∷ l) all.parts; rest_fits = all.rest_fits }, good)
 
-repair_done_takes : (rest : List ℕ) (x : Record × List ℕ) → IsBytes rest → repair_done_at rest ≡ Some x → Found (7 ∷ rest) x
+repair_done_takes : (rest : List ℕ) (x : Record × List ℕ) → IsBytes rest → repair_done_at rest ≡ Some x →
+    Found (7 ∷ rest) x
 unfolding repair_done_at spelling
 repair_done_takes rest x fits e =
     let a = bind_some (number_at w64 rest) (λ number. Some (RepairDone number.0, number.1)) x e in
     let made : Record × List ℕ = (RepairDone a.0.0, a.0.1) in
     let first = number_takes w64 (2 ^ 64) wide64 rest a.0 fits a.1 in
-    subst (Found (7 ∷ rest)) (some_is made x a.2) (record { parts = ap (λ (l : List ℕ). 7 ∷ l) first.0.parts; rest_fits = first.0.rest_fits }, lt-ltb _ _ first.1)
+    subst (Found (7 ∷ rest)) (some_is made x a.2) (
+      record { parts = ap (λ (l : List ℕ). 7 ∷ l) first.0.parts; rest_fits = first.0.rest_fits },
+      lt-ltb _ _ first.1,
+    )
 
 -- the bytes of an object's number, length and profile
 abbrev object_bytes : ℕ × ℕ × ℕ → List ℕ
@@ -138,30 +196,42 @@ object_bytes o = to_le_bytes w64 o.0 ++ to_le_bytes w32 o.1 ++ o.2 ∷ []
 abbrev is_object : ℕ × ℕ × ℕ → Bool
 is_object o = ltb o.0 (2 ^ 64) && leb o.1 4194304 && ltb o.2 5
 
-profile_takes : (bytes : List ℕ) (x : ℕ × List ℕ) → IsBytes bytes → profile_at bytes ≡ Some x → Takes bytes (x.0 ∷ []) x.1 × (ltb x.0 5 ≡ true)
+profile_takes : (bytes : List ℕ) (x : ℕ × List ℕ) → IsBytes bytes → profile_at bytes ≡ Some x →
+    Takes bytes (x.0 ∷ []) x.1 × (ltb x.0 5 ≡ true)
 unfolding profile_at
 profile_takes [] x fits e = absurd cc
 profile_takes (p ∷ rest) x fits e =
     let g = passed (ltb p 5) (p, rest) x e in
-    subst (λ (y : ℕ × List ℕ). Takes (p ∷ rest) (y.0 ∷ []) y.1 × (ltb y.0 5 ≡ true)) g.1 (record { parts = refl; rest_fits = IsBytes-rest p rest fits }, g.0)
+    subst (λ (y : ℕ × List ℕ). Takes (p ∷ rest) (y.0 ∷ []) y.1 × (ltb y.0 5 ≡ true)) g.1
+    (record { parts = refl; rest_fits = IsBytes-rest p rest fits }, g.0)
 
-object_takes : (bytes : List ℕ) (x : (ℕ × ℕ × ℕ) × List ℕ) → IsBytes bytes → object_at bytes ≡ Some x → Takes bytes (object_bytes x.0) x.1 × (is_object x.0 ≡ true)
+object_takes : (bytes : List ℕ) (x : (ℕ × ℕ × ℕ) × List ℕ) → IsBytes bytes → object_at bytes ≡ Some x →
+    Takes bytes (object_bytes x.0) x.1 × (is_object x.0 ≡ true)
 unfolding object_at
 object_takes bytes x fits e =
-    let a = bind_some (number_at w64 bytes) (λ id. number_at w32 id.1 >>= λ size. profile_at size.1 >>= λ profile. cond (leb size.0 4194304) (Some ((id.0, size.0, profile.0), profile.1)) None) x e in
-    let b = bind_some (number_at w32 a.0.1) (λ size. profile_at size.1 >>= λ profile. cond (leb size.0 4194304) (Some ((a.0.0, size.0, profile.0), profile.1)) None) x a.2 in
-    let d = bind_some (profile_at b.0.1) (λ profile. cond (leb b.0.0 4194304) (Some ((a.0.0, b.0.0, profile.0), profile.1)) None) x b.2 in
+    let a = bind_some (number_at w64 bytes)
+    (λ id. number_at w32 id.1 >>= λ size. profile_at size.1 >>= λ profile. cond (leb size.0 4194304)
+    (Some ((id.0, size.0, profile.0), profile.1)) None) x e in
+    let b = bind_some (number_at w32 a.0.1)
+    (λ size. profile_at size.1 >>= λ profile. cond (leb size.0 4194304)
+    (Some ((a.0.0, size.0, profile.0), profile.1)) None) x a.2 in
+    let d = bind_some (profile_at b.0.1)
+    (λ profile. cond (leb b.0.0 4194304) (Some ((a.0.0, b.0.0, profile.0), profile.1)) None) x b.2 in
     let made : (ℕ × ℕ × ℕ) × List ℕ = ((a.0.0, b.0.0, d.0.0), d.0.1) in
     let g = passed (leb b.0.0 4194304) made x d.2 in
     let first = number_takes w64 (2 ^ 64) wide64 bytes a.0 fits a.1 in
     let second = number_takes w32 (2 ^ 32) wide32 a.0.1 b.0 first.0.rest_fits b.1 in
     let third = profile_takes b.0.1 d.0 second.0.rest_fits d.1 in
-    let front = Takes-then bytes (to_le_bytes w64 a.0.0) a.0.1 (to_le_bytes w32 b.0.0) b.0.1 first.0 second.0 in
-    let all = Takes-then bytes (to_le_bytes w64 a.0.0 ++ to_le_bytes w32 b.0.0) b.0.1 (d.0.0 ∷ []) d.0.1 front third.0 in
+    let front = Takes-then bytes (to_le_bytes w64 a.0.0) a.0.1
+    (to_le_bytes w32 b.0.0) b.0.1 first.0 second.0 in
+    let all = Takes-then bytes (to_le_bytes w64 a.0.0 ++ to_le_bytes w32 b.0.0) b.0.1
+    (d.0.0 ∷ []) d.0.1 front third.0 in
     let good : is_object (a.0.0, b.0.0, d.0.0) ≡ true = grind (arith, lt-ltb _ _ first.1, g.0, third.1) in
-    subst (λ (y : (ℕ × ℕ × ℕ) × List ℕ). Takes bytes (object_bytes y.0) y.1 × (is_object y.0 ≡ true)) g.1 (all, good)
+    subst (λ (y : (ℕ × ℕ × ℕ) × List ℕ). Takes bytes (object_bytes y.0) y.1 × (is_object y.0 ≡ true)) g.1
+    (all, good)
 
-object_again : (id size profile : ℕ) (rest : List ℕ) → is_object (id, size, profile) ≡ true → object_at (object_bytes (id, size, profile) ++ rest) ≡ Some ((id, size, profile), rest)
+object_again : (id size profile : ℕ) (rest : List ℕ) → is_object (id, size, profile) ≡ true →
+    object_at (object_bytes (id, size, profile) ++ rest) ≡ Some ((id, size, profile), rest)
 unfolding object_at profile_at
 object_again id size profile rest good =
     let a = to_le_bytes w64 id in
@@ -169,97 +239,149 @@ object_again id size profile rest good =
     let id_fits : id < 2 ^ 64 = grind (arith, nat_tests, good) in
     let short : leb size 4194304 ≡ true = grind (arith, good) in
     let known : ltb profile 5 ≡ true = grind (arith, good) in
-    let regrouped : (a ++ b ++ profile ∷ []) ++ rest ≡ a ++ (b ++ (profile ∷ rest)) = append_assoc (a ++ b) (profile ∷ []) rest ∙ append_assoc a b (profile ∷ rest) in
-    ap (λ (l : List ℕ). object_at l) regrouped ∙ rw (number_again w64 (2 ^ 64) wide64 id (b ++ (profile ∷ rest)) id_fits, number_again w32 (2 ^ 32) wide32 size (profile ∷ rest) (omega (arith, leb-true _ _ short)), known, short) refl
+    let regrouped : (a ++ b ++ profile ∷ []) ++ rest ≡ a ++ (b ++ (profile ∷ rest)) =
+    append_assoc (a ++ b) (profile ∷ []) rest ∙ append_assoc a b (profile ∷ rest) in
+    ap (λ (l : List ℕ). object_at l) regrouped
+    ∙ rw (
+      number_again w64 (2 ^ 64) wide64 id (b ++ (profile ∷ rest)) id_fits,
+      number_again w32 (2 ^ 32) wide32 size (profile ∷ rest) (omega (arith, leb-true _ _ short)),
+      known,
+      short,
+    ) refl
 
-put_done_in_takes : (rest : List ℕ) (x : Record × List ℕ) → IsBytes rest → put_done_in_at rest ≡ Some x → Found (8 ∷ rest) x
+put_done_in_takes : (rest : List ℕ) (x : Record × List ℕ) → IsBytes rest → put_done_in_at rest ≡ Some x →
+    Found (8 ∷ rest) x
 unfolding put_done_in_at spelling
 put_done_in_takes rest x fits e =
     let a = bind_some (object_at rest) (λ o. Some (PutDoneIn o.0.0 o.0.1 o.0.2, o.1)) x e in
     let made : Record × List ℕ = (PutDoneIn a.0.0.0 a.0.0.1 a.0.0.2, a.0.1) in
     let first = object_takes rest a.0 fits a.1 in
-    subst (Found (8 ∷ rest)) (some_is made x a.2) (record { parts = ap (λ (l : List ℕ). 8 ∷ l) first.0.parts; rest_fits = first.0.rest_fits }, first.1)
+    subst (Found (8 ∷ rest)) (some_is made x a.2)
+    (record { parts = ap (λ (l : List ℕ). 8 ∷ l) first.0.parts; rest_fits = first.0.rest_fits }, first.1)
 
-version_takes : (rest : List ℕ) (x : Record × List ℕ) → IsBytes rest → version_at rest ≡ Some x → Found (9 ∷ rest) x
+version_takes : (rest : List ℕ) (x : Record × List ℕ) → IsBytes rest → version_at rest ≡ Some x →
+    Found (9 ∷ rest) x
 unfolding version_at spelling
 version_takes [] x fits e = absurd cc
 version_takes (v ∷ rest) x fits e =
     let made : Record × List ℕ = (Version, rest) in
     let g = passed (eqb v 2) made x e in
-    subst (Found (9 ∷ v ∷ rest)) g.1 (record { parts = ap (λ (n : ℕ). 9 ∷ n ∷ rest) (eqb-true v 2 g.0); rest_fits = IsBytes-rest v rest fits }, refl)
+    subst (Found (9 ∷ v ∷ rest)) g.1 (
+      record {
+        parts = ap (λ (n : ℕ). 9 ∷ n ∷ rest) (eqb-true v 2 g.0);
+        rest_fits = IsBytes-rest v rest fits;
+      },
+      refl,
+    )
 
-resume_takes : (rest : List ℕ) (x : Record × List ℕ) → IsBytes rest → resume_at rest ≡ Some x → Found (10 ∷ rest) x
+resume_takes : (rest : List ℕ) (x : Record × List ℕ) → IsBytes rest → resume_at rest ≡ Some x →
+    Found (10 ∷ rest) x
 unfolding resume_at spelling
 resume_takes rest x fits e =
-    let a = bind_some (number_at w64 rest) (λ id. number_at w64 id.1 >>= λ audit. Some (Resume id.0 audit.0, audit.1)) x e in
+    let a = bind_some (number_at w64 rest)
+    (λ id. number_at w64 id.1 >>= λ audit. Some (Resume id.0 audit.0, audit.1)) x e in
     let b = bind_some (number_at w64 a.0.1) (λ audit. Some (Resume a.0.0 audit.0, audit.1)) x a.2 in
     let made : Record × List ℕ = (Resume a.0.0 b.0.0, b.0.1) in
     let first = number_takes w64 (2 ^ 64) wide64 rest a.0 fits a.1 in
     let second = number_takes w64 (2 ^ 64) wide64 a.0.1 b.0 first.0.rest_fits b.1 in
     let both = Takes-then rest (to_le_bytes w64 a.0.0) a.0.1 (to_le_bytes w64 b.0.0) b.0.1 first.0 second.0 in
-    subst (Found (10 ∷ rest)) (some_is made x b.2) (record { parts = ap (λ (l : List ℕ). 10 ∷ l) both.parts; rest_fits = both.rest_fits }, (λ i. lt-ltb _ _ first.1 i && lt-ltb _ _ second.1 i))
+    subst (Found (10 ∷ rest)) (some_is made x b.2) (
+      record { parts = ap (λ (l : List ℕ). 10 ∷ l) both.parts; rest_fits = both.rest_fits },
+      (λ i. lt-ltb _ _ first.1 i && lt-ltb _ _ second.1 i),
+    )
 
-in_effect_takes : (rest : List ℕ) (x : Record × List ℕ) → IsBytes rest → in_effect_at rest ≡ Some x → Found (11 ∷ rest) x
+in_effect_takes : (rest : List ℕ) (x : Record × List ℕ) → IsBytes rest → in_effect_at rest ≡ Some x →
+    Found (11 ∷ rest) x
 unfolding in_effect_at spelling
 in_effect_takes rest x fits e =
-    let a = bind_some (object_at rest) (λ o. name_at o.1 >>= λ name. Some (InEffect o.0.0 o.0.1 o.0.2 name.0, name.1)) x e in
-    let b = bind_some (name_at a.0.1) (λ name. Some (InEffect a.0.0.0 a.0.0.1 a.0.0.2 name.0, name.1)) x a.2 in
+    let a = bind_some (object_at rest)
+    (λ o. name_at o.1 >>= λ name. Some (InEffect o.0.0 o.0.1 o.0.2 name.0, name.1)) x e in
+    let b = bind_some (name_at a.0.1) (λ name. Some (InEffect a.0.0.0 a.0.0.1 a.0.0.2 name.0, name.1)) x
+    a.2 in
     let made : Record × List ℕ = (InEffect a.0.0.0 a.0.0.1 a.0.0.2 b.0.0, b.0.1) in
     let first = object_takes rest a.0 fits a.1 in
     let second = name_takes a.0.1 b.0 first.0.rest_fits b.1 in
     let both = Takes-then rest (object_bytes a.0.0) a.0.1 (name_bytes b.0.0) b.0.1 first.0 second.0 in
-    let grouped : object_bytes a.0.0 ++ name_bytes b.0.0 ≡ to_le_bytes w64 a.0.0.0 ++ to_le_bytes w32 a.0.0.1 ++ a.0.0.2 ∷ name_bytes b.0.0 =
+    let grouped : object_bytes a.0.0 ++ name_bytes b.0.0
+    ≡ to_le_bytes w64 a.0.0.0 ++ to_le_bytes w32 a.0.0.1 ++ a.0.0.2 ∷ name_bytes b.0.0 =
     append_assoc (to_le_bytes w64 a.0.0.0 ++ to_le_bytes w32 a.0.0.1) (a.0.0.2 ∷ []) (name_bytes b.0.0) in
     let good : is_spelled (InEffect a.0.0.0 a.0.0.1 a.0.0.2 b.0.0) ≡ true = (λ i. first.1 i && second.1 i) in
-    subst (Found (11 ∷ rest)) (some_is made x b.2) (record { parts = ap (λ (l : List ℕ). 11 ∷ l) (both.parts ∙ ap (λ (l : List ℕ). l ++ b.0.1) grouped); rest_fits = both.rest_fits }, good)
+    subst (Found (11 ∷ rest)) (some_is made x b.2) (
+      record {
+        parts = ap (λ (l : List ℕ). 11 ∷ l) (both.parts ∙ ap (λ (l : List ℕ). l ++ b.0.1) grouped);
+        rest_fits = both.rest_fits;
+      },
+      good,
+    )
 
-repair_due_takes : (rest : List ℕ) (x : Record × List ℕ) → IsBytes rest → repair_due_at rest ≡ Some x → Found (12 ∷ rest) x
+repair_due_takes : (rest : List ℕ) (x : Record × List ℕ) → IsBytes rest → repair_due_at rest ≡ Some x →
+    Found (12 ∷ rest) x
 unfolding repair_due_at spelling
 repair_due_takes rest x fits e =
-    let a = bind_some (number_at w64 rest) (λ number. counts_at number.1 >>= λ counts. Some (RepairDue number.0 counts.0, counts.1)) x e in
+    let a = bind_some (number_at w64 rest)
+    (λ number. counts_at number.1 >>= λ counts. Some (RepairDue number.0 counts.0, counts.1)) x e in
     let b = bind_some (counts_at a.0.1) (λ counts. Some (RepairDue a.0.0 counts.0, counts.1)) x a.2 in
     let made : Record × List ℕ = (RepairDue a.0.0 b.0.0, b.0.1) in
     let first = number_takes w64 (2 ^ 64) wide64 rest a.0 fits a.1 in
     let second = counts_takes a.0.1 b.0 first.0.rest_fits b.1 in
     let both = Takes-then rest (to_le_bytes w64 a.0.0) a.0.1 (counts_bytes b.0.0) b.0.1 first.0 second.0 in
-    let good : is_spelled (RepairDue a.0.0 b.0.0) ≡ true = grind (arith, lt-ltb _ _ first.1, second.1, second.2) in
-    subst (Found (12 ∷ rest)) (some_is made x b.2) (record { parts = ap (λ (l : List ℕ). 12 ∷ l) both.parts; rest_fits = both.rest_fits }, good)
+    let good : is_spelled (RepairDue a.0.0 b.0.0) ≡ true =
+    grind (arith, lt-ltb _ _ first.1, second.1, second.2) in
+    subst (Found (12 ∷ rest)) (some_is made x b.2)
+    (record { parts = ap (λ (l : List ℕ). 12 ∷ l) both.parts; rest_fits = both.rest_fits }, good)
 
 -- one kind after the other
 of_kind : (kind k : ℕ) (rest : List ℕ) (found others : Option (Record × List ℕ)) (x : Record × List ℕ)
-    → (found ≡ Some x → Found (k ∷ rest) x) → (others ≡ Some x → Found (kind ∷ rest) x) → cond (eqb kind k) found others ≡ Some x → Found (kind ∷ rest) x
+    → (found ≡ Some x → Found (k ∷ rest) x) → (others ≡ Some x → Found (kind ∷ rest) x) →
+    cond (eqb kind k) found others ≡ Some x → Found (kind ∷ rest) x
 of_kind kind k rest found others x here on e =
-    ⊎_elim (λ p. subst (λ (j : ℕ). Found (j ∷ rest) x) (sym (eqb-true kind k p.0)) (here p.1)) (λ p. on p.1) (cond-cases (eqb kind k) found others (Some x) e)
+    ⊎_elim (λ p. subst (λ (j : ℕ). Found (j ∷ rest) x) (sym (eqb-true kind k p.0)) (here p.1)) (λ p. on p.1)
+    (cond-cases (eqb kind k) found others (Some x) e)
 
 -- a record of any kind that is read stands at the front, and has a spelling
-pub spelled_takes : (bytes : List ℕ) (x : Record × List ℕ) → IsBytes bytes → spelled_at bytes ≡ Some x → Takes bytes (spelling x.0) x.1 × (is_spelled x.0 ≡ true)
+pub spelled_takes : (bytes : List ℕ) (x : Record × List ℕ) → IsBytes bytes → spelled_at bytes ≡ Some x →
+    Takes bytes (spelling x.0) x.1 × (is_spelled x.0 ≡ true)
 unfolding spelled_at
 spelled_takes [] x fits e = absurd cc
 spelled_takes (kind ∷ rest) x fits e =
     let inner = IsBytes-rest kind rest fits in
-    of_kind kind 1 rest _ _ x (setup_takes rest x inner) (of_kind kind 2 rest _ _ x (put_start_takes rest x inner) (
-    of_kind kind 3 rest _ _ x (put_done_takes rest x inner) (of_kind kind 4 rest _ _ x (drop_takes rest x inner) (
-    of_kind kind 5 rest _ _ x (audit_start_takes rest x inner) (of_kind kind 6 rest _ _ x (audit_done_takes rest x inner) (
-    of_kind kind 7 rest _ _ x (repair_done_takes rest x inner) (of_kind kind 8 rest _ _ x (put_done_in_takes rest x inner) (
-    of_kind kind 9 rest _ _ x (version_takes rest x inner) (of_kind kind 10 rest _ _ x (resume_takes rest x inner) (
-    of_kind kind 11 rest _ _ x (in_effect_takes rest x inner) (of_kind kind 12 rest _ _ x (repair_due_takes rest x inner) (
+    of_kind kind 1 rest _ _ x (setup_takes rest x inner)
+    (of_kind kind 2 rest _ _ x (put_start_takes rest x inner) (
+    of_kind kind 3 rest _ _ x (put_done_takes rest x inner)
+    (of_kind kind 4 rest _ _ x (drop_takes rest x inner) (
+    of_kind kind 5 rest _ _ x (audit_start_takes rest x inner)
+    (of_kind kind 6 rest _ _ x (audit_done_takes rest x inner) (
+    of_kind kind 7 rest _ _ x (repair_done_takes rest x inner)
+    (of_kind kind 8 rest _ _ x (put_done_in_takes rest x inner) (
+    of_kind kind 9 rest _ _ x (version_takes rest x inner)
+    (of_kind kind 10 rest _ _ x (resume_takes rest x inner) (
+    of_kind kind 11 rest _ _ x (in_effect_takes rest x inner)
+    (of_kind kind 12 rest _ _ x (repair_due_takes rest x inner) (
     λ none. absurd (none_is x none))))))))))))) e
   where
     none_is : (y : Record × List ℕ) → None ≡ Some y → ⊥
     none_is y h = cc
 
 -- a record of any kind is read back from its spelling
-pub spelled_again : (r : Record) (rest : List ℕ) → is_spelled r ≡ true → spelled_at (spelling r ++ rest) ≡ Some (r, rest)
+pub spelled_again : (r : Record) (rest : List ℕ) → is_spelled r ≡ true →
+    spelled_at (spelling r ++ rest) ≡ Some (r, rest)
 unfolding spelled_at put_start_at put_done_at drop_at audit_start_at audit_done_at repair_done_at put_done_in_at version_at resume_at in_effect_at repair_due_at spelling
 spelled_again (SetUp s) rest fits = setup_again s rest (grind (arith, fits)) (grind (arith, fits))
 spelled_again (PutStart id name) rest fits =
     let id_fits : id < 2 ^ 64 = grind (arith, nat_tests, fits) in
     let good : is_name name ≡ true = grind (arith, fits) in
-    ap (λ (l : List ℕ). put_start_at l) (append_assoc (to_le_bytes w64 id) (name_bytes name) rest) ∙ rw (number_again w64 (2 ^ 64) wide64 id (name_bytes name ++ rest) id_fits, name_again name rest good) refl
+    ap (λ (l : List ℕ). put_start_at l) (append_assoc (to_le_bytes w64 id) (name_bytes name) rest)
+    ∙ rw (number_again w64 (2 ^ 64) wide64 id (name_bytes name ++ rest) id_fits, name_again name rest good)
+    refl
 spelled_again (PutDone id size) rest fits =
     let id_fits : id < 2 ^ 64 = grind (arith, nat_tests, fits) in
     let short : leb size 4194304 ≡ true = grind (arith, fits) in
-    ap (λ (l : List ℕ). put_done_at l) (append_assoc (to_le_bytes w64 id) (to_le_bytes w32 size) rest) ∙ rw (number_again w64 (2 ^ 64) wide64 id (to_le_bytes w32 size ++ rest) id_fits, number_again w32 (2 ^ 32) wide32 size rest (omega (arith, leb-true _ _ short)), short) refl
+    ap (λ (l : List ℕ). put_done_at l) (append_assoc (to_le_bytes w64 id) (to_le_bytes w32 size) rest)
+    ∙ rw (
+      number_again w64 (2 ^ 64) wide64 id (to_le_bytes w32 size ++ rest) id_fits,
+      number_again w32 (2 ^ 32) wide32 size rest (omega (arith, leb-true _ _ short)),
+      short,
+    ) refl
 spelled_again (Drop name) rest fits = rw (name_again name rest fits) refl
 spelled_again (AuditStart number) rest fits =
     let number_fits : number < 2 ^ 64 = grind (arith, nat_tests, fits) in
@@ -272,8 +394,14 @@ spelled_again (AuditDone number undecided counts) rest fits =
     let undecided_fits : undecided < 2 ^ 32 = grind (arith, nat_tests, fits) in
     let range : (leb 4 (length counts) && leb (length counts) 16) ≡ true = grind (arith, fits) in
     let each : list_all (λ k. ltb k (2 ^ 32)) counts ≡ true = grind (arith, fits) in
-    let regrouped : (a ++ b ++ d) ++ rest ≡ a ++ (b ++ (d ++ rest)) = append_assoc (a ++ b) d rest ∙ append_assoc a b (d ++ rest) in
-    ap (λ (l : List ℕ). audit_done_at l) regrouped ∙ rw (number_again w64 (2 ^ 64) wide64 number (b ++ (d ++ rest)) number_fits, number_again w32 (2 ^ 32) wide32 undecided (d ++ rest) undecided_fits, counts_again counts rest range each) refl
+    let regrouped : (a ++ b ++ d) ++ rest ≡ a ++ (b ++ (d ++ rest)) = append_assoc (a ++ b) d rest
+    ∙ append_assoc a b (d ++ rest) in
+    ap (λ (l : List ℕ). audit_done_at l) regrouped
+    ∙ rw (
+      number_again w64 (2 ^ 64) wide64 number (b ++ (d ++ rest)) number_fits,
+      number_again w32 (2 ^ 32) wide32 undecided (d ++ rest) undecided_fits,
+      counts_again counts rest range each,
+    ) refl
 spelled_again (RepairDone number) rest fits =
     let number_fits : number < 2 ^ 64 = grind (arith, nat_tests, fits) in
     rw (number_again w64 (2 ^ 64) wide64 number rest number_fits) refl
@@ -283,43 +411,59 @@ spelled_again (Resume id audit) rest fits =
     let id_fits : id < 2 ^ 64 = grind (arith, nat_tests, fits) in
     let audit_fits : audit < 2 ^ 64 = grind (arith, nat_tests, fits) in
     ap (λ (l : List ℕ). resume_at l) (append_assoc (to_le_bytes w64 id) (to_le_bytes w64 audit) rest)
-    ∙ rw (number_again w64 (2 ^ 64) wide64 id (to_le_bytes w64 audit ++ rest) id_fits, number_again w64 (2 ^ 64) wide64 audit rest audit_fits) refl
+    ∙ rw (
+      number_again w64 (2 ^ 64) wide64 id (to_le_bytes w64 audit ++ rest) id_fits,
+      number_again w64 (2 ^ 64) wide64 audit rest audit_fits,
+    ) refl
 spelled_again (InEffect id size profile name) rest fits =
     let a = to_le_bytes w64 id ++ to_le_bytes w32 size in
     let object : is_object (id, size, profile) ≡ true = grind (arith, fits) in
     let good : is_name name ≡ true = grind (arith, fits) in
-    let regrouped : (a ++ profile ∷ name_bytes name) ++ rest ≡ object_bytes (id, size, profile) ++ (name_bytes name ++ rest) =
-    append_assoc a (profile ∷ name_bytes name) rest ∙ sym (append_assoc a (profile ∷ []) (name_bytes name ++ rest)) in
-    ap (λ (l : List ℕ). in_effect_at l) regrouped ∙ rw (object_again id size profile (name_bytes name ++ rest) object, name_again name rest good) refl
+    let regrouped : (a ++ profile ∷ name_bytes name) ++ rest
+    ≡ object_bytes (id, size, profile) ++ (name_bytes name ++ rest) =
+    append_assoc a (profile ∷ name_bytes name) rest
+    ∙ sym (append_assoc a (profile ∷ []) (name_bytes name ++ rest)) in
+    ap (λ (l : List ℕ). in_effect_at l) regrouped
+    ∙ rw (object_again id size profile (name_bytes name ++ rest) object, name_again name rest good) refl
 spelled_again (RepairDue number counts) rest fits =
     let number_fits : number < 2 ^ 64 = grind (arith, nat_tests, fits) in
     let range : (leb 4 (length counts) && leb (length counts) 16) ≡ true = grind (arith, fits) in
     let each : list_all (λ k. ltb k (2 ^ 32)) counts ≡ true = grind (arith, fits) in
     ap (λ (l : List ℕ). repair_due_at l) (append_assoc (to_le_bytes w64 number) (counts_bytes counts) rest)
-    ∙ rw (number_again w64 (2 ^ 64) wide64 number (counts_bytes counts ++ rest) number_fits, counts_again counts rest range each) refl
+    ∙ rw (
+      number_again w64 (2 ^ 64) wide64 number (counts_bytes counts ++ rest) number_fits,
+      counts_again counts rest range each,
+    ) refl
 
 -- and where a journal may hold the kind
 
 -- a record that is read stands at the front, and is one of the grammar
-pub record_takes : (bytes : List ℕ) (x : Record × List ℕ) → IsBytes bytes → record_at bytes ≡ Some x → Takes bytes (spelling x.0) x.1 × (is_in_grammar x.0 ≡ true)
+pub record_takes : (bytes : List ℕ) (x : Record × List ℕ) → IsBytes bytes → record_at bytes ≡ Some x →
+    Takes bytes (spelling x.0) x.1 × (is_in_grammar x.0 ≡ true)
 unfolding record_at
 record_takes bytes x fits e =
     let a = bind_some (spelled_at bytes) (λ y. cond (is_held y.0) (Some y) None) x e in
     let g = passed (is_held a.0.0) a.0 x a.2 in
     let took = spelled_takes bytes a.0 fits a.1 in
-    subst (λ (y : Record × List ℕ). Takes bytes (spelling y.0) y.1 × (is_in_grammar y.0 ≡ true)) g.1 (took.0, grammar-from a.0.0 g.0 took.1)
+    subst (λ (y : Record × List ℕ). Takes bytes (spelling y.0) y.1 × (is_in_grammar y.0 ≡ true)) g.1
+    (took.0, grammar-from a.0.0 g.0 took.1)
 
 -- a record of the grammar is read back from its spelling
-pub record_again : (r : Record) (rest : List ℕ) → is_in_grammar r ≡ true → record_at (spelling r ++ rest) ≡ Some (r, rest)
+pub record_again : (r : Record) (rest : List ℕ) → is_in_grammar r ≡ true →
+    record_at (spelling r ++ rest) ≡ Some (r, rest)
 unfolding record_at
 record_again r rest fits = rw (spelled_again r rest (grammar-spelled r fits), grammar-held r fits) refl
 
 -- no spelling begins another
-pub one_spelled : (a b : Record) (x y : List ℕ) → is_spelled a ≡ true → is_spelled b ≡ true → spelling a ++ x ≡ spelling b ++ y → (a ≡ b) × (x ≡ y)
+pub one_spelled : (a b : Record) (x y : List ℕ) → is_spelled a ≡ true → is_spelled b ≡ true →
+    spelling a ++ x ≡ spelling b ++ y → (a ≡ b) × (x ≡ y)
 one_spelled a b x y fits_a fits_b e =
-    let same = some_is (a, x) (b, y) (sym (spelled_again a x fits_a) ∙ ap spelled_at e ∙ spelled_again b y fits_b) in
+    let same = some_is (a, x) (b, y) (sym (spelled_again a x fits_a) ∙ ap spelled_at e
+    ∙ spelled_again b y fits_b) in
     (ap (λ (p : Record × List ℕ). p.0) same, ap (λ (p : Record × List ℕ). p.1) same)
 
 -- no spelling is a front of another
-pub one_front : (a b : Record) (x y : List ℕ) → is_in_grammar a ≡ true → is_in_grammar b ≡ true → spelling a ++ x ≡ spelling b ++ y → (a ≡ b) × (x ≡ y)
-one_front a b x y fits_a fits_b e = one_spelled a b x y (grammar-spelled a fits_a) (grammar-spelled b fits_b) e
+pub one_front : (a b : Record) (x y : List ℕ) → is_in_grammar a ≡ true → is_in_grammar b ≡ true →
+    spelling a ++ x ≡ spelling b ++ y → (a ≡ b) × (x ≡ y)
+one_front a b x y fits_a fits_b e =
+    one_spelled a b x y (grammar-spelled a fits_a) (grammar-spelled b fits_b) e

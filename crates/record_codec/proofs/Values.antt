@@ -13,7 +13,15 @@ padded ks = record { n = length ks; by = ks ++ replicate (16 - length ks) 0 }
 
 abbrev value_of : Entry → Record
 value_of (SetUp s) =
-    kind.Setup (record { n = s.n; l = s.l; b = s.b; profile = s.profile; rounds = s.rounds; picks = s.picks; tolerance = s.tolerance }) s.master
+    kind.Setup (record {
+      n = s.n;
+      l = s.l;
+      b = s.b;
+      profile = s.profile;
+      rounds = s.rounds;
+      picks = s.picks;
+      tolerance = s.tolerance;
+    }) s.master
 value_of (PutStart id name) = kind.PutStart id name
 value_of (PutDone id size) = kind.PutDone id size
 value_of (Drop name) = kind.Drop name
@@ -28,9 +36,11 @@ value_of (RepairDue number counts) = kind.Due number (padded counts)
 
 padded-counted : (counts : Counts) → IsPadded counts → padded (counted counts) ≡ counts
 padded-counted counts is =
-    let len : length (take counts.n counts.by) ≡ counts.n = omega (arith, length-take counts.n counts.by, is.room, is.at_most) in
+    let len : length (take counts.n counts.by) ≡ counts.n =
+    omega (arith, length-take counts.n counts.by, is.room, is.at_most) in
     let all : counted counts ++ replicate (16 - length (counted counts)) 0 ≡ counts.by =
-    ap (λ (k : ℕ). counted counts ++ replicate (16 - k) 0) len ∙ ap (λ (l : List ℕ). counted counts ++ l) (sym is.zeros) ∙ take-append-drop counts.n counts.by in
+    ap (λ (k : ℕ). counted counts ++ replicate (16 - k) 0) len
+    ∙ ap (λ (l : List ℕ). counted counts ++ l) (sym is.zeros) ∙ take-append-drop counts.n counts.by in
     (λ i. record { n = len i; by = all i })
 
 again : (r : Record) → IsInGrammar r → value_of (entry_of r) ≡ r
@@ -39,7 +49,8 @@ again (kind.PutStart id name) is = refl
 again (kind.PutDone id size) is = refl
 again (kind.Drop name) is = refl
 again (kind.AuditStart number) is = refl
-again (kind.AuditDone number undecided counts) is = ap (λ (ks : Counts). kind.AuditDone number undecided ks) (padded-counted counts is.padded)
+again (kind.AuditDone number undecided counts) is =
+    ap (λ (ks : Counts). kind.AuditDone number undecided ks) (padded-counted counts is.padded)
 again (kind.RepairDone number) is = refl
 again (kind.PutDoneIn id length profile) is = refl
 again kind.Version is = refl
@@ -52,18 +63,22 @@ pub one_value : (r s : Record) → IsInGrammar r → IsInGrammar s → entry_of 
 one_value r s is_r is_s e = sym (again r is_r) ∙ ap value_of e ∙ again s is_s
 
 -- the size of the end of an audit follows from how many counts it has
-pub size_of_counts : (r : Record) (number undecided : ℕ) (counts : Counts) → r ≡ kind.AuditDone number undecided counts → HasSpelling r → 14 + 4 * counts.n ≡ record_size (entry_of r)
+pub size_of_counts : (r : Record) (number undecided : ℕ) (counts : Counts) →
+    r ≡ kind.AuditDone number undecided counts → HasSpelling r → 14 + 4 * counts.n ≡ record_size (entry_of r)
 size_of_counts r number undecided counts is good =
     let p : IsPadded counts = subst HasPadding is good.padded in
-    let len : length (take counts.n counts.by) ≡ counts.n = omega (arith, length-take counts.n counts.by, p.room, p.at_most) in
+    let len : length (take counts.n counts.by) ≡ counts.n =
+    omega (arith, length-take counts.n counts.by, p.room, p.at_most) in
     let size : 14 + 4 * counts.n ≡ 14 + 4 * length (take counts.n counts.by) = omega (arith, len) in
     size ∙ ap (λ (x : Record). record_size (entry_of x)) (sym is)
 
 -- so does that of a due audit
-pub size_of_due : (r : Record) (number : ℕ) (counts : Counts) → r ≡ kind.Due number counts → HasSpelling r → 10 + 4 * counts.n ≡ record_size (entry_of r)
+pub size_of_due : (r : Record) (number : ℕ) (counts : Counts) → r ≡ kind.Due number counts → HasSpelling r →
+    10 + 4 * counts.n ≡ record_size (entry_of r)
 size_of_due r number counts is good =
     let p : IsPadded counts = subst HasPadding is good.padded in
-    let len : length (take counts.n counts.by) ≡ counts.n = omega (arith, length-take counts.n counts.by, p.room, p.at_most) in
+    let len : length (take counts.n counts.by) ≡ counts.n =
+    omega (arith, length-take counts.n counts.by, p.room, p.at_most) in
     let size : 10 + 4 * counts.n ≡ 10 + 4 * length (take counts.n counts.by) = omega (arith, len) in
     size ∙ ap (λ (x : Record). record_size (entry_of x)) (sym is)
 

@@ -5,7 +5,8 @@ ghost use Rattle.record_defs.specs.Spellings.{Spells};
 ghost use Rattle.record_codec.specs.declared.records.Record.{Record as RecordValue};
 ghost use Rattle.record_codec.specs.Entries.{entry_of, IsInGrammar};
 
-/// A record has one spelling, and no spelling begins another: what is read from the front of bytes is determined.
+/// A record has one spelling, and no spelling begins another: what is read from the front of bytes is
+/// determined.
 pub fn one_spelling()
     ensures { (a b : Entry) (front other x y : List ℕ) → Spells front a → Spells other b
         → front ++ x ≡ other ++ y → (a ≡ b) × (front ≡ other) × (x ≡ y) }

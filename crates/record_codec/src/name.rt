@@ -4,7 +4,8 @@ ghost use Rattle.record_defs.specs.Records.{is_name_byte, is_name};
 
 use std::marker::Model;
 
-/// A name: 1 to 64 bytes, each `A` to `Z`, `a` to `z`, `0` to `9`, `.`, `_` or `-`. The unused bytes are zero.
+/// A name: 1 to 64 bytes, each `A` to `Z`, `a` to `z`, `0` to `9`, `.`, `_` or `-`. The unused bytes are
+/// zero.
 #[derive(Clone, Copy, Debug, PartialEq, Eq)]
 pub struct Name {
     bytes: [u8; 64],

@@ -16,7 +16,8 @@ const LARGEST_FILE: u32 = 1 << 22;
 
 const PROFILES: u8 = 5;
 
-/// Whether a journal may hold the kinds of its second version: off until journals of that version are written.
+/// Whether a journal may hold the kinds of its second version: off until journals of that version are
+/// written.
 const HOLDS_SECOND_VERSION: bool = false;
 
 fn u32_at(bytes: &[u8]) -> Option<(u32, &[u8])>
@@ -334,8 +335,8 @@ fn spelled_of(bytes: &[u8]) -> Option<(Record, &[u8])>
     }
 }
 
-/// The record of any kind at the front of the bytes, also one of a kind that no journal holds, and how many bytes it takes;
-/// None exactly where no record is spelled there.
+/// The record of any kind at the front of the bytes, also one of a kind that no journal holds, and how many
+/// bytes it takes; None exactly where no record is spelled there.
 pub fn read_spelled(bytes: &[u8]) -> Option<(Record, usize)>
     ensures size { IfSome result (λ x. x.1 ≤ length bytes.now) }
     ensures found { IfSome result (λ x. take x.1 bytes.now ≡ spelling (entry_of x.0)) }
@@ -364,8 +365,8 @@ impl Record {
         }
     }
 
-    /// The record at the front of the bytes, and how many bytes it takes; None exactly where none stands there that a
-    /// journal may hold. Bytes may be any, and what stands behind the record does not count.
+    /// The record at the front of the bytes, and how many bytes it takes; None exactly where none stands
+    /// there that a journal may hold. Bytes may be any, and what stands behind the record does not count.
     pub fn read(bytes: &[u8]) -> Option<(Record, usize)>
         ensures size { IfSome result (λ x. x.1 ≤ length bytes.now) }
         ensures found { IfSome result (λ x. Spells (take x.1 bytes.now) (entry_of x.0)) }

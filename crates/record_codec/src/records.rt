@@ -2,7 +2,8 @@ use crate::counts::Counts;
 use crate::name::Name;
 use crate::setup::Setup;
 
-/// A record of the journal. Lengths are bytes of a file; ids number puts, and numbers count audits, both from 1 on.
+/// A record of the journal. Lengths are bytes of a file; ids number puts, and numbers count audits, both from
+/// 1 on.
 #[derive(Clone, Copy)]
 pub enum Record {
     /// What the store is set up with, and its master key.
@@ -38,7 +39,8 @@ pub enum Record {
     RepairDone {
         number: u64,
     },
-    /// All blocks of a put are stored, with this profile: its file is in effect. Of the journal's second version.
+    /// All blocks of a put are stored, with this profile: its file is in effect. Of the journal's second
+    /// version.
     PutDoneIn {
         id: u64,
         length: u32,

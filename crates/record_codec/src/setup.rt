@@ -3,8 +3,9 @@ ghost use Rattle.record_defs.specs.Records.{is_setup};
 ghost use Rattle.record_codec.specs.Entries.{with_master};
 ghost use Rattle.record_codec.specs.Limits.{are_providers, is_audit};
 
-/// The numbers of a store: `n` providers, `l` of them primary, at most `b` of them bad at a time; the profile of the code
-/// within a provider; rounds of an audit for each file, picks of a round, and how many wrong rounds an audit tolerates.
+/// The numbers of a store: `n` providers, `l` of them primary, at most `b` of them bad at a time; the profile
+/// of the code within a provider; rounds of an audit for each file, picks of a round, and how many wrong
+/// rounds an audit tolerates.
 #[derive(Clone, Copy, Debug, PartialEq, Eq)]
 pub struct Setup {
     pub n: u8,

@@ -108,8 +108,8 @@ fn put_audit_done(out: &mut [u8], number: u64, undecided: u32, counts: &Counts) 
 }
 
 impl Record {
-    /// Writes the record's bytes to the front of `out`, and answers how many they are. What stands behind them is not
-    /// promised. Condition: each field is within its limits.
+    /// Writes the record's bytes to the front of `out`, and answers how many they are. What stands behind
+    /// them is not promised. Condition: each field is within its limits.
     #[tactic(auto, unfolding(record_defs::specs::Spellings::spelling))]
     pub fn write(&self, out: &mut [u8; 80]) -> usize
         requires { HasSpelling self.now }

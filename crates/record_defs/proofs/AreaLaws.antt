@@ -15,19 +15,6 @@ before_gate-entries [] = refl
 before_gate-entries (r ∷ rs) =
     ap (λ l. l ++ 1 ∷ spelling r) (before_gate-entries rs) ∙ append_assoc magic (entries rs) (1 ∷ spelling r)
 
-length-entries : (rs : List Record) → IsTrue (list_all is_in_grammar rs) →
-    length (entries rs) ≡ entries_size rs
-length-entries [] p = refl
-length-entries (r ∷ rs) p =
-    let first : IsTrue (is_in_grammar r) = grind (arith, p) in
-    let others : IsTrue (list_all is_in_grammar rs) = grind (arith, p) in
-    omega (
-      arith,
-      length-append (entries rs) (1 ∷ spelling r),
-      length-spelling r first,
-      length-entries rs others,
-    )
-
 -- the text's size in area A is that of the one area of before
 pub text_size-end : (rs : List Record) → end_in A rs ≡ text_size rs
 text_size-end [] = refl

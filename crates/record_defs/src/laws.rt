@@ -32,7 +32,8 @@ pub fn files_are_in_effect()
     ensures { (rs : List Record) (name : List ℕ) → find_file (files_of rs) name ≡ file_of rs name }
 {}
 
-/// The list of files in effect ascends strictly in the byte order of the names, so no name stands in it twice.
+/// The list of files in effect ascends strictly in the byte order of the names, so no name stands in it
+/// twice.
 pub fn files_are_ordered()
     ensures { (rs : List Record) → IsTrue (are_ordered (files_of rs)) }
 {}
@@ -54,8 +55,8 @@ pub fn audited_records_are_accepted()
     ensures accepted { AreAccepted audited }
 {}
 
-/// The records of a packed journal are accepted, one after the other, and their table is alike to that of the accepted records of the
-/// second version that were packed. In it no put is started and no audit runs.
+/// The records of a packed journal are accepted, one after the other, and their table is alike to that of the
+/// accepted records of the second version that were packed. In it no put is started and no audit runs.
 pub fn packed_journals_are_alike()
     ensures accepted { (rs : List Record) (s : Setup) → AreAccepted rs → setup_of rs ≡ Some s
         → version_of rs ≡ 2 → AreAccepted (packed rs) }
@@ -65,7 +66,8 @@ pub fn packed_journals_are_alike()
     ensures idle { (rs : List Record) → running_audit (packed rs) ≡ None }
 {}
 
-/// A journal of before stands for the same records in area A, and one in area A whose switch byte is the digit 1 is a journal of before.
+/// A journal of before stands for the same records in area A, and one in area A whose switch byte is the
+/// digit 1 is a journal of before.
 pub fn journals_of_before_stay()
     ensures active { (bytes : List ℕ) (rs : List Record) → StandsFor bytes rs → StandsActive bytes A rs }
     ensures before { (bytes : List ℕ) (rs : List Record) → take 8 bytes ≡ magic → HoldsIn bytes A rs
@@ -73,7 +75,8 @@ pub fn journals_of_before_stay()
     ensures end { (rs : List Record) → end_in A rs ≡ text_size rs }
 {}
 
-/// While both areas hold a text, a disk stands for the records of the one or for those of the other, whatever its switch byte.
+/// While both areas hold a text, a disk stands for the records of the one or for those of the other, whatever
+/// its switch byte.
 pub fn either_area_is_active()
     ensures { (area : Area) (rs qs : List Record) (a b : List ℕ) (switch : ℕ) → HoldsIn a area rs
         → HoldsIn a (other_area area) qs →
@@ -81,7 +84,8 @@ pub fn either_area_is_active()
         → StandsActive b area rs ⊎ StandsActive b (other_area area) qs }
 {}
 
-/// An instance: a store with a file and a due repair, whose journal then has its second version, and its packed journal.
+/// An instance: a store with a file and a due repair, whose journal then has its second version, and its
+/// packed journal.
 pub fn raised_records_are_packed()
     ensures accepted { AreAccepted raised }
     ensures setup { setup_of raised ≡ Some four }
@@ -90,8 +94,8 @@ pub fn raised_records_are_packed()
     ensures alike { AreAlike (packed raised) raised }
 {}
 
-/// An instance: the text of a store that was set up is a journal of before, also behind which a filling and the text of no record stand;
-/// with that filling both areas hold a text, and the first of them is active.
+/// An instance: the text of a store that was set up is a journal of before, also behind which a filling and
+/// the text of no record stand; with that filling both areas hold a text, and the first of them is active.
 pub fn two_areas_hold_texts()
     ensures before { StandsFor (text four_set_up) four_set_up }
     ensures first { take 8 (text four_set_up) ≡ magic }

@@ -70,7 +70,8 @@ module _ (o : Object) (bytes : List ℕ) where
         by_row one = elim (same_or_other (values_at (upto o.shape.l) one.row)
             (primary_row o (symbols_in o bytes stripe) place)) [
               | inl same ↦ inl (λ j l.
-                  get_or_from_slice_get symbols (j * o.profile.keep + place) (value one.row j) 0 (one.values j l)
+                  get_or_from_slice_get symbols (j * o.profile.keep + place) (value one.row j) 0
+                  (one.values j l)
                   ∙ map-range_at (value one.row)
                   (λ k. slice_index (codeword o.profile (kept_by o (symbols_in o bytes stripe) k)) place) 0
                   o.shape.l same j (omega arith) (omega (arith, l))

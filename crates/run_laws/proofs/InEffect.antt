@@ -254,7 +254,8 @@ module _ (limit : ℕ) (start : State) (m : Moment) (ms : List Moment) (N : num.
       by_jobs js (Jobs_are.same e) g = F.spelled k j (ap (λ l. job_of l k) (sym e) ∙ g)
       by_jobs js (Jobs_are.went_on x y runs number kind e) g =
           elim (found_with (now start ms).jobs y k j (ap (λ l. job_of l k) (sym e) ∙ g)) [
-            | inl p ↦ subst IsSpelledKind (sym (ap (λ (z : Job). z.kind) p.1 ∙ kind)) (F.spelled x.number x runs)
+            | inl p ↦ subst IsSpelledKind (sym (ap (λ (z : Job). z.kind) p.1 ∙ kind))
+                (F.spelled x.number x runs)
             | inr q ↦ F.spelled k j q.1
           ]
       by_jobs js (Jobs_are.ended n e) g =

@@ -24,8 +24,8 @@ pub fn symbols_give_bytes_back()
         (upto (stripes o (length bytes)))) ≡ bytes }
 {}
 
-/// A setup in effect is in the grammar of records: each of its numbers is within its limits and its master key has 32 bytes, so its
-/// providers are a shape.
+/// A setup in effect is in the grammar of records: each of its numbers is within its limits and its master
+/// key has 32 bytes, so its providers are a shape.
 pub fn setup_in_effect_is_valid()
     ensures grammar { (limit : ℕ) (start : State) (ms : List Moment) (s : Setup) → IsStart start
         → IsRun limit start ms →
@@ -53,8 +53,8 @@ pub fn opened_file_is_right_or_forged()
         (got ≡ bytes) ⊎ ((stripe : ℕ) × (place : ℕ) × IsForgery o bytes seen stripe place) }
 {}
 
-/// A get that ended with bytes gave those that were in effect under its name at its begin, or what it fetched holds a forgery
-/// against them.
+/// A get that ended with bytes gave those that were in effect under its name at its begin, or what it fetched
+/// holds a forgery against them.
 pub fn got_bytes_are_right()
     ensures { (limit : ℕ) (start : State) (m : Moment) (ms : List Moment) (job : Job) (name bytes : List ℕ)
         → IsStart start →
@@ -62,13 +62,14 @@ pub fn got_bytes_are_right()
         → IsRightGet (now start (first_moments job.begun ms)) job name bytes }
 {}
 
-/// The first half of the main theorem: in every run, calm or not, every get that ended with bytes gave those that were in effect under
-/// its name at its begin, or what it fetched holds a forgery against them.
+/// The first half of the main theorem: in every run, calm or not, every get that ended with bytes gave those
+/// that were in effect under its name at its begin, or what it fetched holds a forgery against them.
 pub fn first_half()
     ensures { FirstHalfHolds }
 {}
 
-/// From the end of a put that ended well on, what each state keeps of its object number are the bytes of that put.
+/// From the end of a put that ended well on, what each state keeps of its object number are the bytes of that
+/// put.
 pub fn put_bytes_stay()
     ensures { (limit : ℕ) (start : State) (later ms : List Moment) (m : Moment) (job : Job)
         (name bytes : List ℕ) → IsStart start →
@@ -76,8 +77,8 @@ pub fn put_bytes_stay()
         (now start (later ++ m ∷ ms)).bytes job.subject ≡ bytes }
 {}
 
-/// A get that ended with bytes, and at whose begin the file in effect under its name was that of a put that had ended well, gave the
-/// bytes of that put, or what it fetched holds a forgery against them.
+/// A get that ended with bytes, and at whose begin the file in effect under its name was that of a put that
+/// had ended well, gave the bytes of that put, or what it fetched holds a forgery against them.
 pub fn put_bytes_are_got()
     ensures { (limit : ℕ) (start : State) (m p : Moment) (ms later before : List Moment) (put get : Job)
         (name bytes got : List ℕ)

@@ -27,9 +27,9 @@ use hail_client::laws::a_fresh_disk_has_a_start;
 use machine_defs::laws::acknowledged_files_survive;
 use state_laws::laws::runs_are_sound;
 
-/// Each run whose journal has its first version has left devices that tell: those of its last state. So have the run of no event, over a disk
-/// before its first use, and the runs given outright: one with damage, an audit that finds it and a repair; one with calls of every device
-/// that fail, and a stop.
+/// Each run whose journal has its first version has left devices that tell: those of its last state. So have
+/// the run of no event, over a disk before its first use, and the runs given outright: one with damage, an
+/// audit that finds it and a repair; one with calls of every device that fail, and a stop.
 pub fn runs_leave_devices()
     ensures each { (start : State) (ms : List Moment) → IsStart start → IsRun 8 start ms
         → version_of (now start ms).records ≡ 1 → AreLeft start ms (devices_left (now start ms)) }
@@ -42,8 +42,9 @@ pub fn runs_leave_devices()
     a_fresh_disk_has_a_start();
 }
 
-/// A schedule as text, with lost blocks, an audit, a repair, a stop and gets: the commands that it spells are carried out by a run, and the
-/// get behind the stop gives the file, though a provider has lost its block. Another text has a line outside the grammar.
+/// A schedule as text, with lost blocks, an audit, a repair, a stop and gets: the commands that it spells are
+/// carried out by a run, and the get behind the stop gives the file, though a provider has lost its block.
+/// Another text has a line outside the grammar.
 pub fn a_schedule_has_its_run()
     ensures spells { IsSchedule stopped_text (reverse stopped_schedule) }
     ensures fits { AllByRecursion CanBeSpelled (reverse stopped_schedule) }
@@ -58,7 +59,8 @@ pub fn a_schedule_has_its_run()
     acknowledged_files_survive();
 }
 
-/// So a replay or a trial over the devices that a run has left does nothing, or goes on with that very run, and the headline holds of the whole.
+/// So a replay or a trial over the devices that a run has left does nothing, or goes on with that very run,
+/// and the headline holds of the whole.
 pub fn commands_go_on_with_them()
     ensures each { (start : State) (ms : List Moment) (old new : Seen) (end : Ending) → IsStart start
         → IsRun 8 start ms → version_of (now start ms).records ≡ 1 →

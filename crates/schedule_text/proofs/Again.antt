@@ -14,7 +14,8 @@ use Rattle.schedule_text.proofs.Fields.{numeral-again, number-again, bytes-again
 use Rattle.schedule_text.proofs.Forms.{behind-takes}
 
 -- a line that is not skipped, by its first word
-line-again : (first : Word) (ws : List Word) (command : Instruction) → (slice_index first 0 == 35) ≡ false → behind_at first ws ≡ Some command
+line-again : (first : Word) (ws : List Word) (command : Instruction) → (slice_index first 0 == 35) ≡ false →
+    behind_at first ws ≡ Some command
     → line_at (first ∷ ws) ≡ Some (Some command)
 unfolding line_at
 line-again first ws command other read = rw (other, read) refl
@@ -22,8 +23,10 @@ line-again first ws command other read = rw (other, read) refl
 -- the seven numbers and the key behind `init`
 init_behind-again : (n l b profile rounds picks tolerance key : Word) (setup : Setup)
     → IsNumber 8 n setup.n → IsNumber 8 l setup.l → IsNumber 8 b setup.b → IsNumber 8 profile setup.profile
-    → IsNumber 8 rounds setup.rounds → IsNumber 8 picks setup.picks → IsNumber 16 tolerance setup.tolerance → IsKey key setup.master
-    → behind_at (codes "init") (n ∷ l ∷ b ∷ profile ∷ rounds ∷ picks ∷ tolerance ∷ key ∷ []) ≡ Some (Once (Init setup))
+    → IsNumber 8 rounds setup.rounds → IsNumber 8 picks setup.picks → IsNumber 16 tolerance setup.tolerance →
+    IsKey key setup.master
+    → behind_at (codes "init") (n ∷ l ∷ b ∷ profile ∷ rounds ∷ picks ∷ tolerance ∷ key ∷ [])
+    ≡ Some (Once (Init setup))
 unfolding behind_at init_at setup_words_at
 init_behind-again n l b profile rounds picks tolerance key setup is_n is_l is_b is_profile is_rounds is_picks is_tolerance is_key =
     rw (
@@ -37,37 +40,51 @@ init_behind-again n l b profile rounds picks tolerance key setup is_n is_l is_b 
       key-again key [] setup.master is_key,
     ) refl
 
-init-again : (ws : List Word) (setup : Setup) → SpellsInit ws setup → line_at ws ≡ Some (Some (Once (Init setup)))
+init-again : (ws : List Word) (setup : Setup) → SpellsInit ws setup →
+    line_at ws ≡ Some (Some (Once (Init setup)))
 init-again ws setup is =
     ap (λ (t : List Word). line_at t) is.8
-    ∙ line-again (codes "init") (is.0 ∷ is.1 ∷ is.2 ∷ is.3 ∷ is.4 ∷ is.5 ∷ is.6 ∷ is.7 ∷ []) (Once (Init setup)) refl
-    (init_behind-again is.0 is.1 is.2 is.3 is.4 is.5 is.6 is.7 setup is.9 is.10 is.11 is.12 is.13 is.14 is.15 is.16)
+    ∙ line-again (codes "init") (is.0 ∷ is.1 ∷ is.2 ∷ is.3 ∷ is.4 ∷ is.5 ∷ is.6 ∷ is.7 ∷ [])
+    (Once (Init setup)) refl
+    (init_behind-again is.0 is.1 is.2 is.3 is.4 is.5 is.6 is.7 setup is.9 is.10 is.11 is.12 is.13 is.14 is.15
+    is.16)
 
-step-again : (number : Word) (job : ℕ) → IsNumber 32 number job → behind_at (codes "step") (number ∷ []) ≡ Some (Once (Step job))
+step-again : (number : Word) (job : ℕ) → IsNumber 32 number job →
+    behind_at (codes "step") (number ∷ []) ≡ Some (Once (Step job))
 unfolding behind_at step_at
 step-again number job is = rw (number-again 32 number [] job is) refl
 
-run-again : (number : Word) (job : ℕ) → IsNumber 32 number job → behind_at (codes "run") (number ∷ []) ≡ Some (RunJob job)
+run-again : (number : Word) (job : ℕ) → IsNumber 32 number job →
+    behind_at (codes "run") (number ∷ []) ≡ Some (RunJob job)
 unfolding behind_at run_at
 run-again number job is = rw (number-again 32 number [] job is) refl
 
-put-again : (name digits : Word) (bytes : List ℕ) → IsHex digits bytes → behind_at (codes "begin") (codes "put" ∷ name ∷ digits ∷ []) ≡ Some (Once (Begin (PutJob name bytes)))
+put-again : (name digits : Word) (bytes : List ℕ) → IsHex digits bytes →
+    behind_at (codes "begin") (codes "put" ∷ name ∷ digits ∷ []) ≡ Some (Once (Begin (PutJob name bytes)))
 unfolding behind_at begin_at begun_at put_at
 put-again name digits bytes is = rw (bytes-again digits [] bytes is) refl
 
-stop-again : (digits : Word) (picks : List ℕ) → IsHex digits picks → behind_at (codes "stop") (digits ∷ []) ≡ Some (Once (Stop picks))
+stop-again : (digits : Word) (picks : List ℕ) → IsHex digits picks →
+    behind_at (codes "stop") (digits ∷ []) ≡ Some (Once (Stop picks))
 unfolding behind_at apart_at stop_at
 stop-again digits picks is = rw (bytes-again digits [] picks is) refl
 
-lose-again : (p o s : Word) (provider object stripe : ℕ) → IsNumber 32 p provider → IsNumber 64 o object → IsNumber 32 s stripe
+lose-again : (p o s : Word) (provider object stripe : ℕ) → IsNumber 32 p provider → IsNumber 64 o object →
+    IsNumber 32 s stripe
     → behind_at (codes "lose") (p ∷ o ∷ s ∷ []) ≡ Some (Once (Lose provider object stripe))
 unfolding behind_at apart_at lose_at
 lose-again p o s provider object stripe is_p is_o is_s =
-    rw (number-again 32 p (o ∷ s ∷ []) provider is_p, number-again 64 o (s ∷ []) object is_o, number-again 32 s [] stripe is_s) refl
+    rw (
+      number-again 32 p (o ∷ s ∷ []) provider is_p,
+      number-again 64 o (s ∷ []) object is_o,
+      number-again 32 s [] stripe is_s,
+    ) refl
 
-alter-again : (p o s k x : Word) (provider object stripe place symbol : ℕ) → IsNumber 32 p provider → IsNumber 64 o object → IsNumber 32 s stripe
+alter-again : (p o s k x : Word) (provider object stripe place symbol : ℕ) → IsNumber 32 p provider →
+    IsNumber 64 o object → IsNumber 32 s stripe
     → IsNumber 32 k place → IsNumber 128 x symbol
-    → behind_at (codes "alter") (p ∷ o ∷ s ∷ k ∷ x ∷ []) ≡ Some (Once (Alter provider object stripe place symbol))
+    → behind_at (codes "alter") (p ∷ o ∷ s ∷ k ∷ x ∷ [])
+    ≡ Some (Once (Alter provider object stripe place symbol))
 unfolding behind_at apart_at alter_at
 alter-again p o s k x provider object stripe place symbol is_p is_o is_s is_k is_x =
     rw (
@@ -95,38 +112,47 @@ repair-again : line_at (codes "begin" ∷ codes "repair" ∷ []) ≡ Some (Some 
 unfolding line_at behind_at begin_at begun_at
 repair-again = refl
 
-get-again : (name : Word) → line_at (codes "begin" ∷ codes "get" ∷ name ∷ []) ≡ Some (Some (Once (Begin (GetJob name))))
+get-again : (name : Word) → line_at (codes "begin" ∷ codes "get" ∷ name ∷ [])
+    ≡ Some (Some (Once (Begin (GetJob name))))
 unfolding line_at behind_at begin_at begun_at get_at
 get-again name = refl
 
-drop-again : (name : Word) → line_at (codes "begin" ∷ codes "drop" ∷ name ∷ []) ≡ Some (Some (Once (Begin (DropJob name))))
+drop-again : (name : Word) → line_at (codes "begin" ∷ codes "drop" ∷ name ∷ [])
+    ≡ Some (Some (Once (Begin (DropJob name))))
 unfolding line_at behind_at begin_at begun_at drop_words_at
 drop-again name = refl
 
 -- the words of a command are read as this command
-pub line-spelled : (ws : List Word) (command : Instruction) → SpellsCommand ws command → line_at ws ≡ Some (Some command)
+pub line-spelled : (ws : List Word) (command : Instruction) → SpellsCommand ws command →
+    line_at ws ≡ Some (Some command)
 line-spelled ws (Once (Init setup)) is = init-again ws setup is
 line-spelled ws (Once Reopen) is = ap (λ (t : List Word). line_at t) is ∙ reopen-again
 line-spelled ws (Once (Begin (PutJob name bytes))) is =
-    ap (λ (t : List Word). line_at t) is.1 ∙ line-again (codes "begin") (codes "put" ∷ name ∷ is.0 ∷ []) (Once (Begin (PutJob name bytes))) refl (put-again name is.0 bytes is.2)
+    ap (λ (t : List Word). line_at t) is.1
+    ∙ line-again (codes "begin") (codes "put" ∷ name ∷ is.0 ∷ []) (Once (Begin (PutJob name bytes))) refl
+    (put-again name is.0 bytes is.2)
 line-spelled ws (Once (Begin (GetJob name))) is = ap (λ (t : List Word). line_at t) is ∙ get-again name
 line-spelled ws (Once (Begin (DropJob name))) is = ap (λ (t : List Word). line_at t) is ∙ drop-again name
 line-spelled ws (Once (Begin AuditJob)) is = ap (λ (t : List Word). line_at t) is ∙ audit-again
 line-spelled ws (Once (Begin RepairJob)) is = ap (λ (t : List Word). line_at t) is ∙ repair-again
 line-spelled ws (Once (Step job)) is =
-    ap (λ (t : List Word). line_at t) is.1 ∙ line-again (codes "step") (is.0 ∷ []) (Once (Step job)) refl (step-again is.0 job is.2)
+    ap (λ (t : List Word). line_at t) is.1
+    ∙ line-again (codes "step") (is.0 ∷ []) (Once (Step job)) refl (step-again is.0 job is.2)
 line-spelled ws (RunJob job) is =
-    ap (λ (t : List Word). line_at t) is.1 ∙ line-again (codes "run") (is.0 ∷ []) (RunJob job) refl (run-again is.0 job is.2)
+    ap (λ (t : List Word). line_at t) is.1
+    ∙ line-again (codes "run") (is.0 ∷ []) (RunJob job) refl (run-again is.0 job is.2)
 line-spelled ws (Once (Alter provider object stripe place symbol)) is =
     ap (λ (t : List Word). line_at t) is.5
-    ∙ line-again (codes "alter") (is.0 ∷ is.1 ∷ is.2 ∷ is.3 ∷ is.4 ∷ []) (Once (Alter provider object stripe place symbol)) refl
+    ∙ line-again (codes "alter") (is.0 ∷ is.1 ∷ is.2 ∷ is.3 ∷ is.4 ∷ [])
+    (Once (Alter provider object stripe place symbol)) refl
     (alter-again is.0 is.1 is.2 is.3 is.4 provider object stripe place symbol is.6 is.7 is.8 is.9 is.10)
 line-spelled ws (Once (Lose provider object stripe)) is =
     ap (λ (t : List Word). line_at t) is.3
     ∙ line-again (codes "lose") (is.0 ∷ is.1 ∷ is.2 ∷ []) (Once (Lose provider object stripe)) refl
     (lose-again is.0 is.1 is.2 provider object stripe is.4 is.5 is.6)
 line-spelled ws (Once (Stop picks)) is =
-    ap (λ (t : List Word). line_at t) is.1 ∙ line-again (codes "stop") (is.0 ∷ []) (Once (Stop picks)) refl (stop-again is.0 picks is.2)
+    ap (λ (t : List Word). line_at t) is.1
+    ∙ line-again (codes "stop") (is.0 ∷ []) (Once (Stop picks)) refl (stop-again is.0 picks is.2)
 line-spelled ws (Once Names) is = ap (λ (t : List Word). line_at t) is ∙ list-again
 line-spelled ws (Once Continue) is = absurd is
 line-spelled ws (Once (Begin UpgradeJob)) is = absurd is
@@ -158,18 +184,20 @@ skipped-line (word ∷ ws) e = elim (cond-cases (slice_index word 0 == 35) skip 
     never command e = cc
 
 -- what is read as a command spells it
-pub spelled-line : (ws : List Word) (command : Instruction) → line_at ws ≡ Some (Some command) → SpellsCommand ws command
+pub spelled-line : (ws : List Word) (command : Instruction) → line_at ws ≡ Some (Some command) →
+    SpellsCommand ws command
 unfolding line_at
 spelled-line [] command e = absurd (never e)
   where
     never : skip ≡ Some (Some command) → ⊥
     never e = cc
-spelled-line (word ∷ ws) command e = elim (cond-cases (slice_index word 0 == 35) skip _ (Some (Some command)) e) [
-  | inl comment ↦ absurd (never comment.1)
-  | inr other ↦
-      let a = bind_some (behind_at word ws) (λ command. Some (Some command)) (Some command) other.1 in
-      behind-takes word ws command (a.1 ∙ same a.0 a.2)
-]
+spelled-line (word ∷ ws) command e =
+    elim (cond-cases (slice_index word 0 == 35) skip _ (Some (Some command)) e) [
+      | inl comment ↦ absurd (never comment.1)
+      | inr other ↦
+          let a = bind_some (behind_at word ws) (λ command. Some (Some command)) (Some command) other.1 in
+          behind-takes word ws command (a.1 ∙ same a.0 a.2)
+    ]
   where
     never : skip ≡ Some (Some command) → ⊥
     never e = cc
@@ -178,7 +206,8 @@ spelled-line (word ∷ ws) command e = elim (cond-cases (slice_index word 0 == 3
     same found e = cc
 
 -- where nothing is read, the line is outside the grammar
-pub line-none : (ws : List Word) → line_at ws ≡ None → IsSkipped ws ⊎ ((command : Instruction) × SpellsCommand ws command) → ⊥
+pub line-none : (ws : List Word) → line_at ws ≡ None →
+    IsSkipped ws ⊎ ((command : Instruction) × SpellsCommand ws command) → ⊥
 line-none ws e (inl skipped) = never (sym (line-skipped ws skipped) ∙ e)
   where
     never : skip ≡ None → ⊥
@@ -189,15 +218,19 @@ line-none ws e (inr spelled) = never (sym (line-spelled ws spelled.0 spelled.1) 
     never e = cc
 
 -- a line is not skipped and spelled, and it spells one command
-pub spelled-not_skipped : (ws : List Word) (command : Instruction) → IsSkipped ws → SpellsCommand ws command → ⊥
-spelled-not_skipped ws command skipped spelled = never (sym (line-skipped ws skipped) ∙ line-spelled ws command spelled)
+pub spelled-not_skipped : (ws : List Word) (command : Instruction) → IsSkipped ws → SpellsCommand ws command →
+    ⊥
+spelled-not_skipped ws command skipped spelled =
+    never (sym (line-skipped ws skipped) ∙ line-spelled ws command spelled)
   where
     never : skip ≡ Some (Some command) → ⊥
     never e = cc
 
 -- words spell one command
-pub Spells-once : (ws : List Word) (command other : Instruction) → SpellsCommand ws command → SpellsCommand ws other → command ≡ other
-Spells-once ws command other first second = same (sym (line-spelled ws command first) ∙ line-spelled ws other second)
+pub Spells-once : (ws : List Word) (command other : Instruction) → SpellsCommand ws command →
+    SpellsCommand ws other → command ≡ other
+Spells-once ws command other first second =
+    same (sym (line-spelled ws command first) ∙ line-spelled ws other second)
   where
     same : Some (Some command) ≡ Some (Some other) → command ≡ other
     same e = cc

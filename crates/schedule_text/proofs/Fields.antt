@@ -29,13 +29,16 @@ word-took [] x e = absurd cc
 word-took (word ∷ ws) x e = ap (λ (y : Word × List Word). y.0 ∷ y.1) (some_is (word, ws) x e)
 
 -- a command that takes no more words has none behind it
-pub ended-took : (command other : Instruction) (ws : List Word) → only_command command ws ≡ Some other → (ws ≡ []) × (command ≡ other)
+pub ended-took : (command other : Instruction) (ws : List Word) → only_command command ws ≡ Some other →
+    (ws ≡ []) × (command ≡ other)
 ended-took command other [] e = (refl, some_is command other e)
 ended-took command other (word ∷ ws) e = absurd cc
 
 -- a word that was read by a function of its own
-took : {A : Type 0} (P : Word → A → Type 0) (read : Word → Option A) (sound : (word : Word) (value : A) → read word ≡ Some value → P word value)
-    (ws : List Word) (x : A × List Word) → (word_at ws >>= λ word. read word.0 >>= λ value. Some (value, word.1)) ≡ Some x → Took P ws x
+took : {A : Type 0} (P : Word → A → Type 0) (read : Word → Option A)
+    (sound : (word : Word) (value : A) → read word ≡ Some value → P word value)
+    (ws : List Word) (x : A × List Word) →
+    (word_at ws >>= λ word. read word.0 >>= λ value. Some (value, word.1)) ≡ Some x → Took P ws x
 took P read sound ws x e =
     let a = bind_some _ _ x e in
     let b = bind_some _ _ x a.2 in
@@ -48,7 +51,8 @@ unfolding numeral_at
 numeral-took ws x e = took IsNumberWord number_in word-number_in ws x e
 
 -- a number that is taken is that of the first word, within its bits
-pub number-took : (bits : ℕ) (ws : List Word) (x : ℕ × List Word) → number_word_at bits ws ≡ Some x → Took (IsNumber bits) ws x
+pub number-took : (bits : ℕ) (ws : List Word) (x : ℕ × List Word) → number_word_at bits ws ≡ Some x →
+    Took (IsNumber bits) ws x
 unfolding number_word_at
 number-took bits ws x e =
     let a = bind_some (numeral_at ws) (λ number. only_if (ltb number.0 (2 ^ bits)) number) x e in
@@ -57,15 +61,17 @@ number-took bits ws x e =
     subst (Took (IsNumber bits) ws) b.1 (word.0, word.1, (word.2, ltb-true _ _ b.0))
 
 -- bytes, and keys
-found-in : {A E : Type 0} (decoded : Result A E) (value : A) → found_in decoded ≡ Some value → decoded ≡ Ok value
+found-in : {A E : Type 0} (decoded : Result A E) (value : A) → found_in decoded ≡ Some value →
+    decoded ≡ Ok value
 found-in (Ok x) value e = ap (λ y. Ok y) (some_is x value e)
 found-in (Err fault) value e = absurd cc
 
 bytes-sound : (word : Word) (bytes : List ℕ) → bytes_in word ≡ Some bytes → IsHex word bytes
-bytes-sound word bytes e = elim (cond-cases (bytes_eq word (codes "-")) (done []) (found_in (decode_of word)) (Some bytes) e) [
-  | inl none ↦ inl ((bytes_eq-Decides word (codes "-")).0 none.0, sym (some_is [] bytes none.1))
-  | inr some ↦ inr (found-in (decode_of word) bytes some.1)
-]
+bytes-sound word bytes e =
+    elim (cond-cases (bytes_eq word (codes "-")) (done []) (found_in (decode_of word)) (Some bytes) e) [
+      | inl none ↦ inl ((bytes_eq-Decides word (codes "-")).0 none.0, sym (some_is [] bytes none.1))
+      | inr some ↦ inr (found-in (decode_of word) bytes some.1)
+    ]
 
 -- bytes that are taken are those of the first word, in hexadecimal
 pub bytes-took : (ws : List Word) (x : List ℕ × List Word) → bytes_at ws ≡ Some x → Took IsHex ws x
@@ -86,17 +92,20 @@ key-took ws x e = took IsKey key_in key-sound ws x e
 -- ---- what a word spells is read
 
 -- the numeral of a word is taken from it
-pub numeral-again : (word : Word) (ws : List Word) (number : ℕ) → IsNumberWord word number → numeral_at (word ∷ ws) ≡ Some (number, ws)
+pub numeral-again : (word : Word) (ws : List Word) (number : ℕ) → IsNumberWord word number →
+    numeral_at (word ∷ ws) ≡ Some (number, ws)
 unfolding numeral_at
 numeral-again word ws number is = rw (number_in-word word number is) refl
 
 -- a number within its bits is taken from its word
-pub number-again : (bits : ℕ) (word : Word) (ws : List Word) (number : ℕ) → IsNumber bits word number → number_word_at bits (word ∷ ws) ≡ Some (number, ws)
+pub number-again : (bits : ℕ) (word : Word) (ws : List Word) (number : ℕ) → IsNumber bits word number →
+    number_word_at bits (word ∷ ws) ≡ Some (number, ws)
 unfolding number_word_at
 number-again bits word ws number is = rw (numeral-again word ws number is.0, lt-ltb _ _ is.1) refl
 
 -- bytes are taken from their word
-pub bytes-again : (word : Word) (ws : List Word) (bytes : List ℕ) → IsHex word bytes → bytes_at (word ∷ ws) ≡ Some (bytes, ws)
+pub bytes-again : (word : Word) (ws : List Word) (bytes : List ℕ) → IsHex word bytes →
+    bytes_at (word ∷ ws) ≡ Some (bytes, ws)
 unfolding bytes_at
 bytes-again word ws bytes is = ap (λ (read : Option (List ℕ)). read >>= λ value. Some (value, ws)) (read is)
   where
@@ -107,14 +116,18 @@ bytes-again word ws bytes is = ap (λ (read : Option (List ℕ)). read >>= λ va
     read (inl none) = rw (no_digits word none.0) (ap (λ (bs : List ℕ). Some bs) (sym none.1))
     read (inr some) = at (bytes_eq word (codes "-")) refl
       where
-        at : (test : Bool) → bytes_eq word (codes "-") ≡ test → cond test (done []) (found_in (decode_of word)) ≡ Some bytes
-        at true dash = absurd (bad (subst (λ (w : Word). decode_of w ≡ Ok bytes) ((bytes_eq-Decides word (codes "-")).0 dash) some))
+        at : (test : Bool) → bytes_eq word (codes "-") ≡ test →
+            cond test (done []) (found_in (decode_of word)) ≡ Some bytes
+        at true dash = absurd
+            (bad (subst (λ (w : Word). decode_of w ≡ Ok bytes)
+            ((bytes_eq-Decides word (codes "-")).0 dash) some))
           where
             bad : decode_of (codes "-") ≡ Ok bytes → ⊥
             bad e = cc
         at false other = rw some refl
 
 -- a key is taken from its word
-pub key-again : (word : Word) (ws : List Word) (key : List ℕ) → IsKey word key → key_at (word ∷ ws) ≡ Some (key, ws)
+pub key-again : (word : Word) (ws : List Word) (key : List ℕ) → IsKey word key →
+    key_at (word ∷ ws) ≡ Some (key, ws)
 unfolding key_at
 key-again word ws key is = rw (eq-eqb (length word) 64 is.0, is.1) refl

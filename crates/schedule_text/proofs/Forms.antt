@@ -16,7 +16,8 @@ use Rattle.schedule_text.proofs.Fields.{word-took, ended-took, numeral-took, num
 -- ---- what was read is spelled
 
 setup-takes : (ws : List Word) (x : Setup × List Word) → setup_words_at ws ≡ Some x
-    → (n l b profile rounds picks tolerance : Word) × (ws ≡ n ∷ l ∷ b ∷ profile ∷ rounds ∷ picks ∷ tolerance ∷ x.1)
+    → (n l b profile rounds picks tolerance : Word) ×
+    (ws ≡ n ∷ l ∷ b ∷ profile ∷ rounds ∷ picks ∷ tolerance ∷ x.1)
     × IsNumber 8 n x.0.n × IsNumber 8 l x.0.l × IsNumber 8 b x.0.b × IsNumber 8 profile x.0.profile
     × IsNumber 8 rounds x.0.rounds × IsNumber 8 picks x.0.picks × IsNumber 16 tolerance x.0.tolerance
 unfolding setup_words_at
@@ -60,9 +61,12 @@ setup-takes ws x e =
       rounds_word.0,
       picks_word.0,
       tolerance_word.0,
-      (n_word.1 ∙ ap (λ (t : List Word). n_word.0 ∷ t) (l_word.1 ∙ ap (λ (t : List Word). l_word.0 ∷ t) (b_word.1
-          ∙ ap (λ (t : List Word). b_word.0 ∷ t) (profile_word.1 ∙ ap (λ (t : List Word). profile_word.0 ∷ t) (rounds_word.1
-          ∙ ap (λ (t : List Word). rounds_word.0 ∷ t) (picks_word.1 ∙ ap (λ (t : List Word). picks_word.0 ∷ t) tolerance_word.1)))))),
+      (n_word.1 ∙ ap (λ (t : List Word). n_word.0 ∷ t)
+          (l_word.1 ∙ ap (λ (t : List Word). l_word.0 ∷ t) (b_word.1
+          ∙ ap (λ (t : List Word). b_word.0 ∷ t) (profile_word.1
+          ∙ ap (λ (t : List Word). profile_word.0 ∷ t) (rounds_word.1
+          ∙ ap (λ (t : List Word). rounds_word.0 ∷ t) (picks_word.1
+          ∙ ap (λ (t : List Word). picks_word.0 ∷ t) tolerance_word.1)))))),
       n_word.2,
       l_word.2,
       b_word.2,
@@ -72,7 +76,8 @@ setup-takes ws x e =
       tolerance_word.2,
     )
 
-init-takes : (ws : List Word) (command : Instruction) → init_at ws ≡ Some command → SpellsCommand (codes "init" ∷ ws) command
+init-takes : (ws : List Word) (command : Instruction) → init_at ws ≡ Some command →
+    SpellsCommand (codes "init" ∷ ws) command
 unfolding init_at
 init-takes ws command e =
     let a = bind_some _ _ command e in
@@ -82,11 +87,13 @@ init-takes ws command e =
     let none = ended-took (Once (Init (record a.0.0 { master = b.0.0 }))) command b.0.1 b.2 in
     let behind : a.0.1 ≡ key.0 ∷ [] = key.1 ∙ ap (λ (t : List Word). key.0 ∷ t) none.0 in
     let all : codes "init" ∷ ws ≡ codes "init" ∷ s.0 ∷ s.1 ∷ s.2 ∷ s.3 ∷ s.4 ∷ s.5 ∷ s.6 ∷ key.0 ∷ [] =
-    ap (λ (t : List Word). codes "init" ∷ t) (s.7 ∙ ap (λ (t : List Word). s.0 ∷ s.1 ∷ s.2 ∷ s.3 ∷ s.4 ∷ s.5 ∷ s.6 ∷ t) behind) in
+    ap (λ (t : List Word). codes "init" ∷ t)
+    (s.7 ∙ ap (λ (t : List Word). s.0 ∷ s.1 ∷ s.2 ∷ s.3 ∷ s.4 ∷ s.5 ∷ s.6 ∷ t) behind) in
     subst (SpellsCommand (codes "init" ∷ ws)) none.1
     (s.0, s.1, s.2, s.3, s.4, s.5, s.6, key.0, all, s.8, s.9, s.10, s.11, s.12, s.13, s.14, key.2)
 
-step-takes : (ws : List Word) (command : Instruction) → step_at ws ≡ Some command → SpellsCommand (codes "step" ∷ ws) command
+step-takes : (ws : List Word) (command : Instruction) → step_at ws ≡ Some command →
+    SpellsCommand (codes "step" ∷ ws) command
 unfolding step_at
 step-takes ws command e =
     let a = bind_some _ _ command e in
@@ -94,7 +101,8 @@ step-takes ws command e =
     let none = ended-took (Once (Step a.0.0)) command a.0.1 a.2 in
     subst (SpellsCommand (codes "step" ∷ ws)) none.1 (word.0, cc, word.2)
 
-run-takes : (ws : List Word) (command : Instruction) → run_at ws ≡ Some command → SpellsCommand (codes "run" ∷ ws) command
+run-takes : (ws : List Word) (command : Instruction) → run_at ws ≡ Some command →
+    SpellsCommand (codes "run" ∷ ws) command
 unfolding run_at
 run-takes ws command e =
     let a = bind_some _ _ command e in
@@ -102,7 +110,8 @@ run-takes ws command e =
     let none = ended-took (RunJob a.0.0) command a.0.1 a.2 in
     subst (SpellsCommand (codes "run" ∷ ws)) none.1 (word.0, cc, word.2)
 
-alter-takes : (ws : List Word) (command : Instruction) → alter_at ws ≡ Some command → SpellsCommand (codes "alter" ∷ ws) command
+alter-takes : (ws : List Word) (command : Instruction) → alter_at ws ≡ Some command →
+    SpellsCommand (codes "alter" ∷ ws) command
 unfolding alter_at
 alter-takes ws command e =
     let a = bind_some _ _ command e in
@@ -116,9 +125,11 @@ alter-takes ws command e =
     let k = number-took 32 d.0.1 f.0 f.1 in
     let x = numeral-took f.0.1 g.0 g.1 in
     let none = ended-took (Once (Alter a.0.0 b.0.0 d.0.0 f.0.0 g.0.0)) command g.0.1 g.2 in
-    subst (SpellsCommand (codes "alter" ∷ ws)) none.1 (p.0, o.0, s.0, k.0, x.0, cc, p.2, o.2, s.2, k.2, (x.2, x.2.small))
+    subst (SpellsCommand (codes "alter" ∷ ws)) none.1
+    (p.0, o.0, s.0, k.0, x.0, cc, p.2, o.2, s.2, k.2, (x.2, x.2.small))
 
-lose-takes : (ws : List Word) (command : Instruction) → lose_at ws ≡ Some command → SpellsCommand (codes "lose" ∷ ws) command
+lose-takes : (ws : List Word) (command : Instruction) → lose_at ws ≡ Some command →
+    SpellsCommand (codes "lose" ∷ ws) command
 unfolding lose_at
 lose-takes ws command e =
     let a = bind_some _ _ command e in
@@ -130,7 +141,8 @@ lose-takes ws command e =
     let none = ended-took (Once (Lose a.0.0 b.0.0 d.0.0)) command d.0.1 d.2 in
     subst (SpellsCommand (codes "lose" ∷ ws)) none.1 (p.0, o.0, s.0, cc, p.2, o.2, s.2)
 
-stop-takes : (ws : List Word) (command : Instruction) → stop_at ws ≡ Some command → SpellsCommand (codes "stop" ∷ ws) command
+stop-takes : (ws : List Word) (command : Instruction) → stop_at ws ≡ Some command →
+    SpellsCommand (codes "stop" ∷ ws) command
 unfolding stop_at
 stop-takes ws command e =
     let a = bind_some _ _ command e in
@@ -138,7 +150,8 @@ stop-takes ws command e =
     let none = ended-took (Once (Stop a.0.0)) command a.0.1 a.2 in
     subst (SpellsCommand (codes "stop" ∷ ws)) none.1 (word.0, cc, word.2)
 
-put-takes : (ws : List Word) (command : Instruction) → put_at ws ≡ Some command → SpellsCommand (codes "begin" ∷ codes "put" ∷ ws) command
+put-takes : (ws : List Word) (command : Instruction) → put_at ws ≡ Some command →
+    SpellsCommand (codes "begin" ∷ codes "put" ∷ ws) command
 unfolding put_at
 put-takes ws command e =
     let a = bind_some _ _ command e in
@@ -148,7 +161,8 @@ put-takes ws command e =
     let none = ended-took (Once (Begin (PutJob a.0.0 b.0.0))) command b.0.1 b.2 in
     subst (SpellsCommand (codes "begin" ∷ codes "put" ∷ ws)) none.1 (digits.0, cc, digits.2)
 
-get-takes : (ws : List Word) (command : Instruction) → get_at ws ≡ Some command → SpellsCommand (codes "begin" ∷ codes "get" ∷ ws) command
+get-takes : (ws : List Word) (command : Instruction) → get_at ws ≡ Some command →
+    SpellsCommand (codes "begin" ∷ codes "get" ∷ ws) command
 unfolding get_at
 get-takes ws command e =
     let a = bind_some _ _ command e in
@@ -157,7 +171,8 @@ get-takes ws command e =
     let all : codes "begin" ∷ codes "get" ∷ ws ≡ codes "begin" ∷ codes "get" ∷ a.0.0 ∷ [] = cc in
     subst (SpellsCommand (codes "begin" ∷ codes "get" ∷ ws)) none.1 all
 
-drop-takes : (ws : List Word) (command : Instruction) → drop_words_at ws ≡ Some command → SpellsCommand (codes "begin" ∷ codes "drop" ∷ ws) command
+drop-takes : (ws : List Word) (command : Instruction) → drop_words_at ws ≡ Some command →
+    SpellsCommand (codes "begin" ∷ codes "drop" ∷ ws) command
 unfolding drop_words_at
 drop-takes ws command e =
     let a = bind_some _ _ command e in
@@ -168,7 +183,8 @@ drop-takes ws command e =
 
 -- a line that ends where it is read
 bare-takes : (made command : Instruction) (front ws : List Word) → only_command made ws ≡ Some command
-    → (front_is : (rest : List Word) → rest ≡ [] → SpellsCommand (front ++ rest) made) → SpellsCommand (front ++ ws) command
+    → (front_is : (rest : List Word) → rest ≡ [] → SpellsCommand (front ++ rest) made) →
+    SpellsCommand (front ++ ws) command
 bare-takes made command front ws e spelled =
     let none = ended-took made command ws e in
     subst (SpellsCommand (front ++ ws)) none.1 (spelled ws none.0)
@@ -178,20 +194,26 @@ is_word : (word other : Word) → bytes_eq word other ≡ true → other ≡ wor
 is_word word other e = sym ((bytes_eq-Decides word other).0 e)
 
 -- behind `begin`
-begun-takes : (kind : Word) (ws : List Word) (command : Instruction) → begun_at kind ws ≡ Some command → SpellsCommand (codes "begin" ∷ kind ∷ ws) command
+begun-takes : (kind : Word) (ws : List Word) (command : Instruction) → begun_at kind ws ≡ Some command →
+    SpellsCommand (codes "begin" ∷ kind ∷ ws) command
 unfolding begun_at
 begun-takes kind ws command e = elim (cond-cases (bytes_eq kind (codes "put")) _ _ _ e) [
-  | inl put ↦ subst (λ (k : Word). SpellsCommand (codes "begin" ∷ k ∷ ws) command) (is_word kind _ put.0) (put-takes ws command put.1)
+  | inl put ↦ subst (λ (k : Word). SpellsCommand (codes "begin" ∷ k ∷ ws) command) (is_word kind _ put.0)
+      (put-takes ws command put.1)
   | inr e ↦ elim (cond-cases (bytes_eq kind (codes "get")) _ _ _ e.1) [
-    | inl get ↦ subst (λ (k : Word). SpellsCommand (codes "begin" ∷ k ∷ ws) command) (is_word kind _ get.0) (get-takes ws command get.1)
+    | inl get ↦ subst (λ (k : Word). SpellsCommand (codes "begin" ∷ k ∷ ws) command) (is_word kind _ get.0)
+        (get-takes ws command get.1)
     | inr e ↦ elim (cond-cases (bytes_eq kind (codes "drop")) _ _ _ e.1) [
-      | inl drop ↦ subst (λ (k : Word). SpellsCommand (codes "begin" ∷ k ∷ ws) command) (is_word kind _ drop.0) (drop-takes ws command drop.1)
+      | inl drop ↦ subst (λ (k : Word). SpellsCommand (codes "begin" ∷ k ∷ ws) command)
+          (is_word kind _ drop.0) (drop-takes ws command drop.1)
       | inr e ↦ elim (cond-cases (bytes_eq kind (codes "audit")) _ _ _ e.1) [
-        | inl audit ↦ subst (λ (k : Word). SpellsCommand (codes "begin" ∷ k ∷ ws) command) (is_word kind _ audit.0)
+        | inl audit ↦ subst (λ (k : Word). SpellsCommand (codes "begin" ∷ k ∷ ws) command)
+            (is_word kind _ audit.0)
             (bare-takes (Once (Begin AuditJob)) command (codes "begin" ∷ codes "audit" ∷ []) ws audit.1
             (λ rest none. ap (λ (t : List Word). codes "begin" ∷ codes "audit" ∷ t) none))
         | inr e ↦ elim (cond-cases (bytes_eq kind (codes "repair")) _ _ _ e.1) [
-          | inl repair ↦ subst (λ (k : Word). SpellsCommand (codes "begin" ∷ k ∷ ws) command) (is_word kind _ repair.0)
+          | inl repair ↦ subst (λ (k : Word). SpellsCommand (codes "begin" ∷ k ∷ ws) command)
+              (is_word kind _ repair.0)
               (bare-takes (Once (Begin RepairJob)) command (codes "begin" ∷ codes "repair" ∷ []) ws repair.1
               (λ rest none. ap (λ (t : List Word). codes "begin" ∷ codes "repair" ∷ t) none))
           | inr e ↦ absurd (nothing e.1)
@@ -204,23 +226,30 @@ begun-takes kind ws command e = elim (cond-cases (bytes_eq kind (codes "put")) _
     nothing : None ≡ Some command → ⊥
     nothing e = cc
 
-begin-takes : (ws : List Word) (command : Instruction) → begin_at ws ≡ Some command → SpellsCommand (codes "begin" ∷ ws) command
+begin-takes : (ws : List Word) (command : Instruction) → begin_at ws ≡ Some command →
+    SpellsCommand (codes "begin" ∷ ws) command
 unfolding begin_at
 begin-takes ws command e =
     let a = bind_some _ _ command e in
-    subst (λ (t : List Word). SpellsCommand (codes "begin" ∷ t) command) (sym (word-took ws a.0 a.1)) (begun-takes a.0.0 a.0.1 command a.2)
+    subst (λ (t : List Word). SpellsCommand (codes "begin" ∷ t) command) (sym (word-took ws a.0 a.1))
+    (begun-takes a.0.0 a.0.1 command a.2)
 
-apart-takes : (first : Word) (ws : List Word) (command : Instruction) → apart_at first ws ≡ Some command → SpellsCommand (first ∷ ws) command
+apart-takes : (first : Word) (ws : List Word) (command : Instruction) → apart_at first ws ≡ Some command →
+    SpellsCommand (first ∷ ws) command
 unfolding apart_at
 apart-takes first ws command e = elim (cond-cases (bytes_eq first (codes "alter")) _ _ _ e) [
-  | inl alter ↦ subst (λ (f : Word). SpellsCommand (f ∷ ws) command) (is_word first _ alter.0) (alter-takes ws command alter.1)
+  | inl alter ↦ subst (λ (f : Word). SpellsCommand (f ∷ ws) command) (is_word first _ alter.0)
+      (alter-takes ws command alter.1)
   | inr e ↦ elim (cond-cases (bytes_eq first (codes "lose")) _ _ _ e.1) [
-    | inl lose ↦ subst (λ (f : Word). SpellsCommand (f ∷ ws) command) (is_word first _ lose.0) (lose-takes ws command lose.1)
+    | inl lose ↦ subst (λ (f : Word). SpellsCommand (f ∷ ws) command) (is_word first _ lose.0)
+        (lose-takes ws command lose.1)
     | inr e ↦ elim (cond-cases (bytes_eq first (codes "stop")) _ _ _ e.1) [
-      | inl stop ↦ subst (λ (f : Word). SpellsCommand (f ∷ ws) command) (is_word first _ stop.0) (stop-takes ws command stop.1)
+      | inl stop ↦ subst (λ (f : Word). SpellsCommand (f ∷ ws) command) (is_word first _ stop.0)
+          (stop-takes ws command stop.1)
       | inr e ↦ elim (cond-cases (bytes_eq first (codes "list")) _ _ _ e.1) [
         | inl list ↦ subst (λ (f : Word). SpellsCommand (f ∷ ws) command) (is_word first _ list.0)
-            (bare-takes (Once Names) command (codes "list" ∷ []) ws list.1 (λ rest none. ap (λ (t : List Word). codes "list" ∷ t) none))
+            (bare-takes (Once Names) command (codes "list" ∷ []) ws list.1
+            (λ rest none. ap (λ (t : List Word). codes "list" ∷ t) none))
         | inr e ↦ absurd (nothing e.1)
       ]
     ]
@@ -231,19 +260,25 @@ apart-takes first ws command e = elim (cond-cases (bytes_eq first (codes "alter"
     nothing e = cc
 
 -- behind the first word of a line
-pub behind-takes : (first : Word) (ws : List Word) (command : Instruction) → behind_at first ws ≡ Some command → SpellsCommand (first ∷ ws) command
+pub behind-takes : (first : Word) (ws : List Word) (command : Instruction) →
+    behind_at first ws ≡ Some command → SpellsCommand (first ∷ ws) command
 unfolding behind_at
 behind-takes first ws command e = elim (cond-cases (bytes_eq first (codes "init")) _ _ _ e) [
-  | inl init ↦ subst (λ (f : Word). SpellsCommand (f ∷ ws) command) (is_word first _ init.0) (init-takes ws command init.1)
+  | inl init ↦ subst (λ (f : Word). SpellsCommand (f ∷ ws) command) (is_word first _ init.0)
+      (init-takes ws command init.1)
   | inr e ↦ elim (cond-cases (bytes_eq first (codes "reopen")) _ _ _ e.1) [
     | inl reopen ↦ subst (λ (f : Word). SpellsCommand (f ∷ ws) command) (is_word first _ reopen.0)
-        (bare-takes (Once Reopen) command (codes "reopen" ∷ []) ws reopen.1 (λ rest none. ap (λ (t : List Word). codes "reopen" ∷ t) none))
+        (bare-takes (Once Reopen) command (codes "reopen" ∷ []) ws reopen.1
+        (λ rest none. ap (λ (t : List Word). codes "reopen" ∷ t) none))
     | inr e ↦ elim (cond-cases (bytes_eq first (codes "begin")) _ _ _ e.1) [
-      | inl begin ↦ subst (λ (f : Word). SpellsCommand (f ∷ ws) command) (is_word first _ begin.0) (begin-takes ws command begin.1)
+      | inl begin ↦ subst (λ (f : Word). SpellsCommand (f ∷ ws) command) (is_word first _ begin.0)
+          (begin-takes ws command begin.1)
       | inr e ↦ elim (cond-cases (bytes_eq first (codes "step")) _ _ _ e.1) [
-        | inl step ↦ subst (λ (f : Word). SpellsCommand (f ∷ ws) command) (is_word first _ step.0) (step-takes ws command step.1)
+        | inl step ↦ subst (λ (f : Word). SpellsCommand (f ∷ ws) command) (is_word first _ step.0)
+            (step-takes ws command step.1)
         | inr e ↦ elim (cond-cases (bytes_eq first (codes "run")) _ _ _ e.1) [
-          | inl run ↦ subst (λ (f : Word). SpellsCommand (f ∷ ws) command) (is_word first _ run.0) (run-takes ws command run.1)
+          | inl run ↦ subst (λ (f : Word). SpellsCommand (f ∷ ws) command) (is_word first _ run.0)
+              (run-takes ws command run.1)
           | inr e ↦ apart-takes first ws command e.1
         ]
       ]

@@ -14,13 +14,15 @@ use Rattle.schedule_text.specs.Reading.{key_in, found_in}
 sized : (word : List ℕ) → length word ≡ 64 → decode_sized word 32 ≡ decode_of word
 sized word long = rw long refl
 
-read-none : (word : List ℕ) (decoded : Result (List ℕ) FromHexError) → (is_ok decoded ≡ true → ⊥) → found_in decoded ≡ None
+read-none : (word : List ℕ) (decoded : Result (List ℕ) FromHexError) → (is_ok decoded ≡ true → ⊥) →
+    found_in decoded ≡ None
 read-none word (Ok bytes) bad = absurd (bad refl)
 read-none word (Err e) bad = refl
 
 -- what reads 64 digits gives the key of the word
 pub key_in-read : {M : Type 0} (bytes : M → List ℕ) (word : List ℕ) (read : Option M)
-    → (IsSome read ↔ ((length word ≡ 64) × AllPass is_hex_digit word)) → IfSome read (λ m. decode_of word ≡ Ok (bytes m)) → option_map bytes read ≡ key_in word
+    → (IsSome read ↔ ((length word ≡ 64) × AllPass is_hex_digit word)) →
+    IfSome read (λ m. decode_of word ≡ Ok (bytes m)) → option_map bytes read ≡ key_in word
 key_in-read bytes word (Some m) found value =
     let long : (length word == 64) ≡ true = ap (λ (n : ℕ). n == 64) (found.0 refl).0 in
     rw (long, value) refl

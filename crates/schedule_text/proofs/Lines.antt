@@ -10,7 +10,8 @@ use Rattle.schedule_text.specs.Answers.{without_return}
 use Rattle.schedule_text.proofs.Pieces.{Free, differ, free_before, free_from, around, pieces-free, pieces-append}
 
 -- a line by the place of its last byte
-without_return-last : (line : List ℕ) (last : ℕ) → length line ≡ suc last → without_return line ≡ cond (slice_index line last == 13) (take last line) line
+without_return-last : (line : List ℕ) (last : ℕ) → length line ≡ suc last →
+    without_return line ≡ cond (slice_index line last == 13) (take last line) line
 without_return-last line last is =
     let place : length line - 1 ≡ last = omega (arith, is) in
     ap (λ (n : ℕ). cond (slice_index line n == 13) (take n line) line) place
@@ -51,15 +52,18 @@ next (c ∷ text) free = differ c 10 free.0
 without_returns-free : (text : List ℕ) → Free 10 text → without_returns text ≡ text
 without_returns-free [] free = refl
 without_returns-free (b ∷ text) free =
-    keep (b == 13) (slice_index text 0 == 10) (without_returns text) (b ∷ without_returns text) (next text free.1)
+    keep (b == 13) (slice_index text 0 == 10) (without_returns text) (b ∷ without_returns text)
+    (next text free.1)
     ∙ ap (λ (t : List ℕ). b ∷ t) (without_returns-free text free.1)
 
 -- up to the first newline
-without_returns-append : (line rest : List ℕ) → Free 10 line → without_returns (line ++ 10 ∷ rest) ≡ without_return line ++ 10 ∷ without_returns rest
+without_returns-append : (line rest : List ℕ) → Free 10 line →
+    without_returns (line ++ 10 ∷ rest) ≡ without_return line ++ 10 ∷ without_returns rest
 without_returns-append [] rest free = refl
 without_returns-append (b ∷ []) rest free = at (b == 13) (without_returns rest)
   where
-    at : (test : Bool) (others : List ℕ) → cond (test && true) (10 ∷ others) (b ∷ 10 ∷ others) ≡ cond test [] (b ∷ []) ++ 10 ∷ others
+    at : (test : Bool) (others : List ℕ) → cond (test && true) (10 ∷ others) (b ∷ 10 ∷ others)
+        ≡ cond test [] (b ∷ []) ++ 10 ∷ others
     at true others = refl
     at false others = refl
 without_returns-append (b ∷ c ∷ line) rest free =
@@ -70,19 +74,26 @@ without_returns-append (b ∷ c ∷ line) rest free =
 
 -- a text without a newline is one line
 pub lines-free : (text : List ℕ) → Free 10 text → lines text ≡ text ∷ []
-lines-free text free = ap (λ (t : List ℕ). pieces 10 t) (without_returns-free text free) ∙ pieces-free 10 text free
+lines-free text free =
+    ap (λ (t : List ℕ). pieces 10 t) (without_returns-free text free) ∙ pieces-free 10 text free
 
 -- a line and its newline
-pub lines-append : (line rest : List ℕ) → Free 10 line → lines (line ++ 10 ∷ rest) ≡ without_return line ∷ lines rest
+pub lines-append : (line rest : List ℕ) → Free 10 line →
+    lines (line ++ 10 ∷ rest) ≡ without_return line ∷ lines rest
 lines-append line rest free =
     ap (λ (t : List ℕ). pieces 10 t) (without_returns-append line rest free)
     ∙ pieces-append 10 (without_return line) (without_returns rest) (free-without_return line free)
 
 -- up to the first place of a newline
-pub lines-first : (text : List ℕ) (end : ℕ) → end < length text → Nowhere (Passes (is_byte 10) text) 0 end → Passes (is_byte 10) text end
-    → lines text ≡ without_return (take end text) ∷ lines (take (length text - (end + 1)) (drop (end + 1) text))
+pub lines-first : (text : List ℕ) (end : ℕ) → end < length text → Nowhere (Passes (is_byte 10) text) 0 end →
+    Passes (is_byte 10) text end
+    → lines text ≡ without_return (take end text) ∷ lines
+    (take (length text - (end + 1)) (drop (end + 1) text))
 lines-first text end within none here =
-    rw (take_all (length text - (end + 1)) (drop (end + 1) text) (omega (arith, length-drop (end + 1) text)), add-one end)
+    rw (
+      take_all (length text - (end + 1)) (drop (end + 1) text) (omega (arith, length-drop (end + 1) text)),
+      add-one end,
+    )
     (ap (λ (t : List ℕ). lines t) (around 10 text end within here)
     ∙ lines-append (take end text) (drop (suc end) text) (free_before 10 text end (omega arith) none))
 

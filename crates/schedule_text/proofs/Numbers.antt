@@ -14,11 +14,14 @@ digits : IsNumeralModel (λ ds. all_ascii_digits ds ≡ true) (digits_value 10)
 digits = numerals_by_value _ tells_all_ascii_digits
 
 -- a number word passes
-pub is_number_word-passes : (word : List ℕ) (number : ℕ) → IsNumberWord word number → is_number_word word ≡ true
-is_number_word-passes word number is = grind (arith, nat_tests, is.value, is.small, is.leading, is.numeral.0, digits.from word is.numeral.1)
+pub is_number_word-passes : (word : List ℕ) (number : ℕ) → IsNumberWord word number →
+    is_number_word word ≡ true
+is_number_word-passes word number is =
+    grind (arith, nat_tests, is.value, is.small, is.leading, is.numeral.0, digits.from word is.numeral.1)
 
 -- what passes is a number word
-pub number_word-from_test : (word : List ℕ) → is_number_word word ≡ true → IsNumberWord word (digits_value 10 word)
+pub number_word-from_test : (word : List ℕ) → is_number_word word ≡ true →
+    IsNumberWord word (digits_value 10 word)
 number_word-from_test word passes = record {
   numeral = (grind (arith, nat_tests), digits.to word (grind arith));
   leading = λ zero_first. grind (arith, nat_tests);
@@ -40,8 +43,10 @@ word-number_in word number e = at (is_number_word word) refl e
     same : (n : ℕ) → done n ≡ done number → n ≡ number
     same n e = cc
 
-    at : (test : Bool) → is_number_word word ≡ test → only_if test (digits_value 10 word) ≡ Some number → IsNumberWord word number
-    at true passes e = subst (λ (n : ℕ). IsNumberWord word n) (same (digits_value 10 word) e) (number_word-from_test word passes)
+    at : (test : Bool) → is_number_word word ≡ test → only_if test (digits_value 10 word) ≡ Some number →
+        IsNumberWord word number
+    at true passes e = subst (λ (n : ℕ). IsNumberWord word n) (same (digits_value 10 word) e)
+        (number_word-from_test word passes)
     at false passes e = absurd cc
 
 -- nothing is read where the word spells no number
@@ -53,7 +58,8 @@ number_in-none word none = at (is_number_word word) refl
     at false passes = refl
 
 -- what a reader of number words answers
-pub number_in-match : (word : List ℕ) (read : Option ℕ) → MatchOption read ((number : ℕ) → IsNumberWord word number → ⊥) (IsNumberWord word) → read ≡ number_in word
+pub number_in-match : (word : List ℕ) (read : Option ℕ) →
+    MatchOption read ((number : ℕ) → IsNumberWord word number → ⊥) (IsNumberWord word) → read ≡ number_in word
 number_in-match word None none = sym (number_in-none word none)
 number_in-match word (Some number) is = sym (number_in-word word number is)
 

@@ -88,7 +88,11 @@ leading n small = decimal_by_steps_wide Leads
     (λ m few. (omega arith, (λ some. omega arith), (λ few. refl)))
     (λ m ds many so_far. (
       omega (arith, length-append ds ((48 + m % 10) ∷ [])),
-      (λ some. omega (arith, get_or_append_left ds ((48 + m % 10) ∷ []) 0 0 so_far.0, so_far.1 (omega arith))),
+      (λ some. omega (
+        arith,
+        get_or_append_left ds ((48 + m % 10) ∷ []) 0 0 so_far.0,
+        so_far.1 (omega arith),
+      )),
       (λ few. absurd (omega (arith, few, many))),
     )) n small
 
@@ -115,12 +119,14 @@ number-decimal bits n fits small = (number_word-decimal n small, fits)
 -- ---- bytes
 
 -- the digit of a place in a table of plain bytes
-plain_at : (table : List ℕ) (i : ℕ) → are_plain table ≡ true → (slice_index table i ≢ 32) × (slice_index table i ≢ 10)
+plain_at : (table : List ℕ) (i : ℕ) → are_plain table ≡ true →
+    (slice_index table i ≢ 32) × (slice_index table i ≢ 10)
 plain_at [] i plain = ((λ e. omega (arith, e)), (λ e. omega (arith, e)))
 plain_at (b ∷ table) zero plain = (grind (arith, nat_tests), grind (arith, nat_tests))
 plain_at (b ∷ table) (suc i) plain = plain_at table i (grind (arith, nat_tests))
 
-free_encode : (table bytes : List ℕ) → are_plain table ≡ true → Free 32 (encode_with table bytes) × Free 10 (encode_with table bytes)
+free_encode : (table bytes : List ℕ) → are_plain table ≡ true →
+    Free 32 (encode_with table bytes) × Free 10 (encode_with table bytes)
 unfolding encode_with
 free_encode table [] plain = (tt, tt)
 free_encode table (b ∷ bytes) plain =
@@ -133,7 +139,11 @@ free_encode table (b ∷ bytes) plain =
 pub plain-encode : (bytes : List ℕ) → 0 < length bytes → IsPlain (encode_lower bytes)
 plain-encode bytes some =
     let free = free_encode lower_digits bytes refl in
-    record { some = omega (arith, length-encode_with lower_digits bytes); no_space = free.0; no_newline = free.1 }
+    record {
+      some = omega (arith, length-encode_with lower_digits bytes);
+      no_space = free.0;
+      no_newline = free.1;
+    }
 
 -- nor has the word for bytes, which is `-` for none
 pub plain-hex_of : (bytes : List ℕ) → IsPlain (hex_of bytes)
@@ -149,8 +159,10 @@ hex-hex_of (b ∷ bytes) all = inr (decode_of-encode_lower (b ∷ bytes) (IsByte
 pub key-encode : (key : List ℕ) → IsTrue (is_master key) → IsKey (encode_lower key) key
 key-encode key is =
     let size : length key ≡ 32 = grind (arith, nat_tests) in
-    let all : list_all is_byte key ≡ true = grind (arith, nat_tests) in
-    (omega (arith, size, length-encode_with lower_digits key), decode_of-encode_lower key (IsBytes-from_all key all))
+    let all : list_all is_byte key ≡ true = grind (arith, nat_tests) in (
+      omega (arith, size, length-encode_with lower_digits key),
+      decode_of-encode_lower key (IsBytes-from_all key all),
+    )
 
 -- a key has a byte
 pub size-master : (key : List ℕ) → IsTrue (is_master key) → 0 < length key

@@ -48,16 +48,19 @@ body-ends word (second ∷ ws) all =
     let rest = body-ends second ws all.1 in
     record {
       front = word ++ 32 ∷ rest.front;
-      is = ap (λ (t : List ℕ). (word ++ 32 ∷ []) ++ t) rest.is ∙ append_assoc word (32 ∷ []) (rest.front ++ 32 ∷ [])
+      is = ap (λ (t : List ℕ). (word ++ 32 ∷ []) ++ t) rest.is
+          ∙ append_assoc word (32 ∷ []) (rest.front ++ 32 ∷ [])
           ∙ sym (append_assoc word (32 ∷ rest.front) (32 ∷ []));
       free = Free-append 10 word (32 ∷ rest.front) all.0.no_newline ((λ e. omega (arith, e)), rest.free);
     }
 
 -- no carriage return stands before the newline
-returns-spaced : (front rest : List ℕ) → Free 10 front → without_returns (front ++ 32 ∷ 10 ∷ rest) ≡ front ++ 32 ∷ 10 ∷ without_returns rest
+returns-spaced : (front rest : List ℕ) → Free 10 front →
+    without_returns (front ++ 32 ∷ 10 ∷ rest) ≡ front ++ 32 ∷ 10 ∷ without_returns rest
 returns-spaced [] rest free = refl
 returns-spaced (b ∷ front) rest free =
-    keep (b == 13) (slice_index (front ++ 32 ∷ 10 ∷ rest) 0 == 10) (without_returns (front ++ 32 ∷ 10 ∷ rest)) (b ∷ without_returns (front ++ 32 ∷ 10 ∷ rest)) (after front free.1)
+    keep (b == 13) (slice_index (front ++ 32 ∷ 10 ∷ rest) 0 == 10) (without_returns (front ++ 32 ∷ 10 ∷ rest))
+    (b ∷ without_returns (front ++ 32 ∷ 10 ∷ rest)) (after front free.1)
     ∙ ap (λ (t : List ℕ). b ∷ t) (returns-spaced front rest free.1)
   where
     after : (front : List ℕ) → Free 10 front → (slice_index (front ++ 32 ∷ 10 ∷ rest) 0 == 10) ≡ false
@@ -69,8 +72,10 @@ lines-line : (text rest : List ℕ) → Ends text → lines ((text ++ 10 ∷ [])
 lines-line text rest ends =
     ap (λ (t : List ℕ). lines ((t ++ 10 ∷ []) ++ rest)) ends.is
     ∙ ap (λ (t : List ℕ). lines t) (regrouped ends.front rest)
-    ∙ ap (λ (t : List ℕ). pieces 10 t) (returns-spaced ends.front rest ends.free ∙ grouped ends.front (without_returns rest))
-    ∙ pieces-append 10 (ends.front ++ 32 ∷ []) (without_returns rest) (Free-append 10 ends.front (32 ∷ []) ends.free ((λ e. omega (arith, e)), tt))
+    ∙ ap (λ (t : List ℕ). pieces 10 t) (returns-spaced ends.front rest ends.free
+    ∙ grouped ends.front (without_returns rest))
+    ∙ pieces-append 10 (ends.front ++ 32 ∷ []) (without_returns rest)
+    (Free-append 10 ends.front (32 ∷ []) ends.free ((λ e. omega (arith, e)), tt))
     ∙ ap (λ (t : List ℕ). t ∷ lines rest) (sym ends.is)
   where
     regrouped : (front rest : List ℕ) → ((front ++ 32 ∷ []) ++ 10 ∷ []) ++ rest ≡ front ++ 32 ∷ 10 ∷ rest
@@ -94,10 +99,35 @@ pub record IsSpelling (command : Instruction) (ws : List Word) : Type 0 where
   pub spells : SpellsCommand ws command
 
 -- those of a set-up
-init_spelling : (s : Setup) → CanBeSpelled (Once (Init s)) → IsSpelling (Once (Init s)) (words_of (Once (Init s)))
+init_spelling : (s : Setup) → CanBeSpelled (Once (Init s)) →
+    IsSpelling (Once (Init s)) (words_of (Once (Init s)))
 init_spelling s can =
     record {
-      plain = (plain_by_test (codes "init") (omega arith) refl, (plain-decimal s.n (omega (arith, can.0)), (plain-decimal s.l (omega (arith, can.1)), (plain-decimal s.b (omega (arith, can.2)), (plain-decimal s.profile (omega (arith, can.3)), (plain-decimal s.rounds (omega (arith, can.4)), (plain-decimal s.picks (omega (arith, can.5)), (plain-decimal s.tolerance (omega (arith, can.6)), (plain-encode s.master (size-master s.master can.7), tt)))))))));
+      plain = (
+        plain_by_test (codes "init") (omega arith) refl,
+        (
+          plain-decimal s.n (omega (arith, can.0)),
+          (
+            plain-decimal s.l (omega (arith, can.1)),
+            (
+              plain-decimal s.b (omega (arith, can.2)),
+              (
+                plain-decimal s.profile (omega (arith, can.3)),
+                (
+                  plain-decimal s.rounds (omega (arith, can.4)),
+                  (
+                    plain-decimal s.picks (omega (arith, can.5)),
+                    (
+                      plain-decimal s.tolerance (omega (arith, can.6)),
+                      (plain-encode s.master (size-master s.master can.7), tt),
+                    ),
+                  ),
+                ),
+              ),
+            ),
+          ),
+        ),
+      );
       some = omega arith;
       spells = (
         decimal s.n,
@@ -121,39 +151,69 @@ init_spelling s can =
     }
 
 -- those of a job's begin
-job_spelling : (kind : Kind) → CanBeSpelled (Once (Begin kind)) → IsSpelling (Once (Begin kind)) (words_of (Once (Begin kind)))
+job_spelling : (kind : Kind) → CanBeSpelled (Once (Begin kind)) →
+    IsSpelling (Once (Begin kind)) (words_of (Once (Begin kind)))
 job_spelling (PutJob name bytes) can = record {
-  plain = (plain_by_test (codes "begin") (omega arith) refl, (plain_by_test (codes "put") (omega arith) refl, (plain-name name can.1, (plain-hex_of bytes, tt))));
+  plain = (
+    plain_by_test (codes "begin") (omega arith) refl,
+    (plain_by_test (codes "put") (omega arith) refl, (plain-name name can.1, (plain-hex_of bytes, tt))),
+  );
   some = omega arith;
   spells = (hex_of bytes, refl, hex-hex_of bytes can.0.1);
 }
 job_spelling (GetJob name) can = record {
-  plain = (plain_by_test (codes "begin") (omega arith) refl, (plain_by_test (codes "get") (omega arith) refl, (plain-name name can.1, tt)));
+  plain = (
+    plain_by_test (codes "begin") (omega arith) refl,
+    (plain_by_test (codes "get") (omega arith) refl, (plain-name name can.1, tt)),
+  );
   some = omega arith;
   spells = refl;
 }
 job_spelling (DropJob name) can = record {
-  plain = (plain_by_test (codes "begin") (omega arith) refl, (plain_by_test (codes "drop") (omega arith) refl, (plain-name name can.1, tt)));
+  plain = (
+    plain_by_test (codes "begin") (omega arith) refl,
+    (plain_by_test (codes "drop") (omega arith) refl, (plain-name name can.1, tt)),
+  );
   some = omega arith;
   spells = refl;
 }
 job_spelling AuditJob can = record {
-  plain = (plain_by_test (codes "begin") (omega arith) refl, (plain_by_test (codes "audit") (omega arith) refl, tt));
+  plain = (
+    plain_by_test (codes "begin") (omega arith) refl,
+    (plain_by_test (codes "audit") (omega arith) refl, tt),
+  );
   some = omega arith;
   spells = refl;
 }
 job_spelling RepairJob can = record {
-  plain = (plain_by_test (codes "begin") (omega arith) refl, (plain_by_test (codes "repair") (omega arith) refl, tt));
+  plain = (
+    plain_by_test (codes "begin") (omega arith) refl,
+    (plain_by_test (codes "repair") (omega arith) refl, tt),
+  );
   some = omega arith;
   spells = refl;
 }
 job_spelling UpgradeJob can = absurd can.1
 
 -- those of a symbol that is altered
-alter_spelling : (provider object stripe place symbol : ℕ) → CanBeSpelled (Once (Alter provider object stripe place symbol)) →
-    IsSpelling (Once (Alter provider object stripe place symbol)) (words_of (Once (Alter provider object stripe place symbol)))
+alter_spelling : (provider object stripe place symbol : ℕ) →
+    CanBeSpelled (Once (Alter provider object stripe place symbol)) →
+    IsSpelling (Once (Alter provider object stripe place symbol))
+    (words_of (Once (Alter provider object stripe place symbol)))
 alter_spelling provider object stripe place symbol can = record {
-  plain = (plain_by_test (codes "alter") (omega arith) refl, (plain-decimal provider (omega (arith, can.0)), (plain-decimal object (omega (arith, can.1)), (plain-decimal stripe (omega (arith, can.2)), (plain-decimal place (omega (arith, can.3)), (plain-decimal symbol can.4, tt))))));
+  plain = (
+    plain_by_test (codes "alter") (omega arith) refl,
+    (
+      plain-decimal provider (omega (arith, can.0)),
+      (
+        plain-decimal object (omega (arith, can.1)),
+        (
+          plain-decimal stripe (omega (arith, can.2)),
+          (plain-decimal place (omega (arith, can.3)), (plain-decimal symbol can.4, tt)),
+        ),
+      ),
+    ),
+  );
   some = omega arith;
   spells = (
     decimal provider,
@@ -174,7 +234,13 @@ alter_spelling provider object stripe place symbol can = record {
 lose_spelling : (provider object stripe : ℕ) → CanBeSpelled (Once (Lose provider object stripe)) →
     IsSpelling (Once (Lose provider object stripe)) (words_of (Once (Lose provider object stripe)))
 lose_spelling provider object stripe can = record {
-  plain = (plain_by_test (codes "lose") (omega arith) refl, (plain-decimal provider (omega (arith, can.0)), (plain-decimal object (omega (arith, can.1)), (plain-decimal stripe (omega (arith, can.2)), tt))));
+  plain = (
+    plain_by_test (codes "lose") (omega arith) refl,
+    (
+      plain-decimal provider (omega (arith, can.0)),
+      (plain-decimal object (omega (arith, can.1)), (plain-decimal stripe (omega (arith, can.2)), tt)),
+    ),
+  );
   some = omega arith;
   spells = (
     decimal provider,
@@ -190,8 +256,18 @@ lose_spelling provider object stripe can = record {
 -- those of any command
 word_spelling : (command : Instruction) → CanBeSpelled command → IsSpelling command (words_of command)
 word_spelling (Once (Init s)) can = init_spelling s can
-word_spelling (Once Reopen) can = record { plain = (plain_by_test (codes "reopen") (omega arith) refl, tt); some = omega arith; spells = refl }
-word_spelling (Once Names) can = record { plain = (plain_by_test (codes "list") (omega arith) refl, tt); some = omega arith; spells = refl }
+word_spelling (Once Reopen) can =
+    record {
+      plain = (plain_by_test (codes "reopen") (omega arith) refl, tt);
+      some = omega arith;
+      spells = refl;
+    }
+word_spelling (Once Names) can =
+    record {
+      plain = (plain_by_test (codes "list") (omega arith) refl, tt);
+      some = omega arith;
+      spells = refl;
+    }
 word_spelling (Once (Begin kind)) can = job_spelling kind can
 word_spelling (Once (Step job)) can = record {
   plain = (plain_by_test (codes "step") (omega arith) refl, (plain-decimal job (omega (arith, can)), tt));
@@ -203,7 +279,8 @@ word_spelling (RunJob job) can = record {
   some = omega arith;
   spells = (decimal job, refl, number-decimal 32 job can (omega (arith, can)));
 }
-word_spelling (Once (Alter provider object stripe place symbol)) can = alter_spelling provider object stripe place symbol can
+word_spelling (Once (Alter provider object stripe place symbol)) can =
+    alter_spelling provider object stripe place symbol can
 word_spelling (Once (Lose provider object stripe)) can = lose_spelling provider object stripe can
 word_spelling (Once (Stop picks)) can = record {
   plain = (plain_by_test (codes "stop") (omega arith) refl, (plain-hex_of picks, tt));
@@ -222,11 +299,14 @@ body_line [] some all = absurd (omega arith)
 body_line (word ∷ ws) some all = body-ends word ws all
 
 -- the lines of commands that can be spelled are a schedule of them
-pub spelling_is : (commands : List Instruction) → AllByRecursion CanBeSpelled commands → IsSchedule (schedule_bytes commands) commands
+pub spelling_is : (commands : List Instruction) → AllByRecursion CanBeSpelled commands →
+    IsSchedule (schedule_bytes commands) commands
 spelling_is [] can = inl (tt, refl)
 spelling_is (command ∷ commands) can =
     let ws = words_of command in
     let line = word_spelling command can.0 in
     let split = lines-line (body ws) (schedule_bytes commands) (body_line ws line.some line.plain) in
-    let spells : SpellsCommand (words (body ws)) command = subst (λ (t : List Word). SpellsCommand t command) (sym (words-body ws line.plain)) line.spells in
-    subst (λ (ls : List (List ℕ)). AreLines ls (command ∷ commands)) (sym split) (inr (command, commands, refl, spells, spelling_is commands can.1))
+    let spells : SpellsCommand (words (body ws)) command =
+    subst (λ (t : List Word). SpellsCommand t command) (sym (words-body ws line.plain)) line.spells in
+    subst (λ (ls : List (List ℕ)). AreLines ls (command ∷ commands)) (sym split)
+    (inr (command, commands, refl, spells, spelling_is commands can.1))

@@ -3,8 +3,8 @@ use key_schedule::Master;
 use record_codec::Setup;
 use stream_model::Bytes;
 
-/// An event of a replay: what one line of a schedule asks for. A name is the bytes of its word, whatever they are: they may be
-/// no name of a file.
+/// An event of a replay: what one line of a schedule asks for. A name is the bytes of its word, whatever they
+/// are: they may be no name of a file.
 #[derive(Drop)]
 pub enum Event {
     /// Sets the disk up.

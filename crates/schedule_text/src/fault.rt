@@ -5,7 +5,8 @@ ghost use Rattle.schedule_text.specs.declared.fault.ScheduleFault.TheVariants as
 use std::alloc::AllocFailed;
 use stream_model::Memory;
 
-/// Why a schedule is not read: a line outside the grammar, which is the first such one, numbered from 1; or want of memory.
+/// Why a schedule is not read: a line outside the grammar, which is the first such one, numbered from 1; or
+/// want of memory.
 #[derive(Clone, Copy)]
 pub enum ScheduleFault {
     BadLine { number: u64 },

@@ -40,7 +40,8 @@ own_row o bytes number stripe place seen opened p is shape row few opens accepte
     elim (same_or_other (values_at (upto o.shape.l) p) (primary_row o (symbols_in o bytes stripe) place)) [
       | inl same ↦ same
       | inr other ↦ absurd (too_few
-          (forgery-of_other o bytes number (λ s. seen) stripe place opened p is shape row opens accepted other))
+          (forgery-of_other o bytes number (λ s. seen) stripe place opened p is shape row opens accepted
+          other))
     ]
   where
     too_few : IsStripeForgery o bytes (λ s. seen) stripe place → ⊥

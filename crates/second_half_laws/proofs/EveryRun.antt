@@ -374,7 +374,8 @@ module _ (limit : ℕ) (start : State) (m : Moment) (ms : List Moment) (A : All 
   bounds p o i s setup below l k = (
     subst (λ (t : Setup). i < t.n) setup l,
     subst (λ (t : Setup). s < stripes_of (profiled t p) (length ((now start ms).bytes o))) setup
-        (subst (λ (y : List ℕ). s < stripes_of (profiled (setup_in m.state) p) (length y)) (X.bytes o below) k),
+        (subst (λ (y : List ℕ). s < stripes_of (profiled (setup_in m.state) p) (length y))
+        (X.bytes o below) k),
   )
 
   -- the number of a file in effect has been drawn
@@ -973,7 +974,8 @@ module _ (limit : ℕ) (start : State) (m : Moment) (ms : List Moment) (A : All 
         let place : j.place ≡ x.place + 1 = ap (λ (z : Job). z.place) is in
         let kx : x.kind ≡ AuditJob = sym (ap (λ (z : Job). z.kind) is) ∙ kind in
         let g = audit_writes (now start ms) x x.kind a.entry number u c kx writes e in (
-          g.0 ∙ sym (ap (λ (z : Job). z.subject) is ∙ drawn_later (now start ms) x x.kind (first_above x g.1)),
+          g.0 ∙ sym (ap (λ (z : Job). z.subject) is
+              ∙ drawn_later (now start ms) x x.kind (first_above x g.1)),
           (let l = g.1 in omega arith),
         ))
   ]

@@ -104,10 +104,6 @@ left_of t j = drop j.place (actions_of t j)
 abbrev most_by : Setup → Kind → ℕ → ℕ → ℕ
 most_by t kind len count = len + cond (removes_older (aim_of kind) && nat_lt 0 count) t.n 0
 
-most_is : (t : Setup) (j : Job) →
-    most_left t j ≡ most_by t j.kind (length (left_of t j)) (count_by ends_append (left_of t j))
-most_is t j = refl
-
 -- what is left before and after an action
 left_next : (t : Setup) (x j : Job) (action : Action) → slice_get (actions_of t x) x.place ≡ Some action →
     j.place ≡ x.place + 1 → shape (actions_of t j) ≡ shape (actions_of t x) →

@@ -350,7 +350,8 @@ flight_step limit start m ms A V M F X W a j h hj =
             | Went.kept r apart ↦ F b j flight (subst (λ n. job_of (now start ms).jobs n ≡ Some j) job_is r)
             | Went.begun kind wish is k_is rec2 ↦
                 absurd (let l = A.numbers.holder b flight in omega (arith, l, k_is, job_is))
-            | Went.went x action g ↦ final_on (now start ms) x action m.state j b flight g.unheld g.next g.passed
+            | Went.went x action g ↦
+                final_on (now start ms) x action m.state j b flight g.unheld g.next g.passed
                 (F b x flight (subst (λ n. job_of (now start ms).jobs n ≡ Some x) job_is g.runs))
           ])
       | Append_is.drew x runs next_is mine writes found rec ↦

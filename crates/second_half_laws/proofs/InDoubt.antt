@@ -277,7 +277,8 @@ rewritten limit mark start clean tell (m ∷ ms) run calm marks =
                     told)
                 | inr rest ↦ elim (quiet_blocks (now start ms) limit
                     (length ms) m.event m.outcome m.state rest run.1 i o s) [
-                      | inl e ↦ before d job i o s b was maker kind old (replaced_before job.begun i m ms none)
+                      | inl e ↦ before d job i o s b was maker kind old
+                          (replaced_before job.begun i m ms none)
                           (sym e ∙ told)
                       | inr r ↦ absurd (false≢true
                           (sym none ∙ since_now job.begun i m ms r

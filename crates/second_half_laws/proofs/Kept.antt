@@ -58,7 +58,8 @@ module _ (limit : ℕ) (start : State) (m : Moment) (ms : List Moment) (A : All 
       (λ x runs o. A.pins.older_free x.number k x j f.id f runs o runs_j p refl)) [
         | inl same ↦ same
         | inr scrubs ↦ absurd
-            (found_none (now start ms).jobs k j (A.numbers.idle.lone (Scrubbing scrubs.scrub) scrubs.runs) runs_j)
+            (found_none (now start ms).jobs k j (A.numbers.idle.lone (Scrubbing scrubs.scrub) scrubs.runs)
+            runs_j)
       ]
 
 -- a block of a file in effect stays, or is replaced, or a repair or a scrub stores it

@@ -86,7 +86,8 @@ given_answer (Answered k p t c ∷ more) i o s symbol h =
           let x = eqb-true k i v.0 in
           let y = eqb-true p o v.1 in
           let z = eqb-true t s u.1 in
-          inl (let f : Answered i o s (answer_given (Answered k p t c ∷ more) o s i) ≡ Answered k p t c = cc in
+          inl (let f : Answered i o s (answer_given (Answered k p t c ∷ more) o s i) ≡ Answered k p t c =
+          cc in
           f))
       | inr b ↦ (let e : answer_given (Answered k p t c ∷ more) o s i ≡ answer_given more o s i =
           cond_false (((k == i) && (p == o)) && (t == s)) c (answer_given more o s i) b in

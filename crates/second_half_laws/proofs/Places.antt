@@ -118,7 +118,8 @@ piece_stores t job id st i o s p h =
     elim (split_get (open_actions t id st) (rewrite_actions t job id st) p (Store i o s) h) [
       | inl x ↦ absurd (each_get NoStore (open_actions t id st) p (Store i o s)
           (opens_nothing t NoStore id st (λ j. tt) tt) x.1)
-      | inr x ↦ (let of = each_get (IsOf id st) (rewrite_actions t job id st) (p - length (open_actions t id st))
+      | inr x ↦ (let of = each_get (IsOf id st) (rewrite_actions t job id st)
+          (p - length (open_actions t id st))
           (Store i o s) (rewrites_fair t job (IsOf id st) id st (λ j. (refl, refl))) x.1 in
           let at : Stands (Work id st) (open_actions t id st) =
           stands_right (on_each_provider t (λ j. Fetch j id st)) (Work id st ∷ []) (Work id st) (0, refl) in

@@ -270,7 +270,8 @@ module _ (limit : ℕ) (mark : Mark) (start : State) (m : Moment) (ms : List Mom
             held f.id s,
             ap (option_map (λ (y : Held). y f.id s)) is,
             sized_wrong (pinned_object (now start ms) f) ((now start ms).bytes f.id) i s (held f.id s)
-                (subst (λ y. is_wrong_block (pinned_object (now start ms) f) ((now start ms).bytes f.id) i s y ≡ true)
+                (subst (λ y. is_wrong_block (pinned_object (now start ms) f) ((now start ms).bytes f.id) i s y
+                ≡ true)
                 gives wrong),
           )))
 
@@ -339,7 +340,8 @@ module _ (limit : ℕ) (mark : Mark) (start : State) (m : Moment) (ms : List Mom
                 (pt.wrong_old limit mark start m ms clean run A U I E X T f.profile f.id i s block setup
                 (X.bytes f.id below) wrong)
                 (found x action gift is_gift (sym e)))
-            | inr in_given ↦ before x runs (ap (λ (y : Job). y.begun) is) (ap (λ (y : Job). y.pinned) is) in_given
+            | inr in_given ↦ before x runs (ap (λ (y : Job). y.begun) is)
+                (ap (λ (y : Job). y.pinned) is) in_given
           ]
       by_passed x action runs (Passed.drew act is rec) =
           before x runs (ap (λ (y : Job). y.begun) is) (ap (λ (y : Job). y.pinned) is)

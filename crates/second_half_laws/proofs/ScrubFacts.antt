@@ -434,7 +434,8 @@ module _ (limit : ℕ) (mark : Mark) (start : State) (m : Moment) (ms : List Mom
             | inl old ↦
                 (let n : s < stripes_of (profiled (setup_in (now start ms)) f.profile)
                 (length ((now start ms).bytes f.id)) =
-                subst (λ (y : List ℕ). s < stripes_of (profiled (setup_in (now start ms)) f.profile) (length y))
+                subst (λ (y : List ℕ). s < stripes_of (profiled (setup_in (now start ms)) f.profile)
+                (length y))
                 (own_bytes (now start ms) f st) (subst (λ (t : Setup). s < pinned_stripes t f) setup k) in
                 elim (moment.clear st.name st.file i s st.in_effect (subst (λ (t : Setup). i < t.n) setup l)
                 (subst (λ (x : Pinned). s < stripes_of (profiled (setup_in (now start ms)) x.profile)

@@ -362,7 +362,8 @@ module _ (limit : ℕ) (mark : Mark) (start : State) (m : Moment) (ms : List Mom
             by_store (inr h) = inr (inr h)
 
     -- a stripe that the scrub opened just now
-    module _ (calm : replaced_count (now start ms) (scrub_mark mark ms scrub) ms ≤ (setup_in (now start ms)).b)
+    module _ (calm : replaced_count (now start ms) (scrub_mark mark ms scrub)
+        ms ≤ (setup_in (now start ms)).b)
         (o s : ℕ) (rest : List Action) (symbols : List ℕ) (todo : scrub.todo ≡ Work o s ∷ rest)
         (gives : GivesSymbols (scrubbed_object (now start ms) scrub o) s
         (blocks_given scrub.given (setup_in (now start ms)).n o s) symbols) where

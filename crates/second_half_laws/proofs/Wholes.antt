@@ -461,7 +461,8 @@ pub doubt_made : (limit : ℕ) (start : State) → IsStart start → (ms : List 
     slice_get (actions_of (setup_in (now start ms)) job) p ≡ Some action → WasMade start ms job action
 doubt_made limit start clean ms run d job p action h maker l at =
     elim ((facts limit start clean ms run).doubt d h) [
-      | Standing.bare s entry none_maker none_ ↦ absurd (let e : None ≡ Some job = sym none_maker ∙ maker in cc)
+      | Standing.bare s entry none_maker none_ ↦ absurd
+          (let e : None ≡ Some job = sym none_maker ∙ maker in cc)
       | Standing.by_job x maker_x done ↦
           (let same : advanced x ≡ job = (let e : Some (advanced x) ≡ Some job = sym maker_x ∙ maker in cc) in
           let place : x.place + 1 ≡ job.place = ap (λ (y : Job). y.place) same in

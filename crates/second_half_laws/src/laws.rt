@@ -1,5 +1,6 @@
-//! Laws over runs for the second half of the main theorem: what holds in calm runs and in others, what a job has done by the time that it
-//! comes to a place in its list of actions, and what providers hold since a mark.
+//! Laws over runs for the second half of the main theorem: what holds in calm runs and in others, what a job
+//! has done by the time that it comes to a place in its list of actions, and what providers hold since a
+//! mark.
 ghost use Rattle.std.specs.Prelude.{◌≡◌, ◌⊎◌, ℕ, ◌<◌, ◌≤◌, List, ◌∷◌, ◌++◌, length, Option, Some, IsTrue, suc, ◌+◌, ◌==◌, false, slice_get, true, None};
 ghost use Rattle.std.specs.List.{Contains};
 ghost use Rattle.hail_field.specs.Shape.{IsShape};
@@ -59,7 +60,8 @@ pub fn stored_names_begin()
         file_in (now start ms) name ≡ Some file → IsGetRefusal why }
 {}
 
-/// A get that a step ends, ends with bytes or is lost: no disk fault, no provider's fault and no want of memory ends one.
+/// A get that a step ends, ends with bytes or is lost: no disk fault, no provider's fault and no want of
+/// memory ends one.
 pub fn gets_end_so()
     ensures { (limit : ℕ) (start : State) (m : Moment) (ms : List Moment) (job : Job) (name : List ℕ)
         (how : Answer) → IsStart start →
@@ -69,8 +71,9 @@ pub fn gets_end_so()
         ⊎ ((stripe : ℕ) × (row : ℕ) × (how ≡ Lost stripe row)) }
 {}
 
-/// Few wrong blocks leave a get its file: where of each stripe at most b providers gave it a wrong block or none, the bytes that it
-/// ended with are those that were in effect under its name at its begin; and it is not lost at a stripe of which so few did.
+/// Few wrong blocks leave a get its file: where of each stripe at most b providers gave it a wrong block or
+/// none, the bytes that it ended with are those that were in effect under its name at its begin; and it is
+/// not lost at a stripe of which so few did.
 pub fn few_wrong_blocks_give_file()
     ensures bytes { (limit : ℕ) (start : State) (m : Moment) (ms : List Moment) (job : Job)
         (name bytes : List ℕ) (file : File) →
@@ -91,10 +94,10 @@ pub fn few_wrong_blocks_give_file()
         IsFewWrong (now start (first_moments job.begun ms)) file job stripe → ⊥ }
 {}
 
-/// What a provider tells of a block of a file in effect, or of a file that a running get, audit or repair works on, changes in an event
-/// only by a replacement of that provider, or by a store with which a running repair rewrites the block: no put stores under the
-/// file's number, and no job that takes an object away takes this one. While no job runs, a scrub may store the block of a file in
-/// effect that it opened.
+/// What a provider tells of a block of a file in effect, or of a file that a running get, audit or repair
+/// works on, changes in an event only by a replacement of that provider, or by a store with which a running
+/// repair rewrites the block: no put stores under the file's number, and no job that takes an object away
+/// takes this one. While no job runs, a scrub may store the block of a file in effect that it opened.
 pub fn kept_blocks_stay()
     ensures in_effect { (limit : ℕ) (start : State) (m : Moment) (ms : List Moment) (name : List ℕ)
         (file : File) (j stripe : ℕ) →
@@ -119,9 +122,9 @@ pub fn counts_never_fall()
         ((now start ms).providers j).other_faults ≤ (m.state.providers j).other_faults }
 {}
 
-/// A device's failed calls are at most as many as its count rose, in any part of a run: of the disk the events that ended in its fault, of
-/// a provider the stores that ended so, and the fetches, asks and removals of jobs that gave or left something else than those that go
-/// well.
+/// A device's failed calls are at most as many as its count rose, in any part of a run: of the disk the
+/// events that ended in its fault, of a provider the stores that ended so, and the fetches, asks and removals
+/// of jobs that gave or left something else than those that go well.
 pub fn failed_calls_are_counted()
     ensures { (limit : ℕ) (start : State) (later ms : List Moment) (count : Count) (n : ℕ)
         → IsRun limit start (later ++ ms) →
@@ -135,8 +138,9 @@ pub fn telling_goes_on()
         → AllTell (now start ms) }
 {}
 
-/// A step in which a job makes a fetch gives it what the provider holds then: the held block if it is of the size, or none; or none
-/// and the provider's count of failed calls rose. Of a provider that does not tell what it holds it is any block of the size or none.
+/// A step in which a job makes a fetch gives it what the provider holds then: the held block if it is of the
+/// size, or none; or none and the provider's count of failed calls rose. Of a provider that does not tell
+/// what it holds it is any block of the size or none.
 pub fn fetches_give_held_blocks()
     ensures { (limit : ℕ) (start : State) (m : Moment) (ms : List Moment) (job : Job) (j object stripe : ℕ)
         → IsRun limit start (m ∷ ms) →
@@ -144,8 +148,9 @@ pub fn fetches_give_held_blocks()
         → GaveFetched (now start ms) m.state job j object stripe }
 {}
 
-/// Blocks that are absent do no harm to accepted rows: where at most b providers' blocks of a stripe are there and wrong, however many
-/// are absent, each accepted row has the file's own primary symbols, and what the blocks give, if anything, are the file's symbols.
+/// Blocks that are absent do no harm to accepted rows: where at most b providers' blocks of a stripe are
+/// there and wrong, however many are absent, each accepted row has the file's own primary symbols, and what
+/// the blocks give, if anything, are the file's symbols.
 pub fn absent_blocks_leave_rows_right()
     ensures rows { (o : Object) (bytes : List ℕ) (number stripe place : ℕ) (seen opened : List SeenBlock)
         (p : List ℕ) →
@@ -161,9 +166,9 @@ pub fn absent_blocks_leave_rows_right()
         GivesSymbols o stripe seen symbols → symbols ≡ symbols_in o bytes stripe }
 {}
 
-/// Each block or none that a running job was given by a fetch, it was given at a moment since its begin: what the provider held then, if
-/// it was of the size, or none and the provider's count of failed calls rose. Of a provider that does not tell what it holds it is any
-/// block of the size or none.
+/// Each block or none that a running job was given by a fetch, it was given at a moment since its begin: what
+/// the provider held then, if it was of the size, or none and the provider's count of failed calls rose. Of a
+/// provider that does not tell what it holds it is any block of the size or none.
 pub fn given_blocks_were_held()
     ensures { (limit : ℕ) (start : State) (ms : List Moment) (number : ℕ) (job : Job) (j object stripe : ℕ)
         (block : Option (List ℕ)) →
@@ -179,8 +184,8 @@ pub fn setups_stay()
         setup_of (now start ms).records ≡ Some s → setup_of (now start (later ++ ms)).records ≡ Some s }
 {}
 
-/// Each action before the place of a running job it made at a moment since its begin, and went on; also each action before the place of
-/// the move by which a job put a record in doubt, whether it runs on or has ended.
+/// Each action before the place of a running job it made at a moment since its begin, and went on; also each
+/// action before the place of the move by which a job put a record in doubt, whether it runs on or has ended.
 pub fn passed_actions_were_made()
     ensures running { (limit : ℕ) (start : State) (ms : List Moment) (number : ℕ) (job : Job) (place : ℕ)
         (action : Action) →
@@ -196,8 +201,8 @@ pub fn passed_actions_were_made()
         → WasMade start ms job action }
 {}
 
-/// Each block or none that a running job was given, it was given by a fetch that it made at a moment since its begin; and each answer by
-/// an ask.
+/// Each block or none that a running job was given, it was given by a fetch that it made at a moment since
+/// its begin; and each answer by an ask.
 pub fn given_things_were_made()
     ensures blocks { (limit : ℕ) (start : State) (ms : List Moment) (number : ℕ) (job : Job)
         (j object stripe : ℕ)
@@ -211,8 +216,8 @@ pub fn given_things_were_made()
         Contains job.given (Answered j object round symbol) → WasAsked start ms job j object round symbol }
 {}
 
-/// At the work of a running job on a stripe, and after it, each of the n providers was asked for its block of the stripe: what the job
-/// was given of each it was given by a fetch that it made since its begin.
+/// At the work of a running job on a stripe, and after it, each of the n providers was asked for its block of
+/// the stripe: what the job was given of each it was given by a fetch that it made since its begin.
 pub fn work_has_its_fetches()
     ensures given { (limit : ℕ) (start : State) (ms : List Moment) (number : ℕ) (job : Job)
         (place j object stripe : ℕ) → IsStart start →
@@ -228,8 +233,8 @@ pub fn work_has_its_fetches()
         WasFetched start ms job j object stripe (block_given job.given object stripe j) }
 {}
 
-/// A get that ends with bytes was given, of each stripe and each of the n providers, what a fetch gave that it made since its begin; one
-/// that is lost at a stripe, so of that stripe.
+/// A get that ends with bytes was given, of each stripe and each of the n providers, what a fetch gave that
+/// it made since its begin; one that is lost at a stripe, so of that stripe.
 pub fn ended_gets_fetched()
     ensures with_bytes { (limit : ℕ) (start : State) (m : Moment) (ms : List Moment) (job : Job)
         (name bytes : List ℕ) (file : File)
@@ -249,8 +254,8 @@ pub fn ended_gets_fetched()
         WasFetched start ms job j file.id stripe (block_given job.given file.id stripe j) }
 {}
 
-/// The symbols that a running job's work on a stripe gave are those that blocks open to, each of which a fetch gave that the job made
-/// since its begin; so it is of what a repair stores.
+/// The symbols that a running job's work on a stripe gave are those that blocks open to, each of which a
+/// fetch gave that the job made since its begin; so it is of what a repair stores.
 pub fn work_opened_what_was_fetched()
     ensures passed { (limit : ℕ) (start : State) (ms : List Moment) (number : ℕ) (job : Job)
         (place object stripe : ℕ) →
@@ -266,10 +271,11 @@ pub fn work_opened_what_was_fetched()
         WasOpened start ms job object stripe (symbols_given job.given object stripe) }
 {}
 
-/// A running put that has come past its stores made its store of each stripe on each provider since its begin; and so did the put whose
-/// end stands in doubt, whether it runs on or has ended, and that whose end comes into effect, by its own step or by being settled. Its object number stands
-/// for its bytes, and from the moment at which its end comes into effect it does so for ever. Its profile is that of the record, or the
-/// setup's where the record has none.
+/// A running put that has come past its stores made its store of each stripe on each provider since its
+/// begin; and so did the put whose end stands in doubt, whether it runs on or has ended, and that whose end
+/// comes into effect, by its own step or by being settled. Its object number stands for its bytes, and from
+/// the moment at which its end comes into effect it does so for ever. Its profile is that of the record, or
+/// the setup's where the record has none.
 pub fn done_puts_are_whole()
     ensures running { (limit : ℕ) (start : State) (ms : List Moment) (number : ℕ) (job : Job)
         (name bytes : List ℕ) → IsStart start →
@@ -297,7 +303,8 @@ pub fn done_puts_are_whole()
         × ((now start (later ++ m ∷ ms)).bytes id ≡ put.bytes) }
 {}
 
-/// The same of a repair: it made its store of each stripe of each of its files on each flagged provider, after its work on that stripe.
+/// The same of a repair: it made its store of each stripe of each of its files on each flagged provider,
+/// after its work on that stripe.
 pub fn done_repairs_are_whole()
     ensures running { (limit : ℕ) (start : State) (ms : List Moment) (number : ℕ) (job : Job)
         → IsStart start →
@@ -331,8 +338,9 @@ pub fn done_audits_are_whole()
         (job : Job) × AuditIsWhole start ms job id undecided counts }
 {}
 
-/// Steps left fall: a step of a job that goes on lowers the largest number of steps that may remain by one, or, where the job decides in
-/// it that it takes no object away, by the removals that it counted, one from each provider, and one. No other event that leaves the job running changes it, and it is never 0.
+/// Steps left fall: a step of a job that goes on lowers the largest number of steps that may remain by one,
+/// or, where the job decides in it that it takes no object away, by the removals that it counted, one from
+/// each provider, and one. No other event that leaves the job running changes it, and it is never 0.
 pub fn steps_left_fall()
     ensures step { (limit : ℕ) (start : State) (m : Moment) (ms : List Moment) (before job : Job)
         → IsStart start →
@@ -353,30 +361,32 @@ pub fn steps_left_fall()
         job_of (now start ms).jobs number ≡ Some job → 1 ≤ most_left (setup_in (now start ms)) job }
 {}
 
-/// The own blocks of all providers of a stripe open to the file's symbols of the stripe, in each profile and each shape.
+/// The own blocks of all providers of a stripe open to the file's symbols of the stripe, in each profile and
+/// each shape.
 pub fn own_blocks_give_symbols()
     ensures { (o : Object) (bytes : List ℕ) (number stripe : ℕ) → o.profile ≡ profile_of number →
         IsShape o.shape.n o.shape.l o.shape.b
         → GivesSymbols o stripe (own_blocks o bytes stripe) (symbols_in o bytes stripe) }
 {}
 
-/// The second half of the main theorem: in every calm run, with calm scrubs, in which no audit missed damage, of providers that tell what
-/// they hold, every
-/// get of a stored name that a step ended gave the bytes that were in effect under it at its begin, unless the count of the disk or of
-/// a provider rose since; and its begin was refused for MustReopen, Busy or Memory alone.
+/// The second half of the main theorem: in every calm run, with calm scrubs, in which no audit missed damage,
+/// of providers that tell what they hold, every get of a stored name that a step ended gave the bytes that
+/// were in effect under it at its begin, unless the count of the disk or of a provider rose since; and its
+/// begin was refused for MustReopen, Busy or Memory alone.
 pub fn second_half()
     ensures { SecondHalfHolds }
 {}
 
-/// Any mark will do in place of the begin of the last settled audit: the second half holds of each run that is calm by a mark which at
-/// each moment is one, whatever audits missed.
+/// Any mark will do in place of the begin of the last settled audit: the second half holds of each run that
+/// is calm by a mark which at each moment is one, whatever audits missed.
 pub fn any_mark_will_do()
     ensures { (limit : ℕ) (mark : Mark) (start : State) (ms : List Moment) → IsMarkedRun limit mark start ms
         → SecondHalf start ms }
 {}
 
-/// In a run that is calm by a mark, whatever counts rose, no fetched row of a get is a forgery; a get that ends with bytes gives those that
-/// were in effect under its name at its begin; and it is lost only where the count of failed calls of a provider rose since that begin.
+/// In a run that is calm by a mark, whatever counts rose, no fetched row of a get is a forgery; a get that
+/// ends with bytes gives those that were in effect under its name at its begin; and it is lost only where the
+/// count of failed calls of a provider rose since that begin.
 pub fn gets_give_or_are_lost()
     ensures no_forgery { (limit : ℕ) (mark : Mark) (start : State) (ms : List Moment) (number : ℕ)
         (job : Job) (name : List ℕ) (file : File) →
@@ -399,8 +409,9 @@ pub fn gets_give_or_are_lost()
         symbols ≡ symbols_in (worked_object (now start ms) job object) ((now start ms).bytes object) stripe }
 {}
 
-/// In every run, calm or not, a moment before which no put began that works stays one in each event; and in a run that is calm by any mark,
-/// for scrubs too, so does one since which, moreover, all damage of files in effect is new.
+/// In every run, calm or not, a moment before which no put began that works stays one in each event; and in a
+/// run that is calm by any mark, for scrubs too, so does one since which, moreover, all damage of files in
+/// effect is new.
 pub fn marks_stay()
     ensures before_puts { (limit : ℕ) (start : State) (m : Moment) (ms : List Moment) (from : ℕ)
         → IsStart start → IsRun limit start (m ∷ ms) →
@@ -410,14 +421,15 @@ pub fn marks_stay()
         IsRun limit start (m ∷ ms) → IsMark start ms from → IsMark start (m ∷ ms) from }
 {}
 
-/// In a calm run in which no audit missed damage, the begin of the last settled audit is at each moment a mark.
+/// In a calm run in which no audit missed damage, the begin of the last settled audit is at each moment a
+/// mark.
 pub fn settled_audits_are_marks()
     ensures { (limit : ℕ) (start : State) (ms : List Moment) → IsCalmRun limit start ms
         → IsMarkedRun limit (since start) start ms }
 {}
 
-/// The start of the run is a mark, in each run that is calm by it: where for no get, repair or scrub more than b providers were replaced
-/// since the start, audits need not settle anything.
+/// The start of the run is a mark, in each run that is calm by it: where for no get, repair or scrub more
+/// than b providers were replaced since the start, audits need not settle anything.
 pub fn the_start_is_a_mark()
     ensures { (limit : ℕ) (start : State) (ms : List Moment) → IsStart start → AllTell start
         → IsRun limit start ms →
@@ -425,8 +437,8 @@ pub fn the_start_is_a_mark()
         → IsMarkedRun limit (λ moments. 0) start ms }
 {}
 
-/// A provider that is wrong for a file in effect was replaced since the mark, which in a calm run in which no audit missed damage is the
-/// begin of the last settled audit.
+/// A provider that is wrong for a file in effect was replaced since the mark, which in a calm run in which no
+/// audit missed damage is the begin of the last settled audit.
 pub fn damage_in_effect_is_new()
     ensures { (limit : ℕ) (mark : Mark) (start : State) (ms : List Moment) (name : List ℕ) (file : File)
         (j : ℕ) →
@@ -447,9 +459,9 @@ pub fn puts_begin_after_settled_audits()
         → since start ms ≤ begun_of d.maker }
 {}
 
-/// In every run, calm or not, while a put's last record is in doubt, whether its job runs on or has ended, and where it comes into effect,
-/// be it at its gate or as it is settled, each block of its file is the provider's own column, unless the provider was replaced since
-/// the put's begin.
+/// In every run, calm or not, while a put's last record is in doubt, whether its job runs on or has ended,
+/// and where it comes into effect, be it at its gate or as it is settled, each block of its file is the
+/// provider's own column, unless the provider was replaced since the put's begin.
 pub fn done_puts_are_columns()
     ensures in_doubt { (limit : ℕ) (start : State) (ms : List Moment) (d : Doubt)
         (id size profile j stripe : ℕ) (block : Option (List ℕ)) →
@@ -471,8 +483,8 @@ pub fn done_puts_are_columns()
         → block ≡ Some (columns (object_in m.state profile id) (m.state.bytes id) j stripe)) }
 {}
 
-/// What a repair has stored, one that runs or whose record is in doubt, is the provider's own column, unless the provider was replaced since
-/// the repair's begin: the symbols that its work gave are the file's.
+/// What a repair has stored, one that runs or whose record is in doubt, is the provider's own column, unless
+/// the provider was replaced since the repair's begin: the symbols that its work gave are the file's.
 pub fn repairs_store_columns()
     ensures stored { (limit : ℕ) (mark : Mark) (start : State) (ms : List Moment) (number : ℕ) (job : Job)
         (j object stripe : ℕ)
@@ -500,8 +512,9 @@ pub fn repairs_store_columns()
         symbols ≡ symbols_in (worked_object (now start ms) job object) ((now start ms).bytes object) stripe }
 {}
 
-/// In a calm run in which no audit missed damage, while a repair runs, each provider with a bad block of a file in effect was replaced since
-/// the begin of its audit, or is flagged and the store of the block is still to come; and once its record is in doubt, was replaced.
+/// In a calm run in which no audit missed damage, while a repair runs, each provider with a bad block of a
+/// file in effect was replaced since the begin of its audit, or is flagged and the store of the block is
+/// still to come; and once its record is in doubt, was replaced.
 pub fn repairs_leave_new_damage()
     ensures running { (limit : ℕ) (start : State) (ms : List Moment) (number : ℕ) (job : Job)
         (name : List ℕ) (file : File) (j stripe : ℕ) →
@@ -518,8 +531,8 @@ pub fn repairs_leave_new_damage()
         IsReplaced ((now start ms).audits number) j ms }
 {}
 
-/// In a calm run in which no audit missed damage, while a repair is due, each provider that is wrong for a file in effect was replaced since
-/// the begin of the audit, or is flagged by it.
+/// In a calm run in which no audit missed damage, while a repair is due, each provider that is wrong for a
+/// file in effect was replaced since the begin of the audit, or is flagged by it.
 pub fn damage_while_a_repair_is_due()
     ensures { (limit : ℕ) (start : State) (ms : List Moment) (u : Due) (name : List ℕ) (file : File) (j : ℕ)
         → IsCalmRun limit start ms →
@@ -530,8 +543,9 @@ pub fn damage_while_a_repair_is_due()
         ⊎ (is_flagged (setup_in (now start ms)).tolerance u.counts j ≡ true) }
 {}
 
-/// In a calm run in which no audit missed damage, while an audit runs or its last record is in doubt, each provider that is wrong for a file in
-/// effect was replaced since its begin, or was wrong for it already at that begin.
+/// In a calm run in which no audit missed damage, while an audit runs or its last record is in doubt, each
+/// provider that is wrong for a file in effect was replaced since its begin, or was wrong for it already at
+/// that begin.
 pub fn damage_while_an_audit_runs()
     ensures running { (limit : ℕ) (start : State) (ms : List Moment) (number : ℕ) (job : Job)
         (name : List ℕ) (file : File) (j : ℕ) →
@@ -549,8 +563,9 @@ pub fn damage_while_an_audit_runs()
         ⊎ WasWrong (now start (first_moments ((now start ms).audits number) ms)) j file.id }
 {}
 
-/// Of a file that a running job works on, each provider with a bad block was replaced since the mark as it stood at the job's begin; and so
-/// was each that gave the job a wrong block, or it gave none and its count of failed calls rose since that begin.
+/// Of a file that a running job works on, each provider with a bad block was replaced since the mark as it
+/// stood at the job's begin; and so was each that gave the job a wrong block, or it gave none and its count
+/// of failed calls rose since that begin.
 pub fn damage_of_pinned_files_is_new()
     ensures held { (limit : ℕ) (mark : Mark) (start : State) (ms : List Moment) (number : ℕ) (job : Job)
         (file : Pinned) (j stripe : ℕ) →
@@ -573,8 +588,9 @@ pub fn damage_of_pinned_files_is_new()
         ⊎ ((block ≡ None) × RoseSince (now start (first_moments job.begun ms)) (now start ms) j) }
 {}
 
-/// In every run, calm or not, also while an audit's record is in doubt, whether its job runs on or has ended, what providers tell of the
-/// files that it worked on is what they told at its begin, unless they were replaced since.
+/// In every run, calm or not, also while an audit's record is in doubt, whether its job runs on or has ended,
+/// what providers tell of the files that it worked on is what they told at its begin, unless they were
+/// replaced since.
 pub fn audited_files_stay_in_doubt()
     ensures { (limit : ℕ) (start : State) (ms : List Moment) (d : Doubt) (job : Job) (file : Pinned)
         (j stripe : ℕ) → IsStart start →
@@ -585,8 +601,9 @@ pub fn audited_files_stay_in_doubt()
         ≡ told_block (now start (first_moments job.begun ms)) j file.id stripe }
 {}
 
-/// A finished scrub is a mark as well: in a run of providers that tell what they hold, calm counted from finished scrubs for gets, repairs and
-/// scrubs, the begin of the last scrub that ended Ok is at each moment a mark, and the second half holds, whatever audits missed.
+/// A finished scrub is a mark as well: in a run of providers that tell what they hold, calm counted from
+/// finished scrubs for gets, repairs and scrubs, the begin of the last scrub that ended Ok is at each moment
+/// a mark, and the second half holds, whatever audits missed.
 pub fn finished_scrubs_are_marks()
     ensures marks { (limit : ℕ) (start : State) (ms : List Moment) → IsStart start → AllTell start
         → IsRun limit start ms → IsScrubCalm start ms → IsMarkedRun limit (scrubbed start) start ms }

@@ -6,8 +6,8 @@ ghost use Rattle.machine_defs.specs.Runs.{Moment, IsRun, now};
 ghost use Rattle.machine_defs.specs.Transcripts.{Once, RunJob, CarriesOut};
 ghost use Rattle.machine_defs.specs.Examples.{set_up};
 
-/// A put of one byte over four providers, and a get that fetches its four blocks, works on them and ends with the byte. Schedules have
-/// the newest command first.
+/// A put of one byte over four providers, and a get that fetches its four blocks, works on them and ends with
+/// the byte. Schedules have the newest command first.
 pub fn stored_byte_is_got()
     ensures { (ms : List Moment) × IsRun 1 set_up ms
         × CarriesOut (RunJob 2 ∷ Once (Begin (GetJob (codes "a"))) ∷ RunJob 1

@@ -14,15 +14,19 @@ use Rattle.server_code.specs.Generator.{row_at, sums, IsGenerator}
 use Rattle.server_code.proofs.RowSteps.{get_or-sums}
 
 -- the kept symbols and their sums are the codeword
-pub extended_is_codeword : (profile : Profile) (rows kept : List ℕ) (n : ℕ) → IsGenerator profile rows → length kept ≡ profile.keep →
+pub extended_is_codeword : (profile : Profile) (rows kept : List ℕ) (n : ℕ) → IsGenerator profile rows →
+    length kept ≡ profile.keep →
     profile.keep + n ≡ profile.size → kept ++ sums rows kept n ≡ codeword profile kept
 extended_is_codeword profile rows kept n generator long sizes =
     fill_by_all (value (interpolate (upto profile.keep) kept)) (kept ++ sums rows kept n) profile.size 0
-    (length-append kept (sums rows kept n) ∙ omega (arith, length-map-range_with_len (λ r. dot (row_at (length kept) rows r) kept) 0 n))
+    (length-append kept (sums rows kept n)
+    ∙ omega (arith, length-map-range_with_len (λ r. dot (row_at (length kept) rows r) kept) 0 n))
     (λ k h. at k h (cases_lt k profile.keep))
   where
-    at : (k : ℕ) → k < profile.size → (k < profile.keep) ⊎ (profile.keep ≤ k) → get_or (kept ++ sums rows kept n) k 0 ≡ value (interpolate (upto profile.keep) kept) k
-    at k h (inl before) = get_or_append_left kept (sums rows kept n) 0 k (omega arith) ∙ sym (value-kept profile.keep kept k long before)
+    at : (k : ℕ) → k < profile.size → (k < profile.keep) ⊎ (profile.keep ≤ k) →
+        get_or (kept ++ sums rows kept n) k 0 ≡ value (interpolate (upto profile.keep) kept) k
+    at k h (inl before) = get_or_append_left kept (sums rows kept n) 0 k (omega arith)
+        ∙ sym (value-kept profile.keep kept k long before)
     at k h (inr behind) =
         let same : profile.keep + (k - profile.keep) ≡ k = omega arith in
         get_or-append_right kept (sums rows kept n) profile.keep k 0 long behind ∙
@@ -33,23 +37,28 @@ extended_is_codeword profile rows kept n generator long sizes =
         get_or-codeword profile kept k h
 
 -- a polynomial agrees with a block where the block does not differ from its values
-pub agree-differences : (p xs ys : List ℕ) → length xs ≡ length ys → agree p xs (map Some ys) + differences ys (values_at xs p) ≡ length xs
+pub agree-differences : (p xs ys : List ℕ) → length xs ≡ length ys →
+    agree p xs (map Some ys) + differences ys (values_at xs p) ≡ length xs
 unfolding agree_over is_seen_over
 agree-differences p [] [] even = refl
 agree-differences p [] (y ∷ ys) even = absurd (omega arith)
 agree-differences p (x ∷ xs) [] even = absurd (omega arith)
-agree-differences p (x ∷ xs) (y ∷ ys) even = go (nat_eq y (value p x)) (agree-differences p xs ys (omega arith))
+agree-differences p (x ∷ xs) (y ∷ ys) even =
+    go (nat_eq y (value p x)) (agree-differences p xs ys (omega arith))
   where
     go : (b : Bool) → agree p xs (map Some ys) + differences ys (values_at xs p) ≡ length xs →
-        cond b 1 0 + agree p xs (map Some ys) + cond b (differences ys (values_at xs p)) (suc (differences ys (values_at xs p))) ≡ suc (length xs)
+        cond b 1 0 + agree p xs (map Some ys) + cond b (differences ys (values_at xs p))
+        (suc (differences ys (values_at xs p))) ≡ suc (length xs)
     go true h = omega (arith, h)
     go false h = omega (arith, h)
 
 -- a block opens to what opens to itself and differs from it at few places
-pub near_opens : (profile : Profile) (block opened : List ℕ) → length block ≡ profile.size → Opens profile opened opened → differences block opened ≤ profile.fix → Opens profile block opened
+pub near_opens : (profile : Profile) (block opened : List ℕ) → length block ≡ profile.size →
+    Opens profile opened opened → differences block opened ≤ profile.fix → Opens profile block opened
 near_opens profile block opened long is few =
     let even : length (upto profile.size) ≡ length block = length-range_with_len 0 profile.size ∙ sym long in
-    let same : differences block opened ≡ differences block (values_at (upto profile.size) is.polynomial) = ap (differences block) is.opened_is in
+    let same : differences block opened ≡ differences block (values_at (upto profile.size) is.polynomial) =
+    ap (differences block) is.opened_is in
     record {
       polynomial = is.polynomial;
       near = record {

@@ -10,14 +10,17 @@ use Rattle.server_code.proofs.Blocks.{extended_is_codeword}
 use Rattle.server_code.proofs.Linear.{codeword_is, codeword_of_front}
 
 -- a codeword opens to itself
-pub codeword_opens : (profile : Profile) (block : List ℕ) → IsCodeword profile block → Opens profile block block
+pub codeword_opens : (profile : Profile) (block : List ℕ) → IsCodeword profile block →
+    Opens profile block block
 codeword_opens profile block is = record {
   polynomial = is.polynomial;
-  near = subst (λ (b : List ℕ). IsNear profile b is.polynomial) (sym is.values) (near_itself profile is.polynomial is.degree);
+  near = subst (λ (b : List ℕ). IsNear profile b is.polynomial) (sym is.values)
+      (near_itself profile is.polynomial is.degree);
   opened_is = is.values;
 }
 
-module _ (profile : Profile) (rows block : List ℕ) (keep n : ℕ) (generator : IsGenerator profile rows) (whole : length block ≡ profile.size) (is_keep : keep ≡ profile.keep)
+module _ (profile : Profile) (rows block : List ℕ) (keep n : ℕ) (generator : IsGenerator profile rows)
+    (whole : length block ≡ profile.size) (is_keep : keep ≡ profile.keep)
     (is_n : n ≡ length block - keep) (le : profile.keep ≤ profile.size) where
   -- the first symbols
   kept : length (take keep block) ≡ profile.keep
@@ -25,12 +28,14 @@ module _ (profile : Profile) (rows block : List ℕ) (keep n : ℕ) (generator :
 
   -- what they are extended to
   made : take keep block ++ sums rows (take keep block) n ≡ codeword profile (take keep block)
-  made = extended_is_codeword profile rows (take keep block) n generator kept (omega (arith, whole, is_keep, is_n, le))
+  made = extended_is_codeword profile rows (take keep block) n generator kept
+      (omega (arith, whole, is_keep, is_n, le))
 
   -- the sums make a codeword
   pub extended_is : drop keep block ≡ sums rows (take keep block) n → IsCodeword profile block
   extended_is are =
-      subst (λ (b : List ℕ). IsCodeword profile b) (sym made ∙ ap (λ t. take keep block ++ t) (sym are) ∙ take-append-drop keep block) (codeword_is profile (take keep block) kept)
+      subst (λ (b : List ℕ). IsCodeword profile b) (sym made ∙ ap (λ t. take keep block ++ t) (sym are)
+      ∙ take-append-drop keep block) (codeword_is profile (take keep block) kept)
 
   -- a codeword has the sums
   pub codeword_extends : IsCodeword profile block → drop keep block ≡ sums rows (take keep block) n

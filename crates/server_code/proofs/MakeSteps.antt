@@ -10,7 +10,8 @@ use Rattle.server_code.specs.Generator.{row_at, IsGenerator}
 pub record HasRows (profile : Profile) (place : ℕ) (rows : List ℕ) : Type 0 where
   pub behind : profile.keep ≤ place
   pub full : length rows ≡ (place - profile.keep) * profile.keep
-  pub each : (r : ℕ) → profile.keep + r < place → IsGeneratorRow profile (profile.keep + r) (row_at profile.keep rows r)
+  pub each : (r : ℕ) → profile.keep + r < place →
+      IsGeneratorRow profile (profile.keep + r) (row_at profile.keep rows r)
 
 -- no rows
 pub no_rows : (profile : Profile) (place : ℕ) → place ≡ profile.keep → HasRows profile place []
@@ -21,22 +22,26 @@ no_rows profile place is = record {
 }
 
 -- a row before the last
-row_before : (keep r : ℕ) (rows row : List ℕ) → r * keep + keep ≤ length rows → row_at keep (rows ++ row) r ≡ row_at keep rows r
+row_before : (keep r : ℕ) (rows row : List ℕ) → r * keep + keep ≤ length rows →
+    row_at keep (rows ++ row) r ≡ row_at keep rows r
 row_before keep r rows row fits =
     ap (take keep) (drop-append-le (r * keep) rows row (omega arith)) ∙
     take-append-le keep (drop (r * keep) rows) row (omega (arith, length-drop (r * keep) rows))
 
 -- the last row
-row_last : (keep r : ℕ) (rows row : List ℕ) → length rows ≡ r * keep → length row ≡ keep → row_at keep (rows ++ row) r ≡ row
+row_last : (keep r : ℕ) (rows row : List ℕ) → length rows ≡ r * keep → length row ≡ keep →
+    row_at keep (rows ++ row) r ≡ row
 row_last keep r rows row full long =
-    ap (λ n. take keep (drop n (rows ++ row))) (sym full) ∙ ap (take keep) (drop-append_seam rows row) ∙ take_all keep row (omega arith)
+    ap (λ n. take keep (drop n (rows ++ row))) (sym full) ∙ ap (take keep) (drop-append_seam rows row)
+    ∙ take_all keep row (omega arith)
 
 -- the last or one before it
 pub last_or_before : (r n : ℕ) → r < n + 1 → (r ≡ n) ⊎ (r < n)
 last_or_before r n h = grind arith
 
 -- one row more
-pub row_more : (profile : Profile) (place : ℕ) (rows row : List ℕ) → HasRows profile place rows → IsGeneratorRow profile place row →
+pub row_more : (profile : Profile) (place : ℕ) (rows row : List ℕ) → HasRows profile place rows →
+    IsGeneratorRow profile place row →
     HasRows profile (place + 1) (rows ++ row)
 row_more profile place rows row has is = record {
   behind = omega (arith, has.behind);
@@ -48,23 +53,29 @@ row_more profile place rows row has is = record {
     n = place - profile.keep
 
     count : length rows + length row ≡ (place + 1 - profile.keep) * profile.keep
-    count = let e : place + 1 - profile.keep ≡ suc n = omega (arith, has.behind) in rw e (omega (arith, has.full, is.full, suc-mul n profile.keep))
+    count = let e : place + 1 - profile.keep ≡ suc n =
+        omega (arith, has.behind) in rw e (omega (arith, has.full, is.full, suc-mul n profile.keep))
 
     place_is : profile.keep + n ≡ place
     place_is = omega (arith, has.behind)
 
-    at : (r : ℕ) → (r ≡ n) ⊎ (r < n) → IsGeneratorRow profile (profile.keep + r) (row_at profile.keep (rows ++ row) r)
+    at : (r : ℕ) → (r ≡ n) ⊎ (r < n) →
+        IsGeneratorRow profile (profile.keep + r) (row_at profile.keep (rows ++ row) r)
     at r (inl e) =
         let where_ : profile.keep + r ≡ place = omega (arith, place_is) in
-        let what : row_at profile.keep (rows ++ row) r ≡ row = row_last profile.keep r rows row (has.full ∙ ap (λ m. m * profile.keep) (sym e)) is.full in
+        let what : row_at profile.keep (rows ++ row) r ≡ row =
+        row_last profile.keep r rows row (has.full ∙ ap (λ m. m * profile.keep) (sym e)) is.full in
         rw (where_, what) is
     at r (inr h) =
-        let fits : r * profile.keep + profile.keep ≤ length rows = omega (arith, has.full, mul-le-mul_right profile.keep h, suc-mul r profile.keep) in
-        let what : row_at profile.keep (rows ++ row) r ≡ row_at profile.keep rows r = row_before profile.keep r rows row fits in
+        let fits : r * profile.keep + profile.keep ≤ length rows =
+        omega (arith, has.full, mul-le-mul_right profile.keep h, suc-mul r profile.keep) in
+        let what : row_at profile.keep (rows ++ row) r ≡ row_at profile.keep rows r =
+        row_before profile.keep r rows row fits in
         rw what (has.each r (omega (arith, place_is)))
 
 -- all rows
-pub all_rows : (profile : Profile) (place : ℕ) (rows : List ℕ) → place ≡ profile.size → HasRows profile place rows → IsGenerator profile rows
+pub all_rows : (profile : Profile) (place : ℕ) (rows : List ℕ) → place ≡ profile.size →
+    HasRows profile place rows → IsGenerator profile rows
 all_rows profile place rows is has = record {
   full = has.full ∙ ap (λ n. (n - profile.keep) * profile.keep) is;
   each = λ r h. has.each r (omega arith);

@@ -74,8 +74,8 @@ impl AnyCode {
         with_code!(self, code => code.is_codeword(block))
     }
 
-    /// Corrects up to `fix` wrong symbols of a block, and tells how many it changed. None where no codeword is so near;
-    /// then the block is unchanged.
+    /// Corrects up to `fix` wrong symbols of a block, and tells how many it changed. None where no codeword
+    /// is so near; then the block is unchanged.
     pub fn decode_in(&self, block: &mut [Symbol], work: &mut Work) -> Option<u32>
         requires block { length block.old ≡ (code_profile self.now).size }
         requires room { (code_profile self.now).size ≤ work.old.size }

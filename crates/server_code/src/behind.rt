@@ -1,7 +1,8 @@
-//! Gao's decoder at the points behind the kept ones alone (re-encoding, as R. Koetter, J. Ma and A. Vardy do it in The re-encoding
-//! transformation in algebraic list-decoding of Reed-Solomon codes, 2011). The sums of a block and the codeword of its first symbols are
-//! 0 at the kept places. So a polynomial that is near these sums has nearly all kept points as roots, and only the symbols behind them
-//! need be interpolated: 32 in place of 128.
+//! Gao's decoder at the points behind the kept ones alone (re-encoding, as R. Koetter, J. Ma and A. Vardy do
+//! it in The re-encoding transformation in algebraic list-decoding of Reed-Solomon codes, 2011). The sums of
+//! a block and the codeword of its first symbols are 0 at the kept places. So a polynomial that is near these
+//! sums has nearly all kept points as roots, and only the symbols behind them need be interpolated: 32 in
+//! place of 128.
 ghost use Rattle.std.specs.Prelude.{◌≡◌, ◌≢◌, ◌≤◌, ◌<◌, ◌+◌, ◌++◌, ◌∷◌, [], ℕ, length, take, drop, slice_index, IfNone, IfSome, OnSome};
 ghost use Rattle.std.specs.Bool.{OnTrue, OnFalse};
 ghost use Rattle.hail_field.specs.Nim.{nim_add, nim_mul};
@@ -33,7 +34,8 @@ fn product_of_gaps(products: &[Multiples], keep: usize, x: u8) -> Symbol
     product
 }
 
-/// What gives `difference` when it is multiplied by the product of x + point over the first `keep` points, of which x is none.
+/// What gives `difference` when it is multiplied by the product of x + point over the first `keep` points, of
+/// which x is none.
 fn share(products: &[Multiples], keep: usize, x: u8, difference: Symbol) -> Symbol
     requires products { AreProducts products.now }
     requires behind { keep ≤ x }
@@ -101,7 +103,8 @@ fn grow(products: &[Multiples], r: u8, count: usize, items: &mut [Symbol])
     items[count] = last;
 }
 
-/// Multiplies the polynomial of the first `count` coefficients by the product of x + point over the first `keep` points.
+/// Multiplies the polynomial of the first `count` coefficients by the product of x + point over the first
+/// `keep` points.
 fn multiply_points(products: &[Multiples], keep: usize, count: usize, items: &mut [Symbol])
     requires products { AreProducts products.now }
     requires few { keep ≤ 256 }
@@ -163,7 +166,8 @@ fn load_behind(tables: &Tables, word: &[Symbol], block: &[Symbol], work: &mut Wo
     load_in_front(tables, word, block, &mut shares, work);
 }
 
-/// Multiplies the rest by the product of x + point over the first `keep` points; the product is made in `items`.
+/// Multiplies the rest by the product of x + point over the first `keep` points; the product is made in
+/// `items`.
 fn multiply_rest_within(products: &[Multiples], keep: usize, items: &mut [Symbol], work: &mut Work)
     requires products { AreProducts products.now }
     requires few { keep ≤ 256 }
@@ -196,8 +200,8 @@ fn multiply_rest(products: &[Multiples], keep: usize, work: &mut Work)
     multiply_rest_within(products, keep, &mut items, work);
 }
 
-/// Looks for the polynomial of degree below `keep` that takes all but `fix` of the sums of a block and a word, which are 0 at the kept
-/// places; it is then the rest. False only where there is none.
+/// Looks for the polynomial of degree below `keep` that takes all but `fix` of the sums of a block and a
+/// word, which are 0 at the kept places; it is then the rest. False only where there is none.
 fn find_quotient(tables: &Tables, word: &[Symbol], block: &[Symbol], work: &mut Work) -> bool
     requires block { length block.now ≡ tables.now.profile.size }
     requires word { length word.now ≡ tables.now.profile.size }
@@ -276,7 +280,8 @@ fn decode_in_front(
     decode_within(tables, &mut kept[..keep], &mut word[..size], block, work)
 }
 
-/// Corrects a block by Gao's decoder at the points behind the kept ones. None exactly where it opens to nothing.
+/// Corrects a block by Gao's decoder at the points behind the kept ones. None exactly where it opens to
+/// nothing.
 pub fn decode(tables: &Tables, block: &mut [Symbol], work: &mut Work) -> Option<u32>
     requires block { length block.old ≡ tables.now.profile.size }
     requires room { tables.now.profile.size ≤ work.old.size }

@@ -49,8 +49,8 @@ impl<const N: usize, const K: usize> ServerCode<N, K> {
         self.tables.is_codeword(block)
     }
 
-    /// Corrects up to `fix` wrong symbols of a block, and tells how many it changed. None where no codeword is so near;
-    /// then the block is unchanged.
+    /// Corrects up to `fix` wrong symbols of a block, and tells how many it changed. None where no codeword
+    /// is so near; then the block is unchanged.
     pub fn decode_in(&self, block: &mut [Symbol], work: &mut Work) -> Option<u32>
         requires block { length block.old ≡ N }
         requires room { N ≤ work.old.size }

@@ -24,7 +24,8 @@ fn count_differences(a: &[Symbol], b: &[Symbol]) -> u32
     count
 }
 
-/// Makes a block another one that differs at `most` places or fewer, and tells at how many. None where it differs at more.
+/// Makes a block another one that differs at `most` places or fewer, and tells at how many. None where it
+/// differs at more.
 fn take_over(other: &[Symbol], most: u32, block: &mut [Symbol]) -> Option<u32>
     requires even { length other.now ≡ length block.old }
     requires few { length other.now ≤ MOST }
@@ -42,8 +43,8 @@ fn take_over(other: &[Symbol], most: u32, block: &mut [Symbol]) -> Option<u32>
     Some(count)
 }
 
-/// Makes a block the codeword of some kept symbols, where it differs from that at no more places than can be corrected, and tells at how
-/// many. None where it differs at more. The codeword is made in `word`.
+/// Makes a block the codeword of some kept symbols, where it differs from that at no more places than can be
+/// corrected, and tells at how many. None where it differs at more. The codeword is made in `word`.
 pub fn try_kept(
     tables: &Tables,
     kept: &[Symbol],
@@ -104,8 +105,9 @@ fn correct_in_front(
     correct_within(tables, &mut kept[..keep], &mut word[..size], block)
 }
 
-/// Makes a block the codeword of kept symbols that are guessed from it, where that differs from it at no more places than can be
-/// corrected, and tells at how many. None where the guess is wrong, and then nothing changes.
+/// Makes a block the codeword of kept symbols that are guessed from it, where that differs from it at no more
+/// places than can be corrected, and tells at how many. None where the guess is wrong, and then nothing
+/// changes.
 pub fn correct(tables: &Tables, block: &mut [Symbol]) -> Option<u32>
     requires { length block.old ≡ tables.now.profile.size }
     ensures unchanged { IfNone result (block.new ≡ block.old) }

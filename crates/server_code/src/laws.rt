@@ -7,8 +7,8 @@ ghost use Rattle.code_defs.specs.Profiles.{Profile, profile_of};
 ghost use Rattle.code_defs.specs.ServerCode.{codeword, IsCodeword, Opens};
 ghost use Rattle.hail_syndrome.specs.Syndromes.{syndromes_of};
 
-/// The codeword of kept symbols is a codeword, and a codeword is that of its first kept symbols: there is one codeword for each list
-/// of kept symbols.
+/// The codeword of kept symbols is a codeword, and a codeword is that of its first kept symbols: there is one
+/// codeword for each list of kept symbols.
 pub fn codewords_are_those_of_kept_symbols()
     ensures made { (profile : Profile) (kept : List ℕ) → length kept ≡ profile.keep
         → IsCodeword profile (codeword profile kept) }
@@ -23,7 +23,8 @@ pub fn opened_block_is_unique()
         Opens profile block a → Opens profile block b → a ≡ b }
 {}
 
-/// Zeros, the sum of two codewords and a multiple of one are codewords, and so is each combination of codewords.
+/// Zeros, the sum of two codewords and a multiple of one are codewords, and so is each combination of
+/// codewords.
 pub fn codewords_are_linear()
     ensures zero { (profile : Profile) → IsCodeword profile (replicate profile.size 0) }
     ensures sum { (profile : Profile) (a b : List ℕ) → IsCodeword profile a → IsCodeword profile b

@@ -1,4 +1,5 @@
-//! A guess at which kept symbols of a block are wrong, and by how much. Nothing rests on it: who asks encodes again and counts.
+//! A guess at which kept symbols of a block are wrong, and by how much. Nothing rests on it: who asks encodes
+//! again and counts.
 ghost use Rattle.std.specs.Prelude.{◌≡◌, ◌≤◌, ◌<◌, length};
 ghost use Rattle.server_code.specs.Products.{AreProducts};
 
@@ -10,8 +11,9 @@ use hail_field::Symbol;
 /// How many coefficients there is room for: one more than a block has symbols behind the kept ones.
 const ROOM: usize = 33;
 
-/// Berlekamp and Massey's algorithm: the shortest register that makes the syndromes so far, the one before its length last grew, by how
-/// many places that one is shifted against it, and the inverse of what it was wrong by.
+/// Berlekamp and Massey's algorithm: the shortest register that makes the syndromes so far, the one before
+/// its length last grew, by how many places that one is shifted against it, and the inverse of what it was
+/// wrong by.
 #[derive(Drop)]
 struct Register {
     now: [Symbol; ROOM],
@@ -136,7 +138,8 @@ fn move_on(products: &[Multiples], keep: usize, symbols: &mut [Symbol])
     }
 }
 
-/// The syndromes of symbols by which the places from `keep` on are wrong, each times its weight. These are used up.
+/// The syndromes of symbols by which the places from `keep` on are wrong, each times its weight. These are
+/// used up.
 fn syndromes(products: &[Multiples], keep: usize, misfits: &mut [Symbol], out: &mut [Symbol])
     requires { AreProducts products.now }
 {
@@ -178,8 +181,9 @@ fn is_root(locator: &[u8], x: u8) -> bool {
     value == 0
 }
 
-/// By what the symbol is wrong whose position x is a root of the locator: by Lagrange's formula over the roots. The partial sums of
-/// Horner's scheme are the coefficients, highest first, of the locator divided by y + x.
+/// By what the symbol is wrong whose position x is a root of the locator: by Lagrange's formula over the
+/// roots. The partial sums of Horner's scheme are the coefficients, highest first, of the locator divided by
+/// y + x.
 fn error(products: &[Multiples], locator: &[u8], syndromes: &[Symbol], x: u8, weight: u8) -> Symbol
     requires products { AreProducts products.now }
     requires enough { length locator.now ≤ length syndromes.now }
@@ -217,7 +221,8 @@ fn mend_places(
     }
 }
 
-/// What the syndromes of a block say of its kept symbols, with room for the misfits and for as many syndromes.
+/// What the syndromes of a block say of its kept symbols, with room for the misfits and for as many
+/// syndromes.
 fn guess_within(
     tables: &Tables,
     word: &[Symbol],
@@ -275,8 +280,8 @@ fn guess_in_front(
     )
 }
 
-/// Corrects the kept symbols of a block as far as it can guess, `word` being the codeword of these symbols as they are. False where it
-/// has no guess.
+/// Corrects the kept symbols of a block as far as it can guess, `word` being the codeword of these symbols as
+/// they are. False where it has no guess.
 pub fn guess(tables: &Tables, word: &[Symbol], block: &[Symbol], kept: &mut [Symbol]) -> bool
     ensures { length kept.new ≡ length kept.old }
 {

@@ -8,8 +8,9 @@ use crate::tables::Tables;
 use hail_field::Symbol;
 use hail_poly::Work;
 
-/// Corrects up to `fix` wrong symbols of a block, and tells how many it changed. None where no codeword is so near; then the block is
-/// unchanged. A codeword is left as it is; else a guess is tried, and where it is wrong, the decoder decides.
+/// Corrects up to `fix` wrong symbols of a block, and tells how many it changed. None where no codeword is so
+/// near; then the block is unchanged. A codeword is left as it is; else a guess is tried, and where it is
+/// wrong, the decoder decides.
 pub fn open_block(tables: &Tables, block: &mut [Symbol], work: &mut Work) -> Option<u32>
     requires block { length block.old ≡ tables.now.profile.size }
     requires room { tables.now.profile.size ≤ work.old.size }

@@ -9,7 +9,8 @@ use hail_field::laws::bytes_of_product;
 use std::alloc::{AllocError, Global};
 use std::simd::prelude::*;
 
-/// The products of a byte with the numbers below 16, and with 16 times these: a product with any byte is the sum of two of them.
+/// The products of a byte with the numbers below 16, and with 16 times these: a product with any byte is the
+/// sum of two of them.
 #[derive(Clone, Copy)]
 pub struct Multiples {
     pub low: [u8; 16],
@@ -66,7 +67,8 @@ fn entry(products: &[Multiples], c: u8) -> Multiples
     products[usize::from(c)]
 }
 
-/// c times a symbol: c acts on each of its bytes by itself. The products of the low and of the high halves of all bytes are looked up at once.
+/// c times a symbol: c acts on each of its bytes by itself. The products of the low and of the high halves of
+/// all bytes are looked up at once.
 pub fn scaled(products: &[Multiples], c: u8, a: Symbol) -> Symbol
     requires { AreProducts products.now }
     ensures { result ≡ nim_mul c a }

@@ -222,7 +222,8 @@ module _ (limit : ℕ) (old : State) (S : IsSound limit old) (job : Job)
             omega (arith, a, b, c));
         files = held-on old.bytes now old.records S.accepted stay S.files;
         names = (let a = taken-fewer old.records old.records old.jobs (with_job old.jobs next)
-            (λ n h. ap (λ b. b || is_some (file_of old.records n)) (sym (put-with n old.jobs next job found kind))
+            (λ n h. ap (λ b. b || is_some (file_of old.records n))
+            (sym (put-with n old.jobs next job found kind))
             ∙ h) in let b = S.names in omega (arith, a, b));
         ids = λ l. (let a = sum-with starts_left old.jobs next job found in
             let b = starts-on job next kind place in let c = S.ids (omega (arith, l, a, b)) in

@@ -37,7 +37,8 @@ pub fn rest_is_sound()
     ensures { (limit : ℕ) (w : State) → IsAtRest w → IsSound limit w }
 {}
 
-/// Each event leaves a sound state sound, where 1 to 31 jobs can run: the last numbers then suffice for each put that a begin lets in.
+/// Each event leaves a sound state sound, where 1 to 31 jobs can run: the last numbers then suffice for each
+/// put that a begin lets in.
 pub fn sound_states_stay_sound()
     ensures { (limit moment : ℕ) (old new : State) (event : Event) (outcome : Outcome) → IsLimit limit
         → IsSpelled event → IsSound limit old →
@@ -74,8 +75,8 @@ pub fn files_are_fit()
     ensures few { (limit : ℕ) (w : State) → IsSound limit w → length (files_of w.records) ≤ most_files }
 {}
 
-/// The next object number and the next audit number fit 64 bits. Until a journal has its second version they are far from their end: no
-/// begin is refused for them.
+/// The next object number and the next audit number fit 64 bits. Until a journal has its second version they
+/// are far from their end: no begin is refused for them.
 pub fn numbers_are_small()
     ensures objects { (limit : ℕ) (w : State) → IsSound limit w → next_id w.records < 2 ^ 64 }
     ensures audits { (limit : ℕ) (w : State) → IsSound limit w → next_audit w.records < 2 ^ 64 }
@@ -87,8 +88,8 @@ pub fn numbers_are_small()
         → are_numbers_used_up (sight_of w) (aim_of kind) ≡ false }
 {}
 
-/// A job that runs has a next action, and runs while a vault is open; a move of an append but the first is next where the append in
-/// flight is the job's and has made as many moves as come before it.
+/// A job that runs has a next action, and runs while a vault is open; a move of an append but the first is
+/// next where the append in flight is the job's and has made as many moves as come before it.
 pub fn jobs_go_on()
     ensures open { (limit number : ℕ) (w : State) (job : Job) → IsSound limit w
         → job_of w.jobs number ≡ Some job → w.is_open ≡ true }
@@ -124,8 +125,8 @@ pub fn sums_are_small()
         HasSums (setup_in w) job sums → All (λ count. count ≤ 2 ^ 16) sums.counts }
 {}
 
-/// In every run the journal that the disk holds is accepted, and its table is that of the history: a pack loses nothing that a state
-/// says of setup, files, numbers and the due audit.
+/// In every run the journal that the disk holds is accepted, and its table is that of the history: a pack
+/// loses nothing that a state says of setup, files, numbers and the due audit.
 pub fn journals_are_alike()
     ensures accepted { (limit : ℕ) (start : State) (ms : List Moment) → IsLimit limit → IsStart start
         → IsRun limit start ms → AreAccepted (now start ms).journal }
@@ -133,8 +134,9 @@ pub fn journals_are_alike()
         → IsRun limit start ms → AreAlike (now start ms).journal (now start ms).records }
 {}
 
-/// Until a journal has its second version, the disk holds the whole history, in area A and with that text's end; each record may stand
-/// in a journal of today, and each job and each file that it works on has the setup's profile.
+/// Until a journal has its second version, the disk holds the whole history, in area A and with that text's
+/// end; each record may stand in a journal of today, and each job and each file that it works on has the
+/// setup's profile.
 pub fn first_journals_are_whole()
     ensures whole { (limit : ℕ) (w : State) → IsSound limit w → version_of w.records ≡ 1
         → IsWholeJournal w }
@@ -151,8 +153,8 @@ pub fn first_journals_are_whole()
     ensures held { (rs : List Record) → IsTrue (list_all is_in_grammar rs) → version_of rs ≡ 1 }
 {}
 
-/// An instance: a store that was set up is opened, gets its second version and is packed. In that run each state is sound; at its end area
-/// B holds the packed journal, beside a history that is as it was.
+/// An instance: a store that was set up is opened, gets its second version and is packed. In that run each
+/// state is sound; at its end area B holds the packed journal, beside a history that is as it was.
 pub fn packed_run_is_sound()
     ensures run { (ms : List Moment) × IsRun 8 set_up ms × IsSound 8 (now set_up ms)
         × ((now set_up ms).records ≡ Version ∷ SetUp four ∷ [])

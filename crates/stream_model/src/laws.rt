@@ -7,7 +7,8 @@ pub fn byte_is_in_range(byte: u8)
     ensures { IsByte byte }
 {}
 
-/// Each byte of a slice is such a number. A check learns it of an element once it is read, so this reads them all.
+/// Each byte of a slice is such a number. A check learns it of an element once it is read, so this reads them
+/// all.
 pub fn bytes_are_in_range(bytes: &[u8])
     ensures { All IsByte bytes.now }
 {

@@ -74,8 +74,8 @@ impl Sink for MemSink {
     }
 }
 
-/// A source in memory. Its calls are numbered from 0, and those listed fail; any other gives as many bytes as fit or are
-/// left.
+/// A source in memory. Its calls are numbered from 0, and those listed fail; any other gives as many bytes as
+/// fit or are left.
 #[derive(Drop)]
 pub struct MemSource {
     bytes: Vec<u8>,

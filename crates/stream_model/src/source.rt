@@ -12,7 +12,8 @@ pub trait Source {
     /// How often the source has failed.
     ghost faults: { Self → ℕ };
 
-    /// Gives some first bytes that are left, and says how many: none only at the end of input, or for a buffer without room.
+    /// Gives some first bytes that are left, and says how many: none only at the end of input, or for a
+    /// buffer without room.
     fn read(&mut self, out: &mut [u8]) -> Result<usize, Failed>
         ensures at_most { IfOk result (λ n. n ≤ length out.old) }
         ensures given { IfOk result (λ n. left self.old ≡ then_told (take n out.new) (left self.new)) }

@@ -6,7 +6,8 @@ ghost use Rattle.device_defs.specs.Told.{told_then, TakesFront};
 use crate::fault::WriteFault;
 use crate::sink::Sink;
 
-/// Writes all of the bytes, in as many pieces as the sink takes them. After a fault some front of them is written.
+/// Writes all of the bytes, in as many pieces as the sink takes them. After a fault some front of them is
+/// written.
 pub fn write_all<K: Sink>(sink: &mut K, bytes: &[u8]) -> Result<(), WriteFault>
     ensures ok { OnOk result (K.written sink.new ≡ told_then (K.written sink.old) bytes.now) }
     ensures err { OnErr result (TakesFront (K.written sink.old) (K.written sink.new) bytes.now) }

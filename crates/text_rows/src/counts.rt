@@ -55,7 +55,8 @@ fn events_are_counted(rt: HostRuntime) {
     assert_eq!(rt; told(rt.alloc(), &events, wanted), Some((8, true)));
 }
 
-/// Whether the end of a job is seen so: as a get, as a right one, as an audit, as a repair, and with these providers flagged.
+/// Whether the end of a job is seen so: as a get, as a right one, as an audit, as a repair, and with these
+/// providers flagged.
 fn is_seen(alloc: Global, answer: &Answer, flags: [bool; 4], flagged: &[u32]) -> bool {
     match seen_end(alloc, WANTED, answer) {
         Ok(seen) => {

@@ -114,7 +114,8 @@ fn files_are_listed_in_byte_order_of_their_names(rt: HostRuntime) {
     assert_eq!(rt; right, [Some(true); 2]);
 }
 
-/// A text that is written to a sink, or with none the line that no row is found, and the status that this is to give.
+/// A text that is written to a sink, or with none the line that no row is found, and the status that this is
+/// to give.
 type Written<'a> = (Option<&'a [u8]>, u8);
 
 /// Whether a text is written so.

@@ -57,7 +57,8 @@ fn trial_of(alloc: Global, number: u64) -> Option<Trial> {
     make_trial(alloc, number).ok()
 }
 
-/// How many events and bytes the trial of seven has, and the first place at which its event is not shown as the line beside it.
+/// How many events and bytes the trial of seven has, and the first place at which its event is not shown as
+/// the line beside it.
 fn seven_seen(alloc: Global, rows: &[(usize, &str)]) -> Option<(usize, usize, Option<usize>)> {
     let trial = trial_of(alloc, 7)?;
     let other = first_other(alloc, &trial.events, rows);

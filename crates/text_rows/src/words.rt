@@ -28,7 +28,8 @@ fn is_read_as(alloc: Global, line: &str, wanted: &Option<Command>) -> Option<boo
     Some(are_read_as(alloc, &words, wanted))
 }
 
-/// Whether a line is read as the row of these numbers: providers, primaries, bad ones, and what is seen of each.
+/// Whether a line is read as the row of these numbers: providers, primaries, bad ones, and what is seen of
+/// each.
 fn is_read_as_row(
     alloc: Global,
     line: &str,

@@ -26,7 +26,8 @@ unfolding bytes_behind
 no-bytes seed k = refl
 
 -- the byte of one draw more
-pub bytes_more : (seed k n : ℕ) → bytes_behind seed k (n + 1) ≡ bytes_behind seed k n ++ byte_of (next_draw (draw seed (k + n))) ∷ []
+pub bytes_more : (seed k n : ℕ) → bytes_behind seed k (n + 1)
+    ≡ bytes_behind seed k n ++ byte_of (next_draw (draw seed (k + n))) ∷ []
 unfolding bytes_behind
 bytes_more seed k n =
     map-range_with_len_more (λ i. byte_of (draw seed (k + i + 1))) 0 n n (omega arith)
@@ -41,7 +42,8 @@ bytes_behind_draw seed k (suc n) =
     ap (λ (i : ℕ). bytes_behind (draw seed k) 0 i) one
     ∙ bytes_more (draw seed k) 0 n
     ∙ ap (λ (i : ℕ). bytes_behind (draw seed k) 0 n ++ byte_of (next_draw (draw (draw seed k) i)) ∷ []) none
-    ∙ ap (λ (front : List ℕ). front ++ byte_of (next_draw (draw (draw seed k) n)) ∷ []) (bytes_behind_draw seed k n)
+    ∙ ap (λ (front : List ℕ). front ++ byte_of (next_draw (draw (draw seed k) n)) ∷ [])
+    (bytes_behind_draw seed k n)
     ∙ ap (λ (x : ℕ). bytes_behind seed k n ++ byte_of (next_draw x) ∷ []) (draw_behind seed k n)
     ∙ sym (bytes_more seed k n)
     ∙ sym (ap (λ (i : ℕ). bytes_behind seed k i) one)
@@ -59,7 +61,8 @@ filled_more x place last byte bytes within before last_is byte_is =
     let none : 0 + place ≡ place = omega arith in
     take_more_set bytes place byte within
     ∙ ap (λ (front : List ℕ). front ++ byte ∷ []) before
-    ∙ ap (λ (b : ℕ). bytes_behind x 0 place ++ b ∷ []) (byte_is ∙ ap (λ (y : ℕ). byte_of (next_draw y)) (last_is ∙ ap (λ (i : ℕ). draw x i) (sym none)))
+    ∙ ap (λ (b : ℕ). bytes_behind x 0 place ++ b ∷ [])
+    (byte_is ∙ ap (λ (y : ℕ). byte_of (next_draw y)) (last_is ∙ ap (λ (i : ℕ). draw x i) (sym none)))
     ∙ sym (bytes_more x 0 place)
 
 -- no draw

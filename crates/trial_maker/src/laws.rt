@@ -10,7 +10,8 @@ pub fn sizes_of_a_trial(number: u64)
     ensures bytes { length (trial_bytes number) ≡ 65536 }
 {}
 
-/// The trial of the seed 7: the first draw, the providers that lose their blocks, the key, and how the file begins.
+/// The trial of the seed 7: the first draw, the providers that lose their blocks, the key, and how the file
+/// begins.
 pub fn trial_of_seven()
     ensures draw { draw 7 1 ≡ 9098160460397411210 }
     ensures first { losing_provider 7 0 ≡ 2 }

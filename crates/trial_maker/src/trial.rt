@@ -85,7 +85,8 @@ fn push_opening(
     Ok(())
 }
 
-/// The trial of a number: its events, and the bytes that each get is to give. Want of memory is its one refusal.
+/// The trial of a number: its events, and the bytes that each get is to give. Want of memory is its one
+/// refusal.
 #[tactic(auto, unfolding(crate::specs::Trials::trial_commands))]
 pub fn make_trial(alloc: Global, number: u64) -> Result<Trial, Memory>
     ensures events { IfOk result (λ trial. commands_of trial.events.items ≡ trial_commands number) }

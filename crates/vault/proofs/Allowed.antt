@@ -1,6 +1,7 @@
 -- Which actions a job of a kind has, and of which providers.
 --
---   IsAllowed n kind action == a job of this kind may have the action: a call of one of the n providers, a move, work, the end
+-- IsAllowed n kind action == a job of this kind may have the action: a call of one of the n providers, a
+-- move, work, the end
 use Rattle.std.proofs.Common.{◌≡◌, ℕ, zero, suc, ◌+◌, ◌<◌, Bool, true, false, cond, List, [], ◌∷◌, ◌++◌, length, map, Some, sym, subst, ◌∙◌, inl, inr, arith}
 use Rattle.std.specs.Prelude.{slice_get}
 use Rattle.std.specs.List.{flat_map, range_with_len}
@@ -45,16 +46,20 @@ below_range (suc n) a b is = (omega (arith, is), below_range n (a + 1) b (omega 
 below_upto : (n : ℕ) → Each (λ j. j < n) (upto n)
 below_upto n = below_range n 0 n (omega arith)
 
-each_map_of : {A X : Type 0} (Q : A → Type 0) (P : X → Type 0) (f : A → X) (as_ : List A) → Each Q as_ → ((a : A) → Q a → P (f a)) → Each P (map f as_)
+each_map_of : {A X : Type 0} (Q : A → Type 0) (P : X → Type 0) (f : A → X) (as_ : List A) → Each Q as_ →
+    ((a : A) → Q a → P (f a)) → Each P (map f as_)
 each_map_of Q P f [] each h = tt
 each_map_of Q P f (a ∷ as_) each h = (h a each.0, each_map_of Q P f as_ each.1 h)
 
-each_flat_of : {A X : Type 0} (Q : A → Type 0) (P : X → Type 0) (f : A → List X) (as_ : List A) → Each Q as_ → ((a : A) → Q a → Each P (f a)) → Each P (flat_map f as_)
+each_flat_of : {A X : Type 0} (Q : A → Type 0) (P : X → Type 0) (f : A → List X) (as_ : List A) → Each Q as_ →
+    ((a : A) → Q a → Each P (f a)) → Each P (flat_map f as_)
 each_flat_of Q P f [] each h = tt
-each_flat_of Q P f (a ∷ as_) each h = each_append P (f a) (flat_map f as_) (h a each.0) (each_flat_of Q P f as_ each.1 h)
+each_flat_of Q P f (a ∷ as_) each h =
+    each_append P (f a) (flat_map f as_) (h a each.0) (each_flat_of Q P f as_ each.1 h)
 
 -- one action for each provider
-on_providers : (s : Setup) (P : Action → Type 0) (action : ℕ → Action) → ((j : ℕ) → j < s.n → P (action j)) → Each P (on_each_provider s action)
+on_providers : (s : Setup) (P : Action → Type 0) (action : ℕ → Action) → ((j : ℕ) → j < s.n → P (action j)) →
+    Each P (on_each_provider s action)
 on_providers s P action h = each_map_of (λ j. j < s.n) P action (upto s.n) (below_upto s.n) h
 
 flagged_one : (P : Action → Type 0) (b : Bool) (action : Action) → P action → Each P (cond b (action ∷ []) [])
@@ -62,7 +67,8 @@ flagged_one P true action h = (h, tt)
 flagged_one P false action h = tt
 
 -- the moves of an append, and what comes behind them
-moves_first : (P : Action → Type 0) → Each P append_actions → (rest : List Action) → Each P rest → Each P (append_actions ++ rest)
+moves_first : (P : Action → Type 0) → Each P append_actions → (rest : List Action) → Each P rest →
+    Each P (append_actions ++ rest)
 moves_first P moves rest h = each_append P append_actions rest moves h
 
 module _ (s : Setup) (job : Job) where
@@ -85,32 +91,49 @@ module _ (s : Setup) (job : Job) where
   by_kind (PutJob name bytes) =
       let P = IsAllowed s.n (PutJob name bytes) in
       moves_first P (moves_put name bytes) _ (each_append P (store_actions s job bytes) _
-      (each_flat P (λ stripe. on_each_provider s (λ j. Store j job.subject stripe)) (upto (stripes_of (profiled s job.profile) (length bytes))) (λ stripe. on_providers s P (λ j. Store j job.subject stripe) (λ j less. less)))
-      (moves_first P (moves_put name bytes) _ (each_append P (remove_actions s job) (End ∷ []) (each_flat P (λ object. on_each_provider s (λ j. Remove j object)) job.older (λ object. on_providers s P (λ j. Remove j object) (λ j less. less))) (tt, tt))))
+      (each_flat P (λ stripe. on_each_provider s (λ j. Store j job.subject stripe))
+      (upto (stripes_of (profiled s job.profile) (length bytes)))
+      (λ stripe. on_providers s P (λ j. Store j job.subject stripe) (λ j less. less)))
+      (moves_first P (moves_put name bytes) _
+      (each_append P (remove_actions s job) (End ∷ [])
+      (each_flat P (λ object. on_each_provider s (λ j. Remove j object)) job.older
+      (λ object. on_providers s P (λ j. Remove j object) (λ j less. less))) (tt, tt))))
   by_kind (GetJob name) =
       let P = IsAllowed s.n (GetJob name) in
       each_append P (read_actions s job.pinned) (End ∷ [])
-      (each_flat P (λ (f : Pinned). on_each_stripe (profiled s f.profile) (length f.bytes) (open_actions s f.id)) job.pinned
+      (each_flat P (λ (f : Pinned). on_each_stripe (profiled s f.profile) (length f.bytes)
+      (open_actions s f.id)) job.pinned
       (λ f. each_flat P (open_actions s f.id) (upto (stripes_of (profiled s f.profile) (length f.bytes)))
-      (λ stripe. each_append P (on_each_provider s (λ j. Fetch j f.id stripe)) (Work f.id stripe ∷ []) (on_providers s P (λ j. Fetch j f.id stripe) (λ j less. less)) (tt, tt))))
+      (λ stripe. each_append P (on_each_provider s (λ j. Fetch j f.id stripe)) (Work f.id stripe ∷ [])
+      (on_providers s P (λ j. Fetch j f.id stripe) (λ j less. less)) (tt, tt))))
       (tt, tt)
   by_kind (DropJob name) =
       let P = IsAllowed s.n (DropJob name) in
-      moves_first P (moves_drop name) _ (each_append P (remove_actions s job) (End ∷ []) (each_flat P (λ object. on_each_provider s (λ j. Remove j object)) job.older (λ object. on_providers s P (λ j. Remove j object) (λ j less. less))) (tt, tt))
+      moves_first P (moves_drop name) _
+      (each_append P (remove_actions s job) (End ∷ [])
+      (each_flat P (λ object. on_each_provider s (λ j. Remove j object)) job.older
+      (λ object. on_providers s P (λ j. Remove j object) (λ j less. less))) (tt, tt))
   by_kind AuditJob =
       let P = IsAllowed s.n AuditJob in
       moves_first P moves_audit _ (each_append P (ask_actions s job) _
-      (each_flat P (λ (f : Pinned). flat_map (λ round. on_each_provider s (λ j. Ask j f.id round)) (rounds_of (profiled s f.profile) (length f.bytes))) job.pinned
-      (λ f. each_flat P (λ round. on_each_provider s (λ j. Ask j f.id round)) (rounds_of (profiled s f.profile) (length f.bytes)) (λ round. on_providers s P (λ j. Ask j f.id round) (λ j less. less))))
+      (each_flat P (λ (f : Pinned). flat_map (λ round. on_each_provider s (λ j. Ask j f.id round))
+      (rounds_of (profiled s f.profile) (length f.bytes))) job.pinned
+      (λ f. each_flat P (λ round. on_each_provider s (λ j. Ask j f.id round))
+      (rounds_of (profiled s f.profile) (length f.bytes))
+      (λ round. on_providers s P (λ j. Ask j f.id round) (λ j less. less))))
       (moves_first P moves_audit (End ∷ []) (tt, tt)))
   by_kind RepairJob =
       let P = IsAllowed s.n RepairJob in
       each_append P (repair_actions s job) _
-      (each_flat P (λ (f : Pinned). on_each_stripe (profiled s f.profile) (length f.bytes) (λ stripe. open_actions s f.id stripe ++ rewrite_actions s job f.id stripe)) job.pinned
-      (λ f. each_flat P (λ stripe. open_actions s f.id stripe ++ rewrite_actions s job f.id stripe) (upto (stripes_of (profiled s f.profile) (length f.bytes)))
+      (each_flat P (λ (f : Pinned). on_each_stripe (profiled s f.profile) (length f.bytes)
+      (λ stripe. open_actions s f.id stripe ++ rewrite_actions s job f.id stripe)) job.pinned
+      (λ f. each_flat P (λ stripe. open_actions s f.id stripe ++ rewrite_actions s job f.id stripe)
+      (upto (stripes_of (profiled s f.profile) (length f.bytes)))
       (λ stripe. each_append P (open_actions s f.id stripe) (rewrite_actions s job f.id stripe)
-      (each_append P (on_each_provider s (λ j. Fetch j f.id stripe)) (Work f.id stripe ∷ []) (on_providers s P (λ j. Fetch j f.id stripe) (λ j less. less)) (tt, tt))
-      (each_flat_of (λ j. j < s.n) P (λ j. cond (job.flagged j) (Store j f.id stripe ∷ []) []) (upto s.n) (below_upto s.n) (λ j less. flagged_one P (job.flagged j) (Store j f.id stripe) less)))))
+      (each_append P (on_each_provider s (λ j. Fetch j f.id stripe)) (Work f.id stripe ∷ [])
+      (on_providers s P (λ j. Fetch j f.id stripe) (λ j less. less)) (tt, tt))
+      (each_flat_of (λ j. j < s.n) P (λ j. cond (job.flagged j) (Store j f.id stripe ∷ []) []) (upto s.n)
+      (below_upto s.n) (λ j less. flagged_one P (job.flagged j) (Store j f.id stripe) less)))))
       (moves_first P moves_repair (End ∷ []) (tt, tt))
   by_kind UpgradeJob = moves_first (IsAllowed s.n UpgradeJob) moves_upgrade (End ∷ []) (tt, tt)
 
@@ -128,12 +151,17 @@ end_allowed n RepairJob = tt
 end_allowed n UpgradeJob = tt
 
 -- the next action of a job is one that it may have
-pub next_allowed : (w : State) (job : Job) (action : Action) → next_action w job ≡ Some action → IsAllowed (setup_in w).n job.kind action
+pub next_allowed : (w : State) (job : Job) (action : Action) → next_action w job ≡ Some action →
+    IsAllowed (setup_in w).n job.kind action
 next_allowed w job action next = elim (cases_Bool (is_idle_drop w job job.kind)) [
   | inl t ↦ (
-      let e : Some End ≡ Some action = sym (cond_true (is_idle_drop w job job.kind) (Some End) (slice_get (actions_of (setup_in w) job) job.place) t) ∙ next in
+      let e : Some End ≡ Some action =
+      sym (cond_true (is_idle_drop w job job.kind) (Some End)
+      (slice_get (actions_of (setup_in w) job) job.place) t) ∙ next in
       let same : End ≡ action = cc in
       subst (IsAllowed (setup_in w).n job.kind) same (end_allowed (setup_in w).n job.kind))
-  | inr f ↦ each_get (IsAllowed (setup_in w).n job.kind) (actions_of (setup_in w) job) job.place action (allowed (setup_in w) job)
-      (sym (cond_false (is_idle_drop w job job.kind) (Some End) (slice_get (actions_of (setup_in w) job) job.place) f) ∙ next)
+  | inr f ↦ each_get (IsAllowed (setup_in w).n job.kind) (actions_of (setup_in w) job) job.place action
+      (allowed (setup_in w) job)
+      (sym (cond_false (is_idle_drop w job job.kind) (Some End)
+      (slice_get (actions_of (setup_in w) job) job.place) f) ∙ next)
 ]

@@ -62,18 +62,22 @@ none_some : (a : Append) → None ≡ Some a → ⊥
 none_some a e = cc
 
 -- the record of the last move is in doubt
-in_doubt : (a : Append) (doubt : Option Doubt) → a.moves ≡ 3 → IsDoubtOf (Some a) doubt → (d : Doubt) × (doubt ≡ Some d) × (d.entry ≡ a.entry)
+in_doubt : (a : Append) (doubt : Option Doubt) → a.moves ≡ 3 → IsDoubtOf (Some a) doubt →
+    (d : Doubt) × (doubt ≡ Some d) × (d.entry ≡ a.entry)
 in_doubt a doubt is gated = subst (λ (n : ℕ). IsGatedDoubt a (n == 3) doubt) is gated
 
 -- a setup stays the setup
-setup_kept : (w new : State) (a : Append) → is_some (setup_of w.records) ≡ true → refused w.records a.entry ≡ None → new.records ≡ a.entry ∷ w.records → setup_in new ≡ setup_in w
+setup_kept : (w new : State) (a : Append) → is_some (setup_of w.records) ≡ true →
+    refused w.records a.entry ≡ None → new.records ≡ a.entry ∷ w.records → setup_in new ≡ setup_in w
 unfolding setup_in
-setup_kept w new a up accepted is = ap (λ (rs : List Record). setup_or_none (setup_of rs)) is ∙ ap setup_or_none (setup-more a.entry w.records up accepted)
+setup_kept w new a up accepted is = ap (λ (rs : List Record). setup_or_none (setup_of rs)) is
+    ∙ ap setup_or_none (setup-more a.entry w.records up accepted)
 
 -- ---- what the append is at
 
 -- a flight is none where the machine has no append in flight, and some where it has
-no_flight : (o : Option Flight) (a : Append) (rs : List Record) (told : Option Cells) → o ≡ None → IsFlight o (Some a) rs told → ⊥
+no_flight : (o : Option Flight) (a : Append) (rs : List Record) (told : Option Cells) → o ≡ None →
+    IsFlight o (Some a) rs told → ⊥
 no_flight None a rs told is flight = flight
 no_flight (Some f) a rs told is flight = (let e : Some f ≡ None = is in some_none e)
   where
@@ -81,12 +85,15 @@ no_flight (Some f) a rs told is flight = (let e : Some f ≡ None = is in some_n
     some_none e = cc
 
 -- the disk has a closed gate where none is in flight
-closed_of : (f : Option Flight) (rs : List Record) (told : Option Cells) → IsFlight f None rs told → IfSome told (IsClosed (before_gate rs))
+closed_of : (f : Option Flight) (rs : List Record) (told : Option Cells) → IsFlight f None rs told →
+    IfSome told (IsClosed (before_gate rs))
 closed_of None rs told is = is
 closed_of (Some f) rs told is = absurd is
 
 -- a later move of a job finds its append in flight
-module _ (v : Desk) (w : State) (holds : Option Cells) (faults number : ℕ) (ps : List Provider) (stands : DeskStands v (devices holds faults ps) w) (action : Action) (comes : Comes v.core number action) (later : 0 < moves_before action) where
+module _ (v : Desk) (w : State) (holds : Option Cells) (faults number : ℕ) (ps : List Provider)
+    (stands : DeskStands v (devices holds faults ps) w) (action : Action) (comes : Comes v.core number action)
+    (later : 0 < moves_before action) where
   next : ComesNext w number action None
   next = comes.machine w stands.core
 
@@ -97,32 +104,43 @@ module _ (v : Desk) (w : State) (holds : Option Cells) (faults number : ℕ) (ps
   own = held.2.0 ∙ number_of w.jobs number next.job next.runs
 
   in_flight : IsFlight v.flight (Some held.0) w.records holds
-  in_flight = subst (λ (o : Option Append). IsFlight v.flight o w.records holds) held.1 (stands.flight next.unbarred)
+  in_flight = subst (λ (o : Option Append). IsFlight v.flight o w.records holds) held.1
+      (stands.flight next.unbarred)
 
   not_none : v.flight ≡ None → ⊥
   not_none is = no_flight v.flight held.0 w.records holds is in_flight
 
-  goes_on : is_move (Some action) ≡ true → (f : Flight) → v.flight ≡ Some f → IsMover v w holds number action f
+  goes_on : is_move (Some action) ≡ true → (f : Flight) → v.flight ≡ Some f →
+      IsMover v w holds number action f
   goes_on moves f is =
       let sound = stands.core.sound.append held.0 held.1 in
-      let mine : (moves_of f.append ≡ held.0.moves) × Appends w.records held.0.entry f.append holds = subst (λ (o : Option Flight). IsFlight o (Some held.0) w.records holds) is in_flight in
-      let same : sound.job ≡ next.job = same_value (job_of w.jobs number) sound.job next.job (subst (λ n. job_of w.jobs n ≡ Some sound.job) own sound.runs) next.runs in
+      let mine : (moves_of f.append ≡ held.0.moves) × Appends w.records held.0.entry f.append holds =
+      subst (λ (o : Option Flight). IsFlight o (Some held.0) w.records holds) is in_flight in
+      let same : sound.job ≡ next.job = same_value (job_of w.jobs number) sound.job next.job
+      (subst (λ n. job_of w.jobs n ≡ Some sound.job) own sound.runs) next.runs in
       record {
         entry = held.0.entry;
         given = entry_kept v.core w w.append number stands.core.append held.0 held.1 own;
-        writing = record { job = next.job; runs = next.runs; moves = ap is_move next.comes ∙ moves; writes = subst (λ (j : Job). Writes w j j.kind held.0.entry) same sound.writes };
+        writing = record {
+          job = next.job;
+          runs = next.runs;
+          moves = ap is_move next.comes ∙ moves;
+          writes = subst (λ (j : Job). Writes w j j.kind held.0.entry) same sound.writes;
+        };
         in_flight = λ x is. ap (λ (y : Append). y.entry) (one_of x held.0 (sym is ∙ held.1));
         appends = mine.1;
         moves = mine.0 ∙ held.2.1;
       }
 
 -- a first move of a job finds none in flight
-module _ (v : Desk) (w : State) (holds : Option Cells) (faults number : ℕ) (ps : List Provider) (stands : DeskStands v (devices holds faults ps) w) (comes : Comes v.core number WriteBody) where
+module _ (v : Desk) (w : State) (holds : Option Cells) (faults number : ℕ) (ps : List Provider)
+    (stands : DeskStands v (devices holds faults ps) w) (comes : Comes v.core number WriteBody) where
   alone : w.append ≡ None
   alone = none_flies w.append (comes.machine w stands.core).holder
 
   lies_still : IsFlight v.flight None w.records holds
-  lies_still = subst (λ (o : Option Append). IsFlight v.flight o w.records holds) alone (stands.flight (comes.machine w stands.core).unbarred)
+  lies_still = subst (λ (o : Option Append). IsFlight v.flight o w.records holds) alone
+      (stands.flight (comes.machine w stands.core).unbarred)
 
   not_some : (f : Flight) → v.flight ≡ Some f → ⊥
   not_some f is = subst (λ (o : Option Flight). IsFlight o None w.records holds) is lies_still
@@ -130,7 +148,9 @@ module _ (v : Desk) (w : State) (holds : Option Cells) (faults number : ℕ) (ps
   begins : (f : Flight) → IsUnbegun v.core number f → IsMover v w holds number WriteBody f
   begins f first =
       let next = comes.machine w stands.core in
-      let entry_now : IsEntryOf w number (Some first.entry) = subst (λ (o : Option Record). IsEntryOf w number o) first.given (entry_machine v.core w number (entry_in v.core number) stands.core refl) in
+      let entry_now : IsEntryOf w number (Some first.entry) =
+      subst (λ (o : Option Record). IsEntryOf w number o) first.given
+      (entry_machine v.core w number (entry_in v.core number) stands.core refl) in
       record {
         entry = first.entry;
         given = first.given;
@@ -139,52 +159,83 @@ module _ (v : Desk) (w : State) (holds : Option Cells) (faults number : ℕ) (ps
         appends = record {
           records = grammar-core v.core w stands.core;
           entry = first.spelled;
-          gate = (let size = length-before_gate w.records (grammar-core v.core w stands.core) in let end = stands.core.end in let g = first.gate in omega (arith, size, end, g));
+          gate = (let size = length-before_gate w.records (grammar-core v.core w stands.core) in
+              let end = stands.core.end in let g = first.gate in omega (arith, size, end, g));
           body = first.body;
-          disk = subst (λ (n : ℕ). IfSome holds (IsAfterMoves n (before_gate w.records) (body_of f.append))) (sym first.moves) (closed_of v.flight w.records holds lies_still);
+          disk = subst (λ (n : ℕ). IfSome holds (IsAfterMoves n (before_gate w.records) (body_of f.append)))
+              (sym first.moves) (closed_of v.flight w.records holds lies_still);
         };
         moves = first.moves;
       }
 
 -- the append that a vault has in flight is at the move that comes next
-pub flight_moves : (v : Desk) (w : State) (holds : Option Cells) (faults number : ℕ) (ps : List Provider) → DeskStands v (devices holds faults ps) w → (action : Action) → Comes v.core number action → is_move (Some action) ≡ true
+pub flight_moves : (v : Desk) (w : State) (holds : Option Cells) (faults number : ℕ) (ps : List Provider) →
+    DeskStands v (devices holds faults ps) w → (action : Action) → Comes v.core number action →
+    is_move (Some action) ≡ true
     → (f : Flight) → v.flight ≡ Some f → IsMover v w holds number action f
-flight_moves v w holds faults number ps stands WriteBody comes moves f is = absurd (not_some v w holds faults number ps stands comes f is)
-flight_moves v w holds faults number ps stands SyncBody comes moves f is = goes_on v w holds faults number ps stands SyncBody comes (omega arith) moves f is
-flight_moves v w holds faults number ps stands WriteGate comes moves f is = goes_on v w holds faults number ps stands WriteGate comes (omega arith) moves f is
-flight_moves v w holds faults number ps stands SyncGate comes moves f is = goes_on v w holds faults number ps stands SyncGate comes (omega arith) moves f is
-flight_moves v w holds faults number ps stands (Store j object stripe) comes moves f is = absurd (false_true moves)
-flight_moves v w holds faults number ps stands (Fetch j object stripe) comes moves f is = absurd (false_true moves)
-flight_moves v w holds faults number ps stands (Ask j object round) comes moves f is = absurd (false_true moves)
-flight_moves v w holds faults number ps stands (Work object stripe) comes moves f is = absurd (false_true moves)
+flight_moves v w holds faults number ps stands WriteBody comes moves f is =
+    absurd (not_some v w holds faults number ps stands comes f is)
+flight_moves v w holds faults number ps stands SyncBody comes moves f is =
+    goes_on v w holds faults number ps stands SyncBody comes (omega arith) moves f is
+flight_moves v w holds faults number ps stands WriteGate comes moves f is =
+    goes_on v w holds faults number ps stands WriteGate comes (omega arith) moves f is
+flight_moves v w holds faults number ps stands SyncGate comes moves f is =
+    goes_on v w holds faults number ps stands SyncGate comes (omega arith) moves f is
+flight_moves v w holds faults number ps stands (Store j object stripe) comes moves f is =
+    absurd (false_true moves)
+flight_moves v w holds faults number ps stands (Fetch j object stripe) comes moves f is =
+    absurd (false_true moves)
+flight_moves v w holds faults number ps stands (Ask j object round) comes moves f is =
+    absurd (false_true moves)
+flight_moves v w holds faults number ps stands (Work object stripe) comes moves f is =
+    absurd (false_true moves)
 flight_moves v w holds faults number ps stands (Remove j object) comes moves f is = absurd (false_true moves)
 flight_moves v w holds faults number ps stands End comes moves f is = absurd (false_true moves)
 
 -- where it has none, the job's append begins
-pub flight_begins : (v : Desk) (w : State) (holds : Option Cells) (faults number : ℕ) (ps : List Provider) → DeskStands v (devices holds faults ps) w → (action : Action) → Comes v.core number action → is_move (Some action) ≡ true
+pub flight_begins : (v : Desk) (w : State) (holds : Option Cells) (faults number : ℕ) (ps : List Provider) →
+    DeskStands v (devices holds faults ps) w → (action : Action) → Comes v.core number action →
+    is_move (Some action) ≡ true
     → v.flight ≡ None → (f : Flight) → IsUnbegun v.core number f → IsMover v w holds number action f
-flight_begins v w holds faults number ps stands WriteBody comes moves is f first = begins v w holds faults number ps stands comes f first
-flight_begins v w holds faults number ps stands SyncBody comes moves is f first = absurd (not_none v w holds faults number ps stands SyncBody comes (omega arith) is)
-flight_begins v w holds faults number ps stands WriteGate comes moves is f first = absurd (not_none v w holds faults number ps stands WriteGate comes (omega arith) is)
-flight_begins v w holds faults number ps stands SyncGate comes moves is f first = absurd (not_none v w holds faults number ps stands SyncGate comes (omega arith) is)
-flight_begins v w holds faults number ps stands (Store j object stripe) comes moves is f first = absurd (false_true moves)
-flight_begins v w holds faults number ps stands (Fetch j object stripe) comes moves is f first = absurd (false_true moves)
-flight_begins v w holds faults number ps stands (Ask j object round) comes moves is f first = absurd (false_true moves)
-flight_begins v w holds faults number ps stands (Work object stripe) comes moves is f first = absurd (false_true moves)
-flight_begins v w holds faults number ps stands (Remove j object) comes moves is f first = absurd (false_true moves)
+flight_begins v w holds faults number ps stands WriteBody comes moves is f first =
+    begins v w holds faults number ps stands comes f first
+flight_begins v w holds faults number ps stands SyncBody comes moves is f first =
+    absurd (not_none v w holds faults number ps stands SyncBody comes (omega arith) is)
+flight_begins v w holds faults number ps stands WriteGate comes moves is f first =
+    absurd (not_none v w holds faults number ps stands WriteGate comes (omega arith) is)
+flight_begins v w holds faults number ps stands SyncGate comes moves is f first =
+    absurd (not_none v w holds faults number ps stands SyncGate comes (omega arith) is)
+flight_begins v w holds faults number ps stands (Store j object stripe) comes moves is f first =
+    absurd (false_true moves)
+flight_begins v w holds faults number ps stands (Fetch j object stripe) comes moves is f first =
+    absurd (false_true moves)
+flight_begins v w holds faults number ps stands (Ask j object round) comes moves is f first =
+    absurd (false_true moves)
+flight_begins v w holds faults number ps stands (Work object stripe) comes moves is f first =
+    absurd (false_true moves)
+flight_begins v w holds faults number ps stands (Remove j object) comes moves is f first =
+    absurd (false_true moves)
 flight_begins v w holds faults number ps stands End comes moves is f first = absurd (false_true moves)
 
 -- a vault that gave its flight away is else the same
 pub gave_away : (v v0 : Desk) → v0 ≡ record v { flight = None } → KeepsAll v v0
-gave_away v v0 rest = record { setup = ap (λ (x : Desk). x.setup) rest; master = ap (λ (x : Desk). x.master) rest; shape = ap (λ (x : Desk). x.shape) rest; profile = ap (λ (x : Desk). x.profile) rest }
+gave_away v v0 rest =
+    record {
+      setup = ap (λ (x : Desk). x.setup) rest;
+      master = ap (λ (x : Desk). x.master) rest;
+      shape = ap (λ (x : Desk). x.shape) rest;
+      profile = ap (λ (x : Desk). x.profile) rest;
+    }
 
 -- its core is fed as that of the vault was
-pub fed_away : (v v0 : Desk) (number : ℕ) (r : Reply) (core : CoreView) → v0 ≡ record v { flight = None } → IsFed v0.core number r core → IsFed v.core number r core
+pub fed_away : (v v0 : Desk) (number : ℕ) (r : Reply) (core : CoreView) → v0 ≡ record v { flight = None } →
+    IsFed v0.core number r core → IsFed v.core number r core
 fed_away v v0 number r core rest = subst (λ (x : Desk). IsFed x.core number r core) rest
 
 -- ---- what comes of a move
 
-module _ (v : Desk) (w : State) (holds holds' : Option Cells) (faults faults' moment number : ℕ) (ps : List Provider) (stands : DeskStands v (devices holds faults ps) w) (f : Flight) where
+module _ (v : Desk) (w : State) (holds holds' : Option Cells) (faults faults' moment number : ℕ)
+    (ps : List Provider) (stands : DeskStands v (devices holds faults ps) w) (f : Flight) where
   -- the state counts the faults of the disk
   falls_not : faults ≤ faults' → w.disk_faults ≤ faults'
   falls_not = subst (λ (n : ℕ). n ≤ faults') (sym stands.devices.faults)
@@ -193,90 +244,156 @@ module _ (v : Desk) (w : State) (holds holds' : Option Cells) (faults faults' mo
   rises = subst (λ (n : ℕ). Rose n faults') (sym stands.devices.faults)
 
   -- the append in flight of a later move has the mover's record
-  flies : (action : Action) (comes : Comes v.core number action) (later : 0 < moves_before action) (m : IsMover v w holds number action f)
-      → (a : Append) × (w.append ≡ Some a) × IsAt a (comes.machine w stands.core).job (moves_before action) × (entry_in v.core number ≡ Some a.entry) × Appends w.records a.entry f.append holds
+  flies : (action : Action) (comes : Comes v.core number action) (later : 0 < moves_before action)
+      (m : IsMover v w holds number action f)
+      → (a : Append) × (w.append ≡ Some a) × IsAt a (comes.machine w stands.core).job (moves_before action) ×
+      (entry_in v.core number ≡ Some a.entry) × Appends w.records a.entry f.append holds
   unfolding next
   flies action comes later m =
       let h = held v w holds faults number ps stands action comes later in
-      let same : h.0.entry ≡ m.entry = m.in_flight h.0 h.1 in
-      (h.0, h.1, h.2, m.given ∙ ap (λ (r : Record). Some r) (sym same), subst (λ (r : Record). Appends w.records r f.append holds) (sym same) m.appends)
+      let same : h.0.entry ≡ m.entry = m.in_flight h.0 h.1 in (
+        h.0,
+        h.1,
+        h.2,
+        m.given ∙ ap (λ (r : Record). Some r) (sym same),
+        subst (λ (r : Record). Appends w.records r f.append holds) (sym same) m.appends,
+      )
 
   -- past the text with the record of the append the disk reads as before
-  still_past : (action : Action) (m : IsMover v w holds number action f) → Goes (SameFrom (gate_of f.append + 1 + length (body_of f.append))) holds holds' → IsSamePast w number (devices holds faults ps) (devices holds' faults' ps)
-  still_past action m beyond = record { entry = m.entry; writing = m.writing; in_flight = m.in_flight; same = beyond_of w.records m.entry f.append holds holds' m.appends beyond }
+  still_past : (action : Action) (m : IsMover v w holds number action f) →
+      Goes (SameFrom (gate_of f.append + 1 + length (body_of f.append))) holds holds' →
+      IsSamePast w number (devices holds faults ps) (devices holds' faults' ps)
+  still_past action m beyond =
+      record {
+        entry = m.entry;
+        writing = m.writing;
+        in_flight = m.in_flight;
+        same = beyond_of w.records m.entry f.append holds holds' m.appends beyond;
+      }
 
   -- the disk failed
-  pub append_failed : (action : Action) (comes : Comes v.core number action) → is_move (Some action) ≡ true → (m : IsMover v w holds number action f) (v1 v2 : Desk) (result : Turn)
-      → MakesMove f.append holds moves.Failed holds' → Goes (SameFrom (gate_of f.append + 1 + length (body_of f.append))) holds holds' → HasCause faults faults' (HasFailed moves.Failed)
-      → v1.core ≡ v.core → v1.jobs.items ≡ v.jobs.items → KeepsAll v v1 → IsStopped v1 number reply.Failed answer.DiskFault result v2
+  pub append_failed : (action : Action) (comes : Comes v.core number action) → is_move (Some action) ≡ true →
+      (m : IsMover v w holds number action f) (v1 v2 : Desk) (result : Turn)
+      → MakesMove f.append holds moves.Failed holds' →
+      Goes (SameFrom (gate_of f.append + 1 + length (body_of f.append))) holds holds' →
+      HasCause faults faults' (HasFailed moves.Failed)
+      → v1.core ≡ v.core → v1.jobs.items ≡ v.jobs.items → KeepsAll v v1 →
+      IsStopped v1 number reply.Failed answer.DiskFault result v2
       → DeskMakesStep w moment number result v2 (devices holds faults ps) (devices holds' faults' ps)
   append_failed WriteBody comes move m v1 v2 result made beyond cause core jobs keeps stopped =
       let next = comes.machine w stands.core in
       let up : GivesUp f.append w.records m.entry holds' = made w.records m.entry m.appends in
       let new : State = record (barred (ended w next.job)) { disk_faults = faults' } in
-      moves_end v v1 v2 w new holds holds' faults faults' moment number ps WriteBody reply.Failed answer.DiskFault result stands next
+      moves_end v v1 v2 w new holds holds' faults faults' moment number ps WriteBody reply.Failed
+      answer.DiskFault result stands next
       (faults', falls_not cause.never_falls, rises (cause.rose tt), refl)
       (ap (without_job w.jobs) (number_of w.jobs number next.job next.runs))
       core jobs keeps stopped tt
-      (record { setup = setup_same w new refl; handed = handed_same ps w new stands.devices.providers refl (λ j. refl); faults = refl; images = all_images holds' new (up.before (let k = m.moves in omega (arith, k))); flight = λ free. absurd (true_false free) })
+      (record {
+        setup = setup_same w new refl;
+        handed =
+            handed_same ps w new stands.devices.providers refl (λ j. refl);
+        faults = refl;
+        images = all_images holds' new (up.before (let k = m.moves in omega (arith, k)));
+        flight = λ free. absurd (true_false free);
+      })
       refl (λ on. absurd (on refl)) (λ e. still_past WriteBody m beyond)
   append_failed SyncBody comes move m v1 v2 result made beyond cause core jobs keeps stopped =
       let next = comes.machine w stands.core in
       let a = flies SyncBody comes (omega arith) m in
       let up : GivesUp f.append w.records m.entry holds' = made w.records m.entry m.appends in
       let new : State = record (barred (ended w next.job)) { disk_faults = faults' } in
-      moves_end v v1 v2 w new holds holds' faults faults' moment number ps SyncBody reply.Failed answer.DiskFault result stands next
+      moves_end v v1 v2 w new holds holds' faults faults' moment number ps SyncBody reply.Failed
+      answer.DiskFault result stands next
       (subst (λ (o : Option Append). Moves w next.job SyncBody o (Ended answers.DiskFault) new) (sym a.1)
       (a.2, (faults', falls_not cause.never_falls, rises (cause.rose tt), refl)))
       (ap (without_job w.jobs) (number_of w.jobs number next.job next.runs))
       core jobs keeps stopped tt
-      (record { setup = setup_same w new refl; handed = handed_same ps w new stands.devices.providers refl (λ j. refl); faults = refl; images = all_images holds' new (up.before (let k = m.moves in omega (arith, k))); flight = λ free. absurd (true_false free) })
+      (record {
+        setup = setup_same w new refl;
+        handed =
+            handed_same ps w new stands.devices.providers refl (λ j. refl);
+        faults = refl;
+        images = all_images holds' new (up.before (let k = m.moves in omega (arith, k)));
+        flight = λ free. absurd (true_false free);
+      })
       refl (λ on. absurd (on refl)) (λ e. still_past SyncBody m beyond)
   append_failed WriteGate comes move m v1 v2 result made beyond cause core jobs keeps stopped =
       let next = comes.machine w stands.core in
       let a = flies WriteGate comes (omega arith) m in
       let up : GivesUp f.append w.records a.0.entry holds' = made w.records a.0.entry a.4 in
       let new : State = record (doubted (barred (ended w next.job)) a.0 next.job) { disk_faults = faults' } in
-      moves_end v v1 v2 w new holds holds' faults faults' moment number ps WriteGate reply.Failed answer.DiskFault result stands next
+      moves_end v v1 v2 w new holds holds' faults faults' moment number ps WriteGate reply.Failed
+      answer.DiskFault result stands next
       (subst (λ (o : Option Append). Moves w next.job WriteGate o (Ended answers.DiskFault) new) (sym a.1)
       (a.2, (faults', falls_not cause.never_falls, rises (cause.rose tt), refl)))
       (ap (without_job w.jobs) (number_of w.jobs number next.job next.runs))
       core jobs keeps stopped tt
-      (record { setup = setup_same w new refl; handed = handed_same ps w new stands.devices.providers refl (λ j. refl); faults = refl; images = doubted_images holds' new a.0.entry _ refl refl up.between; flight = λ free. absurd (true_false free) })
+      (record {
+        setup = setup_same w new refl;
+        handed =
+            handed_same ps w new stands.devices.providers refl (λ j. refl);
+        faults = refl;
+        images = doubted_images holds' new a.0.entry _ refl refl up.between;
+        flight = λ free. absurd (true_false free);
+      })
       refl (λ on. absurd (on refl)) (λ e. still_past WriteGate m beyond)
   append_failed SyncGate comes move m v1 v2 result made beyond cause core jobs keeps stopped =
       let next = comes.machine w stands.core in
       let a = flies SyncGate comes (omega arith) m in
       let up : GivesUp f.append w.records a.0.entry holds' = made w.records a.0.entry a.4 in
       let new : State = record (barred (ended w next.job)) { disk_faults = faults' } in
-      let doubt = in_doubt a.0 w.doubt a.2.1 (subst (λ (o : Option Append). IsDoubtOf o w.doubt) a.1 (stands.core.sound.undoubted stands.core.is_open next.unbarred)) in
-      moves_end v v1 v2 w new holds holds' faults faults' moment number ps SyncGate reply.Failed answer.DiskFault result stands next
+      let doubt = in_doubt a.0 w.doubt a.2.1
+      (subst (λ (o : Option Append). IsDoubtOf o w.doubt) a.1
+      (stands.core.sound.undoubted stands.core.is_open next.unbarred)) in
+      moves_end v v1 v2 w new holds holds' faults faults' moment number ps SyncGate reply.Failed
+      answer.DiskFault result stands next
       (subst (λ (o : Option Append). Moves w next.job SyncGate o (Ended answers.DiskFault) new) (sym a.1)
       (a.2, (faults', falls_not cause.never_falls, rises (cause.rose tt), refl)))
       (ap (without_job w.jobs) (number_of w.jobs number next.job next.runs))
       core jobs keeps stopped tt
-      (record { setup = setup_same w new refl; handed = handed_same ps w new stands.devices.providers refl (λ j. refl); faults = refl; images = doubted_images holds' new a.0.entry doubt.0 doubt.1 doubt.2 up.between; flight = λ free. absurd (true_false free) })
+      (record {
+        setup = setup_same w new refl;
+        handed =
+            handed_same ps w new stands.devices.providers refl (λ j. refl);
+        faults = refl;
+        images = doubted_images holds' new a.0.entry doubt.0 doubt.1 doubt.2 up.between;
+        flight = λ free. absurd (true_false free);
+      })
       refl (λ on. absurd (on refl)) (λ e. still_past SyncGate m beyond)
-  append_failed (Store j object stripe) comes move m v1 v2 result made beyond cause core jobs keeps stopped = absurd (false_true move)
-  append_failed (Fetch j object stripe) comes move m v1 v2 result made beyond cause core jobs keeps stopped = absurd (false_true move)
-  append_failed (Ask j object round) comes move m v1 v2 result made beyond cause core jobs keeps stopped = absurd (false_true move)
-  append_failed (Work object stripe) comes move m v1 v2 result made beyond cause core jobs keeps stopped = absurd (false_true move)
-  append_failed (Remove j object) comes move m v1 v2 result made beyond cause core jobs keeps stopped = absurd (false_true move)
-  append_failed End comes move m v1 v2 result made beyond cause core jobs keeps stopped = absurd (false_true move)
+  append_failed (Store j object stripe) comes move m v1 v2 result made beyond cause core jobs keeps stopped =
+      absurd (false_true move)
+  append_failed (Fetch j object stripe) comes move m v1 v2 result made beyond cause core jobs keeps stopped =
+      absurd (false_true move)
+  append_failed (Ask j object round) comes move m v1 v2 result made beyond cause core jobs keeps stopped =
+      absurd (false_true move)
+  append_failed (Work object stripe) comes move m v1 v2 result made beyond cause core jobs keeps stopped =
+      absurd (false_true move)
+  append_failed (Remove j object) comes move m v1 v2 result made beyond cause core jobs keeps stopped =
+      absurd (false_true move)
+  append_failed End comes move m v1 v2 result made beyond cause core jobs keeps stopped =
+      absurd (false_true move)
 
   -- a move is made behind which others are left
-  pub append_goes_on : (action : Action) (comes : Comes v.core number action) → is_move (Some action) ≡ true → (m : IsMover v w holds number action f) (v' : Desk) (g : Flight)
-      → MakesMove f.append holds (moves.On g) holds' → Goes (SameFrom (gate_of f.append + 1 + length (body_of f.append))) holds holds' → HasCause faults faults' (HasFailed (moves.On g))
-      → v'.flight ≡ Some g → v'.jobs.items ≡ v.jobs.items → KeepsAll v v' → IsFed v.core number reply.Done v'.core
+  pub append_goes_on : (action : Action) (comes : Comes v.core number action) → is_move (Some action) ≡ true →
+      (m : IsMover v w holds number action f) (v' : Desk) (g : Flight)
+      → MakesMove f.append holds (moves.On g) holds' →
+      Goes (SameFrom (gate_of f.append + 1 + length (body_of f.append))) holds holds' →
+      HasCause faults faults' (HasFailed (moves.On g))
+      → v'.flight ≡ Some g → v'.jobs.items ≡ v.jobs.items → KeepsAll v v' →
+      IsFed v.core number reply.Done v'.core
       → DeskMakesStep w moment number turn.More v' (devices holds faults ps) (devices holds' faults' ps)
   append_goes_on WriteBody comes move m v' g made beyond cause flight jobs keeps fed =
       let next = comes.machine w stands.core in
       let job = next.job in
       let on : GoesOn f.append g.append w.records m.entry holds' = made.3 w.records m.entry m.appends in
       let writes : Writes w job job.kind m.entry =
-      (let same : m.writing.job ≡ job = (let e : Some m.writing.job ≡ Some job = sym m.writing.runs ∙ next.runs in cc) in subst (λ (j : Job). Writes w j j.kind m.entry) same m.writing.writes) in
+      (let same : m.writing.job ≡ job =
+      (let e : Some m.writing.job ≡ Some job = sym m.writing.runs ∙ next.runs in cc) in
+      subst (λ (j : Job). Writes w j j.kind m.entry) same m.writing.writes) in
       let new : State = record (begun_append w job m.entry) { disk_faults = faults' } in
-      moves_on v v' w new holds holds' faults faults' moment number ps WriteBody (subject_drawn w job job.kind) job.older stands next tt (subject_kept w job job.kind)
+      moves_on v v' w new holds holds' faults faults' moment number ps WriteBody
+      (subject_drawn w job job.kind) job.older stands next tt (subject_kept w job job.kind)
       (m.entry, writes, (faults', falls_not cause.never_falls, refl))
       refl jobs
       (record {
@@ -284,9 +401,12 @@ module _ (v : Desk) (w : State) (holds holds' : Option Cells) (faults faults' mo
         handed = handed_same ps w new stands.devices.providers refl (λ j. refl);
         faults = refl;
         images = all_images holds' new (on.before (let k = m.moves in omega (arith, k)));
-        flight = λ free. subst (λ (x : Option Flight). IsFlight x new.append new.records holds') (sym flight) ((let k = m.moves in let n = made.0 in omega (arith, k, n)), on.appends);
+        flight = λ free. subst (λ (x : Option Flight). IsFlight x new.append new.records holds') (sym flight)
+            ((let k = m.moves in let n = made.0 in omega (arith, k, n)), on.appends);
       })
-      (λ a is mine. m.given ∙ ap (λ (x : Append). Some x.entry) (one_of (record { job = job.number; entry = m.entry; moves = 1 }) a is))
+      (λ a is mine. m.given
+      ∙ ap (λ (x : Append). Some x.entry)
+      (one_of (record { job = job.number; entry = m.entry; moves = 1 }) a is))
       (beyond_of w.records m.entry f.append holds holds' m.appends beyond)
       keeps fed
   append_goes_on SyncBody comes move m v' g made beyond cause flight jobs keeps fed =
@@ -295,17 +415,21 @@ module _ (v : Desk) (w : State) (holds holds' : Option Cells) (faults faults' mo
       let a = flies SyncBody comes (omega arith) m in
       let on : GoesOn f.append g.append w.records a.0.entry holds' = made.3 w.records a.0.entry a.4 in
       let new : State = record (moved (going_on w (advanced job)) a.0) { disk_faults = faults' } in
-      moves_on v v' w new holds holds' faults faults' moment number ps SyncBody job.subject job.older stands next tt (λ many. refl)
-      (subst (λ (o : Option Append). Moves w job SyncBody o More new) (sym a.1) (a.2, (faults', falls_not cause.never_falls, refl)))
+      moves_on v v' w new holds holds' faults faults' moment number ps SyncBody job.subject job.older stands
+      next tt (λ many. refl)
+      (subst (λ (o : Option Append). Moves w job SyncBody o More new) (sym a.1)
+      (a.2, (faults', falls_not cause.never_falls, refl)))
       refl jobs
       (record {
         setup = setup_same w new refl;
         handed = handed_same ps w new stands.devices.providers refl (λ j. refl);
         faults = refl;
         images = all_images holds' new (on.before (let k = m.moves in omega (arith, k)));
-        flight = λ free. subst (λ (x : Option Flight). IsFlight x new.append new.records holds') (sym flight) ((let n = made.0 in let k = m.moves in let l = a.2.1 in omega (arith, n, k, l)), on.appends);
+        flight = λ free. subst (λ (x : Option Flight). IsFlight x new.append new.records holds') (sym flight)
+            ((let n = made.0 in let k = m.moves in let l = a.2.1 in omega (arith, n, k, l)), on.appends);
       })
-      (λ x is mine. a.3 ∙ ap (λ (y : Append). Some y.entry) (one_of (record a.0 { moves = a.0.moves + 1 }) x is))
+      (λ x is mine. a.3 ∙ ap (λ (y : Append). Some y.entry)
+      (one_of (record a.0 { moves = a.0.moves + 1 }) x is))
       (beyond_of w.records a.0.entry f.append holds holds' a.4 beyond)
       keeps fed
   append_goes_on WriteGate comes move m v' g made beyond cause flight jobs keeps fed =
@@ -313,32 +437,47 @@ module _ (v : Desk) (w : State) (holds holds' : Option Cells) (faults faults' mo
       let job = next.job in
       let a = flies WriteGate comes (omega arith) m in
       let on : GoesOn f.append g.append w.records a.0.entry holds' = made.3 w.records a.0.entry a.4 in
-      let new : State = record (doubted (moved (going_on w (advanced job)) a.0) a.0 job) { disk_faults = faults' } in
-      moves_on v v' w new holds holds' faults faults' moment number ps WriteGate job.subject job.older stands next tt (λ many. refl)
-      (subst (λ (o : Option Append). Moves w job WriteGate o More new) (sym a.1) (a.2, (faults', falls_not cause.never_falls, refl)))
+      let new : State = record (doubted (moved (going_on w (advanced job)) a.0) a.0 job)
+      { disk_faults = faults' } in
+      moves_on v v' w new holds holds' faults faults' moment number ps WriteGate job.subject job.older stands
+      next tt (λ many. refl)
+      (subst (λ (o : Option Append). Moves w job WriteGate o More new) (sym a.1)
+      (a.2, (faults', falls_not cause.never_falls, refl)))
       refl jobs
       (record {
         setup = setup_same w new refl;
         handed = handed_same ps w new stands.devices.providers refl (λ j. refl);
         faults = refl;
         images = doubted_images holds' new a.0.entry _ refl refl on.between;
-        flight = λ free. subst (λ (x : Option Flight). IsFlight x new.append new.records holds') (sym flight) ((let n = made.0 in let k = m.moves in let l = a.2.1 in omega (arith, n, k, l)), on.appends);
+        flight = λ free. subst (λ (x : Option Flight). IsFlight x new.append new.records holds') (sym flight)
+            ((let n = made.0 in let k = m.moves in let l = a.2.1 in omega (arith, n, k, l)), on.appends);
       })
-      (λ x is mine. a.3 ∙ ap (λ (y : Append). Some y.entry) (one_of (record a.0 { moves = a.0.moves + 1 }) x is))
+      (λ x is mine. a.3 ∙ ap (λ (y : Append). Some y.entry)
+      (one_of (record a.0 { moves = a.0.moves + 1 }) x is))
       (beyond_of w.records a.0.entry f.append holds holds' a.4 beyond)
       keeps fed
-  append_goes_on SyncGate comes move m v' g made beyond cause flight jobs keeps fed = absurd (let k = m.moves in let d = made.0 in let u = g.undone in omega (arith, k, d, u))
-  append_goes_on (Store j object stripe) comes move m v' g made beyond cause flight jobs keeps fed = absurd (false_true move)
-  append_goes_on (Fetch j object stripe) comes move m v' g made beyond cause flight jobs keeps fed = absurd (false_true move)
-  append_goes_on (Ask j object round) comes move m v' g made beyond cause flight jobs keeps fed = absurd (false_true move)
-  append_goes_on (Work object stripe) comes move m v' g made beyond cause flight jobs keeps fed = absurd (false_true move)
-  append_goes_on (Remove j object) comes move m v' g made beyond cause flight jobs keeps fed = absurd (false_true move)
+  append_goes_on SyncGate comes move m v' g made beyond cause flight jobs keeps fed =
+      absurd (let k = m.moves in let d = made.0 in let u = g.undone in omega (arith, k, d, u))
+  append_goes_on (Store j object stripe) comes move m v' g made beyond cause flight jobs keeps fed =
+      absurd (false_true move)
+  append_goes_on (Fetch j object stripe) comes move m v' g made beyond cause flight jobs keeps fed =
+      absurd (false_true move)
+  append_goes_on (Ask j object round) comes move m v' g made beyond cause flight jobs keeps fed =
+      absurd (false_true move)
+  append_goes_on (Work object stripe) comes move m v' g made beyond cause flight jobs keeps fed =
+      absurd (false_true move)
+  append_goes_on (Remove j object) comes move m v' g made beyond cause flight jobs keeps fed =
+      absurd (false_true move)
   append_goes_on End comes move m v' g made beyond cause flight jobs keeps fed = absurd (false_true move)
 
   -- the last move is made
-  pub append_done : (action : Action) (comes : Comes v.core number action) → is_move (Some action) ≡ true → (m : IsMover v w holds number action f) (v' : Desk)
-      → MakesMove f.append holds moves.Done holds' → Goes (SameFrom (gate_of f.append + 1 + length (body_of f.append))) holds holds' → HasCause faults faults' (HasFailed moves.Done)
-      → v'.flight ≡ None → v'.jobs.items ≡ v.jobs.items → KeepsAll v v' → IsFed v.core number reply.Done v'.core
+  pub append_done : (action : Action) (comes : Comes v.core number action) → is_move (Some action) ≡ true →
+      (m : IsMover v w holds number action f) (v' : Desk)
+      → MakesMove f.append holds moves.Done holds' →
+      Goes (SameFrom (gate_of f.append + 1 + length (body_of f.append))) holds holds' →
+      HasCause faults faults' (HasFailed moves.Done)
+      → v'.flight ≡ None → v'.jobs.items ≡ v.jobs.items → KeepsAll v v' →
+      IsFed v.core number reply.Done v'.core
       → DeskMakesStep w moment number turn.More v' (devices holds faults ps) (devices holds' faults' ps)
   append_done SyncGate comes move m v' made beyond cause flight jobs keeps fed =
       let next = comes.machine w stands.core in
@@ -346,39 +485,54 @@ module _ (v : Desk) (w : State) (holds holds' : Option Cells) (faults faults' mo
       let job = next.job in
       let done : EndsAppend w.records a.0.entry holds' = made.1 w.records a.0.entry a.4 in
       let new : State = record (done_append w job a.0) { disk_faults = faults' } in
-      moves_on v v' w new holds holds' faults faults' moment number ps SyncGate job.subject (taken_out w job job.kind) stands next tt (λ many. refl)
-      (subst (λ (o : Option Append). Moves w job SyncGate o More new) (sym a.1) (a.2, (faults', falls_not cause.never_falls, refl)))
+      moves_on v v' w new holds holds' faults faults' moment number ps SyncGate job.subject
+      (taken_out w job job.kind) stands next tt (λ many. refl)
+      (subst (λ (o : Option Append). Moves w job SyncGate o More new) (sym a.1)
+      (a.2, (faults', falls_not cause.never_falls, refl)))
       refl jobs
       (record {
-        setup = setup_kept w new a.0 (stands.core.sound.set_up stands.core.is_open) (stands.core.sound.append a.0 a.1).follows.accepted refl;
+        setup = setup_kept w new a.0 (stands.core.sound.set_up stands.core.is_open)
+            (stands.core.sound.append a.0 a.1).follows.accepted refl;
         handed = handed_same ps w new stands.devices.providers refl (λ j. refl);
         faults = refl;
         images = all_images holds' new done.after;
-        flight = λ free. subst (λ (x : Option Flight). IsFlight x None new.records holds') (sym flight) done.closed;
+        flight = λ free. subst (λ (x : Option Flight). IsFlight x None new.records holds')
+            (sym flight) done.closed;
       })
       (λ x so mine. absurd (none_some x so))
       (beyond_of w.records a.0.entry f.append holds holds' a.4 beyond)
       keeps fed
-  append_done WriteBody comes move m v' made beyond cause flight jobs keeps fed = absurd (let k = m.moves in let d = made.0 in omega (arith, k, d))
-  append_done SyncBody comes move m v' made beyond cause flight jobs keeps fed = absurd (let k = m.moves in let d = made.0 in omega (arith, k, d))
-  append_done WriteGate comes move m v' made beyond cause flight jobs keeps fed = absurd (let k = m.moves in let d = made.0 in omega (arith, k, d))
-  append_done (Store j object stripe) comes move m v' made beyond cause flight jobs keeps fed = absurd (false_true move)
-  append_done (Fetch j object stripe) comes move m v' made beyond cause flight jobs keeps fed = absurd (false_true move)
-  append_done (Ask j object round) comes move m v' made beyond cause flight jobs keeps fed = absurd (false_true move)
-  append_done (Work object stripe) comes move m v' made beyond cause flight jobs keeps fed = absurd (false_true move)
-  append_done (Remove j object) comes move m v' made beyond cause flight jobs keeps fed = absurd (false_true move)
+  append_done WriteBody comes move m v' made beyond cause flight jobs keeps fed =
+      absurd (let k = m.moves in let d = made.0 in omega (arith, k, d))
+  append_done SyncBody comes move m v' made beyond cause flight jobs keeps fed =
+      absurd (let k = m.moves in let d = made.0 in omega (arith, k, d))
+  append_done WriteGate comes move m v' made beyond cause flight jobs keeps fed =
+      absurd (let k = m.moves in let d = made.0 in omega (arith, k, d))
+  append_done (Store j object stripe) comes move m v' made beyond cause flight jobs keeps fed =
+      absurd (false_true move)
+  append_done (Fetch j object stripe) comes move m v' made beyond cause flight jobs keeps fed =
+      absurd (false_true move)
+  append_done (Ask j object round) comes move m v' made beyond cause flight jobs keeps fed =
+      absurd (false_true move)
+  append_done (Work object stripe) comes move m v' made beyond cause flight jobs keeps fed =
+      absurd (false_true move)
+  append_done (Remove j object) comes move m v' made beyond cause flight jobs keeps fed =
+      absurd (false_true move)
   append_done End comes move m v' made beyond cause flight jobs keeps fed = absurd (false_true move)
 
   -- a write found no memory
-  pub append_unwritten : (action : Action) (comes : Comes v.core number action) → is_move (Some action) ≡ true → (m : IsMover v w holds number action f) (v1 v2 : Desk) (result : Turn)
+  pub append_unwritten : (action : Action) (comes : Comes v.core number action) →
+      is_move (Some action) ≡ true → (m : IsMover v w holds number action f) (v1 v2 : Desk) (result : Turn)
       → MakesMove f.append holds moves.Memory holds' → HasCause faults faults' (HasFailed moves.Memory)
-      → v1.core ≡ v.core → v1.jobs.items ≡ v.jobs.items → v1.flight ≡ None → KeepsAll v v1 → IsStopped v1 number reply.Memory answer.Memory result v2
+      → v1.core ≡ v.core → v1.jobs.items ≡ v.jobs.items → v1.flight ≡ None → KeepsAll v v1 →
+      IsStopped v1 number reply.Memory answer.Memory result v2
       → DeskMakesStep w moment number result v2 (devices holds faults ps) (devices holds' faults' ps)
   append_unwritten WriteBody comes move m v1 v2 result made cause core jobs flight keeps stopped =
       let next = comes.machine w stands.core in
       let none = alone v w holds faults number ps stands comes in
       let new : State = record (ended w next.job) { disk_faults = faults' } in
-      moves_end v v1 v2 w new holds holds' faults faults' moment number ps WriteBody reply.Memory answer.Memory result stands next
+      moves_end v v1 v2 w new holds holds' faults faults' moment number ps WriteBody reply.Memory
+      answer.Memory result stands next
       (faults', falls_not cause.never_falls, refl)
       (ap (without_job w.jobs) (number_of w.jobs number next.job next.runs))
       core jobs keeps stopped tt
@@ -386,40 +540,60 @@ module _ (v : Desk) (w : State) (holds holds' : Option Cells) (faults faults' mo
         setup = setup_same w new refl;
         handed = handed_same ps w new stands.devices.providers refl (λ j. refl);
         faults = refl;
-        images = subst (λ (t : Option Cells). FirstStands t new) (sym made.1) (images_on holds w new refl refl (first-images holds w (whole-core v.core w stands.core) stands.devices.images));
-        flight = λ free. subst (λ (x : Option Flight). IsFlight x w.append w.records holds') (sym flight) (subst (λ (o : Option Append). IsFlight None o w.records holds') (sym none)
-            (subst (λ (t : Option Cells). IfSome t (IsClosed (before_gate w.records))) (sym made.1) (closed_of v.flight w.records holds (lies_still v w holds faults number ps stands comes))));
+        images = subst (λ (t : Option Cells). FirstStands t new) (sym made.1)
+            (images_on holds w new refl refl
+            (first-images holds w (whole-core v.core w stands.core) stands.devices.images));
+        flight = λ free. subst (λ (x : Option Flight). IsFlight x w.append w.records holds') (sym flight)
+            (subst (λ (o : Option Append). IsFlight None o w.records holds') (sym none)
+            (subst (λ (t : Option Cells). IfSome t (IsClosed (before_gate w.records))) (sym made.1)
+            (closed_of v.flight w.records holds (lies_still v w holds faults number ps stands comes))));
       })
-      none (λ on. goes_still (text_size (records_in_flight new.records new.append)) holds holds' made.1) (λ e. cc)
+      none (λ on. goes_still (text_size (records_in_flight new.records new.append)) holds holds' made.1)
+      (λ e. cc)
   append_unwritten WriteGate comes move m v1 v2 result made cause core jobs flight keeps stopped =
       let next = comes.machine w stands.core in
       let a = flies WriteGate comes (omega arith) m in
       let new : State = record (unappended (ended w next.job)) { disk_faults = faults' } in
-      moves_end v v1 v2 w new holds holds' faults faults' moment number ps WriteGate reply.Memory answer.Memory result stands next
-      (subst (λ (o : Option Append). Moves w next.job WriteGate o (Ended answers.Memory) new) (sym a.1) (a.2, (faults', falls_not cause.never_falls, refl)))
+      moves_end v v1 v2 w new holds holds' faults faults' moment number ps WriteGate reply.Memory
+      answer.Memory result stands next
+      (subst (λ (o : Option Append). Moves w next.job WriteGate o (Ended answers.Memory) new) (sym a.1)
+      (a.2, (faults', falls_not cause.never_falls, refl)))
       (ap (without_job w.jobs) (number_of w.jobs number next.job next.runs))
       core jobs keeps stopped tt
       (record {
         setup = setup_same w new refl;
         handed = handed_same ps w new stands.devices.providers refl (λ j. refl);
         faults = refl;
-        images = subst (λ (t : Option Cells). FirstStands t new) (sym made.1) (images_on holds w new refl refl (first-images holds w (whole-core v.core w stands.core) stands.devices.images));
+        images = subst (λ (t : Option Cells). FirstStands t new) (sym made.1)
+            (images_on holds w new refl refl
+            (first-images holds w (whole-core v.core w stands.core) stands.devices.images));
         flight = λ free. subst (λ (x : Option Flight). IsFlight x None w.records holds') (sym flight)
             (subst (λ (t : Option Cells). IfSome t (IsClosed (before_gate w.records))) (sym made.1)
-            (closed_after holds (before_gate w.records) (body_of f.append) (subst (λ (n : ℕ). IfSome holds (IsAfterMoves n (before_gate w.records) (body_of f.append))) m.moves m.appends.disk)));
+            (closed_after holds (before_gate w.records) (body_of f.append)
+            (subst (λ (n : ℕ). IfSome holds (IsAfterMoves n (before_gate w.records) (body_of f.append)))
+            m.moves m.appends.disk)));
       })
-      refl (λ on. goes_still (text_size (records_in_flight new.records new.append)) holds holds' made.1) (λ e. cc)
-  append_unwritten SyncBody comes move m v1 v2 result made cause core jobs flight keeps stopped = absurd (elim made.0 [
-    | inl d ↦ (let k = m.moves in omega (arith, k, d))
-    | inr d ↦ (let k = m.moves in omega (arith, k, d))
-  ])
-  append_unwritten SyncGate comes move m v1 v2 result made cause core jobs flight keeps stopped = absurd (elim made.0 [
-    | inl d ↦ (let k = m.moves in omega (arith, k, d))
-    | inr d ↦ (let k = m.moves in omega (arith, k, d))
-  ])
-  append_unwritten (Store j object stripe) comes move m v1 v2 result made cause core jobs flight keeps stopped = absurd (false_true move)
-  append_unwritten (Fetch j object stripe) comes move m v1 v2 result made cause core jobs flight keeps stopped = absurd (false_true move)
-  append_unwritten (Ask j object round) comes move m v1 v2 result made cause core jobs flight keeps stopped = absurd (false_true move)
-  append_unwritten (Work object stripe) comes move m v1 v2 result made cause core jobs flight keeps stopped = absurd (false_true move)
-  append_unwritten (Remove j object) comes move m v1 v2 result made cause core jobs flight keeps stopped = absurd (false_true move)
-  append_unwritten End comes move m v1 v2 result made cause core jobs flight keeps stopped = absurd (false_true move)
+      refl (λ on. goes_still (text_size (records_in_flight new.records new.append)) holds holds' made.1)
+      (λ e. cc)
+  append_unwritten SyncBody comes move m v1 v2 result made cause core jobs flight keeps stopped =
+      absurd (elim made.0 [
+        | inl d ↦ (let k = m.moves in omega (arith, k, d))
+        | inr d ↦ (let k = m.moves in omega (arith, k, d))
+      ])
+  append_unwritten SyncGate comes move m v1 v2 result made cause core jobs flight keeps stopped =
+      absurd (elim made.0 [
+        | inl d ↦ (let k = m.moves in omega (arith, k, d))
+        | inr d ↦ (let k = m.moves in omega (arith, k, d))
+      ])
+  append_unwritten (Store j object stripe) comes move m v1 v2 result made cause core jobs flight keeps stopped =
+      absurd (false_true move)
+  append_unwritten (Fetch j object stripe) comes move m v1 v2 result made cause core jobs flight keeps stopped =
+      absurd (false_true move)
+  append_unwritten (Ask j object round) comes move m v1 v2 result made cause core jobs flight keeps stopped =
+      absurd (false_true move)
+  append_unwritten (Work object stripe) comes move m v1 v2 result made cause core jobs flight keeps stopped =
+      absurd (false_true move)
+  append_unwritten (Remove j object) comes move m v1 v2 result made cause core jobs flight keeps stopped =
+      absurd (false_true move)
+  append_unwritten End comes move m v1 v2 result made cause core jobs flight keeps stopped =
+      absurd (false_true move)

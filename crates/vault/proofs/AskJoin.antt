@@ -75,40 +75,50 @@ abbrev at_id : List PinnedValue → ℕ → Option ℕ
 at_id [] k = None
 at_id (f ∷ fs) k = cond (f.id == k) (Some 0) (option_map suc (at_id fs k))
 
-from_is : (fs : List PinnedValue) (k i : ℕ) → position_from (λ (f : PinnedValue). f.id == k) i fs ≡ option_map (λ p. p + i) (at_id fs k)
+from_is : (fs : List PinnedValue) (k i : ℕ) → position_from (λ (f : PinnedValue). f.id == k) i fs
+    ≡ option_map (λ p. p + i) (at_id fs k)
 from_is [] k i = refl
-from_is (f ∷ fs) k i = elim (f.id == k) as (λ b. cond b (Some i) (position_from (λ (x : PinnedValue). x.id == k) (i + 1) fs) ≡ option_map (λ p. p + i) (cond b (Some 0) (option_map suc (at_id fs k)))) [
-  | true ↦ ap Some (sym (zero-add i))
-  | false ↦ from_is fs k (i + 1) ∙ one_further i (at_id fs k)
-]
+from_is (f ∷ fs) k i =
+    elim (f.id == k) as (λ b. cond b (Some i) (position_from (λ (x : PinnedValue). x.id == k) (i + 1) fs)
+    ≡ option_map (λ p. p + i) (cond b (Some 0) (option_map suc (at_id fs k)))) [
+      | true ↦ ap Some (sym (zero-add i))
+      | false ↦ from_is fs k (i + 1) ∙ one_further i (at_id fs k)
+    ]
 
 -- the length of the file of a number, by recursion
 abbrev size_at : List PinnedValue → ℕ → Option ℕ
 size_at [] k = None
 size_at (f ∷ fs) k = cond (f.id == k) (Some f.length) (size_at fs k)
 
-behind_one : (f : PinnedValue) (fs : List PinnedValue) (o : Option ℕ) → length_at (f ∷ fs) (option_map suc o) ≡ length_at fs o
+behind_one : (f : PinnedValue) (fs : List PinnedValue) (o : Option ℕ) →
+    length_at (f ∷ fs) (option_map suc o) ≡ length_at fs o
 behind_one f fs None = refl
 behind_one f fs (Some q) = refl
 
 at_is : (fs : List PinnedValue) (k : ℕ) → length_at fs (at_id fs k) ≡ size_at fs k
 at_is [] k = refl
-at_is (f ∷ fs) k = elim (f.id == k) as (λ b. length_at (f ∷ fs) (cond b (Some 0) (option_map suc (at_id fs k))) ≡ cond b (Some f.length) (size_at fs k)) [
-  | true ↦ refl
-  | false ↦ behind_one f fs (at_id fs k) ∙ at_is fs k
-]
+at_is (f ∷ fs) k = elim (f.id == k) as
+    (λ b. length_at (f ∷ fs) (cond b (Some 0) (option_map suc (at_id fs k)))
+    ≡ cond b (Some f.length) (size_at fs k)) [
+      | true ↦ refl
+      | false ↦ behind_one f fs (at_id fs k) ∙ at_is fs k
+    ]
 
 among_is : (fs : List PinnedValue) (k : ℕ) → length_among fs k ≡ size_at fs k
-among_is fs k = ap (length_at fs) (position_from-zero (λ (f : PinnedValue). f.id == k) fs ∙ from_is fs k 0 ∙ from_zero (at_id fs k)) ∙ at_is fs k
+among_is fs k = ap (length_at fs) (position_from-zero (λ (f : PinnedValue). f.id == k) fs ∙ from_is fs k 0
+    ∙ from_zero (at_id fs k)) ∙ at_is fs k
 
 abbrev HasSize : List Pinned → Pinned → Type 0
 HasSize fs f = size_at (map pin_of fs) f.id ≡ Some (pinned_size fs f.id)
 
 size_further : (g : Pinned) (fs : List Pinned) (f : Pinned) → HasSize fs f → HasSize (g ∷ fs) f
-size_further g fs f is = elim (g.id == f.id) as (λ b. cond b (Some (length g.bytes)) (size_at (map pin_of fs) f.id) ≡ Some (cond b (length g.bytes) (pinned_size fs f.id))) [
-  | true ↦ refl
-  | false ↦ is
-]
+size_further g fs f is =
+    elim (g.id == f.id) as
+    (λ b. cond b (Some (length g.bytes)) (size_at (map pin_of fs) f.id)
+    ≡ Some (cond b (length g.bytes) (pinned_size fs f.id))) [
+      | true ↦ refl
+      | false ↦ is
+    ]
 
 size_first : (g : Pinned) (fs : List Pinned) → HasSize (g ∷ fs) g
 size_first g fs =
@@ -117,7 +127,11 @@ size_first g fs =
 
 have_sizes : (fs : List Pinned) → Each (HasSize fs) fs
 have_sizes [] = tt
-have_sizes (g ∷ fs) = (size_first g fs, each_both (HasSize fs) (HasSize fs) (HasSize (g ∷ fs)) fs (λ f a b. size_further g fs f a) (have_sizes fs) (have_sizes fs))
+have_sizes (g ∷ fs) = (
+  size_first g fs,
+  each_both (HasSize fs) (HasSize fs) (HasSize (g ∷ fs)) fs
+      (λ f a b. size_further g fs f a) (have_sizes fs) (have_sizes fs),
+)
 
 -- ---- numbers
 
@@ -131,7 +145,8 @@ profile_some (suc (suc (suc (suc more)))) = omega arith
 times_some : (a b : ℕ) → 1 ≤ a → 1 ≤ b → 1 ≤ a * b
 times_some a b x y = (let m = mul-le-mul_right b x in omega (arith, m, y))
 
-all_small : (limit m : ℕ) → m < limit → (n : ℕ) (xs : List ℕ) → Each (λ count. count ≤ m) (take n xs) → list_all (λ count. count == 0) (drop n xs) ≡ true
+all_small : (limit m : ℕ) → m < limit → (n : ℕ) (xs : List ℕ) → Each (λ count. count ≤ m) (take n xs) →
+    list_all (λ count. count == 0) (drop n xs) ≡ true
     → list_all (λ count. nat_lt count limit) xs ≡ true
 all_small limit m l zero [] each zeros = refl
 all_small limit m l (suc n) [] each zeros = refl
@@ -146,23 +161,32 @@ all_small limit m l (suc n) (x ∷ xs) each zeros =
 
 -- ---- the job of a core
 
-core_job : (s : Setup) (cs : List CoreJob) (js : List Job) (k : ℕ) (j : Job) → AllZip (IsJobOf s) cs js → job_of js k ≡ Some j → (c : CoreJob) × (job_in cs k ≡ Some c) × IsJobOf s c j
+core_job : (s : Setup) (cs : List CoreJob) (js : List Job) (k : ℕ) (j : Job) → AllZip (IsJobOf s) cs js →
+    job_of js k ≡ Some j → (c : CoreJob) × (job_in cs k ≡ Some c) × IsJobOf s c j
 core_job s [] [] k j are runs = (let e : None ≡ Some j = runs in cc)
 core_job s [] (x ∷ js) k j are runs = absurd are
 core_job s (c ∷ cs) [] k j are runs = absurd are
 core_job s (c ∷ cs) (x ∷ js) k j are runs = elim (cases_Bool (x.number == k)) [
   | inl t ↦ (
-      let same : x ≡ j = same_value _ x j (cond_true (x.number == k) (Some x) (job_of js k) t) runs in
-      (c, cond_true (c.number == k) (Some c) (job_in cs k) (ap (λ (n : ℕ). n == k) are.0.number ∙ t), subst (λ (y : Job). IsJobOf s c y) same are.0))
+      let same : x ≡ j = same_value _ x j (cond_true (x.number == k) (Some x) (job_of js k) t) runs in (
+        c,
+        cond_true (c.number == k) (Some c) (job_in cs k) (ap (λ (n : ℕ). n == k) are.0.number ∙ t),
+        subst (λ (y : Job). IsJobOf s c y) same are.0,
+      ))
   | inr f ↦ (
-      let r = core_job s cs js k j are.1 (sym (cond_false (x.number == k) (Some x) (job_of js k) f) ∙ runs) in
-      (r.0, cond_false (c.number == k) (Some c) (job_in cs k) (ap (λ (n : ℕ). n == k) are.0.number ∙ f) ∙ r.1, r.2))
+      let r = core_job s cs js k j are.1 (sym (cond_false (x.number == k) (Some x) (job_of js k) f) ∙ runs) in (
+        r.0,
+        cond_false (c.number == k) (Some c) (job_in cs k) (ap (λ (n : ℕ). n == k) are.0.number ∙ f)
+            ∙ r.1,
+        r.2,
+      ))
 ]
 
 -- ---- an ask of an audit
 
 -- an audit asks behind its first append
-asks_late : (s : Setup) (job : Job) (k o r : ℕ) (asks : List Action) → slice_get (append_actions ++ asks) job.place ≡ Some (Ask k o r) → 4 ≤ job.place
+asks_late : (s : Setup) (job : Job) (k o r : ℕ) (asks : List Action) →
+    slice_get (append_actions ++ asks) job.place ≡ Some (Ask k o r) → 4 ≤ job.place
 asks_late s job k o r asks is = by_place job.place is
   where
     by_place : (n : ℕ) → slice_get (append_actions ++ asks) n ≡ Some (Ask k o r) → 4 ≤ n
@@ -172,7 +196,8 @@ asks_late s job k o r asks is = by_place job.place is
     by_place (suc (suc (suc zero))) e = (let f : ⊥ = cc in absurd f)
     by_place (suc (suc (suc (suc n)))) e = omega arith
 
-starts_append : (k o r : ℕ) (rest : List Action) → is_last_ask (Ask k o r ∷ rest) ≡ true → (more : List Action) × (rest ≡ WriteBody ∷ more)
+starts_append : (k o r : ℕ) (rest : List Action) → is_last_ask (Ask k o r ∷ rest) ≡ true →
+    (more : List Action) × (rest ≡ WriteBody ∷ more)
 starts_append k o r [] h = absurd (false≢true h)
 starts_append k o r (WriteBody ∷ more) h = (more, refl)
 starts_append k o r (SyncBody ∷ more) h = absurd (false≢true h)
@@ -185,19 +210,26 @@ starts_append k o r (Rattle.machine_defs.specs.Actions.Work a b ∷ more) h = ab
 starts_append k o r (Rattle.machine_defs.specs.Actions.Remove a b ∷ more) h = absurd (false≢true h)
 starts_append k o r (End ∷ more) h = absurd (false≢true h)
 
-late_by : (s : Setup) (job : Job) (k o r : ℕ) (rest : List Action) → job.kind ≡ AuditJob → actions_left s job ≡ Ask k o r ∷ rest → 4 ≤ job.place
+late_by : (s : Setup) (job : Job) (k o r : ℕ) (rest : List Action) → job.kind ≡ AuditJob →
+    actions_left s job ≡ Ask k o r ∷ rest → 4 ≤ job.place
 unfolding actions_of
 late_by s job k o r rest kind left =
-    let is : actions_by s job job.kind ≡ append_actions ++ (ask_actions s job ++ (append_actions ++ End ∷ [])) = ap (actions_by s job) kind in
+    let is : actions_by s job job.kind
+    ≡ append_actions ++ (ask_actions s job ++ (append_actions ++ End ∷ [])) = ap (actions_by s job) kind in
     asks_late s job k o r (ask_actions s job ++ (append_actions ++ End ∷ []))
     (sym (get-drop (append_actions ++ (ask_actions s job ++ (append_actions ++ End ∷ []))) job.place)
     ∙ ap (λ (l : List Action). slice_get l 0) (sym (ap (drop job.place) is) ∙ left))
 
-last_tail : (s : Setup) (job : Job) (k o r : ℕ) (more : List Action) → job.kind ≡ AuditJob → actions_left s job ≡ Ask k o r ∷ WriteBody ∷ more → drop (suc job.place) (actions_of s job) ≡ append_actions ++ End ∷ []
+last_tail : (s : Setup) (job : Job) (k o r : ℕ) (more : List Action) → job.kind ≡ AuditJob →
+    actions_left s job ≡ Ask k o r ∷ WriteBody ∷ more →
+    drop (suc job.place) (actions_of s job) ≡ append_actions ++ End ∷ []
 unfolding actions_of
 last_tail s job k o r more kind left =
-    let is : actions_by s job job.kind ≡ append_actions ++ (ask_actions s job ++ (append_actions ++ End ∷ [])) = ap (actions_by s job) kind in
-    ap (drop (suc job.place)) is ∙ behind_last (ask_actions s job) (asks_ask s job) job.place k o r more (sym (ap (drop job.place) is) ∙ left)
+    let is : actions_by s job job.kind
+    ≡ append_actions ++ (ask_actions s job ++ (append_actions ++ End ∷ [])) = ap (actions_by s job) kind in
+    ap (drop (suc job.place)) is
+    ∙ behind_last (ask_actions s job) (asks_ask s job) job.place k o r more
+    (sym (ap (drop job.place) is) ∙ left)
 
 none_left : (n : ℕ) (xs : List Round) (c : ℕ) → AsksOn n xs c (append_actions ++ End ∷ []) → xs ≡ []
 none_left n [] c h = refl
@@ -206,12 +238,17 @@ none_left n (x ∷ xs) c h = h.0
 abbrev AsksAt : Setup → Job → List Action → ℕ → ℕ → ℕ → Task → Type 0
 AsksAt s job tail k o r t = (a : AuditTask) × (t ≡ task.Audit a) × IsAudit s a job (Ask k o r ∷ tail)
 
-audit_of : (s : Setup) (job : Job) (tail : List Action) (k o r : ℕ) → IsAllowed s.n job.kind (Ask k o r) → (t : Task) → IsTask s job (Ask k o r ∷ tail) t → AsksAt s job tail k o r t
-audit_of s job tail k o r allowed (task.Put t) is = absurd (subst (λ (x : Kind). IsAllowed s.n x (Ask k o r)) is.kind allowed)
-audit_of s job tail k o r allowed (task.Get t) is = absurd (subst (λ (x : Kind). IsAllowed s.n x (Ask k o r)) is.kind allowed)
-audit_of s job tail k o r allowed task.Drop is = absurd (subst (λ (x : Kind). IsAllowed s.n x (Ask k o r)) is.kind allowed)
+audit_of : (s : Setup) (job : Job) (tail : List Action) (k o r : ℕ) → IsAllowed s.n job.kind (Ask k o r) →
+    (t : Task) → IsTask s job (Ask k o r ∷ tail) t → AsksAt s job tail k o r t
+audit_of s job tail k o r allowed (task.Put t) is =
+    absurd (subst (λ (x : Kind). IsAllowed s.n x (Ask k o r)) is.kind allowed)
+audit_of s job tail k o r allowed (task.Get t) is =
+    absurd (subst (λ (x : Kind). IsAllowed s.n x (Ask k o r)) is.kind allowed)
+audit_of s job tail k o r allowed task.Drop is =
+    absurd (subst (λ (x : Kind). IsAllowed s.n x (Ask k o r)) is.kind allowed)
 audit_of s job tail k o r allowed (task.Audit t) is = (t, refl, is)
-audit_of s job tail k o r allowed (task.Repair t) is = absurd (subst (λ (x : Kind). IsAllowed s.n x (Ask k o r)) is.kind allowed)
+audit_of s job tail k o r allowed (task.Repair t) is =
+    absurd (subst (λ (x : Kind). IsAllowed s.n x (Ask k o r)) is.kind allowed)
 
 -- what is known of a job whose next action is an ask
 record IsAsking (v : Desk) (w : State) (number k o r : ℕ) : Type 0 where
@@ -231,7 +268,8 @@ record IsAsking (v : Desk) (w : State) (number k o r : ℕ) : Type 0 where
   rounds_are : (setup_in w).rounds ≤ 64
   rising : Rising 0 0 (rounds_in (setup_in w) next.job.pinned)
 
-asking : (v : Desk) (w : State) (holds : Option Cells) (faults number k o r : ℕ) (ps : List Provider) → DeskStands v (devices holds faults ps) w → Comes v.core number (Ask k o r) → IsAsking v w number k o r
+asking : (v : Desk) (w : State) (holds : Option Cells) (faults number k o r : ℕ) (ps : List Provider) →
+    DeskStands v (devices holds faults ps) w → Comes v.core number (Ask k o r) → IsAsking v w number k o r
 asking v w holds faults number k o r ps stands comes =
     let next = comes.machine w stands.core in
     let sound_job = stands.core.sound.jobs number next.job next.runs in
@@ -254,22 +292,28 @@ asking v w holds faults number k o r ps stands comes =
     }
 
 -- it works with an audit
-audit_in : (v : Desk) (w : State) (number k o r : ℕ) (it : IsAsking v w number k o r) → (x : Running) → IsRunning (setup_in w) x it.next.job → AsksAt (setup_in w) it.next.job (after w it.next.job) k o r x.task
-audit_in v w number k o r it x running = audit_of (setup_in w) it.next.job (after w it.next.job) k o r (next_allowed w it.next.job (Ask k o r) it.next.comes) x.task
+audit_in : (v : Desk) (w : State) (number k o r : ℕ) (it : IsAsking v w number k o r) → (x : Running) →
+    IsRunning (setup_in w) x it.next.job → AsksAt (setup_in w) it.next.job (after w it.next.job) k o r x.task
+audit_in v w number k o r it x running = audit_of (setup_in w) it.next.job (after w it.next.job) k o r
+    (next_allowed w it.next.job (Ask k o r) it.next.comes) x.task
     (subst (λ (l : List Action). IsTask (setup_in w) it.next.job l x.task) it.left_is running.task)
 
-module _ (v : Desk) (w : State) (number k o r : ℕ) (it : IsAsking v w number k o r) (t : AuditTask) (is : IsAudit (setup_in w) t it.next.job (Ask k o r ∷ after w it.next.job)) where
+module _ (v : Desk) (w : State) (number k o r : ℕ) (it : IsAsking v w number k o r) (t : AuditTask)
+    (is : IsAudit (setup_in w) t it.next.job (Ask k o r ∷ after w it.next.job)) where
   nx : IsNext (setup_in w) t it.next.job k o r (after w it.next.job)
   nx = next_round (setup_in w) t it.next.job k o r (after w it.next.job) is
 
   of_file : (P : Pinned → Type 0) → Each P it.next.job.pinned → IsRound (setup_in w) P nx.x
-  of_file P each = each_middle (IsRound (setup_in w) P) nx.over nx.x nx.xs (subst (Each (IsRound (setup_in w) P)) nx.rounds (each_round (setup_in w) P it.next.job.pinned each))
+  of_file P each = each_middle (IsRound (setup_in w) P) nx.over nx.x nx.xs
+      (subst (Each (IsRound (setup_in w) P)) nx.rounds (each_round (setup_in w) P it.next.job.pinned each))
 
   size_is : pinned_size it.next.job.pinned nx.x.file.id ≡ length nx.x.file.bytes
-  size_is = (of_file (λ (f : Pinned). pinned_size it.next.job.pinned f.id ≡ length f.bytes) (sizes_found 0 it.next.job.pinned it.sound_job.ascending)).file
+  size_is = (of_file (λ (f : Pinned). pinned_size it.next.job.pinned f.id ≡ length f.bytes)
+      (sizes_found 0 it.next.job.pinned it.sound_job.ascending)).file
 
   file_plain : nx.x.file.profile ≡ (setup_in w).profile
-  file_plain = it.plain.pinned nx.x.file (of_file (Contains it.next.job.pinned) (contains_each it.next.job.pinned)).file
+  file_plain = it.plain.pinned nx.x.file
+      (of_file (Contains it.next.job.pinned) (contains_each it.next.job.pinned)).file
 
   told_size : length_in v.core number o ≡ Some (length nx.x.file.bytes)
   told_size =
@@ -285,14 +329,19 @@ module _ (v : Desk) (w : State) (number k o r : ℕ) (it : IsAsking v w number k
     few_picks = subst (λ (picks : ℕ). picks ≤ 64) (sym it.picks_are) it.picks_fit.1;
     size = length nx.x.file.bytes;
     length_is = told_size;
-    few = (it.sound_job.pinned nx.x.file (of_file (Contains it.next.job.pinned) (contains_each it.next.job.pinned)).file).size;
+    few = (it.sound_job.pinned nx.x.file
+        (of_file (Contains it.next.job.pinned) (contains_each it.next.job.pinned)).file).size;
     rows =
-        (let rows : stripes (vault_object v o) (length nx.x.file.bytes) ≡ stripes_of (profiled (setup_in w) nx.x.file.profile) (length nx.x.file.bytes) =
-        (λ i. (length nx.x.file.bytes + (16 * (it.l_is i * ((it.profile_is ∙ ap profile_of (sym file_plain)) i).keep) - 1)) / (16 * (it.l_is i * ((it.profile_is ∙ ap profile_of (sym file_plain)) i).keep))) in
+        (let rows : stripes (vault_object v o) (length nx.x.file.bytes)
+        ≡ stripes_of (profiled (setup_in w) nx.x.file.profile) (length nx.x.file.bytes) =
+        (λ i. (length nx.x.file.bytes + (16 * (it.l_is
+        i * ((it.profile_is ∙ ap profile_of (sym file_plain)) i).keep) - 1)) / (16 * (it.l_is
+        i * ((it.profile_is ∙ ap profile_of (sym file_plain)) i).keep))) in
         let some = (of_file (Contains it.next.job.pinned) (contains_each it.next.job.pinned)).rows in
         let size = ap (λ (p : PlainProfile). p.size) it.profile_is in
         let least = profile_some (setup_in w).profile in
-        times_some (stripes (vault_object v o) (length nx.x.file.bytes)) v.profile.size (subst (λ (m : ℕ). 1 ≤ m) (sym rows) some) (subst (λ (m : ℕ). 1 ≤ m) (sym size) least));
+        times_some (stripes (vault_object v o) (length nx.x.file.bytes)) v.profile.size
+        (subst (λ (m : ℕ). 1 ≤ m) (sym rows) some) (subst (λ (m : ℕ). 1 ≤ m) (sym size) least));
   }
 
   -- there is room, and the counters are small
@@ -309,10 +358,14 @@ module _ (v : Desk) (w : State) (number k o r : ℕ) (it : IsAsking v w number k
       let few : length nx.over < 2 ^ 31 = omega (arith, small) in
       let heard = enough_answers nx.x k t.heard.symbols.items it.next.job.given nx.answered in
       record {
-        room = record { asks = omega (arith, is.room_asks, asks); symbols = omega (arith, is.room_symbols, asks) };
+        room = record {
+          asks = omega (arith, is.room_asks, asks);
+          symbols = omega (arith, is.room_symbols, asks);
+        };
         counts = record {
           n_is = is.counts.0 ∙ sym same;
-          small = all_small (2 ^ 31) (length nx.over) few t.counts.n t.counts.by within.counts (ap (list_all (λ count. count == 0)) is.counts.1.zeros ∙ zero_all (16 - t.counts.n));
+          small = all_small (2 ^ 31) (length nx.over) few t.counts.n t.counts.by within.counts
+              (ap (list_all (λ count. count == 0)) is.counts.1.zeros ∙ zero_all (16 - t.counts.n));
           few = omega (arith, within.undecided, few);
         };
         heard = λ last. omega (arith, last, heard, t.heard.symbols.ok.0);
@@ -323,12 +376,14 @@ module _ (v : Desk) (w : State) (number k o r : ℕ) (it : IsAsking v w number k
     q_length = same_value _ q.file.length (length nx.x.file.bytes) put.length_is told_size
 
     q_number : q.number ≡ it.next.job.subject
-    q_number = subst (λ (j : Option CoreJob). IsAuditNumber j q.number) it.in_core.1 put.number_is ∙ it.in_core.2.subject
+    q_number = subst (λ (j : Option CoreJob). IsAuditNumber j q.number) it.in_core.1 put.number_is
+        ∙ it.in_core.2.subject
 
     q_n : q.file.shape.n ≡ (setup_in w).n
     q_n = ap (λ (x : ShapeValue). x.n) put.shape_is ∙ it.n_is
 
-    q_object : layout.shaped_object (setup_in w).master q.file ≡ object_of (profiled (setup_in w) nx.x.file.profile) nx.x.file.id
+    q_object : layout.shaped_object (setup_in w).master q.file
+        ≡ object_of (profiled (setup_in w) nx.x.file.profile) nx.x.file.id
     q_object = λ i. record {
       shape = record {
         n = q_n i;
@@ -343,51 +398,83 @@ module _ (v : Desk) (w : State) (number k o r : ℕ) (it : IsAsking v w number k
     is_put : IsPut (setup_in w) it.next.job nx.x q
     is_put = record {
       object = q_object;
-      challenge = λ i. challenge_of (q_object i) (q_length i) ((put.picks_is ∙ it.picks_are) i) (q_number i) ((put.round_is ∙ nx.number_is) i);
+      challenge = λ i. challenge_of (q_object i) (q_length i) ((put.picks_is ∙ it.picks_are) i) (q_number i)
+          ((put.round_is ∙ nx.number_is) i);
       id_is = put.id_is ∙ nx.id_is;
       round_is = put.round_is ∙ nx.number_is;
       n_is = q_n;
     }
 
     -- what the audit works with after the ask
-    audit_on : (u : AuditTask) (symbol : Option ℕ) → TakesAsk v.master.0 q k t u symbol → IsAudit (setup_in w) u (advanced_with it.next.job (Answered k o r symbol)) (after w it.next.job)
+    audit_on : (u : AuditTask) (symbol : Option ℕ) → TakesAsk v.master.0 q k t u symbol →
+        IsAudit (setup_in w) u (advanced_with it.next.job (Answered k o r symbol)) (after w it.next.job)
     audit_on u symbol takes =
-        subst (λ (a : ℕ). IsAudit (setup_in w) u (advanced_with it.next.job (Answered k a r symbol)) (after w it.next.job)) (sym nx.id_is)
-        (subst (λ (a : ℕ). IsAudit (setup_in w) u (advanced_with it.next.job (Answered k nx.x.file.id a symbol)) (after w it.next.job)) (sym nx.number_is) here)
+        subst (λ (a : ℕ). IsAudit (setup_in w) u (advanced_with it.next.job (Answered k a r symbol))
+        (after w it.next.job)) (sym nx.id_is)
+        (subst (λ (a : ℕ). IsAudit (setup_in w) u
+        (advanced_with it.next.job (Answered k nx.x.file.id a symbol)) (after w it.next.job))
+        (sym nx.number_is) here)
       where
         is_here : IsAudit (setup_in w) t it.next.job (Ask k nx.x.file.id nx.x.number ∷ after w it.next.job)
-        is_here = subst (λ (a : ℕ). IsAudit (setup_in w) t it.next.job (Ask k nx.x.file.id a ∷ after w it.next.job)) nx.number_is
-            (subst (λ (a : ℕ). IsAudit (setup_in w) t it.next.job (Ask k a r ∷ after w it.next.job)) nx.id_is is)
+        is_here = subst (λ (a : ℕ). IsAudit (setup_in w) t it.next.job
+            (Ask k nx.x.file.id a ∷ after w it.next.job)) nx.number_is
+            (subst (λ (a : ℕ). IsAudit (setup_in w) t it.next.job (Ask k a r ∷ after w it.next.job)) nx.id_is
+            is)
 
-        here : IsAudit (setup_in w) u (advanced_with it.next.job (Answered k nx.x.file.id nx.x.number symbol)) (after w it.next.job)
+        here : IsAudit (setup_in w) u (advanced_with it.next.job (Answered k nx.x.file.id nx.x.number symbol))
+            (after w it.next.job)
         here = elim (cases_eq (k + 1) (setup_in w).n) [
-          | inl last ↦ audit_judged (setup_in w) it.next.job it.rising (late_by (setup_in w) it.next.job k o r (after w it.next.job) is.kind it.left_is) k nx.x nx.xs nx.over (after w it.next.job) symbol t u takes.mid q is_here nx.rounds nx.answered nx.sums is_put takes.hears last
+          | inl last ↦ audit_judged (setup_in w) it.next.job it.rising
+              (late_by (setup_in w) it.next.job k o r (after w it.next.job) is.kind it.left_is) k nx.x nx.xs
+              nx.over (after w it.next.job) symbol t u takes.mid q is_here nx.rounds nx.answered nx.sums
+              is_put takes.hears last
               (subst (λ (m : List ℕ). HasJudged m q takes.mid u) it.master_is (takes.judged (last ∙ sym q_n)))
-              (subst (λ (c : ℕ). AsksOn (setup_in w).n nx.xs c (after w it.next.job)) (cond_true (k + 1 == (setup_in w).n) 0 (k + 1) (eq-eqb (k + 1) (setup_in w).n last))
-              (subst (λ (l : List Round). AsksOn (setup_in w).n l (asked_after (setup_in w).n k) (after w it.next.job)) (cond_true (k + 1 == (setup_in w).n) nx.xs (nx.x ∷ nx.xs) (eq-eqb (k + 1) (setup_in w).n last)) nx.order))
-          | inr other ↦ subst (λ (m : AuditTask). IsAudit (setup_in w) m (advanced_with it.next.job (Answered k nx.x.file.id nx.x.number symbol)) (after w it.next.job)) (sym (takes.kept (λ e. other (e ∙ q_n))))
-              (audit_kept (setup_in w) it.next.job it.rising (late_by (setup_in w) it.next.job k o r (after w it.next.job) is.kind it.left_is) k nx.x nx.xs nx.over (after w it.next.job) symbol t u takes.mid q is_here nx.rounds nx.answered nx.sums is_put takes.hears
-              (subst (λ (c : ℕ). AsksOn (setup_in w).n (nx.x ∷ nx.xs) c (after w it.next.job)) (cond_false (k + 1 == (setup_in w).n) 0 (k + 1) (ne_eqb (k + 1) (setup_in w).n other))
-              (subst (λ (l : List Round). AsksOn (setup_in w).n l (asked_after (setup_in w).n k) (after w it.next.job)) (cond_false (k + 1 == (setup_in w).n) nx.xs (nx.x ∷ nx.xs) (ne_eqb (k + 1) (setup_in w).n other)) nx.order)))
+              (subst (λ (c : ℕ). AsksOn (setup_in w).n nx.xs c (after w it.next.job))
+              (cond_true (k + 1 == (setup_in w).n) 0 (k + 1) (eq-eqb (k + 1) (setup_in w).n last))
+              (subst (λ (l : List Round). AsksOn (setup_in w).n l (asked_after (setup_in w).n k)
+              (after w it.next.job))
+              (cond_true (k + 1 == (setup_in w).n) nx.xs (nx.x ∷ nx.xs)
+              (eq-eqb (k + 1) (setup_in w).n last)) nx.order))
+          | inr other ↦ subst (λ (m : AuditTask). IsAudit (setup_in w) m
+              (advanced_with it.next.job (Answered k nx.x.file.id nx.x.number symbol)) (after w it.next.job))
+              (sym (takes.kept (λ e. other (e ∙ q_n))))
+              (audit_kept (setup_in w) it.next.job it.rising
+              (late_by (setup_in w) it.next.job k o r (after w it.next.job) is.kind it.left_is) k nx.x
+              nx.xs nx.over (after w it.next.job) symbol t u takes.mid q is_here nx.rounds nx.answered
+              nx.sums is_put takes.hears
+              (subst (λ (c : ℕ). AsksOn (setup_in w).n (nx.x ∷ nx.xs) c (after w it.next.job))
+              (cond_false (k + 1 == (setup_in w).n) 0 (k + 1) (ne_eqb (k + 1) (setup_in w).n other))
+              (subst (λ (l : List Round). AsksOn (setup_in w).n l (asked_after (setup_in w).n k)
+              (after w it.next.job))
+              (cond_false (k + 1 == (setup_in w).n) nx.xs (nx.x ∷ nx.xs)
+              (ne_eqb (k + 1) (setup_in w).n other)) nx.order)))
         ]
 
 module _ (v : Desk) (w : State) (number k o r : ℕ) (it : IsAsking v w number k o r) where
   -- after the last ask all rounds are judged
-  all_judged : (symbol : Option ℕ) (u : AuditTask) → IsAudit (setup_in w) u (advanced_with it.next.job (Answered k o r symbol)) (after w it.next.job)
-      → is_last_ask_of (job_in v.core.jobs number) ≡ true → HasSums (setup_in w) (advanced_with it.next.job (Answered k o r symbol)) (sums_on u)
+  all_judged : (symbol : Option ℕ) (u : AuditTask) →
+      IsAudit (setup_in w) u (advanced_with it.next.job (Answered k o r symbol)) (after w it.next.job)
+      → is_last_ask_of (job_in v.core.jobs number) ≡ true →
+      HasSums (setup_in w) (advanced_with it.next.job (Answered k o r symbol)) (sums_on u)
   all_judged symbol u is last =
       let job = it.next.job in
       let s = setup_in w in
-      let rest : it.in_core.0.rest ≡ Ask k o r ∷ after w job = it.in_core.2.rest ∙ ap (λ (x : Setup). actions_left x job) it.setup_is ∙ it.left_is in
-      let is_last : is_last_ask (Ask k o r ∷ after w job) ≡ true = ap is_last_ask (sym rest) ∙ sym (ap is_last_ask_of it.in_core.1) ∙ last in
+      let rest : it.in_core.0.rest ≡ Ask k o r ∷ after w job = it.in_core.2.rest
+      ∙ ap (λ (x : Setup). actions_left x job) it.setup_is ∙ it.left_is in
+      let is_last : is_last_ask (Ask k o r ∷ after w job) ≡ true = ap is_last_ask (sym rest)
+      ∙ sym (ap is_last_ask_of it.in_core.1) ∙ last in
       let st = starts_append k o r (after w job) is_last in
       let one : job.place + 1 ≡ suc job.place = omega arith in
       let tail : after w job ≡ append_actions ++ End ∷ [] =
-      ap (λ (m : ℕ). drop m (actions_of s job)) one ∙ last_tail s job k o r st.0 is.kind (it.left_is ∙ ap (λ (l : List Action). Ask k o r ∷ l) st.1) in
-      let none : is.left ≡ [] = none_left s.n is.left is.asked (subst (AsksOn s.n is.left is.asked) tail is.order) in
-      let all : rounds_in s job.pinned ≡ is.over = is.rounds ∙ ap (λ (l : List Round). is.over ++ l) none ∙ append-nil is.over in
+      ap (λ (m : ℕ). drop m (actions_of s job)) one
+      ∙ last_tail s job k o r st.0 is.kind (it.left_is ∙ ap (λ (l : List Action). Ask k o r ∷ l) st.1) in
+      let none : is.left ≡ [] = none_left s.n is.left is.asked
+      (subst (AsksOn s.n is.left is.asked) tail is.order) in
+      let all : rounds_in s job.pinned ≡ is.over = is.rounds ∙ ap (λ (l : List Round). is.over ++ l) none
+      ∙ append-nil is.over in
       as_files s (advanced_with job (Answered k o r symbol)) job.pinned (empty_sums s) (sums_on u)
-      (subst (λ (l : List Round). JudgesEach s (advanced_with job (Answered k o r symbol)) l (empty_sums s) (sums_on u)) (sym all) is.sums)
+      (subst (λ (l : List Round). JudgesEach s (advanced_with job (Answered k o r symbol)) l (empty_sums s)
+      (sums_on u)) (sym all) is.sums)
 
 -- ---- the reply to an ask
 
@@ -408,20 +495,25 @@ pub told_takes : (c : CoreView) (number k o r : ℕ) (is_last : Bool) (y : Task)
     → next_in c number ≡ Acts (Ask k o r) → is_last ≡ is_last_ask_of (job_in c.jobs number)
     → TellsAsk is_last y told → MayTell c.setup.n y → TakesReply c number told
 told_takes c number k o r is_last y told next last tells may =
-    subst (λ (x : Coming). HasReply c number x told) (sym next) (told_has c number k o r is_last y told last tells may)
+    subst (λ (x : Coming). HasReply c number x told) (sym next)
+    (told_has c number k o r is_last y told last tells may)
 
 -- ---- what the ask comes to
 
 -- there is something to ask for
-pub put_there : (v : Desk) (w : State) (holds : Option Cells) (faults moment number k o r : ℕ) (ps : List Provider) → DeskStands v (devices holds faults ps) w → Comes v.core number (Ask k o r) → MayPut v number o
+pub put_there : (v : Desk) (w : State) (holds : Option Cells) (faults moment number k o r : ℕ)
+    (ps : List Provider) → DeskStands v (devices holds faults ps) w → Comes v.core number (Ask k o r) →
+    MayPut v number o
 put_there v w holds faults moment number k o r ps stands comes =
     let it = asking v w holds faults number k o r ps stands comes in
     let f = working v (devices holds faults ps) w number (Ask k o r) stands it.next in
     let audit = audit_in v w number k o r it f.running f.is in
     may_put v w number k o r it audit.0 audit.2
 
-module _ (v : Desk) (w : State) (holds : Option Cells) (faults moment number k o r : ℕ) (ps : List Provider) (stands : DeskStands v (devices holds faults ps) w) (comes : Comes v.core number (Ask k o r))
-    (place : ℕ) (x : Running) (at : place_in v.jobs.items number ≡ Some place) (there : slice_get v.jobs.items place ≡ Some x) (q : Question) (put : IsQuestion v number o r q) where
+module _ (v : Desk) (w : State) (holds : Option Cells) (faults moment number k o r : ℕ) (ps : List Provider)
+    (stands : DeskStands v (devices holds faults ps) w) (comes : Comes v.core number (Ask k o r))
+    (place : ℕ) (x : Running) (at : place_in v.jobs.items number ≡ Some place)
+    (there : slice_get v.jobs.items place ≡ Some x) (q : Question) (put : IsQuestion v number o r q) where
   it : IsAsking v w number k o r
   it = asking v w holds faults number k o r ps stands comes
 
@@ -432,15 +524,21 @@ module _ (v : Desk) (w : State) (holds : Option Cells) (faults moment number k o
   pub ask_there : MayAsk q.file.shape.n k x.task
   ask_there =
       let a = audit_in v w number k o r it x runs in
-      subst (MayAsk q.file.shape.n k) (sym a.1) (may_ask v w number k o r it a.0 a.2 q.file.shape.n (ap (λ (y : ShapeValue). y.n) put.shape_is ∙ it.n_is))
+      subst (MayAsk q.file.shape.n k) (sym a.1)
+      (may_ask v w number k o r it a.0 a.2 q.file.shape.n
+      (ap (λ (y : ShapeValue). y.n) put.shape_is ∙ it.n_is))
 
   abbrev AsksStill : Task → Option ℕ → Type 0
-  AsksStill y symbol = (u : AuditTask) × (y ≡ task.Audit u) × IsAudit (setup_in w) u (advanced_with it.next.job (Answered k o r symbol)) (after w it.next.job)
+  AsksStill y symbol = (u : AuditTask) × (y ≡ task.Audit u) ×
+      IsAudit (setup_in w) u (advanced_with it.next.job (Answered k o r symbol)) (after w it.next.job)
 
   still : (y : Task) (symbol : Option ℕ) → Asked v.master.0 q k x.task y symbol → AsksStill y symbol
-  still y symbol asked = (let a = audit_in v w number k o r it x runs in by_task a.0 a.2 y (subst (λ (z : Task). Asked v.master.0 q k z y symbol) a.1 asked))
+  still y symbol asked =
+      (let a = audit_in v w number k o r it x runs in
+      by_task a.0 a.2 y (subst (λ (z : Task). Asked v.master.0 q k z y symbol) a.1 asked))
     where
-      by_task : (t : AuditTask) → IsAudit (setup_in w) t it.next.job (Ask k o r ∷ after w it.next.job) → (y : Task) → Asked v.master.0 q k (task.Audit t) y symbol → AsksStill y symbol
+      by_task : (t : AuditTask) → IsAudit (setup_in w) t it.next.job (Ask k o r ∷ after w it.next.job) →
+          (y : Task) → Asked v.master.0 q k (task.Audit t) y symbol → AsksStill y symbol
       by_task t is (task.Audit u) takes = (u, refl, audit_on v w number k o r it t is q put u symbol takes)
       by_task t is (task.Put u) takes = absurd takes
       by_task t is (task.Get u) takes = absurd takes
@@ -453,18 +551,28 @@ module _ (v : Desk) (w : State) (holds : Option Cells) (faults moment number k o
   tell_there y symbol asked =
       let u = still y symbol asked in
       let n = v.core.setup.n in
-      subst (MayTell n) (sym u.1) (u.2.counts.0 ∙ sym (ap (λ (s : Setup). s.n) stands.core.setup), u.2.counts.1)
+      subst (MayTell n) (sym u.1)
+      (u.2.counts.0 ∙ sym (ap (λ (s : Setup). s.n) stands.core.setup), u.2.counts.1)
 
   -- the reply tells what the ask came to
-  tells_more : (symbol : Option ℕ) (y : Task) (p' : Provider) (is_last : Bool) (told : Reply) → Asked v.master.0 q k x.task y symbol → is_last ≡ is_last_ask_of (job_in v.core.jobs number) → TellsAsk is_last y told
-      → Tells number told More (record (going_on w (advanced_with it.next.job (Answered k o r symbol))) { providers = with_provider w.providers k p' })
-  tells_more symbol y p' is_last told asked last_is tells = (let u = still y symbol asked in by_reply is_last told last_is u.0 (subst (λ (z : Task). TellsAsk is_last z told) u.1 tells) u.2)
+  tells_more : (symbol : Option ℕ) (y : Task) (p' : Provider) (is_last : Bool) (told : Reply) →
+      Asked v.master.0 q k x.task y symbol → is_last ≡ is_last_ask_of (job_in v.core.jobs number) →
+      TellsAsk is_last y told
+      → Tells number told More
+      (record (going_on w (advanced_with it.next.job (Answered k o r symbol)))
+      { providers = with_provider w.providers k p' })
+  tells_more symbol y p' is_last told asked last_is tells =
+      (let u = still y symbol asked in
+      by_reply is_last told last_is u.0 (subst (λ (z : Task). TellsAsk is_last z told) u.1 tells) u.2)
     where
       new : State
-      new = record (going_on w (advanced_with it.next.job (Answered k o r symbol))) { providers = with_provider w.providers k p' }
+      new = record (going_on w (advanced_with it.next.job (Answered k o r symbol)))
+          { providers = with_provider w.providers k p' }
 
-      by_reply : (is_last : Bool) (told : Reply) → is_last ≡ is_last_ask_of (job_in v.core.jobs number) → (u : AuditTask) → TellsAsk is_last (task.Audit u) told
-          → IsAudit (setup_in w) u (advanced_with it.next.job (Answered k o r symbol)) (after w it.next.job) → Tells number told More new
+      by_reply : (is_last : Bool) (told : Reply) → is_last ≡ is_last_ask_of (job_in v.core.jobs number) →
+          (u : AuditTask) → TellsAsk is_last (task.Audit u) told
+          → IsAudit (setup_in w) u (advanced_with it.next.job (Answered k o r symbol)) (after w it.next.job) →
+          Tells number told More new
       by_reply false reply.Done last u tells is = tt
       by_reply false reply.Failed last u tells is = absurd tells
       by_reply false reply.Memory last u tells is = absurd tells
@@ -476,19 +584,30 @@ module _ (v : Desk) (w : State) (holds : Option Cells) (faults moment number k o
       by_reply true (reply.Lost row) last u tells is = absurd tells
       by_reply true (reply.Verdict undecided counts) last u tells is = λ j found.
           let mine : it.next.job.number ≡ number = number_of w.jobs number it.next.job it.next.runs in
-          let here : job_of new.jobs it.next.job.number ≡ Some j = subst (λ (m : ℕ). job_of new.jobs m ≡ Some j) (sym mine) found in
-          let before : job_of w.jobs it.next.job.number ≡ Some it.next.job = subst (λ (m : ℕ). job_of w.jobs m ≡ Some it.next.job) (sym mine) it.next.runs in
-          let same : advanced_with it.next.job (Answered k o r symbol) ≡ j = same_value _ _ j (found_itself w.jobs (advanced_with it.next.job (Answered k o r symbol)) it.next.job before) here in
-          let sums : sums_on u ≡ record { counts = counted counts; undecided = undecided } = (λ i. record { counts = counted ((sym tells.1) i); undecided = (sym tells.0) i }) in
-          subst (λ (s : Setup). HasSums s j (record { counts = counted counts; undecided = undecided })) (sym (setup_same w new refl))
-          (subst (λ (z : Job). HasSums (setup_in w) z (record { counts = counted counts; undecided = undecided })) same
-          (subst (HasSums (setup_in w) (advanced_with it.next.job (Answered k o r symbol))) sums (all_judged v w number k o r it symbol u is (sym last))))
+          let here : job_of new.jobs it.next.job.number ≡ Some j =
+          subst (λ (m : ℕ). job_of new.jobs m ≡ Some j) (sym mine) found in
+          let before : job_of w.jobs it.next.job.number ≡ Some it.next.job =
+          subst (λ (m : ℕ). job_of w.jobs m ≡ Some it.next.job) (sym mine) it.next.runs in
+          let same : advanced_with it.next.job (Answered k o r symbol) ≡ j =
+          same_value _ _ j (found_itself w.jobs (advanced_with it.next.job (Answered k o r symbol))
+          it.next.job before) here in
+          let sums : sums_on u ≡ record { counts = counted counts; undecided = undecided } =
+          (λ i. record { counts = counted ((sym tells.1) i); undecided = (sym tells.0) i }) in
+          subst (λ (s : Setup). HasSums s j (record { counts = counted counts; undecided = undecided }))
+          (sym (setup_same w new refl))
+          (subst (λ (z : Job). HasSums (setup_in w) z
+          (record { counts = counted counts; undecided = undecided })) same
+          (subst (HasSums (setup_in w) (advanced_with it.next.job (Answered k o r symbol))) sums
+          (all_judged v w number k o r it symbol u is (sym last))))
 
   -- the ask is a step of the machine
-  pub ask_step : (v' : Desk) (ps' : List Provider) (p p' : Provider) (y : Running) (symbol : Option ℕ) (is_last : Bool) (told : Reply) → y.number ≡ x.number → Asked v.master.0 q k x.task y.task symbol
-      → Asks (honest_answer (challenge_put v.master.0 q)) q.file.id p symbol p' → slice_get ps k ≡ Some p → ps' ≡ slice_set ps k p'
+  pub ask_step : (v' : Desk) (ps' : List Provider) (p p' : Provider) (y : Running) (symbol : Option ℕ)
+      (is_last : Bool) (told : Reply) → y.number ≡ x.number → Asked v.master.0 q k x.task y.task symbol
+      → Asks (honest_answer (challenge_put v.master.0 q)) q.file.id p symbol p' → slice_get ps k ≡ Some p →
+      ps' ≡ slice_set ps k p'
       → is_last ≡ is_last_ask_of (job_in v.core.jobs number) → TellsAsk is_last y.task told
-      → v'.jobs.items ≡ slice_set v.jobs.items place y → KeepsAll v v' → v'.flight ≡ v.flight → IsFed v.core number told v'.core
+      → v'.jobs.items ≡ slice_set v.jobs.items place y → KeepsAll v v' → v'.flight ≡ v.flight →
+      IsFed v.core number told v'.core
       → DeskMakesStep w moment number turn.More v' (devices holds faults ps) (devices holds faults ps')
   ask_step v' ps' p p' y symbol is_last told same_number asked call p_is ps_is last_is tells jobs keeps flight fed =
       let job = it.next.job in
@@ -498,21 +617,30 @@ module _ (v : Desk) (w : State) (holds : Option Cells) (faults moment number k o
       let new : State = record (going_on w next_job) { providers = with_provider w.providers k p' } in
       let round = nx v w number k o r it a.0 a.2 in
       let asked_is = is_put v w number k o r it a.0 a.2 q put in
-      let seen : p ≡ w.providers k = same_value _ p (w.providers k) p_is (stands.devices.providers.each k (is_handed_in)) in
-      let profile : (round.x).file.profile ≡ pinned_profile (setup_in w).profile job.pinned o = file_plain v w number k o r it a.0 a.2 ∙ sym (profile-among (setup_in w).profile job.pinned o it.plain.pinned) in
+      let seen : p ≡ w.providers k = same_value _ p (w.providers k) p_is
+      (stands.devices.providers.each k (is_handed_in)) in
+      let profile : (round.x).file.profile ≡ pinned_profile (setup_in w).profile job.pinned o =
+      file_plain v w number k o r it a.0 a.2
+      ∙ sym (profile-among (setup_in w).profile job.pinned o it.plain.pinned) in
       let challenge : challenge_put v.master.0 q ≡ asked_challenge (setup_in w) job o r =
       ap (λ (m : List ℕ). challenge_put m q) it.master_is ∙ asked_is.challenge
-      ∙ (λ i. challenge_in (profiled (setup_in w) (profile i)) job ((sym round.id_is) i) ((sym (size_is v w number k o r it a.0 a.2) ∙ ap (pinned_size job.pinned) (sym round.id_is)) i) ((sym round.number_is) i)) in
+      ∙ (λ i. challenge_in (profiled (setup_in w) (profile i)) job ((sym round.id_is) i)
+      ((sym (size_is v w number k o r it a.0 a.2) ∙ ap (pinned_size job.pinned) (sym round.id_is)) i)
+      ((sym round.number_is) i)) in
       let called : Asks (honest_answer (asked_challenge (setup_in w) job o r)) o (w.providers k) symbol p' =
       subst (λ (z : Provider). Asks (honest_answer (asked_challenge (setup_in w) job o r)) o z symbol p') seen
       (subst (λ (m : ℕ). Asks (honest_answer (asked_challenge (setup_in w) job o r)) m p symbol p') put.id_is
       (subst (λ c. Asks (honest_answer c) q.file.id p symbol p') challenge call)) in
-      let happens = happens_by w new moment number (Ask k o r) More stands.core.is_open stands.core.none_alone it.next (symbol, (p', called, refl)) in
+      let happens = happens_by w new moment number (Ask k o r) More stands.core.is_open stands.core.none_alone
+      it.next (symbol, (p', called, refl)) in
       let mine : next_job.number ≡ number = number_of w.jobs number job it.next.runs in
-      let tail_is : actions_left (setup_in w) next_job ≡ after w job = ap (drop (job.place + 1)) (actions_same (setup_in w) job (job.place + 1) (Answered k o r symbol ∷ job.given)) in
+      let tail_is : actions_left (setup_in w) next_job ≡ after w job =
+      ap (drop (job.place + 1))
+      (actions_same (setup_in w) job (job.place + 1) (Answered k o r symbol ∷ job.given)) in
       let running : IsRunning (setup_in w) y next_job = record {
         number = same_number ∙ runs.number;
-        task = subst (λ (l : List Action). IsTask (setup_in w) next_job l y.task) (sym tail_is) (subst (IsTask (setup_in w) next_job (after w job)) (sym u.1) u.2);
+        task = subst (λ (l : List Action). IsTask (setup_in w) next_job l y.task) (sym tail_is)
+            (subst (IsTask (setup_in w) next_job (after w job)) (sym u.1) u.2);
       } in
       let core = fed w new More moment stands.core happens (record {
         tells = tells_more symbol y.task p' is_last told asked last_is tells;
@@ -520,12 +648,15 @@ module _ (v : Desk) (w : State) (holds : Option Cells) (faults moment number k o
       }) in
       let are : AreRunning (setup_in w) v'.jobs.items new.jobs =
       subst (λ (rs : List Running). AreRunning (setup_in w) rs (with_job w.jobs next_job)) (sym jobs)
-      (put_back (setup_in w) number y next_job running mine v.jobs.items w.jobs place stands.jobs (sym (place_is v.jobs.items number) ∙ at)) in
+      (put_back (setup_in w) number y next_job running mine v.jobs.items w.jobs place stands.jobs
+      (sym (place_is v.jobs.items number) ∙ at)) in
       record {
         state = new;
         happens = happens;
-        stands = stands_on v v' w new holds faults ps ps' stands (record { records = refl; doubt = refl; append = refl; faults = refl; barred = refl })
-            (subst (λ (l : List Provider). AreHanded l new) (sym ps_is) (handed_on ps w new k p' stands.devices.providers is_handed_in refl (λ j. refl)))
+        stands = stands_on v v' w new holds faults ps ps' stands
+            (record { records = refl; doubt = refl; append = refl; faults = refl; barred = refl })
+            (subst (λ (l : List Provider). AreHanded l new) (sym ps_is)
+            (handed_on ps w new k p' stands.devices.providers is_handed_in refl (λ j. refl)))
             core keeps flight are;
         heard = tt;
         beyond = λ ended. same_beyond new holds faults ps ps';

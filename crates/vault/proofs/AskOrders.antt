@@ -21,7 +21,8 @@ round-on n zero c x xs rest all on =
     let last : (c + 1 == n) ≡ true = eq-eqb (c + 1) n (omega (arith, all)) in
     (refl, refl, refl, rw last on)
 round-on n (suc k) c x xs rest all on =
-    let more : (c + 1 == n) ≡ false = ne_eqb (c + 1) n (λ e. (let f : c + 1 ≡ n = e in omega (arith, all, f))) in
+    let more : (c + 1 == n) ≡ false = ne_eqb (c + 1) n
+    (λ e. (let f : c + 1 ≡ n = e in omega (arith, all, f))) in
     (refl, refl, refl, rw more (round-on n k (c + 1) x xs rest (omega (arith, all)) on))
 
 module _ (s : Setup) (some : 1 ≤ s.n) where
@@ -31,35 +32,49 @@ module _ (s : Setup) (some : 1 ≤ s.n) where
   abbrev asks_in : Pinned → ℕ → List Action
   asks_in f r = on_each_provider s (λ j. Ask j f.id r)
 
-  one-on : (f : Pinned) (r : ℕ) (xs : List Round) (rest : List Action) → AsksOn s.n xs 0 rest → AsksOn s.n (made f r ∷ xs) 0 (asks_in f r ++ rest)
+  one-on : (f : Pinned) (r : ℕ) (xs : List Round) (rest : List Action) → AsksOn s.n xs 0 rest →
+      AsksOn s.n (made f r ∷ xs) 0 (asks_in f r ++ rest)
   one-on f r xs rest on = by s.n refl
     where
-      by : (n : ℕ) → s.n ≡ n → AsksOn s.n (made f r ∷ xs) 0 (map (λ j. Ask j f.id r) (range_with_len 0 n) ++ rest)
+      by : (n : ℕ) → s.n ≡ n →
+          AsksOn s.n (made f r ∷ xs) 0 (map (λ j. Ask j f.id r) (range_with_len 0 n) ++ rest)
       by zero e = absurd (omega (arith, e, some))
       by (suc m) e = round-on s.n m 0 (made f r) xs rest (omega (arith, e)) on
 
-  rounds-on : (f : Pinned) (rs : List ℕ) (xs : List Round) (rest : List Action) → AsksOn s.n xs 0 rest → AsksOn s.n (map (made f) rs ++ xs) 0 (flat_map (asks_in f) rs ++ rest)
+  rounds-on : (f : Pinned) (rs : List ℕ) (xs : List Round) (rest : List Action) → AsksOn s.n xs 0 rest →
+      AsksOn s.n (map (made f) rs ++ xs) 0 (flat_map (asks_in f) rs ++ rest)
   rounds-on f [] xs rest on = on
   rounds-on f (r ∷ rs) xs rest on =
-      subst (AsksOn s.n (made f r ∷ (map (made f) rs ++ xs)) 0) (sym (append_assoc (asks_in f r) (flat_map (asks_in f) rs) rest))
+      subst (AsksOn s.n (made f r ∷ (map (made f) rs ++ xs)) 0)
+      (sym (append_assoc (asks_in f r) (flat_map (asks_in f) rs) rest))
       (one-on f r (map (made f) rs ++ xs) (flat_map (asks_in f) rs ++ rest) (rounds-on f rs xs rest on))
 
   files-on : (fs : List Pinned) (rest : List Action) → AsksOn s.n [] 0 rest
-      → AsksOn s.n (rounds_in s fs) 0 (flat_map (λ (f : Pinned). flat_map (asks_in f) (rounds_of (profiled s f.profile) (length f.bytes))) fs ++ rest)
+      → AsksOn s.n (rounds_in s fs) 0
+      (flat_map (λ (f : Pinned). flat_map (asks_in f) (rounds_of (profiled s f.profile) (length f.bytes)))
+      fs ++ rest)
   files-on [] rest on = on
   files-on (f ∷ fs) rest on =
-      subst (AsksOn s.n (map (made f) (rounds_of (profiled s f.profile) (length f.bytes)) ++ rounds_in s fs) 0)
-      (sym (append_assoc (flat_map (asks_in f) (rounds_of (profiled s f.profile) (length f.bytes))) (flat_map (λ (f : Pinned). flat_map (asks_in f) (rounds_of (profiled s f.profile) (length f.bytes))) fs) rest))
-      (rounds-on f (rounds_of (profiled s f.profile) (length f.bytes)) (rounds_in s fs) _ (files-on fs rest on))
+      subst (AsksOn s.n (map (made f) (rounds_of (profiled s f.profile) (length f.bytes)) ++ rounds_in s fs)
+      0)
+      (sym (append_assoc (flat_map (asks_in f) (rounds_of (profiled s f.profile) (length f.bytes)))
+      (flat_map (λ (f : Pinned). flat_map (asks_in f) (rounds_of (profiled s f.profile) (length f.bytes)))
+      fs) rest))
+      (rounds-on f (rounds_of (profiled s f.profile) (length f.bytes)) (rounds_in s fs) _
+      (files-on fs rest on))
 
-  skip-moves : (xs : List Round) (rest : List Action) → AsksOn s.n xs 0 rest → AsksOn s.n xs 0 (append_actions ++ rest)
+  skip-moves : (xs : List Round) (rest : List Action) → AsksOn s.n xs 0 rest →
+      AsksOn s.n xs 0 (append_actions ++ rest)
   skip-moves [] rest on = on
   skip-moves (x ∷ xs) rest on = on
 
   -- an audit asks all providers in order, in each round of each of its files
-  pub audit-order : (job : Job) → job.kind ≡ AuditJob → AsksOn s.n (rounds_in s job.pinned) 0 (actions_of s job)
+  pub audit-order : (job : Job) → job.kind ≡ AuditJob →
+      AsksOn s.n (rounds_in s job.pinned) 0 (actions_of s job)
   unfolding actions_of
-  audit-order job is = rw is (skip-moves (rounds_in s job.pinned) (ask_actions s job ++ (append_actions ++ End ∷ [])) (files-on job.pinned (append_actions ++ End ∷ []) (refl, tt)))
+  audit-order job is = rw is
+      (skip-moves (rounds_in s job.pinned) (ask_actions s job ++ (append_actions ++ End ∷ []))
+      (files-on job.pinned (append_actions ++ End ∷ []) (refl, tt)))
 
 -- ---- how many asks
 
@@ -72,7 +87,8 @@ count-both a b = sum_by-append (λ x. cond (is_ask x) 1 0) a b
 
 count-round : (o r : ℕ) (js : List ℕ) → asks_left (map (λ j. Ask j o r) js) ≡ length js
 count-round o r [] = refl
-count-round o r (j ∷ js) = count-ask j o r (map (λ j. Ask j o r) js) ∙ (let l = count-round o r js in omega (arith, l))
+count-round o r (j ∷ js) =
+    count-ask j o r (map (λ j. Ask j o r) js) ∙ (let l = count-round o r js in omega (arith, l))
 
 -- a file has at most so many rounds
 pub rounds_few : (s : Setup) (size : ℕ) → length (rounds_of s size) ≤ s.rounds
@@ -82,28 +98,37 @@ rounds_few s size = elim (cases_Bool (stripes_of s size == 0)) [
 ]
 
 module _ (s : Setup) where
-  count-rounds : (o : ℕ) (rs : List ℕ) → asks_left (flat_map (λ r. on_each_provider s (λ j. Ask j o r)) rs) ≡ length rs * s.n
+  count-rounds : (o : ℕ) (rs : List ℕ) → asks_left (flat_map (λ r. on_each_provider s (λ j. Ask j o r)) rs)
+      ≡ length rs * s.n
   count-rounds o [] = omega arith
   count-rounds o (r ∷ rs) =
       let l = count-rounds o rs in
       let c = count-round o r (upto s.n) in
-      count-both (on_each_provider s (λ j. Ask j o r)) (flat_map (λ r. on_each_provider s (λ j. Ask j o r)) rs) ∙ omega (arith, l, c, length-range_with_len 0 s.n)
+      count-both (on_each_provider s (λ j. Ask j o r))
+      (flat_map (λ r. on_each_provider s (λ j. Ask j o r)) rs)
+      ∙ omega (arith, l, c, length-range_with_len 0 s.n)
 
-  count-files : (fs : List Pinned) → asks_left (flat_map (λ (f : Pinned). flat_map (λ r. on_each_provider s (λ j. Ask j f.id r)) (rounds_of (profiled s f.profile) (length f.bytes))) fs) ≤ length fs * (s.rounds * s.n)
+  count-files : (fs : List Pinned) →
+      asks_left (flat_map (λ (f : Pinned). flat_map (λ r. on_each_provider s (λ j. Ask j f.id r))
+      (rounds_of (profiled s f.profile) (length f.bytes))) fs) ≤ length fs * (s.rounds * s.n)
   count-files [] = omega arith
   count-files (f ∷ fs) =
       let rs = rounds_of (profiled s f.profile) (length f.bytes) in
-      let one : length rs * s.n ≤ s.rounds * s.n = times (length rs) s.rounds s.n (rounds_few (profiled s f.profile) (length f.bytes)) in
+      let one : length rs * s.n ≤ s.rounds * s.n = times (length rs) s.rounds s.n
+      (rounds_few (profiled s f.profile) (length f.bytes)) in
       let l = count-files fs in
       let c = count-rounds f.id rs in
-      let b = count-both (flat_map (λ r. on_each_provider s (λ j. Ask j f.id r)) rs) (flat_map (λ (f : Pinned). flat_map (λ r. on_each_provider s (λ j. Ask j f.id r)) (rounds_of (profiled s f.profile) (length f.bytes))) fs) in
+      let b = count-both (flat_map (λ r. on_each_provider s (λ j. Ask j f.id r)) rs)
+      (flat_map (λ (f : Pinned). flat_map (λ r. on_each_provider s (λ j. Ask j f.id r))
+      (rounds_of (profiled s f.profile) (length f.bytes))) fs) in
       omega (arith, one, l, c, b)
     where
       times : (a b n : ℕ) → a ≤ b → a * n ≤ b * n
       times a b n le = grind (arith, le)
 
   -- an audit asks no more than each provider in each round of each file
-  pub audit-count : (job : Job) → job.kind ≡ AuditJob → asks_left (actions_of s job) ≤ length job.pinned * (s.rounds * s.n)
+  pub audit-count : (job : Job) → job.kind ≡ AuditJob →
+      asks_left (actions_of s job) ≤ length job.pinned * (s.rounds * s.n)
   unfolding actions_of
   audit-count job is =
       let l = count-files job.pinned in

@@ -34,11 +34,6 @@ use Rattle.vault.proofs.Ways.{is_handed}
 use Rattle.vault.proofs.Asks.{entries_more, none_answered, answered_more, last_given, apart, judges_still, judges_more}
 use Rattle.vault.proofs.AskOrders.{count-ask}
 
--- zeros, and nothing else
-all_zero : (xs : List ℕ) → list_all (λ count. count == 0) xs ≡ true → xs ≡ replicate (length xs) 0
-all_zero [] e = refl
-all_zero (x ∷ xs) e = (let p = and_parts (x == 0) (list_all (λ count. count == 0) xs) e in λ i. eqb-true x 0 p.0 i ∷ all_zero xs p.1 i)
-
 -- so many zeros are all zero
 pub zero_all : (n : ℕ) → list_all (λ count. count == 0) (replicate n 0) ≡ true
 zero_all zero = refl
@@ -47,7 +42,8 @@ zero_all (suc n) = zero_all n
 -- the ask is that of a round of a job
 pub record IsPut (s : Setup) (job : Job) (x : Round) (q : Question) : Type 0 where
   pub object : layout.shaped_object s.master q.file ≡ object_of (profiled s x.file.profile) x.file.id
-  pub challenge : challenge_put s.master q ≡ challenge_in (profiled s x.file.profile) job x.file.id (length x.file.bytes) x.number
+  pub challenge : challenge_put s.master q ≡ challenge_in (profiled s x.file.profile) job x.file.id
+      (length x.file.bytes) x.number
   pub id_is : q.file.id ≡ x.file.id
   pub round_is : q.round ≡ x.number
   pub n_is : q.file.shape.n ≡ s.n
@@ -56,11 +52,16 @@ nothing_yet : (xs : List Round) (symbols : List (Option ℕ)) (given : List Give
 nothing_yet [] symbols given = tt
 nothing_yet (x ∷ xs) symbols given = none_answered x symbols given (sym (append-nil symbols))
 
-module _ (s : Setup) (job : Job) (rising : Rattle.vault.proofs.Asks.Rising 0 0 (rounds_in s job.pinned)) (late : 4 ≤ job.place) where
+module _ (s : Setup) (job : Job) (rising : Rattle.vault.proofs.Asks.Rising 0 0 (rounds_in s job.pinned))
+    (late : 4 ≤ job.place) where
   -- what an audit works with after an ask, from what it worked with before
-  module _ (k : ℕ) (x : Round) (xs over : List Round) (tail : List Action) (symbol : Option ℕ) (t u m : AuditTask) (q : Question)
-      (is : IsAudit s t job (Ask k x.file.id x.number ∷ tail)) (rounds : rounds_in s job.pinned ≡ over ++ (x ∷ xs)) (answered : HasAnswered x k t.heard.symbols.items job.given)
-      (sums : JudgesEach s job over (empty_sums s) (sums_on t)) (put : IsPut s job x q) (hears : HasHeard q k t m symbol) where
+  module _ (k : ℕ) (x : Round) (xs over : List Round) (tail : List Action) (symbol : Option ℕ)
+      (t u m : AuditTask) (q : Question)
+      (is : IsAudit s t job (Ask k x.file.id x.number ∷ tail))
+      (rounds : rounds_in s job.pinned ≡ over ++ (x ∷ xs))
+      (answered : HasAnswered x k t.heard.symbols.items job.given)
+      (sums : JudgesEach s job over (empty_sums s) (sums_on t)) (put : IsPut s job x q)
+      (hears : HasHeard q k t m symbol) where
     abbrev gift : Given
     gift = Answered k x.file.id x.number symbol
 
@@ -68,22 +69,31 @@ module _ (s : Setup) (job : Job) (rising : Rattle.vault.proofs.Asks.Rising 0 0 (
     job' = advanced_with job (Answered k x.file.id x.number symbol)
 
     heard_now : HasAnswered x (k + 1) m.heard.symbols.items (Answered k x.file.id x.number symbol ∷ job.given)
-    heard_now = subst (λ (l : List (Option ℕ)). HasAnswered x (k + 1) l (Answered k x.file.id x.number symbol ∷ job.given)) (sym hears.heard.symbols)
+    heard_now = subst (λ (l : List (Option ℕ)). HasAnswered x (k + 1) l
+        (Answered k x.file.id x.number symbol ∷ job.given)) (sym hears.heard.symbols)
         (answered_more x k t.heard.symbols.items job.given symbol answered)
 
     same_sums : sums_on m ≡ sums_on t
     same_sums = (λ i. sums_of (hears.counts i) (hears.undecided i))
 
-    still : JudgesEach s (advanced_with job (Answered k x.file.id x.number symbol)) over (empty_sums s) (sums_on m)
-    still = subst (JudgesEach s (advanced_with job (Answered k x.file.id x.number symbol)) over (empty_sums s)) (sym same_sums)
-        (judges_still s job k x.file.id x.number symbol over (empty_sums s) (sums_on t) (apart 0 0 over x xs (subst (Rattle.vault.proofs.Asks.Rising 0 0) rounds rising)) sums)
+    still : JudgesEach s (advanced_with job (Answered k x.file.id x.number symbol)) over (empty_sums s)
+        (sums_on m)
+    still = subst (JudgesEach s (advanced_with job (Answered k x.file.id x.number symbol)) over
+        (empty_sums s)) (sym same_sums)
+        (judges_still s job k x.file.id x.number symbol over (empty_sums s) (sums_on t)
+        (apart 0 0 over x xs (subst (Rattle.vault.proofs.Asks.Rising 0 0) rounds rising)) sums)
 
     -- all but the round in work
-    entries : answered_entries m.heard.job m.heard.asks.items m.heard.symbols.items ≡ Rattle.machine_defs.specs.Heard.entries_of job.number (Answered k x.file.id x.number symbol ∷ job.given)
+    entries : answered_entries m.heard.job m.heard.asks.items m.heard.symbols.items
+        ≡ Rattle.machine_defs.specs.Heard.entries_of job.number
+        (Answered k x.file.id x.number symbol ∷ job.given)
     entries =
         (λ i. answered_entries (hears.heard.job i) (hears.heard.asks i) (hears.heard.symbols i))
         ∙ entries_more t.heard.job t.heard.asks.items t.heard.symbols.items (ask_put q k) symbol is.asks
-        ∙ (λ i. is.heard i ++ record { job = is.job_is i; given = Answered k (put.id_is i) (put.round_is i) symbol } ∷ [])
+        ∙ (λ i. is.heard i ++ record {
+          job = is.job_is i;
+          given = Answered k (put.id_is i) (put.round_is i) symbol;
+        } ∷ [])
 
     asks_count : length m.heard.asks.items ≡ length t.heard.asks.items + 1
     asks_count = ap length hears.heard.asks ∙ length-append t.heard.asks.items (ask_put q k ∷ [])
@@ -92,7 +102,8 @@ module _ (s : Setup) (job : Job) (rising : Rattle.vault.proofs.Asks.Rising 0 0 (
     symbols_count = ap length hears.heard.symbols ∙ length-append t.heard.symbols.items (symbol ∷ [])
 
     -- with an answer that is not the last of its round, an audit is at the next provider
-    pub audit_kept : (AsksOn s.n (x ∷ xs) (k + 1) tail) → IsAudit s m (advanced_with job (Answered k x.file.id x.number symbol)) tail
+    pub audit_kept : (AsksOn s.n (x ∷ xs) (k + 1) tail) →
+        IsAudit s m (advanced_with job (Answered k x.file.id x.number symbol)) tail
     audit_kept order = record {
       kind = is.kind;
       job_is = hears.heard.job ∙ is.job_is;
@@ -107,28 +118,56 @@ module _ (s : Setup) (job : Job) (rising : Rattle.vault.proofs.Asks.Rising 0 0 (
       in_work = heard_now;
       counts = (ap (λ c. c.n) hears.counts ∙ is.counts.0, subst IsPadded (sym hears.counts) is.counts.1);
       sums = still;
-      room_asks = omega (arith, is.room_asks, count-ask k x.file.id x.number tail, hears.heard.room_asks, asks_count, t.heard.asks.ok.0, m.heard.asks.ok.0);
-      room_symbols = omega (arith, is.room_symbols, count-ask k x.file.id x.number tail, hears.heard.room_symbols, symbols_count, t.heard.symbols.ok.0, m.heard.symbols.ok.0);
+      room_asks = omega (
+        arith,
+        is.room_asks,
+        count-ask k x.file.id x.number tail,
+        hears.heard.room_asks,
+        asks_count,
+        t.heard.asks.ok.0,
+        m.heard.asks.ok.0,
+      );
+      room_symbols = omega (
+        arith,
+        is.room_symbols,
+        count-ask k x.file.id x.number tail,
+        hears.heard.room_symbols,
+        symbols_count,
+        t.heard.symbols.ok.0,
+        m.heard.symbols.ok.0,
+      );
     }
 
-    judged_now : k + 1 ≡ s.n → HasJudged s.master q m u → JudgesRound s (advanced_with job (Answered k x.file.id x.number symbol)) x.file x.number (sums_on m) (sums_on u)
+    judged_now : k + 1 ≡ s.n → HasJudged s.master q m u →
+        JudgesRound s (advanced_with job (Answered k x.file.id x.number symbol)) x.file x.number (sums_on m)
+        (sums_on u)
     judged_now last judged =
-        subst (λ (o : Object). Judges o (challenge_in (profiled s x.file.profile) job x.file.id (length x.file.bytes) x.number) (answers_given (Answered k x.file.id x.number symbol ∷ job.given) s.n x.file.id x.number) (sums_on m) (sums_on u)) put.object
-        (subst (λ (c : Challenge). Judges (layout.shaped_object s.master q.file) c (answers_given (Answered k x.file.id x.number symbol ∷ job.given) s.n x.file.id x.number) (sums_on m) (sums_on u)) put.challenge
-        (subst (λ (l : List (Option ℕ)). Judges (layout.shaped_object s.master q.file) (challenge_put s.master q) l (sums_on m) (sums_on u))
+        subst (λ (o : Object). Judges o
+        (challenge_in (profiled s x.file.profile) job x.file.id (length x.file.bytes) x.number)
+        (answers_given (Answered k x.file.id x.number symbol ∷ job.given) s.n x.file.id x.number)
+        (sums_on m) (sums_on u)) put.object
+        (subst (λ (c : Challenge). Judges (layout.shaped_object s.master q.file) c
+        (answers_given (Answered k x.file.id x.number symbol ∷ job.given) s.n x.file.id x.number)
+        (sums_on m) (sums_on u)) put.challenge
+        (subst (λ (l : List (Option ℕ)). Judges (layout.shaped_object s.master q.file)
+        (challenge_put s.master q) l (sums_on m) (sums_on u))
         (ap (λ (n : ℕ). last_answers n m.heard.symbols.items) put.n_is
-        ∙ last_given x s.n m.heard.symbols.items (Answered k x.file.id x.number symbol ∷ job.given) (subst (λ (n : ℕ). HasAnswered x n m.heard.symbols.items (Answered k x.file.id x.number symbol ∷ job.given)) last heard_now))
+        ∙ last_given x s.n m.heard.symbols.items (Answered k x.file.id x.number symbol ∷ job.given)
+        (subst (λ (n : ℕ). HasAnswered x n m.heard.symbols.items
+        (Answered k x.file.id x.number symbol ∷ job.given)) last heard_now))
         judged.judges))
 
     -- with the last answer of its round, judged, an audit is at the next round
-    pub audit_judged : k + 1 ≡ s.n → HasJudged s.master q m u → AsksOn s.n xs 0 tail → IsAudit s u (advanced_with job (Answered k x.file.id x.number symbol)) tail
+    pub audit_judged : k + 1 ≡ s.n → HasJudged s.master q m u → AsksOn s.n xs 0 tail →
+        IsAudit s u (advanced_with job (Answered k x.file.id x.number symbol)) tail
     audit_judged last judged order =
         let h = judged.heard in
         record {
           kind = is.kind;
           job_is = ap (λ a. a.job) h ∙ hears.heard.job ∙ is.job_is;
           heard = ap (λ a. answered_entries a.job a.asks.items a.symbols.items) h ∙ entries;
-          asks = ap (λ a. length a.asks.items) h ∙ asks_count ∙ ap (λ (a : ℕ). a + 1) is.asks ∙ sym symbols_count ∙ sym (ap (λ a. length a.symbols.items) h);
+          asks = ap (λ a. length a.asks.items) h ∙ asks_count ∙ ap (λ (a : ℕ). a + 1) is.asks
+              ∙ sym symbols_count ∙ sym (ap (λ a. length a.symbols.items) h);
           over = over ++ x ∷ [];
           left = xs;
           rounds = rounds ∙ sym (append_assoc over (x ∷ []) xs);
@@ -136,10 +175,35 @@ module _ (s : Setup) (job : Job) (rising : Rattle.vault.proofs.Asks.Rising 0 0 (
           asked = 0;
           order = order;
           in_work = nothing_yet xs u.heard.symbols.items (Answered k x.file.id x.number symbol ∷ job.given);
-          counts = (judged.n_is ∙ ap (λ c. c.n) hears.counts ∙ is.counts.0, judged.padded (subst IsPadded (sym hears.counts) is.counts.1));
-          sums = judges_more s (advanced_with job (Answered k x.file.id x.number symbol)) over x (empty_sums s) (sums_on m) (sums_on u) still (judged_now last judged);
-          room_asks = omega (arith, is.room_asks, count-ask k x.file.id x.number tail, hears.heard.room_asks, asks_count, t.heard.asks.ok.0, m.heard.asks.ok.0, ap (λ a. vec_len a.asks) h, ap (λ a. vec_capacity a.asks) h);
-          room_symbols = omega (arith, is.room_symbols, count-ask k x.file.id x.number tail, hears.heard.room_symbols, symbols_count, t.heard.symbols.ok.0, m.heard.symbols.ok.0, ap (λ a. vec_len a.symbols) h, ap (λ a. vec_capacity a.symbols) h);
+          counts = (
+            judged.n_is ∙ ap (λ c. c.n) hears.counts
+                ∙ is.counts.0,
+            judged.padded (subst IsPadded (sym hears.counts) is.counts.1),
+          );
+          sums = judges_more s (advanced_with job (Answered k x.file.id x.number symbol)) over x
+              (empty_sums s) (sums_on m) (sums_on u) still (judged_now last judged);
+          room_asks = omega (
+            arith,
+            is.room_asks,
+            count-ask k x.file.id x.number tail,
+            hears.heard.room_asks,
+            asks_count,
+            t.heard.asks.ok.0,
+            m.heard.asks.ok.0,
+            ap (λ a. vec_len a.asks) h,
+            ap (λ a. vec_capacity a.asks) h,
+          );
+          room_symbols = omega (
+            arith,
+            is.room_symbols,
+            count-ask k x.file.id x.number tail,
+            hears.heard.room_symbols,
+            symbols_count,
+            t.heard.symbols.ok.0,
+            m.heard.symbols.ok.0,
+            ap (λ a. vec_len a.symbols) h,
+            ap (λ a. vec_capacity a.symbols) h,
+          );
         }
 
 -- what is left of an audit before an ask begins with the round that is asked in
@@ -155,10 +219,13 @@ pub record IsNext (s : Setup) (t : AuditTask) (job : Job) (k o r : ℕ) (tail : 
   pub sums : JudgesEach s job over (empty_sums s) (sums_on t)
 
 -- the ask that an audit has next is of the round with which what is left of it begins
-pub next_round : (s : Setup) (t : AuditTask) (job : Job) (k o r : ℕ) (tail : List Action) → IsAudit s t job (Ask k o r ∷ tail) → IsNext s t job k o r tail
+pub next_round : (s : Setup) (t : AuditTask) (job : Job) (k o r : ℕ) (tail : List Action) →
+    IsAudit s t job (Ask k o r ∷ tail) → IsNext s t job k o r tail
 next_round s t job k o r tail is = by_left is.left is.asked is.rounds is.order is.in_work
   where
-    by_left : (left : List Round) (asked : ℕ) → rounds_in s job.pinned ≡ is.over ++ left → AsksOn s.n left asked (Ask k o r ∷ tail) → IsAsked left asked t.heard.symbols.items job.given → IsNext s t job k o r tail
+    by_left : (left : List Round) (asked : ℕ) → rounds_in s job.pinned ≡ is.over ++ left →
+        AsksOn s.n left asked (Ask k o r ∷ tail) → IsAsked left asked t.heard.symbols.items job.given →
+        IsNext s t job k o r tail
     by_left [] asked rounds order work = absurd order
     by_left (x ∷ xs) asked rounds order work = record {
       x = x;
@@ -168,11 +235,13 @@ next_round s t job k o r tail is = by_left is.left is.asked is.rounds is.order i
       id_is = order.1;
       number_is = order.2;
       answered = subst (λ (c : ℕ). HasAnswered x c t.heard.symbols.items job.given) (sym order.0) work;
-      order = subst (λ (c : ℕ). AsksOn s.n (rounds_after s.n x xs c) (asked_after s.n c) tail) (sym order.0) order.3;
+      order = subst (λ (c : ℕ). AsksOn s.n (rounds_after s.n x xs c) (asked_after s.n c) tail)
+          (sym order.0) order.3;
       sums = is.sums;
     }
 
-module _ (v : Desk) (w : State) (holds : Option Cells) (faults number k o r : ℕ) (ps : List Provider) (stands : DeskStands v (devices holds faults ps) w) (comes : Comes v.core number (Ask k o r)) where
+module _ (v : Desk) (w : State) (holds : Option Cells) (faults number k o r : ℕ) (ps : List Provider)
+    (stands : DeskStands v (devices holds faults ps) w) (comes : Comes v.core number (Ask k o r)) where
   coming : ComesNext w number (Ask k o r) None
   coming = comes.machine w stands.core
 

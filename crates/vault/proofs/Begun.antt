@@ -31,11 +31,16 @@ causes_of_name w kind name =
 -- a begin counts the aims of the running jobs, which are as many as the jobs
 pub aims-counted : (w : State) (more : List Cause)
     → first_refusal (record { applies = w.is_barred; refusal = refusal.MustReopen }
-    ∷ record { applies = is_shut (sight_of w) || nat_le 8 (length (aims_of w.jobs)); refusal = refusal.Busy } ∷ more)
+    ∷ record {
+      applies = is_shut (sight_of w) || nat_le 8 (length (aims_of w.jobs));
+      refusal = refusal.Busy;
+    } ∷ more)
     ≡ first_refusal (record { applies = w.is_barred; refusal = refusal.MustReopen }
     ∷ record { applies = is_shut (sight_of w) || nat_le 8 (length w.jobs); refusal = refusal.Busy } ∷ more)
-aims-counted w more = ap (λ (n : ℕ). first_refusal (record { applies = w.is_barred; refusal = refusal.MustReopen }
-    ∷ record { applies = is_shut (sight_of w) || nat_le 8 n; refusal = refusal.Busy } ∷ more)) (length-aims w.jobs)
+aims-counted w more =
+    ap (λ (n : ℕ). first_refusal (record { applies = w.is_barred; refusal = refusal.MustReopen }
+    ∷ record { applies = is_shut (sight_of w) || nat_le 8 n; refusal = refusal.Busy } ∷ more))
+    (length-aims w.jobs)
 
 -- where memory alone is a fault, it is the one that there was
 pub memory-alone : {X : Type 0} (r : Result X BeginFault) (why : BeginFault)
@@ -44,30 +49,39 @@ memory-alone (Ok x) why alone is = absurd (let e : ⊥ = cc in e)
 memory-alone (Err f) why alone is = (let e = alone refl in cc)
 
 -- one job more
-running-push : (s : Setup) (rs : List Running) (js : List Job) (r : Running) (j : Job) → AreRunning s rs js → IsRunning s r j → AreRunning s (rs ++ r ∷ []) (js ++ j ∷ [])
+running-push : (s : Setup) (rs : List Running) (js : List Job) (r : Running) (j : Job) → AreRunning s rs js →
+    IsRunning s r j → AreRunning s (rs ++ r ∷ []) (js ++ j ∷ [])
 running-push s [] [] r j are is = (is, tt)
 running-push s [] (k ∷ js) r j are is = absurd are
 running-push s (q ∷ rs) [] r j are is = absurd are
 running-push s (q ∷ rs) (k ∷ js) r j are is = (are.0, running-push s rs js r j are.1 is)
 
-module _ (old new : Desk) (d : Devices) (w : State) (moment : ℕ) (kind : Kind) (stands : DeskStands old d w) where
+module _ (old new : Desk) (d : Devices) (w : State) (moment : ℕ) (kind : Kind)
+    (stands : DeskStands old d w) where
   -- a begin that is accepted
-  pub admitted : (number : ℕ) (task : Task) → CoreIs new.core (begun w moment kind) → begin_refusal 8 w kind ≡ None → number ≡ old.core.next_job
+  pub admitted : (number : ℕ) (task : Task) → CoreIs new.core (begun w moment kind) →
+      begin_refusal 8 w kind ≡ None → number ≡ old.core.next_job
       → IsTask (setup_in w) (new_job w moment kind) (actions_left (setup_in w) (new_job w moment kind)) task
-      → new.jobs.items ≡ old.jobs.items ++ record { number = number; task = task } ∷ [] → KeepsAll old new → new.flight ≡ old.flight → DeskMakesBegin w moment kind (Ok number) new d
+      → new.jobs.items ≡ old.jobs.items ++ record { number = number; task = task } ∷ [] → KeepsAll old new →
+      new.flight ≡ old.flight → DeskMakesBegin w moment kind (Ok number) new d
   admitted number task core accepted number_is is jobs keeps flight =
       let next : number ≡ w.next_job = number_is ∙ stands.core.next_job in
       record {
         state = begun w moment kind;
         begins = (stands.core.is_open, accepted, next, refl);
-        stands = stands_on old new w (begun w moment kind) d.holds d.faults d.providers d.providers stands (record { records = refl; doubt = refl; append = refl; faults = refl; barred = refl })
-            (handed_same d.providers w (begun w moment kind) stands.devices.providers refl (λ j. refl)) core keeps flight
-            (subst (λ (items : List Running). AreRunning (setup_in w) items (w.jobs ++ new_job w moment kind ∷ [])) (sym jobs)
-            (running-push (setup_in w) old.jobs.items w.jobs _ _ stands.jobs (record { number = next; task = is })));
+        stands = stands_on old new w (begun w moment kind) d.holds d.faults d.providers d.providers stands
+            (record { records = refl; doubt = refl; append = refl; faults = refl; barred = refl })
+            (handed_same d.providers w (begun w moment kind) stands.devices.providers refl (λ j. refl)) core
+            keeps flight
+            (subst (λ (items : List Running). AreRunning (setup_in w) items
+            (w.jobs ++ new_job w moment kind ∷ [])) (sym jobs)
+            (running-push (setup_in w) old.jobs.items w.jobs _ _ stands.jobs
+            (record { number = next; task = is })));
       }
 
   -- a begin that is refused, and leaves the vault as it was
-  pub turned_down : (why : BeginFault) → begin_refusal 8 w kind ≡ Some (refusal_of why) → DeskMakesBegin w moment kind (Err why) old d
+  pub turned_down : (why : BeginFault) → begin_refusal 8 w kind ≡ Some (refusal_of why) →
+      DeskMakesBegin w moment kind (Err why) old d
   turned_down why is = record { state = w; begins = (stands.core.is_open, inl is, refl); stands = stands }
 
   -- a begin that found no memory leaves it so too

@@ -24,7 +24,8 @@ called_at calls xs k d y within made =
 pub no_disk : {X : Type 0} (a b : ActionValue) → a ≡ b → calls_disk (Acts (seen_action b)) ≡ false
     → calls_disk (Acts (seen_action a)) ≡ true → X
 no_disk a b same none calls =
-    absurd (false≢true (sym none ∙ sym (ap (λ (x : ActionValue). calls_disk (Acts (seen_action x))) same) ∙ calls))
+    absurd (false≢true (sym none ∙ sym (ap (λ (x : ActionValue). calls_disk (Acts (seen_action x))) same)
+    ∙ calls))
 
 -- the provider that an action calls is one
 pub one_provider : (a b : ActionValue) (j k : ℕ) → a ≡ b → called_provider (Acts (seen_action b)) ≡ Some j

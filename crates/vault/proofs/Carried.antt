@@ -9,13 +9,19 @@ use Rattle.vault.specs.declared.desk.Desk.{Desk}
 use Rattle.vault_open.specs.Devices.{Devices}
 use Rattle.vault.specs.Desks.{IsFlight, DeskStands, CarriesText, DeskCarries}
 
-carried_text : (f : Option Flight) (append : Option states.Append) (rs : List Record) (told : Option Cells) → IsFlight f append rs told → CarriesText f rs told
+carried_text : (f : Option Flight) (append : Option states.Append) (rs : List Record) (told : Option Cells) →
+    IsFlight f append rs told → CarriesText f rs told
 carried_text None None rs told closed = closed
 carried_text (Some f) (Some append) rs told flight = (append.entry, flight.1)
 carried_text None (Some append) rs told never = absurd never
 carried_text (Some f) None rs told never = absurd never
 
 -- the disk carries a vault that stands for a state which is not barred
-pub carried : (v : Desk) (d : Devices) (w : State) → DeskStands v d w → w.is_barred ≡ false → DeskCarries v d.holds
-carried v d w stands unbarred =
-    (w.records, stands.core.table, stands.core.end, carried_text v.flight w.append w.records d.holds (stands.flight unbarred))
+pub carried : (v : Desk) (d : Devices) (w : State) → DeskStands v d w → w.is_barred ≡ false →
+    DeskCarries v d.holds
+carried v d w stands unbarred = (
+  w.records,
+  stands.core.table,
+  stands.core.end,
+  carried_text v.flight w.append w.records d.holds (stands.flight unbarred),
+)

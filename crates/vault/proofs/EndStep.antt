@@ -56,7 +56,8 @@ pub record CoreOf (s : Setup) (cs : List CoreJob) (k : ℕ) (j : Job) : Type 0 w
   pub is : IsJobOf s job j
 
 -- a job of the machine has its job in the core
-pub core_of : (s : Setup) (cs : List CoreJob) (js : List Job) (k : ℕ) (j : Job) → AllZip (IsJobOf s) cs js → job_of js k ≡ Some j → CoreOf s cs k j
+pub core_of : (s : Setup) (cs : List CoreJob) (js : List Job) (k : ℕ) (j : Job) → AllZip (IsJobOf s) cs js →
+    job_of js k ≡ Some j → CoreOf s cs k j
 core_of s [] [] k j are runs = (let e : None ≡ Some j = runs in cc)
 core_of s [] (x ∷ js) k j are runs = absurd are
 core_of s (c ∷ cs) [] k j are runs = absurd are
@@ -72,7 +73,8 @@ core_of s (c ∷ cs) (x ∷ js) k j are runs = elim (cases_Bool (x.number == k))
       let more = core_of s cs js k j are.1 (sym (cond_false _ (Some x) (job_of js k) f) ∙ runs) in
       record {
         job = more.job;
-        runs = cond_false (c.number == k) (Some c) (job_in cs k) (ap (λ (n : ℕ). n == k) are.0.number ∙ f) ∙ more.runs;
+        runs = cond_false (c.number == k) (Some c) (job_in cs k) (ap (λ (n : ℕ). n == k) are.0.number ∙ f)
+            ∙ more.runs;
         is = more.is;
       })
 ]
@@ -80,19 +82,23 @@ core_of s (c ∷ cs) (x ∷ js) k j are runs = elim (cases_Bool (x.number == k))
 -- ---- what is left at an end
 
 -- an action that is left is the first of those that are left
-first_left : {X : Type 0} (xs : List X) (place : ℕ) (x : X) → slice_get xs place ≡ Some x → slice_get (drop place xs) 0 ≡ Some x
+first_left : {X : Type 0} (xs : List X) (place : ℕ) (x : X) → slice_get xs place ≡ Some x →
+    slice_get (drop place xs) 0 ≡ Some x
 first_left [] place x is = (let e : None ≡ Some x = is in cc)
 first_left (y ∷ ys) zero x is = is
 first_left (y ∷ ys) (suc place) x is = first_left ys place x is
 
 -- at the end of a get all stripes are opened
-all_opened : (id total k : ℕ) (rest : List Action) → slice_get rest 0 ≡ Some End → OpensFrom id total k rest → k ≡ total
+all_opened : (id total k : ℕ) (rest : List Action) → slice_get rest 0 ≡ Some End → OpensFrom id total k rest →
+    k ≡ total
 all_opened id total k [] first opens = (let e : None ≡ Some End = first in cc)
 all_opened id total k (a ∷ rest) first opens =
-    (let same : a ≡ End = (let e : Some a ≡ Some End = first in cc) in (subst (λ (b : Action). OpensFrom id total k (b ∷ rest)) same opens).0)
+    (let same : a ≡ End = (let e : Some a ≡ Some End = first in cc) in
+    (subst (λ (b : Action). OpensFrom id total k (b ∷ rest)) same opens).0)
 
 -- an audit that comes to its end is past its first append
-past_first : (s : Setup) (j : Job) (place : ℕ) → slice_get (actions_by s j AuditJob) place ≡ Some End → nat_lt place 4 ≡ false
+past_first : (s : Setup) (j : Job) (place : ℕ) → slice_get (actions_by s j AuditJob) place ≡ Some End →
+    nat_lt place 4 ≡ false
 past_first s j zero is = (let e : Some WriteBody ≡ Some End = is in absurd cc)
 past_first s j (suc zero) is = (let e : Some SyncBody ≡ Some End = is in absurd cc)
 past_first s j (suc (suc zero)) is = (let e : Some WriteGate ≡ Some End = is in absurd cc)
@@ -100,9 +106,11 @@ past_first s j (suc (suc (suc zero))) is = (let e : Some SyncGate ≡ Some End =
 past_first s j (suc (suc (suc (suc place)))) is = le-ltb (suc (suc (suc (suc place)))) 4 (omega arith)
 
 -- an audit of the core that is past its first append and has no ask next has asked all that it asks
-asked : (c : CoreJob) → c.wish ≡ wish.Audit → c.opening ≡ false → asks_next (slice_get c.rest 0) ≡ false → IsTrue (has_asked c)
+asked : (c : CoreJob) → c.wish ≡ wish.Audit → c.opening ≡ false → asks_next (slice_get c.rest 0) ≡ false →
+    IsTrue (has_asked c)
 asked c audits opening next =
-    subst (λ (x : CoreJob). IsTrue (has_asked x)) (λ i. record c { wish = sym audits i; opening = sym opening i })
+    subst (λ (x : CoreJob). IsTrue (has_asked x))
+    (λ i. record c { wish = sym audits i; opening = sym opening i })
     (subst (λ (b : Bool). IsTrue (not b)) (sym next) refl)
 
 -- the wish of an audit
@@ -114,33 +122,48 @@ wish_of wish.Audit is = refl
 wish_of wish.Repair is = absurd is
 
 module _ (w : State) (job : Job) (next : next_action w job ≡ Some End) where
-  listed : (kind : Kind) → job.kind ≡ kind → is_idle_drop w job kind ≡ false → slice_get (actions_of (setup_in w) job) job.place ≡ Some End
+  listed : (kind : Kind) → job.kind ≡ kind → is_idle_drop w job kind ≡ false →
+      slice_get (actions_of (setup_in w) job) job.place ≡ Some End
   listed kind is busy =
-      sym (cond_false (is_idle_drop w job job.kind) (Some End) (slice_get (actions_of (setup_in w) job) job.place) (ap (is_idle_drop w job) is ∙ busy)) ∙ next
+      sym (cond_false (is_idle_drop w job job.kind) (Some End)
+      (slice_get (actions_of (setup_in w) job) job.place) (ap (is_idle_drop w job) is ∙ busy)) ∙ next
 
   past : job.kind ≡ AuditJob → is_first_append job ≡ false
   unfolding actions_of
-  past is = past_first (setup_in w) job job.place (ap (λ (k : Kind). slice_get (actions_by (setup_in w) job k) job.place) (sym is) ∙ listed AuditJob is refl)
+  past is = past_first (setup_in w) job job.place
+      (ap (λ (k : Kind). slice_get (actions_by (setup_in w) job k) job.place) (sym is)
+      ∙ listed AuditJob is refl)
 
   -- the sums of an audit that comes to its end are those of all that it heard
-  sums_are : (c : CoreJob) → IsJobOf (setup_in w) c job → job.kind ≡ AuditJob → HasSums (setup_in w) job c.sums
+  sums_are : (c : CoreJob) → IsJobOf (setup_in w) c job → job.kind ≡ AuditJob →
+      HasSums (setup_in w) job c.sums
   sums_are c of is =
-      let audits : c.wish ≡ wish.Audit = wish_of c.wish (alike c.wish AuditJob (subst (λ (k : Kind). IsKindOf c.wish k) is of.kind)) in
+      let audits : c.wish ≡ wish.Audit = wish_of c.wish
+      (alike c.wish AuditJob (subst (λ (k : Kind). IsKindOf c.wish k) is of.kind)) in
       of.sums (asked c audits (of.opening ∙ (λ i. is_opener (audits i) && past is i))
-      (ap asks_next (ap (λ (l : List Action). slice_get l 0) of.rest ∙ first_left (actions_of (setup_in w) job) job.place End (listed AuditJob is refl))))
+      (ap asks_next (ap (λ (l : List Action). slice_get l 0) of.rest
+      ∙ first_left (actions_of (setup_in w) job) job.place End (listed AuditJob is refl))))
 
   -- what a job answers at its end is what the machine says
-  ends : (c : CoreJob) → IsJobOf (setup_in w) c job → (subject undecided : ℕ) (counts : Counts) → c.subject ≡ subject → c.sums ≡ record { counts = counted counts; undecided = undecided }
-      → (t : Task) → IsTask (setup_in w) job (actions_left (setup_in w) job) t → Ends w job job.kind (machine_answer (answer_at_end t subject undecided counts))
-  ends c of subject undecided counts drawn sums (task.Put t) is = subst (λ (k : Kind). Ends w job k answers.Put) (sym is.kind) tt
+  ends : (c : CoreJob) → IsJobOf (setup_in w) c job → (subject undecided : ℕ) (counts : Counts) →
+      c.subject ≡ subject → c.sums ≡ record { counts = counted counts; undecided = undecided }
+      → (t : Task) → IsTask (setup_in w) job (actions_left (setup_in w) job) t →
+      Ends w job job.kind (machine_answer (answer_at_end t subject undecided counts))
+  ends c of subject undecided counts drawn sums (task.Put t) is =
+      subst (λ (k : Kind). Ends w job k answers.Put) (sym is.kind) tt
   ends c of subject undecided counts drawn sums (task.Get t) is =
       let whole : is.opened ≡ pinned_stripes (setup_in w) is.file =
       all_opened is.file.id (pinned_stripes (setup_in w) is.file) is.opened (actions_left (setup_in w) job)
-      (first_left (actions_of (setup_in w) job) job.place End (listed (GetJob is.name) is.kind refl)) is.opens in
-      let bytes = is.bytes ∙ ap (λ (k : ℕ). flat_map (λ stripe. bytes_of_symbols (symbols_given job.given is.file.id stripe)) (upto k)) whole in
+      (first_left (actions_of (setup_in w) job) job.place End (listed (GetJob is.name) is.kind refl))
+      is.opens in
+      let bytes = is.bytes ∙ ap
+      (λ (k : ℕ). flat_map (λ stripe. bytes_of_symbols (symbols_given job.given is.file.id stripe)) (upto k))
+      whole in
       subst (λ (k : Kind). Ends w job k (answers.Got (take t.length t.bytes.items))) (sym is.kind)
-      (subst (λ (ps : List Pinned). GotBytes w job ps (take t.length t.bytes.items)) (sym is.pinned) (λ i. take (is.length_is i) (bytes i)))
-  ends c of subject undecided counts drawn sums task.Drop is = subst (λ (k : Kind). Ends w job k answers.Dropped) (sym is.kind) tt
+      (subst (λ (ps : List Pinned). GotBytes w job ps (take t.length t.bytes.items)) (sym is.pinned)
+      (λ i. take (is.length_is i) (bytes i)))
+  ends c of subject undecided counts drawn sums task.Drop is =
+      subst (λ (k : Kind). Ends w job k answers.Dropped) (sym is.kind) tt
   ends c of subject undecided counts drawn sums (task.Audit t) is =
       subst (λ (k : Kind). Ends w job k (answers.Audited subject undecided (counted counts))) (sym is.kind)
       (sym drawn ∙ of.subject, subst (λ (x : Sums). HasSums (setup_in w) job x) sums (sums_are c of is.kind))
@@ -148,7 +171,8 @@ module _ (w : State) (job : Job) (next : next_action w job ≡ Some End) where
       subst (λ (k : Kind). Ends w job k (answers.Repaired subject)) (sym is.kind) (sym drawn ∙ of.subject)
 
 -- such an answer is that of a job that came to its end
-well : (number subject undecided : ℕ) (counts : Counts) (new : State) (t : Task) → Tells number reply.Done (Ended (machine_answer (answer_at_end t subject undecided counts))) new
+well : (number subject undecided : ℕ) (counts : Counts) (new : State) (t : Task) →
+    Tells number reply.Done (Ended (machine_answer (answer_at_end t subject undecided counts))) new
 well number subject undecided counts new (task.Put t) = tt
 well number subject undecided counts new (task.Get t) = tt
 well number subject undecided counts new task.Drop = tt
@@ -156,40 +180,58 @@ well number subject undecided counts new (task.Audit t) = tt
 well number subject undecided counts new (task.Repair t) = tt
 
 -- nor is it a fault of the disk
-no_fault : (t : Task) (subject undecided : ℕ) (counts : Counts) → machine_answer (answer_at_end t subject undecided counts) ≡ answers.DiskFault → ⊥
+no_fault : (t : Task) (subject undecided : ℕ) (counts : Counts) →
+    machine_answer (answer_at_end t subject undecided counts) ≡ answers.DiskFault → ⊥
 no_fault (task.Put t) subject undecided counts e = cc
 no_fault (task.Get t) subject undecided counts e = cc
 no_fault task.Drop subject undecided counts e = cc
 no_fault (task.Audit t) subject undecided counts e = cc
 no_fault (task.Repair t) subject undecided counts e = cc
 
-some_of : {X Y : Type 0} (f : X → Y) (o : Option X) (x : X) (y : Y) → o ≡ Some x → option_map f o ≡ Some y → f x ≡ y
+some_of : {X Y : Type 0} (f : X → Y) (o : Option X) (x : X) (y : Y) → o ≡ Some x → option_map f o ≡ Some y →
+    f x ≡ y
 some_of f o x y is e = (let h : Some (f x) ≡ Some y = ap (option_map f) (sym is) ∙ e in cc)
 
-module _ (v : Desk) (d : Devices) (w : State) (moment number : ℕ) (stands : DeskStands v d w) (comes : Comes v.core number End) where
+module _ (v : Desk) (d : Devices) (w : State) (moment number : ℕ) (stands : DeskStands v d w)
+    (comes : Comes v.core number End) where
   coming : ComesNext w number End None
   coming = comes.machine w stands.core
 
   of_core : CoreOf (setup_in w) v.core.jobs number coming.job
-  of_core = core_of (setup_in w) v.core.jobs w.jobs number coming.job (subst (λ (s : Setup). AllZip (IsJobOf s) v.core.jobs w.jobs) stands.core.setup stands.core.jobs) coming.runs
+  of_core = core_of (setup_in w) v.core.jobs w.jobs number coming.job
+      (subst (λ (s : Setup). AllZip (IsJobOf s) v.core.jobs w.jobs) stands.core.setup stands.core.jobs)
+      coming.runs
 
   -- the end is a step of the machine
   pub end_step : (v2 : Desk) (t : Turn) (place subject undecided : ℕ) (counts : Counts) (r : Running)
       → option_map (λ (j : CoreJob). j.subject) (job_in v.core.jobs number) ≡ Some subject
-      → option_map (λ (j : CoreJob). j.sums) (job_in v.core.jobs number) ≡ Some (record { counts = counted counts; undecided = undecided })
+      → option_map (λ (j : CoreJob). j.sums) (job_in v.core.jobs number)
+      ≡ Some (record { counts = counted counts; undecided = undecided })
       → place_in v.jobs.items number ≡ Some place → slice_get v.jobs.items place ≡ Some r
-      → IsStopped v number reply.Done (answer_at_end r.task subject undecided counts) t v2 → DeskMakesStep w moment number t v2 d d
+      → IsStopped v number reply.Done (answer_at_end r.task subject undecided counts) t v2 →
+      DeskMakesStep w moment number t v2 d d
   end_step v2 t place subject undecided counts r subject_is sums_is at there stopped =
       let new : State = ended w coming.job in
       let running = at_place v d w number place End r stands coming at there in
       let drawn = some_of (λ (j : CoreJob). j.subject) _ of_core.job subject of_core.runs subject_is in
       let sums = some_of (λ (j : CoreJob). j.sums) _ of_core.job _ of_core.runs sums_is in
-      ends_by v v v2 w new d.holds d.faults moment number place d.providers d.providers End r r reply.Done (answer_at_end r.task subject undecided counts) t stands coming
-      (ends w coming.job coming.comes of_core.job of_core.is subject undecided counts drawn sums r.task running.task, refl)
+      ends_by v v v2 w new d.holds d.faults moment number place d.providers d.providers End r r reply.Done
+      (answer_at_end r.task subject undecided counts) t stands coming (
+        ends w coming.job coming.comes of_core.job of_core.is subject undecided counts drawn sums r.task
+            running.task,
+        refl,
+      )
       (record { records = refl; doubt = refl; append = refl; faults = refl; barred = refl })
       (ap (without_job w.jobs) (number_of w.jobs number coming.job coming.runs))
       at there
-      (record { core = refl; jobs = set_same v.jobs.items place r there; number = refl; heard = refl; keeps = record { setup = refl; master = refl; shape = refl; profile = refl } })
+      (record {
+        core = refl;
+        jobs = set_same v.jobs.items place r there;
+        number = refl;
+        heard = refl;
+        keeps = record { setup = refl; master = refl; shape = refl; profile = refl };
+      })
       refl stopped
       (well number subject undecided counts new r.task)
-      (handed_same d.providers w new stands.devices.providers refl (λ j. refl)) (no_fault r.task subject undecided counts)
+      (handed_same d.providers w new stands.devices.providers refl (λ j. refl))
+      (no_fault r.task subject undecided counts)

@@ -32,40 +32,57 @@ use Rattle.vault.proofs.Ways.{actions_same}
 -- ---- lists of blocks
 
 -- one block more at the end
-present_more : (size : ℕ) (flags : List Bool) (symbols block : List ℕ) (flag : Bool) → length symbols ≡ length flags * size → length block ≡ size
-    → present_blocks size (flags ++ flag ∷ []) (symbols ++ block) ≡ present_blocks size flags symbols ++ given_of flag block ∷ []
-present_more size [] [] block flag all one = ap (λ (b : List ℕ). given_of flag b ∷ []) (take_all size block (omega (arith, one)))
+present_more : (size : ℕ) (flags : List Bool) (symbols block : List ℕ) (flag : Bool) →
+    length symbols ≡ length flags * size → length block ≡ size
+    → present_blocks size (flags ++ flag ∷ []) (symbols ++ block)
+    ≡ present_blocks size flags symbols ++ given_of flag block ∷ []
+present_more size [] [] block flag all one =
+    ap (λ (b : List ℕ). given_of flag b ∷ []) (take_all size block (omega (arith, one)))
 present_more size [] (x ∷ symbols) block flag all one = absurd (omega (arith, all))
 present_more size (f ∷ flags) symbols block flag all one =
     let more : length symbols ≡ size + length flags * size = all ∙ (omega arith) in
-    let front : take size (symbols ++ block) ≡ take size symbols = take-append-le size symbols block (omega (arith, more)) in
-    let behind : drop size (symbols ++ block) ≡ drop size symbols ++ block = drop-append-le size symbols block (omega (arith, more)) in
-    let others : length (drop size symbols) ≡ length flags * size = omega (arith, length-drop size symbols, more) in
+    let front : take size (symbols ++ block) ≡ take size symbols =
+    take-append-le size symbols block (omega (arith, more)) in
+    let behind : drop size (symbols ++ block) ≡ drop size symbols ++ block =
+    drop-append-le size symbols block (omega (arith, more)) in
+    let others : length (drop size symbols) ≡ length flags * size =
+    omega (arith, length-drop size symbols, more) in
     (λ i. given_of f (front i) ∷ present_blocks size (flags ++ flag ∷ []) (behind i))
-    ∙ ap (λ (l : List (Option (List ℕ))). given_of f (take size symbols) ∷ l) (present_more size flags (drop size symbols) block flag others one)
+    ∙ ap (λ (l : List (Option (List ℕ))). given_of f (take size symbols) ∷ l)
+    (present_more size flags (drop size symbols) block flag others one)
 
 -- one gift more
 pub gifts_more : (o s c : ℕ) (blocks : List (Option (List ℕ))) (block : Option (List ℕ)) (older : List Given)
-    → fetched_gifts o s c (blocks ++ block ∷ []) older ≡ Fetched (c + length blocks) o s block ∷ fetched_gifts o s c blocks older
-gifts_more o s c [] block older = (let e : c ≡ c + 0 = omega arith in ap (λ (k : ℕ). Fetched k o s block ∷ older) e)
+    → fetched_gifts o s c (blocks ++ block ∷ []) older
+    ≡ Fetched (c + length blocks) o s block ∷ fetched_gifts o s c blocks older
+gifts_more o s c [] block older =
+    (let e : c ≡ c + 0 = omega arith in ap (λ (k : ℕ). Fetched k o s block ∷ older) e)
 gifts_more o s c (b ∷ blocks) block older =
     gifts_more o s (c + 1) blocks block (Fetched c o s b ∷ older)
-    ∙ (let e : c + 1 + length blocks ≡ c + length (b ∷ blocks) = omega arith in ap (λ (k : ℕ). Fetched k o s block ∷ fetched_gifts o s (c + 1) blocks (Fetched c o s b ∷ older)) e)
+    ∙ (let e : c + 1 + length blocks ≡ c + length (b ∷ blocks) = omega arith in
+    ap (λ (k : ℕ). Fetched k o s block ∷ fetched_gifts o s (c + 1) blocks (Fetched c o s b ∷ older)) e)
 
 -- one entry more
-pub entries_more : (job : ℕ) (fetches : List FetchValue) (blocks : List (Option (List ℕ))) (f : FetchValue) (block : Option (List ℕ)) → length fetches ≡ length blocks
-    → fetched_entries job (fetches ++ f ∷ []) (blocks ++ block ∷ []) ≡ fetched_entries job fetches blocks ++ record { job = job; given = Fetched f.provider f.object f.stripe block } ∷ []
+pub entries_more : (job : ℕ) (fetches : List FetchValue) (blocks : List (Option (List ℕ))) (f : FetchValue)
+    (block : Option (List ℕ)) → length fetches ≡ length blocks
+    → fetched_entries job (fetches ++ f ∷ []) (blocks ++ block ∷ [])
+    ≡ fetched_entries job fetches blocks ++ record {
+      job = job;
+      given = Fetched f.provider f.object f.stripe block;
+    } ∷ []
 entries_more job [] [] f block same = refl
 entries_more job [] (b ∷ blocks) f block same = absurd (omega (arith, same))
 entries_more job (g ∷ fetches) [] f block same = absurd (omega (arith, same))
 entries_more job (g ∷ fetches) (b ∷ blocks) f block same =
-    ap (λ (l : List Entry). record { job = job; given = Fetched g.provider g.object g.stripe b } ∷ l) (entries_more job fetches blocks f block (omega (arith, same)))
+    ap (λ (l : List Entry). record { job = job; given = Fetched g.provider g.object g.stripe b } ∷ l)
+    (entries_more job fetches blocks f block (omega (arith, same)))
 
 -- ---- the stripe in work
 
 module _ (n k o s : ℕ) (tail : List Action) where
   -- what is fetched of the stripe before this fetch
-  fetched_before : (phase : Phase) (b : Blocks) (rows : List ℕ) (given : List Given) → GoesOn n phase (Fetch k o s ∷ tail) → IsInWork phase b rows given → HasFetched o s k b given
+  fetched_before : (phase : Phase) (b : Blocks) (rows : List ℕ) (given : List Given) →
+      GoesOn n phase (Fetch k o s ∷ tail) → IsInWork phase b rows given → HasFetched o s k b given
   fetched_before Between b rows given order work = none b given order.0
     where
       none : (b : Blocks) (given : List Given) → k ≡ 0 → HasFetched o s k b given
@@ -97,14 +114,20 @@ module _ (n k o s : ℕ) (tail : List Action) where
         given_is = refl;
       }
   fetched_before (Fetching p t c) b rows given order work =
-      subst (λ (m : ℕ). HasFetched o s m b given) (sym order.1) (subst (λ (m : ℕ). HasFetched m s c b given) (sym order.2) (subst (λ (m : ℕ). HasFetched p m c b given) (sym order.3) work))
+      subst (λ (m : ℕ). HasFetched o s m b given) (sym order.1)
+      (subst (λ (m : ℕ). HasFetched m s c b given) (sym order.2)
+      (subst (λ (m : ℕ). HasFetched p m c b given) (sym order.3) work))
 
   -- and the order of what is left
   order_after : (phase : Phase) → GoesOn n phase (Fetch k o s ∷ tail) → GoesOn n (Fetching o s (k + 1)) tail
-  order_after Between order = subst (λ (m : ℕ). GoesOn n (Fetching o s m) tail) (let e : 1 ≡ k + 1 = omega (arith, order.0) in e) order.1
-  order_after (Opened p t) order = subst (λ (m : ℕ). GoesOn n (Fetching o s m) tail) (let e : 1 ≡ k + 1 = omega (arith, order.0) in e) order.1
+  order_after Between order = subst (λ (m : ℕ). GoesOn n (Fetching o s m) tail)
+      (let e : 1 ≡ k + 1 = omega (arith, order.0) in e) order.1
+  order_after (Opened p t) order = subst (λ (m : ℕ). GoesOn n (Fetching o s m) tail)
+      (let e : 1 ≡ k + 1 = omega (arith, order.0) in e) order.1
   order_after (Fetching p t c) order =
-      subst (λ (m : ℕ). GoesOn n (Fetching o s (m + 1)) tail) (sym order.1) (subst (λ (m : ℕ). GoesOn n (Fetching m s (c + 1)) tail) (sym order.2) (subst (λ (m : ℕ). GoesOn n (Fetching p m (c + 1)) tail) (sym order.3) order.4))
+      subst (λ (m : ℕ). GoesOn n (Fetching o s (m + 1)) tail) (sym order.1)
+      (subst (λ (m : ℕ). GoesOn n (Fetching m s (c + 1)) tail) (sym order.2)
+      (subst (λ (m : ℕ). GoesOn n (Fetching p m (c + 1)) tail) (sym order.3) order.4))
 
   -- how many were fetched
   count_before : (phase : Phase) → GoesOn n phase (Fetch k o s ∷ tail) → fetched_in phase ≡ k
@@ -113,46 +136,68 @@ module _ (n k o s : ℕ) (tail : List Action) where
   count_before (Fetching p t c) order = sym order.1
 
   -- what is fetched of it after
-  fetched_after : (b b' : Blocks) (given : List Given) (found : Bool) (block : List ℕ) → HasFetched o s k b given → Grows b b' found block → HasFetched o s (k + 1) b' (Fetched k o s (given_of found block) ∷ given)
+  fetched_after : (b b' : Blocks) (given : List Given) (found : Bool) (block : List ℕ) →
+      HasFetched o s k b given → Grows b b' found block →
+      HasFetched o s (k + 1) b' (Fetched k o s (given_of found block) ∷ given)
   fetched_after b b' given found block has grows =
-      let all : length has.symbols ≡ length has.flags * b.size = has.size ∙ ap (λ (m : ℕ). m * b.size) (sym has.count) in
+      let all : length has.symbols ≡ length has.flags * b.size = has.size
+      ∙ ap (λ (m : ℕ). m * b.size) (sym has.count) in
       let blocks = present_blocks b.size has.flags has.symbols in
-      let count : 0 + length blocks ≡ k = zero-add (length blocks) ∙ length-present_blocks b.size has.flags has.symbols ∙ has.count in
+      let count : 0 + length blocks ≡ k = zero-add (length blocks)
+      ∙ length-present_blocks b.size has.flags has.symbols ∙ has.count in
       record {
         flags_before = has.flags_before;
         flags = has.flags ++ found ∷ [];
         symbols_before = has.symbols_before;
         symbols = has.symbols ++ block;
         older = has.older;
-        present_is = grows.present_is ∙ ap (λ (l : List Bool). l ++ found ∷ []) has.present_is ∙ append_assoc has.flags_before has.flags (found ∷ []);
-        symbols_is = grows.symbols_is ∙ ap (λ (l : List ℕ). l ++ block) has.symbols_is ∙ append_assoc has.symbols_before has.symbols block;
+        present_is = grows.present_is ∙ ap (λ (l : List Bool). l ++ found ∷ []) has.present_is
+            ∙ append_assoc has.flags_before has.flags (found ∷ []);
+        symbols_is = grows.symbols_is ∙ ap (λ (l : List ℕ). l ++ block) has.symbols_is
+            ∙ append_assoc has.symbols_before has.symbols block;
         count = length-append has.flags (found ∷ []) ∙ ap (λ (m : ℕ). m + 1) has.count;
-        size = length-append has.symbols block ∙ (λ i. has.size i + grows.fits i) ∙ (let e : k * b.size + b.size ≡ (k + 1) * b.size = omega arith in e) ∙ ap (λ (m : ℕ). (k + 1) * m) (sym grows.size_is);
+        size = length-append has.symbols block ∙ (λ i. has.size i + grows.fits i)
+            ∙ (let e : k * b.size + b.size ≡ (k + 1) * b.size = omega arith in e)
+            ∙ ap (λ (m : ℕ). (k + 1) * m) (sym grows.size_is);
         given_is =
             (λ i. Fetched ((sym count) i) o s (given_of found block) ∷ has.given_is i)
             ∙ sym (gifts_more o s 0 blocks (given_of found block) has.older)
-            ∙ ap (λ (l : List (Option (List ℕ))). fetched_gifts o s 0 l has.older) (sym (present_more b.size has.flags has.symbols block found all grows.fits))
-            ∙ ap (λ (m : ℕ). fetched_gifts o s 0 (present_blocks m (has.flags ++ found ∷ []) (has.symbols ++ block)) has.older) (sym grows.size_is);
+            ∙ ap (λ (l : List (Option (List ℕ))). fetched_gifts o s 0 l has.older)
+            (sym (present_more b.size has.flags has.symbols block found all grows.fits))
+            ∙ ap (λ (m : ℕ). fetched_gifts o s 0
+            (present_blocks m (has.flags ++ found ∷ []) (has.symbols ++ block)) has.older)
+            (sym grows.size_is);
       }
 
 -- ---- what a get and a repair work with, after
 
 module _ (st : Setup) (job : Job) (k o s : ℕ) (tail : List Action) where
-  all_more : (b b' : Blocks) (found : Bool) (block : List ℕ) → length b.symbols.items ≡ length b.present.items * b.size → Grows b b' found block → blocks_in b' ≡ blocks_in b ++ given_of found block ∷ []
+  all_more : (b b' : Blocks) (found : Bool) (block : List ℕ) →
+      length b.symbols.items ≡ length b.present.items * b.size → Grows b b' found block →
+      blocks_in b' ≡ blocks_in b ++ given_of found block ∷ []
   all_more b b' found block all grows =
-      (λ i. present_blocks (grows.size_is i) (grows.present_is i) (grows.symbols_is i)) ∙ present_more b.size b.present.items b.symbols.items block found all grows.fits
+      (λ i. present_blocks (grows.size_is i) (grows.present_is i) (grows.symbols_is i))
+      ∙ present_more b.size b.present.items b.symbols.items block found all grows.fits
 
   -- with a block fetched, or none, a get is at the action behind this fetch
-  pub get_after : fetches_left (Fetch k o s ∷ tail) ≡ 1 + fetches_left tail → works_left (Fetch k o s ∷ tail) ≡ 0 + works_left tail
-      → (t : GetTask) (f : Fetches) (fetch : FetchValue) (found : Bool) (block : List ℕ) → IsGet st t job (Fetch k o s ∷ tail) → fetch ≡ record { provider = k; object = o; stripe = s }
-      → GrowsFetches t.fetched f fetch found block → IsGet st (record t { fetched = f }) (advanced_with job (Fetched k o s (given_of found block))) tail
+  pub get_after : fetches_left (Fetch k o s ∷ tail) ≡ 1 + fetches_left tail →
+      works_left (Fetch k o s ∷ tail) ≡ 0 + works_left tail
+      → (t : GetTask) (f : Fetches) (fetch : FetchValue) (found : Bool) (block : List ℕ) →
+      IsGet st t job (Fetch k o s ∷ tail) → fetch ≡ record { provider = k; object = o; stripe = s }
+      → GrowsFetches t.fetched f fetch found block →
+      IsGet st (record t { fetched = f }) (advanced_with job (Fetched k o s (given_of found block))) tail
   get_after fetches_are works_are t f fetch found block is fetch_is grows =
       let b = t.fetched.blocks in
       let blocks_are = all_more b f.blocks found block is.symbols grows.blocks in
-      let count : length t.fetched.fetches.items ≡ length (blocks_in b) = is.fetches ∙ sym (length-present_blocks b.size b.present.items b.symbols.items) in
-      let present : length f.blocks.present.items ≡ length b.present.items + 1 = ap length grows.blocks.present_is ∙ length-append b.present.items (found ∷ []) in
-      let fetches : length f.fetches.items ≡ length t.fetched.fetches.items + 1 = ap length grows.fetches ∙ length-append t.fetched.fetches.items (fetch ∷ []) in
-      let symbols : length f.blocks.symbols.items ≡ length b.symbols.items + b.size = ap length grows.blocks.symbols_is ∙ length-append b.symbols.items block ∙ ap (λ (m : ℕ). length b.symbols.items + m) grows.blocks.fits in
+      let count : length t.fetched.fetches.items ≡ length (blocks_in b) = is.fetches
+      ∙ sym (length-present_blocks b.size b.present.items b.symbols.items) in
+      let present : length f.blocks.present.items ≡ length b.present.items + 1 =
+      ap length grows.blocks.present_is ∙ length-append b.present.items (found ∷ []) in
+      let fetches : length f.fetches.items ≡ length t.fetched.fetches.items + 1 = ap length grows.fetches
+      ∙ length-append t.fetched.fetches.items (fetch ∷ []) in
+      let symbols : length f.blocks.symbols.items ≡ length b.symbols.items + b.size =
+      ap length grows.blocks.symbols_is ∙ length-append b.symbols.items block
+      ∙ ap (λ (m : ℕ). length b.symbols.items + m) grows.blocks.fits in
       record {
         name = is.name;
         kind = is.kind;
@@ -164,41 +209,91 @@ module _ (st : Setup) (job : Job) (k o s : ℕ) (tail : List Action) where
         job_is = grows.job ∙ is.job_is;
         heard =
             (λ i. fetched_entries (grows.job i) (grows.fetches i) (blocks_are i))
-            ∙ entries_more t.fetched.job t.fetched.fetches.items (blocks_in b) fetch (given_of found block) count
-            ∙ (λ i. is.heard i ++ record { job = is.job_is i; given = Fetched (fetch_is i).provider (fetch_is i).object (fetch_is i).stripe (given_of found block) } ∷ []);
+            ∙ entries_more t.fetched.job t.fetched.fetches.items (blocks_in b) fetch
+            (given_of found block) count
+            ∙ (λ i. is.heard i ++ record {
+              job = is.job_is i;
+              given = Fetched (fetch_is i).provider (fetch_is i).object (fetch_is i).stripe
+                  (given_of found block);
+            } ∷ []);
         fetches = fetches ∙ ap (λ (m : ℕ). m + 1) is.fetches ∙ sym present;
-        symbols = symbols ∙ ap (λ (m : ℕ). m + b.size) is.symbols ∙ (let e : length b.present.items * b.size + b.size ≡ (length b.present.items + 1) * b.size = omega arith in e) ∙ (λ i. (sym present) i * (sym grows.blocks.size_is) i);
+        symbols = symbols ∙ ap (λ (m : ℕ). m + b.size) is.symbols
+            ∙ (let e : length b.present.items * b.size + b.size ≡ (length b.present.items + 1) * b.size =
+            omega arith in e) ∙ (λ i. (sym present) i * (sym grows.blocks.size_is) i);
         phase = Fetching o s (k + 1);
         order = order_after st.n k o s tail is.phase is.order;
-        in_work = fetched_after st.n k o s tail b f.blocks job.given found block (fetched_before st.n k o s tail is.phase b t.bench.rows.items job.given is.order is.in_work) grows.blocks;
+        in_work = fetched_after st.n k o s tail b f.blocks job.given found block
+            (fetched_before st.n k o s tail is.phase b t.bench.rows.items job.given is.order is.in_work)
+            grows.blocks;
         opened = is.opened;
         opens = is.opens;
         bytes = is.bytes;
-        room_fetches = omega (arith, is.room_fetches, fetches_are, grows.room, fetches, t.fetched.fetches.ok.0, f.fetches.ok.0);
-        room_present = omega (arith, is.room_present, fetches_are, grows.blocks.present_room, present, b.present.ok.0, f.blocks.present.ok.0);
-        room_symbols = omega (arith, is.room_symbols, ap (λ (m : ℕ). m * b.size) fetches_are, grows.blocks.symbols_room, symbols, b.symbols.ok.0, f.blocks.symbols.ok.0, ap (λ (m : ℕ). fetches_left tail * m) grows.blocks.size_is);
-        room_bytes = omega (arith, is.room_bytes, ap (λ (m : ℕ). m * (16 * stripe_symbols (bench_object t.bench))) works_are);
+        room_fetches = omega (
+          arith,
+          is.room_fetches,
+          fetches_are,
+          grows.room,
+          fetches,
+          t.fetched.fetches.ok.0,
+          f.fetches.ok.0,
+        );
+        room_present = omega (
+          arith,
+          is.room_present,
+          fetches_are,
+          grows.blocks.present_room,
+          present,
+          b.present.ok.0,
+          f.blocks.present.ok.0,
+        );
+        room_symbols = omega (
+          arith,
+          is.room_symbols,
+          ap (λ (m : ℕ). m * b.size) fetches_are,
+          grows.blocks.symbols_room,
+          symbols,
+          b.symbols.ok.0,
+          f.blocks.symbols.ok.0,
+          ap (λ (m : ℕ). fetches_left tail * m) grows.blocks.size_is,
+        );
+        room_bytes = omega (
+          arith,
+          is.room_bytes,
+          ap (λ (m : ℕ). m * (16 * stripe_symbols (bench_object t.bench))) works_are,
+        );
       }
 
   -- with a block fetched, or none, a repair is at the action behind this fetch
-  pub repair_after : (t : RepairTask) (b' : Blocks) (found : Bool) (block : List ℕ) → IsRepair st t job (Fetch k o s ∷ tail) → Grows t.blocks b' found block
+  pub repair_after : (t : RepairTask) (b' : Blocks) (found : Bool) (block : List ℕ) →
+      IsRepair st t job (Fetch k o s ∷ tail) → Grows t.blocks b' found block
       → IsRepair st (record t { blocks = b' }) (advanced_with job (Fetched k o s (given_of found block))) tail
   repair_after t b' found block is grows =
       let b = t.blocks in
       let count : fetched_in is.phase ≡ k = count_before st.n k o s tail is.phase is.order in
-      let present : length b'.present.items ≡ length b.present.items + 1 = ap length grows.present_is ∙ length-append b.present.items (found ∷ []) in
-      let symbols : length b'.symbols.items ≡ length b.symbols.items + b.size = ap length grows.symbols_is ∙ length-append b.symbols.items block ∙ ap (λ (m : ℕ). length b.symbols.items + m) grows.fits in
+      let present : length b'.present.items ≡ length b.present.items + 1 = ap length grows.present_is
+      ∙ length-append b.present.items (found ∷ []) in
+      let symbols : length b'.symbols.items ≡ length b.symbols.items + b.size = ap length grows.symbols_is
+      ∙ length-append b.symbols.items block ∙ ap (λ (m : ℕ). length b.symbols.items + m) grows.fits in
       record {
         kind = is.kind;
         bench = is.bench;
         size = grows.size_is ∙ is.size;
         phase = Fetching o s (k + 1);
         order = order_after st.n k o s tail is.phase is.order;
-        in_work = fetched_after st.n k o s tail b b' job.given found block (fetched_before st.n k o s tail is.phase b t.bench.rows.items job.given is.order is.in_work) grows;
+        in_work = fetched_after st.n k o s tail b b' job.given found block
+            (fetched_before st.n k o s tail is.phase b t.bench.rows.items job.given is.order is.in_work)
+            grows;
         present = present ∙ ap (λ (m : ℕ). m + 1) (is.present ∙ count);
-        symbols = symbols ∙ ap (λ (m : ℕ). m + b.size) (is.symbols ∙ ap (λ (m : ℕ). m * b.size) count) ∙ (let e : k * b.size + b.size ≡ (k + 1) * b.size = omega arith in e) ∙ ap (λ (m : ℕ). (k + 1) * m) (sym grows.size_is);
+        symbols = symbols ∙ ap (λ (m : ℕ). m + b.size) (is.symbols ∙ ap (λ (m : ℕ). m * b.size) count)
+            ∙ (let e : k * b.size + b.size ≡ (k + 1) * b.size = omega arith in e)
+            ∙ ap (λ (m : ℕ). (k + 1) * m) (sym grows.size_is);
         room_present = omega (arith, is.room_present, grows.present_room);
-        room_symbols = omega (arith, is.room_symbols, grows.symbols_room, ap (λ (m : ℕ). st.n * m) grows.size_is);
+        room_symbols = omega (
+          arith,
+          is.room_symbols,
+          grows.symbols_room,
+          ap (λ (m : ℕ). st.n * m) grows.size_is,
+        );
       }
 
 -- ---- the job
@@ -219,10 +314,14 @@ module _ (w : State) (job : Job) (k o s : ℕ) (next : next_action w job ≡ Som
 
   -- a job whose next action is a fetch has room for it
   pub room_for : (r : Running) → IsRunning (setup_in w) r job → HasRoomFor r.task
-  room_for r running = by_task r.task (subst (λ (l : List Action). IsTask (setup_in w) job l r.task) left_is running.task)
+  room_for r running = by_task r.task
+      (subst (λ (l : List Action). IsTask (setup_in w) job l r.task) left_is running.task)
     where
-      not_allowed : (kind : Kind) → job.kind ≡ kind → Rattle.vault.proofs.Allowed.IsAllowed (setup_in w).n kind (Fetch k o s)
-      not_allowed kind is = subst (λ (x : Kind). Rattle.vault.proofs.Allowed.IsAllowed (setup_in w).n x (Fetch k o s)) is (next_allowed w job (Fetch k o s) next)
+      not_allowed : (kind : Kind) → job.kind ≡ kind →
+          Rattle.vault.proofs.Allowed.IsAllowed (setup_in w).n kind (Fetch k o s)
+      not_allowed kind is =
+          subst (λ (x : Kind). Rattle.vault.proofs.Allowed.IsAllowed (setup_in w).n x (Fetch k o s)) is
+          (next_allowed w job (Fetch k o s) next)
 
       by_task : (t : Task) → IsTask (setup_in w) job (Fetch k o s ∷ after w job) t → HasRoomFor t
       by_task (task.Put t) is = absurd (not_allowed (PutJob is.name t.bytes) is.kind)
@@ -237,21 +336,28 @@ module _ (w : State) (job : Job) (k o s : ℕ) (next : next_action w job ≡ Som
       by_task (task.Audit t) is = absurd (not_allowed AuditJob is.kind)
       by_task (task.Repair t) is =
           let less : k < (setup_in w).n = not_allowed RepairJob is.kind in
-          let count : fetched_in is.phase ≡ k = count_before (setup_in w).n k o s (after w job) is.phase is.order in
-          let held : length t.blocks.symbols.items ≡ k * t.blocks.size = is.symbols ∙ ap (λ (m : ℕ). m * t.blocks.size) count in
-          let below : t.blocks.size * (k + 1) ≤ t.blocks.size * (setup_in w).n = mul-le-mul_left t.blocks.size (let l : k + 1 ≤ (setup_in w).n = omega (arith, less) in l) in
+          let count : fetched_in is.phase ≡ k = count_before (setup_in w).n k o s
+          (after w job) is.phase is.order in
+          let held : length t.blocks.symbols.items ≡ k * t.blocks.size = is.symbols
+          ∙ ap (λ (m : ℕ). m * t.blocks.size) count in
+          let below : t.blocks.size * (k + 1) ≤ t.blocks.size * (setup_in w).n =
+          mul-le-mul_left t.blocks.size (let l : k + 1 ≤ (setup_in w).n = omega (arith, less) in l) in
           record {
             present = omega (arith, is.present, is.room_present, less, count);
             symbols = omega (arith, held, below, is.room_symbols);
           }
 
   -- the job goes on with one fetch more
-  pub runs_on : (r r' : Running) (fetch : FetchValue) (found : Bool) (block : List ℕ) → IsRunning (setup_in w) r job → r'.number ≡ r.number → fetch ≡ record { provider = k; object = o; stripe = s }
-      → TakesFetch r.task r'.task fetch found block → IsRunning (setup_in w) r' (advanced_with job (Fetched k o s (given_of found block)))
+  pub runs_on : (r r' : Running) (fetch : FetchValue) (found : Bool) (block : List ℕ) →
+      IsRunning (setup_in w) r job → r'.number ≡ r.number →
+      fetch ≡ record { provider = k; object = o; stripe = s }
+      → TakesFetch r.task r'.task fetch found block →
+      IsRunning (setup_in w) r' (advanced_with job (Fetched k o s (given_of found block)))
   runs_on r r' fetch found block running number fetch_is takes = record {
     number = number ∙ running.number;
     task = subst (λ (l : List Action). IsTask (setup_in w) next_job l r'.task) (sym tail_is)
-        (by_task r.task r'.task (subst (λ (l : List Action). IsTask (setup_in w) job l r.task) left_is running.task) takes);
+        (by_task r.task r'.task
+        (subst (λ (l : List Action). IsTask (setup_in w) job l r.task) left_is running.task) takes);
   }
     where
       gift : Given
@@ -260,15 +366,22 @@ module _ (w : State) (job : Job) (k o s : ℕ) (next : next_action w job ≡ Som
       next_job : Job
       next_job = advanced_with job gift
 
-      tail_is : actions_left (setup_in w) (advanced_with job (Fetched k o s (given_of found block))) ≡ after w job
-      tail_is = ap (drop (job.place + 1)) (actions_same (setup_in w) job (job.place + 1) (Fetched k o s (given_of found block) ∷ job.given))
+      tail_is : actions_left (setup_in w) (advanced_with job (Fetched k o s (given_of found block)))
+          ≡ after w job
+      tail_is = ap (drop (job.place + 1))
+          (actions_same (setup_in w) job (job.place + 1) (Fetched k o s (given_of found block) ∷ job.given))
 
-      by_task : (t t' : Task) → IsTask (setup_in w) job (Fetch k o s ∷ after w job) t → TakesFetch t t' fetch found block → IsTask (setup_in w) (advanced_with job (Fetched k o s (given_of found block))) (after w job) t'
+      by_task : (t t' : Task) → IsTask (setup_in w) job (Fetch k o s ∷ after w job) t →
+          TakesFetch t t' fetch found block →
+          IsTask (setup_in w) (advanced_with job (Fetched k o s (given_of found block))) (after w job) t'
       by_task (task.Get t) (task.Get u) is takes =
-          subst (λ (x : GetTask). IsGet (setup_in w) x (advanced_with job (Fetched k o s (given_of found block))) (after w job)) (sym takes.0)
-          (get_after (setup_in w) job k o s (after w job) fetches_are works_are t u.fetched fetch found block is fetch_is takes.1)
+          subst (λ (x : GetTask). IsGet (setup_in w) x
+          (advanced_with job (Fetched k o s (given_of found block))) (after w job)) (sym takes.0)
+          (get_after (setup_in w) job k o s (after w job) fetches_are works_are t u.fetched fetch found block
+          is fetch_is takes.1)
       by_task (task.Repair t) (task.Repair u) is takes =
-          subst (λ (x : RepairTask). IsRepair (setup_in w) x (advanced_with job (Fetched k o s (given_of found block))) (after w job)) (sym takes.0)
+          subst (λ (x : RepairTask). IsRepair (setup_in w) x
+          (advanced_with job (Fetched k o s (given_of found block))) (after w job)) (sym takes.0)
           (repair_after (setup_in w) job k o s (after w job) t u.blocks found block is takes.1)
       by_task (task.Get t) (task.Repair u) is takes = absurd takes
       by_task (task.Get t) (task.Put u) is takes = absurd takes
@@ -286,7 +399,8 @@ module _ (w : State) (job : Job) (k o s : ℕ) (next : next_action w job ≡ Som
   pub within : k < (setup_in w).n
   within = by_kind job.kind (next_allowed w job (Fetch k o s) next)
     where
-      by_kind : (kind : Kind) → Rattle.vault.proofs.Allowed.IsAllowed (setup_in w).n kind (Fetch k o s) → k < (setup_in w).n
+      by_kind : (kind : Kind) → Rattle.vault.proofs.Allowed.IsAllowed (setup_in w).n kind (Fetch k o s) →
+          k < (setup_in w).n
       by_kind (PutJob name bytes) h = absurd h
       by_kind (GetJob name) h = h
       by_kind (DropJob name) h = absurd h

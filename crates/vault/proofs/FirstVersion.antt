@@ -26,23 +26,29 @@ pub grammar-core : (c : CoreView) (w : State) → CoreIs c w → IsTrue (list_al
 grammar-core c w is = grammar-now 8 w is.sound is.first
 
 -- while the journal has its first version, each job that runs has the setup's profile
-pub plain-core : (c : CoreView) (w : State) (number : ℕ) (job : Job) → CoreIs c w → job_of w.jobs number ≡ Some job → IsPlainJob (setup_in w) job
+pub plain-core : (c : CoreView) (w : State) (number : ℕ) (job : Job) → CoreIs c w →
+    job_of w.jobs number ≡ Some job → IsPlainJob (setup_in w) job
 plain-core c w number job is runs = (is.sound.jobs number job runs).plain is.first
 
 -- ---- objects
 
 -- among files of one profile each number has it
-pub profile-among : (profile : ℕ) (pinned : List Pinned) (id : ℕ) → ((f : Pinned) → Contains pinned f → f.profile ≡ profile) → pinned_profile profile pinned id ≡ profile
+pub profile-among : (profile : ℕ) (pinned : List Pinned) (id : ℕ) →
+    ((f : Pinned) → Contains pinned f → f.profile ≡ profile) → pinned_profile profile pinned id ≡ profile
 profile-among profile [] id h = refl
 profile-among profile (f ∷ fs) id h = elim (cases_Bool (f.id == id)) [
   | inl t ↦ cond_true (f.id == id) f.profile (pinned_profile profile fs id) t ∙ h f (0, omega arith, refl)
-  | inr n ↦ cond_false (f.id == id) f.profile (pinned_profile profile fs id) n ∙ profile-among profile fs id (λ g c. h g (suc c.0, omega (arith, c.1), c.2))
+  | inr n ↦ cond_false (f.id == id) f.profile (pinned_profile profile fs id) n
+      ∙ profile-among profile fs id (λ g c. h g (suc c.0, omega (arith, c.1), c.2))
 ]
 
 -- the objects of a job are the setup's
-pub worked-plain : (w : State) (job : Job) (o : ℕ) → IsPlainJob (setup_in w) job → object_of (setup_in w) o ≡ worked_object w job o
-worked-plain w job o plain = ap (λ (p : ℕ). object_of (profiled (setup_in w) p) o) (sym (profile-among (setup_in w).profile job.pinned o plain.pinned))
+pub worked-plain : (w : State) (job : Job) (o : ℕ) → IsPlainJob (setup_in w) job →
+    object_of (setup_in w) o ≡ worked_object w job o
+worked-plain w job o plain = ap (λ (p : ℕ). object_of (profiled (setup_in w) p) o)
+    (sym (profile-among (setup_in w).profile job.pinned o plain.pinned))
 
 -- the object of such a job under the setup is the one that its put makes
-pub put-plain : (w : State) (job : Job) (o : ℕ) → IsPlainJob (setup_in w) job → object_of (setup_in w) o ≡ put_object w job o
+pub put-plain : (w : State) (job : Job) (o : ℕ) → IsPlainJob (setup_in w) job →
+    object_of (setup_in w) o ≡ put_object w job o
 put-plain w job o plain = ap (λ (p : ℕ). object_of (profiled (setup_in w) p) o) (sym plain.own)

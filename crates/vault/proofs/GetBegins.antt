@@ -38,14 +38,19 @@ use Rattle.vault.proofs.Puts.{name_cause}
 use Rattle.vault.proofs.StripeOrders.{get-order, get-opens, get-fetches, get-works}
 
 -- the table finds what is in effect
-pub found-in : (v : Desk) (d : Devices) (w : State) (name : List ℕ) → DeskStands v d w → find_file v.core.table.files name ≡ file_in w name
-found-in v d w name stands = ap (λ files. find_file files name) stands.core.table.files ∙ find-files_of w.records name
+pub found-in : (v : Desk) (d : Devices) (w : State) (name : List ℕ) → DeskStands v d w →
+    find_file v.core.table.files name ≡ file_in w name
+found-in v d w name stands =
+    ap (λ files. find_file files name) stands.core.table.files ∙ find-files_of w.records name
 
 -- a get of a name that is not in effect is refused for that cause
-pub no-such-name : (w : State) (name : List ℕ) → IsTrue (is_name name) → file_in w name ≡ None → first_refusal (name_cause name ∷ causes_of_name w (GetJob name) name) ≡ Some refusal.NoSuchName
-no-such-name w name named none = (let not_there = stored-file w name ∙ ap is_some none in rw (named, not_there) refl)
+pub no-such-name : (w : State) (name : List ℕ) → IsTrue (is_name name) → file_in w name ≡ None →
+    first_refusal (name_cause name ∷ causes_of_name w (GetJob name) name) ≡ Some refusal.NoSuchName
+no-such-name w name named none =
+    (let not_there = stored-file w name ∙ ap is_some none in rw (named, not_there) refl)
 
-module _ (v : Desk) (d : Devices) (w : State) (moment : ℕ) (stands : DeskStands v d w) (name : List ℕ) (file : File) (found : file_in w name ≡ Some file) where
+module _ (v : Desk) (d : Devices) (w : State) (moment : ℕ) (stands : DeskStands v d w) (name : List ℕ)
+    (file : File) (found : file_in w name ≡ Some file) where
   abbrev s : Setup
   s = setup_in w
 
@@ -58,24 +63,31 @@ module _ (v : Desk) (d : Devices) (w : State) (moment : ℕ) (stands : DeskStand
   abbrev total : ℕ
   total = pinned_stripes s (pinned_file w file)
 
-  rest-is : actions_left s (new_job w moment (GetJob name)) ≡ flat_map (open_actions s file.id) (upto total) ++ End ∷ []
+  rest-is : actions_left s (new_job w moment (GetJob name))
+      ≡ flat_map (open_actions s file.id) (upto total) ++ End ∷ []
   unfolding actions_of
   rest-is = rw found (append_assoc (flat_map (open_actions s file.id) (upto total)) [] (End ∷ []))
 
-  get-task : (bench : Bench) (t : GetTask) → IsBenchFor v file.id file.size bench → IsNewGet v.core.next_job bench t
+  get-task : (bench : Bench) (t : GetTask) → IsBenchFor v file.id file.size bench →
+      IsNewGet v.core.next_job bench t
       → IsGet s t (new_job w moment (GetJob name)) (actions_left s (new_job w moment (GetJob name)))
   get-task bench t for_file new =
       let limits = setup-providers 8 w stands.core.sound stands.core.is_open in
       let least = limits.0 in
       let is_bench = bench-is v s file.id file.size bench stands.shaped stands.setup for_file in
-      let same_length : bench.keys.file.length ≡ length (w.bytes file.id) = for_file.length_is ∙ sym size-is in
-      let profile : file.profile ≡ s.profile = file-first 8 w stands.core.sound stands.core.first name file found in
-      let same_stripes : stripes_on bench ≡ total = (λ i. stripes (is_bench i) (same_length i)) ∙ ap (λ (p : ℕ). stripes_of (profiled s p) (length (w.bytes file.id))) (sym profile) in
+      let same_length : bench.keys.file.length ≡ length (w.bytes file.id) = for_file.length_is
+      ∙ sym size-is in
+      let profile : file.profile ≡ s.profile =
+      file-first 8 w stands.core.sound stands.core.first name file found in
+      let same_stripes : stripes_on bench ≡ total = (λ i. stripes (is_bench i) (same_length i))
+      ∙ ap (λ (p : ℕ). stripes_of (profiled s p) (length (w.bytes file.id))) (sym profile) in
       let same_n : bench.keys.file.shape.n ≡ s.n = ap (λ (o : Object). o.shape.n) is_bench in
       let rest = actions_left s (new_job w moment (GetJob name)) in
-      let fetches_are : fetches_left rest ≡ total * s.n = ap fetches_left rest-is ∙ get-fetches s file.id total 0 in
+      let fetches_are : fetches_left rest ≡ total * s.n = ap fetches_left rest-is
+      ∙ get-fetches s file.id total 0 in
       let works_are : works_left rest ≡ total = ap works_left rest-is ∙ get-works s file.id total 0 in
-      let count_same : stripes_on bench * bench.keys.file.shape.n ≡ fetches_left rest = (λ i. same_stripes i * same_n i) ∙ sym fetches_are in
+      let count_same : stripes_on bench * bench.keys.file.shape.n ≡ fetches_left rest =
+      (λ i. same_stripes i * same_n i) ∙ sym fetches_are in
       let no_blocks : length t.fetched.blocks.present.items ≡ 0 = ap length new.present in
       let none : 0 ≡ 0 * t.fetched.blocks.size = omega arith in
       record {
@@ -87,20 +99,28 @@ module _ (v : Desk) (d : Devices) (w : State) (moment : ℕ) (stands : DeskStand
         bench = subst (IsBench s) (sym new.bench_is) is_bench;
         size = new.size_is ∙ ap (λ (b : Bench). b.keys.file.profile.size) (sym new.bench_is);
         job_is = new.job_is ∙ stands.core.next_job;
-        heard = ap (λ (fs : List Fetch). fetched_entries t.fetched.job fs (blocks_in t.fetched.blocks)) new.fetches;
+        heard = ap (λ (fs : List Fetch). fetched_entries t.fetched.job fs (blocks_in t.fetched.blocks))
+            new.fetches;
         fetches = ap length new.fetches ∙ sym no_blocks;
         symbols = ap length new.symbols ∙ none ∙ ap (λ (k : ℕ). k * t.fetched.blocks.size) (sym no_blocks);
         phase = Between;
-        order = subst (GoesOn s.n Between) (sym rest-is) (get-order s (omega (arith, least)) file.id (upto total));
+        order = subst (GoesOn s.n Between) (sym rest-is)
+            (get-order s (omega (arith, least)) file.id (upto total));
         in_work = tt;
         opened = 0;
-        opens = subst (OpensFrom file.id total 0) (sym rest-is) (get-opens s file.id total total 0 (omega arith));
+        opens = subst (OpensFrom file.id total 0) (sym rest-is)
+            (get-opens s file.id total total 0 (omega arith));
         bytes = new.bytes;
-        room_fetches = subst (λ (k : ℕ). vec_len t.fetched.fetches + k ≤ vec_capacity t.fetched.fetches) count_same new.room_fetches;
-        room_present = subst (λ (k : ℕ). vec_len t.fetched.blocks.present + k ≤ vec_capacity t.fetched.blocks.present) count_same new.room_present;
-        room_symbols = subst (λ (k : ℕ). vec_len t.fetched.blocks.symbols + k * t.fetched.blocks.size ≤ vec_capacity t.fetched.blocks.symbols) count_same new.room_symbols;
+        room_fetches = subst (λ (k : ℕ). vec_len t.fetched.fetches + k ≤ vec_capacity t.fetched.fetches)
+            count_same new.room_fetches;
+        room_present = subst (λ (k : ℕ). vec_len t.fetched.blocks.present + k ≤ vec_capacity
+            t.fetched.blocks.present) count_same new.room_present;
+        room_symbols = subst (λ (k : ℕ). vec_len
+            t.fetched.blocks.symbols + k * t.fetched.blocks.size ≤ vec_capacity t.fetched.blocks.symbols)
+            count_same new.room_symbols;
         room_bytes = subst (λ (k : ℕ). vec_len t.bytes + k ≤ vec_capacity t.bytes)
-            (λ i. (same_stripes ∙ sym works_are) i * (16 * stripe_symbols (bench_object (sym new.bench_is i)))) new.room_bytes;
+            (λ i. (same_stripes ∙ sym works_are)
+            i * (16 * stripe_symbols (bench_object (sym new.bench_is i)))) new.room_bytes;
       }
 
 -- the lesser of two numbers is the first where it is not above the second
@@ -122,7 +142,8 @@ pub get-begun : (v new : Desk) (name named : List ℕ) (file : File) (bench : Be
 get-begun v new name named file bench t result size number same spelled some size_is for_size number_is is_new admits w d moment stands =
     let found = sym (found-in v d w name stands) ∙ some in
     let fits = size-fits v d w moment stands name file found in
-    let for_file = subst (λ (k : ℕ). IsBenchFor v file.id k bench) (size_is ∙ least file.size (2 ^ 22) fits) for_size in
+    let for_file = subst (λ (k : ℕ). IsBenchFor v file.id k bench)
+    (size_is ∙ least file.size (2 ^ 22) fits) for_size in
     let next = subst (λ (k : ℕ). IsNewGet k bench t) number_is is_new in
     admits w d moment (GetJob name) stands (λ i. ToGet (same i)) spelled
     (λ accepted. get-task v d w moment stands name file found bench t for_file next)

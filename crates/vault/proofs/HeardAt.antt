@@ -13,25 +13,31 @@ use Rattle.vault.specs.Heard.{fetched_entries, answered_entries}
 -- ---- how many
 
 -- there are as many entries as fetches with a block
-pub length-fetched_entries : (job : ℕ) (fs : List Fetch) (blocks : List (Option (List ℕ))) → length (fetched_entries job fs blocks) ≡ min (length fs) (length blocks)
+pub length-fetched_entries : (job : ℕ) (fs : List Fetch) (blocks : List (Option (List ℕ))) →
+    length (fetched_entries job fs blocks) ≡ min (length fs) (length blocks)
 length-fetched_entries job [] blocks = omega arith
 length-fetched_entries job (f ∷ fs) [] = omega arith
-length-fetched_entries job (f ∷ fs) (block ∷ blocks) = let e = length-fetched_entries job fs blocks in omega (arith, e)
+length-fetched_entries job (f ∷ fs) (block ∷ blocks) =
+    let e = length-fetched_entries job fs blocks in omega (arith, e)
 
 -- there are as many entries as asks with an answer
-pub length-answered_entries : (job : ℕ) (asks : List Ask) (symbols : List (Option ℕ)) → length (answered_entries job asks symbols) ≡ min (length asks) (length symbols)
+pub length-answered_entries : (job : ℕ) (asks : List Ask) (symbols : List (Option ℕ)) →
+    length (answered_entries job asks symbols) ≡ min (length asks) (length symbols)
 length-answered_entries job [] symbols = omega arith
 length-answered_entries job (a ∷ asks) [] = omega arith
-length-answered_entries job (a ∷ asks) (symbol ∷ symbols) = let e = length-answered_entries job asks symbols in omega (arith, e)
+length-answered_entries job (a ∷ asks) (symbol ∷ symbols) =
+    let e = length-answered_entries job asks symbols in omega (arith, e)
 
 -- ---- the entry at a place
 
 abbrev pub fetched_at : ℕ → Option Fetch → Option (Option (List ℕ)) → Option Entry
-fetched_at job (Some f) (Some block) = Some (record { job = job; given = Fetched f.provider f.object f.stripe block })
+fetched_at job (Some f) (Some block) =
+    Some (record { job = job; given = Fetched f.provider f.object f.stripe block })
 fetched_at job f block = None
 
 abbrev pub answered_at : ℕ → Option Ask → Option (Option ℕ) → Option Entry
-answered_at job (Some a) (Some symbol) = Some (record { job = job; given = Answered a.provider a.object a.round symbol })
+answered_at job (Some a) (Some symbol) =
+    Some (record { job = job; given = Answered a.provider a.object a.round symbol })
 answered_at job a symbol = None
 
 -- a fetch with no block has no entry
@@ -45,28 +51,35 @@ answered_at-none job None = refl
 answered_at-none job (Some a) = refl
 
 -- the entry of a place is that of the fetch and the block of this place
-pub slice_get-fetched_entries : (job : ℕ) (fs : List Fetch) (blocks : List (Option (List ℕ))) (k : ℕ) → slice_get (fetched_entries job fs blocks) k ≡ fetched_at job (slice_get fs k) (slice_get blocks k)
+pub slice_get-fetched_entries : (job : ℕ) (fs : List Fetch) (blocks : List (Option (List ℕ))) (k : ℕ) →
+    slice_get (fetched_entries job fs blocks) k ≡ fetched_at job (slice_get fs k) (slice_get blocks k)
 slice_get-fetched_entries job [] blocks k = refl
 slice_get-fetched_entries job (f ∷ fs) [] k = sym (fetched_at-none job (slice_get (f ∷ fs) k))
 slice_get-fetched_entries job (f ∷ fs) (block ∷ blocks) zero = refl
 slice_get-fetched_entries job (f ∷ fs) (block ∷ blocks) (suc k) = slice_get-fetched_entries job fs blocks k
 
 -- the entry of a place is that of the ask and the answer of this place
-pub slice_get-answered_entries : (job : ℕ) (asks : List Ask) (symbols : List (Option ℕ)) (k : ℕ) → slice_get (answered_entries job asks symbols) k ≡ answered_at job (slice_get asks k) (slice_get symbols k)
+pub slice_get-answered_entries : (job : ℕ) (asks : List Ask) (symbols : List (Option ℕ)) (k : ℕ) →
+    slice_get (answered_entries job asks symbols) k ≡ answered_at job (slice_get asks k) (slice_get symbols k)
 slice_get-answered_entries job [] symbols k = refl
 slice_get-answered_entries job (a ∷ asks) [] k = sym (answered_at-none job (slice_get (a ∷ asks) k))
 slice_get-answered_entries job (a ∷ asks) (symbol ∷ symbols) zero = refl
-slice_get-answered_entries job (a ∷ asks) (symbol ∷ symbols) (suc k) = slice_get-answered_entries job asks symbols k
+slice_get-answered_entries job (a ∷ asks) (symbol ∷ symbols) (suc k) =
+    slice_get-answered_entries job asks symbols k
 
 -- ---- the block at a place
 
 -- the block of a place is what the symbols have there, if it is flagged as present
-pub slice_get-present_blocks : (size : ℕ) (flags : List Bool) (symbols : List ℕ) (k : ℕ) → slice_get (present_blocks size flags symbols) k
-    ≡ option_map (λ (flag : Bool). if flag then Some (take size (drop (k * size) symbols)) else None) (slice_get flags k)
+pub slice_get-present_blocks : (size : ℕ) (flags : List Bool) (symbols : List ℕ) (k : ℕ) →
+    slice_get (present_blocks size flags symbols) k
+    ≡ option_map (λ (flag : Bool). if flag then Some (take size (drop (k * size) symbols)) else None)
+    (slice_get flags k)
 slice_get-present_blocks size [] symbols k = refl
 slice_get-present_blocks size (flag ∷ flags) symbols zero =
-    (let e : 0 ≡ 0 * size = omega arith in ap (λ (n : ℕ). Some (if flag then Some (take size (drop n symbols)) else None)) e)
+    (let e : 0 ≡ 0 * size = omega arith in
+    ap (λ (n : ℕ). Some (if flag then Some (take size (drop n symbols)) else None)) e)
 slice_get-present_blocks size (flag ∷ flags) symbols (suc k) =
     let e : size + k * size ≡ suc k * size = grind arith in
     slice_get-present_blocks size flags (drop size symbols) k
-    ∙ ap (λ (rest : List ℕ). option_map (λ (flag : Bool). if flag then Some (take size rest) else None) (slice_get flags k)) (drop-drop (k * size) size symbols ∙ ap (λ (n : ℕ). drop n symbols) e)
+    ∙ ap (λ (rest : List ℕ). option_map (λ (flag : Bool). if flag then Some (take size rest) else None)
+    (slice_get flags k)) (drop-drop (k * size) size symbols ∙ ap (λ (n : ℕ). drop n symbols) e)

@@ -49,47 +49,62 @@ use Rattle.vault.proofs.Ways.{happens_by, shaped_on, working}
 -- ---- the state after
 
 -- what a move leaves: the disk and its count, and the append in flight
-pub record IsLeft (v' : Desk) (w new : State) (holds : Option Cells) (count : ℕ) (ps : List Provider) : Type 0 where
+pub record IsLeft (v' : Desk) (w new : State) (holds : Option Cells) (count : ℕ)
+    (ps : List Provider) : Type 0 where
   pub setup : setup_in new ≡ setup_in w
   pub handed : AreHanded ps new
   pub faults : new.disk_faults ≡ count
   pub images : FirstStands holds new
   pub flight : new.is_barred ≡ false → IsFlight v'.flight new.append new.records holds
 
-stands_left : (v v' v2 : Desk) (w new : State) (holds holds' : Option Cells) (faults faults' : ℕ) (ps : List Provider) → DeskStands v (devices holds faults ps) w → IsLeft v' w new holds' faults' ps
-    → CoreIs v2.core new → KeepsAll v v2 → v2.flight ≡ v'.flight → AreRunning (setup_in w) v2.jobs.items new.jobs → DeskStands v2 (devices holds' faults' ps) new
+stands_left : (v v' v2 : Desk) (w new : State) (holds holds' : Option Cells) (faults faults' : ℕ)
+    (ps : List Provider) → DeskStands v (devices holds faults ps) w → IsLeft v' w new holds' faults' ps
+    → CoreIs v2.core new → KeepsAll v v2 → v2.flight ≡ v'.flight →
+    AreRunning (setup_in w) v2.jobs.items new.jobs → DeskStands v2 (devices holds' faults' ps) new
 stands_left v v' v2 w new holds holds' faults faults' ps stands left core keeps flight jobs = record {
-  devices = record { images = images-first holds' new (whole-core v2.core new core) left.images; faults = left.faults; providers = left.handed };
+  devices = record {
+    images = images-first holds' new (whole-core v2.core new core) left.images;
+    faults = left.faults;
+    providers = left.handed;
+  };
   core = core;
   setup = left.setup ∙ stands.setup ∙ sym (λ i. with_master (keeps.setup i) (keeps.master i).0);
   shaped = shaped_on v v2 keeps stands.shaped;
   jobs = subst (λ (s : Setup). AreRunning s v2.jobs.items new.jobs) (sym left.setup) jobs;
-  flight = λ free. subst (λ (f : Option Flight). IsFlight f new.append new.records holds') (sym flight) (left.flight free);
+  flight = λ free. subst (λ (f : Option Flight). IsFlight f new.append new.records holds') (sym flight)
+      (left.flight free);
 }
 
 -- to set what is there changes nothing
 pub set_same : {X : Type 0} (xs : List X) (p : ℕ) (x : X) → slice_get xs p ≡ Some x → slice_set xs p x ≡ xs
 set_same [] p x is = refl
-set_same (y ∷ ys) zero x is = (let e : y ≡ x = (let f : Some y ≡ Some x = is in cc) in ap (λ (z : _). z ∷ ys) (sym e))
+set_same (y ∷ ys) zero x is =
+    (let e : y ≡ x = (let f : Some y ≡ Some x = is in cc) in ap (λ (z : _). z ∷ ys) (sym e))
 set_same (y ∷ ys) (suc p) x is = ap (λ (l : List _). y ∷ l) (set_same ys p x is)
 
 -- a job goes on behind a move
-pub moves_on : (v v' : Desk) (w new : State) (holds holds' : Option Cells) (faults faults' moment number : ℕ) (ps : List Provider) (action : Action) (subject : ℕ) (older : List ℕ)
-    → DeskStands v (devices holds faults ps) w → (next : ComesNext w number action None) → IsMove action → (4 ≤ next.job.place → subject ≡ next.job.subject) → Acts w next.job action More new
-    → new.jobs ≡ with_job w.jobs (moved_on next.job subject older) → v'.jobs.items ≡ v.jobs.items → IsLeft v' w new holds' faults' ps
+pub moves_on : (v v' : Desk) (w new : State) (holds holds' : Option Cells) (faults faults' moment number : ℕ)
+    (ps : List Provider) (action : Action) (subject : ℕ) (older : List ℕ)
+    → DeskStands v (devices holds faults ps) w → (next : ComesNext w number action None) → IsMove action →
+    (4 ≤ next.job.place → subject ≡ next.job.subject) → Acts w next.job action More new
+    → new.jobs ≡ with_job w.jobs (moved_on next.job subject older) → v'.jobs.items ≡ v.jobs.items →
+    IsLeft v' w new holds' faults' ps
     → ((a : Append) → new.append ≡ Some a → a.job ≡ number → entry_in v.core number ≡ Some a.entry)
-    → IsSameBeyond new (devices holds faults ps) (devices holds' faults' ps) → KeepsAll v v' → IsFed v.core number reply.Done v'.core
+    → IsSameBeyond new (devices holds faults ps) (devices holds' faults' ps) → KeepsAll v v' →
+    IsFed v.core number reply.Done v'.core
     → DeskMakesStep w moment number turn.More v' (devices holds faults ps) (devices holds' faults' ps)
 moves_on v v' w new holds holds' faults faults' moment number ps action subject older stands next move kept acts jobs same left entry beyond keeps fed =
     let f = working v (devices holds faults ps) w number action stands next in
     let j = moved_on next.job subject older in
     let running = move_runs w next.job action subject older f.running move next.comes kept f.is in
-    let happens = happens_by w new moment number action More stands.core.is_open stands.core.none_alone next acts in
+    let happens = happens_by w new moment number action More stands.core.is_open stands.core.none_alone next
+    acts in
     let mine : j.number ≡ number = number_of w.jobs number next.job next.runs in
     let core = fed w new More moment stands.core happens (record { tells = tt; entry = entry }) in
     let are : AreRunning (setup_in w) v'.jobs.items new.jobs =
     subst (λ (js : List Job). AreRunning (setup_in w) v'.jobs.items js) (sym jobs)
-    (subst (λ (rs : List Running). AreRunning (setup_in w) rs (with_job w.jobs j)) (set_same v.jobs.items f.place f.running f.there ∙ sym same)
+    (subst (λ (rs : List Running). AreRunning (setup_in w) rs (with_job w.jobs j))
+    (set_same v.jobs.items f.place f.running f.there ∙ sym same)
     (put_back (setup_in w) number f.running j running mine v.jobs.items w.jobs f.place stands.jobs f.at)) in
     record {
       state = new;
@@ -101,32 +116,54 @@ moves_on v v' w new holds holds' faults faults' moment number ps action subject 
     }
 
 -- a job ends by a move
-pub moves_end : (v v1 v2 : Desk) (w new : State) (holds holds' : Option Cells) (faults faults' moment number : ℕ) (ps : List Provider) (action : Action) (reply : Reply) (answer : Answer) (t : Turn)
-    → DeskStands v (devices holds faults ps) w → (next : ComesNext w number action None) → Acts w next.job action (Ended (machine_answer answer)) new → new.jobs ≡ without_job w.jobs number
-    → v1.core ≡ v.core → v1.jobs.items ≡ v.jobs.items → KeepsAll v v1 → IsStopped v1 number reply answer t v2 → Tells number reply (Ended (machine_answer answer)) new
+pub moves_end : (v v1 v2 : Desk) (w new : State) (holds holds' : Option Cells)
+    (faults faults' moment number : ℕ) (ps : List Provider) (action : Action) (reply : Reply)
+    (answer : Answer) (t : Turn)
+    → DeskStands v (devices holds faults ps) w → (next : ComesNext w number action None) →
+    Acts w next.job action (Ended (machine_answer answer)) new → new.jobs ≡ without_job w.jobs number
+    → v1.core ≡ v.core → v1.jobs.items ≡ v.jobs.items → KeepsAll v v1 →
+    IsStopped v1 number reply answer t v2 → Tells number reply (Ended (machine_answer answer)) new
     → IsLeft v1 w new holds' faults' ps → new.append ≡ None
-    → (Ended (machine_answer answer) ≢ Ended answers.DiskFault → IsSameBeyond new (devices holds faults ps) (devices holds' faults' ps))
-    → (Ended (machine_answer answer) ≡ Ended answers.DiskFault → IsSamePast w number (devices holds faults ps) (devices holds' faults' ps))
+    → (Ended (machine_answer answer) ≢ Ended answers.DiskFault →
+    IsSameBeyond new (devices holds faults ps) (devices holds' faults' ps))
+    → (Ended (machine_answer answer) ≡ Ended answers.DiskFault →
+    IsSamePast w number (devices holds faults ps) (devices holds' faults' ps))
     → DeskMakesStep w moment number t v2 (devices holds faults ps) (devices holds' faults' ps)
 moves_end v v1 v2 w new holds holds' faults faults' moment number ps action reply answer t stands next acts jobs same_core same_jobs keeps stopped tells left none beyond torn =
     let f = working v (devices holds faults ps) w number action stands next in
     let at : place_in v.jobs.items number ≡ Some f.place = place_is v.jobs.items number ∙ f.at in
-    let aside : IsAside v v1 f.place f.running f.running = record { core = same_core; jobs = same_jobs ∙ sym (set_same v.jobs.items f.place f.running f.there); number = refl; heard = refl; keeps = keeps } in
-    let gone = is_left v v1 (devices holds faults ps) w number f.place action f.running f.running stands next at f.there aside v2 reply answer t stopped in
-    let happens = happens_by w new moment number action (Ended (machine_answer answer)) stands.core.is_open stands.core.none_alone next acts in
-    let core = gone.fed w new (Ended (machine_answer answer)) moment stands.core happens (record { tells = tells; entry = λ a is mine. (let e : None ≡ Some a = sym none ∙ is in absurd (none_some a e)) }) in
-    let are : AreRunning (setup_in w) v2.jobs.items new.jobs = subst (λ (js : List Job). AreRunning (setup_in w) v2.jobs.items js) (sym jobs) gone.jobs in
+    let aside : IsAside v v1 f.place f.running f.running =
+    record {
+      core = same_core;
+      jobs = same_jobs ∙ sym (set_same v.jobs.items f.place f.running f.there);
+      number = refl;
+      heard = refl;
+      keeps = keeps;
+    } in
+    let gone = is_left v v1 (devices holds faults ps) w number f.place action f.running f.running stands
+    next at f.there aside v2 reply answer t stopped in
+    let happens = happens_by w new moment number action
+    (Ended (machine_answer answer)) stands.core.is_open stands.core.none_alone next acts in
+    let core = gone.fed w new (Ended (machine_answer answer)) moment stands.core happens
+    (record {
+      tells = tells;
+      entry = λ a is mine. (let e : None ≡ Some a = sym none ∙ is in absurd (none_some a e));
+    }) in
+    let are : AreRunning (setup_in w) v2.jobs.items new.jobs =
+    subst (λ (js : List Job). AreRunning (setup_in w) v2.jobs.items js) (sym jobs) gone.jobs in
     let keeps2 : KeepsAll v v2 = record {
       setup = stopped.keeps.setup ∙ keeps.setup;
       master = stopped.keeps.master ∙ keeps.master;
       shape = stopped.keeps.shape ∙ keeps.shape;
       profile = stopped.keeps.profile ∙ keeps.profile;
     } in
-    subst (λ (x : Turn). DeskMakesStep w moment number x v2 (devices holds faults ps) (devices holds' faults' ps)) (sym gone.turn_is)
+    subst (λ (x : Turn). DeskMakesStep w moment number x v2 (devices holds faults ps)
+    (devices holds' faults' ps)) (sym gone.turn_is)
     (record {
       state = new;
       happens = happens;
-      stands = stands_left v v1 v2 w new holds holds' faults faults' ps stands left core keeps2 stopped.flight are;
+      stands = stands_left v v1 v2 w new holds holds' faults faults' ps stands left core keeps2 stopped.flight
+          are;
       heard = gone.heard_is;
       beyond = beyond;
       torn = torn;
@@ -138,7 +175,8 @@ moves_end v v1 v2 w new holds holds' faults faults' moment number ps action repl
 -- ---- texts
 
 -- the text with the record, by what an append writes
-past : (rs : List Record) (r : Record) (a : AppendValue) (holds : Option Cells) → Appends rs r a holds → gate_of a + 1 + length (body_of a) ≡ text_size (r ∷ rs)
+past : (rs : List Record) (r : Record) (a : AppendValue) (holds : Option Cells) → Appends rs r a holds →
+    gate_of a + 1 + length (body_of a) ≡ text_size (r ∷ rs)
 past rs r a holds appends =
     let size = length-before_gate rs appends.records in
     let body : length (body_of a) ≡ length (spelling r ++ 0 ∷ []) = ap length appends.body in
@@ -148,8 +186,11 @@ past rs r a holds appends =
     omega (arith, size, body, gate, long, spelled)
 
 -- what did not change behind the bytes of an append did not behind the text with its record
-pub beyond_of : (rs : List Record) (r : Record) (a : AppendValue) (holds holds' : Option Cells) → Appends rs r a holds → Goes (SameFrom (gate_of a + 1 + length (body_of a))) holds holds' → Goes (SameFrom (text_size (r ∷ rs))) holds holds'
-beyond_of rs r a holds holds' appends = subst (λ (n : ℕ). Goes (SameFrom n) holds holds') (past rs r a holds appends)
+pub beyond_of : (rs : List Record) (r : Record) (a : AppendValue) (holds holds' : Option Cells) →
+    Appends rs r a holds → Goes (SameFrom (gate_of a + 1 + length (body_of a))) holds holds' →
+    Goes (SameFrom (text_size (r ∷ rs))) holds holds'
+beyond_of rs r a holds holds' appends =
+    subst (λ (n : ℕ). Goes (SameFrom n) holds holds') (past rs r a holds appends)
 
 -- ---- images
 
@@ -159,18 +200,26 @@ all_images None new all = tt
 all_images (Some cells) new all = λ image is. inl (inl (all image is))
 
 -- images that stand for these records, or for them and the one in doubt, do so too
-pub doubted_images : (told : Option Cells) (new : State) (entry : Record) (d : Doubt) → new.doubt ≡ Some d → d.entry ≡ entry → MayStandFor new.records entry told → FirstStands told new
+pub doubted_images : (told : Option Cells) (new : State) (entry : Record) (d : Doubt) → new.doubt ≡ Some d →
+    d.entry ≡ entry → MayStandFor new.records entry told → FirstStands told new
 doubted_images None new entry d doubt same may = tt
 doubted_images (Some cells) new entry d doubt same may = λ image is. elim (may image is) [
   | inl s ↦ inl (inl s)
-  | inr s ↦ inr (record { doubt = d; in_doubt = doubt; stands = subst (λ (r : Record). Rattle.record_defs.specs.Journal.StandsFor image (r ∷ new.records)) (sym same) s })
+  | inr s ↦ inr (record {
+    doubt = d;
+    in_doubt = doubt;
+    stands = subst (λ (r : Record). Rattle.record_defs.specs.Journal.StandsFor image (r ∷ new.records))
+        (sym same) s;
+  })
 ]
 
 -- ---- the number of a job
 
 -- behind its first append, a job draws no other number
-pub subject_kept : (w : State) (job : Job) (kind : Kind) → 4 ≤ job.place → subject_drawn w job kind ≡ job.subject
-subject_kept w job (PutJob name bytes) many = cond_false (nat_lt job.place 4) (Rattle.record_defs.specs.Table.next_id w.records) job.subject (few job.place many)
+pub subject_kept : (w : State) (job : Job) (kind : Kind) → 4 ≤ job.place →
+    subject_drawn w job kind ≡ job.subject
+subject_kept w job (PutJob name bytes) many = cond_false (nat_lt job.place 4)
+    (Rattle.record_defs.specs.Table.next_id w.records) job.subject (few job.place many)
   where
     few : (n : ℕ) → 4 ≤ n → nat_lt n 4 ≡ false
     few n many = elim (cases_Bool (nat_lt n 4)) [
@@ -179,7 +228,8 @@ subject_kept w job (PutJob name bytes) many = cond_false (nat_lt job.place 4) (R
     ]
 subject_kept w job (GetJob name) many = refl
 subject_kept w job (DropJob name) many = refl
-subject_kept w job AuditJob many = cond_false (nat_lt job.place 4) (Rattle.record_defs.specs.Table.next_audit w.records) job.subject (few job.place many)
+subject_kept w job AuditJob many = cond_false (nat_lt job.place 4)
+    (Rattle.record_defs.specs.Table.next_audit w.records) job.subject (few job.place many)
   where
     few : (n : ℕ) → 4 ≤ n → nat_lt n 4 ≡ false
     few n many = elim (cases_Bool (nat_lt n 4)) [
@@ -192,6 +242,7 @@ subject_kept w job UpgradeJob many = refl
 -- ---- the append in flight
 
 -- behind two moves of an append, the gate before it is still closed
-pub closed_after : (told : Option Cells) (front body : List ℕ) → IfSome told (IsAfterMoves 2 front body) → IfSome told (IsClosed front)
+pub closed_after : (told : Option Cells) (front body : List ℕ) → IfSome told (IsAfterMoves 2 front body) →
+    IfSome told (IsClosed front)
 closed_after None front body is = tt
 closed_after (Some cells) front body is = (is.0, Rattle.device_defs.specs.Cells.firm body ++ is.1, is.2, is.3)

@@ -32,12 +32,15 @@ pub record IsAppendOf (v : Desk) (n : ℕ) (entry : Record) (a : Append) : Type 
   pub body : body_of a ≡ spelling entry ++ 0 ∷ []
 
 -- a move of an append makes of the cells what the core tells of it
-pub cells_on : (v : Desk) (n : ℕ) (entry : Record) (a : Append) (old new : Option Cells) → IsAppendOf v n entry a → new ≡ option_map (cells_after (moves_of a) (gate_of a) (body_of a)) old
+pub cells_on : (v : Desk) (n : ℕ) (entry : Record) (a : Append) (old new : Option Cells) →
+    IsAppendOf v n entry a → new ≡ option_map (cells_after (moves_of a) (gate_of a) (body_of a)) old
     → new ≡ option_map (cells_after n (v.core.end - 1) (spelling entry ++ 0 ∷ [])) old
-cells_on v n entry a old new of is = is ∙ (λ i. option_map (cells_after (of.moves i) (of.gate i) (of.body i)) old)
+cells_on v n entry a old new of is =
+    is ∙ (λ i. option_map (cells_after (of.moves i) (of.gate i) (of.body i)) old)
 
 -- a move that failed leaves of the cells what the core tells of it
-pub cells_torn : (v : Desk) (n : ℕ) (entry : Record) (a : Append) (old new : Option Cells) → IsAppendOf v n entry a → Goes (MayTear (moves_of a) (gate_of a) (body_of a)) old new
+pub cells_torn : (v : Desk) (n : ℕ) (entry : Record) (a : Append) (old new : Option Cells) →
+    IsAppendOf v n entry a → Goes (MayTear (moves_of a) (gate_of a) (body_of a)) old new
     → Goes (MayTear n (v.core.end - 1) (spelling entry ++ 0 ∷ [])) old new
 cells_torn v n entry a old new of is =
     subst (λ (m : ℕ). Goes (MayTear m (v.core.end - 1) (spelling entry ++ 0 ∷ [])) old new) of.moves
@@ -45,13 +48,19 @@ cells_torn v n entry a old new of is =
     (subst (λ (b : List ℕ). Goes (MayTear (moves_of a) (gate_of a) b) old new) of.body is))
 
 -- where a job was ended
-pub cells_stopped : (v1 v2 : Desk) (job n gate : ℕ) (body : List ℕ) (reply : Reply) (answer : Answer) (t : Turn) (old new : Option Cells) → IsStopped v1 job reply answer t v2 → EndsCells n gate body answer old new
+pub cells_stopped : (v1 v2 : Desk) (job n gate : ℕ) (body : List ℕ) (reply : Reply) (answer : Answer)
+    (t : Turn) (old new : Option Cells) → IsStopped v1 job reply answer t v2 →
+    EndsCells n gate body answer old new
     → MovesCells n gate body t old new
-cells_stopped v1 v2 job n gate body reply answer t old new stopped ends = subst (λ (x : Turn). MovesCells n gate body x old new) (sym stopped.turn_is) ends
+cells_stopped v1 v2 job n gate body reply answer t old new stopped ends =
+    subst (λ (x : Turn). MovesCells n gate body x old new) (sym stopped.turn_is) ends
 
 -- the append at a move of a job
-pub append_of : (v : Desk) (w : State) (holds : Option Cells) (faults number : ℕ) (ps : List Provider) → DeskStands v (devices holds faults ps) w → (action : Action) → Comes v.core number action
-    → (f : Flight) → IsMover v w holds number action f → (entry : Record) → entry_in v.core number ≡ Some entry → IsAppendOf v (moves_before_next (next_in v.core number)) entry f.append
+pub append_of : (v : Desk) (w : State) (holds : Option Cells) (faults number : ℕ) (ps : List Provider) →
+    DeskStands v (devices holds faults ps) w → (action : Action) → Comes v.core number action
+    → (f : Flight) → IsMover v w holds number action f → (entry : Record) →
+    entry_in v.core number ≡ Some entry →
+    IsAppendOf v (moves_before_next (next_in v.core number)) entry f.append
 append_of v w holds faults number ps stands action comes f m entry given =
     let same : m.entry ≡ entry = (let e : Some m.entry ≡ Some entry = sym m.given ∙ given in cc) in
     let size = length-before_gate w.records (grammar-core v.core w stands.core) in

@@ -37,7 +37,8 @@ moved_on job subject older = record job { place = job.place + 1; subject = subje
 
 -- ---- the order of what is left
 
-goes_on_move : (n : ℕ) (phase : Phase) (a : Action) (tail : List Action) → IsMove a → GoesOn n phase (a ∷ tail) → GoesOn n phase tail
+goes_on_move : (n : ℕ) (phase : Phase) (a : Action) (tail : List Action) → IsMove a →
+    GoesOn n phase (a ∷ tail) → GoesOn n phase tail
 goes_on_move n Between WriteBody tail move order = order
 goes_on_move n Between SyncBody tail move order = order
 goes_on_move n Between WriteGate tail move order = order
@@ -57,7 +58,8 @@ goes_on_move n phase (Work o s) tail move order = absurd move
 goes_on_move n phase (Remove j o) tail move order = absurd move
 goes_on_move n phase End tail move order = absurd move
 
-asks_on_move : (n : ℕ) (xs : List Round) (c : ℕ) (a : Action) (tail : List Action) → IsMove a → AsksOn n xs c (a ∷ tail) → AsksOn n xs c tail
+asks_on_move : (n : ℕ) (xs : List Round) (c : ℕ) (a : Action) (tail : List Action) → IsMove a →
+    AsksOn n xs c (a ∷ tail) → AsksOn n xs c tail
 asks_on_move n [] c WriteBody tail move order = order
 asks_on_move n (x ∷ xs) c WriteBody tail move order = order
 asks_on_move n [] c SyncBody tail move order = order
@@ -112,12 +114,15 @@ no_get n name End move h = move
 -- ---- the sums of an audit
 
 -- rounds are judged by what the job was given and by its number alone
-judges_same : (s : Setup) (job : Job) (place subject : ℕ) (older : List ℕ) (xs : List Round) (a b : Sums) → subject ≡ job.subject → JudgesEach s job xs a b
+judges_same : (s : Setup) (job : Job) (place subject : ℕ) (older : List ℕ) (xs : List Round) (a b : Sums) →
+    subject ≡ job.subject → JudgesEach s job xs a b
     → JudgesEach s (record job { place = place; subject = subject; older = older }) xs a b
 judges_same s job place subject older [] a b same judges = judges
 judges_same s job place subject older (x ∷ xs) a b same judges = (
   judges.0,
-  subst (λ (m : ℕ). Rattle.machine_defs.specs.Audits.JudgesRound s (record job { place = place; subject = m; older = older }) x.file x.number a judges.0) (sym same) judges.1,
+  subst (λ (m : ℕ). Rattle.machine_defs.specs.Audits.JudgesRound s
+      (record job { place = place; subject = m; older = older }) x.file x.number a judges.0)
+      (sym same) judges.1,
   judges_same s job place subject older xs judges.0 b same judges.2,
 )
 
@@ -129,25 +134,34 @@ few_or_not n = elim (cases_Bool (nat_lt n 4)) [
 
 -- ---- the job
 
-by_audit : (s : Setup) (job : Job) (place subject : ℕ) (older : List ℕ) → job.kind ≡ AuditJob → actions_of s (record job { place = place; subject = subject; older = older }) ≡ actions_of s job
+by_audit : (s : Setup) (job : Job) (place subject : ℕ) (older : List ℕ) → job.kind ≡ AuditJob →
+    actions_of s (record job { place = place; subject = subject; older = older }) ≡ actions_of s job
 unfolding actions_of
 by_audit s job place subject older is =
-    subst (λ (k : Kind). actions_by s (record job { place = place; subject = subject; older = older }) k ≡ actions_by s job k) (sym is) refl
+    subst (λ (k : Kind). actions_by s (record job { place = place; subject = subject; older = older }) k
+    ≡ actions_by s job k) (sym is) refl
 
-by_repair : (s : Setup) (job : Job) (place subject : ℕ) (older : List ℕ) → job.kind ≡ RepairJob → actions_of s (record job { place = place; subject = subject; older = older }) ≡ actions_of s job
+by_repair : (s : Setup) (job : Job) (place subject : ℕ) (older : List ℕ) → job.kind ≡ RepairJob →
+    actions_of s (record job { place = place; subject = subject; older = older }) ≡ actions_of s job
 unfolding actions_of
 by_repair s job place subject older is =
-    subst (λ (k : Kind). actions_by s (record job { place = place; subject = subject; older = older }) k ≡ actions_by s job k) (sym is) refl
+    subst (λ (k : Kind). actions_by s (record job { place = place; subject = subject; older = older }) k
+    ≡ actions_by s job k) (sym is) refl
 
 -- a job works with the same after a move
-pub move_runs : (w : State) (job : Job) (a : Action) (subject : ℕ) (older : List ℕ) (r : Running) → IsMove a → next_action w job ≡ Some a → (4 ≤ job.place → subject ≡ job.subject)
+pub move_runs : (w : State) (job : Job) (a : Action) (subject : ℕ) (older : List ℕ) (r : Running) → IsMove a →
+    next_action w job ≡ Some a → (4 ≤ job.place → subject ≡ job.subject)
     → IsRunning (setup_in w) r job → IsRunning (setup_in w) r (moved_on job subject older)
-move_runs w job a subject older r move next kept running = record { number = running.number; task = by_task r.task running.task }
+move_runs w job a subject older r move next kept running =
+    record { number = running.number; task = by_task r.task running.task }
   where
     left_is : actions_left (setup_in w) job ≡ a ∷ drop (job.place + 1) (actions_of (setup_in w) job)
     left_is = next-left w job a next (not_end a move)
 
-    audited : (t : AuditTask) → IsAudit (setup_in w) t job (a ∷ drop (job.place + 1) (actions_of (setup_in w) job)) → IsAudit (setup_in w) t (moved_on job subject older) (drop (job.place + 1) (actions_of (setup_in w) job))
+    audited : (t : AuditTask) →
+        IsAudit (setup_in w) t job (a ∷ drop (job.place + 1) (actions_of (setup_in w) job)) →
+        IsAudit (setup_in w) t (moved_on job subject older)
+        (drop (job.place + 1) (actions_of (setup_in w) job))
     audited t is =
         let tail = drop (job.place + 1) (actions_of (setup_in w) job) in
         let count = asks_are a tail move in
@@ -169,21 +183,28 @@ move_runs w job a subject older r move next kept running = record { number = run
           room_symbols = omega (arith, is.room_symbols, count);
         }
       where
-        sums : (x y : Sums) → (over : List Round) → (job.place < 4 → over ≡ []) → JudgesEach (setup_in w) job over x y → JudgesEach (setup_in w) (moved_on job subject older) over x y
+        sums : (x y : Sums) → (over : List Round) → (job.place < 4 → over ≡ []) →
+            JudgesEach (setup_in w) job over x y →
+            JudgesEach (setup_in w) (moved_on job subject older) over x y
         sums x y over opening judges = elim (few_or_not job.place) [
           | inl few ↦ (
               let none = opening few in
-              subst (λ (l : List Round). JudgesEach (setup_in w) (moved_on job subject older) l x y) (sym none) (subst (λ (l : List Round). JudgesEach (setup_in w) job l x y) none judges))
+              subst (λ (l : List Round). JudgesEach (setup_in w) (moved_on job subject older) l x y)
+              (sym none) (subst (λ (l : List Round). JudgesEach (setup_in w) job l x y) none judges))
           | inr many ↦ judges_same (setup_in w) job (job.place + 1) subject older over x y (kept many) judges
         ]
 
-    repaired : (t : RepairTask) → IsRepair (setup_in w) t job (a ∷ drop (job.place + 1) (actions_of (setup_in w) job)) → IsRepair (setup_in w) t (moved_on job subject older) (drop (job.place + 1) (actions_of (setup_in w) job))
+    repaired : (t : RepairTask) →
+        IsRepair (setup_in w) t job (a ∷ drop (job.place + 1) (actions_of (setup_in w) job)) →
+        IsRepair (setup_in w) t (moved_on job subject older)
+        (drop (job.place + 1) (actions_of (setup_in w) job))
     repaired t is = record {
       kind = is.kind;
       bench = is.bench;
       size = is.size;
       phase = is.phase;
-      order = goes_on_move (setup_in w).n is.phase a (drop (job.place + 1) (actions_of (setup_in w) job)) move is.order;
+      order = goes_on_move (setup_in w).n is.phase a
+          (drop (job.place + 1) (actions_of (setup_in w) job)) move is.order;
       in_work = is.in_work;
       present = is.present;
       symbols = is.symbols;
@@ -191,13 +212,19 @@ move_runs w job a subject older r move next kept running = record { number = run
       room_symbols = is.room_symbols;
     }
 
-    by_task : (t : Task) → IsTask (setup_in w) job (actions_left (setup_in w) job) t → IsTask (setup_in w) (moved_on job subject older) (actions_left (setup_in w) (moved_on job subject older)) t
+    by_task : (t : Task) → IsTask (setup_in w) job (actions_left (setup_in w) job) t →
+        IsTask (setup_in w) (moved_on job subject older)
+        (actions_left (setup_in w) (moved_on job subject older)) t
     by_task (task.Put t) is = record { name = is.name; kind = is.kind; bench = is.bench }
-    by_task (task.Get t) is = absurd (no_get (setup_in w).n is.name a move (subst (λ (x : Kind). IsAllowed (setup_in w).n x a) is.kind (next_allowed w job a next)))
+    by_task (task.Get t) is =
+        absurd (no_get (setup_in w).n is.name a move
+        (subst (λ (x : Kind). IsAllowed (setup_in w).n x a) is.kind (next_allowed w job a next)))
     by_task task.Drop is = record { name = is.name; kind = is.kind }
     by_task (task.Audit t) is =
-        subst (λ (l : List Action). IsAudit (setup_in w) t (moved_on job subject older) l) (sym (ap (drop (job.place + 1)) (by_audit (setup_in w) job (job.place + 1) subject older is.kind)))
+        subst (λ (l : List Action). IsAudit (setup_in w) t (moved_on job subject older) l)
+        (sym (ap (drop (job.place + 1)) (by_audit (setup_in w) job (job.place + 1) subject older is.kind)))
         (audited t (subst (λ (l : List Action). IsAudit (setup_in w) t job l) left_is is))
     by_task (task.Repair t) is =
-        subst (λ (l : List Action). IsRepair (setup_in w) t (moved_on job subject older) l) (sym (ap (drop (job.place + 1)) (by_repair (setup_in w) job (job.place + 1) subject older is.kind)))
+        subst (λ (l : List Action). IsRepair (setup_in w) t (moved_on job subject older) l)
+        (sym (ap (drop (job.place + 1)) (by_repair (setup_in w) job (job.place + 1) subject older is.kind)))
         (repaired t (subst (λ (l : List Action). IsRepair (setup_in w) t job l) left_is is))

@@ -30,14 +30,18 @@ use Rattle.vault.specs.Fresh.{IsFreshDesk}
 use Rattle.vault.proofs.AtWork.{works}
 use Rattle.vault_open.proofs.FirstVersion.{FirstStands, images-first}
 
-module _ (told now : Option Cells) (rs : List Record) (store : Store) (first : ℕ) (v : Desk) (read : IsRead told rs) (is : IsStoreOf store rs now) (fresh : IsFreshDesk v store first) where
-  images : (now : Option Cells) → IfSome now (IsClosed (before_gate rs)) → EachImage now (λ image. StandsFor image rs)
+module _ (told now : Option Cells) (rs : List Record) (store : Store) (first : ℕ) (v : Desk)
+    (read : IsRead told rs) (is : IsStoreOf store rs now) (fresh : IsFreshDesk v store first) where
+  images : (now : Option Cells) → IfSome now (IsClosed (before_gate rs)) →
+      EachImage now (λ image. StandsFor image rs)
   images None shut = tt
   images (Some cells) shut = closed_images rs (RepairDone 0) read.in_grammar refl cells shut
 
-  shown : (w : State) (now : Option Cells) → w.records ≡ rs → EachImage now (λ image. StandsFor image rs) → FirstStands now w
+  shown : (w : State) (now : Option Cells) → w.records ≡ rs → EachImage now (λ image. StandsFor image rs) →
+      FirstStands now w
   shown w None same all = tt
-  shown w (Some cells) same all = λ image of. inl (inl (subst (λ (l : List Record). StandsFor image l) (sym same) (all image of)))
+  shown w (Some cells) same all =
+      λ image of. inl (inl (subst (λ (l : List Record). StandsFor image l) (sym same) (all image of)))
 
   -- the disk that was read carries the desk that was just opened
   pub carries : DeskCarries v now
@@ -50,7 +54,8 @@ module _ (told now : Option Cells) (rs : List Record) (store : Store) (first : �
 
   -- ---- the states that it stands for
 
-  module _ (faults : ℕ) (w : State) (providers : List Provider) (j : IsJustOpened w rs first faults providers) where
+  module _ (faults : ℕ) (w : State) (providers : List Provider)
+      (j : IsJustOpened w rs first faults providers) where
     in_effect : setup_in w ≡ setup_or_none store.table.setup
     unfolding setup_in
     in_effect = ap setup_or_none (ap setup_of j.records ∙ sym is.folds.setup)
@@ -73,7 +78,12 @@ module _ (told now : Option Cells) (rs : List Record) (store : Store) (first : �
     -- a desk that was just opened stands for the state just opened over the records read
     pub stands : DeskStands v (devices now faults providers) w
     stands = record {
-      devices = record { images = images-first now w j.at_rest.rest.whole (shown w now j.records (images now is.closed)); faults = j.faults_are; providers = j.handed };
+      devices = record {
+        images = images-first now w j.at_rest.rest.whole
+            (shown w now j.records (images now is.closed));
+        faults = j.faults_are;
+        providers = j.handed;
+      };
       core = core;
       setup = in_effect ∙ ap setup_or_none fresh.setup;
       shaped = fresh.shaped;

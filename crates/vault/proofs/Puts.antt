@@ -22,7 +22,10 @@ abbrev pub causes_of_put : State → List ℕ → List ℕ → List Cause
 causes_of_put w name bytes =
     record { applies = nat_lt largest_file (length bytes); refusal = refusal.TooLong }
     ∷ record { applies = is_crowded_for (sight_of w) name; refusal = refusal.TooManyFiles }
-    ∷ record { applies = is_full (sight_of w) (aim_of (PutJob name bytes)); refusal = refusal.JournalFull } ∷ []
+    ∷ record {
+      applies = is_full (sight_of w) (aim_of (PutJob name bytes));
+      refusal = refusal.JournalFull;
+    } ∷ []
 
 -- the cause of its name
 abbrev pub name_cause : List ℕ → Cause

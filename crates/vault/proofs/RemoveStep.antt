@@ -26,7 +26,8 @@ use Rattle.vault.proofs.Ways.{working, is_handed, handed_on, goes_on}
 
 module _ (w : State) (job : Job) (k o : ℕ) (next : next_action w job ≡ Some (Remove k o)) where
   not_allowed : (kind : Kind) → job.kind ≡ kind → IsAllowed (setup_in w).n kind (Remove k o)
-  not_allowed kind is = subst (λ (x : Kind). IsAllowed (setup_in w).n x (Remove k o)) is (next_allowed w job (Remove k o) next)
+  not_allowed kind is =
+      subst (λ (x : Kind). IsAllowed (setup_in w).n x (Remove k o)) is (next_allowed w job (Remove k o) next)
 
   -- the provider is one of the setup's
   within : k < (setup_in w).n
@@ -44,7 +45,8 @@ module _ (w : State) (job : Job) (k o : ℕ) (next : next_action w job ≡ Some 
   runs_on : (r : Running) → IsRunning (setup_in w) r job → IsRunning (setup_in w) r (advanced job)
   runs_on r running = record { number = running.number; task = by_task r.task running.task }
     where
-      by_task : (t : Task) → IsTask (setup_in w) job (actions_left (setup_in w) job) t → IsTask (setup_in w) (advanced job) (actions_left (setup_in w) (advanced job)) t
+      by_task : (t : Task) → IsTask (setup_in w) job (actions_left (setup_in w) job) t →
+          IsTask (setup_in w) (advanced job) (actions_left (setup_in w) (advanced job)) t
       by_task (task.Put t) is = record { name = is.name; kind = is.kind; bench = is.bench }
       by_task (task.Get t) is = absurd (not_allowed (GetJob is.name) is.kind)
       by_task task.Drop is = record { name = is.name; kind = is.kind }
@@ -54,10 +56,12 @@ module _ (w : State) (job : Job) (k o : ℕ) (next : next_action w job ≡ Some 
 -- a list is itself with what is there set again
 pub set_same : {X : Type 0} (xs : List X) (p : ℕ) (x : X) → slice_get xs p ≡ Some x → xs ≡ slice_set xs p x
 set_same [] p x there = (let e : None ≡ Some x = there in cc)
-set_same (y ∷ ys) zero x there = (let same : y ≡ x = (let e : Some y ≡ Some x = there in cc) in ap (λ (z : _). z ∷ ys) same)
+set_same (y ∷ ys) zero x there =
+    (let same : y ≡ x = (let e : Some y ≡ Some x = there in cc) in ap (λ (z : _). z ∷ ys) same)
 set_same (y ∷ ys) (suc p) x there = ap (λ (l : List _). y ∷ l) (set_same ys p x there)
 
-module _ (v : Desk) (w : State) (holds : Option Cells) (faults moment number k o : ℕ) (ps : List Provider) (stands : DeskStands v (devices holds faults ps) w) (comes : Comes v.core number (Remove k o)) where
+module _ (v : Desk) (w : State) (holds : Option Cells) (faults moment number k o : ℕ) (ps : List Provider)
+    (stands : DeskStands v (devices holds faults ps) w) (comes : Comes v.core number (Remove k o)) where
   coming : ComesNext w number (Remove k o) None
   coming = comes.machine w stands.core
 
@@ -66,20 +70,26 @@ module _ (v : Desk) (w : State) (holds : Option Cells) (faults moment number k o
   provider_there = is_handed v (devices holds faults ps) w k stands (within w coming.job k o coming.comes)
 
   -- the removal is a step of the machine
-  pub remove_step : (v' : Desk) (ps' : List Provider) (p q : Provider) → Removes o p q → slice_get ps k ≡ Some p → ps' ≡ slice_set ps k q
-      → v'.jobs.items ≡ v.jobs.items → KeepsAll v v' → v'.flight ≡ v.flight → IsFed v.core number reply.Done v'.core
+  pub remove_step : (v' : Desk) (ps' : List Provider) (p q : Provider) → Removes o p q →
+      slice_get ps k ≡ Some p → ps' ≡ slice_set ps k q
+      → v'.jobs.items ≡ v.jobs.items → KeepsAll v v' → v'.flight ≡ v.flight →
+      IsFed v.core number reply.Done v'.core
       → DeskMakesStep w moment number turn.More v' (devices holds faults ps) (devices holds faults ps')
   remove_step v' ps' p q removes p_is ps_is jobs keeps flight fed =
       let job = coming.job in
       let f = working v (devices holds faults ps) w number (Remove k o) stands coming in
       let new : State = record (going_on w (advanced job)) { providers = with_provider w.providers k q } in
-      let seen : p ≡ w.providers k = (let e : Some p ≡ Some (w.providers k) = sym p_is ∙ stands.devices.providers.each k provider_there in cc) in
-      goes_on v v' w new holds faults moment number f.place ps ps' (Remove k o) f.running (advanced job) stands coming
+      let seen : p ≡ w.providers k =
+      (let e : Some p ≡ Some (w.providers k) = sym p_is ∙ stands.devices.providers.each k provider_there in
+      cc) in
+      goes_on v v' w new holds faults moment number f.place ps ps' (Remove k o) f.running
+      (advanced job) stands coming
       (q, subst (λ (x : Provider). Removes o x q) seen removes, refl)
       (record { records = refl; doubt = refl; append = refl; faults = refl; barred = refl })
       refl refl
       (runs_on w job k o coming.comes f.running f.is)
       (place_is v.jobs.items number ∙ f.at)
       (jobs ∙ set_same v.jobs.items f.place f.running f.there)
-      (subst (λ (l : List Provider). AreHanded l new) (sym ps_is) (handed_on ps w new k q stands.devices.providers provider_there refl (λ j. refl)))
+      (subst (λ (l : List Provider). AreHanded l new) (sym ps_is)
+      (handed_on ps w new k q stands.devices.providers provider_there refl (λ j. refl)))
       keeps flight fed

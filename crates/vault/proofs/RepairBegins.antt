@@ -19,9 +19,12 @@ use Rattle.vault.proofs.BenchLemmas.{bench-is}
 use Rattle.vault.proofs.StripeOrders.{repair-order}
 
 -- a new repair's task is at the first action of the machine's new job
-pub repair-task : (v : Desk) (d : Devices) (w : State) (moment id size : ℕ) (bench : Bench) (blocks : Blocks) → DeskStands v d w → IsBenchFor v id size bench
-    → blocks.size ≡ bench.keys.file.profile.size → blocks.present.items ≡ [] → blocks.symbols.items ≡ [] → v.setup.n ≤ vec_capacity blocks.present → v.setup.n * blocks.size ≤ vec_capacity blocks.symbols
-    → IsRepair (setup_in w) (record { blocks = blocks; bench = bench }) (new_job w moment RepairJob) (actions_left (setup_in w) (new_job w moment RepairJob))
+pub repair-task : (v : Desk) (d : Devices) (w : State) (moment id size : ℕ) (bench : Bench)
+    (blocks : Blocks) → DeskStands v d w → IsBenchFor v id size bench
+    → blocks.size ≡ bench.keys.file.profile.size → blocks.present.items ≡ [] → blocks.symbols.items ≡ [] →
+    v.setup.n ≤ vec_capacity blocks.present → v.setup.n * blocks.size ≤ vec_capacity blocks.symbols
+    → IsRepair (setup_in w) (record { blocks = blocks; bench = bench }) (new_job w moment RepairJob)
+    (actions_left (setup_in w) (new_job w moment RepairJob))
 repair-task v d w moment id size bench blocks stands is size_is present symbols room_present room_symbols =
     let n_is : (setup_in w).n ≡ v.setup.n = ap (λ (s : Setup). s.n) stands.setup in
     let limits = setup-providers 8 w stands.core.sound stands.core.is_open in

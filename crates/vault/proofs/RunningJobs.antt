@@ -18,7 +18,8 @@ by_found : (c : CoreView) (o : Option CoreJob) (a : Action) → next_of c o ≡ 
 by_found c None a e = absurd (none_acts a e)
 by_found c (Some j) a e = refl
 
-by_barred : (b : Bool) (c : CoreView) (o : Option CoreJob) (a : Action) → cond b IsBarred (next_of c o) ≡ Acts a → is_some o ≡ true
+by_barred : (b : Bool) (c : CoreView) (o : Option CoreJob) (a : Action) →
+    cond b IsBarred (next_of c o) ≡ Acts a → is_some o ≡ true
 by_barred true c o a e = absurd (barred_acts a e)
 by_barred false c o a e = by_found c o a e
 
@@ -30,11 +31,13 @@ some_none : {X : Type 0} (x : X) → Some x ≡ None → ⊥
 some_none x e = cc
 
 -- what is read off a job that runs is there
-pub read_there : {X : Type 0} (f : CoreJob → X) (o : Option CoreJob) → is_some o ≡ true → option_map f o ≡ None → ⊥
+pub read_there : {X : Type 0} (f : CoreJob → X) (o : Option CoreJob) → is_some o ≡ true →
+    option_map f o ≡ None → ⊥
 read_there f None there none = false≢true there
 read_there f (Some j) there none = some_none (f j) none
 
 -- and so is what is made of it
-pub made_there : {Y Z : Type 0} (g : Y → Z) (r : Option Y) (f : CoreJob → Z) (o : Option CoreJob) → is_some o ≡ true → option_map g r ≡ option_map f o → r ≡ None → ⊥
+pub made_there : {Y Z : Type 0} (g : Y → Z) (r : Option Y) (f : CoreJob → Z) (o : Option CoreJob) →
+    is_some o ≡ true → option_map g r ≡ option_map f o → r ≡ None → ⊥
 made_there g None f o there e none = read_there f o there (sym e)
 made_there g (Some y) f o there e none = some_none y none

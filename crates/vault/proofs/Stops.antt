@@ -37,12 +37,15 @@ use Rattle.vault.proofs.Ways.{happens_by, IsQuiet, stands_on, at_place, entry_ke
 -- ---- the job in its list
 
 -- another job of the same number at a place
-at_set : (rs : List Running) (k p : ℕ) (r r' : Running) → slice_get rs p ≡ Some r → r'.number ≡ r.number → at_number (slice_set rs p r') k ≡ at_number rs k
+at_set : (rs : List Running) (k p : ℕ) (r r' : Running) → slice_get rs p ≡ Some r → r'.number ≡ r.number →
+    at_number (slice_set rs p r') k ≡ at_number rs k
 at_set [] k p r r' there same = refl
 at_set (x ∷ rs) k zero r r' there same =
-    let number : r'.number ≡ x.number = same ∙ (let e : Some x ≡ Some r = there in let f : x ≡ r = cc in ap (λ (y : Running). y.number) (sym f)) in
+    let number : r'.number ≡ x.number = same
+    ∙ (let e : Some x ≡ Some r = there in let f : x ≡ r = cc in ap (λ (y : Running). y.number) (sym f)) in
     ap (λ (n : ℕ). cond (n == k) (Some 0) (option_map suc (at_number rs k))) number
-at_set (x ∷ rs) k (suc p) r r' there same = ap (λ (o : Option ℕ). cond (x.number == k) (Some 0) (option_map suc o)) (at_set rs k p r r' there same)
+at_set (x ∷ rs) k (suc p) r r' there same =
+    ap (λ (o : Option ℕ). cond (x.number == k) (Some 0) (option_map suc o)) (at_set rs k p r r' there same)
 
 -- it has the same place
 pub place_set : (rs : List Running) (k p : ℕ) (r r' : Running) → place_in rs k ≡ Some p
@@ -77,15 +80,18 @@ pub record IsAside (v v' : Desk) (place : ℕ) (r r' : Running) : Type 0 where
   pub keeps : KeepsAll v v'
 
 -- what is left of the jobs, and what the turn tells
-pub record Leaves (v2 : Desk) (w : State) (number : ℕ) (reply : Reply) (answer : Answer) (t : Turn) (core : CoreView) : Type 0 where
+pub record Leaves (v2 : Desk) (w : State) (number : ℕ) (reply : Reply) (answer : Answer) (t : Turn)
+    (core : CoreView) : Type 0 where
   pub heard : List Entry
   pub turn_is : t ≡ turn.Done (record { answer = answer; heard = heard })
   pub heard_is : heard ≡ heard_by (job_of w.jobs number)
   pub jobs : AreRunning (setup_in w) v2.jobs.items (without_job w.jobs number)
   pub fed : IsFed core number reply v2.core
 
-module _ (v v1 : Desk) (d : Devices) (w : State) (number place : ℕ) (action : Action) (r r' : Running) (stands : DeskStands v d w) (next : ComesNext w number action None)
-    (at : place_in v.jobs.items number ≡ Some place) (there : slice_get v.jobs.items place ≡ Some r) (aside : IsAside v v1 place r r') where
+module _ (v v1 : Desk) (d : Devices) (w : State) (number place : ℕ) (action : Action) (r r' : Running)
+    (stands : DeskStands v d w) (next : ComesNext w number action None)
+    (at : place_in v.jobs.items number ≡ Some place) (there : slice_get v.jobs.items place ≡ Some r)
+    (aside : IsAside v v1 place r r') where
   at_first : at_number v.jobs.items number ≡ Some place
   at_first = sym (place_is v.jobs.items number) ∙ at
 
@@ -95,20 +101,27 @@ module _ (v v1 : Desk) (d : Devices) (w : State) (number place : ℕ) (action : 
       ∙ place_set v.jobs.items number place r r' at there aside.number
 
   -- a job that was stopped leaves the vault with what it heard, and the machine's other jobs
-  pub is_left : (v2 : Desk) (reply : Reply) (answer : Answer) (t : Turn) → IsStopped v1 number reply answer t v2 → Leaves v2 w number reply answer t v.core
+  pub is_left : (v2 : Desk) (reply : Reply) (answer : Answer) (t : Turn) →
+      IsStopped v1 number reply answer t v2 → Leaves v2 w number reply answer t v.core
   is_left v2 reply answer t stopped =
-      let same : stopped.place ≡ place = (let e : Some stopped.place ≡ Some place = sym stopped.found ∙ at_aside in cc) in
-      let there' : slice_get v1.jobs.items place ≡ Some r' = ap (λ (l : List Running). slice_get l place) aside.jobs ∙ get-set_there v.jobs.items place r r' there in
-      let one : stopped.running ≡ r' = (let e : Some stopped.running ≡ Some r' = sym stopped.there ∙ ap (slice_get v1.jobs.items) same ∙ there' in cc) in
+      let same : stopped.place ≡ place =
+      (let e : Some stopped.place ≡ Some place = sym stopped.found ∙ at_aside in cc) in
+      let there' : slice_get v1.jobs.items place ≡ Some r' =
+      ap (λ (l : List Running). slice_get l place) aside.jobs ∙ get-set_there v.jobs.items place r r' there in
+      let one : stopped.running ≡ r' =
+      (let e : Some stopped.running ≡ Some r' = sym stopped.there ∙ ap (slice_get v1.jobs.items) same
+      ∙ there' in cc) in
       let running = at_place v d w number place action r stands next at there in
       record {
         heard = heard_of stopped.running.task;
         turn_is = stopped.turn_is;
-        heard_is = ap (λ (x : Running). heard_of x.task) one ∙ aside.heard ∙ heard_is (setup_in w) r next.job running ∙ ap heard_by (sym next.runs);
+        heard_is = ap (λ (x : Running). heard_of x.task) one ∙ aside.heard
+            ∙ heard_is (setup_in w) r next.job running ∙ ap heard_by (sym next.runs);
         jobs =
             subst (λ (l : List Running). AreRunning (setup_in w) l (without_job w.jobs number))
             (sym (stopped.jobs ∙ (λ i. remove (aside.jobs i) (same i)) ∙ removed_same v.jobs.items place r'))
-            (taken_out (setup_in w) v.jobs.items w.jobs 0 w.next_job number place stands.core.sound.numbered stands.jobs at_first);
+            (taken_out (setup_in w) v.jobs.items w.jobs 0 w.next_job number place stands.core.sound.numbered
+            stands.jobs at_first);
         fed = subst (λ (c : CoreView). IsFed c number reply v2.core) aside.core stopped.fed;
       }
 
@@ -117,27 +130,42 @@ same_answer : (a b : answers.Answer) → Ended a ≡ Ended b → a ≡ b
 same_answer a b e = cc
 
 -- a job ends, and another state is left of it alone, and of the providers
-pub ends_by : (v v1 v2 : Desk) (w new : State) (holds : Option Cells) (faults moment number place : ℕ) (ps ps' : List Provider) (action : Action) (r r' : Running) (reply : Reply) (answer : Answer) (t : Turn)
-    → DeskStands v (devices holds faults ps) w → (next : ComesNext w number action None) → Acts w next.job action (Ended (machine_answer answer)) new → IsQuiet w new → new.jobs ≡ without_job w.jobs number
-    → place_in v.jobs.items number ≡ Some place → slice_get v.jobs.items place ≡ Some r → IsAside v v1 place r r' → v1.flight ≡ v.flight
-    → IsStopped v1 number reply answer t v2 → Tells number reply (Ended (machine_answer answer)) new → AreHanded ps' new → (machine_answer answer ≡ answers.DiskFault → ⊥)
+pub ends_by : (v v1 v2 : Desk) (w new : State) (holds : Option Cells) (faults moment number place : ℕ)
+    (ps ps' : List Provider) (action : Action) (r r' : Running) (reply : Reply) (answer : Answer) (t : Turn)
+    → DeskStands v (devices holds faults ps) w → (next : ComesNext w number action None) →
+    Acts w next.job action (Ended (machine_answer answer)) new → IsQuiet w new →
+    new.jobs ≡ without_job w.jobs number
+    → place_in v.jobs.items number ≡ Some place → slice_get v.jobs.items place ≡ Some r →
+    IsAside v v1 place r r' → v1.flight ≡ v.flight
+    → IsStopped v1 number reply answer t v2 → Tells number reply (Ended (machine_answer answer)) new →
+    AreHanded ps' new → (machine_answer answer ≡ answers.DiskFault → ⊥)
     → DeskMakesStep w moment number t v2 (devices holds faults ps) (devices holds faults ps')
 ends_by v v1 v2 w new holds faults moment number place ps ps' action r r' reply answer t stands next acts quiet jobs at there aside flight stopped tells handed whole =
-    let left = is_left v v1 (devices holds faults ps) w number place action r r' stands next at there aside v2 reply answer t stopped in
-    let happens = happens_by w new moment number action (Ended (machine_answer answer)) stands.core.is_open stands.core.none_alone next acts in
-    let core = left.fed w new (Ended (machine_answer answer)) moment stands.core happens (record { tells = tells; entry = λ a is mine. entry_kept v.core w w.append number stands.core.append a (sym quiet.append ∙ is) mine }) in
-    let are : AreRunning (setup_in w) v2.jobs.items new.jobs = subst (λ (js : List Job). AreRunning (setup_in w) v2.jobs.items js) (sym jobs) left.jobs in
+    let left = is_left v v1 (devices holds faults ps) w number place action r r' stands next at there aside v2
+    reply answer t stopped in
+    let happens = happens_by w new moment number action
+    (Ended (machine_answer answer)) stands.core.is_open stands.core.none_alone next acts in
+    let core = left.fed w new (Ended (machine_answer answer)) moment stands.core happens
+    (record {
+      tells = tells;
+      entry = λ a is mine. entry_kept v.core w w.append number stands.core.append a
+          (sym quiet.append ∙ is) mine;
+    }) in
+    let are : AreRunning (setup_in w) v2.jobs.items new.jobs =
+    subst (λ (js : List Job). AreRunning (setup_in w) v2.jobs.items js) (sym jobs) left.jobs in
     let keeps : KeepsAll v v2 = record {
       setup = stopped.keeps.setup ∙ aside.keeps.setup;
       master = stopped.keeps.master ∙ aside.keeps.master;
       shape = stopped.keeps.shape ∙ aside.keeps.shape;
       profile = stopped.keeps.profile ∙ aside.keeps.profile;
     } in
-    subst (λ (x : Turn). DeskMakesStep w moment number x v2 (devices holds faults ps) (devices holds faults ps')) (sym left.turn_is)
+    subst (λ (x : Turn). DeskMakesStep w moment number x v2 (devices holds faults ps)
+    (devices holds faults ps')) (sym left.turn_is)
     (record {
       state = new;
       happens = happens;
-      stands = stands_on v v2 w new holds faults ps ps' stands quiet handed core keeps (stopped.flight ∙ flight) are;
+      stands = stands_on v v2 w new holds faults ps ps' stands quiet handed core keeps
+          (stopped.flight ∙ flight) are;
       heard = left.heard_is;
       beyond = λ ended. same_beyond new holds faults ps ps';
       torn = λ e. absurd (whole (same_answer (machine_answer answer) answers.DiskFault e));

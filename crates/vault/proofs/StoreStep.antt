@@ -51,7 +51,8 @@ pub turned_is : (s : Setup) (bench : Bench) (o : ℕ) → IsBench s bench → tu
 turned_is s bench o is = ap (λ (x : Object). record x { id = o }) is
 
 -- a bench that was turned is one of the setup
-pub bench_after : (s : Setup) (bench bench' : Bench) (o : ℕ) → IsBench s bench → bench_object bench' ≡ turned bench o → IsBench s bench'
+pub bench_after : (s : Setup) (bench bench' : Bench) (o : ℕ) → IsBench s bench →
+    bench_object bench' ≡ turned bench o → IsBench s bench'
 bench_after s bench bench' o is turned_to =
     turned_to ∙ turned_is s bench o is ∙ ap (object_of s) (sym (ap (λ (x : Object). x.id) turned_to))
 
@@ -63,10 +64,12 @@ bench_count s bench is = ap (λ (x : Object). x.shape.n) is
 
 module _ (n k o s : ℕ) (tail : List Action) where
   -- the symbols at hand are those of the stripe
-  pub rows_are : (phase : Phase) (b : Blocks) (rows : List ℕ) (given : List Given) → GoesOn n phase (Store k o s ∷ tail) → IsInWork phase b rows given → rows ≡ symbols_given given o s
+  pub rows_are : (phase : Phase) (b : Blocks) (rows : List ℕ) (given : List Given) →
+      GoesOn n phase (Store k o s ∷ tail) → IsInWork phase b rows given → rows ≡ symbols_given given o s
   rows_are Between b rows given order work = absurd order
   rows_are (Fetching p t c) b rows given order work = absurd order
-  rows_are (Opened p t) b rows given order work = work ∙ (λ i. symbols_given given (sym order.1 i) (sym order.2 i))
+  rows_are (Opened p t) b rows given order work =
+      work ∙ (λ i. symbols_given given (sym order.1 i) (sym order.2 i))
 
   -- and the order goes on
   order_on : (phase : Phase) → GoesOn n phase (Store k o s ∷ tail) → GoesOn n phase tail
@@ -78,7 +81,8 @@ module _ (n k o s : ℕ) (tail : List Action) where
 
 module _ (w : State) (job : Job) (k o s : ℕ) (next : next_action w job ≡ Some (Store k o s)) where
   not_allowed : (kind : Kind) → job.kind ≡ kind → IsAllowed (setup_in w).n kind (Store k o s)
-  not_allowed kind is = subst (λ (x : Kind). IsAllowed (setup_in w).n x (Store k o s)) is (next_allowed w job (Store k o s) next)
+  not_allowed kind is = subst (λ (x : Kind). IsAllowed (setup_in w).n x (Store k o s)) is
+      (next_allowed w job (Store k o s) next)
 
   within : k < (setup_in w).n
   within = by_kind job.kind (next_allowed w job (Store k o s) next)
@@ -97,47 +101,61 @@ module _ (w : State) (job : Job) (k o s : ℕ) (next : next_action w job ≡ Som
   left_is : actions_left (setup_in w) job ≡ Store k o s ∷ drop (job.place + 1) (actions_of (setup_in w) job)
   left_is = next-left w job (Store k o s) next (λ e. absurd (let f : ⊥ = cc in f))
 
-  listed : (r : Running) → IsRunning (setup_in w) r job → IsTask (setup_in w) job (Store k o s ∷ drop (job.place + 1) (actions_of (setup_in w) job)) r.task
+  listed : (r : Running) → IsRunning (setup_in w) r job →
+      IsTask (setup_in w) job (Store k o s ∷ drop (job.place + 1) (actions_of (setup_in w) job)) r.task
   listed r running = subst (λ (l : List Action). IsTask (setup_in w) job l r.task) left_is running.task
 
   -- a job whose next action is a store has what it stores
   is_storer : (r : Running) → IsRunning (setup_in w) r job → IsStorer r.task k
   is_storer r running = by_task r.task (listed r running)
     where
-      by_task : (t : Task) → IsTask (setup_in w) job (Store k o s ∷ drop (job.place + 1) (actions_of (setup_in w) job)) t → IsStorer t k
-      by_task (task.Put t) is = subst (λ (m : ℕ). k < m) (sym (bench_count (setup_in w) t.bench is.bench)) within
+      by_task : (t : Task) →
+          IsTask (setup_in w) job (Store k o s ∷ drop (job.place + 1) (actions_of (setup_in w) job)) t →
+          IsStorer t k
+      by_task (task.Put t) is =
+          subst (λ (m : ℕ). k < m) (sym (bench_count (setup_in w) t.bench is.bench)) within
       by_task (task.Get t) is = absurd (not_allowed (GetJob is.name) is.kind)
       by_task task.Drop is = absurd (not_allowed (DropJob is.name) is.kind)
       by_task (task.Audit t) is = absurd (not_allowed AuditJob is.kind)
-      by_task (task.Repair t) is = subst (λ (m : ℕ). k < m) (sym (bench_count (setup_in w) t.bench is.bench)) within
+      by_task (task.Repair t) is =
+          subst (λ (m : ℕ). k < m) (sym (bench_count (setup_in w) t.bench is.bench)) within
 
   -- it stores the block that the machine says
-  pub block_is : IsPlainJob (setup_in w) job → (r : Running) → IsRunning (setup_in w) r job → stored_block r.task o k s ≡ block_to_store w job job.kind k o s
+  pub block_is : IsPlainJob (setup_in w) job → (r : Running) → IsRunning (setup_in w) r job →
+      stored_block r.task o k s ≡ block_to_store w job job.kind k o s
   block_is plain r running = by_task r.task (listed r running)
     where
-      by_task : (t : Task) → IsTask (setup_in w) job (Store k o s ∷ drop (job.place + 1) (actions_of (setup_in w) job)) t → stored_block t o k s ≡ block_to_store w job job.kind k o s
+      by_task : (t : Task) →
+          IsTask (setup_in w) job (Store k o s ∷ drop (job.place + 1) (actions_of (setup_in w) job)) t →
+          stored_block t o k s ≡ block_to_store w job job.kind k o s
       by_task (task.Put t) is =
-          ap (λ (x : Object). column_of_symbols x (symbols_in x t.bytes s) k s) (turned_is (setup_in w) t.bench o is.bench ∙ put-plain w job o plain)
+          ap (λ (x : Object). column_of_symbols x (symbols_in x t.bytes s) k s)
+          (turned_is (setup_in w) t.bench o is.bench ∙ put-plain w job o plain)
           ∙ ap (λ (kind : Kind). block_to_store w job kind k o s) (sym is.kind)
       by_task (task.Get t) is = absurd (not_allowed (GetJob is.name) is.kind)
       by_task task.Drop is = absurd (not_allowed (DropJob is.name) is.kind)
       by_task (task.Audit t) is = absurd (not_allowed AuditJob is.kind)
       by_task (task.Repair t) is =
           (λ i. column_of_symbols ((turned_is (setup_in w) t.bench o is.bench ∙ worked-plain w job o plain) i)
-          (rows_are (setup_in w).n k o s (drop (job.place + 1) (actions_of (setup_in w) job)) is.phase t.blocks t.bench.rows.items job.given is.order is.in_work i) k s)
+          (rows_are (setup_in w).n k o s (drop (job.place + 1) (actions_of (setup_in w) job)) is.phase
+          t.blocks t.bench.rows.items job.given is.order is.in_work i) k s)
           ∙ ap (λ (kind : Kind). block_to_store w job kind k o s) (sym is.kind)
 
   -- the job goes on
-  pub runs_on : (r r' : Running) → IsRunning (setup_in w) r job → r'.number ≡ r.number → KeepsTask r.task r'.task o → IsRunning (setup_in w) r' (advanced job)
+  pub runs_on : (r r' : Running) → IsRunning (setup_in w) r job → r'.number ≡ r.number →
+      KeepsTask r.task r'.task o → IsRunning (setup_in w) r' (advanced job)
   runs_on r r' running number keeps = record {
     number = number ∙ running.number;
-    task = subst (λ (l : List Action). IsTask (setup_in w) (advanced job) l r'.task) (sym tail_is) (by_task r.task r'.task (listed r running) keeps);
+    task = subst (λ (l : List Action). IsTask (setup_in w) (advanced job) l r'.task) (sym tail_is)
+        (by_task r.task r'.task (listed r running) keeps);
   }
     where
       tail_is : actions_left (setup_in w) (advanced job) ≡ drop (job.place + 1) (actions_of (setup_in w) job)
       tail_is = ap (drop (job.place + 1)) (actions_same (setup_in w) job (job.place + 1) job.given)
 
-      repaired : (t u : RepairTask) → IsRepair (setup_in w) t job (Store k o s ∷ drop (job.place + 1) (actions_of (setup_in w) job)) → KeepsTask (task.Repair t) (task.Repair u) o
+      repaired : (t u : RepairTask) →
+          IsRepair (setup_in w) t job (Store k o s ∷ drop (job.place + 1) (actions_of (setup_in w) job)) →
+          KeepsTask (task.Repair t) (task.Repair u) o
           → IsRepair (setup_in w) u (advanced job) (drop (job.place + 1) (actions_of (setup_in w) job))
       repaired t u is keeps =
           let profile = ap (λ (x : Object). x.profile.size) keeps.2 in
@@ -146,17 +164,26 @@ module _ (w : State) (job : Job) (k o s : ℕ) (next : next_action w job ≡ Som
             bench = bench_after (setup_in w) t.bench u.bench o is.bench keeps.2;
             size = ap (λ (b : Blocks). b.size) keeps.0 ∙ is.size ∙ sym profile;
             phase = is.phase;
-            order = order_on (setup_in w).n k o s (drop (job.place + 1) (actions_of (setup_in w) job)) is.phase is.order;
+            order = order_on (setup_in w).n k o s (drop (job.place + 1) (actions_of (setup_in w) job))
+                is.phase is.order;
             in_work =
                 subst (λ (b : Blocks). IsInWork is.phase b u.bench.rows.items job.given) (sym keeps.0)
-                (subst (λ (rows : Vec Symbol Global). IsInWork is.phase t.blocks rows.items job.given) (sym keeps.1) is.in_work);
-            present = subst (λ (b : Blocks). length b.present.items ≡ fetched_in is.phase) (sym keeps.0) is.present;
-            symbols = subst (λ (b : Blocks). length b.symbols.items ≡ fetched_in is.phase * b.size) (sym keeps.0) is.symbols;
-            room_present = subst (λ (b : Blocks). (setup_in w).n ≤ vec_capacity b.present) (sym keeps.0) is.room_present;
-            room_symbols = subst (λ (b : Blocks). (setup_in w).n * b.size ≤ vec_capacity b.symbols) (sym keeps.0) is.room_symbols;
+                (subst (λ (rows : Vec Symbol Global). IsInWork is.phase t.blocks rows.items job.given)
+                (sym keeps.1) is.in_work);
+            present = subst (λ (b : Blocks). length b.present.items ≡ fetched_in is.phase)
+                (sym keeps.0) is.present;
+            symbols = subst (λ (b : Blocks). length b.symbols.items ≡ fetched_in is.phase * b.size)
+                (sym keeps.0) is.symbols;
+            room_present = subst (λ (b : Blocks). (setup_in w).n ≤ vec_capacity b.present)
+                (sym keeps.0) is.room_present;
+            room_symbols = subst (λ (b : Blocks). (setup_in w).n * b.size ≤ vec_capacity b.symbols)
+                (sym keeps.0) is.room_symbols;
           }
 
-      by_task : (t t' : Task) → IsTask (setup_in w) job (Store k o s ∷ drop (job.place + 1) (actions_of (setup_in w) job)) t → KeepsTask t t' o → IsTask (setup_in w) (advanced job) (drop (job.place + 1) (actions_of (setup_in w) job)) t'
+      by_task : (t t' : Task) →
+          IsTask (setup_in w) job (Store k o s ∷ drop (job.place + 1) (actions_of (setup_in w) job)) t →
+          KeepsTask t t' o → IsTask (setup_in w) (advanced job)
+          (drop (job.place + 1) (actions_of (setup_in w) job)) t'
       by_task (task.Put t) (task.Put u) is keeps = record {
         name = is.name;
         kind = is.kind ∙ ap (PutJob is.name) (sym keeps.0);
@@ -191,7 +218,8 @@ heard_same (task.Get t) u o keeps = absurd keeps
 heard_same task.Drop u o keeps = absurd keeps
 heard_same (task.Audit t) u o keeps = absurd keeps
 
-module _ (v : Desk) (w : State) (holds : Option Cells) (faults moment number k o s : ℕ) (ps : List Provider) (stands : DeskStands v (devices holds faults ps) w) (comes : Comes v.core number (Store k o s)) where
+module _ (v : Desk) (w : State) (holds : Option Cells) (faults moment number k o s : ℕ) (ps : List Provider)
+    (stands : DeskStands v (devices holds faults ps) w) (comes : Comes v.core number (Store k o s)) where
   coming : ComesNext w number (Store k o s) None
   coming = comes.machine w stands.core
 
@@ -199,10 +227,8 @@ module _ (v : Desk) (w : State) (holds : Option Cells) (faults moment number k o
   pub provider_there : k < length ps
   provider_there = is_handed v (devices holds faults ps) w k stands (within w coming.job k o s coming.comes)
 
-  after_call : Provider → State → State
-  after_call q left = record left { providers = with_provider w.providers k q }
-
-  module _ (place : ℕ) (r : Running) (at : place_in v.jobs.items number ≡ Some place) (there : slice_get v.jobs.items place ≡ Some r) where
+  module _ (place : ℕ) (r : Running) (at : place_in v.jobs.items number ≡ Some place)
+      (there : slice_get v.jobs.items place ≡ Some r) where
     runs : IsRunning (setup_in w) r coming.job
     runs = at_place v (devices holds faults ps) w number place (Store k o s) r stands coming at there
 
@@ -210,43 +236,66 @@ module _ (v : Desk) (w : State) (holds : Option Cells) (faults moment number k o
     pub storer_there : IsStorer r.task k
     storer_there = is_storer w coming.job k o s coming.comes r runs
 
-    module _ (r' : Running) (same_number : r'.number ≡ r.number) (keeps : KeepsTask r.task r'.task o) (ps' : List Provider) (p q : Provider) (p_is : slice_get ps k ≡ Some p) (ps_is : ps' ≡ slice_set ps k q) where
+    module _ (r' : Running) (same_number : r'.number ≡ r.number) (keeps : KeepsTask r.task r'.task o)
+        (ps' : List Provider) (p q : Provider) (p_is : slice_get ps k ≡ Some p)
+        (ps_is : ps' ≡ slice_set ps k q) where
       seen : p ≡ w.providers k
-      seen = (let e : Some p ≡ Some (w.providers k) = sym p_is ∙ stands.devices.providers.each k provider_there in cc)
+      seen = (let e : Some p ≡ Some (w.providers k) = sym p_is
+          ∙ stands.devices.providers.each k provider_there in cc)
 
       -- a store that is done is a step of the machine
-      pub store_step : (v' : Desk) → Stores o s (stored_block r.task o k s) p q → v'.jobs.items ≡ slice_set v.jobs.items place r' → KeepsAll v v' → v'.flight ≡ v.flight → IsFed v.core number reply.Done v'.core
+      pub store_step : (v' : Desk) → Stores o s (stored_block r.task o k s) p q →
+          v'.jobs.items ≡ slice_set v.jobs.items place r' → KeepsAll v v' → v'.flight ≡ v.flight →
+          IsFed v.core number reply.Done v'.core
           → DeskMakesStep w moment number turn.More v' (devices holds faults ps) (devices holds faults ps')
       store_step v' stores jobs keeps_all flight fed =
-          let new : State = record (going_on w (advanced coming.job)) { providers = with_provider w.providers k q } in
+          let new : State = record (going_on w (advanced coming.job))
+          { providers = with_provider w.providers k q } in
           let call : Stores o s (block_to_store w coming.job coming.job.kind k o s) (w.providers k) q =
           subst (λ (x : Provider). Stores o s (block_to_store w coming.job coming.job.kind k o s) x q) seen
-          (subst (λ (b : List ℕ). Stores o s b p q) (block_is w coming.job k o s coming.comes (plain-core v.core w number coming.job stands.core coming.runs) r runs) stores) in
-          goes_on v v' w new holds faults moment number place ps ps' (Store k o s) r' (advanced coming.job) stands coming
+          (subst (λ (b : List ℕ). Stores o s b p q)
+          (block_is w coming.job k o s coming.comes
+          (plain-core v.core w number coming.job stands.core coming.runs) r runs) stores) in
+          goes_on v v' w new holds faults moment number place ps ps' (Store k o s) r'
+          (advanced coming.job) stands coming
           (q, call, refl)
           (record { records = refl; doubt = refl; append = refl; faults = refl; barred = refl })
           refl refl
           (runs_on w coming.job k o s coming.comes r r' runs same_number keeps)
           at jobs
-          (subst (λ (l : List Provider). AreHanded l new) (sym ps_is) (handed_on ps w new k q stands.devices.providers provider_there refl (λ j. refl)))
+          (subst (λ (l : List Provider). AreHanded l new) (sym ps_is)
+          (handed_on ps w new k q stands.devices.providers provider_there refl (λ j. refl)))
           keeps_all flight fed
 
-      module _ (v1 v2 : Desk) (result : Turn) (core : v1.core ≡ v.core) (jobs : v1.jobs.items ≡ slice_set v.jobs.items place r') (keeps_all : KeepsAll v v1) (flight : v1.flight ≡ v.flight) where
+      module _ (v1 v2 : Desk) (result : Turn) (core : v1.core ≡ v.core)
+          (jobs : v1.jobs.items ≡ slice_set v.jobs.items place r') (keeps_all : KeepsAll v v1)
+          (flight : v1.flight ≡ v.flight) where
         aside : IsAside v v1 place r r'
-        aside = record { core = core; jobs = jobs; number = same_number; heard = heard_same r.task r'.task o keeps; keeps = keeps_all }
+        aside = record {
+          core = core;
+          jobs = jobs;
+          number = same_number;
+          heard = heard_same r.task r'.task o keeps;
+          keeps = keeps_all;
+        }
 
         left : State
         left = record (ended w coming.job) { providers = with_provider w.providers k q }
 
         handed : AreHanded ps' (record (ended w coming.job) { providers = with_provider w.providers k q })
-        handed = subst (λ (l : List Provider). AreHanded l (record (ended w coming.job) { providers = with_provider w.providers k q })) (sym ps_is)
-            (handed_on ps w (record (ended w coming.job) { providers = with_provider w.providers k q }) k q stands.devices.providers provider_there refl (λ j. refl))
+        handed = subst (λ (l : List Provider). AreHanded l
+            (record (ended w coming.job) { providers = with_provider w.providers k q })) (sym ps_is)
+            (handed_on ps w (record (ended w coming.job) { providers = with_provider w.providers k q }) k q
+            stands.devices.providers provider_there refl (λ j. refl))
 
         -- a store that failed ends the job
-        pub failed_step : FailsToStore p q → IsStopped v1 number reply.Failed (answer.ProviderFault k) result v2
+        pub failed_step : FailsToStore p q →
+            IsStopped v1 number reply.Failed (answer.ProviderFault k) result v2
             → DeskMakesStep w moment number result v2 (devices holds faults ps) (devices holds faults ps')
         failed_step fails stopped =
-            ends_by v v1 v2 w (record (ended w coming.job) { providers = with_provider w.providers k q }) holds faults moment number place ps ps' (Store k o s) r r' reply.Failed (answer.ProviderFault k) result stands coming
+            ends_by v v1 v2 w (record (ended w coming.job) { providers = with_provider w.providers k q })
+            holds faults moment number place ps ps' (Store k o s) r r' reply.Failed
+            (answer.ProviderFault k) result stands coming
             (refl, (q, subst (λ (x : Provider). FailsToStore x q) seen fails, refl))
             (record { records = refl; doubt = refl; append = refl; faults = refl; barred = refl })
             (ap (without_job w.jobs) (number_of w.jobs number coming.job coming.runs))
@@ -256,7 +305,9 @@ module _ (v : Desk) (w : State) (holds : Option Cells) (faults moment number k o
         pub no_memory_step : FindsNoMemory p q → IsStopped v1 number reply.Memory answer.Memory result v2
             → DeskMakesStep w moment number result v2 (devices holds faults ps) (devices holds faults ps')
         no_memory_step finds stopped =
-            ends_by v v1 v2 w (record (ended w coming.job) { providers = with_provider w.providers k q }) holds faults moment number place ps ps' (Store k o s) r r' reply.Memory answer.Memory result stands coming
+            ends_by v v1 v2 w (record (ended w coming.job) { providers = with_provider w.providers k q })
+            holds faults moment number place ps ps' (Store k o s) r r' reply.Memory answer.Memory result
+            stands coming
             (q, subst (λ (x : Provider). FindsNoMemory x q) seen finds, refl)
             (record { records = refl; doubt = refl; append = refl; faults = refl; barred = refl })
             (ap (without_job w.jobs) (number_of w.jobs number coming.job coming.runs))
@@ -265,13 +316,18 @@ module _ (v : Desk) (w : State) (holds : Option Cells) (faults moment number k o
 -- ---- what came of the call
 
 -- a store whose answer is Ok stored its block
-pub was_stored : (o s : ℕ) (block : List ℕ) (r : Result Unit StoreFault) (x : Unit) (p q : Provider) → r ≡ Ok x → StoresAs o s block r p q → Stores o s block p q
+pub was_stored : (o s : ℕ) (block : List ℕ) (r : Result Unit StoreFault) (x : Unit) (p q : Provider) →
+    r ≡ Ok x → StoresAs o s block r p q → Stores o s block p q
 was_stored o s block r x p q is as_ = subst (λ (y : Result Unit StoreFault). StoresAs o s block y p q) is as_
 
 -- a store whose answer is a failure failed at the provider
-pub was_failed : (o s : ℕ) (block : List ℕ) (r : Result Unit StoreFault) (f : StoreFault) (p q : Provider) → r ≡ Err f → f ≡ store_fault.Failed → StoresAs o s block r p q → FailsToStore p q
-was_failed o s block r f p q is fault as_ = subst (λ (y : Result Unit StoreFault). StoresAs o s block y p q) (is ∙ ap (λ (y : StoreFault). Err y) fault) as_
+pub was_failed : (o s : ℕ) (block : List ℕ) (r : Result Unit StoreFault) (f : StoreFault) (p q : Provider) →
+    r ≡ Err f → f ≡ store_fault.Failed → StoresAs o s block r p q → FailsToStore p q
+was_failed o s block r f p q is fault as_ = subst (λ (y : Result Unit StoreFault). StoresAs o s block y p q)
+    (is ∙ ap (λ (y : StoreFault). Err y) fault) as_
 
 -- a store whose answer is that memory ran out found none at the provider
-pub found_no_memory : (o s : ℕ) (block : List ℕ) (r : Result Unit StoreFault) (f : StoreFault) (p q : Provider) → r ≡ Err f → f ≡ store_fault.Memory → StoresAs o s block r p q → FindsNoMemory p q
-found_no_memory o s block r f p q is fault as_ = subst (λ (y : Result Unit StoreFault). StoresAs o s block y p q) (is ∙ ap (λ (y : StoreFault). Err y) fault) as_
+pub found_no_memory : (o s : ℕ) (block : List ℕ) (r : Result Unit StoreFault) (f : StoreFault)
+    (p q : Provider) → r ≡ Err f → f ≡ store_fault.Memory → StoresAs o s block r p q → FindsNoMemory p q
+found_no_memory o s block r f p q is fault as_ = subst
+    (λ (y : Result Unit StoreFault). StoresAs o s block y p q) (is ∙ ap (λ (y : StoreFault). Err y) fault) as_

@@ -44,7 +44,9 @@ use Rattle.vault.proofs.JobPlaces.{Found, found, place_is, put_back}
 use Rattle.journal_core.proofs.BeyondLemmas.{goes_still}
 
 -- what comes of the next action of a job is a step of the machine
-pub happens_by : (w new : State) (moment number : ℕ) (action : Action) (outcome : Outcome) → w.is_open ≡ true → w.alone ≡ None → (next : ComesNext w number action None) → Acts w next.job action outcome new
+pub happens_by : (w new : State) (moment number : ℕ) (action : Action) (outcome : Outcome) →
+    w.is_open ≡ true → w.alone ≡ None → (next : ComesNext w number action None) →
+    Acts w next.job action outcome new
     → Happens 8 moment w (Step number) outcome new
 happens_by w new moment number action outcome opened lone next acts =
     subst (λ (b : Bool). Steps w number b outcome new) (sym opened)
@@ -55,11 +57,13 @@ happens_by w new moment number action outcome opened lone next acts =
     (subst (λ (h : Option ℕ). ActsOrWaits w next.job action h outcome new) (sym next.holder) acts)))))
 
 -- the actions of a job do not depend on its place and on what it was given
-pub actions_same : (s : Setup) (j : Job) (place : ℕ) (given : List Given) → actions_of s (record j { place = place; given = given }) ≡ actions_of s j
+pub actions_same : (s : Setup) (j : Job) (place : ℕ) (given : List Given) →
+    actions_of s (record j { place = place; given = given }) ≡ actions_of s j
 unfolding actions_of
 actions_same s j place given = by_kind j.kind
   where
-    by_kind : (kind : Kind) → actions_by s (record j { place = place; given = given }) kind ≡ actions_by s j kind
+    by_kind : (kind : Kind) → actions_by s (record j { place = place; given = given }) kind
+        ≡ actions_by s j kind
     by_kind (PutJob name bytes) = refl
     by_kind (GetJob name) = refl
     by_kind (DropJob name) = refl
@@ -73,16 +77,23 @@ unfolding setup_in
 setup_same w new is = ap (λ (rs : List Record). setup_or_none (setup_of rs)) is
 
 -- what the images stand for, where neither records nor a doubt changed
-pub images_on : (told : Option Cells) (w new : State) → new.records ≡ w.records → new.doubt ≡ w.doubt → FirstStands told w → FirstStands told new
+pub images_on : (told : Option Cells) (w new : State) → new.records ≡ w.records → new.doubt ≡ w.doubt →
+    FirstStands told w → FirstStands told new
 images_on None w new records doubt stands = tt
 images_on (Some cells) w new records doubt stands = λ image is. elim (stands image is) [
   | inl s ↦ inl (subst (StandsOrIsEmpty image) (sym records) s)
-  | inr s ↦ inr (record { doubt = s.doubt; in_doubt = doubt ∙ s.in_doubt; stands = subst (λ (rs : List Record). Rattle.record_defs.specs.Journal.StandsFor image (s.doubt.entry ∷ rs)) (sym records) s.stands })
+  | inr s ↦ inr (record {
+    doubt = s.doubt;
+    in_doubt = doubt ∙ s.in_doubt;
+    stands = subst (λ (rs : List Record). Rattle.record_defs.specs.Journal.StandsFor image
+        (s.doubt.entry ∷ rs)) (sym records) s.stands;
+  })
 ]
 
 -- ---- providers
 
-get_elsewhere : {X : Type 0} (xs : List X) (k j : ℕ) (x : X) → (j ≡ k → ⊥) → slice_get (slice_set xs k x) j ≡ slice_get xs j
+get_elsewhere : {X : Type 0} (xs : List X) (k j : ℕ) (x : X) → (j ≡ k → ⊥) →
+    slice_get (slice_set xs k x) j ≡ slice_get xs j
 get_elsewhere [] k j x other = refl
 get_elsewhere (y ∷ ys) zero zero x other = absurd (other refl)
 get_elsewhere (y ∷ ys) zero (suc j) x other = refl
@@ -90,19 +101,25 @@ get_elsewhere (y ∷ ys) (suc k) zero x other = refl
 get_elsewhere (y ∷ ys) (suc k) (suc j) x other = get_elsewhere ys k j x (λ e. other (ap suc e))
 
 -- one of the providers handed in changed
-pub handed_on : (ps : List Provider) (w new : State) (k : ℕ) (p : Provider) → AreHanded ps w → k < length ps → new.handed ≡ w.handed
+pub handed_on : (ps : List Provider) (w new : State) (k : ℕ) (p : Provider) → AreHanded ps w → k < length ps →
+    new.handed ≡ w.handed
     → ((j : ℕ) → new.providers j ≡ with_provider w.providers k p j) → AreHanded (slice_set ps k p) new
 handed_on ps w new k p are less handed providers = record {
   count = handed ∙ are.count ∙ sym (length-set ps k p);
   each = λ j below. elim (cases_eq j k) [
-    | inl same ↦ ap (slice_get (slice_set ps k p)) same ∙ get-set_same ps k p less ∙ ap Some (sym (providers j ∙ cond_true (j == k) p (w.providers j) (eq-eqb j k same)))
-    | inr other ↦ get_elsewhere ps k j p other ∙ are.each j (subst (λ (n : ℕ). j < n) (length-set ps k p) below) ∙ ap Some (sym (providers j ∙ cond_false (j == k) p (w.providers j) (ne_eqb j k other)))
+    | inl same ↦ ap (slice_get (slice_set ps k p)) same ∙ get-set_same ps k p less
+        ∙ ap Some (sym (providers j ∙ cond_true (j == k) p (w.providers j) (eq-eqb j k same)))
+    | inr other ↦ get_elsewhere ps k j p other
+        ∙ are.each j (subst (λ (n : ℕ). j < n) (length-set ps k p) below)
+        ∙ ap Some (sym (providers j ∙ cond_false (j == k) p (w.providers j) (ne_eqb j k other)))
   ];
 }
 
 -- none of them did
-pub handed_same : (ps : List Provider) (w new : State) → AreHanded ps w → new.handed ≡ w.handed → ((j : ℕ) → new.providers j ≡ w.providers j) → AreHanded ps new
-handed_same ps w new are handed providers = record { count = handed ∙ are.count; each = λ j below. are.each j below ∙ ap Some (sym (providers j)) }
+pub handed_same : (ps : List Provider) (w new : State) → AreHanded ps w → new.handed ≡ w.handed →
+    ((j : ℕ) → new.providers j ≡ w.providers j) → AreHanded ps new
+handed_same ps w new are handed providers =
+    record { count = handed ∙ are.count; each = λ j below. are.each j below ∙ ap Some (sym (providers j)) }
 
 -- ---- the state after
 
@@ -120,55 +137,78 @@ shaped_on v v' keeps is = record {
   n = ap (λ (s : ShapeValue). s.n) keeps.shape ∙ is.n ∙ sym (ap (λ (s : SetupValue). s.n) keeps.setup);
   l = ap (λ (s : ShapeValue). s.l) keeps.shape ∙ is.l ∙ sym (ap (λ (s : SetupValue). s.l) keeps.setup);
   b = ap (λ (s : ShapeValue). s.b) keeps.shape ∙ is.b ∙ sym (ap (λ (s : SetupValue). s.b) keeps.setup);
-  profile = ap plain_profile keeps.profile ∙ is.profile ∙ ap (λ (s : SetupValue). profile_of s.profile) (sym keeps.setup);
+  profile = ap plain_profile keeps.profile ∙ is.profile
+      ∙ ap (λ (s : SetupValue). profile_of s.profile) (sym keeps.setup);
 }
 
 -- with a quiet step a vault stands for the state after it, if its core and its jobs do
-pub stands_on : (v v' : Desk) (w new : State) (holds : Option Cells) (faults : ℕ) (ps ps' : List Provider) → DeskStands v (devices holds faults ps) w → IsQuiet w new → AreHanded ps' new
-    → CoreIs v'.core new → KeepsAll v v' → v'.flight ≡ v.flight → AreRunning (setup_in w) v'.jobs.items new.jobs → DeskStands v' (devices holds faults ps') new
+pub stands_on : (v v' : Desk) (w new : State) (holds : Option Cells) (faults : ℕ) (ps ps' : List Provider) →
+    DeskStands v (devices holds faults ps) w → IsQuiet w new → AreHanded ps' new
+    → CoreIs v'.core new → KeepsAll v v' → v'.flight ≡ v.flight →
+    AreRunning (setup_in w) v'.jobs.items new.jobs → DeskStands v' (devices holds faults ps') new
 stands_on v v' w new holds faults ps ps' stands quiet handed core keeps flight jobs = record {
   devices = record {
-    images = images-first holds new (whole-core v'.core new core) (images_on holds w new quiet.records quiet.doubt (first-images holds w (whole-core v.core w stands.core) stands.devices.images));
+    images = images-first holds new (whole-core v'.core new core)
+        (images_on holds w new quiet.records quiet.doubt
+        (first-images holds w (whole-core v.core w stands.core) stands.devices.images));
     faults = quiet.faults ∙ stands.devices.faults;
     providers = handed;
   };
   core = core;
-  setup = setup_same w new quiet.records ∙ stands.setup ∙ sym (λ i. with_master (keeps.setup i) (keeps.master i).0);
+  setup = setup_same w new quiet.records ∙ stands.setup
+      ∙ sym (λ i. with_master (keeps.setup i) (keeps.master i).0);
   shaped = shaped_on v v' keeps stands.shaped;
-  jobs = subst (λ (s : Setup). AreRunning s v'.jobs.items new.jobs) (sym (setup_same w new quiet.records)) jobs;
+  jobs = subst (λ (s : Setup). AreRunning s v'.jobs.items new.jobs)
+      (sym (setup_same w new quiet.records)) jobs;
   flight = λ free.
       subst (λ (f : Option Flight). IsFlight f new.append new.records holds) (sym flight)
       (subst (λ (a : Option Append). IsFlight v.flight a new.records holds) (sym quiet.append)
-      (subst (λ (rs : List Record). IsFlight v.flight w.append rs holds) (sym quiet.records) (stands.flight (sym quiet.barred ∙ free))));
+      (subst (λ (rs : List Record). IsFlight v.flight w.append rs holds) (sym quiet.records)
+      (stands.flight (sym quiet.barred ∙ free))));
 }
 
 -- ---- a job goes on
 
 -- the record in flight is the one that the core gave
-pub entry_kept : (c : CoreView) (w : State) (flight : Option Append) (number : ℕ) → IsCoreFlight c flight → (a : Append) → flight ≡ Some a → a.job ≡ number → entry_in c number ≡ Some a.entry
+pub entry_kept : (c : CoreView) (w : State) (flight : Option Append) (number : ℕ) → IsCoreFlight c flight →
+    (a : Append) → flight ≡ Some a → a.job ≡ number → entry_in c number ≡ Some a.entry
 entry_kept c w None number is a flight mine = (let e : None ≡ Some a = flight in cc)
 entry_kept c w (Some b) number is a flight mine =
     let same : b ≡ a = (let e : Some b ≡ Some a = flight in cc) in
-    subst (λ (n : ℕ). entry_in c n ≡ Some a.entry) mine (subst (λ (x : Append). entry_in c x.job ≡ Some x.entry) same is.1)
+    subst (λ (n : ℕ). entry_in c n ≡ Some a.entry) mine
+    (subst (λ (x : Append). entry_in c x.job ≡ Some x.entry) same is.1)
 
 -- what is read past the text is as before where the disk was not called
-pub same_beyond : (w : State) (holds : Option Cells) (faults : ℕ) (ps ps' : List Provider) → IsSameBeyond w (devices holds faults ps) (devices holds faults ps')
-same_beyond w holds faults ps ps' = goes_still (text_size (records_in_flight w.records w.append)) holds holds refl
+pub same_beyond : (w : State) (holds : Option Cells) (faults : ℕ) (ps ps' : List Provider) →
+    IsSameBeyond w (devices holds faults ps) (devices holds faults ps')
+same_beyond w holds faults ps ps' =
+    goes_still (text_size (records_in_flight w.records w.append)) holds holds refl
 
 -- a job goes on, and another state is left of it alone, and of the providers
-goes_told : (v v' : Desk) (w new : State) (holds : Option Cells) (faults moment number place : ℕ) (ps ps' : List Provider) (action : Action) (r : Running) (j : Job) (answer : Reply)
-    → DeskStands v (devices holds faults ps) w → (next : ComesNext w number action None) → Acts w next.job action More new → IsQuiet w new → new.jobs ≡ with_job w.jobs j
-    → j.number ≡ next.job.number → IsRunning (setup_in w) r j → place_in v.jobs.items number ≡ Some place → v'.jobs.items ≡ slice_set v.jobs.items place r
-    → AreHanded ps' new → KeepsAll v v' → v'.flight ≡ v.flight → IsFed v.core number answer v'.core → Tells number answer More new
+goes_told : (v v' : Desk) (w new : State) (holds : Option Cells) (faults moment number place : ℕ)
+    (ps ps' : List Provider) (action : Action) (r : Running) (j : Job) (answer : Reply)
+    → DeskStands v (devices holds faults ps) w → (next : ComesNext w number action None) →
+    Acts w next.job action More new → IsQuiet w new → new.jobs ≡ with_job w.jobs j
+    → j.number ≡ next.job.number → IsRunning (setup_in w) r j → place_in v.jobs.items number ≡ Some place →
+    v'.jobs.items ≡ slice_set v.jobs.items place r
+    → AreHanded ps' new → KeepsAll v v' → v'.flight ≡ v.flight → IsFed v.core number answer v'.core →
+    Tells number answer More new
     → DeskMakesStep w moment number turn.More v' (devices holds faults ps) (devices holds faults ps')
 goes_told v v' w new holds faults moment number place ps ps' action r j answer stands next acts quiet jobs numbered running at jobs' handed keeps flight fed tells =
-    let happens = happens_by w new moment number action More stands.core.is_open stands.core.none_alone next acts in
+    let happens = happens_by w new moment number action More stands.core.is_open stands.core.none_alone next
+    acts in
     let mine : j.number ≡ number = numbered ∙ number_of w.jobs number next.job next.runs in
-    let core = fed w new More moment stands.core happens (record { tells = tells; entry = λ a is mine. entry_kept v.core w w.append number stands.core.append a (sym quiet.append ∙ is) mine }) in
+    let core = fed w new More moment stands.core happens
+    (record {
+      tells = tells;
+      entry = λ a is mine. entry_kept v.core w w.append number stands.core.append a
+          (sym quiet.append ∙ is) mine;
+    }) in
     let are : AreRunning (setup_in w) v'.jobs.items new.jobs =
     subst (λ (js : List Job). AreRunning (setup_in w) v'.jobs.items js) (sym jobs)
     (subst (λ (rs : List Running). AreRunning (setup_in w) rs (with_job w.jobs j)) (sym jobs')
-    (put_back (setup_in w) number r j running mine v.jobs.items w.jobs place stands.jobs (sym (place_is v.jobs.items number) ∙ at))) in
+    (put_back (setup_in w) number r j running mine v.jobs.items w.jobs place stands.jobs
+    (sym (place_is v.jobs.items number) ∙ at))) in
     record {
       state = new;
       happens = happens;
@@ -179,37 +219,42 @@ goes_told v v' w new holds faults moment number place ps ps' action r j answer s
     }
 
 -- the same, where all that came of it is that it was done
-pub goes_on : (v v' : Desk) (w new : State) (holds : Option Cells) (faults moment number place : ℕ) (ps ps' : List Provider) (action : Action) (r : Running) (j : Job)
-    → DeskStands v (devices holds faults ps) w → (next : ComesNext w number action None) → Acts w next.job action More new → IsQuiet w new → new.jobs ≡ with_job w.jobs j
-    → j.number ≡ next.job.number → IsRunning (setup_in w) r j → place_in v.jobs.items number ≡ Some place → v'.jobs.items ≡ slice_set v.jobs.items place r
+pub goes_on : (v v' : Desk) (w new : State) (holds : Option Cells) (faults moment number place : ℕ)
+    (ps ps' : List Provider) (action : Action) (r : Running) (j : Job)
+    → DeskStands v (devices holds faults ps) w → (next : ComesNext w number action None) →
+    Acts w next.job action More new → IsQuiet w new → new.jobs ≡ with_job w.jobs j
+    → j.number ≡ next.job.number → IsRunning (setup_in w) r j → place_in v.jobs.items number ≡ Some place →
+    v'.jobs.items ≡ slice_set v.jobs.items place r
     → AreHanded ps' new → KeepsAll v v' → v'.flight ≡ v.flight → IsFed v.core number reply.Done v'.core
     → DeskMakesStep w moment number turn.More v' (devices holds faults ps) (devices holds faults ps')
 goes_on v v' w new holds faults moment number place ps ps' action r j stands next acts quiet jobs numbered running at jobs' handed keeps flight fed =
-    goes_told v v' w new holds faults moment number place ps ps' action r j reply.Done stands next acts quiet jobs numbered running at jobs' handed keeps flight fed tt
+    goes_told v v' w new holds faults moment number place ps ps' action r j reply.Done stands next acts quiet
+    jobs numbered running at jobs' handed keeps flight fed tt
 
 -- ---- what a job works with
 
 -- the job of a next action has its place
-pub working : (v : Desk) (d : Devices) (w : State) (number : ℕ) (action : Action) → DeskStands v d w → (next : ComesNext w number action None) → Found (setup_in w) v.jobs.items number next.job
-working v d w number action stands next = found (setup_in w) v.jobs.items w.jobs number next.job stands.jobs next.runs
-
-no_place : (v : Desk) (d : Devices) (w : State) (number : ℕ) (action : Action) → DeskStands v d w → ComesNext w number action None → place_in v.jobs.items number ≡ None → ⊥
-no_place v d w number action stands next none =
-    let f = working v d w number action stands next in
-    let e : None ≡ Some f.place = sym none ∙ place_is v.jobs.items number ∙ f.at in
-    absurd cc
+pub working : (v : Desk) (d : Devices) (w : State) (number : ℕ) (action : Action) → DeskStands v d w →
+    (next : ComesNext w number action None) → Found (setup_in w) v.jobs.items number next.job
+working v d w number action stands next =
+    found (setup_in w) v.jobs.items w.jobs number next.job stands.jobs next.runs
 
 -- what stands at its place
-pub at_place : (v : Desk) (d : Devices) (w : State) (number place : ℕ) (action : Action) (r : Running) → DeskStands v d w → (next : ComesNext w number action None)
-    → place_in v.jobs.items number ≡ Some place → slice_get v.jobs.items place ≡ Some r → IsRunning (setup_in w) r next.job
+pub at_place : (v : Desk) (d : Devices) (w : State) (number place : ℕ) (action : Action) (r : Running) →
+    DeskStands v d w → (next : ComesNext w number action None)
+    → place_in v.jobs.items number ≡ Some place → slice_get v.jobs.items place ≡ Some r →
+    IsRunning (setup_in w) r next.job
 at_place v d w number place action r stands next at there =
     let f = working v d w number action stands next in
-    let same : f.place ≡ place = (let e : Some f.place ≡ Some place = sym f.at ∙ sym (place_is v.jobs.items number) ∙ at in cc) in
-    let one : f.running ≡ r = (let e : Some f.running ≡ Some r = sym f.there ∙ ap (slice_get v.jobs.items) same ∙ there in cc) in
+    let same : f.place ≡ place =
+    (let e : Some f.place ≡ Some place = sym f.at ∙ sym (place_is v.jobs.items number) ∙ at in cc) in
+    let one : f.running ≡ r =
+    (let e : Some f.running ≡ Some r = sym f.there ∙ ap (slice_get v.jobs.items) same ∙ there in cc) in
     subst (λ (x : Running). IsRunning (setup_in w) x next.job) one f.is
 
 -- a provider of the setup is handed in
-pub is_handed : (v : Desk) (d : Devices) (w : State) (k : ℕ) → DeskStands v d w → k < (setup_in w).n → k < length d.providers
+pub is_handed : (v : Desk) (d : Devices) (w : State) (k : ℕ) → DeskStands v d w → k < (setup_in w).n →
+    k < length d.providers
 is_handed v d w k stands below =
     let handed : (setup_in w).n ≤ w.handed = stands.core.sound.handed stands.core.is_open in
     omega (arith, below, handed, stands.devices.providers.count)

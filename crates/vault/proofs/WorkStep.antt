@@ -50,14 +50,20 @@ use Rattle.vault.proofs.Worked.{all_fetched, order_opened, enough_present, enoug
 
 -- the stripes below keep their symbols
 kept : (id k from len : ℕ) (rows : List ℕ) (given : List Given) → from + len ≤ k
-    → flat_map (λ t. bytes_of_symbols (symbols_given (Worked id k rows ∷ given) id t)) (range_with_len from len) ≡ flat_map (λ t. bytes_of_symbols (symbols_given given id t)) (range_with_len from len)
+    → flat_map (λ t. bytes_of_symbols (symbols_given (Worked id k rows ∷ given) id t))
+    (range_with_len from len) ≡ flat_map (λ t. bytes_of_symbols (symbols_given given id t))
+    (range_with_len from len)
 kept id k from zero rows given below = refl
 kept id k from (suc len) rows given below =
-    (λ i. bytes_of_symbols (worked_other id k id from rows given (λ e. absurd (omega (arith, below, e))) i) ++ kept id k (from + 1) len rows given (omega (arith, below)) i)
+    (λ i. bytes_of_symbols
+    (worked_other id k id from rows given (λ e. absurd (omega (arith, below, e))) i) ++ kept id k
+    (from + 1) len rows given (omega (arith, below)) i)
 
 -- the bytes of one stripe more
-bytes_after : (id k : ℕ) (rows bytes : List ℕ) (given : List Given) → bytes ≡ flat_map (λ t. bytes_of_symbols (symbols_given given id t)) (upto k)
-    → bytes ++ bytes_of_symbols rows ≡ flat_map (λ t. bytes_of_symbols (symbols_given (Worked id k rows ∷ given) id t)) (upto (k + 1))
+bytes_after : (id k : ℕ) (rows bytes : List ℕ) (given : List Given) →
+    bytes ≡ flat_map (λ t. bytes_of_symbols (symbols_given given id t)) (upto k)
+    → bytes ++ bytes_of_symbols rows
+    ≡ flat_map (λ t. bytes_of_symbols (symbols_given (Worked id k rows ∷ given) id t)) (upto (k + 1))
 bytes_after id k rows bytes given is =
     let f = λ (t : ℕ). bytes_of_symbols (symbols_given (Worked id k rows ∷ given) id t) in
     (λ i. is i ++ bytes_of_symbols (worked_is id k rows given i))
@@ -67,9 +73,11 @@ bytes_after id k rows bytes given is =
 
 -- ---- the job
 
-module _ (w : State) (job : Job) (o s : ℕ) (next : next_action w job ≡ Some (Work o s)) (plain : IsPlainJob (setup_in w) job) where
+module _ (w : State) (job : Job) (o s : ℕ) (next : next_action w job ≡ Some (Work o s))
+    (plain : IsPlainJob (setup_in w) job) where
   not_allowed : (kind : Kind) → job.kind ≡ kind → IsAllowed (setup_in w).n kind (Work o s)
-  not_allowed kind is = subst (λ (x : Kind). IsAllowed (setup_in w).n x (Work o s)) is (next_allowed w job (Work o s) next)
+  not_allowed kind is =
+      subst (λ (x : Kind). IsAllowed (setup_in w).n x (Work o s)) is (next_allowed w job (Work o s) next)
 
   left_is : actions_left (setup_in w) job ≡ Work o s ∷ drop (job.place + 1) (actions_of (setup_in w) job)
   left_is = next-left w job (Work o s) next (λ e. absurd (let f : ⊥ = cc in f))
@@ -86,11 +94,15 @@ module _ (w : State) (job : Job) (o s : ℕ) (next : next_action w job ≡ Some 
   fetches_are : fetches_left (Work o s ∷ tail) ≡ 0 + fetches_left tail
   fetches_are = sum_by-cons (λ a. cond (is_fetch a) 1 0) (Work o s) tail
 
-  get_fetched : (t : GetTask) → IsGet (setup_in w) t job (Work o s ∷ tail) → HasFetched o s (setup_in w).n t.fetched.blocks job.given
-  get_fetched t is = all_fetched (setup_in w).n o s tail t.fetched.blocks t.bench.rows.items job.given is.phase is.order is.in_work
+  get_fetched : (t : GetTask) → IsGet (setup_in w) t job (Work o s ∷ tail) →
+      HasFetched o s (setup_in w).n t.fetched.blocks job.given
+  get_fetched t is = all_fetched (setup_in w).n o s tail t.fetched.blocks t.bench.rows.items job.given
+      is.phase is.order is.in_work
 
-  repair_fetched : (t : RepairTask) → IsRepair (setup_in w) t job (Work o s ∷ tail) → HasFetched o s (setup_in w).n t.blocks job.given
-  repair_fetched t is = all_fetched (setup_in w).n o s tail t.blocks t.bench.rows.items job.given is.phase is.order is.in_work
+  repair_fetched : (t : RepairTask) → IsRepair (setup_in w) t job (Work o s ∷ tail) →
+      HasFetched o s (setup_in w).n t.blocks job.given
+  repair_fetched t is =
+      all_fetched (setup_in w).n o s tail t.blocks t.bench.rows.items job.given is.phase is.order is.in_work
 
   -- a job whose next action is work has what it opens
   can_work : (r : Running) → IsRunning (setup_in w) r job → CanWork r.task
@@ -103,10 +115,16 @@ module _ (w : State) (job : Job) (o s : ℕ) (next : next_action w job ≡ Some 
           let n = bench_count (setup_in w) t.bench is.bench in (
             record {
               size = is.size;
-              present = subst (λ (m : ℕ). m ≤ length t.fetched.blocks.present.items) (sym n) (enough_present (setup_in w).n o s t.fetched.blocks job.given has);
-              symbols = subst (λ (m : ℕ). m * t.fetched.blocks.size ≤ length t.fetched.blocks.symbols.items) (sym n) (enough_symbols (setup_in w).n o s t.fetched.blocks job.given has);
+              present = subst (λ (m : ℕ). m ≤ length t.fetched.blocks.present.items) (sym n)
+                  (enough_present (setup_in w).n o s t.fetched.blocks job.given has);
+              symbols = subst (λ (m : ℕ). m * t.fetched.blocks.size ≤ length t.fetched.blocks.symbols.items)
+                  (sym n) (enough_symbols (setup_in w).n o s t.fetched.blocks job.given has);
             },
-            omega (arith, is.room_bytes, ap (λ (m : ℕ). m * (16 * stripe_symbols (bench_object t.bench))) works_are),
+            omega (
+              arith,
+              is.room_bytes,
+              ap (λ (m : ℕ). m * (16 * stripe_symbols (bench_object t.bench))) works_are,
+            ),
           )
       by_task task.Drop is = absurd (not_allowed (DropJob is.name) is.kind)
       by_task (task.Audit t) is = absurd (not_allowed AuditJob is.kind)
@@ -115,18 +133,24 @@ module _ (w : State) (job : Job) (o s : ℕ) (next : next_action w job ≡ Some 
           let n = bench_count (setup_in w) t.bench is.bench in
           record {
             size = is.size;
-            present = subst (λ (m : ℕ). m ≤ length t.blocks.present.items) (sym n) (enough_present (setup_in w).n o s t.blocks job.given has);
-            symbols = subst (λ (m : ℕ). m * t.blocks.size ≤ length t.blocks.symbols.items) (sym n) (enough_symbols (setup_in w).n o s t.blocks job.given has);
+            present = subst (λ (m : ℕ). m ≤ length t.blocks.present.items) (sym n)
+                (enough_present (setup_in w).n o s t.blocks job.given has);
+            symbols = subst (λ (m : ℕ). m * t.blocks.size ≤ length t.blocks.symbols.items) (sym n)
+                (enough_symbols (setup_in w).n o s t.blocks job.given has);
           }
 
-  get_blocks : (t : GetTask) → IsGet (setup_in w) t job (Work o s ∷ tail) → work_blocks (task.Get t) ≡ blocks_given job.given (setup_in w).n o s
+  get_blocks : (t : GetTask) → IsGet (setup_in w) t job (Work o s ∷ tail) →
+      work_blocks (task.Get t) ≡ blocks_given job.given (setup_in w).n o s
   get_blocks t is =
-      subst (λ (m : ℕ). Rattle.vault.specs.Opening.last_blocks m t.fetched.blocks ≡ blocks_given job.given (setup_in w).n o s) (sym (bench_count (setup_in w) t.bench is.bench))
+      subst (λ (m : ℕ). Rattle.vault.specs.Opening.last_blocks m t.fetched.blocks
+      ≡ blocks_given job.given (setup_in w).n o s) (sym (bench_count (setup_in w) t.bench is.bench))
       (last_is (setup_in w).n o s t.fetched.blocks job.given (get_fetched t is))
 
-  repair_blocks : (t : RepairTask) → IsRepair (setup_in w) t job (Work o s ∷ tail) → work_blocks (task.Repair t) ≡ blocks_given job.given (setup_in w).n o s
+  repair_blocks : (t : RepairTask) → IsRepair (setup_in w) t job (Work o s ∷ tail) →
+      work_blocks (task.Repair t) ≡ blocks_given job.given (setup_in w).n o s
   repair_blocks t is =
-      subst (λ (m : ℕ). Rattle.vault.specs.Opening.last_blocks m t.blocks ≡ blocks_given job.given (setup_in w).n o s) (sym (bench_count (setup_in w) t.bench is.bench))
+      subst (λ (m : ℕ). Rattle.vault.specs.Opening.last_blocks m t.blocks
+      ≡ blocks_given job.given (setup_in w).n o s) (sym (bench_count (setup_in w) t.bench is.bench))
       (last_is (setup_in w).n o s t.blocks job.given (repair_fetched t is))
 
   -- the symbols that a job then has at hand
@@ -136,16 +160,23 @@ module _ (w : State) (job : Job) (o s : ℕ) (next : next_action w job ≡ Some 
   rows_of t = []
 
   -- they are what the machine's work gives
-  pub gives : (r : Running) (u : Task) → IsRunning (setup_in w) r job → OpensRows r.task u o s → GivesSymbols (worked_object w job o) s (blocks_given job.given (setup_in w).n o s) (rows_of u)
+  pub gives : (r : Running) (u : Task) → IsRunning (setup_in w) r job → OpensRows r.task u o s →
+      GivesSymbols (worked_object w job o) s (blocks_given job.given (setup_in w).n o s) (rows_of u)
   gives r u running opens = by_task r.task u (listed r running) opens
     where
-      by_task : (t u : Task) → IsTask (setup_in w) job (Work o s ∷ tail) t → OpensRows t u o s → GivesSymbols (worked_object w job o) s (blocks_given job.given (setup_in w).n o s) (rows_of u)
+      by_task : (t u : Task) → IsTask (setup_in w) job (Work o s ∷ tail) t → OpensRows t u o s →
+          GivesSymbols (worked_object w job o) s (blocks_given job.given (setup_in w).n o s) (rows_of u)
       by_task (task.Get t) (task.Get u) is opens =
-          subst (λ (x : Object). GivesSymbols x s (blocks_given job.given (setup_in w).n o s) u.bench.rows.items) (turned_is (setup_in w) t.bench o is.bench ∙ worked-plain w job o plain)
-          (subst (λ (l : List SeenBlock). GivesSymbols (Rattle.vault.specs.Storing.turned t.bench o) s l u.bench.rows.items) (get_blocks t is) opens)
+          subst (λ (x : Object). GivesSymbols x s (blocks_given job.given (setup_in w).n o s)
+          u.bench.rows.items) (turned_is (setup_in w) t.bench o is.bench ∙ worked-plain w job o plain)
+          (subst (λ (l : List SeenBlock). GivesSymbols
+          (Rattle.vault.specs.Storing.turned t.bench o) s l u.bench.rows.items) (get_blocks t is) opens)
       by_task (task.Repair t) (task.Repair u) is opens =
-          subst (λ (x : Object). GivesSymbols x s (blocks_given job.given (setup_in w).n o s) u.bench.rows.items) (turned_is (setup_in w) t.bench o is.bench ∙ worked-plain w job o plain)
-          (subst (λ (l : List SeenBlock). GivesSymbols (Rattle.vault.specs.Storing.turned t.bench o) s l u.bench.rows.items) (repair_blocks t is) opens)
+          subst (λ (x : Object). GivesSymbols x s (blocks_given job.given (setup_in w).n o s)
+          u.bench.rows.items) (turned_is (setup_in w) t.bench o is.bench ∙ worked-plain w job o plain)
+          (subst (λ (l : List SeenBlock). GivesSymbols
+          (Rattle.vault.specs.Storing.turned t.bench o) s l u.bench.rows.items)
+          (repair_blocks t is) opens)
       by_task (task.Get t) (task.Put u) is opens = absurd opens
       by_task (task.Get t) task.Drop is opens = absurd opens
       by_task (task.Get t) (task.Audit u) is opens = absurd opens
@@ -159,16 +190,22 @@ module _ (w : State) (job : Job) (o s : ℕ) (next : next_action w job ≡ Some 
       by_task (task.Audit t) u is opens = absurd opens
 
   -- a row that is lost is the one that the machine's work loses
-  pub loses : (r : Running) (row : ℕ) → IsRunning (setup_in w) r job → LosesWork r.task o s row → LosesRow (worked_object w job o) s (blocks_given job.given (setup_in w).n o s) row
+  pub loses : (r : Running) (row : ℕ) → IsRunning (setup_in w) r job → LosesWork r.task o s row →
+      LosesRow (worked_object w job o) s (blocks_given job.given (setup_in w).n o s) row
   loses r row running lost = by_task r.task (listed r running) lost
     where
-      by_task : (t : Task) → IsTask (setup_in w) job (Work o s ∷ tail) t → LosesWork t o s row → LosesRow (worked_object w job o) s (blocks_given job.given (setup_in w).n o s) row
+      by_task : (t : Task) → IsTask (setup_in w) job (Work o s ∷ tail) t → LosesWork t o s row →
+          LosesRow (worked_object w job o) s (blocks_given job.given (setup_in w).n o s) row
       by_task (task.Get t) is lost =
-          subst (λ (x : Object). LosesRow x s (blocks_given job.given (setup_in w).n o s) row) (turned_is (setup_in w) t.bench o is.bench ∙ worked-plain w job o plain)
-          (subst (λ (l : List SeenBlock). LosesRow (Rattle.vault.specs.Storing.turned t.bench o) s l row) (get_blocks t is) lost)
+          subst (λ (x : Object). LosesRow x s (blocks_given job.given (setup_in w).n o s) row)
+          (turned_is (setup_in w) t.bench o is.bench ∙ worked-plain w job o plain)
+          (subst (λ (l : List SeenBlock). LosesRow (Rattle.vault.specs.Storing.turned t.bench o) s l row)
+          (get_blocks t is) lost)
       by_task (task.Repair t) is lost =
-          subst (λ (x : Object). LosesRow x s (blocks_given job.given (setup_in w).n o s) row) (turned_is (setup_in w) t.bench o is.bench ∙ worked-plain w job o plain)
-          (subst (λ (l : List SeenBlock). LosesRow (Rattle.vault.specs.Storing.turned t.bench o) s l row) (repair_blocks t is) lost)
+          subst (λ (x : Object). LosesRow x s (blocks_given job.given (setup_in w).n o s) row)
+          (turned_is (setup_in w) t.bench o is.bench ∙ worked-plain w job o plain)
+          (subst (λ (l : List SeenBlock). LosesRow (Rattle.vault.specs.Storing.turned t.bench o) s l row)
+          (repair_blocks t is) lost)
       by_task (task.Put t) is lost = absurd lost
       by_task task.Drop is lost = absurd lost
       by_task (task.Audit t) is lost = absurd lost
@@ -179,15 +216,21 @@ module _ (w : State) (job : Job) (o s : ℕ) (next : next_action w job ≡ Some 
     abbrev next_job : Job
     next_job = advanced_with job (Worked o s rows)
 
-    get_after : (t u : GetTask) → IsGet (setup_in w) t job (Work o s ∷ tail) → TakesWork (task.Get t) (task.Get u) o → u.bench.rows.items ≡ rows → length rows ≡ stripe_symbols (object_of (setup_in w) o) → IsGet (setup_in w) u next_job tail
+    get_after : (t u : GetTask) → IsGet (setup_in w) t job (Work o s ∷ tail) →
+        TakesWork (task.Get t) (task.Get u) o → u.bench.rows.items ≡ rows →
+        length rows ≡ stripe_symbols (object_of (setup_in w) o) → IsGet (setup_in w) u next_job tail
     get_after t u is takes rows_is size =
         let st = setup_in w in
         let moved = takes.0 in
         let turned_to = takes.2 ∙ turned_is st t.bench o is.bench in
         let long : length u.bytes.items ≡ length t.bytes.items + 16 * length rows =
-        ap length takes.3 ∙ length-append t.bytes.items (bytes_of_symbols u.bench.rows.items) ∙ ap (λ (m : ℕ). length t.bytes.items + m) (length-bytes_of_symbols u.bench.rows.items ∙ ap (λ (l : List ℕ). 16 * length l) rows_is) in
-        let per : stripe_symbols (bench_object t.bench) ≡ stripe_symbols (object_of (setup_in w) o) = ap stripe_symbols is.bench in
-        let per' : stripe_symbols (bench_object u.bench) ≡ stripe_symbols (object_of (setup_in w) o) = ap stripe_symbols turned_to in
+        ap length takes.3 ∙ length-append t.bytes.items (bytes_of_symbols u.bench.rows.items)
+        ∙ ap (λ (m : ℕ). length t.bytes.items + m) (length-bytes_of_symbols u.bench.rows.items
+        ∙ ap (λ (l : List ℕ). 16 * length l) rows_is) in
+        let per : stripe_symbols (bench_object t.bench) ≡ stripe_symbols (object_of (setup_in w) o) =
+        ap stripe_symbols is.bench in
+        let per' : stripe_symbols (bench_object u.bench) ≡ stripe_symbols (object_of (setup_in w) o) =
+        ap stripe_symbols turned_to in
         let works = ap (λ (m : ℕ). m * (16 * stripe_symbols (bench_object t.bench))) works_are in
         record {
           name = is.name;
@@ -196,11 +239,15 @@ module _ (w : State) (job : Job) (o s : ℕ) (next : next_action w job ≡ Some 
           pinned = is.pinned;
           length_is = takes.1 ∙ is.length_is;
           bench = bench_after st t.bench u.bench o is.bench takes.2;
-          size = ap (λ (f : Fetches). f.blocks.size) moved ∙ is.size ∙ sym (ap (λ (x : Object). x.profile.size) takes.2);
+          size = ap (λ (f : Fetches). f.blocks.size) moved ∙ is.size
+              ∙ sym (ap (λ (x : Object). x.profile.size) takes.2);
           job_is = ap (λ (f : Fetches). f.job) moved ∙ is.job_is;
-          heard = ap (λ (f : Fetches). fetched_entries f.job f.fetches.items (blocks_in f.blocks)) moved ∙ is.heard;
-          fetches = subst (λ (f : Fetches). length f.fetches.items ≡ length f.blocks.present.items) (sym moved) is.fetches;
-          symbols = subst (λ (f : Fetches). length f.blocks.symbols.items ≡ length f.blocks.present.items * f.blocks.size) (sym moved) is.symbols;
+          heard = ap (λ (f : Fetches). fetched_entries f.job f.fetches.items (blocks_in f.blocks)) moved
+              ∙ is.heard;
+          fetches = subst (λ (f : Fetches). length f.fetches.items ≡ length f.blocks.present.items)
+              (sym moved) is.fetches;
+          symbols = subst (λ (f : Fetches). length f.blocks.symbols.items
+              ≡ length f.blocks.present.items * f.blocks.size) (sym moved) is.symbols;
           phase = Opened o s;
           order = order_opened st.n o s tail t.fetched.blocks t.bench.rows.items job.given is.phase is.order;
           in_work = rows_is ∙ worked_is o s rows job.given;
@@ -209,22 +256,46 @@ module _ (w : State) (job : Job) (o s : ℕ) (next : next_action w job ≡ Some 
           bytes =
               takes.3 ∙ ap (λ (l : List ℕ). t.bytes.items ++ bytes_of_symbols l) rows_is
               ∙ bytes_after is.file.id is.opened rows t.bytes.items job.given is.bytes
-              ∙ (λ i. flat_map (λ t. bytes_of_symbols (symbols_given (Worked ((sym is.opens.0) i) ((sym is.opens.1) i) rows ∷ job.given) is.file.id t)) (upto (is.opened + 1)));
-          room_fetches = subst (λ (f : Fetches). vec_len f.fetches + fetches_left tail ≤ vec_capacity f.fetches) (sym moved) (omega (arith, is.room_fetches, fetches_are));
-          room_present = subst (λ (f : Fetches). vec_len f.blocks.present + fetches_left tail ≤ vec_capacity f.blocks.present) (sym moved) (omega (arith, is.room_present, fetches_are));
-          room_symbols = subst (λ (f : Fetches). vec_len f.blocks.symbols + fetches_left tail * f.blocks.size ≤ vec_capacity f.blocks.symbols) (sym moved)
+              ∙ (λ i. flat_map (λ t. bytes_of_symbols
+              (symbols_given (Worked ((sym is.opens.0) i) ((sym is.opens.1) i) rows ∷ job.given)
+              is.file.id t)) (upto (is.opened + 1)));
+          room_fetches = subst (λ (f : Fetches). vec_len f.fetches + fetches_left tail ≤ vec_capacity
+              f.fetches) (sym moved) (omega (arith, is.room_fetches, fetches_are));
+          room_present = subst (λ (f : Fetches). vec_len f.blocks.present + fetches_left tail ≤ vec_capacity
+              f.blocks.present) (sym moved) (omega (arith, is.room_present, fetches_are));
+          room_symbols = subst (λ (f : Fetches). vec_len f.blocks.symbols + fetches_left
+              tail * f.blocks.size ≤ vec_capacity f.blocks.symbols) (sym moved)
               (omega (arith, is.room_symbols, ap (λ (m : ℕ). m * t.fetched.blocks.size) fetches_are));
           room_bytes = room t u is.room_bytes takes.4 works long (size ∙ sym per) (per' ∙ sym per);
         }
       where
-        room : (t u : GetTask) → vec_len t.bytes + works_left (Work o s ∷ tail) * (16 * stripe_symbols (bench_object t.bench)) ≤ vec_capacity t.bytes → vec_capacity t.bytes ≤ vec_capacity u.bytes
-            → works_left (Work o s ∷ tail) * (16 * stripe_symbols (bench_object t.bench)) ≡ (1 + works_left tail) * (16 * stripe_symbols (bench_object t.bench)) → length u.bytes.items ≡ length t.bytes.items + 16 * length rows
-            → length rows ≡ stripe_symbols (bench_object t.bench) → stripe_symbols (bench_object u.bench) ≡ stripe_symbols (bench_object t.bench)
-            → vec_len u.bytes + works_left tail * (16 * stripe_symbols (bench_object u.bench)) ≤ vec_capacity u.bytes
+        room : (t u : GetTask) →
+            vec_len t.bytes + works_left
+            (Work o s ∷ tail) * (16 * stripe_symbols (bench_object t.bench)) ≤ vec_capacity t.bytes →
+            vec_capacity t.bytes ≤ vec_capacity u.bytes
+            → works_left (Work o s ∷ tail) * (16 * stripe_symbols (bench_object t.bench))
+            ≡ (1 + works_left tail) * (16 * stripe_symbols (bench_object t.bench)) →
+            length u.bytes.items ≡ length t.bytes.items + 16 * length rows
+            → length rows ≡ stripe_symbols (bench_object t.bench) →
+            stripe_symbols (bench_object u.bench) ≡ stripe_symbols (bench_object t.bench)
+            → vec_len u.bytes + works_left tail * (16 * stripe_symbols (bench_object u.bench)) ≤ vec_capacity
+            u.bytes
         room t u old more works long per same =
-            omega (arith, old, more, works, long, per, ap (λ (m : ℕ). works_left tail * (16 * m)) same, t.bytes.ok.0, u.bytes.ok.0)
+            omega (
+              arith,
+              old,
+              more,
+              works,
+              long,
+              per,
+              ap (λ (m : ℕ). works_left tail * (16 * m)) same,
+              t.bytes.ok.0,
+              u.bytes.ok.0,
+            )
 
-    repair_after : (t u : RepairTask) → IsRepair (setup_in w) t job (Work o s ∷ tail) → TakesWork (task.Repair t) (task.Repair u) o → u.bench.rows.items ≡ rows → IsRepair (setup_in w) u next_job tail
+    repair_after : (t u : RepairTask) → IsRepair (setup_in w) t job (Work o s ∷ tail) →
+        TakesWork (task.Repair t) (task.Repair u) o → u.bench.rows.items ≡ rows →
+        IsRepair (setup_in w) u next_job tail
     repair_after t u is takes rows_is =
         let st = setup_in w in
         let emptied = takes.0 in
@@ -238,20 +309,34 @@ module _ (w : State) (job : Job) (o s : ℕ) (next : next_action w job ≡ Some 
           present = ap length emptied.present;
           symbols = ap length emptied.symbols ∙ (let e : 0 ≡ 0 * u.blocks.size = omega arith in e);
           room_present = omega (arith, is.room_present, emptied.present_room);
-          room_symbols = omega (arith, is.room_symbols, emptied.symbols_room, ap (λ (m : ℕ). st.n * m) emptied.size);
+          room_symbols = omega (
+            arith,
+            is.room_symbols,
+            emptied.symbols_room,
+            ap (λ (m : ℕ). st.n * m) emptied.size,
+          );
         }
 
   -- the job goes on with its stripe opened
-  pub runs_on : (r r' : Running) → IsRunning (setup_in w) r job → r'.number ≡ r.number → OpensRows r.task r'.task o s → TakesWork r.task r'.task o → IsRunning (setup_in w) r' (advanced_with job (Worked o s (rows_of r'.task)))
+  pub runs_on : (r r' : Running) → IsRunning (setup_in w) r job → r'.number ≡ r.number →
+      OpensRows r.task r'.task o s → TakesWork r.task r'.task o →
+      IsRunning (setup_in w) r' (advanced_with job (Worked o s (rows_of r'.task)))
   runs_on r r' running number opens takes = record {
     number = number ∙ running.number;
-    task = subst (λ (l : List Action). IsTask (setup_in w) (advanced_with job (Worked o s (rows_of r'.task))) l r'.task) (sym (ap (drop (job.place + 1)) (actions_same (setup_in w) job (job.place + 1) (Worked o s (rows_of r'.task) ∷ job.given))))
-        (by_task r.task r'.task (listed r running) ((gives r r'.task running opens).size ∙ ap stripe_symbols (sym (worked-plain w job o plain))) takes);
+    task = subst (λ (l : List Action). IsTask (setup_in w)
+        (advanced_with job (Worked o s (rows_of r'.task))) l r'.task)
+        (sym (ap (drop (job.place + 1))
+        (actions_same (setup_in w) job (job.place + 1) (Worked o s (rows_of r'.task) ∷ job.given))))
+        (by_task r.task r'.task (listed r running) ((gives r r'.task running opens).size
+        ∙ ap stripe_symbols (sym (worked-plain w job o plain))) takes);
   }
     where
-      by_task : (t u : Task) → IsTask (setup_in w) job (Work o s ∷ tail) t → length (rows_of u) ≡ stripe_symbols (object_of (setup_in w) o) → TakesWork t u o → IsTask (setup_in w) (advanced_with job (Worked o s (rows_of u))) tail u
+      by_task : (t u : Task) → IsTask (setup_in w) job (Work o s ∷ tail) t →
+          length (rows_of u) ≡ stripe_symbols (object_of (setup_in w) o) → TakesWork t u o →
+          IsTask (setup_in w) (advanced_with job (Worked o s (rows_of u))) tail u
       by_task (task.Get t) (task.Get u) is size takes = get_after u.bench.rows.items t u is takes refl size
-      by_task (task.Repair t) (task.Repair u) is size takes = repair_after u.bench.rows.items t u is takes refl
+      by_task (task.Repair t) (task.Repair u) is size takes =
+          repair_after u.bench.rows.items t u is takes refl
       by_task (task.Get t) (task.Put u) is size takes = absurd takes
       by_task (task.Get t) task.Drop is size takes = absurd takes
       by_task (task.Get t) (task.Audit u) is size takes = absurd takes
@@ -266,7 +351,8 @@ module _ (w : State) (job : Job) (o s : ℕ) (next : next_action w job ≡ Some 
 
 -- what a job heard is as before
 heard_same : (t u : Task) → KeepsHeard t u → heard_of u ≡ heard_of t
-heard_same (task.Get t) (task.Get u) keeps = ap (λ (f : Fetches). fetched_entries f.job f.fetches.items (blocks_in f.blocks)) keeps
+heard_same (task.Get t) (task.Get u) keeps =
+    ap (λ (f : Fetches). fetched_entries f.job f.fetches.items (blocks_in f.blocks)) keeps
 heard_same (task.Repair t) (task.Repair u) keeps = refl
 heard_same (task.Get t) (task.Put u) keeps = absurd keeps
 heard_same (task.Get t) task.Drop keeps = absurd keeps
@@ -280,14 +366,16 @@ heard_same (task.Put t) u keeps = absurd keeps
 heard_same task.Drop u keeps = absurd keeps
 heard_same (task.Audit t) u keeps = absurd keeps
 
-module _ (v : Desk) (w : State) (d : Devices) (moment number o s : ℕ) (stands : DeskStands v d w) (comes : Comes v.core number (Work o s)) where
+module _ (v : Desk) (w : State) (d : Devices) (moment number o s : ℕ) (stands : DeskStands v d w)
+    (comes : Comes v.core number (Work o s)) where
   coming : ComesNext w number (Work o s) None
   coming = comes.machine w stands.core
 
   plain_job : IsPlainJob (setup_in w) coming.job
   plain_job = plain-core v.core w number coming.job stands.core coming.runs
 
-  module _ (place : ℕ) (r : Running) (at : place_in v.jobs.items number ≡ Some place) (there : slice_get v.jobs.items place ≡ Some r) where
+  module _ (place : ℕ) (r : Running) (at : place_in v.jobs.items number ≡ Some place)
+      (there : slice_get v.jobs.items place ≡ Some r) where
     runs : IsRunning (setup_in w) r coming.job
     runs = at_place v d w number place (Work o s) r stands coming at there
 
@@ -297,13 +385,17 @@ module _ (v : Desk) (w : State) (d : Devices) (moment number o s : ℕ) (stands 
 
     module _ (r' : Running) (same_number : r'.number ≡ r.number) where
       -- work that is done is a step of the machine
-      pub work_step : (v' : Desk) (result : Result Unit RowLost) (x : Unit) → result ≡ Ok x → WorksAs r.task r'.task o s result → v'.jobs.items ≡ slice_set v.jobs.items place r' → KeepsAll v v' → v'.flight ≡ v.flight → IsFed v.core number reply.Done v'.core
+      pub work_step : (v' : Desk) (result : Result Unit RowLost) (x : Unit) → result ≡ Ok x →
+          WorksAs r.task r'.task o s result → v'.jobs.items ≡ slice_set v.jobs.items place r' →
+          KeepsAll v v' → v'.flight ≡ v.flight → IsFed v.core number reply.Done v'.core
           → DeskMakesStep w moment number turn.More v' d d
       work_step v' result x is works jobs keeps_all flight fed =
-          let done : OpensRows r.task r'.task o s × TakesWork r.task r'.task o = subst (λ (y : Result Unit RowLost). WorksAs r.task r'.task o s y) is works in
+          let done : OpensRows r.task r'.task o s × TakesWork r.task r'.task o =
+          subst (λ (y : Result Unit RowLost). WorksAs r.task r'.task o s y) is works in
           let rows = rows_of w coming.job o s coming.comes plain_job r'.task in
           let new : State = going_on w (advanced_with coming.job (Worked o s rows)) in
-          goes_on v v' w new d.holds d.faults moment number place d.providers d.providers (Work o s) r' (advanced_with coming.job (Worked o s rows)) stands coming
+          goes_on v v' w new d.holds d.faults moment number place d.providers d.providers (Work o s) r'
+          (advanced_with coming.job (Worked o s rows)) stands coming
           (rows, gives w coming.job o s coming.comes plain_job r r'.task runs done.0, refl)
           (record { records = refl; doubt = refl; append = refl; faults = refl; barred = refl })
           refl refl
@@ -313,17 +405,32 @@ module _ (v : Desk) (w : State) (d : Devices) (moment number o s : ℕ) (stands 
           keeps_all flight fed
 
       -- a row that is lost ends the job
-      pub lost_step : (v1 v2 : Desk) (turn : Turn) (row : ℕ) (result : Result Unit RowLost) (lost : RowLost) → result ≡ Err lost → row ≡ lost.row → WorksAs r.task r'.task o s result
-          → v1.core ≡ v.core → v1.jobs.items ≡ slice_set v.jobs.items place r' → KeepsAll v v1 → v1.flight ≡ v.flight
-          → IsStopped v1 number (reply.Lost row) (answer.Lost s row) turn v2 → DeskMakesStep w moment number turn v2 d d
+      pub lost_step : (v1 v2 : Desk) (turn : Turn) (row : ℕ) (result : Result Unit RowLost) (lost : RowLost) →
+          result ≡ Err lost → row ≡ lost.row → WorksAs r.task r'.task o s result
+          → v1.core ≡ v.core → v1.jobs.items ≡ slice_set v.jobs.items place r' → KeepsAll v v1 →
+          v1.flight ≡ v.flight
+          → IsStopped v1 number (reply.Lost row) (answer.Lost s row) turn v2 →
+          DeskMakesStep w moment number turn v2 d d
       lost_step v1 v2 turn row result lost is row_is works core jobs keeps_all flight stopped =
-          let loss : LosesWork r.task o s lost.row × KeepsHeard r.task r'.task = subst (λ (y : Result Unit RowLost). WorksAs r.task r'.task o s y) is works in
+          let loss : LosesWork r.task o s lost.row × KeepsHeard r.task r'.task =
+          subst (λ (y : Result Unit RowLost). WorksAs r.task r'.task o s y) is works in
           let new : State = ended w coming.job in
-          ends_by v v1 v2 w new d.holds d.faults moment number place d.providers d.providers (Work o s) r r' (reply.Lost row) (answer.Lost s row) turn stands coming
-          (refl, loses w coming.job o s coming.comes plain_job r row runs (subst (λ (m : ℕ). LosesWork r.task o s m) (sym row_is) loss.0), refl)
+          ends_by v v1 v2 w new d.holds d.faults moment number place d.providers d.providers (Work o s) r r'
+          (reply.Lost row) (answer.Lost s row) turn stands coming (
+            refl,
+            loses w coming.job o s coming.comes plain_job r row runs
+                (subst (λ (m : ℕ). LosesWork r.task o s m) (sym row_is) loss.0),
+            refl,
+          )
           (record { records = refl; doubt = refl; append = refl; faults = refl; barred = refl })
           (ap (without_job w.jobs) (number_of w.jobs number coming.job coming.runs))
           at there
-          (record { core = core; jobs = jobs; number = same_number; heard = heard_same r.task r'.task loss.1; keeps = keeps_all })
+          (record {
+            core = core;
+            jobs = jobs;
+            number = same_number;
+            heard = heard_same r.task r'.task loss.1;
+            keeps = keeps_all;
+          })
           flight stopped refl
           (handed_same d.providers w new stands.devices.providers refl (λ j. refl)) (λ e. cc)

@@ -46,8 +46,8 @@ impl Desk {
         }
     }
 
-    /// Takes a job in with what it works with, where its begin is accepted. Conditions: a number is left for the job, and a
-    /// put has at most 2^22 bytes.
+    /// Takes a job in with what it works with, where its begin is accepted. Conditions: a number is left for
+    /// the job, and a put has at most 2^22 bytes.
     pub(crate) fn admit(&mut self, wish: Wish, task: Task) -> Result<u32, BeginFault>
         requires number { self.old.core.next_job < 2 ^ 32 - 1 }
         requires size { IsShort wish }

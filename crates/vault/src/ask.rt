@@ -241,7 +241,8 @@ impl Desk {
         }
     }
 
-    /// Asks a provider for its answer in a round, and judges the round where it is the last one. A provider that fails gives none.
+    /// Asks a provider for its answer in a round, and judges the round where it is the last one. A provider
+    /// that fails gives none.
     pub fn ask<P: Provider>(
         &mut self,
         job: u32,

@@ -92,8 +92,8 @@ impl Vault {
         }
     }
 
-    /// Begins to rebuild the providers that the last audit flagged. Its bench is one for the largest file, since it turns to
-    /// files of any length.
+    /// Begins to rebuild the providers that the last audit flagged. Its bench is one for the largest file,
+    /// since it turns to files of any length.
     pub fn begin_repair(&mut self) -> Result<u32, BeginFault>
         requires { next_job_of self.old < 2 ^ 32 - 1 }
         ensures machine { (w : State) (d : Devices) (moment : ℕ) → Stands self.old d w

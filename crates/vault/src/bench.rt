@@ -6,9 +6,9 @@ use column_codec::{Block, MasksAtHand, ObjectKeys, RowLost, Trust};
 use hail_field::Symbol;
 use server_code::AnyCode;
 
-/// What the stripes of an object are made and opened with: its keys, the server code of its profile, the symbols of one stripe
-/// in layout order, the block of one provider, room for a block of each, masks of the stripes that come, and who is trusted
-/// at the next one.
+/// What the stripes of an object are made and opened with: its keys, the server code of its profile, the
+/// symbols of one stripe in layout order, the block of one provider, room for a block of each, masks of the
+/// stripes that come, and who is trusted at the next one.
 #[derive(Drop)]
 pub struct Bench {
     pub keys: ObjectKeys,

@@ -67,7 +67,8 @@ impl Bench {
     }
 }
 
-/// From so many kept rows on a file's keys have tables: a table takes 128 products, twice in a put, and saves one a row.
+/// From so many kept rows on a file's keys have tables: a table takes 128 products, twice in a put, and saves
+/// one a row.
 const MANY_ROWS: u64 = 256;
 
 /// The keys of a file's object, with tables where these save more than they take.

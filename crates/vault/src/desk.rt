@@ -8,8 +8,8 @@ use record_codec::Setup;
 use std::alloc::Global;
 use vault_core::Core;
 
-/// What a vault works with: the core, the numbers of its setup, the registers of the decoders, the append in flight, and what
-/// each running job works with.
+/// What a vault works with: the core, the numbers of its setup, the registers of the decoders, the append in
+/// flight, and what each running job works with.
 #[derive(Drop)]
 pub struct Desk {
     pub alloc: Global,

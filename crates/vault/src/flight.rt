@@ -37,7 +37,8 @@ impl Flight {
     ghost use Rattle.journal_core.specs.Moves.{SameFrom};
     ghost use Rattle.vault.specs.Flights.{MakesMove, ChangesCells, HasFailed};
 
-    /// An append of this record at the gate at this offset, no move of which is made. Condition: the journal has room.
+    /// An append of this record at the gate at this offset, no move of which is made. Condition: the journal
+    /// has room.
     pub fn new(gate: u64, entry: &Record) -> Flight
         requires in_grammar { IsInGrammar entry.now }
         requires room { gate + 2 + record_size (entry_of entry.now) ≤ 2 ^ 24 }

@@ -12,8 +12,8 @@ use std::alloc::Global;
 use vault_core::Core;
 use vault_open::{StartFault, Store};
 
-/// A desk with no job, over a store; jobs are numbered from `first` on. Conditions: its setup is the table's and within
-/// its limits, and its text has at least 9 bytes and at most 2^24.
+/// A desk with no job, over a store; jobs are numbered from `first` on. Conditions: its setup is the table's
+/// and within its limits, and its text has at least 9 bytes and at most 2^24.
 pub(crate) fn open_fresh(alloc: Global, store: Store, first: u32) -> Result<Desk, StartFault>
     requires set_up { store.table.setup ≡ Some (with_master store.setup store.master.0) }
     requires limits { IsTrue (is_setup (with_master store.setup store.master.0)) }

@@ -34,7 +34,8 @@ fn room_for(alloc: Global, job: u32, bench: &Bench) -> Result<(Fetches, Vec<u8>)
 }
 
 impl GetTask {
-    /// What the get of the bench's file works with before its first fetch, with room for all that its steps keep.
+    /// What the get of the bench's file works with before its first fetch, with room for all that its steps
+    /// keep.
     pub(crate) fn new(alloc: Global, job: u32, bench: Bench) -> Result<GetTask, Memory>
         ensures { IfOk result (IsNewGet job bench) }
     {

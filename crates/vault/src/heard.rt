@@ -62,8 +62,8 @@ pub enum Parts {
     Answered(Answers),
 }
 
-/// What a job heard, in order: a get each of its fetches, an audit each of its asks, and any other job nothing. The blocks
-/// lie in one vector, which was reserved when the job began.
+/// What a job heard, in order: a get each of its fetches, an audit each of its asks, and any other job
+/// nothing. The blocks lie in one vector, which was reserved when the job began.
 #[derive(Drop)]
 pub struct HeardList {
     pub(crate) parts: Parts,

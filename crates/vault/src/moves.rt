@@ -48,8 +48,8 @@ impl Desk {
         }
     }
 
-    /// Makes the next move of a job's append: it writes the record behind the closed gate, syncs the disk, opens the gate, or
-    /// syncs again; then the record is in effect.
+    /// Makes the next move of a job's append: it writes the record behind the closed gate, syncs the disk,
+    /// opens the gate, or syncs again; then the record is in effect.
     pub fn move_append<D: Disk>(&mut self, job: u32, disk: &mut D) -> Turn
         requires next { ComesMove self.old.core job }
         requires at_work { IsAtWork self.old }

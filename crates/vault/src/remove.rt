@@ -26,7 +26,8 @@ fn remove_from<P: Provider>(from: &mut P, object: u64)
 }
 
 impl Desk {
-    /// Takes an object that is no longer in effect away from a provider. A failure is passed over: what is left is never read.
+    /// Takes an object that is no longer in effect away from a provider. A failure is passed over: what is
+    /// left is never read.
     pub fn remove<P: Provider>(
         &mut self,
         job: u32,

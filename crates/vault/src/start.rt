@@ -21,7 +21,8 @@ use std::alloc::Global;
 use vault_open::{StartFault, read_store};
 
 impl Vault {
-    /// Opens a vault over what the disk reads; what lies beyond 2^24 bytes is not looked at. Jobs are numbered from `first` on.
+    /// Opens a vault over what the disk reads; what lies beyond 2^24 bytes is not looked at. Jobs are
+    /// numbered from `first` on.
     pub fn start<D: Disk>(alloc: Global, disk: &mut D, first: u32) -> Result<Vault, StartFault>
         ensures opened { IfOk result (λ v. (rs : List Record) × IsRead (D.holds disk.old) rs
             × ((w : State) (providers : List Provider) → IsJustOpened w rs first (D.faults disk.new) providers

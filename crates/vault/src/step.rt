@@ -18,8 +18,9 @@ use provider_model::Provider;
 use vault_core::Next;
 
 impl Vault {
-    /// Makes the next action of a job, with its one call of a device, if it has one. Conditions: the setup's `n` providers
-    /// at least, of which only these are used; and the disk is the one that the vault was opened over.
+    /// Makes the next action of a job, with its one call of a device, if it has one. Conditions: the setup's
+    /// `n` providers at least, of which only these are used; and the disk is the one that the vault was
+    /// opened over.
     pub fn step<D: Disk, P: Provider>(
         &mut self,
         job: u32,

@@ -19,7 +19,8 @@ pub struct PutTask {
         ≡ symbols_in (shaped_object bench.keys.master.0 bench.keys.file) bytes stripe) },
 }
 
-/// What a get works with: what its fetches gave, and the bytes that were opened so far, of a file of this length.
+/// What a get works with: what its fetches gave, and the bytes that were opened so far, of a file of this
+/// length.
 #[derive(Drop)]
 pub struct GetTask {
     pub fetched: Fetches,

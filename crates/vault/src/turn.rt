@@ -13,7 +13,8 @@ pub enum Answer {
     },
     /// The file is no longer in effect.
     Dropped,
-    /// The audit is done: its number, how many rounds were undecided, and how often each provider was counted.
+    /// The audit is done: its number, how many rounds were undecided, and how often each provider was
+    /// counted.
     Audited {
         number: u64,
         undecided: u32,

@@ -4,7 +4,8 @@ use crate::desk::Desk;
 use record_codec::Setup;
 use vault_table::Table;
 
-/// An open vault: the jobs of a client over a disk and providers, which it does not hold: each step is lent them.
+/// An open vault: the jobs of a client over a disk and providers, which it does not hold: each step is lent
+/// them.
 #[derive(Drop)]
 pub struct Vault {
     pub(crate) desk: Desk,
@@ -36,6 +37,7 @@ impl Vault {
         self.desk.core.next_job()
     }
 
-    /// Gives the vault up: a job that is under way goes on no more. What the disk and the providers hold stays.
+    /// Gives the vault up: a job that is under way goes on no more. What the disk and the providers hold
+    /// stays.
     pub fn close(self) {}
 }

@@ -44,15 +44,21 @@ all_more P x xs p all = λ k d l. by k d l
 tasks-all : (f : ℕ → ℕ) (ps : List Pinned) → All (λ (t : Task). 0 < t.turns) (tasks_made f ps)
 tasks-all f [] = all_none (λ (t : Task). 0 < t.turns)
 tasks-all f (p ∷ ps) = elim (cases_Bool (nat_lt 0 (f p.length))) [
-  | inl h ↦ subst (All (λ (t : Task). 0 < t.turns)) (sym (ap (λ (b : Bool). if b then record { object = p.id; turns = f p.length } ∷ tasks_made f ps else tasks_made f ps) h))
-      (all_more (λ (t : Task). 0 < t.turns) (record { object = p.id; turns = f p.length }) (tasks_made f ps) (ltb-true 0 (f p.length) h) (tasks-all f ps))
-  | inr h ↦ subst (All (λ (t : Task). 0 < t.turns)) (sym (ap (λ (b : Bool). if b then record { object = p.id; turns = f p.length } ∷ tasks_made f ps else tasks_made f ps) h)) (tasks-all f ps)
+  | inl h ↦ subst (All (λ (t : Task). 0 < t.turns))
+      (sym (ap (λ (b : Bool). if b then record { object = p.id; turns = f p.length } ∷ tasks_made f ps
+      else tasks_made f ps) h))
+      (all_more (λ (t : Task). 0 < t.turns) (record { object = p.id; turns = f p.length }) (tasks_made f ps)
+      (ltb-true 0 (f p.length) h) (tasks-all f ps))
+  | inr h ↦ subst (All (λ (t : Task). 0 < t.turns))
+      (sym (ap (λ (b : Bool). if b then record { object = p.id; turns = f p.length } ∷ tasks_made f ps
+      else tasks_made f ps) h)) (tasks-all f ps)
 ]
 
 -- ---- how many actions
 
 length-calls : (n : ℕ) (w : Wish) (o t : ℕ) → length (calls_from 0 n w o t) ≡ n
-length-calls n w o t = let a : length (calls_from 0 n w o t) ≡ length (numbers 0 n) = simp length-map in let b = length-range_with_len 0 (n - 0) in omega (arith, a, b)
+length-calls n w o t = let a : length (calls_from 0 n w o t) ≡ length (numbers 0 n) =
+    simp length-map in let b = length-range_with_len 0 (n - 0) in omega (arith, a, b)
 
 length-rewrite : (fl : List Bool) (o t j : ℕ) → length (rewrite_of fl o t j) ≡ length (rewrite_of fl 0 0 j)
 length-rewrite fl o t j = elim (cases_Bool (flag_at fl j)) [
@@ -60,7 +66,8 @@ length-rewrite fl o t j = elim (cases_Bool (flag_at fl j)) [
   | inr h ↦ rw h refl
 ]
 
-length-flat : {X : Type 0} (f g : X → List Action) (ks : List X) → ((k : X) → length (f k) ≡ length (g k)) → length (flat_map f ks) ≡ length (flat_map g ks)
+length-flat : {X : Type 0} (f g : X → List Action) (ks : List X) → ((k : X) → length (f k) ≡ length (g k)) →
+    length (flat_map f ks) ≡ length (flat_map g ks)
 length-flat f g [] h = refl
 length-flat f g (k ∷ ks) h =
     let a = length-append (f k) (flat_map f ks) in
@@ -69,20 +76,27 @@ length-flat f g (k ∷ ks) h =
     let i = length-flat f g ks h in
     omega (arith, a, b, c, i)
 
-length-rewrites : (n : ℕ) (fl : List Bool) (o t : ℕ) → length (rewrites_from 0 n fl o t) ≡ length (rewrites_from 0 n fl 0 0)
-length-rewrites n fl o t = length-flat (rewrite_of fl o t) (rewrite_of fl 0 0) (numbers 0 n) (length-rewrite fl o t)
+length-rewrites : (n : ℕ) (fl : List Bool) (o t : ℕ) →
+    length (rewrites_from 0 n fl o t) ≡ length (rewrites_from 0 n fl 0 0)
+length-rewrites n fl o t =
+    length-flat (rewrite_of fl o t) (rewrite_of fl 0 0) (numbers 0 n) (length-rewrite fl o t)
 
-length-turn : (n : ℕ) (w : Wish) (fl : List Bool) (o t : ℕ) → length (turn_of n w fl o t) ≡ size_of_turn n w fl
-length-turn n w fl o t = let a = length-append (calls_from 0 n w o t) (work_of n w fl o t) in let b = length-calls n w o t in let c = by w in omega (arith, a, b, c)
+length-turn : (n : ℕ) (w : Wish) (fl : List Bool) (o t : ℕ) →
+    length (turn_of n w fl o t) ≡ size_of_turn n w fl
+length-turn n w fl o t = let a = length-append (calls_from 0 n w o t) (work_of n w fl o t) in let b =
+    length-calls n w o t in let c = by w in omega (arith, a, b, c)
   where
     by : (v : Wish) → n + length (work_of n v fl o t) ≡ size_of_turn n v fl
     by (wish.Put name size) = omega arith
     by (wish.Get name) = refl
     by (wish.Drop name) = omega arith
     by wish.Audit = omega arith
-    by wish.Repair = let e = length-rewrites n fl o t in let k : length (work_of n wish.Repair fl o t) ≡ suc (length (rewrites_from 0 n fl o t)) = refl in omega (arith, e, k)
+    by wish.Repair = let e = length-rewrites n fl o t in
+        let k : length (work_of n wish.Repair fl o t) ≡ suc (length (rewrites_from 0 n fl o t)) = refl in
+        omega (arith, e, k)
 
-length-each : {X : Type 0} (f : X → List Action) (m : ℕ) (ks : List X) → ((k : X) → length (f k) ≡ m) → length (flat_map f ks) ≡ length ks * m
+length-each : {X : Type 0} (f : X → List Action) (m : ℕ) (ks : List X) → ((k : X) → length (f k) ≡ m) →
+    length (flat_map f ks) ≡ length ks * m
 length-each f m [] h = omega arith
 length-each f m (k ∷ ks) h =
     let a = length-append (f k) (flat_map f ks) in
@@ -91,10 +105,15 @@ length-each f m (k ∷ ks) h =
     let e : suc (length ks) * m ≡ m + length ks * m = omega arith in
     omega (arith, a, c, i, e)
 
-length-turns : (n : ℕ) (w : Wish) (fl : List Bool) (o b : ℕ) → length (turns_from 0 n w fl o b) ≡ b * size_of_turn n w fl
-length-turns n w fl o b = length-each (turn_of n w fl o) (size_of_turn n w fl) (numbers 0 b) (length-turn n w fl o) ∙ ap (λ (k : ℕ). k * size_of_turn n w fl) (length-range_with_len 0 (b - 0) ∙ (let e : b - 0 ≡ b = omega arith in e))
+length-turns : (n : ℕ) (w : Wish) (fl : List Bool) (o b : ℕ) →
+    length (turns_from 0 n w fl o b) ≡ b * size_of_turn n w fl
+length-turns n w fl o b = length-each (turn_of n w fl o) (size_of_turn n w fl) (numbers 0 b)
+    (length-turn n w fl o)
+    ∙ ap (λ (k : ℕ). k * size_of_turn n w fl) (length-range_with_len 0 (b - 0)
+    ∙ (let e : b - 0 ≡ b = omega arith in e))
 
-length-tasks : (n : ℕ) (w : Wish) (fl : List Bool) (ts : List Task) → length (tasks_of n w fl ts) ≡ sum_by (λ (t : Task). t.turns * size_of_turn n w fl) ts
+length-tasks : (n : ℕ) (w : Wish) (fl : List Bool) (ts : List Task) →
+    length (tasks_of n w fl ts) ≡ sum_by (λ (t : Task). t.turns * size_of_turn n w fl) ts
 length-tasks n w fl [] = refl
 length-tasks n w fl (t ∷ ts) =
     let a = length-append (turns_from 0 n w fl t.object t.turns) (tasks_of n w fl ts) in
@@ -112,36 +131,50 @@ front_of w = if is_opener w then append_actions else []
 all_first : (t : Task) (ts : List Task) → All (λ (x : Task). 0 < x.turns) (t ∷ ts) → 0 < t.turns
 all_first t ts h = h 0 t (omega arith)
 
-first-at : (n : ℕ) (job : Job) (w : Wish) → 0 < n → job.wish ≡ w → All (λ (t : Task). 0 < t.turns) job.tasks.items →
+first-at : (n : ℕ) (job : Job) (w : Wish) → 0 < n → job.wish ≡ w →
+    All (λ (t : Task). 0 < t.turns) job.tasks.items →
     MayBeAt n job (cursor_first w job.tasks.items) (front_of w ++ tasks_on n job job.tasks.items)
 first-at n job (wish.Put name size) l e all = record { comes = ap is_opener e; within = tt; rest = refl }
 first-at n job (wish.Drop name) l e all = record { comes = ap is_opener e; within = tt; rest = refl }
 first-at n job wish.Audit l e all = record { comes = ap is_opener e; within = tt; rest = refl }
 first-at n job (wish.Get name) l e all = by job.tasks.items refl all
   where
-    by : (ts : List Task) → job.tasks.items ≡ ts → All (λ (t : Task). 0 < t.turns) ts → MayBeAt n job (cursor_on at.Ending ts) (tasks_on n job ts)
+    by : (ts : List Task) → job.tasks.items ≡ ts → All (λ (t : Task). 0 < t.turns) ts →
+        MayBeAt n job (cursor_on at.Ending ts) (tasks_on n job ts)
     by [] f h = record { comes = refl; within = tt; rest = sym (ap closing_of e) }
-    by (t ∷ ts) f h = subst (MayBeAt n job (cursor_on at.Ending (t ∷ ts))) (ap (λ (xs : List Task). tasks_on n job xs) f)
-        (task_here n job 0 t l (ap is_caller e) (all_first t ts h) (ap (λ (xs : List Task). slice_get xs 0) f))
+    by (t ∷ ts) f h = subst (MayBeAt n job (cursor_on at.Ending (t ∷ ts)))
+        (ap (λ (xs : List Task). tasks_on n job xs) f)
+        (task_here n job 0 t l (ap is_caller e) (all_first t ts h)
+        (ap (λ (xs : List Task). slice_get xs 0) f))
 first-at n job wish.Repair l e all = by job.tasks.items refl all
   where
-    by : (ts : List Task) → job.tasks.items ≡ ts → All (λ (t : Task). 0 < t.turns) ts → MayBeAt n job (cursor_on (at.Closing move.Body) ts) (tasks_on n job ts)
-    by [] f h = record { comes = ap (λ (w : Wish). comes_to w (at.Closing move.Body)) e; within = tt; rest = sym (ap closing_of e) }
-    by (t ∷ ts) f h = subst (MayBeAt n job (cursor_on (at.Closing move.Body) (t ∷ ts))) (ap (λ (xs : List Task). tasks_on n job xs) f)
-        (task_here n job 0 t l (ap is_caller e) (all_first t ts h) (ap (λ (xs : List Task). slice_get xs 0) f))
+    by : (ts : List Task) → job.tasks.items ≡ ts → All (λ (t : Task). 0 < t.turns) ts →
+        MayBeAt n job (cursor_on (at.Closing move.Body) ts) (tasks_on n job ts)
+    by [] f h = record {
+      comes = ap (λ (w : Wish). comes_to w (at.Closing move.Body)) e;
+      within = tt;
+      rest = sym (ap closing_of e);
+    }
+    by (t ∷ ts) f h = subst (MayBeAt n job (cursor_on (at.Closing move.Body) (t ∷ ts)))
+        (ap (λ (xs : List Task). tasks_on n job xs) f)
+        (task_here n job 0 t l (ap is_caller e) (all_first t ts h)
+        (ap (λ (xs : List Task). slice_get xs 0) f))
 
 -- a removal from each provider, where a gate is left
 abbrev one_more : ℕ → Wish → ℕ → ℕ
 one_more n v m = if removes_older (aim_of_wish v) && nat_lt 0 m then n else 0
 
-few-more : (n : ℕ) (v : Wish) (ts : List Task) → one_more n v (gates_at v (cursor_first v ts)) + (length (front_of v) + length (closing_of v)) ≡ other_actions n v
+few-more : (n : ℕ) (v : Wish) (ts : List Task) →
+    one_more n v (gates_at v (cursor_first v ts)) + (length (front_of v) + length (closing_of v))
+    ≡ other_actions n v
 few-more n (wish.Put name size) ts = let e : n + 9 ≡ 9 + n = omega arith in e
 few-more n (wish.Get name) ts = refl
 few-more n (wish.Drop name) ts = let e : n + 5 ≡ 5 + n = omega arith in e
 few-more n wish.Audit ts = refl
 few-more n wish.Repair ts = refl
 
-no-tasks : (t : Kept) (s : Setup) (v : Wish) (pins : List Pinned) → pins ≡ pins_for t v → is_caller v ≡ false → tasks_made (turns_for s v) (targets_of v pins) ≡ []
+no-tasks : (t : Kept) (s : Setup) (v : Wish) (pins : List Pinned) → pins ≡ pins_for t v →
+    is_caller v ≡ false → tasks_made (turns_for s v) (targets_of v pins) ≡ []
 no-tasks t s (wish.Drop name) pins e h = ap (tasks_made (turns_for s (wish.Drop name))) e
 no-tasks t s v pins e h = absurd (false≢true (sym h))
 
@@ -154,36 +187,47 @@ take-zeros (suc n) (suc k) l = ap (λ (xs : List ℕ). 0 ∷ xs) (take-zeros n k
 drop-zeros : (n k : ℕ) → drop n (replicate {A = ℕ} k 0) ≡ replicate (k - n) 0
 drop-zeros zero k = ap (λ (m : ℕ). replicate m 0) (let e : k ≡ k - 0 = omega arith in e)
 drop-zeros (suc n) zero = ap (λ (m : ℕ). replicate m 0) (let e : 0 ≡ 0 - suc n = omega arith in e)
-drop-zeros (suc n) (suc k) = drop-zeros n k ∙ ap (λ (m : ℕ). replicate m 0) (let e : k - n ≡ suc k - suc n = omega arith in e)
+drop-zeros (suc n) (suc k) =
+    drop-zeros n k ∙ ap (λ (m : ℕ). replicate m 0) (let e : k - n ≡ suc k - suc n = omega arith in e)
 
 -- ---- a job as it is made
 
-module _ (t : Kept) (s : Setup) (k : ℕ) (w : Wish) (job : Job) (made : IsMade t s k w job) (least : 4 ≤ s.n) (most : s.n ≤ 16) where
+module _ (t : Kept) (s : Setup) (k : ℕ) (w : Wish) (job : Job) (made : IsMade t s k w job) (least : 4 ≤ s.n)
+    (most : s.n ≤ 16) where
   made-all : All (λ (x : Task). 0 < x.turns) job.tasks.items
-  made-all = subst (All (λ (x : Task). 0 < x.turns)) (sym made.tasks) (tasks-all (turns_for s w) (targets_of w job.pinned.items))
+  made-all = subst (All (λ (x : Task). 0 < x.turns)) (sym made.tasks)
+      (tasks-all (turns_for s w) (targets_of w job.pinned.items))
 
-  made-first : MayBeAt s.n job (cursor_first w job.tasks.items) (front_of w ++ tasks_on s.n job job.tasks.items)
+  made-first : MayBeAt s.n job (cursor_first w job.tasks.items)
+      (front_of w ++ tasks_on s.n job job.tasks.items)
   made-first = first-at s.n job w (omega arith) made.wish made-all
 
   -- a new job has before it its first append, if it has one, and then all that its tasks ask for
   pub made-rest : rest_of s.n job ≡ front_of w ++ tasks_on s.n job job.tasks.items
   made-rest = rest_is s.n job (cursor_first w job.tasks.items) made.cursor ∙ made-first.rest
 
-  made-most : job.left ≡ sum_by (λ (x : Task). x.turns * size_of_turn s.n w job.flagged) job.tasks.items + other_actions s.n w → job.left ≡ most_of s.n (core_job s.n job)
+  made-most : job.left ≡ sum_by (λ (x : Task). x.turns * size_of_turn s.n w job.flagged)
+      job.tasks.items + other_actions s.n w → job.left ≡ most_of s.n (core_job s.n job)
   made-most l =
       let a = ap (λ (xs : List Action). length xs) made-rest in
       let b = length-append (front_of w) (tasks_on s.n job job.tasks.items) in
       let c = length-append (tasks_of s.n job.wish job.flagged job.tasks.items) (closing_of job.wish) in
-      let d = length-tasks s.n job.wish job.flagged job.tasks.items ∙ ap (λ (v : Wish). sum_by (λ (x : Task). x.turns * size_of_turn s.n v job.flagged) job.tasks.items) made.wish in
+      let d = length-tasks s.n job.wish job.flagged job.tasks.items
+      ∙ ap (λ (v : Wish). sum_by (λ (x : Task). x.turns * size_of_turn s.n v job.flagged) job.tasks.items)
+      made.wish in
       let e = ap (λ (v : Wish). length (closing_of v)) made.wish in
       let f = few-more s.n w job.tasks.items in
-      let g : one_more s.n job.wish (gates (rest_of s.n job)) ≡ one_more s.n w (gates_at w (cursor_first w job.tasks.items)) =
-      ap (one_more s.n job.wish) (gates_is s.n job ∙ (ap (λ (v : Wish). gates_at v job.cursor) made.wish ∙ ap (gates_at w) made.cursor)) ∙ ap (λ (v : Wish). one_more s.n v (gates_at w (cursor_first w job.tasks.items))) made.wish in
+      let g : one_more s.n job.wish (gates (rest_of s.n job))
+      ≡ one_more s.n w (gates_at w (cursor_first w job.tasks.items)) =
+      ap (one_more s.n job.wish)
+      (gates_is s.n job ∙ (ap (λ (v : Wish). gates_at v job.cursor) made.wish ∙ ap (gates_at w) made.cursor))
+      ∙ ap (λ (v : Wish). one_more s.n v (gates_at w (cursor_first w job.tasks.items))) made.wish in
       omega (arith, a, b, c, d, e, f, g, l)
 
   -- a job as it is made is a job as it is kept
   pub made-kept : HasName w → IsShort w → length job.flagged ≡ 16 →
-      job.left ≡ sum_by (λ (x : Task). x.turns * size_of_turn s.n w job.flagged) job.tasks.items + other_actions s.n w → IsJobKept s.n job
+      job.left ≡ sum_by (λ (x : Task). x.turns * size_of_turn s.n w job.flagged)
+      job.tasks.items + other_actions s.n w → IsJobKept s.n job
   made-kept named short long l = record {
     stays = record {
       tasks = made-all;
@@ -191,7 +235,8 @@ module _ (t : Kept) (s : Setup) (k : ℕ) (w : Wish) (job : Job) (made : IsMade 
       wishable = subst (λ (v : Wish). HasName v × IsShort v) (sym made.wish) (named, short);
       flags = long;
       counts = ap (λ (x : Counts). x.n) made.counts;
-      padded = subst IsPadded (sym made.counts) (record { room = refl; at_most = most; zeros = drop-zeros s.n 16 });
+      padded = subst IsPadded (sym made.counts)
+          (record { room = refl; at_most = most; zeros = drop-zeros s.n 16 });
     };
     comes = subst (λ (c : Cursor). comes_to job.wish c ≡ true) (sym made.cursor) made-first.comes;
     within = subst (IsWithin s.n job.flagged) (sym made.cursor) made-first.within;

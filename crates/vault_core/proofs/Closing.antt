@@ -38,8 +38,10 @@ use Rattle.vault_core.specs.Wished.{is_opener}
 
 -- ---- what is pinned, and what is taken away
 
-pinned_job : (s : Setup) (c : CoreJob) (m : Job) (id : ℕ) → IsJobOf s c m → list_any (λ (file : Pinned). file.id == id) c.pinned ≡ list_any (λ (f : PinnedBytes). f.id == id) m.pinned
-pinned_job s c m id is = ap (list_any (λ (file : Pinned). file.id == id)) is.pinned ∙ sym (any-map pin_of (λ (file : Pinned). file.id == id) m.pinned)
+pinned_job : (s : Setup) (c : CoreJob) (m : Job) (id : ℕ) → IsJobOf s c m →
+    list_any (λ (file : Pinned). file.id == id) c.pinned ≡ list_any (λ (f : PinnedBytes). f.id == id) m.pinned
+pinned_job s c m id is = ap (list_any (λ (file : Pinned). file.id == id)) is.pinned
+    ∙ sym (any-map pin_of (λ (file : Pinned). file.id == id) m.pinned)
 
 pinned_jobs : (s : Setup) (cs : List CoreJob) (js : List Job) (id : ℕ) → AllZip (IsJobOf s) cs js →
     is_pinned_in cs id ≡ list_any (λ (j : Job). list_any (λ (f : PinnedBytes). f.id == id) j.pinned) js
@@ -52,21 +54,31 @@ pinned_jobs s (c ∷ cs) (j ∷ js) id h =
 
 -- the removals of an object, or none
 removals : (s : Setup) (cs : List CoreJob) (w : State) (o : Option File) → AllZip (IsJobOf s) cs w.jobs →
-    removals_of s.n (removable_in cs o) ≡ flat_map (λ object. on_each_provider s (λ j. Remove j object)) (removable w o) ++ End ∷ []
+    removals_of s.n (removable_in cs o) ≡ flat_map (λ object. on_each_provider s (λ j. Remove j object))
+    (removable w o) ++ End ∷ []
 removals s cs w None h = refl
-removals s cs w (Some f) h = subst (λ (b : Bool). removals_of s.n (if is_pinned_in cs f.id then None else Some f.id) ≡ flat_map (λ object. on_each_provider s (λ j. Remove j object)) (if b then [] else f.id ∷ []) ++ End ∷ [])
+removals s cs w (Some f) h =
+    subst (λ (b : Bool). removals_of s.n (if is_pinned_in cs f.id then None else Some f.id)
+    ≡ flat_map (λ object. on_each_provider s (λ j. Remove j object))
+    (if b then [] else f.id ∷ []) ++ End ∷ [])
     (pinned_jobs s cs w.jobs f.id h)
     (by (is_pinned_in cs f.id))
   where
-    by : (b : Bool) → removals_of s.n (if b then None else Some f.id) ≡ flat_map (λ object. on_each_provider s (λ j. Remove j object)) (if b then [] else f.id ∷ []) ++ End ∷ []
+    by : (b : Bool) → removals_of s.n (if b then None else Some f.id)
+        ≡ flat_map (λ object. on_each_provider s (λ j. Remove j object))
+        (if b then [] else f.id ∷ []) ++ End ∷ []
     by true = refl
     by false = ap (λ (xs : List Action). xs ++ End ∷ [])
-        (ap (λ (k : ℕ). map (λ j. Remove j f.id) (range_with_len 0 k)) (let e : s.n - 0 ≡ s.n = omega arith in e) ∙ sym (append-nil (on_each_provider s (λ j. Remove j f.id))))
+        (ap (λ (k : ℕ). map (λ j. Remove j f.id) (range_with_len 0 k))
+        (let e : s.n - 0 ≡ s.n = omega arith in e)
+        ∙ sym (append-nil (on_each_provider s (λ j. Remove j f.id))))
 
 -- ---- the fourth move
 
-module _ (w : State) (t : Kept) (cs : List CoreJob) (c : CoreJob) (m : Job) (f : IsFoldOf w.records t) (all : AllZip (IsJobOf (setup_in w)) cs w.jobs) (is : IsJobOf (setup_in w) c m)
-    (next : next_action w m ≡ Some SyncGate) (some : 0 < (setup_in w).n) (undecided : 0 < appends_left (setup_in w) m → m.older ≡ []) where
+module _ (w : State) (t : Kept) (cs : List CoreJob) (c : CoreJob) (m : Job) (f : IsFoldOf w.records t)
+    (all : AllZip (IsJobOf (setup_in w)) cs w.jobs) (is : IsJobOf (setup_in w) c m)
+    (next : next_action w m ≡ Some SyncGate) (some : 0 < (setup_in w).n)
+    (undecided : 0 < appends_left (setup_in w) m → m.older ≡ []) where
   not_end : SyncGate ≡ End → ⊥
   not_end e = cc
 
@@ -81,35 +93,49 @@ module _ (w : State) (t : Kept) (cs : List CoreJob) (c : CoreJob) (m : Job) (f :
   and_false false = refl
 
   closed : false ≡ (is_opener c.wish && nat_lt (m.place + 1) 4)
-  closed = sym (ap (λ (o : Option Action). c.opening && not (is_gate o)) head ∙ and_false c.opening) ∙ opening-on w c m SyncGate is next not_end
+  closed = sym (ap (λ (o : Option Action). c.opening && not (is_gate o)) head ∙ and_false c.opening)
+      ∙ opening-on w c m SyncGate is next not_end
 
   drop-place : (called : List ℕ) → m.kind ≡ DropJob called → m.place ≡ 3
-  drop-place called g = drop-gate (setup_in w) m m.place (ap (λ (xs : List Action). slice_get xs m.place) (sym (drop-list (setup_in w) m called g)) ∙ next_stands w m SyncGate next not_end)
+  drop-place called g = drop-gate (setup_in w) m m.place
+      (ap (λ (xs : List Action). slice_get xs m.place) (sym (drop-list (setup_in w) m called g))
+      ∙ next_stands w m SyncGate next not_end)
 
   -- a job that takes an object away has only its removals and its end left
-  taken_rest : is_taker c.wish c.opening ≡ true → removals_of (setup_in w).n (older_of t cs c.wish) ≡ actions_left (setup_in w) (decided m (taken_out w m m.kind))
+  taken_rest : is_taker c.wish c.opening ≡ true → removals_of (setup_in w).n (older_of t cs c.wish)
+      ≡ actions_left (setup_in w) (decided m (taken_out w m m.kind))
   taken_rest takes = by c.wish m.kind refl refl (alike c.wish m.kind is.kind) takes
     where
       by : (v : Wish) (k : Kind) → c.wish ≡ v → m.kind ≡ k → IsAlike v k → is_taker v c.opening ≡ true →
-          removals_of (setup_in w).n (older_of t cs v) ≡ actions_left (setup_in w) (decided m (taken_out w m k))
+          removals_of (setup_in w).n (older_of t cs v)
+          ≡ actions_left (setup_in w) (decided m (taken_out w m k))
       by (wish.Put name size) (PutJob called bytes) e g h b =
           (let opened : c.opening ≡ false = not-true c.opening b in
-          let first : is_first_append m ≡ false = sym (ap (λ (x : Wish). is_opener x && is_first_append m) e) ∙ (sym is.opening ∙ opened) in
+          let first : is_first_append m ≡ false = sym (ap (λ (x : Wish). is_opener x && is_first_append m) e)
+          ∙ (sym is.opening ∙ opened) in
           let later : 4 ≤ m.place = ltb-false m.place 4 first in
           let at = gate_place w m called bytes g next later in
-          ap (λ (o : Option File). removals_of (setup_in w).n (removable_in cs o)) (file_here t w.records name f ∙ ap (file_of w.records) (sym h.0))
+          ap (λ (o : Option File). removals_of (setup_in w).n (removable_in cs o))
+          (file_here t w.records name f ∙ ap (file_of w.records) (sym h.0))
           ∙ (removals (setup_in w) cs w (file_in w called) all
-          ∙ (ap (λ (b : Bool). flat_map (λ object. on_each_provider (setup_in w) (λ j. Remove j object)) (if b then [] else removable w (file_in w called)) ++ End ∷ []) (sym first)
-          ∙ sym (ap (drop (m.place + 1)) (put-list (setup_in w) (decided m (taken_out w m (PutJob called bytes))) called bytes g)
-          ∙ put-behind (setup_in w) (decided m (taken_out w m (PutJob called bytes))) bytes (m.place + 1) (omega (arith, at))))))
+          ∙ (ap (λ (b : Bool). flat_map (λ object. on_each_provider (setup_in w) (λ j. Remove j object))
+          (if b then [] else removable w (file_in w called)) ++ End ∷ []) (sym first)
+          ∙ sym (ap (drop (m.place + 1))
+          (put-list (setup_in w) (decided m (taken_out w m (PutJob called bytes))) called bytes g)
+          ∙ put-behind (setup_in w) (decided m (taken_out w m (PutJob called bytes))) bytes (m.place + 1)
+          (omega (arith, at))))))
       by (wish.Drop name) (DropJob called) e g h b =
           (let at = drop-place called g in
           let four : m.place + 1 ≡ 4 + 0 = omega (arith, at) in
-          ap (λ (o : Option File). removals_of (setup_in w).n (removable_in cs o)) (file_here t w.records name f ∙ ap (file_of w.records) (sym h))
+          ap (λ (o : Option File). removals_of (setup_in w).n (removable_in cs o))
+          (file_here t w.records name f ∙ ap (file_of w.records) (sym h))
           ∙ (removals (setup_in w) cs w (file_in w called) all
-          ∙ sym (ap (drop (m.place + 1)) (drop-list (setup_in w) (decided m (taken_out w m (DropJob called))) called g)
-          ∙ (ap (λ (n : ℕ). drop n (append_actions ++ drop_rest (setup_in w) (decided m (taken_out w m (DropJob called))))) four
-          ∙ drop-append-add append_actions (drop_rest (setup_in w) (decided m (taken_out w m (DropJob called)))) 0))))
+          ∙ sym (ap (drop (m.place + 1))
+          (drop-list (setup_in w) (decided m (taken_out w m (DropJob called))) called g)
+          ∙ (ap (λ (n : ℕ). drop n
+          (append_actions ++ drop_rest (setup_in w) (decided m (taken_out w m (DropJob called))))) four
+          ∙ drop-append-add append_actions
+          (drop_rest (setup_in w) (decided m (taken_out w m (DropJob called)))) 0))))
       by (wish.Put name size) k e g h b = absurd h
       by (wish.Drop name) k e g h b = absurd h
       by v k e g h b = absurd (false≢true b)
@@ -118,23 +144,32 @@ module _ (w : State) (t : Kept) (cs : List CoreJob) (c : CoreJob) (m : Job) (f :
   keeps : is_taker c.wish c.opening ≡ false → taken_out w m m.kind ≡ m.older
   keeps not_ = by c.wish m.kind refl refl (alike c.wish m.kind is.kind) not_ ∙ sym older
     where
-      by : (v : Wish) (k : Kind) → c.wish ≡ v → m.kind ≡ k → IsAlike v k → is_taker v c.opening ≡ false → taken_out w m k ≡ []
+      by : (v : Wish) (k : Kind) → c.wish ≡ v → m.kind ≡ k → IsAlike v k → is_taker v c.opening ≡ false →
+          taken_out w m k ≡ []
       by (wish.Put name size) (PutJob called bytes) e g h b =
           ap (λ (x : Bool). if x then [] else removable w (file_in w called))
-          (sym (ap (λ (x : Wish). is_opener x && is_first_append m) e) ∙ (sym is.opening ∙ not-false c.opening b))
+          (sym (ap (λ (x : Wish). is_opener x && is_first_append m) e)
+          ∙ (sym is.opening ∙ not-false c.opening b))
       by (wish.Get name) (GetJob called) e g h b = refl
-      by (wish.Drop name) (DropJob called) e g h b = absurd (false≢true (sym b ∙ (is.opening ∙ (ap (λ (x : Wish). is_opener x && is_first_append m) e ∙ lt-ltb m.place 4 (let at = drop-place called g in omega (arith, at))))))
+      by (wish.Drop name) (DropJob called) e g h b =
+          absurd (false≢true (sym b
+          ∙ (is.opening ∙ (ap (λ (x : Wish). is_opener x && is_first_append m) e
+          ∙ lt-ltb m.place 4 (let at = drop-place called g in omega (arith, at))))))
       by wish.Audit AuditJob e g h b = refl
       by wish.Repair RepairJob e g h b = refl
       by v k e g h b = absurd h
 
   sums_closed : IsTrue (has_asked (stepped c)) → HasSums (setup_in w) (onward m m.subject m.given) c.sums
   sums_closed has = elim (cases_Bool c.opening) [
-    | inr b ↦ sums-same (setup_in w) m (onward m m.subject m.given) refl refl c.sums refl (is.sums (asked_whole c p.audit b (ap asks_next head)))
+    | inr b ↦ sums-same (setup_in w) m (onward m m.subject m.given) refl refl c.sums refl
+        (is.sums (asked_whole c p.audit b (ap asks_next head)))
     | inl b ↦ subst (HasSums (setup_in w) (onward m m.subject m.given)) (sym (is.unjudged b))
         (no-sums (setup_in w) (onward m m.subject m.given) some
-        (asks-none (setup_in w) m kind (ap (λ (k : ℕ). asks_next (slice_get (actions_of (setup_in w) m) k)) (four b)
-        ∙ (sym (ap asks_next (ap (λ (xs : List Action). slice_get (drop 1 xs) 0) (left-here w c m SyncGate is next not_end) ∙ get-drop (actions_of (setup_in w) m) (m.place + 1))) ∙ p.head))))
+        (asks-none (setup_in w) m kind
+        (ap (λ (k : ℕ). asks_next (slice_get (actions_of (setup_in w) m) k)) (four b)
+        ∙ (sym (ap asks_next (ap (λ (xs : List Action). slice_get (drop 1 xs) 0)
+        (left-here w c m SyncGate is next not_end) ∙ get-drop (actions_of (setup_in w) m) (m.place + 1)))
+        ∙ p.head))))
   ]
     where
       p : Asked (stepped c)
@@ -145,8 +180,11 @@ module _ (w : State) (t : Kept) (cs : List CoreJob) (c : CoreJob) (m : Job) (f :
 
       four : c.opening ≡ true → 4 ≡ m.place + 1
       four b =
-          (let first : is_first_append m ≡ true = sym (ap (λ (x : Wish). is_opener x && is_first_append m) p.audit) ∙ (sym is.opening ∙ b) in
-          let three = gate-within (audit_rest (setup_in w) m) m.place (ltb-true m.place 4 first) (ap (λ (xs : List Action). slice_get xs m.place) (sym (audit-list (setup_in w) m kind)) ∙ next_stands w m SyncGate next not_end) in
+          (let first : is_first_append m ≡ true =
+          sym (ap (λ (x : Wish). is_opener x && is_first_append m) p.audit) ∙ (sym is.opening ∙ b) in
+          let three = gate-within (audit_rest (setup_in w) m) m.place (ltb-true m.place 4 first)
+          (ap (λ (xs : List Action). slice_get xs m.place) (sym (audit-list (setup_in w) m kind))
+          ∙ next_stands w m SyncGate next not_end) in
           omega (arith, three))
 
   decides_is : decides_now c ≡ is_taker c.wish c.opening
@@ -155,7 +193,9 @@ module _ (w : State) (t : Kept) (cs : List CoreJob) (c : CoreJob) (m : Job) (f :
   -- the append of the job is done
   pub on-gated : IsJobOf (setup_in w) (gated (setup_in w).n t cs c) (decided m (taken_out w m m.kind))
   on-gated = elim (cases_Bool (is_taker c.wish c.opening)) [
-    | inl d ↦ subst (λ (b : Bool). IsJobOf (setup_in w) (if b then record c { rest = removals_of (setup_in w).n (older_of t cs c.wish); opening = false } else stepped c) (decided m (taken_out w m m.kind)))
+    | inl d ↦ subst (λ (b : Bool). IsJobOf (setup_in w)
+        (if b then record c { rest = removals_of (setup_in w).n (older_of t cs c.wish); opening = false }
+        else stepped c) (decided m (taken_out w m m.kind)))
         (sym (decides_is ∙ d))
         (record {
           number = is.number;
@@ -166,9 +206,17 @@ module _ (w : State) (t : Kept) (cs : List CoreJob) (c : CoreJob) (m : Job) (f :
           opening = closed;
           rest = taken_rest d;
           unjudged = λ o. absurd (false≢true o);
-          sums = λ has. absurd (false≢true (sym (ap (λ (x : Wish). is_taker x c.opening) (asked_parts (record c { rest = removals_of (setup_in w).n (older_of t cs c.wish); opening = false }) has).audit) ∙ d));
+          sums = λ has. absurd (false≢true
+              (sym (ap (λ (x : Wish). is_taker x c.opening)
+              (asked_parts (record c {
+                rest = removals_of (setup_in w).n (older_of t cs c.wish);
+                opening = false;
+              }) has).audit) ∙ d));
         })
-    | inr d ↦ subst (λ (b : Bool). IsJobOf (setup_in w) (if b then record c { rest = removals_of (setup_in w).n (older_of t cs c.wish); opening = false } else stepped c) (decided m (taken_out w m m.kind)))
+    | inr d ↦ subst (λ (b : Bool). IsJobOf (setup_in w)
+        (if b then record c { rest = removals_of (setup_in w).n (older_of t cs c.wish); opening = false }
+        else stepped c) (decided m (taken_out w m m.kind)))
         (sym (decides_is ∙ d))
-        (subst (λ (o : List ℕ). IsJobOf (setup_in w) (stepped c) (decided m o)) (sym (keeps d)) (on-moved w c m SyncGate is next not_end m.given sums_closed))
+        (subst (λ (o : List ℕ). IsJobOf (setup_in w) (stepped c) (decided m o)) (sym (keeps d))
+        (on-moved w c m SyncGate is next not_end m.given sums_closed))
   ]

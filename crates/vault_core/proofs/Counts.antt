@@ -34,11 +34,14 @@ gates-cons x xs = sum_by-cons (λ (x : Action). cond (ends_append x) 1 0) x xs
 
 none_map : (f : ℕ → Action) (ks : List ℕ) → ((k : ℕ) → ends_append (f k) ≡ false) → gates (map f ks) ≡ 0
 none_map f [] h = refl
-none_map f (k ∷ ks) h = let e = gates-cons (f k) (map f ks) in let i = none_map f ks h in let c = ap (λ (b : Bool). cond {A = ℕ} b 1 0) (h k) in omega (arith, e, i, c)
+none_map f (k ∷ ks) h = let e = gates-cons (f k) (map f ks) in let i =
+    none_map f ks h in let c = ap (λ (b : Bool). cond {A = ℕ} b 1 0) (h k) in omega (arith, e, i, c)
 
-none_flat : {X : Type 0} (f : X → List Action) (ks : List X) → ((k : X) → gates (f k) ≡ 0) → gates (flat_map f ks) ≡ 0
+none_flat : {X : Type 0} (f : X → List Action) (ks : List X) → ((k : X) → gates (f k) ≡ 0) →
+    gates (flat_map f ks) ≡ 0
 none_flat f [] h = refl
-none_flat f (k ∷ ks) h = let e = gates-append (f k) (flat_map f ks) in let i = none_flat f ks h in let c = h k in omega (arith, e, i, c)
+none_flat f (k ∷ ks) h = let e =
+    gates-append (f k) (flat_map f ks) in let i = none_flat f ks h in let c = h k in omega (arith, e, i, c)
 
 call_none : (w : Wish) (o t j : ℕ) → ends_append (call_of w o t j) ≡ false
 call_none w o t j = by_call (λ a. ends_append a ≡ false) w o t j refl refl refl
@@ -58,18 +61,21 @@ pub rewrites_none : (j n : ℕ) (fl : List Bool) (o t : ℕ) → gates (rewrites
 rewrites_none j n fl o t = none_flat (rewrite_of fl o t) (numbers j n) (rewrite_none fl o t)
 
 work_none : (n : ℕ) (w : Wish) (fl : List Bool) (o t : ℕ) → gates (work_of n w fl o t) ≡ 0
-work_none n wish.Repair fl o t = let e = gates-cons (Work o t) (rewrites_from 0 n fl o t) in let r = rewrites_none 0 n fl o t in omega (arith, e, r)
+work_none n wish.Repair fl o t = let e = gates-cons (Work o t) (rewrites_from 0 n fl o t) in let r =
+    rewrites_none 0 n fl o t in omega (arith, e, r)
 work_none n w fl o t = refl
 
 turn_none : (n : ℕ) (w : Wish) (fl : List Bool) (o t : ℕ) → gates (turn_of n w fl o t) ≡ 0
-turn_none n w fl o t = let e = gates-append (calls_from 0 n w o t) (work_of n w fl o t) in let a = calls_none 0 n w o t in let b = work_none n w fl o t in omega (arith, e, a, b)
+turn_none n w fl o t = let e = gates-append (calls_from 0 n w o t) (work_of n w fl o t) in let a =
+    calls_none 0 n w o t in let b = work_none n w fl o t in omega (arith, e, a, b)
 
 -- the actions on the stripes or rounds of an object have no gate
 pub turns_none : (a n : ℕ) (w : Wish) (fl : List Bool) (o b : ℕ) → gates (turns_from a n w fl o b) ≡ 0
 turns_none a n w fl o b = none_flat (turn_of n w fl o) (numbers a b) (turn_none n w fl o)
 
 tasks_none : (n : ℕ) (w : Wish) (fl : List Bool) (ts : List Task) → gates (tasks_of n w fl ts) ≡ 0
-tasks_none n w fl ts = none_flat (λ (t : Task). turns_from 0 n w fl t.object t.turns) ts (λ t. turns_none 0 n w fl t.object t.turns)
+tasks_none n w fl ts = none_flat (λ (t : Task). turns_from 0 n w fl t.object t.turns) ts
+    (λ t. turns_none 0 n w fl t.object t.turns)
 
 -- removals have no gate
 pub removes_none : (object : ℕ) (ks : List ℕ) → gates (map (λ k. Remove k object) ks) ≡ 0
@@ -96,16 +102,19 @@ closing_one (wish.Put name size) = refl
 closing_one w = refl
 
 tasks_on_one : (n : ℕ) (job : Job) (ts : List Task) → gates (tasks_on n job ts) ≡ last_appends job.wish
-tasks_on_one n job ts = let e = gates-append (tasks_of n job.wish job.flagged ts) (closing_of job.wish) in let a = tasks_none n job.wish job.flagged ts in let b = closing_one job.wish in omega (arith, e, a, b)
+tasks_on_one n job ts = let e = gates-append (tasks_of n job.wish job.flagged ts) (closing_of job.wish) in
+    let a = tasks_none n job.wish job.flagged ts in let b = closing_one job.wish in omega (arith, e, a, b)
 
 beyond_one : (n : ℕ) (job : Job) (spot : Spot) → gates (beyond n job spot) ≡ last_appends job.wish
 beyond_one n job spot =
-    let e = gates-append (turns_from (spot.turn + 1) n job.wish job.flagged spot.object spot.turns) (tasks_on n job (drop spot.behind job.tasks.items)) in
+    let e = gates-append (turns_from (spot.turn + 1) n job.wish job.flagged spot.object spot.turns)
+    (tasks_on n job (drop spot.behind job.tasks.items)) in
     let a = turns_none (spot.turn + 1) n job.wish job.flagged spot.object spot.turns in
     let b = tasks_on_one n job (drop spot.behind job.tasks.items) in
     omega (arith, e, a, b)
 
-work_one : (n : ℕ) (job : Job) (spot : Spot) → gates (work_of n job.wish job.flagged spot.object spot.turn ++ beyond n job spot) ≡ last_appends job.wish
+work_one : (n : ℕ) (job : Job) (spot : Spot) →
+    gates (work_of n job.wish job.flagged spot.object spot.turn ++ beyond n job spot) ≡ last_appends job.wish
 work_one n job spot =
     let e = gates-append (work_of n job.wish job.flagged spot.object spot.turn) (beyond n job spot) in
     let a = work_none n job.wish job.flagged spot.object spot.turn in
@@ -114,9 +123,11 @@ work_one n job spot =
 
 gates_here : (n : ℕ) (job : Job) (c : Cursor) → gates (rest_at n job c) ≡ gates_at job.wish c
 gates_here n job (at.Opening m) =
-    let e = gates-append (moves_from m) (tasks_on n job job.tasks.items) in let a = moves_one m in let b = tasks_on_one n job job.tasks.items in omega (arith, e, a, b)
+    let e = gates-append (moves_from m) (tasks_on n job job.tasks.items) in let a = moves_one m in
+    let b = tasks_on_one n job job.tasks.items in omega (arith, e, a, b)
 gates_here n job (at.Calling spot j) =
-    let e = gates-append (calls_from j n job.wish spot.object spot.turn) (work_of n job.wish job.flagged spot.object spot.turn ++ beyond n job spot) in
+    let e = gates-append (calls_from j n job.wish spot.object spot.turn)
+    (work_of n job.wish job.flagged spot.object spot.turn ++ beyond n job spot) in
     let a = calls_none j n job.wish spot.object spot.turn in
     let b = work_one n job spot in
     omega (arith, e, a, b)
@@ -126,8 +137,11 @@ gates_here n job (at.Rewriting spot j) =
     let a = rewrites_none j n job.flagged spot.object spot.turn in
     let b = beyond_one n job spot in
     omega (arith, e, a, b)
-gates_here n job (at.Closing m) = let e = gates-append (moves_from m) (End ∷ []) in let a = moves_one m in omega (arith, e, a)
-gates_here n job (at.Removing object j) = let e = gates-append (map (λ k. Remove k object) (numbers j n)) (End ∷ []) in let a = removes_none object (numbers j n) in omega (arith, e, a)
+gates_here n job (at.Closing m) =
+    let e = gates-append (moves_from m) (End ∷ []) in let a = moves_one m in omega (arith, e, a)
+gates_here n job (at.Removing object j) = let e =
+    gates-append (map (λ k. Remove k object) (numbers j n)) (End ∷ []) in
+    let a = removes_none object (numbers j n) in omega (arith, e, a)
 gates_here n job at.Ending = refl
 
 -- the gates that a job has before it are told by its wish and its cursor
@@ -145,7 +159,8 @@ pub reserved_is : (n : ℕ) (job : Job) → reserved_of n (core_job n job) ≡ r
 reserved_is n job = ap (room_behind n job.wish) (gates_is n job)
 
 -- a job at its first append still needs room for all its records
-pub reserved_opening : (n : ℕ) (w : Wish) (c : Cursor) → comes_to w c ≡ true → is_opening c ≡ true → sum (sizes_of n w) ≡ reserved_at n w c
+pub reserved_opening : (n : ℕ) (w : Wish) (c : Cursor) → comes_to w c ≡ true → is_opening c ≡ true →
+    sum (sizes_of n w) ≡ reserved_at n w c
 reserved_opening n (wish.Put name size) (at.Opening m) h o = refl
 reserved_opening n (wish.Drop name) (at.Opening m) h o = refl
 reserved_opening n wish.Audit (at.Opening m) h o = refl
@@ -172,7 +187,8 @@ pub two : (a b : ℕ) → a + b ≡ sum (a ∷ b ∷ [])
 two a b = let e = sum_by-cons (λ (x : ℕ). x) a (b ∷ []) in let f = one b in omega (arith, e, f)
 
 -- a job behind its first append and before its last needs room for what the last writes
-pub reserved_last : (n : ℕ) (w : Wish) (c : Cursor) → comes_to w c ≡ true → is_opening c ≡ false → is_past c ≡ false → room_behind n w (last_appends w) ≡ reserved_at n w c
+pub reserved_last : (n : ℕ) (w : Wish) (c : Cursor) → comes_to w c ≡ true → is_opening c ≡ false →
+    is_past c ≡ false → room_behind n w (last_appends w) ≡ reserved_at n w c
 reserved_last n w (at.Opening m) h o p = absurd (false≢true (sym o))
 reserved_last n w (at.Removing object j) h o p = absurd (false≢true (sym p))
 reserved_last n w at.Ending h o p = absurd (false≢true (sym p))

@@ -45,20 +45,28 @@ pub asked_parts : (c : CoreJob) → has_asked c ≡ true → Asked c
 asked_parts c h =
     let a = and_parts (is_audit_wish c.wish) (not c.opening && not (asks_next (slice_get c.rest 0))) h in
     let b = and_parts (not c.opening) (not (asks_next (slice_get c.rest 0))) a.1 in
-    record { audit = audit_is c.wish a.0; opened = not-true c.opening b.0; head = not-true (asks_next (slice_get c.rest 0)) b.1 }
+    record {
+      audit = audit_is c.wish a.0;
+      opened = not-true c.opening b.0;
+      head = not-true (asks_next (slice_get c.rest 0)) b.1;
+    }
 
 -- an audit behind its first append, with no ask next, has asked all
-pub asked_whole : (c : CoreJob) → c.wish ≡ wish.Audit → c.opening ≡ false → asks_next (slice_get c.rest 0) ≡ false → has_asked c ≡ true
-asked_whole c a o h = ap (λ (v : Wish). is_audit_wish v && (not c.opening && not (asks_next (slice_get c.rest 0)))) a
+pub asked_whole : (c : CoreJob) → c.wish ≡ wish.Audit → c.opening ≡ false →
+    asks_next (slice_get c.rest 0) ≡ false → has_asked c ≡ true
+asked_whole c a o h =
+    ap (λ (v : Wish). is_audit_wish v && (not c.opening && not (asks_next (slice_get c.rest 0)))) a
     ∙ (ap (λ (b : Bool). not b && not (asks_next (slice_get c.rest 0))) o ∙ ap not h)
 
 no_gate : (a : Action) → goes_plainly (Some a) ≡ true → is_gate (Some a) ≡ false
 no_gate SyncGate h = absurd (false≢true h)
 no_gate a h = refl
 
-module _ (w : State) (c : CoreJob) (m : Job) (a : Action) (is : IsJobOf (setup_in w) c m) (next : next_action w m ≡ Some a) (on : a ≡ End → ⊥) where
+module _ (w : State) (c : CoreJob) (m : Job) (a : Action) (is : IsJobOf (setup_in w) c m)
+    (next : next_action w m ≡ Some a) (on : a ≡ End → ⊥) where
   -- an action that is not the last ask of an audit changes nothing of what is judged
-  pub sums-on : (given : List Given) → goes_plainly (Some a) ≡ true → is_last_ask c.rest ≡ false → (given ≡ m.given) ⊎ (m.kind ≡ AuditJob → asks_next (Some a) ≡ true) →
+  pub sums-on : (given : List Given) → goes_plainly (Some a) ≡ true → is_last_ask c.rest ≡ false →
+      (given ≡ m.given) ⊎ (m.kind ≡ AuditJob → asks_next (Some a) ≡ true) →
       IsTrue (has_asked (stepped c)) → HasSums (setup_in w) (onward m m.subject given) c.sums
   sums-on given plain last gave has = by (asks_next (Some a)) refl
     where
@@ -69,28 +77,38 @@ module _ (w : State) (c : CoreJob) (m : Job) (a : Action) (is : IsJobOf (setup_i
       kind = audit_kind c.wish m.kind parts.audit (alike c.wish m.kind is.kind)
 
       opened : c.opening ≡ false
-      opened = sym (and-true c.opening) ∙ (ap (λ (b : Bool). c.opening && not b) (sym (ap is_gate (head-here w c m a is next on) ∙ no_gate a plain)) ∙ parts.opened)
+      opened = sym (and-true c.opening)
+          ∙ (ap (λ (b : Bool). c.opening && not b)
+          (sym (ap is_gate (head-here w c m a is next on) ∙ no_gate a plain)) ∙ parts.opened)
 
       head : slice_get (stepped c).rest 0 ≡ slice_get (actions_of (setup_in w) m) (m.place + 1)
-      head = ap (λ (xs : List Action). slice_get (drop 1 xs) 0) (left-here w c m a is next on) ∙ get-drop (actions_of (setup_in w) m) (m.place + 1)
+      head = ap (λ (xs : List Action). slice_get (drop 1 xs) 0) (left-here w c m a is next on)
+          ∙ get-drop (actions_of (setup_in w) m) (m.place + 1)
 
       by : (b : Bool) → asks_next (Some a) ≡ b → HasSums (setup_in w) (onward m m.subject given) c.sums
       by false e = elim gave [
-        | inl g ↦ sums-same (setup_in w) m (onward m m.subject given) (sym g) refl c.sums refl (is.sums (asked_whole c parts.audit opened (ap asks_next (head-here w c m a is next on) ∙ e)))
+        | inl g ↦ sums-same (setup_in w) m (onward m m.subject given) (sym g) refl c.sums refl
+            (is.sums (asked_whole c parts.audit opened (ap asks_next (head-here w c m a is next on) ∙ e)))
         | inr h ↦ absurd (false≢true (sym e ∙ h kind))
       ]
       by true e = absurd (not_ask a e (next_stands w m a next on))
         where
-          not_ask : (x : Action) → asks_next (Some x) ≡ true → slice_get (actions_of (setup_in w) m) m.place ≡ Some x → ⊥
+          not_ask : (x : Action) → asks_next (Some x) ≡ true →
+              slice_get (actions_of (setup_in w) m) m.place ≡ Some x → ⊥
           not_ask (Ask j o t) f listed = elim (ask-then (setup_in w) m j o t kind listed) [
             | inl asks ↦ false≢true (sym parts.head ∙ (ap asks_next head ∙ asks))
-            | inr starts ↦ false≢true (sym last ∙ (ap (λ (o : Option Action). asks_next o && begins_append (slice_get c.rest 1)) (head-here w c m a is next on)
-                ∙ (ap (λ (b : Bool). b && begins_append (slice_get c.rest 1)) e ∙ (ap begins_append (second_of c.rest ∙ head) ∙ starts))))
+            | inr starts ↦ false≢true
+                (sym last ∙ (ap (λ (o : Option Action). asks_next o && begins_append (slice_get c.rest 1))
+                (head-here w c m a is next on)
+                ∙ (ap (λ (b : Bool). b && begins_append (slice_get c.rest 1)) e
+                ∙ (ap begins_append (second_of c.rest ∙ head) ∙ starts))))
           ]
           not_ask x f listed = false≢true f
 
   -- an audit that is judged
-  pub on-judged : (j o t : ℕ) → a ≡ Ask j o t → (given : List Given) (sums : Sums) → HasSums (setup_in w) (onward m m.subject given) sums → IsJobOf (setup_in w) (judged c sums) (onward m m.subject given)
+  pub on-judged : (j o t : ℕ) → a ≡ Ask j o t → (given : List Given) (sums : Sums) →
+      HasSums (setup_in w) (onward m m.subject given) sums →
+      IsJobOf (setup_in w) (judged c sums) (onward m m.subject given)
   on-judged j o t e given sums h = record {
     number = is.number;
     kind = is.kind;
@@ -99,7 +117,8 @@ module _ (w : State) (c : CoreJob) (m : Job) (a : Action) (is : IsJobOf (setup_i
     subject = is.subject;
     opening = opening-on w c m a is next on;
     rest = rest-on w c m a is next on given;
-    unjudged = λ p. absurd (false≢true (sym opened ∙ and_left c.opening (not (is_gate (slice_get c.rest 0))) p));
+    unjudged = λ p. absurd
+        (false≢true (sym opened ∙ and_left c.opening (not (is_gate (slice_get c.rest 0))) p));
     sums = λ p. h;
   }
     where
@@ -110,4 +129,5 @@ module _ (w : State) (c : CoreJob) (m : Job) (a : Action) (is : IsJobOf (setup_i
           by false f = ap (λ (x : Bool). x && nat_lt m.place 4) f
           by true f = (let l = opens-list (setup_in w) m c.wish m.kind refl (alike c.wish m.kind is.kind) f in
               ap (λ (x : Bool). x && nat_lt m.place 4) f
-              ∙ ask_behind l.0 m.place j o t (ap (λ (xs : List Action). slice_get xs m.place) (sym l.1) ∙ (next_stands w m a next on ∙ ap Some e)))
+              ∙ ask_behind l.0 m.place j o t (ap (λ (xs : List Action). slice_get xs m.place) (sym l.1)
+              ∙ (next_stands w m a next on ∙ ap Some e)))

@@ -33,23 +33,28 @@ All-remove P xs i h = All-append P (take i xs) (drop (suc i) xs) (All-take P i x
 
 -- ---- what is reserved, with one job less
 
-reserves_less : (c : CoreView) (place : ℕ) (d : CoreJob) (o : Option ℕ) (b : Bool) → place < length c.jobs → Reserves c →
+reserves_less : (c : CoreView) (place : ℕ) (d : CoreJob) (o : Option ℕ) (b : Bool) → place < length c.jobs →
+    Reserves c →
     Reserves (record c { jobs = remove c.jobs place; append = o; barred = b })
 reserves_less c place d o b l h = record {
-  room = (let e = sum_by-remove (reserved_of c.setup.n) c.jobs place d l in let r = h.room in omega (arith, e, r));
+  room = (let e = sum_by-remove (reserved_of c.setup.n) c.jobs place d l in let r = h.room in
+      omega (arith, e, r));
   spare = (let e = sum_by-remove starts_of c.jobs place d l in let r = h.spare in omega (arith, e, r));
 }
 
 -- ---- and with another job
 
-reserves_other : (c : CoreView) (place : ℕ) (j k : CoreJob) (o : Option ℕ) → slice_get c.jobs place ≡ Some j → reserved_of c.setup.n k ≤ reserved_of c.setup.n j →
+reserves_other : (c : CoreView) (place : ℕ) (j k : CoreJob) (o : Option ℕ) → slice_get c.jobs place ≡ Some j →
+    reserved_of c.setup.n k ≤ reserved_of c.setup.n j →
     starts_of k ≤ starts_of j → Reserves c → Reserves (record c { jobs = set c.jobs place k; append = o })
 reserves_other c place j k o e r s h =
     let l = slice_get_within c.jobs place j e in
     let g : get_or c.jobs place j ≡ j = get_or_from_slice_get c.jobs place j j e in
     record {
-      room = (let a = sum_by-set (reserved_of c.setup.n) c.jobs place k j l in let b = ap (reserved_of c.setup.n) g in let t = h.room in omega (arith, a, b, r, t));
-      spare = (let a = sum_by-set starts_of c.jobs place k j l in let b = ap starts_of g in let t = h.spare in omega (arith, a, b, s, t));
+      room = (let a = sum_by-set (reserved_of c.setup.n) c.jobs place k j l in
+          let b = ap (reserved_of c.setup.n) g in let t = h.room in omega (arith, a, b, r, t));
+      spare = (let a = sum_by-set starts_of c.jobs place k j l in let b = ap starts_of g in let t = h.spare in
+          omega (arith, a, b, s, t));
     }
 
 -- ---- a job that has made an action needs no more than before
@@ -67,9 +72,11 @@ sum_drop (x ∷ xs) (suc a) zero l = absurd (omega arith)
 sum_drop (x ∷ xs) (suc a) (suc b) l = sum_drop xs a b (omega arith)
 
 -- fewer gates need less room
-pub reserved_fewer : (n : ℕ) (j k : CoreJob) → k.wish ≡ j.wish → gates k.rest ≤ gates j.rest → reserved_of n k ≤ reserved_of n j
+pub reserved_fewer : (n : ℕ) (j k : CoreJob) → k.wish ≡ j.wish → gates k.rest ≤ gates j.rest →
+    reserved_of n k ≤ reserved_of n j
 reserved_fewer n j k w l = subst (λ (x : Wish). room_behind n x (gates k.rest) ≤ reserved_of n j) (sym w)
-    (sum_drop (sizes_of n j.wish) (length (sizes_of n j.wish) - gates j.rest) (length (sizes_of n j.wish) - gates k.rest) (omega arith))
+    (sum_drop (sizes_of n j.wish) (length (sizes_of n j.wish) - gates j.rest)
+    (length (sizes_of n j.wish) - gates k.rest) (omega arith))
 
 starts_fewer : (w : Wish) (a b : Bool) → (b ≡ true → a ≡ true) → starts_by w b ≤ starts_by w a
 starts_fewer (wish.Put name size) true true h = omega arith
@@ -79,8 +86,10 @@ starts_fewer (wish.Put name size) false false h = omega arith
 starts_fewer w a b h = omega arith
 
 -- a job of the same wish that did not go back to its first append has no more PutStarts to write
-pub starts_not_more : (j k : CoreJob) → k.wish ≡ j.wish → (k.opening ≡ true → j.opening ≡ true) → starts_of k ≤ starts_of j
-starts_not_more j k w h = subst (λ (x : Wish). starts_by x k.opening ≤ starts_of j) (sym w) (starts_fewer j.wish j.opening k.opening h)
+pub starts_not_more : (j k : CoreJob) → k.wish ≡ j.wish → (k.opening ≡ true → j.opening ≡ true) →
+    starts_of k ≤ starts_of j
+starts_not_more j k w h = subst (λ (x : Wish). starts_by x k.opening ≤ starts_of j) (sym w)
+    (starts_fewer j.wish j.opening k.opening h)
 
 -- a job that makes an action needs no more room than before
 pub moved_room : (n : ℕ) (j : CoreJob) → reserved_of n (stepped j) ≤ reserved_of n j
@@ -97,105 +106,145 @@ moved_starts j = starts_not_more j (stepped j) refl (and_left j.opening (not (is
 
 -- ---- the numbers of jobs
 
-rising_lower : (low lower : ℕ) (js : List CoreJob) (next : ℕ) → lower ≤ low → AreRising low js next → AreRising lower js next
+rising_lower : (low lower : ℕ) (js : List CoreJob) (next : ℕ) → lower ≤ low → AreRising low js next →
+    AreRising lower js next
 rising_lower low lower [] next l h = omega arith
 rising_lower low lower (j ∷ js) next l h = ((let a = h.0 in omega arith), h.1)
 
-rising_remove : (low : ℕ) (js : List CoreJob) (next i : ℕ) → AreRising low js next → AreRising low (remove js i) next
+rising_remove : (low : ℕ) (js : List CoreJob) (next i : ℕ) → AreRising low js next →
+    AreRising low (remove js i) next
 rising_remove low [] next zero h = h
 rising_remove low [] next (suc i) h = h
-rising_remove low (j ∷ js) next zero h = rising_lower (j.number + 1) low js next (let a = h.0 in omega arith) h.1
+rising_remove low (j ∷ js) next zero h =
+    rising_lower (j.number + 1) low js next (let a = h.0 in omega arith) h.1
 rising_remove low (j ∷ js) next (suc i) h = (h.0, rising_remove (j.number + 1) js next i h.1)
 
 -- numbers ascend still where a job gives way to one of its own number
-pub rising_set : (low : ℕ) (js : List CoreJob) (next i : ℕ) (j k : CoreJob) → slice_get js i ≡ Some j → k.number ≡ j.number → AreRising low js next → AreRising low (set js i k) next
+pub rising_set : (low : ℕ) (js : List CoreJob) (next i : ℕ) (j k : CoreJob) → slice_get js i ≡ Some j →
+    k.number ≡ j.number → AreRising low js next → AreRising low (set js i k) next
 rising_set low [] next i j k e n h = let f : None ≡ Some j = e in cc
 rising_set low (x ∷ js) next zero j k e n h =
-    let f : Some x ≡ Some j = e in let g : x ≡ j = cc in let m : x.number ≡ k.number = ap (λ (y : CoreJob). y.number) g ∙ sym n in
+    let f : Some x ≡ Some j = e in let g : x ≡ j = cc in
+    let m : x.number ≡ k.number = ap (λ (y : CoreJob). y.number) g ∙ sym n in
     ((let a = h.0 in omega (arith, m)), subst (λ (y : ℕ). AreRising (y + 1) js next) m h.1)
 rising_set low (x ∷ js) next (suc i) j k e n h = (h.0, rising_set (x.number + 1) js next i j k e n h.1)
 
 -- numbers ascend still with a job behind that has the next number
-pub rising_push : (low : ℕ) (js : List CoreJob) (next : ℕ) (k : CoreJob) → k.number ≡ next → AreRising low js next → AreRising low (js ++ k ∷ []) (next + 1)
+pub rising_push : (low : ℕ) (js : List CoreJob) (next : ℕ) (k : CoreJob) → k.number ≡ next →
+    AreRising low js next → AreRising low (js ++ k ∷ []) (next + 1)
 rising_push low [] next k n h = ((let a = h in omega arith), (let a = h in omega arith))
 rising_push low (j ∷ js) next k n h = (h.0, rising_push (j.number + 1) js next k n h.1)
 
 above : (low : ℕ) (js : List CoreJob) (next k : ℕ) → AreRising low js next → k < low → job_in js k ≡ None
 above low [] next k h l = refl
-above low (j ∷ js) next k h l = rw (ne_eqb j.number k (λ e. absurd (let a = h.0 in omega arith))) (above (j.number + 1) js next k h.1 (let a = h.0 in omega arith))
+above low (j ∷ js) next k h l = rw (ne_eqb j.number k (λ e. absurd (let a = h.0 in omega arith)))
+    (above (j.number + 1) js next k h.1 (let a = h.0 in omega arith))
 
 -- a job that is taken out no longer runs
-pub gone : (low : ℕ) (js : List CoreJob) (next i : ℕ) (j : CoreJob) → AreRising low js next → slice_get js i ≡ Some j → job_in (remove js i) j.number ≡ None
+pub gone : (low : ℕ) (js : List CoreJob) (next i : ℕ) (j : CoreJob) → AreRising low js next →
+    slice_get js i ≡ Some j → job_in (remove js i) j.number ≡ None
 gone low [] next i j h e = let f : None ≡ Some j = e in cc
 gone low (x ∷ js) next zero j h e = let f : Some x ≡ Some j = e in let g : x ≡ j = cc in
     above (x.number + 1) js next j.number h.1 (let m = ap (λ (y : CoreJob). y.number) g in omega arith)
-gone low (x ∷ js) next (suc i) j h e = rw (ne_eqb x.number j.number (λ m. absurd (let b = behind (x.number + 1) js next i j h.1 e in omega arith))) (gone (x.number + 1) js next i j h.1 e)
+gone low (x ∷ js) next (suc i) j h e =
+    rw (ne_eqb x.number j.number
+    (λ m. absurd (let b = behind (x.number + 1) js next i j h.1 e in omega arith)))
+    (gone (x.number + 1) js next i j h.1 e)
   where
-    behind : (low : ℕ) (ys : List CoreJob) (top k : ℕ) (y : CoreJob) → AreRising low ys top → slice_get ys k ≡ Some y → low ≤ y.number
+    behind : (low : ℕ) (ys : List CoreJob) (top k : ℕ) (y : CoreJob) → AreRising low ys top →
+        slice_get ys k ≡ Some y → low ≤ y.number
     behind low [] top k y g f = (let r : None ≡ Some y = f in cc)
-    behind low (z ∷ ys) top zero y g f = (let r : Some z ≡ Some y = f in let s : z ≡ y = cc in let m = ap (λ (v : CoreJob). v.number) s in let a = g.0 in omega arith)
-    behind low (z ∷ ys) top (suc k) y g f = (let a = g.0 in let b = behind (z.number + 1) ys top k y g.1 f in omega arith)
+    behind low (z ∷ ys) top zero y g f =
+        (let r : Some z ≡ Some y = f in let s : z ≡ y = cc in let m = ap (λ (v : CoreJob). v.number) s in
+        let a = g.0 in omega arith)
+    behind low (z ∷ ys) top (suc k) y g f =
+        (let a = g.0 in let b = behind (z.number + 1) ys top k y g.1 f in omega arith)
 
 -- ---- a core with a job less
 
 -- a contract sees a core without the job of a place where that job was taken out
-pub less_view : (a : Inside) (v : Vec Job Global) (place : ℕ) (o : Option ℕ) (b : Bool) → v.items ≡ remove a.jobs.items place →
-    view_of (record a { jobs = v; append = o; barred = b }) ≡ record (view_of a) { jobs = remove (view_of a).jobs place; append = o; barred = b }
-less_view a v place o b e = ap (λ (js : List CoreJob). record (view_of a) { jobs = js; append = o; barred = b })
+pub less_view : (a : Inside) (v : Vec Job Global) (place : ℕ) (o : Option ℕ) (b : Bool) →
+    v.items ≡ remove a.jobs.items place →
+    view_of (record a { jobs = v; append = o; barred = b })
+    ≡ record (view_of a) { jobs = remove (view_of a).jobs place; append = o; barred = b }
+less_view a v place o b e =
+    ap (λ (js : List CoreJob). record (view_of a) { jobs = js; append = o; barred = b })
     (ap (map (core_job a.setup.n)) e ∙ map-remove (core_job a.setup.n) a.jobs.items place)
 
 -- a core stays one as it is kept without one of its jobs
-pub less_core : (a : Inside) (v : Vec Job Global) (place : ℕ) (d : Job) (o : Option ℕ) (b : Bool) → place < length (view_of a).jobs → v.items ≡ remove a.jobs.items place → IsCore a →
+pub less_core : (a : Inside) (v : Vec Job Global) (place : ℕ) (d : Job) (o : Option ℕ) (b : Bool) →
+    place < length (view_of a).jobs → v.items ≡ remove a.jobs.items place → IsCore a →
     IsCore (record a { jobs = v; append = o; barred = b })
 less_core a v place d o b l e h = record {
   set_up = h.set_up;
-  kept = subst (All (IsJobKept a.setup.n)) (sym e) (All-remove (IsJobKept a.setup.n) a.jobs.items place h.kept);
-  few = (let m : length (map (core_job a.setup.n) a.jobs.items) ≡ length a.jobs.items = simp length-map in let r = length-remove a.jobs.items place (omega (arith, l, m)) in let s = ap length e in let f = h.few in omega (arith, r, s, f));
+  kept = subst (All (IsJobKept a.setup.n)) (sym e)
+      (All-remove (IsJobKept a.setup.n) a.jobs.items place h.kept);
+  few = (let m : length (map (core_job a.setup.n) a.jobs.items) ≡ length a.jobs.items = simp length-map in
+      let r = length-remove a.jobs.items place (omega (arith, l, m)) in let s = ap length e in
+      let f = h.few in omega (arith, r, s, f));
   begun = h.begun;
-  reserves = subst Reserves (sym (less_view a v place o b e)) (reserves_less (view_of a) place (core_job a.setup.n d) o b l h.reserves);
-  numbered = subst (λ (x : CoreView). AreRising 0 x.jobs a.next_job) (sym (less_view a v place o b e)) (rising_remove 0 (view_of a).jobs a.next_job place h.numbered);
+  reserves = subst Reserves (sym (less_view a v place o b e))
+      (reserves_less (view_of a) place (core_job a.setup.n d) o b l h.reserves);
+  numbered = subst (λ (x : CoreView). AreRising 0 x.jobs a.next_job) (sym (less_view a v place o b e))
+      (rising_remove 0 (view_of a).jobs a.next_job place h.numbered);
 }
 
 -- ---- a core with another job
 
 -- a contract sees another job at a place where one was put there
-pub other_view : (a : Inside) (v : Vec Job Global) (place : ℕ) (job : Job) (k : CoreJob) (o : Option ℕ) → v.items ≡ set a.jobs.items place job → core_job a.setup.n job ≡ k →
-    view_of (record a { jobs = v; append = o }) ≡ record (view_of a) { jobs = set (view_of a).jobs place k; append = o }
+pub other_view : (a : Inside) (v : Vec Job Global) (place : ℕ) (job : Job) (k : CoreJob) (o : Option ℕ) →
+    v.items ≡ set a.jobs.items place job → core_job a.setup.n job ≡ k →
+    view_of (record a { jobs = v; append = o }) ≡ record (view_of a)
+    { jobs = set (view_of a).jobs place k; append = o }
 other_view a v place job k o e s = ap (λ (js : List CoreJob). record (view_of a) { jobs = js; append = o })
-    (ap (map (core_job a.setup.n)) e ∙ (map-set (core_job a.setup.n) a.jobs.items place job ∙ ap (set (map (core_job a.setup.n) a.jobs.items) place) s))
+    (ap (map (core_job a.setup.n)) e
+    ∙ (map-set (core_job a.setup.n) a.jobs.items place job
+    ∙ ap (set (map (core_job a.setup.n) a.jobs.items) place) s))
 
 -- a core stays one as it is kept with another job at a place that has its number and needs no more
-pub other_core : (a : Inside) (v : Vec Job Global) (place : ℕ) (job : Job) (j k : CoreJob) (o : Option ℕ) → v.items ≡ set a.jobs.items place job → core_job a.setup.n job ≡ k →
-    slice_get (view_of a).jobs place ≡ Some j → k.number ≡ j.number → IsJobKept a.setup.n job → reserved_of a.setup.n k ≤ reserved_of a.setup.n j → starts_of k ≤ starts_of j →
+pub other_core : (a : Inside) (v : Vec Job Global) (place : ℕ) (job : Job) (j k : CoreJob) (o : Option ℕ) →
+    v.items ≡ set a.jobs.items place job → core_job a.setup.n job ≡ k →
+    slice_get (view_of a).jobs place ≡ Some j → k.number ≡ j.number → IsJobKept a.setup.n job →
+    reserved_of a.setup.n k ≤ reserved_of a.setup.n j → starts_of k ≤ starts_of j →
     IsCore a → IsCore (record a { jobs = v; append = o })
 other_core a v place job j k o e s g num kept r t h = record {
   set_up = h.set_up;
-  kept = subst (All (IsJobKept a.setup.n)) (sym e) (All-set (IsJobKept a.setup.n) a.jobs.items place job kept h.kept);
-  few = (let r = length-set a.jobs.items place job in let s = ap length e in let f = h.few in omega (arith, r, s, f));
+  kept = subst (All (IsJobKept a.setup.n)) (sym e)
+      (All-set (IsJobKept a.setup.n) a.jobs.items place job kept h.kept);
+  few = (let r = length-set a.jobs.items place job in let s = ap length e in let f = h.few in
+      omega (arith, r, s, f));
   begun = h.begun;
-  reserves = subst Reserves (sym (other_view a v place job k o e s)) (reserves_other (view_of a) place j k o g r t h.reserves);
-  numbered = subst (λ (x : CoreView). AreRising 0 x.jobs a.next_job) (sym (other_view a v place job k o e s)) (rising_set 0 (view_of a).jobs a.next_job place j k g num h.numbered);
+  reserves = subst Reserves (sym (other_view a v place job k o e s))
+      (reserves_other (view_of a) place j k o g r t h.reserves);
+  numbered = subst (λ (x : CoreView). AreRising 0 x.jobs a.next_job) (sym (other_view a v place job k o e s))
+      (rising_set 0 (view_of a).jobs a.next_job place j k g num h.numbered);
 }
 
 -- ---- the job at a place
 
 -- the job at a place is seen at that place
-pub seen_at : (a : Inside) (place : ℕ) (job : Job) → place < length (view_of a).jobs → job ≡ get_or a.jobs.items place job →
+pub seen_at : (a : Inside) (place : ℕ) (job : Job) → place < length (view_of a).jobs →
+    job ≡ get_or a.jobs.items place job →
     slice_get (view_of a).jobs place ≡ Some (core_job a.setup.n job)
 seen_at a place job l e =
     let m : length (map (core_job a.setup.n) a.jobs.items) ≡ length a.jobs.items = simp length-map in
-    slice_get-map (core_job a.setup.n) a.jobs.items place ∙ ap (option_map (core_job a.setup.n)) (slice_get_read a.jobs.items (length a.jobs.items) place job refl (omega (arith, l, m)) e)
+    slice_get-map (core_job a.setup.n) a.jobs.items place
+    ∙ ap (option_map (core_job a.setup.n))
+    (slice_get_read a.jobs.items (length a.jobs.items) place job refl (omega (arith, l, m)) e)
 
 own_is : (o : Option ℕ) (j : CoreJob) → option_eq eqb o (Some j.number) ≡ is_own o (Some j)
 own_is None j = refl
 own_is (Some k) j = refl
 
 -- the append in flight goes with the job whose own it is
-pub freed_is : (c : CoreView) (place : ℕ) (j : CoreJob) (b : Bool) → slice_get c.jobs place ≡ Some j → option_eq eqb c.append (Some j.number) ≡ b →
+pub freed_is : (c : CoreView) (place : ℕ) (j : CoreJob) (b : Bool) → slice_get c.jobs place ≡ Some j →
+    option_eq eqb c.append (Some j.number) ≡ b →
     (if b then None else c.append) ≡ freed c place
-freed_is c place j b e f = ap (λ (x : Bool). if x then None else c.append) (sym f ∙ (own_is c.append j ∙ ap (is_own c.append) (sym e)))
+freed_is c place j b e f = ap (λ (x : Bool). if x then None else c.append)
+    (sym f ∙ (own_is c.append j ∙ ap (is_own c.append) (sym e)))
 
 -- the calls of a stripe, under another number
-pub renamed_stripe : (k o t : ℕ) (js : List ℕ) → map (λ j. Store j k t) js ≡ map (renamed k) (map (λ j. Store j o t) js)
+pub renamed_stripe : (k o t : ℕ) (js : List ℕ) → map (λ j. Store j k t) js
+    ≡ map (renamed k) (map (λ j. Store j o t) js)
 renamed_stripe k o t [] = refl
 renamed_stripe k o t (j ∷ js) = ap (λ (xs : List Action). Store j k t ∷ xs) (renamed_stripe k o t js)

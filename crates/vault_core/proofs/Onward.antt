@@ -33,8 +33,10 @@ use Rattle.vault_core.specs.Wished.{is_opener}
 -- ---- the first append
 
 -- the list of a job that has a first append begins with it
-pub opens-list : (s : Setup) (m : Job) (v : Wish) (k : Kind) → m.kind ≡ k → IsAlike v k → is_opener v ≡ true → (rest : List Action) × (actions_of s m ≡ append_actions ++ rest)
-opens-list s m (wish.Put name size) (PutJob called bytes) e h o = (put_rest s m bytes, put-list s m called bytes e)
+pub opens-list : (s : Setup) (m : Job) (v : Wish) (k : Kind) → m.kind ≡ k → IsAlike v k → is_opener v ≡ true →
+    (rest : List Action) × (actions_of s m ≡ append_actions ++ rest)
+opens-list s m (wish.Put name size) (PutJob called bytes) e h o =
+    (put_rest s m bytes, put-list s m called bytes e)
 opens-list s m (wish.Drop name) (DropJob called) e h o = (drop_rest s m, drop-list s m called e)
 opens-list s m wish.Audit AuditJob e h o = (audit_rest s m, audit-list s m e)
 opens-list s m (wish.Get name) k e h o = absurd (false≢true o)
@@ -45,15 +47,18 @@ far : (p : ℕ) → nat_lt (suc (suc (suc (suc p)))) 4 ≡ false
 far p = le-ltb (suc (suc (suc (suc p)))) 4 (omega arith)
 
 -- an action leaves the first append where it is the fourth move
-gate_step : (rest : List Action) (p : ℕ) (a : Action) → slice_get (append_actions ++ rest) p ≡ Some a → (nat_lt p 4 && not (is_gate (Some a))) ≡ nat_lt (p + 1) 4
+gate_step : (rest : List Action) (p : ℕ) (a : Action) → slice_get (append_actions ++ rest) p ≡ Some a →
+    (nat_lt p 4 && not (is_gate (Some a))) ≡ nat_lt (p + 1) 4
 gate_step rest zero a e = ap (λ (o : Option Action). nat_lt 0 4 && not (is_gate o)) (sym e)
 gate_step rest (suc zero) a e = ap (λ (o : Option Action). nat_lt 1 4 && not (is_gate o)) (sym e)
 gate_step rest (suc (suc zero)) a e = ap (λ (o : Option Action). nat_lt 2 4 && not (is_gate o)) (sym e)
 gate_step rest (suc (suc (suc zero))) a e = ap (λ (o : Option Action). nat_lt 3 4 && not (is_gate o)) (sym e)
-gate_step rest (suc (suc (suc (suc p)))) a e = ap (λ (b : Bool). b && not (is_gate (Some a))) (far p) ∙ sym (le-ltb (suc (suc (suc (suc p))) + 1) 4 (omega arith))
+gate_step rest (suc (suc (suc (suc p)))) a e = ap (λ (b : Bool). b && not (is_gate (Some a))) (far p)
+    ∙ sym (le-ltb (suc (suc (suc (suc p))) + 1) 4 (omega arith))
 
 -- no ask stands in a first append
-pub ask_behind : (rest : List Action) (p j o t : ℕ) → slice_get (append_actions ++ rest) p ≡ Some (Ask j o t) → nat_lt p 4 ≡ false
+pub ask_behind : (rest : List Action) (p j o t : ℕ) →
+    slice_get (append_actions ++ rest) p ≡ Some (Ask j o t) → nat_lt p 4 ≡ false
 ask_behind rest zero j o t e = let f : Some WriteBody ≡ Some (Ask j o t) = e in cc
 ask_behind rest (suc zero) j o t e = let f : Some SyncBody ≡ Some (Ask j o t) = e in cc
 ask_behind rest (suc (suc zero)) j o t e = let f : Some WriteGate ≡ Some (Ask j o t) = e in cc
@@ -63,33 +68,48 @@ ask_behind rest (suc (suc (suc (suc p)))) j o t e = far p
 -- ---- the sums of an audit
 
 module _ (s : Setup) (i j : Job) (given : i.given ≡ j.given) (subject : i.subject ≡ j.subject) where
-  rounds_same : (f : Pinned) (rounds : List ℕ) (old new : Sums) → JudgesRounds s i f rounds old new → JudgesRounds s j f rounds old new
+  rounds_same : (f : Pinned) (rounds : List ℕ) (old new : Sums) → JudgesRounds s i f rounds old new →
+      JudgesRounds s j f rounds old new
   rounds_same f [] old new h = h
   rounds_same f (r ∷ rs) old new h = (
     h.0,
-    subst (λ (n : ℕ). Judges (object_of (profiled s f.profile) f.id) (challenge_of (object_of (profiled s f.profile) f.id) (length f.bytes) s.picks n r) (answers_given j.given s.n f.id r) old h.0) subject
-        (subst (λ (g : List Given). Judges (object_of (profiled s f.profile) f.id) (challenge_of (object_of (profiled s f.profile) f.id) (length f.bytes) s.picks i.subject r) (answers_given g s.n f.id r) old h.0) given h.1),
+    subst (λ (n : ℕ). Judges (object_of (profiled s f.profile) f.id)
+        (challenge_of (object_of (profiled s f.profile) f.id) (length f.bytes) s.picks n r)
+        (answers_given j.given s.n f.id r) old h.0) subject
+        (subst (λ (g : List Given). Judges (object_of (profiled s f.profile) f.id)
+        (challenge_of (object_of (profiled s f.profile) f.id) (length f.bytes) s.picks i.subject r)
+        (answers_given g s.n f.id r) old h.0) given h.1),
     rounds_same f rs h.0 new h.2,
   )
 
   files_same : (fs : List Pinned) (old new : Sums) → JudgesFiles s i fs old new → JudgesFiles s j fs old new
   files_same [] old new h = h
-  files_same (f ∷ fs) old new h = (h.0, rounds_same f (rounds_of (profiled s f.profile) (length f.bytes)) old h.0 h.1, files_same fs h.0 new h.2)
+  files_same (f ∷ fs) old new h = (
+    h.0,
+    rounds_same f (rounds_of (profiled s f.profile) (length f.bytes)) old h.0 h.1,
+    files_same fs h.0 new h.2,
+  )
 
   -- sums of a job are those of another with the same answers, subject and files
   pub sums-same : (sums : Sums) → i.pinned ≡ j.pinned → HasSums s i sums → HasSums s j sums
-  sums-same sums pinned h = subst (λ (fs : List Pinned). JudgesFiles s j fs (record { counts = replicate s.n 0; undecided = 0 }) sums) pinned (files_same i.pinned (record { counts = replicate s.n 0; undecided = 0 }) sums h)
+  sums-same sums pinned h =
+      subst (λ (fs : List Pinned). JudgesFiles s j fs
+      (record { counts = replicate s.n 0; undecided = 0 }) sums) pinned
+      (files_same i.pinned (record { counts = replicate s.n 0; undecided = 0 }) sums h)
 
 -- an audit with nothing to ask has no sums
 module _ (s : Setup) (m : Job) (some : 0 < s.n) where
   asks_of : Pinned → List Action
-  asks_of f = flat_map (λ round. on_each_provider s (λ j. Ask j f.id round)) (rounds_of (profiled s f.profile) (length f.bytes))
+  asks_of f = flat_map (λ round. on_each_provider s (λ j. Ask j f.id round))
+      (rounds_of (profiled s f.profile) (length f.bytes))
 
   providers : (n : ℕ) → 0 < n → (f : ℕ → Action) (xs : List Action) → map f (upto n) ++ xs ≡ [] → ⊥
   providers zero l f xs e = omega arith
   providers (suc n) l f xs e = let g : f 0 ∷ (map f (range_with_len (0 + 1) n) ++ xs) ≡ [] = e in cc
 
-  no_rounds : (f : Pinned) (rounds : List ℕ) (sums : Sums) → flat_map (λ round. on_each_provider s (λ j. Ask j f.id round)) rounds ≡ [] → JudgesRounds s m f rounds sums sums
+  no_rounds : (f : Pinned) (rounds : List ℕ) (sums : Sums) →
+      flat_map (λ round. on_each_provider s (λ j. Ask j f.id round)) rounds ≡ [] →
+      JudgesRounds s m f rounds sums sums
   no_rounds f [] sums e = refl
   no_rounds f (r ∷ rs) sums e = absurd (providers s.n some (λ j. Ask j f.id r) _ e)
 
@@ -97,11 +117,15 @@ module _ (s : Setup) (m : Job) (some : 0 < s.n) where
   none_both [] ys e = (refl, e)
   none_both (x ∷ xs) ys e = let f : x ∷ (xs ++ ys) ≡ [] = e in cc
 
-  no_files : (fs : List Pinned) (sums : Sums) → flat_map (λ (f : Pinned). flat_map (λ round. on_each_provider s (λ j. Ask j f.id round)) (rounds_of (profiled s f.profile) (length f.bytes))) fs ≡ [] → JudgesFiles s m fs sums sums
+  no_files : (fs : List Pinned) (sums : Sums) →
+      flat_map (λ (f : Pinned). flat_map (λ round. on_each_provider s (λ j. Ask j f.id round))
+      (rounds_of (profiled s f.profile) (length f.bytes))) fs ≡ [] → JudgesFiles s m fs sums sums
   no_files [] sums e = refl
   no_files (f ∷ fs) sums e =
-      let b = none_both (flat_map (λ round. on_each_provider s (λ j. Ask j f.id round)) (rounds_of (profiled s f.profile) (length f.bytes)))
-      (flat_map (λ (f : Pinned). flat_map (λ round. on_each_provider s (λ j. Ask j f.id round)) (rounds_of (profiled s f.profile) (length f.bytes))) fs) e in
+      let b = none_both (flat_map (λ round. on_each_provider s (λ j. Ask j f.id round))
+      (rounds_of (profiled s f.profile) (length f.bytes)))
+      (flat_map (λ (f : Pinned). flat_map (λ round. on_each_provider s (λ j. Ask j f.id round))
+      (rounds_of (profiled s f.profile) (length f.bytes))) fs) e in
       (sums, no_rounds f (rounds_of (profiled s f.profile) (length f.bytes)) sums b.0, no_files fs sums b.1)
 
   -- a job that asks nothing has sums of zero
@@ -123,8 +147,10 @@ unfolding IsAnAsk
 asks_ask s m = each-ask IsAnAsk (λ j o t. refl) s m
 
 -- behind asks comes the first move of the next append
-ask_then : (xs ys : List Action) (p j o t : ℕ) → Each IsAnAsk xs → Each NoAsk ys → slice_get (xs ++ WriteBody ∷ ys) p ≡ Some (Ask j o t) →
-    (asks_next (slice_get (xs ++ WriteBody ∷ ys) (suc p)) ≡ true) ⊎ (begins_append (slice_get (xs ++ WriteBody ∷ ys) (suc p)) ≡ true)
+ask_then : (xs ys : List Action) (p j o t : ℕ) → Each IsAnAsk xs → Each NoAsk ys →
+    slice_get (xs ++ WriteBody ∷ ys) p ≡ Some (Ask j o t) →
+    (asks_next (slice_get (xs ++ WriteBody ∷ ys) (suc p)) ≡ true) ⊎
+    (begins_append (slice_get (xs ++ WriteBody ∷ ys) (suc p)) ≡ true)
 unfolding IsAnAsk NoAsk
 ask_then [] ys zero j o t h n e = let f : Some WriteBody ≡ Some (Ask j o t) = e in cc
 ask_then [] ys (suc p) j o t h n e = absurd (false≢true (sym (each_get NoAsk ys p (Ask j o t) n e)))
@@ -133,20 +159,29 @@ ask_then (x ∷ (y ∷ xs)) ys zero j o t h n e = inl h.1.0
 ask_then (x ∷ xs) ys (suc p) j o t h n e = ask_then xs ys p j o t h.1 n e
 
 -- an ask of an audit stands before another ask, or before the first move of its last append
-pub ask-then : (s : Setup) (m : Job) (j o t : ℕ) → m.kind ≡ AuditJob → slice_get (actions_of s m) m.place ≡ Some (Ask j o t) →
-    (asks_next (slice_get (actions_of s m) (m.place + 1)) ≡ true) ⊎ (begins_append (slice_get (actions_of s m) (m.place + 1)) ≡ true)
+pub ask-then : (s : Setup) (m : Job) (j o t : ℕ) → m.kind ≡ AuditJob →
+    slice_get (actions_of s m) m.place ≡ Some (Ask j o t) →
+    (asks_next (slice_get (actions_of s m) (m.place + 1)) ≡ true) ⊎
+    (begins_append (slice_get (actions_of s m) (m.place + 1)) ≡ true)
 unfolding NoAsk
-ask-then s m j o t kind e = subst (λ (xs : List Action). (asks_next (slice_get xs (m.place + 1)) ≡ true) ⊎ (begins_append (slice_get xs (m.place + 1)) ≡ true)) (sym (audit-list s m kind))
-    (subst (λ (k : ℕ). (asks_next (slice_get (append_actions ++ audit_rest s m) k) ≡ true) ⊎ (begins_append (slice_get (append_actions ++ audit_rest s m) k) ≡ true)) (let k : suc m.place ≡ m.place + 1 = omega arith in k)
+ask-then s m j o t kind e =
+    subst (λ (xs : List Action). (asks_next (slice_get xs (m.place + 1)) ≡ true) ⊎
+    (begins_append (slice_get xs (m.place + 1)) ≡ true)) (sym (audit-list s m kind))
+    (subst (λ (k : ℕ). (asks_next (slice_get (append_actions ++ audit_rest s m) k) ≡ true) ⊎
+    (begins_append (slice_get (append_actions ++ audit_rest s m) k) ≡ true))
+    (let k : suc m.place ≡ m.place + 1 = omega arith in k)
     (by m.place (ap (λ (xs : List Action). slice_get xs m.place) (sym (audit-list s m kind)) ∙ e)))
   where
     by : (p : ℕ) → slice_get (append_actions ++ audit_rest s m) p ≡ Some (Ask j o t) →
-        (asks_next (slice_get (append_actions ++ audit_rest s m) (suc p)) ≡ true) ⊎ (begins_append (slice_get (append_actions ++ audit_rest s m) (suc p)) ≡ true)
+        (asks_next (slice_get (append_actions ++ audit_rest s m) (suc p)) ≡ true) ⊎
+        (begins_append (slice_get (append_actions ++ audit_rest s m) (suc p)) ≡ true)
     by zero f = (let g : Some WriteBody ≡ Some (Ask j o t) = f in cc)
     by (suc zero) f = (let g : Some SyncBody ≡ Some (Ask j o t) = f in cc)
     by (suc (suc zero)) f = (let g : Some WriteGate ≡ Some (Ask j o t) = f in cc)
     by (suc (suc (suc zero))) f = (let g : Some SyncGate ≡ Some (Ask j o t) = f in cc)
-    by (suc (suc (suc (suc p)))) f = ask_then (ask_actions s m) (SyncBody ∷ WriteGate ∷ SyncGate ∷ End ∷ []) p j o t (asks_ask s m) (refl, (refl, (refl, (refl, tt)))) f
+    by (suc (suc (suc (suc p)))) f = ask_then (ask_actions s m)
+        (SyncBody ∷ WriteGate ∷ SyncGate ∷ End ∷ []) p j o t (asks_ask s m)
+        (refl, (refl, (refl, (refl, tt)))) f
 
 nothing : (xs ys : List Action) → Each IsAnAsk xs → asks_next (slice_get (xs ++ ys) 0) ≡ false → xs ≡ []
 unfolding IsAnAsk
@@ -154,8 +189,10 @@ nothing [] ys h e = refl
 nothing (x ∷ xs) ys h e = absurd (false≢true (sym e ∙ h.0))
 
 -- where no ask stands behind its first append an audit asks nothing
-pub asks-none : (s : Setup) (m : Job) → m.kind ≡ AuditJob → asks_next (slice_get (actions_of s m) 4) ≡ false → ask_actions s m ≡ []
-asks-none s m kind e = nothing (ask_actions s m) (append_actions ++ End ∷ []) (asks_ask s m) (ap (λ (xs : List Action). asks_next (slice_get xs 4)) (sym (audit-list s m kind)) ∙ e)
+pub asks-none : (s : Setup) (m : Job) → m.kind ≡ AuditJob → asks_next (slice_get (actions_of s m) 4) ≡ false →
+    ask_actions s m ≡ []
+asks-none s m kind e = nothing (ask_actions s m) (append_actions ++ End ∷ []) (asks_ask s m)
+    (ap (λ (xs : List Action). asks_next (slice_get xs 4)) (sym (audit-list s m kind)) ∙ e)
 
 -- an audit neither fetches nor works
 abbrev pub IsAudits : Action → Type 0
@@ -166,15 +203,18 @@ IsAudits (Remove j o) = ⊥
 IsAudits a = Unit {0}
 
 -- each action of an audit's list is one that audits have
-pub audit-action : (s : Setup) (m : Job) (a : Action) → m.kind ≡ AuditJob → slice_get (actions_of s m) m.place ≡ Some a → IsAudits a
+pub audit-action : (s : Setup) (m : Job) (a : Action) → m.kind ≡ AuditJob →
+    slice_get (actions_of s m) m.place ≡ Some a → IsAudits a
 audit-action s m a kind e = each_get IsAudits (append_actions ++ audit_rest s m) m.place a
     (each_append IsAudits append_actions (audit_rest s m) (tt, (tt, (tt, (tt, tt))))
-    (each_append IsAudits (ask_actions s m) (append_actions ++ End ∷ []) (each-ask IsAudits (λ j o t. tt) s m) (tt, (tt, (tt, (tt, (tt, tt)))))))
+    (each_append IsAudits (ask_actions s m) (append_actions ++ End ∷ []) (each-ask IsAudits (λ j o t. tt) s m)
+    (tt, (tt, (tt, (tt, (tt, tt)))))))
     (ap (λ (xs : List Action). slice_get xs m.place) (sym (audit-list s m kind)) ∙ e)
 
 -- ---- a job that has made a plain action
 
-module _ (w : State) (c : CoreJob) (m : Job) (a : Action) (is : IsJobOf (setup_in w) c m) (next : next_action w m ≡ Some a) (on : a ≡ End → ⊥) where
+module _ (w : State) (c : CoreJob) (m : Job) (a : Action) (is : IsJobOf (setup_in w) c m)
+    (next : next_action w m ≡ Some a) (on : a ≡ End → ⊥) where
   -- a job of a core has before it the machine's next action and all behind it
   pub left-here : c.rest ≡ a ∷ drop (m.place + 1) (actions_of (setup_in w) m)
   left-here = is.rest ∙ next-left w m a next on
@@ -188,20 +228,28 @@ module _ (w : State) (c : CoreJob) (m : Job) (a : Action) (is : IsJobOf (setup_i
   rest-on given = ap (drop 1) left-here ∙ ap (drop (m.place + 1)) (sym (actions-onward (setup_in w) m given))
 
   -- a job of a core leaves its first append when the machine's does
-  pub opening-on : (c.opening && not (is_gate (slice_get c.rest 0))) ≡ (is_opener c.wish && nat_lt (m.place + 1) 4)
+  pub opening-on : (c.opening && not (is_gate (slice_get c.rest 0)))
+      ≡ (is_opener c.wish && nat_lt (m.place + 1) 4)
   opening-on =
       ap (λ (b : Bool). b && not (is_gate (slice_get c.rest 0))) is.opening
-      ∙ (ap (λ (o : Option Action). (is_opener c.wish && nat_lt m.place 4) && not (is_gate o)) head-here ∙ by (is_opener c.wish) refl)
+      ∙ (ap (λ (o : Option Action). (is_opener c.wish && nat_lt m.place 4) && not (is_gate o)) head-here
+      ∙ by (is_opener c.wish) refl)
     where
-      by : (b : Bool) → is_opener c.wish ≡ b → ((is_opener c.wish && nat_lt m.place 4) && not (is_gate (Some a))) ≡ (is_opener c.wish && nat_lt (m.place + 1) 4)
-      by false e = ap (λ (x : Bool). (x && nat_lt m.place 4) && not (is_gate (Some a))) e ∙ sym (ap (λ (x : Bool). x && nat_lt (m.place + 1) 4) e)
+      by : (b : Bool) → is_opener c.wish ≡ b →
+          ((is_opener c.wish && nat_lt m.place 4) && not (is_gate (Some a)))
+          ≡ (is_opener c.wish && nat_lt (m.place + 1) 4)
+      by false e = ap (λ (x : Bool). (x && nat_lt m.place 4) && not (is_gate (Some a))) e
+          ∙ sym (ap (λ (x : Bool). x && nat_lt (m.place + 1) 4) e)
       by true e = (let l = opens-list (setup_in w) m c.wish m.kind refl (alike c.wish m.kind is.kind) e in
           ap (λ (x : Bool). (x && nat_lt m.place 4) && not (is_gate (Some a))) e
-          ∙ (gate_step l.0 m.place a (ap (λ (xs : List Action). slice_get xs m.place) (sym l.1) ∙ next_stands w m a next on)
+          ∙ (gate_step l.0 m.place a (ap (λ (xs : List Action). slice_get xs m.place) (sym l.1)
+          ∙ next_stands w m a next on)
           ∙ sym (ap (λ (x : Bool). x && nat_lt (m.place + 1) 4) e)))
 
   -- both one action on, a job of a core still stands for the machine's
-  pub on-moved : (given : List Given) → (IsTrue (has_asked (stepped c)) → HasSums (setup_in w) (onward m m.subject given) c.sums) → IsJobOf (setup_in w) (stepped c) (onward m m.subject given)
+  pub on-moved : (given : List Given) →
+      (IsTrue (has_asked (stepped c)) → HasSums (setup_in w) (onward m m.subject given) c.sums) →
+      IsJobOf (setup_in w) (stepped c) (onward m m.subject given)
   on-moved given sums = record {
     number = is.number;
     kind = is.kind;

@@ -23,64 +23,82 @@ use Rattle.vault_core.proofs.Rests.{rewrites_take, rewrites_skip}
 
 -- ---- flags
 
-read_taken : (n k : ℕ) (xs : List ℕ) (j : ℕ) → drop n xs ≡ replicate k 0 → get_or (take n xs) j 0 ≡ get_or xs j 0
+read_taken : (n k : ℕ) (xs : List ℕ) (j : ℕ) → drop n xs ≡ replicate k 0 →
+    get_or (take n xs) j 0 ≡ get_or xs j 0
 read_taken zero k xs j e = sym (ap (λ (ys : List ℕ). get_or ys j 0) e ∙ get_or-zeros k j)
 read_taken (suc n) k [] j e = refl
 read_taken (suc n) k (x ∷ xs) zero e = refl
 read_taken (suc n) k (x ∷ xs) (suc j) e = read_taken n k xs j e
 
 -- a provider is flagged by its own count, as kept or as counted
-pub flags_read : (counts : Counts) (tolerance j : ℕ) (b : Bool) → IsPadded counts → b ≡ nat_lt tolerance (get_or counts.by j 0) → b ≡ nat_lt tolerance (get_or (counted counts) j 0)
-flags_read counts tolerance j b padded e = e ∙ ap (nat_lt tolerance) (sym (read_taken counts.n (16 - counts.n) counts.by j padded.zeros))
+pub flags_read : (counts : Counts) (tolerance j : ℕ) (b : Bool) → IsPadded counts →
+    b ≡ nat_lt tolerance (get_or counts.by j 0) → b ≡ nat_lt tolerance (get_or (counted counts) j 0)
+flags_read counts tolerance j b padded e =
+    e ∙ ap (nat_lt tolerance) (sym (read_taken counts.n (16 - counts.n) counts.by j padded.zeros))
 
 -- a flagged provider adds one to the stores of a repair
-pub rewrites-flagged : (j n : ℕ) (fl : List Bool) → j < n → flag_at fl j ≡ true → length (rewrites_from j n fl 0 0) ≡ 1 + length (rewrites_from (j + 1) n fl 0 0)
-rewrites-flagged j n fl l f = ap length (rewrites_take j n fl 0 0 l f) ∙ (let e : suc (length (rewrites_from (j + 1) n fl 0 0)) ≡ 1 + length (rewrites_from (j + 1) n fl 0 0) = omega arith in e)
+pub rewrites-flagged : (j n : ℕ) (fl : List Bool) → j < n → flag_at fl j ≡ true →
+    length (rewrites_from j n fl 0 0) ≡ 1 + length (rewrites_from (j + 1) n fl 0 0)
+rewrites-flagged j n fl l f = ap length (rewrites_take j n fl 0 0 l f)
+    ∙ (let e : suc (length (rewrites_from (j + 1) n fl 0 0)) ≡ 1 + length (rewrites_from (j + 1) n fl 0 0) =
+    omega arith in e)
 
 -- a provider that is not flagged adds none to the stores of a repair
-pub rewrites-unflagged : (j n : ℕ) (fl : List Bool) → j < n → flag_at fl j ≡ false → length (rewrites_from j n fl 0 0) ≡ length (rewrites_from (j + 1) n fl 0 0)
+pub rewrites-unflagged : (j n : ℕ) (fl : List Bool) → j < n → flag_at fl j ≡ false →
+    length (rewrites_from j n fl 0 0) ≡ length (rewrites_from (j + 1) n fl 0 0)
 rewrites-unflagged j n fl l f = ap length (rewrites_skip j n fl 0 0 l f)
 
 -- ---- turns
 
 -- an audit works on an empty file not at all
-pub turns_zero : (s : Setup) (w : Wish) (size k : ℕ) → w ≡ wish.Audit → k ≡ stripes_of s size → k ≡ 0 → 0 ≡ turns_for s w size
-turns_zero s w size k e h z = subst (λ (v : Wish). 0 ≡ turns_for s v size) (sym e) (none (stripes_of s size) (sym h ∙ z))
+pub turns_zero : (s : Setup) (w : Wish) (size k : ℕ) → w ≡ wish.Audit → k ≡ stripes_of s size → k ≡ 0 →
+    0 ≡ turns_for s w size
+turns_zero s w size k e h z =
+    subst (λ (v : Wish). 0 ≡ turns_for s v size) (sym e) (none (stripes_of s size) (sym h ∙ z))
   where
     none : (m : ℕ) → m ≡ 0 → 0 ≡ (if m == 0 then 0 else s.rounds)
     none m f = rw (f) refl
 
 -- an audit works on a file with stripes once in each round
-pub turns_some : (s : Setup) (w : Wish) (size k : ℕ) → w ≡ wish.Audit → k ≡ stripes_of s size → (k ≡ 0 → ⊥) → s.rounds ≡ turns_for s w size
-turns_some s w size k e h z = subst (λ (v : Wish). s.rounds ≡ turns_for s v size) (sym e) (some (stripes_of s size) (λ f. z (h ∙ f)))
+pub turns_some : (s : Setup) (w : Wish) (size k : ℕ) → w ≡ wish.Audit → k ≡ stripes_of s size → (k ≡ 0 → ⊥) →
+    s.rounds ≡ turns_for s w size
+turns_some s w size k e h z =
+    subst (λ (v : Wish). s.rounds ≡ turns_for s v size) (sym e) (some (stripes_of s size) (λ f. z (h ∙ f)))
   where
     some : (m : ℕ) → (m ≡ 0 → ⊥) → s.rounds ≡ (if m == 0 then 0 else s.rounds)
     some m f = grind (arith, nat_tests, f)
 
 -- all but an audit work on each stripe of a file once
-pub turns_other : (s : Setup) (w : Wish) (size k : ℕ) → (w ≡ wish.Audit → ⊥) → k ≡ stripes_of s size → k ≡ turns_for s w size
+pub turns_other : (s : Setup) (w : Wish) (size k : ℕ) → (w ≡ wish.Audit → ⊥) → k ≡ stripes_of s size →
+    k ≡ turns_for s w size
 turns_other s wish.Audit size k f h = absurd (f refl)
 turns_other s w size k f h = h
 
 -- ---- tasks
 
-tasks-append : (f : ℕ → ℕ) (xs ys : List Pinned) → tasks_made f (xs ++ ys) ≡ tasks_made f xs ++ tasks_made f ys
+tasks-append : (f : ℕ → ℕ) (xs ys : List Pinned) →
+    tasks_made f (xs ++ ys) ≡ tasks_made f xs ++ tasks_made f ys
 tasks-append f [] ys = refl
 tasks-append f (x ∷ xs) ys = elim (cases_Bool (nat_lt 0 (f x.length))) [
   | inl t ↦ rw (t, tasks-append f xs ys) refl
   | inr e ↦ rw (e, tasks-append f xs ys) refl
 ]
 
-take_next : (xs : List Pinned) (i : ℕ) (d : Pinned) → i < length xs → take (suc i) xs ≡ take i xs ++ get_or xs i d ∷ []
+take_next : (xs : List Pinned) (i : ℕ) (d : Pinned) → i < length xs →
+    take (suc i) xs ≡ take i xs ++ get_or xs i d ∷ []
 take_next [] i d l = absurd (omega arith)
 take_next (x ∷ xs) zero d l = refl
 take_next (x ∷ xs) (suc i) d l = ap (λ (ys : List Pinned). x ∷ ys) (take_next xs i d (omega arith))
 
 -- the tasks of one file more are those of the files before it, and its own
-pub tasks_more : (f : ℕ → ℕ) (files : List Pinned) (i : ℕ) (d : Pinned) (old new : List Task) → i < length files → old ≡ tasks_made f (take i files) →
+pub tasks_more : (f : ℕ → ℕ) (files : List Pinned) (i : ℕ) (d : Pinned) (old new : List Task) →
+    i < length files → old ≡ tasks_made f (take i files) →
     new ≡ old ++ tasks_made f (get_or files i d ∷ []) → new ≡ tasks_made f (take (i + 1) files)
-tasks_more f files i d old new l o e = e ∙ (ap (λ (xs : List Task). xs ++ tasks_made f (get_or files i d ∷ [])) o ∙ (sym (tasks-append f (take i files) (get_or files i d ∷ []))
-    ∙ (ap (tasks_made f) (sym (take_next files i d l)) ∙ ap (λ (k : ℕ). tasks_made f (take k files)) (let k : suc i ≡ i + 1 = omega arith in k))))
+tasks_more f files i d old new l o e = e
+    ∙ (ap (λ (xs : List Task). xs ++ tasks_made f (get_or files i d ∷ [])) o
+    ∙ (sym (tasks-append f (take i files) (get_or files i d ∷ []))
+    ∙ (ap (tasks_made f) (sym (take_next files i d l))
+    ∙ ap (λ (k : ℕ). tasks_made f (take k files)) (let k : suc i ≡ i + 1 = omega arith in k))))
 
 -- as many as a list has, or more, take it whole
 pub take_over : (xs : List Pinned) (i : ℕ) → length xs ≤ i → take i xs ≡ xs
@@ -90,19 +108,26 @@ take_over (x ∷ xs) zero l = absurd (omega arith)
 take_over (x ∷ xs) (suc i) l = ap (λ (ys : List Pinned). x ∷ ys) (take_over xs i (omega arith))
 
 -- all but a put work on the files that they pin
-pub targets_other : (w : Wish) (pins : List Pinned) → ((name : List ℕ) (size : ℕ) → w ≡ wish.Put name size → ⊥) → pins ≡ targets_of w pins
+pub targets_other : (w : Wish) (pins : List Pinned) →
+    ((name : List ℕ) (size : ℕ) → w ≡ wish.Put name size → ⊥) → pins ≡ targets_of w pins
 targets_other (wish.Put name size) pins h = absurd (h name size refl)
 targets_other w pins h = refl
 
 -- ---- pinned files
 
 -- the pins of the files from one place on are those behind it, with that file's pin put in
-pub pins_step : (files : List File) (k : ℕ) (f : File) (old new : List Pinned) → 0 < k → Some f ≡ slice_get files (k - 1) → old ≡ pin_each core_pins pin_of_file (drop k files) → new ≡ pin_by core_pins (pin_of_file f) old →
+pub pins_step : (files : List File) (k : ℕ) (f : File) (old new : List Pinned) → 0 < k →
+    Some f ≡ slice_get files (k - 1) → old ≡ pin_each core_pins pin_of_file (drop k files) →
+    new ≡ pin_by core_pins (pin_of_file f) old →
     new ≡ pin_each core_pins pin_of_file (drop (k - 1) files)
-pins_step files k f old new l g o e = e ∙ (ap (pin_by core_pins (pin_of_file f)) (o ∙ ap (λ (m : ℕ). pin_each core_pins pin_of_file (drop m files)) (let m : k ≡ k - 1 + 1 = omega arith in m))
+pins_step files k f old new l g o e = e
+    ∙ (ap (pin_by core_pins (pin_of_file f))
+    (o ∙ ap (λ (m : ℕ). pin_each core_pins pin_of_file (drop m files))
+    (let m : k ≡ k - 1 + 1 = omega arith in m))
     ∙ ap (pin_each core_pins pin_of_file) (sym (drop-get files (k - 1) f (sym g))))
 
 -- a rewriter's subject is the number of the audit that is due, any other's is zero
-pub subject_is : (t : Kept) (v : Wish) (k : ℕ) → (is_rewriter v ≡ true → k ≡ due_number t.due) → (is_rewriter v ≡ false → k ≡ 0) → k ≡ subject_for t v
+pub subject_is : (t : Kept) (v : Wish) (k : ℕ) → (is_rewriter v ≡ true → k ≡ due_number t.due) →
+    (is_rewriter v ≡ false → k ≡ 0) → k ≡ subject_for t v
 subject_is t wish.Repair k r o = r refl
 subject_is t w k r o = o refl

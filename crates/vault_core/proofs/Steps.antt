@@ -54,7 +54,8 @@ use Rattle.vault_core.proofs.Falls.{StepHere}
 -- ---- the machine's side of a step
 
 -- the job of the machine, and what its action has come to
-pub record OnMachine (c : CoreView) (w new : State) (k place : ℕ) (cj : CoreJob) (action : Action) (outcome : Outcome) : Type 0 where
+pub record OnMachine (c : CoreView) (w new : State) (k place : ℕ) (cj : CoreJob) (action : Action)
+    (outcome : Outcome) : Type 0 where
   pub job : Job
   pub found : job_of w.jobs k ≡ Some job
   pub number : job.number ≡ k
@@ -72,18 +73,25 @@ pub record OnMachine (c : CoreView) (w new : State) (k place : ℕ) (cj : CoreJo
   pub comes : action_next c.table cj ≡ Some action
 
 -- a step that a core has a reply for is a step of the machine's job of that number
-pub on_machine : (c : CoreView) (w new : State) (k place : ℕ) (r : Reply) (action : Action) (outcome : Outcome) (moment : ℕ) → (s : StepHere c k place r action) → CoreIs c w →
+pub on_machine : (c : CoreView) (w new : State) (k place : ℕ) (r : Reply) (action : Action)
+    (outcome : Outcome) (moment : ℕ) → (s : StepHere c k place r action) → CoreIs c w →
     k < 2 ^ 32 → Happens 8 moment w (Step k) outcome new → OnMachine c w new k place s.job action outcome
 on_machine c w new k place r action outcome moment s is l h =
     let n = comes_next c w k action None is (acts_comes c k action s.coming) in
     let p = pair_some c.setup c.jobs w.jobs k s.job is.jobs s.runs in
     let same : n.job ≡ p.job = same_value (job_of w.jobs k) n.job p.job n.runs p.runs in
-    let next : next_action w p.job ≡ Some action = subst (λ (j : Job). next_action w j ≡ Some action) same n.comes in
-    let opened : StepsOpen w k w.is_barred outcome new = subst (λ (b : Bool). Steps w k b outcome new) is.is_open h in
-    let unbarred : StepsOne w k w.alone outcome new = subst (λ (b : Bool). StepsOpen w k b outcome new) n.unbarred opened in
-    let stepping : StepsJob w (job_of w.jobs k) outcome new = subst (λ (x : Option Alone). StepsOne w k x outcome new) is.none_alone unbarred in
-    let here : StepsOn w p.job (next_action w p.job) outcome new = subst (λ (o : Option Job). StepsJob w o outcome new) p.runs stepping in
-    let on : ActsOrWaits w p.job action (holder_of w.append action) outcome new = subst (λ (o : Option Action). StepsOn w p.job o outcome new) next here in
+    let next : next_action w p.job ≡ Some action = subst
+    (λ (j : Job). next_action w j ≡ Some action) same n.comes in
+    let opened : StepsOpen w k w.is_barred outcome new =
+    subst (λ (b : Bool). Steps w k b outcome new) is.is_open h in
+    let unbarred : StepsOne w k w.alone outcome new =
+    subst (λ (b : Bool). StepsOpen w k b outcome new) n.unbarred opened in
+    let stepping : StepsJob w (job_of w.jobs k) outcome new =
+    subst (λ (x : Option Alone). StepsOne w k x outcome new) is.none_alone unbarred in
+    let here : StepsOn w p.job (next_action w p.job) outcome new =
+    subst (λ (o : Option Job). StepsJob w o outcome new) p.runs stepping in
+    let on : ActsOrWaits w p.job action (holder_of w.append action) outcome new =
+    subst (λ (o : Option Action). StepsOn w p.job o outcome new) next here in
     record {
       job = p.job;
       found = p.runs;
@@ -112,8 +120,10 @@ pub record Stays (w new : State) : Type 0 where
   pub alone : new.alone ≡ w.alone
 
 -- a job goes on
-set_stands : (c : CoreView) (w new : State) (k place : ℕ) (cj : CoreJob) (m : Job) (flight : Option ℕ) → CoreIs c w → IsSound 8 new → IsFirst c.jobs k place → Stays w new →
-    new.is_barred ≡ w.is_barred → new.jobs ≡ with_job w.jobs m → m.number ≡ k → IsJobOf (setup_in w) cj m → IsCoreFlight (record (with_at c place cj) { append = flight }) new.append →
+set_stands : (c : CoreView) (w new : State) (k place : ℕ) (cj : CoreJob) (m : Job) (flight : Option ℕ) →
+    CoreIs c w → IsSound 8 new → IsFirst c.jobs k place → Stays w new →
+    new.is_barred ≡ w.is_barred → new.jobs ≡ with_job w.jobs m → m.number ≡ k → IsJobOf (setup_in w) cj m →
+    IsCoreFlight (record (with_at c place cj) { append = flight }) new.append →
     CoreIs (record (with_at c place cj) { append = flight }) new
 set_stands c w new k place cj m flight is sound first stays bar js number job fl =
     let setup : setup_in new ≡ setup_in w = setup_same new w (ap setup_of stays.records) in
@@ -126,15 +136,18 @@ set_stands c w new k place cj m flight is sound first stays bar js number job fl
       setup = is.setup ∙ sym setup;
       end = is.end ∙ ap text_size (sym stays.records);
       jobs = subst (AllZip (IsJobOf c.setup) (set c.jobs place cj)) (sym js)
-          (pair_with c.setup c.jobs w.jobs k place cj m is.jobs first number (same_job (setup_in w) c.setup cj m (sym is.setup) job));
+          (pair_with c.setup c.jobs w.jobs k place cj m is.jobs first number
+          (same_job (setup_in w) c.setup cj m (sym is.setup) job));
       next_job = is.next_job ∙ sym stays.next_job;
       append = fl;
       barred = is.barred ∙ sym bar;
     }
 
 -- a job has ended
-remove_stands : (c : CoreView) (w new : State) (k place : ℕ) (flight : Option ℕ) (b : Bool) → CoreIs c w → IsSound 8 new → IsFirst c.jobs k place → Stays w new →
-    b ≡ new.is_barred → new.jobs ≡ without_job w.jobs k → IsCoreFlight (record c { jobs = remove c.jobs place; append = flight; barred = b }) new.append →
+remove_stands : (c : CoreView) (w new : State) (k place : ℕ) (flight : Option ℕ) (b : Bool) → CoreIs c w →
+    IsSound 8 new → IsFirst c.jobs k place → Stays w new →
+    b ≡ new.is_barred → new.jobs ≡ without_job w.jobs k →
+    IsCoreFlight (record c { jobs = remove c.jobs place; append = flight; barred = b }) new.append →
     CoreIs (record c { jobs = remove c.jobs place; append = flight; barred = b }) new
 remove_stands c w new k place flight b is sound first stays bar js fl =
     let setup : setup_in new ≡ setup_in w = setup_same new w (ap setup_of stays.records) in
@@ -155,7 +168,9 @@ remove_stands c w new k place flight b is sound first stays bar js fl =
 
 -- ---- the append in flight
 
-module _ (c : CoreView) (w : State) (k place : ℕ) (cj : CoreJob) (is : CoreIs c w) (first : IsFirst c.jobs k place) (here : slice_get c.jobs place ≡ Some cj) (runs : job_in c.jobs k ≡ Some cj) (called : cj.number ≡ k) where
+module _ (c : CoreView) (w : State) (k place : ℕ) (cj : CoreJob) (is : CoreIs c w)
+    (first : IsFirst c.jobs k place) (here : slice_get c.jobs place ≡ Some cj)
+    (runs : job_in c.jobs k ≡ Some cj) (called : cj.number ≡ k) where
   -- it is not that of a job that makes another action
   not_own : (a : Append) → IsCoreFlight c (Some a) → is_move (action_next c.table cj) ≡ false → a.job ≡ k → ⊥
   not_own a f still own =
@@ -163,12 +178,17 @@ module _ (c : CoreView) (w : State) (k place : ℕ) (cj : CoreJob) (is : CoreIs 
       let h : entry_of_job c.table cj ≡ Some a.entry = sym (ap (entry_of_found c.table) runs) ∙ g in
       false≢true (sym still ∙ (in_append c.table cj a.entry h).0)
 
-  flight_on : is_move (action_next c.table cj) ≡ false → (x : CoreJob) → x.number ≡ k → IsCoreFlight (with_at c place x) w.append
+  flight_on : is_move (action_next c.table cj) ≡ false → (x : CoreJob) → x.number ≡ k →
+      IsCoreFlight (with_at c place x) w.append
   flight_on still x n = by w.append is.append
     where
       by : (o : Option Append) → IsCoreFlight c o → IsCoreFlight (with_at c place x) o
       by None f = f
-      by (Some a) f = (f.0, ap (entry_of_found c.table) (in_set_other c.jobs k place a.job x first n (not_own a f still)) ∙ f.1)
+      by (Some a) f = (
+        f.0,
+        ap (entry_of_found c.table)
+            (in_set_other c.jobs k place a.job x first n (not_own a f still)) ∙ f.1,
+      )
 
   flight_off : is_move (action_next c.table cj) ≡ false → IsCoreFlight (stopped c place) w.append
   flight_off still = by w.append is.append
@@ -179,7 +199,8 @@ module _ (c : CoreView) (w : State) (k place : ℕ) (cj : CoreJob) (is : CoreIs 
           (let other = not_own a f still in (
             ap (λ (x : Option ℕ). if is_own x (slice_get c.jobs place) then None else x) f.0
                 ∙ (ap (λ (x : Option CoreJob). if is_own (Some a.job) x then None else Some a.job) here
-                ∙ ap (λ (b : Bool). if b then None else Some a.job) (ne_eqb a.job cj.number (λ e. other (e ∙ called)))),
+                ∙ ap (λ (b : Bool). if b then None else Some a.job)
+                (ne_eqb a.job cj.number (λ e. other (e ∙ called)))),
             ap (entry_of_found c.table) (in_remove_other c.jobs k place a.job first other) ∙ f.1,
           ))
 
@@ -200,41 +221,67 @@ core_none c o f e = subst (IsCoreFlight c) e f
 
 -- ---- a job ends, or goes on by an action that is no move of an append
 
-module _ (c : CoreView) (w new : State) (k place : ℕ) (cj : CoreJob) (a : Action) (outcome : Outcome) (o : OnMachine c w new k place cj a outcome) where
+module _ (c : CoreView) (w new : State) (k place : ℕ) (cj : CoreJob) (a : Action) (outcome : Outcome)
+    (o : OnMachine c w new k place cj a outcome) where
   still : is_move (Some a) ≡ false → is_move (action_next c.table cj) ≡ false
   still h = ap is_move o.comes ∙ h
 
-  off_arm : (p : ℕ → Provider) → is_move (Some a) ≡ false → new ≡ record (ended w o.job) { providers = p } → CoreIs (stopped c place) new
+  off_arm : (p : ℕ → Provider) → is_move (Some a) ≡ false → new ≡ record (ended w o.job) { providers = p } →
+      CoreIs (stopped c place) new
   off_arm p h e =
-      remove_stands c w new k place (freed c place) c.barred o.stands o.sound o.first (record { is_open = ap (λ (s : State). s.is_open) e; records = ap (λ (s : State). s.records) e; next_job = ap (λ (s : State). s.next_job) e; alone = ap (λ (s : State). s.alone) e })
-      (o.stands.barred ∙ sym (ap (λ (s : State). s.is_barred) e)) (ap (λ (s : State). s.jobs) e ∙ ap (without_job w.jobs) o.number)
-      (subst (IsCoreFlight (stopped c place)) (sym (ap (λ (s : State). s.append) e)) (flight_off c w k place cj o.stands o.first o.here o.runs o.called (still h)))
+      remove_stands c w new k place (freed c place) c.barred o.stands o.sound o.first
+      (record {
+        is_open = ap (λ (s : State). s.is_open) e;
+        records = ap (λ (s : State). s.records) e;
+        next_job = ap (λ (s : State). s.next_job) e;
+        alone = ap (λ (s : State). s.alone) e;
+      })
+      (o.stands.barred ∙ sym (ap (λ (s : State). s.is_barred) e))
+      (ap (λ (s : State). s.jobs) e ∙ ap (without_job w.jobs) o.number)
+      (subst (IsCoreFlight (stopped c place)) (sym (ap (λ (s : State). s.append) e))
+      (flight_off c w k place cj o.stands o.first o.here o.runs o.called (still h)))
 
-  on_arm : (p : ℕ → Provider) (x : CoreJob) (m : Job) → x.number ≡ k → m.number ≡ k → is_move (Some a) ≡ false → new ≡ record (going_on w m) { providers = p } → IsJobOf (setup_in w) x m →
+  on_arm : (p : ℕ → Provider) (x : CoreJob) (m : Job) → x.number ≡ k → m.number ≡ k →
+      is_move (Some a) ≡ false → new ≡ record (going_on w m) { providers = p } → IsJobOf (setup_in w) x m →
       CoreIs (with_at c place x) new
   on_arm p x m n q h e job =
-      set_stands c w new k place x m c.append o.stands o.sound o.first (record { is_open = ap (λ (s : State). s.is_open) e; records = ap (λ (s : State). s.records) e; next_job = ap (λ (s : State). s.next_job) e; alone = ap (λ (s : State). s.alone) e })
+      set_stands c w new k place x m c.append o.stands o.sound o.first
+      (record {
+        is_open = ap (λ (s : State). s.is_open) e;
+        records = ap (λ (s : State). s.records) e;
+        next_job = ap (λ (s : State). s.next_job) e;
+        alone = ap (λ (s : State). s.alone) e;
+      })
       (ap (λ (s : State). s.is_barred) e) (ap (λ (s : State). s.jobs) e) q job
-      (subst (IsCoreFlight (with_at c place x)) (sym (ap (λ (s : State). s.append) e)) (flight_on c w k place cj o.stands o.first o.here o.runs o.called (still h) x n))
+      (subst (IsCoreFlight (with_at c place x)) (sym (ap (λ (s : State). s.append) e))
+      (flight_on c w k place cj o.stands o.first o.here o.runs o.called (still h) x n))
 
   -- the job, after an action that is not the last ask of an audit
-  plain_arm : (p : ℕ → Provider) (given : List Given) → (a ≡ End → ⊥) → is_move (Some a) ≡ false → goes_plainly (Some a) ≡ true → is_last_ask cj.rest ≡ false →
-      (given ≡ o.job.given) ⊎ (o.job.kind ≡ AuditJob → asks_next (Some a) ≡ true) → new ≡ record (going_on w (onward o.job o.job.subject given)) { providers = p } → CoreIs (with_at c place (stepped cj)) new
+  plain_arm : (p : ℕ → Provider) (given : List Given) → (a ≡ End → ⊥) → is_move (Some a) ≡ false →
+      goes_plainly (Some a) ≡ true → is_last_ask cj.rest ≡ false →
+      (given ≡ o.job.given) ⊎ (o.job.kind ≡ AuditJob → asks_next (Some a) ≡ true) →
+      new ≡ record (going_on w (onward o.job o.job.subject given)) { providers = p } →
+      CoreIs (with_at c place (stepped cj)) new
   plain_arm p given on h plain last gave e =
       on_arm p (stepped cj) (onward o.job o.job.subject given) o.called o.number h e
       (on-moved w cj o.job a o.is o.next on given (sums-on w cj o.job a o.is o.next on given plain last gave))
 
   -- the append of a job ends by a fault of the disk
-  bar_arm : Stays w new → new.is_barred ≡ true → new.jobs ≡ without_job w.jobs o.job.number → CoreIs (barred_at c place) new
+  bar_arm : Stays w new → new.is_barred ≡ true → new.jobs ≡ without_job w.jobs o.job.number →
+      CoreIs (barred_at c place) new
   bar_arm stays barred js =
-      remove_stands c w new k place None true o.stands o.sound o.first stays (sym barred) (js ∙ ap (without_job w.jobs) o.number)
+      remove_stands c w new k place None true o.stands o.sound o.first stays (sym barred)
+      (js ∙ ap (without_job w.jobs) o.number)
       (subst (IsCoreFlight (barred_at c place)) (sym (o.sound.barred barred)) refl)
 
   -- it ends for want of memory
-  free_arm : (c.append ≡ None) ⊎ (c.append ≡ Some k) → Stays w new → new.is_barred ≡ w.is_barred → new.jobs ≡ without_job w.jobs o.job.number → new.append ≡ None → CoreIs (stopped c place) new
+  free_arm : (c.append ≡ None) ⊎ (c.append ≡ Some k) → Stays w new → new.is_barred ≡ w.is_barred →
+      new.jobs ≡ without_job w.jobs o.job.number → new.append ≡ None → CoreIs (stopped c place) new
   free_arm own stays bar js none =
-      remove_stands c w new k place (freed c place) c.barred o.stands o.sound o.first stays (o.stands.barred ∙ sym bar) (js ∙ ap (without_job w.jobs) o.number)
-      (subst (IsCoreFlight (stopped c place)) (sym none) (none_off c w k place cj o.stands o.first o.here o.runs o.called own))
+      remove_stands c w new k place (freed c place) c.barred o.stands o.sound o.first stays
+      (o.stands.barred ∙ sym bar) (js ∙ ap (without_job w.jobs) o.number)
+      (subst (IsCoreFlight (stopped c place)) (sym none)
+      (none_off c w k place cj o.stands o.first o.here o.runs o.called own))
 
 -- ---- the moves of an append
 
@@ -245,47 +292,58 @@ move_after (suc zero) = SyncBody
 move_after (suc (suc zero)) = WriteGate
 move_after (suc (suc (suc n))) = SyncGate
 
-comes_move : (n : ℕ) (xs : List Action) → n < 3 → IsInOrder (suc n) xs → slice_get xs 0 ≡ Some (move_after (suc n))
+comes_move : (n : ℕ) (xs : List Action) → n < 3 → IsInOrder (suc n) xs →
+    slice_get xs 0 ≡ Some (move_after (suc n))
 comes_move n [] l o = absurd o
 comes_move zero (SyncBody ∷ xs) l o = refl
 comes_move (suc n) (SyncBody ∷ xs) l o = absurd (let e : suc (suc n) ≡ 1 = o.0 in omega (arith, e))
 comes_move zero (WriteGate ∷ xs) l o = absurd (let e : 1 ≡ 2 = o.0 in omega (arith, e))
 comes_move (suc zero) (WriteGate ∷ xs) l o = refl
-comes_move (suc (suc n)) (WriteGate ∷ xs) l o = absurd (let e : suc (suc (suc n)) ≡ 2 = o.0 in omega (arith, e))
+comes_move (suc (suc n)) (WriteGate ∷ xs) l o =
+    absurd (let e : suc (suc (suc n)) ≡ 2 = o.0 in omega (arith, e))
 comes_move zero (SyncGate ∷ xs) l o = absurd (let e : 1 ≡ 3 = o.0 in omega (arith, e))
 comes_move (suc zero) (SyncGate ∷ xs) l o = absurd (let e : 2 ≡ 3 = o.0 in omega (arith, e))
 comes_move (suc (suc n)) (SyncGate ∷ xs) l o = refl
 comes_move n (x ∷ xs) l o = absurd (let e : suc n ≡ 0 = o.0 in omega (arith, e))
 
-later_move : (n : ℕ) → (is_move (Some (move_after (suc n))) ≡ true) × (begins_append (Some (move_after (suc n))) ≡ false)
+later_move : (n : ℕ) → (is_move (Some (move_after (suc n))) ≡ true) ×
+    (begins_append (Some (move_after (suc n))) ≡ false)
 later_move zero = (refl, refl)
 later_move (suc zero) = (refl, refl)
 later_move (suc (suc n)) = (refl, refl)
 
 -- a job whose next action is a later move of an append writes its record
-entry_moving : (t : Kept) (x : CoreJob) (n : ℕ) (e : Record) → n < 3 → IsInOrder (suc n) x.rest → written_by t x x.wish ≡ Some e → entry_of_job t x ≡ Some e
+entry_moving : (t : Kept) (x : CoreJob) (n : ℕ) (e : Record) → n < 3 → IsInOrder (suc n) x.rest →
+    written_by t x x.wish ≡ Some e → entry_of_job t x ≡ Some e
 entry_moving t x n e l o h =
     let head = comes_move n x.rest l o in
-    let idle : is_idle t x ≡ false = ap (λ (a : Option Action). is_gone t x.wish && (x.opening && begins_append a)) head
+    let idle : is_idle t x ≡ false =
+    ap (λ (a : Option Action). is_gone t x.wish && (x.opening && begins_append a)) head
     ∙ (ap (λ (b : Bool). is_gone t x.wish && (x.opening && b)) (later_move n).1
     ∙ (ap (λ (b : Bool). is_gone t x.wish && b) (and-false x.opening) ∙ and-false (is_gone t x.wish))) in
-    let next : action_next t x ≡ Some (move_after (suc n)) = ap (λ (b : Bool). if b then Some End else slice_get x.rest 0) idle ∙ head in
+    let next : action_next t x ≡ Some (move_after (suc n)) =
+    ap (λ (b : Bool). if b then Some End else slice_get x.rest 0) idle ∙ head in
     ap (λ (a : Option Action). if is_move a then written_by t x x.wish else None) next
     ∙ (ap (λ (b : Bool). if b then written_by t x x.wish else None) (later_move n).0 ∙ h)
 
 -- what it writes does not change by a move that is not the last
-written_moved : (t : Kept) (j : CoreJob) (a : Action) → slice_get j.rest 0 ≡ Some a → is_gate (Some a) ≡ false → written_by t (stepped j) j.wish ≡ written_by t j j.wish
+written_moved : (t : Kept) (j : CoreJob) (a : Action) → slice_get j.rest 0 ≡ Some a →
+    is_gate (Some a) ≡ false → written_by t (stepped j) j.wish ≡ written_by t j j.wish
 written_moved t j a h g = by j.wish
   where
     opening : (stepped j).opening ≡ j.opening
-    opening = ap (λ (o : Option Action). j.opening && not (is_gate o)) h ∙ (ap (λ (b : Bool). j.opening && not b) g ∙ and-true j.opening)
+    opening = ap (λ (o : Option Action). j.opening && not (is_gate o)) h
+        ∙ (ap (λ (b : Bool). j.opening && not b) g ∙ and-true j.opening)
 
     by : (v : Wish) → written_by t (stepped j) v ≡ written_by t j v
-    by (wish.Put name size) = ap (λ (b : Bool). Some (if b then PutStart (id_after t) name else PutDone j.subject size)) opening
-    by wish.Audit = ap (λ (b : Bool). Some (if b then AuditStart t.next_audit else AuditDone j.subject j.sums.undecided j.sums.counts)) opening
+    by (wish.Put name size) =
+        ap (λ (b : Bool). Some (if b then PutStart (id_after t) name else PutDone j.subject size)) opening
+    by wish.Audit = ap (λ (b : Bool). Some
+        (if b then AuditStart t.next_audit else AuditDone j.subject j.sums.undecided j.sums.counts)) opening
     by v = refl
 
-written_drawn : (t : Kept) (j : CoreJob) (xs : List Action) → j.rest ≡ WriteBody ∷ xs → written_by t (drawn j (number_drawn t j j.wish)) j.wish ≡ written_by t j j.wish
+written_drawn : (t : Kept) (j : CoreJob) (xs : List Action) → j.rest ≡ WriteBody ∷ xs →
+    written_by t (drawn j (number_drawn t j j.wish)) j.wish ≡ written_by t j j.wish
 written_drawn t j xs h = by j.wish
   where
     head : (n : ℕ) (v : Wish) → slice_get (all_renamed n v j.rest) 0 ≡ Some WriteBody
@@ -295,51 +353,81 @@ written_drawn t j xs h = by j.wish
     opening : (n : ℕ) → (drawn j n).opening ≡ j.opening
     opening n = ap (λ (o : Option Action). j.opening && not (is_gate o)) (head n j.wish) ∙ and-true j.opening
 
-    put : (b : Bool) (name : List ℕ) (size : ℕ) → (if b then PutStart (id_after t) name else PutDone (if b then id_after t else j.subject) size) ≡ (if b then PutStart (id_after t) name else PutDone j.subject size)
+    put : (b : Bool) (name : List ℕ) (size : ℕ) →
+        (if b then PutStart (id_after t) name else PutDone (if b then id_after t else j.subject) size)
+        ≡ (if b then PutStart (id_after t) name else PutDone j.subject size)
     put true name size = refl
     put false name size = refl
 
-    audit : (b : Bool) → (if b then AuditStart t.next_audit else AuditDone (if b then t.next_audit else j.subject) j.sums.undecided j.sums.counts)
+    audit : (b : Bool) → (if b then AuditStart t.next_audit
+        else AuditDone (if b then t.next_audit else j.subject) j.sums.undecided j.sums.counts)
         ≡ (if b then AuditStart t.next_audit else AuditDone j.subject j.sums.undecided j.sums.counts)
     audit true = refl
     audit false = refl
 
     by : (v : Wish) → written_by t (drawn j (number_drawn t j v)) v ≡ written_by t j v
-    by (wish.Put name size) = ap (λ (b : Bool). Some (if b then PutStart (id_after t) name else PutDone (number_drawn t j (wish.Put name size)) size)) (opening (number_drawn t j (wish.Put name size))) ∙ ap {B = Option Record} Some (put j.opening name size)
-    by wish.Audit = ap (λ (b : Bool). Some (if b then AuditStart t.next_audit else AuditDone (number_drawn t j wish.Audit) j.sums.undecided j.sums.counts)) (opening (number_drawn t j wish.Audit)) ∙ ap {B = Option Record} Some (audit j.opening)
+    by (wish.Put name size) =
+        ap (λ (b : Bool). Some
+        (if b then PutStart (id_after t) name else PutDone (number_drawn t j (wish.Put name size)) size))
+        (opening (number_drawn t j (wish.Put name size)))
+        ∙ ap {B = Option Record} Some (put j.opening name size)
+    by wish.Audit = ap (λ (b : Bool). Some
+        (if b then AuditStart t.next_audit else AuditDone
+        (number_drawn t j wish.Audit) j.sums.undecided j.sums.counts))
+        (opening (number_drawn t j wish.Audit)) ∙ ap {B = Option Record} Some (audit j.opening)
     by v = refl
 
 -- no job writes a setup, or the second version
-no_setup : (t : Kept) (j : CoreJob) (v : Wish) (e : Record) (rs : List Record) → written_by t j v ≡ Some e → (setup_of (e ∷ rs) ≡ setup_of rs) × (version_of (e ∷ rs) ≡ version_of rs)
+no_setup : (t : Kept) (j : CoreJob) (v : Wish) (e : Record) (rs : List Record) → written_by t j v ≡ Some e →
+    (setup_of (e ∷ rs) ≡ setup_of rs) × (version_of (e ∷ rs) ≡ version_of rs)
 no_setup t j (wish.Put name size) e rs h = by j.opening h
   where
-    by : (b : Bool) → Some (if b then PutStart (id_after t) name else PutDone j.subject size) ≡ Some e → (setup_of (e ∷ rs) ≡ setup_of rs) × (version_of (e ∷ rs) ≡ version_of rs)
-    by true g = (let i : PutStart (id_after t) name ≡ e = cc in (ap (λ (r : Record). setup_of (r ∷ rs)) (sym i), ap (λ (r : Record). version_of (r ∷ rs)) (sym i)))
-    by false g = (let i : PutDone j.subject size ≡ e = cc in (ap (λ (r : Record). setup_of (r ∷ rs)) (sym i), ap (λ (r : Record). version_of (r ∷ rs)) (sym i)))
+    by : (b : Bool) → Some (if b then PutStart (id_after t) name else PutDone j.subject size) ≡ Some e →
+        (setup_of (e ∷ rs) ≡ setup_of rs) × (version_of (e ∷ rs) ≡ version_of rs)
+    by true g = (let i : PutStart (id_after t) name ≡ e = cc in
+        (ap (λ (r : Record). setup_of (r ∷ rs)) (sym i), ap (λ (r : Record). version_of (r ∷ rs)) (sym i)))
+    by false g = (let i : PutDone j.subject size ≡ e = cc in
+        (ap (λ (r : Record). setup_of (r ∷ rs)) (sym i), ap (λ (r : Record). version_of (r ∷ rs)) (sym i)))
 no_setup t j (wish.Get name) e rs h = let g : None ≡ Some e = h in cc
-no_setup t j (wish.Drop name) e rs h = let g : Some (Drop name) ≡ Some e = h in let i : Drop name ≡ e = cc in (ap (λ (r : Record). setup_of (r ∷ rs)) (sym i), ap (λ (r : Record). version_of (r ∷ rs)) (sym i))
+no_setup t j (wish.Drop name) e rs h = let g : Some (Drop name) ≡ Some e = h in let i : Drop name ≡ e =
+    cc in (ap (λ (r : Record). setup_of (r ∷ rs)) (sym i), ap (λ (r : Record). version_of (r ∷ rs)) (sym i))
 no_setup t j wish.Audit e rs h = by j.opening h
   where
-    by : (b : Bool) → Some (if b then AuditStart t.next_audit else AuditDone j.subject j.sums.undecided j.sums.counts) ≡ Some e → (setup_of (e ∷ rs) ≡ setup_of rs) × (version_of (e ∷ rs) ≡ version_of rs)
-    by true g = (let i : AuditStart t.next_audit ≡ e = cc in (ap (λ (r : Record). setup_of (r ∷ rs)) (sym i), ap (λ (r : Record). version_of (r ∷ rs)) (sym i)))
-    by false g = (let i : AuditDone j.subject j.sums.undecided j.sums.counts ≡ e = cc in (ap (λ (r : Record). setup_of (r ∷ rs)) (sym i), ap (λ (r : Record). version_of (r ∷ rs)) (sym i)))
-no_setup t j wish.Repair e rs h = let g : Some (RepairDone j.subject) ≡ Some e = h in let i : RepairDone j.subject ≡ e = cc in (ap (λ (r : Record). setup_of (r ∷ rs)) (sym i), ap (λ (r : Record). version_of (r ∷ rs)) (sym i))
+    by : (b : Bool) → Some
+        (if b then AuditStart t.next_audit else AuditDone j.subject j.sums.undecided j.sums.counts) ≡ Some e →
+        (setup_of (e ∷ rs) ≡ setup_of rs) × (version_of (e ∷ rs) ≡ version_of rs)
+    by true g = (let i : AuditStart t.next_audit ≡ e = cc in
+        (ap (λ (r : Record). setup_of (r ∷ rs)) (sym i), ap (λ (r : Record). version_of (r ∷ rs)) (sym i)))
+    by false g = (let i : AuditDone j.subject j.sums.undecided j.sums.counts ≡ e = cc in
+        (ap (λ (r : Record). setup_of (r ∷ rs)) (sym i), ap (λ (r : Record). version_of (r ∷ rs)) (sym i)))
+no_setup t j wish.Repair e rs h = let g : Some (RepairDone j.subject) ≡ Some e = h in
+    let i : RepairDone j.subject ≡ e = cc in
+    (ap (λ (r : Record). setup_of (r ∷ rs)) (sym i), ap (λ (r : Record). version_of (r ∷ rs)) (sym i))
 
-module _ (c : CoreView) (w new : State) (k place : ℕ) (cj : CoreJob) (a : Action) (outcome : Outcome) (o : OnMachine c w new k place cj a outcome) where
+module _ (c : CoreView) (w new : State) (k place : ℕ) (cj : CoreJob) (a : Action) (outcome : Outcome)
+    (o : OnMachine c w new k place cj a outcome) where
   -- a job that is at a later move of its append, after this step
-  flight_moved : (x : CoreJob) (m : Job) (y : Append) (n : ℕ) (flight : Option ℕ) → n < 3 → new.append ≡ Some y → y.job ≡ k → y.moves ≡ suc n → flight ≡ Some y.job → new.jobs ≡ with_job w.jobs m → m.number ≡ k → Stays w new →
-      x.number ≡ k → IsJobOf (setup_in w) x m → written_by c.table x x.wish ≡ Some y.entry → IsCoreFlight (record (with_at c place x) { append = flight }) new.append
+  flight_moved : (x : CoreJob) (m : Job) (y : Append) (n : ℕ) (flight : Option ℕ) → n < 3 →
+      new.append ≡ Some y → y.job ≡ k → y.moves ≡ suc n → flight ≡ Some y.job → new.jobs ≡ with_job w.jobs m →
+      m.number ≡ k → Stays w new →
+      x.number ≡ k → IsJobOf (setup_in w) x m → written_by c.table x x.wish ≡ Some y.entry →
+      IsCoreFlight (record (with_at c place x) { append = flight }) new.append
   flight_moved x m y n flight l e own count fl js number stays called job writes =
       let setup : setup_in new ≡ setup_in w = setup_same new w (ap setup_of stays.records) in
-      let before : job_of w.jobs m.number ≡ Some o.job = subst (λ (i : ℕ). job_of w.jobs i ≡ Some o.job) (sym number) o.found in
-      let found : job_of new.jobs k ≡ Some m = subst (λ (i : ℕ). job_of new.jobs i ≡ Some m) number (ap (λ (xs : List Job). job_of xs m.number) js ∙ found_itself w.jobs m o.job before) in
-      let made : moves_made new.append k ≡ suc n = ap (λ (f : Option Append). moves_made f k) e ∙ (mine y k own ∙ count) in
+      let before : job_of w.jobs m.number ≡ Some o.job =
+      subst (λ (i : ℕ). job_of w.jobs i ≡ Some o.job) (sym number) o.found in
+      let found : job_of new.jobs k ≡ Some m = subst (λ (i : ℕ). job_of new.jobs i ≡ Some m) number
+      (ap (λ (xs : List Job). job_of xs m.number) js ∙ found_itself w.jobs m o.job before) in
+      let made : moves_made new.append k ≡ suc n = ap (λ (f : Option Append). moves_made f k) e
+      ∙ (mine y k own ∙ count) in
       let order : IsInOrder (suc n) x.rest = subst (λ (i : ℕ). IsInOrder i x.rest) made
-      (subst (IsInOrder (moves_made new.append k)) (ap (λ (s : Setup). actions_left s m) setup ∙ sym job.rest) (o.sound.jobs k m found).order) in
+      (subst (IsInOrder (moves_made new.append k)) (ap (λ (s : Setup). actions_left s m) setup ∙ sym job.rest)
+      (o.sound.jobs k m found).order) in
       subst (IsCoreFlight (record (with_at c place x) { append = flight })) (sym e) (
         fl,
         ap (λ (i : ℕ). entry_of_found c.table (job_in (set c.jobs place x) i)) own
-            ∙ (ap (entry_of_found c.table) (in_set_same c.jobs k place x o.first called) ∙ entry_moving c.table x n y.entry l order writes),
+            ∙ (ap (entry_of_found c.table) (in_set_same c.jobs k place x o.first called)
+            ∙ entry_moving c.table x n y.entry l order writes),
       )
 
   -- what the append in flight writes
@@ -354,64 +442,112 @@ module _ (c : CoreView) (w new : State) (k place : ℕ) (cj : CoreJob) (a : Acti
   holds y e = (let f : IsCoreFlight c (Some y) = subst (IsCoreFlight c) e o.stands.append in f.0)
 
   -- a second or third move
-  move_arm : (y z : Append) (n : ℕ) → (a ≡ End → ⊥) → is_gate (Some a) ≡ false → goes_plainly (Some a) ≡ true → is_last_ask cj.rest ≡ false → n < 3 → w.append ≡ Some y → y.job ≡ o.job.number → z.entry ≡ y.entry → z.job ≡ y.job →
-      z.moves ≡ suc n → new.append ≡ Some z → new.jobs ≡ with_job w.jobs (onward o.job o.job.subject o.job.given) → new.is_barred ≡ w.is_barred → Stays w new → CoreIs (with_at c place (stepped cj)) new
+  move_arm : (y z : Append) (n : ℕ) → (a ≡ End → ⊥) → is_gate (Some a) ≡ false →
+      goes_plainly (Some a) ≡ true → is_last_ask cj.rest ≡ false → n < 3 → w.append ≡ Some y →
+      y.job ≡ o.job.number → z.entry ≡ y.entry → z.job ≡ y.job →
+      z.moves ≡ suc n → new.append ≡ Some z → new.jobs
+      ≡ with_job w.jobs (onward o.job o.job.subject o.job.given) → new.is_barred ≡ w.is_barred → Stays w new →
+      CoreIs (with_at c place (stepped cj)) new
   move_arm y z n on g plain last l e own entry same count f js bar stays =
-      let job = on-moved w cj o.job a o.is o.next on o.job.given (sums-on w cj o.job a o.is o.next on o.job.given plain last (inl refl)) in
-      set_stands c w new k place (stepped cj) (onward o.job o.job.subject o.job.given) c.append o.stands o.sound o.first stays bar js o.number job
-      (flight_moved (stepped cj) (onward o.job o.job.subject o.job.given) z n c.append l f (same ∙ (own ∙ o.number)) count (holds y e ∙ ap (λ (i : ℕ). Some i) (sym same)) js o.number stays o.called job
-      (written_moved c.table cj a (head-here w cj o.job a o.is o.next on) g ∙ (written_now y e (own ∙ o.number) ∙ ap (λ (r : Record). Some r) (sym entry))))
+      let job = on-moved w cj o.job a o.is o.next on o.job.given
+      (sums-on w cj o.job a o.is o.next on o.job.given plain last (inl refl)) in
+      set_stands c w new k place (stepped cj) (onward o.job o.job.subject o.job.given) c.append o.stands
+      o.sound o.first stays bar js o.number job
+      (flight_moved (stepped cj) (onward o.job o.job.subject o.job.given) z n c.append l f
+      (same ∙ (own ∙ o.number)) count (holds y e ∙ ap (λ (i : ℕ). Some i) (sym same)) js o.number stays
+      o.called job
+      (written_moved c.table cj a (head-here w cj o.job a o.is o.next on) g
+      ∙ (written_now y e (own ∙ o.number) ∙ ap (λ (r : Record). Some r) (sym entry))))
 
 -- the first move
-drawn_arm : (c : CoreView) (w new : State) (k place : ℕ) (cj : CoreJob) (outcome : Outcome) (o : OnMachine c w new k place cj WriteBody outcome) → (entry : Record) → ((y : Append) → new.append ≡ Some y → y.job ≡ k → entry_in c k ≡ Some y.entry) →
+drawn_arm : (c : CoreView) (w new : State) (k place : ℕ) (cj : CoreJob) (outcome : Outcome)
+    (o : OnMachine c w new k place cj WriteBody outcome) → (entry : Record) →
+    ((y : Append) → new.append ≡ Some y → y.job ≡ k → entry_in c k ≡ Some y.entry) →
     (faults : ℕ) → new ≡ record (begun_append w o.job entry) { disk_faults = faults } →
-    CoreIs (record (with_at c place (drawn cj (number_drawn c.table cj cj.wish))) { append = Some cj.number }) new
+    CoreIs (record (with_at c place (drawn cj (number_drawn c.table cj cj.wish))) { append = Some cj.number })
+    new
 drawn_arm c w new k place cj outcome o entry told faults e =
-    let job = on-drawn w c.table cj o.job (moves_made w.append k) o.stands.table o.is o.next o.sound_job.order o.sound_job.undecided in
-    let f : new.append ≡ Some (record { job = o.job.number; entry = entry; moves = 1 }) = ap (λ (s : State). s.append) e in
-    let stays : Stays w new = record { is_open = ap (λ (s : State). s.is_open) e; records = ap (λ (s : State). s.records) e; next_job = ap (λ (s : State). s.next_job) e; alone = ap (λ (s : State). s.alone) e } in
-    let g : entry_in c k ≡ Some entry = told (record { job = o.job.number; entry = entry; moves = 1 }) f o.number in
+    let job = on-drawn w c.table cj o.job (moves_made w.append k) o.stands.table o.is o.next o.sound_job.order
+    o.sound_job.undecided in
+    let f : new.append ≡ Some (record { job = o.job.number; entry = entry; moves = 1 }) =
+    ap (λ (s : State). s.append) e in
+    let stays : Stays w new =
+    record {
+      is_open = ap (λ (s : State). s.is_open) e;
+      records = ap (λ (s : State). s.records) e;
+      next_job = ap (λ (s : State). s.next_job) e;
+      alone = ap (λ (s : State). s.alone) e;
+    } in
+    let g : entry_in c k ≡ Some entry =
+    told (record { job = o.job.number; entry = entry; moves = 1 }) f o.number in
     let h : entry_of_job c.table cj ≡ Some entry = sym (ap (entry_of_found c.table) o.runs) ∙ g in
-    let writes = written_drawn c.table cj (drop (o.job.place + 1) (actions_of (setup_in w) o.job)) (left-here w cj o.job WriteBody o.is o.next (λ x. cc)) ∙ (in_append c.table cj entry h).1 in
-    set_stands c w new k place (drawn cj (number_drawn c.table cj cj.wish)) (onward o.job (subject_drawn w o.job o.job.kind) o.job.given) (Some cj.number) o.stands o.sound o.first stays
+    let writes = written_drawn c.table cj (drop (o.job.place + 1) (actions_of (setup_in w) o.job))
+    (left-here w cj o.job WriteBody o.is o.next (λ x. cc)) ∙ (in_append c.table cj entry h).1 in
+    set_stands c w new k place (drawn cj (number_drawn c.table cj cj.wish))
+    (onward o.job (subject_drawn w o.job o.job.kind) o.job.given)
+    (Some cj.number) o.stands o.sound o.first stays
     (ap (λ (s : State). s.is_barred) e) (ap (λ (s : State). s.jobs) e) o.number job
-    (flight_moved c w new k place cj WriteBody outcome o (drawn cj (number_drawn c.table cj cj.wish)) (onward o.job (subject_drawn w o.job o.job.kind) o.job.given) (record { job = o.job.number; entry = entry; moves = 1 }) 0 (Some cj.number)
-    (omega arith) f o.number refl (ap (λ (i : ℕ). Some i) (o.called ∙ sym o.number)) (ap (λ (s : State). s.jobs) e) o.number stays o.called job writes)
+    (flight_moved c w new k place cj WriteBody outcome o (drawn cj (number_drawn c.table cj cj.wish))
+    (onward o.job (subject_drawn w o.job o.job.kind) o.job.given)
+    (record { job = o.job.number; entry = entry; moves = 1 }) 0 (Some cj.number)
+    (omega arith) f o.number refl (ap (λ (i : ℕ). Some i) (o.called ∙ sym o.number))
+    (ap (λ (s : State). s.jobs) e) o.number stays o.called job writes)
 
 -- the fourth move
-gated_arm : (c cnew : CoreView) (w new : State) (k place : ℕ) (cj : CoreJob) (outcome : Outcome) (o : OnMachine c w new k place cj SyncGate outcome) → (y : Append) → w.append ≡ Some y → y.job ≡ o.job.number →
-    ((entry : Record) (rs : List Record) → written_by c.table cj cj.wish ≡ Some entry → IsFoldOf rs c.table → refused rs entry ≡ None → HasGated c place cj entry rs cnew) →
+gated_arm : (c cnew : CoreView) (w new : State) (k place : ℕ) (cj : CoreJob) (outcome : Outcome)
+    (o : OnMachine c w new k place cj SyncGate outcome) → (y : Append) → w.append ≡ Some y →
+    y.job ≡ o.job.number →
+    ((entry : Record) (rs : List Record) → written_by c.table cj cj.wish ≡ Some entry → IsFoldOf rs c.table →
+    refused rs entry ≡ None → HasGated c place cj entry rs cnew) →
     (faults : ℕ) → new ≡ record (done_append w o.job y) { disk_faults = faults } → CoreIs cnew new
 gated_arm c cnew w new k place cj outcome o y at own gates faults e =
     let writes = written_now c w new k place cj SyncGate outcome o y at (own ∙ o.number) in
     let has = gates y.entry w.records writes o.stands.table (o.stands.sound.append y at).follows.accepted in
     let records : new.records ≡ y.entry ∷ w.records = ap (λ (s : State). s.records) e in
-    let setup : setup_in new ≡ setup_in w = setup_same new w (ap setup_of records ∙ (no_setup c.table cj cj.wish y.entry w.records writes).0) in
-    let some : 0 < (setup_in w).n = (let p = (setup-providers 8 w o.stands.sound o.stands.is_open).0 in omega (arith, p)) in
-    let all : AllZip (IsJobOf (setup_in w)) c.jobs w.jobs = subst (λ (s : Setup). AllZip (IsJobOf s) c.jobs w.jobs) o.stands.setup o.stands.jobs in
+    let setup : setup_in new ≡ setup_in w = setup_same new w
+    (ap setup_of records ∙ (no_setup c.table cj cj.wish y.entry w.records writes).0) in
+    let some : 0 < (setup_in w).n =
+    (let p = (setup-providers 8 w o.stands.sound o.stands.is_open).0 in omega (arith, p)) in
+    let all : AllZip (IsJobOf (setup_in w)) c.jobs w.jobs =
+    subst (λ (s : Setup). AllZip (IsJobOf s) c.jobs w.jobs) o.stands.setup o.stands.jobs in
     let job = on-gated w c.table c.jobs cj o.job o.stands.table all o.is o.next some o.sound_job.undecided in
-    let zip : AllZip (IsJobOf (setup_in w)) (set c.jobs place (gated (setup_in w).n c.table c.jobs cj)) (with_job w.jobs (decided o.job (taken_out w o.job o.job.kind))) =
-    pair_with (setup_in w) c.jobs w.jobs k place (gated (setup_in w).n c.table c.jobs cj) (decided o.job (taken_out w o.job o.job.kind)) all o.first o.number job in
-    let back : AllZip (IsJobOf c.setup) (set c.jobs place (gated c.setup.n c.table c.jobs cj)) (with_job w.jobs (decided o.job (taken_out w o.job o.job.kind))) =
-    subst (λ (s : Setup). AllZip (IsJobOf s) (set c.jobs place (gated s.n c.table c.jobs cj)) (with_job w.jobs (decided o.job (taken_out w o.job o.job.kind)))) (sym o.stands.setup) zip in
+    let zip : AllZip (IsJobOf (setup_in w)) (set c.jobs place (gated (setup_in w).n c.table c.jobs cj))
+    (with_job w.jobs (decided o.job (taken_out w o.job o.job.kind))) =
+    pair_with (setup_in w) c.jobs w.jobs k place (gated (setup_in w).n c.table c.jobs cj)
+    (decided o.job (taken_out w o.job o.job.kind)) all o.first o.number job in
+    let back : AllZip (IsJobOf c.setup) (set c.jobs place (gated c.setup.n c.table c.jobs cj))
+    (with_job w.jobs (decided o.job (taken_out w o.job o.job.kind))) =
+    subst (λ (s : Setup). AllZip (IsJobOf s) (set c.jobs place (gated s.n c.table c.jobs cj))
+    (with_job w.jobs (decided o.job (taken_out w o.job o.job.kind)))) (sym o.stands.setup) zip in
     subst (λ (x : CoreView). CoreIs x new) (sym has.others) (record {
       sound = o.sound;
       is_open = ap (λ (s : State). s.is_open) e ∙ o.stands.is_open;
-      first = ap version_of records ∙ ((no_setup c.table cj cj.wish y.entry w.records writes).1 ∙ o.stands.first);
+      first = ap version_of records
+          ∙ ((no_setup c.table cj cj.wish y.entry w.records writes).1 ∙ o.stands.first);
       none_alone = ap (λ (s : State). s.alone) e ∙ o.stands.none_alone;
       table = subst (λ (rs : List Record). IsFoldOf rs cnew.table) (sym records) has.table;
       setup = o.stands.setup ∙ sym setup;
-      end = (let a = ap text_size records in let b = o.stands.end in let d : text_size (y.entry ∷ w.records) ≡ text_size w.records + (1 + record_size y.entry) = refl in omega (arith, a, b, d));
-      jobs = subst (AllZip (IsJobOf c.setup) (set c.jobs place (gated c.setup.n c.table c.jobs cj))) (sym (ap (λ (s : State). s.jobs) e)) back;
+      end = (let a = ap text_size records in let b = o.stands.end in let d : text_size (y.entry ∷ w.records)
+          ≡ text_size w.records + (1 + record_size y.entry) = refl in omega (arith, a, b, d));
+      jobs = subst (AllZip (IsJobOf c.setup) (set c.jobs place (gated c.setup.n c.table c.jobs cj)))
+          (sym (ap (λ (s : State). s.jobs) e)) back;
       next_job = o.stands.next_job ∙ sym (ap (λ (s : State). s.next_job) e);
-      append = subst (IsCoreFlight (record c { table = cnew.table; end = c.end + (1 + record_size y.entry); jobs = set c.jobs place (gated c.setup.n c.table c.jobs cj); append = None })) (sym (ap (λ (s : State). s.append) e)) refl;
+      append = subst (IsCoreFlight
+          (record c {
+            table = cnew.table;
+            end = c.end + (1 + record_size y.entry);
+            jobs = set c.jobs place (gated c.setup.n c.table c.jobs cj);
+            append = None;
+          }))
+          (sym (ap (λ (s : State). s.append) e)) refl;
       barred = o.stands.barred ∙ sym (ap (λ (s : State). s.is_barred) e);
     })
 
 -- ---- what a reply tells
 
 -- an append is at no end of a job that ended well
-moves_well : (w : State) (m : Job) (a : Action) (flight : Option Append) (answer : Answer) (new : State) → IsEndAnswer answer → Moves w m a flight (Ended answer) new → ⊥
+moves_well : (w : State) (m : Job) (a : Action) (flight : Option Append) (answer : Answer) (new : State) →
+    IsEndAnswer answer → Moves w m a flight (Ended answer) new → ⊥
 moves_well w m a flight DiskFault new e h = absurd e
 moves_well w m a flight Memory new e h = absurd e
 moves_well w m SyncBody None answer new e h = absurd h
@@ -420,7 +556,8 @@ moves_well w m SyncGate None answer new e h = absurd h
 moves_well w m a flight answer new e h = absurd h
 
 -- so another action than the end leaves the job running where it is done
-goes_well : (w : State) (m : Job) (a : Action) (answer : Answer) (new : State) → (a ≡ End → ⊥) → IsEndAnswer answer → Acts w m a (Ended answer) new → ⊥
+goes_well : (w : State) (m : Job) (a : Action) (answer : Answer) (new : State) → (a ≡ End → ⊥) →
+    IsEndAnswer answer → Acts w m a (Ended answer) new → ⊥
 goes_well w m a (Lost stripe row) new n e h = absurd e
 goes_well w m a (ProviderFault j) new n e h = absurd e
 goes_well w m a DiskFault new n e h = absurd e
@@ -433,68 +570,120 @@ goes_well w m SyncGate answer new n e h = moves_well w m SyncGate w.append answe
 goes_well w m a answer new n e h = absurd h
 
 -- done: the first move
-pub begins_done : (c : CoreView) (w new : State) (k place : ℕ) (cj : CoreJob) (outcome : Outcome) (o : OnMachine c w new k place cj WriteBody outcome) → Tells k reply.Done outcome new →
-    ((y : Append) → new.append ≡ Some y → y.job ≡ k → entry_in c k ≡ Some y.entry) → CoreIs (record (with_at c place (drawn cj (number_drawn c.table cj cj.wish))) { append = Some cj.number }) new
-begins_done c w new k place cj More o t told = (let h : Moves w o.job WriteBody w.append More new = o.acts in drawn_arm c w new k place cj More o h.0 told h.2.0 h.2.2)
-begins_done c w new k place cj (Ended answer) o t told = absurd (goes_well w o.job WriteBody answer new (λ e. cc) t o.acts)
+pub begins_done : (c : CoreView) (w new : State) (k place : ℕ) (cj : CoreJob) (outcome : Outcome)
+    (o : OnMachine c w new k place cj WriteBody outcome) → Tells k reply.Done outcome new →
+    ((y : Append) → new.append ≡ Some y → y.job ≡ k → entry_in c k ≡ Some y.entry) →
+    CoreIs (record (with_at c place (drawn cj (number_drawn c.table cj cj.wish))) { append = Some cj.number })
+    new
+begins_done c w new k place cj More o t told =
+    (let h : Moves w o.job WriteBody w.append More new = o.acts in
+    drawn_arm c w new k place cj More o h.0 told h.2.0 h.2.2)
+begins_done c w new k place cj (Ended answer) o t told =
+    absurd (goes_well w o.job WriteBody answer new (λ e. cc) t o.acts)
 begins_done c w new k place cj outcome o t told = absurd t
 
 -- done: the fourth move
-pub gates_done : (c cnew : CoreView) (w new : State) (k place : ℕ) (cj : CoreJob) (outcome : Outcome) (o : OnMachine c w new k place cj SyncGate outcome) → Tells k reply.Done outcome new →
-    ((entry : Record) (rs : List Record) → written_by c.table cj cj.wish ≡ Some entry → IsFoldOf rs c.table → refused rs entry ≡ None → HasGated c place cj entry rs cnew) → CoreIs cnew new
+pub gates_done : (c cnew : CoreView) (w new : State) (k place : ℕ) (cj : CoreJob) (outcome : Outcome)
+    (o : OnMachine c w new k place cj SyncGate outcome) → Tells k reply.Done outcome new →
+    ((entry : Record) (rs : List Record) → written_by c.table cj cj.wish ≡ Some entry → IsFoldOf rs c.table →
+    refused rs entry ≡ None → HasGated c place cj entry rs cnew) → CoreIs cnew new
 gates_done c cnew w new k place cj More o t gates = by w.append refl o.acts
   where
     by : (f : Option Append) → w.append ≡ f → Moves w o.job SyncGate f More new → CoreIs cnew new
     by None e h = absurd h
     by (Some y) e h = gated_arm c cnew w new k place cj More o y e h.0.0 gates h.1.0 h.1.2
-gates_done c cnew w new k place cj (Ended answer) o t gates = absurd (goes_well w o.job SyncGate answer new (λ e. cc) t o.acts)
+gates_done c cnew w new k place cj (Ended answer) o t gates =
+    absurd (goes_well w o.job SyncGate answer new (λ e. cc) t o.acts)
 gates_done c cnew w new k place cj outcome o t gates = absurd t
 
 -- done: the end
-pub ends_done : (c : CoreView) (w new : State) (k place : ℕ) (cj : CoreJob) (outcome : Outcome) (o : OnMachine c w new k place cj End outcome) → Tells k reply.Done outcome new → CoreIs (stopped c place) new
+pub ends_done : (c : CoreView) (w new : State) (k place : ℕ) (cj : CoreJob) (outcome : Outcome)
+    (o : OnMachine c w new k place cj End outcome) → Tells k reply.Done outcome new →
+    CoreIs (stopped c place) new
 ends_done c w new k place cj More o t = (let h : Moves w o.job End w.append More new = o.acts in absurd h)
-ends_done c w new k place cj (Ended answer) o t = off_arm c w new k place cj End (Ended answer) o w.providers refl o.acts.1
+ends_done c w new k place cj (Ended answer) o t =
+    off_arm c w new k place cj End (Ended answer) o w.providers refl o.acts.1
 ends_done c w new k place cj outcome o t = absurd t
 
 -- done: any other
-more_done : (c : CoreView) (w new : State) (k place : ℕ) (cj : CoreJob) (a : Action) (o : OnMachine c w new k place cj a More) → goes_plainly (Some a) ≡ true → HasReply c k (ActsNext a) reply.Done → CoreIs (with_at c place (stepped cj)) new
+more_done : (c : CoreView) (w new : State) (k place : ℕ) (cj : CoreJob) (a : Action)
+    (o : OnMachine c w new k place cj a More) → goes_plainly (Some a) ≡ true →
+    HasReply c k (ActsNext a) reply.Done → CoreIs (with_at c place (stepped cj)) new
 more_done c w new k place cj WriteBody o p h = absurd (false≢true p)
 more_done c w new k place cj SyncGate o p h = absurd (false≢true p)
 more_done c w new k place cj End o p h = absurd (false≢true p)
 more_done c w new k place cj SyncBody o p h = by w.append refl o.acts
   where
-    by : (f : Option Append) → w.append ≡ f → Moves w o.job SyncBody f More new → CoreIs (with_at c place (stepped cj)) new
+    by : (f : Option Append) → w.append ≡ f → Moves w o.job SyncBody f More new →
+        CoreIs (with_at c place (stepped cj)) new
     by None e g = absurd g
-    by (Some y) e g = move_arm c w new k place cj SyncBody More o y (record y { moves = y.moves + 1 }) 1 (λ x. cc) refl refl
-        (ap (λ (x : Option Action). asks_next x && begins_append (slice_get cj.rest 1)) (head-here w cj o.job SyncBody o.is o.next (λ x. cc))) (omega arith) e g.0.0 refl refl
-        (let m = g.0.1 in omega (arith, m)) (ap (λ (s : State). s.append) g.1.2) (ap (λ (s : State). s.jobs) g.1.2) (ap (λ (s : State). s.is_barred) g.1.2)
-        (record { is_open = ap (λ (s : State). s.is_open) g.1.2; records = ap (λ (s : State). s.records) g.1.2; next_job = ap (λ (s : State). s.next_job) g.1.2; alone = ap (λ (s : State). s.alone) g.1.2 })
+    by (Some y) e g = move_arm c w new k place cj SyncBody More o y (record y { moves = y.moves + 1 }) 1
+        (λ x. cc) refl refl
+        (ap (λ (x : Option Action). asks_next x && begins_append (slice_get cj.rest 1))
+        (head-here w cj o.job SyncBody o.is o.next (λ x. cc))) (omega arith) e g.0.0 refl refl
+        (let m = g.0.1 in omega (arith, m)) (ap (λ (s : State). s.append) g.1.2)
+        (ap (λ (s : State). s.jobs) g.1.2) (ap (λ (s : State). s.is_barred) g.1.2)
+        (record {
+          is_open = ap (λ (s : State). s.is_open) g.1.2;
+          records = ap (λ (s : State). s.records) g.1.2;
+          next_job = ap (λ (s : State). s.next_job) g.1.2;
+          alone = ap (λ (s : State). s.alone) g.1.2;
+        })
 more_done c w new k place cj WriteGate o p h = by w.append refl o.acts
   where
-    by : (f : Option Append) → w.append ≡ f → Moves w o.job WriteGate f More new → CoreIs (with_at c place (stepped cj)) new
+    by : (f : Option Append) → w.append ≡ f → Moves w o.job WriteGate f More new →
+        CoreIs (with_at c place (stepped cj)) new
     by None e g = absurd g
-    by (Some y) e g = move_arm c w new k place cj WriteGate More o y (record y { moves = y.moves + 1 }) 2 (λ x. cc) refl refl
-        (ap (λ (x : Option Action). asks_next x && begins_append (slice_get cj.rest 1)) (head-here w cj o.job WriteGate o.is o.next (λ x. cc))) (omega arith) e g.0.0 refl refl
-        (let m = g.0.1 in omega (arith, m)) (ap (λ (s : State). s.append) g.1.2) (ap (λ (s : State). s.jobs) g.1.2) (ap (λ (s : State). s.is_barred) g.1.2)
-        (record { is_open = ap (λ (s : State). s.is_open) g.1.2; records = ap (λ (s : State). s.records) g.1.2; next_job = ap (λ (s : State). s.next_job) g.1.2; alone = ap (λ (s : State). s.alone) g.1.2 })
-more_done c w new k place cj (Store j object stripe) o p h = plain_arm c w new k place cj (Store j object stripe) More o (with_provider w.providers j o.acts.0) o.job.given (λ x. cc) refl refl
-    (ap (λ (x : Option Action). asks_next x && begins_append (slice_get cj.rest 1)) (head-here w cj o.job (Store j object stripe) o.is o.next (λ x. cc))) (inl refl) o.acts.2
-more_done c w new k place cj (Remove j object) o p h = plain_arm c w new k place cj (Remove j object) More o (with_provider w.providers j o.acts.0) o.job.given (λ x. cc) refl refl
-    (ap (λ (x : Option Action). asks_next x && begins_append (slice_get cj.rest 1)) (head-here w cj o.job (Remove j object) o.is o.next (λ x. cc))) (inl refl) o.acts.2
-more_done c w new k place cj (Fetch j object stripe) o p h = plain_arm c w new k place cj (Fetch j object stripe) More o (with_provider w.providers j o.acts.1.0) (Fetched j object stripe o.acts.0 ∷ o.job.given) (λ x. cc) refl refl
-    (ap (λ (x : Option Action). asks_next x && begins_append (slice_get cj.rest 1)) (head-here w cj o.job (Fetch j object stripe) o.is o.next (λ x. cc)))
-    (inr (λ kind. absurd (audit-action (setup_in w) o.job (Fetch j object stripe) kind (next_stands w o.job (Fetch j object stripe) o.next (λ x. cc))))) o.acts.1.2
-more_done c w new k place cj (Work object stripe) o p h = plain_arm c w new k place cj (Work object stripe) More o w.providers (Worked object stripe o.acts.0 ∷ o.job.given) (λ x. cc) refl refl
-    (ap (λ (x : Option Action). asks_next x && begins_append (slice_get cj.rest 1)) (head-here w cj o.job (Work object stripe) o.is o.next (λ x. cc)))
-    (inr (λ kind. absurd (audit-action (setup_in w) o.job (Work object stripe) kind (next_stands w o.job (Work object stripe) o.next (λ x. cc))))) o.acts.2
-more_done c w new k place cj (Ask j object round) o p h = plain_arm c w new k place cj (Ask j object round) More o (with_provider w.providers j o.acts.1.0) (Answered j object round o.acts.0 ∷ o.job.given) (λ x. cc) refl refl
+    by (Some y) e g = move_arm c w new k place cj WriteGate More o y (record y { moves = y.moves + 1 }) 2
+        (λ x. cc) refl refl
+        (ap (λ (x : Option Action). asks_next x && begins_append (slice_get cj.rest 1))
+        (head-here w cj o.job WriteGate o.is o.next (λ x. cc))) (omega arith) e g.0.0 refl refl
+        (let m = g.0.1 in omega (arith, m)) (ap (λ (s : State). s.append) g.1.2)
+        (ap (λ (s : State). s.jobs) g.1.2) (ap (λ (s : State). s.is_barred) g.1.2)
+        (record {
+          is_open = ap (λ (s : State). s.is_open) g.1.2;
+          records = ap (λ (s : State). s.records) g.1.2;
+          next_job = ap (λ (s : State). s.next_job) g.1.2;
+          alone = ap (λ (s : State). s.alone) g.1.2;
+        })
+more_done c w new k place cj (Store j object stripe) o p h =
+    plain_arm c w new k place cj (Store j object stripe) More o
+    (with_provider w.providers j o.acts.0) o.job.given (λ x. cc) refl refl
+    (ap (λ (x : Option Action). asks_next x && begins_append (slice_get cj.rest 1))
+    (head-here w cj o.job (Store j object stripe) o.is o.next (λ x. cc))) (inl refl) o.acts.2
+more_done c w new k place cj (Remove j object) o p h =
+    plain_arm c w new k place cj (Remove j object) More o (with_provider w.providers j o.acts.0) o.job.given
+    (λ x. cc) refl refl
+    (ap (λ (x : Option Action). asks_next x && begins_append (slice_get cj.rest 1))
+    (head-here w cj o.job (Remove j object) o.is o.next (λ x. cc))) (inl refl) o.acts.2
+more_done c w new k place cj (Fetch j object stripe) o p h =
+    plain_arm c w new k place cj (Fetch j object stripe) More o (with_provider w.providers j o.acts.1.0)
+    (Fetched j object stripe o.acts.0 ∷ o.job.given) (λ x. cc) refl refl
+    (ap (λ (x : Option Action). asks_next x && begins_append (slice_get cj.rest 1))
+    (head-here w cj o.job (Fetch j object stripe) o.is o.next (λ x. cc)))
+    (inr (λ kind. absurd (audit-action (setup_in w) o.job (Fetch j object stripe) kind
+    (next_stands w o.job (Fetch j object stripe) o.next (λ x. cc))))) o.acts.1.2
+more_done c w new k place cj (Work object stripe) o p h =
+    plain_arm c w new k place cj (Work object stripe) More o w.providers
+    (Worked object stripe o.acts.0 ∷ o.job.given) (λ x. cc) refl refl
+    (ap (λ (x : Option Action). asks_next x && begins_append (slice_get cj.rest 1))
+    (head-here w cj o.job (Work object stripe) o.is o.next (λ x. cc)))
+    (inr (λ kind. absurd (audit-action (setup_in w) o.job (Work object stripe) kind
+    (next_stands w o.job (Work object stripe) o.next (λ x. cc))))) o.acts.2
+more_done c w new k place cj (Ask j object round) o p h =
+    plain_arm c w new k place cj (Ask j object round) More o (with_provider w.providers j o.acts.1.0)
+    (Answered j object round o.acts.0 ∷ o.job.given) (λ x. cc) refl refl
     (sym (ap is_last_ask_of o.runs) ∙ h) (inr (λ kind. refl)) o.acts.1.2
 
 -- a plain action that is done leaves a core that stands for the machine's state after it
-pub plain_done : (c : CoreView) (w new : State) (k place : ℕ) (cj : CoreJob) (a : Action) (outcome : Outcome) (o : OnMachine c w new k place cj a outcome) → Tells k reply.Done outcome new →
-    goes_plainly (Some a) ≡ true → HasReply c k (ActsNext a) reply.Done → CoreIs (with_at c place (stepped cj)) new
+pub plain_done : (c : CoreView) (w new : State) (k place : ℕ) (cj : CoreJob) (a : Action) (outcome : Outcome)
+    (o : OnMachine c w new k place cj a outcome) → Tells k reply.Done outcome new →
+    goes_plainly (Some a) ≡ true → HasReply c k (ActsNext a) reply.Done →
+    CoreIs (with_at c place (stepped cj)) new
 plain_done c w new k place cj a More o t p h = more_done c w new k place cj a o p h
-plain_done c w new k place cj a (Ended answer) o t p h = absurd (goes_well w o.job a answer new (λ e. false≢true (ap (λ (x : Action). goes_plainly (Some x)) (sym e) ∙ p)) t o.acts)
+plain_done c w new k place cj a (Ended answer) o t p h =
+    absurd (goes_well w o.job a answer new
+    (λ e. false≢true (ap (λ (x : Action). goes_plainly (Some x)) (sym e) ∙ p)) t o.acts)
 plain_done c w new k place cj a outcome o t p h = absurd t
 
 abbrev pub is_store : Action → Bool
@@ -502,36 +691,82 @@ is_store (Store j object stripe) = true
 is_store action = false
 
 -- failed: a store
-store_fails : (c : CoreView) (w new : State) (k place : ℕ) (cj : CoreJob) (j object stripe : ℕ) (outcome : Outcome) (o : OnMachine c w new k place cj (Store j object stripe) outcome) → Tells k reply.Failed outcome new → CoreIs (stopped c place) new
-store_fails c w new k place cj j object stripe (Ended (ProviderFault i)) o t = off_arm c w new k place cj (Store j object stripe) (Ended (ProviderFault i)) o (with_provider w.providers j o.acts.1.0) refl o.acts.1.2
-store_fails c w new k place cj j object stripe (Ended DiskFault) o t = (let h : Moves w o.job (Store j object stripe) w.append (Ended DiskFault) new = o.acts in absurd h)
+store_fails : (c : CoreView) (w new : State) (k place : ℕ) (cj : CoreJob) (j object stripe : ℕ)
+    (outcome : Outcome) (o : OnMachine c w new k place cj (Store j object stripe) outcome) →
+    Tells k reply.Failed outcome new → CoreIs (stopped c place) new
+store_fails c w new k place cj j object stripe (Ended (ProviderFault i)) o t =
+    off_arm c w new k place cj (Store j object stripe) (Ended (ProviderFault i)) o
+    (with_provider w.providers j o.acts.1.0) refl o.acts.1.2
+store_fails c w new k place cj j object stripe (Ended DiskFault) o t =
+    (let h : Moves w o.job (Store j object stripe) w.append (Ended DiskFault) new = o.acts in absurd h)
 store_fails c w new k place cj j object stripe outcome o t = absurd t
 
 -- a store that failed ends the job in the core as in the machine
-pub stops_failed : (c : CoreView) (w new : State) (k place : ℕ) (cj : CoreJob) (a : Action) (j object stripe : ℕ) (outcome : Outcome) (o : OnMachine c w new k place cj a outcome) → a ≡ Store j object stripe → Tells k reply.Failed outcome new → CoreIs (stopped c place) new
-stops_failed c w new k place cj a j object stripe outcome o e t = store_fails c w new k place cj j object stripe outcome (subst (λ (x : Action). OnMachine c w new k place cj x outcome) e o) t
+pub stops_failed : (c : CoreView) (w new : State) (k place : ℕ) (cj : CoreJob) (a : Action)
+    (j object stripe : ℕ) (outcome : Outcome) (o : OnMachine c w new k place cj a outcome) →
+    a ≡ Store j object stripe → Tells k reply.Failed outcome new → CoreIs (stopped c place) new
+stops_failed c w new k place cj a j object stripe outcome o e t =
+    store_fails c w new k place cj j object stripe outcome
+    (subst (λ (x : Action). OnMachine c w new k place cj x outcome) e o) t
 
 -- failed: a move of an append
-moves_fail : (w : State) (m : Job) (a : Action) (flight : Option Append) (new : State) → is_store a ≡ false → Moves w m a flight (Ended DiskFault) new → Stays w new × (new.is_barred ≡ true) × (new.jobs ≡ without_job w.jobs m.number)
-moves_fail w m WriteBody flight new n h =
-    (record { is_open = ap (λ (s : State). s.is_open) h.3; records = ap (λ (s : State). s.records) h.3; next_job = ap (λ (s : State). s.next_job) h.3; alone = ap (λ (s : State). s.alone) h.3 }, ap (λ (s : State). s.is_barred) h.3, ap (λ (s : State). s.jobs) h.3)
-moves_fail w m SyncBody (Some y) new n h =
-    (record { is_open = ap (λ (s : State). s.is_open) h.1.3; records = ap (λ (s : State). s.records) h.1.3; next_job = ap (λ (s : State). s.next_job) h.1.3; alone = ap (λ (s : State). s.alone) h.1.3 }, ap (λ (s : State). s.is_barred) h.1.3, ap (λ (s : State). s.jobs) h.1.3)
-moves_fail w m WriteGate (Some y) new n h =
-    (record { is_open = ap (λ (s : State). s.is_open) h.1.3; records = ap (λ (s : State). s.records) h.1.3; next_job = ap (λ (s : State). s.next_job) h.1.3; alone = ap (λ (s : State). s.alone) h.1.3 }, ap (λ (s : State). s.is_barred) h.1.3, ap (λ (s : State). s.jobs) h.1.3)
-moves_fail w m SyncGate (Some y) new n h =
-    (record { is_open = ap (λ (s : State). s.is_open) h.1.3; records = ap (λ (s : State). s.records) h.1.3; next_job = ap (λ (s : State). s.next_job) h.1.3; alone = ap (λ (s : State). s.alone) h.1.3 }, ap (λ (s : State). s.is_barred) h.1.3, ap (λ (s : State). s.jobs) h.1.3)
+moves_fail : (w : State) (m : Job) (a : Action) (flight : Option Append) (new : State) → is_store a ≡ false →
+    Moves w m a flight (Ended DiskFault) new → Stays w new × (new.is_barred ≡ true) ×
+    (new.jobs ≡ without_job w.jobs m.number)
+moves_fail w m WriteBody flight new n h = (
+  record {
+    is_open = ap (λ (s : State). s.is_open) h.3;
+    records = ap (λ (s : State). s.records) h.3;
+    next_job = ap (λ (s : State). s.next_job) h.3;
+    alone = ap (λ (s : State). s.alone) h.3;
+  },
+  ap (λ (s : State). s.is_barred) h.3,
+  ap (λ (s : State). s.jobs) h.3,
+)
+moves_fail w m SyncBody (Some y) new n h = (
+  record {
+    is_open = ap (λ (s : State). s.is_open) h.1.3;
+    records = ap (λ (s : State). s.records) h.1.3;
+    next_job = ap (λ (s : State). s.next_job) h.1.3;
+    alone = ap (λ (s : State). s.alone) h.1.3;
+  },
+  ap (λ (s : State). s.is_barred) h.1.3,
+  ap (λ (s : State). s.jobs) h.1.3,
+)
+moves_fail w m WriteGate (Some y) new n h = (
+  record {
+    is_open = ap (λ (s : State). s.is_open) h.1.3;
+    records = ap (λ (s : State). s.records) h.1.3;
+    next_job = ap (λ (s : State). s.next_job) h.1.3;
+    alone = ap (λ (s : State). s.alone) h.1.3;
+  },
+  ap (λ (s : State). s.is_barred) h.1.3,
+  ap (λ (s : State). s.jobs) h.1.3,
+)
+moves_fail w m SyncGate (Some y) new n h = (
+  record {
+    is_open = ap (λ (s : State). s.is_open) h.1.3;
+    records = ap (λ (s : State). s.records) h.1.3;
+    next_job = ap (λ (s : State). s.next_job) h.1.3;
+    alone = ap (λ (s : State). s.alone) h.1.3;
+  },
+  ap (λ (s : State). s.is_barred) h.1.3,
+  ap (λ (s : State). s.jobs) h.1.3,
+)
 moves_fail w m a flight new n h = absurd h
 
 -- no move of an append ends by a fault of a provider
-no_provider : (w : State) (m : Job) (a : Action) (flight : Option Append) (j : ℕ) (new : State) → Moves w m a flight (Ended (ProviderFault j)) new → ⊥
+no_provider : (w : State) (m : Job) (a : Action) (flight : Option Append) (j : ℕ) (new : State) →
+    Moves w m a flight (Ended (ProviderFault j)) new → ⊥
 no_provider w m SyncBody None j new h = absurd h
 no_provider w m WriteGate None j new h = absurd h
 no_provider w m SyncGate None j new h = absurd h
 no_provider w m a flight j new h = absurd h
 
 -- the moves of an append that may fail, and their outcomes
-acts_moves : (c : CoreView) (k : ℕ) (w : State) (m : Job) (a : Action) (outcome : Outcome) (new : State) → is_store a ≡ false → HasReply c k (ActsNext a) reply.Failed → Acts w m a outcome new → Moves w m a w.append outcome new
+acts_moves : (c : CoreView) (k : ℕ) (w : State) (m : Job) (a : Action) (outcome : Outcome) (new : State) →
+    is_store a ≡ false → HasReply c k (ActsNext a) reply.Failed → Acts w m a outcome new →
+    Moves w m a w.append outcome new
 acts_moves c k w m WriteBody outcome new n r h = h
 acts_moves c k w m SyncBody outcome new n r h = h
 acts_moves c k w m WriteGate outcome new n r h = h
@@ -540,29 +775,54 @@ acts_moves c k w m (Store j object stripe) outcome new n r h = absurd (false≢t
 acts_moves c k w m a outcome new n r h = absurd r
 
 -- a disk call that failed bars the core as it does the machine
-pub bars_failed : (c : CoreView) (w new : State) (k place : ℕ) (cj : CoreJob) (a : Action) (outcome : Outcome) (o : OnMachine c w new k place cj a outcome) → is_store a ≡ false → HasReply c k (ActsNext a) reply.Failed →
+pub bars_failed : (c : CoreView) (w new : State) (k place : ℕ) (cj : CoreJob) (a : Action) (outcome : Outcome)
+    (o : OnMachine c w new k place cj a outcome) → is_store a ≡ false →
+    HasReply c k (ActsNext a) reply.Failed →
     Tells k reply.Failed outcome new → CoreIs (barred_at c place) new
-bars_failed c w new k place cj a (Ended (ProviderFault i)) o n r t = absurd (no_provider w o.job a w.append i new (acts_moves c k w o.job a (Ended (ProviderFault i)) new n r o.acts))
+bars_failed c w new k place cj a (Ended (ProviderFault i)) o n r t =
+    absurd (no_provider w o.job a w.append i new
+    (acts_moves c k w o.job a (Ended (ProviderFault i)) new n r o.acts))
 bars_failed c w new k place cj a (Ended DiskFault) o n r t =
-    (let p = moves_fail w o.job a w.append new n (acts_moves c k w o.job a (Ended DiskFault) new n r o.acts) in bar_arm c w new k place cj a (Ended DiskFault) o p.0 p.1 p.2)
+    (let p = moves_fail w o.job a w.append new n
+    (acts_moves c k w o.job a (Ended DiskFault) new n r o.acts) in
+    bar_arm c w new k place cj a (Ended DiskFault) o p.0 p.1 p.2)
 bars_failed c w new k place cj a outcome o n r t = absurd t
 
 -- memory: a write, or a store; a sync takes none
-memory_ends : (c : CoreView) (w new : State) (k place : ℕ) (cj : CoreJob) (a : Action) (o : OnMachine c w new k place cj a (Ended Memory)) → HasReply c k (ActsNext a) reply.Memory → CoreIs (stopped c place) new
+memory_ends : (c : CoreView) (w new : State) (k place : ℕ) (cj : CoreJob) (a : Action)
+    (o : OnMachine c w new k place cj a (Ended Memory)) → HasReply c k (ActsNext a) reply.Memory →
+    CoreIs (stopped c place) new
 memory_ends c w new k place cj WriteBody o r =
     (let h : Moves w o.job WriteBody w.append (Ended Memory) new = o.acts in
     let none = none_flies w.append o.holder in
     free_arm c w new k place cj WriteBody (Ended Memory) o (inl (core_none c w.append o.stands.append none))
-    (record { is_open = ap (λ (s : State). s.is_open) h.2; records = ap (λ (s : State). s.records) h.2; next_job = ap (λ (s : State). s.next_job) h.2; alone = ap (λ (s : State). s.alone) h.2 })
-    (ap (λ (s : State). s.is_barred) h.2) (ap (λ (s : State). s.jobs) h.2) (ap (λ (s : State). s.append) h.2 ∙ none))
+    (record {
+      is_open = ap (λ (s : State). s.is_open) h.2;
+      records = ap (λ (s : State). s.records) h.2;
+      next_job = ap (λ (s : State). s.next_job) h.2;
+      alone = ap (λ (s : State). s.alone) h.2;
+    })
+    (ap (λ (s : State). s.is_barred) h.2) (ap (λ (s : State). s.jobs) h.2)
+    (ap (λ (s : State). s.append) h.2 ∙ none))
 memory_ends c w new k place cj WriteGate o r = by w.append refl o.acts
   where
-    by : (f : Option Append) → w.append ≡ f → Moves w o.job WriteGate f (Ended Memory) new → CoreIs (stopped c place) new
+    by : (f : Option Append) → w.append ≡ f → Moves w o.job WriteGate f (Ended Memory) new →
+        CoreIs (stopped c place) new
     by None e h = absurd h
-    by (Some y) e h = free_arm c w new k place cj WriteGate (Ended Memory) o (inr (holds c w new k place cj WriteGate (Ended Memory) o y e ∙ ap (λ (i : ℕ). Some i) (h.0.0 ∙ o.number)))
-        (record { is_open = ap (λ (s : State). s.is_open) h.1.2; records = ap (λ (s : State). s.records) h.1.2; next_job = ap (λ (s : State). s.next_job) h.1.2; alone = ap (λ (s : State). s.alone) h.1.2 })
-        (ap (λ (s : State). s.is_barred) h.1.2) (ap (λ (s : State). s.jobs) h.1.2) (ap (λ (s : State). s.append) h.1.2)
-memory_ends c w new k place cj (Store j object stripe) o r = off_arm c w new k place cj (Store j object stripe) (Ended Memory) o (with_provider w.providers j o.acts.0) refl o.acts.2
+    by (Some y) e h = free_arm c w new k place cj WriteGate (Ended Memory) o
+        (inr (holds c w new k place cj WriteGate (Ended Memory) o y e
+        ∙ ap (λ (i : ℕ). Some i) (h.0.0 ∙ o.number)))
+        (record {
+          is_open = ap (λ (s : State). s.is_open) h.1.2;
+          records = ap (λ (s : State). s.records) h.1.2;
+          next_job = ap (λ (s : State). s.next_job) h.1.2;
+          alone = ap (λ (s : State). s.alone) h.1.2;
+        })
+        (ap (λ (s : State). s.is_barred) h.1.2) (ap (λ (s : State). s.jobs) h.1.2)
+        (ap (λ (s : State). s.append) h.1.2)
+memory_ends c w new k place cj (Store j object stripe) o r =
+    off_arm c w new k place cj (Store j object stripe) (Ended Memory) o
+    (with_provider w.providers j o.acts.0) refl o.acts.2
 memory_ends c w new k place cj SyncBody o r = by w.append o.acts
   where
     by : (f : Option Append) → Moves w o.job SyncBody f (Ended Memory) new → CoreIs (stopped c place) new
@@ -576,44 +836,66 @@ memory_ends c w new k place cj SyncGate o r = by w.append o.acts
 memory_ends c w new k place cj a o r = absurd r
 
 -- memory that ran out ends the job in the core as in the machine
-pub stops_memory : (c : CoreView) (w new : State) (k place : ℕ) (cj : CoreJob) (a : Action) (outcome : Outcome) (o : OnMachine c w new k place cj a outcome) → HasReply c k (ActsNext a) reply.Memory → Tells k reply.Memory outcome new →
+pub stops_memory : (c : CoreView) (w new : State) (k place : ℕ) (cj : CoreJob) (a : Action)
+    (outcome : Outcome) (o : OnMachine c w new k place cj a outcome) →
+    HasReply c k (ActsNext a) reply.Memory → Tells k reply.Memory outcome new →
     CoreIs (stopped c place) new
 stops_memory c w new k place cj a (Ended Memory) o r t = memory_ends c w new k place cj a o r
 stops_memory c w new k place cj a outcome o r t = absurd t
 
 -- lost: work on a stripe
-lost_ends : (c : CoreView) (w new : State) (k place : ℕ) (cj : CoreJob) (a : Action) (row : ℕ) (stripe lost : ℕ) (o : OnMachine c w new k place cj a (Ended (Lost stripe lost))) → HasReply c k (ActsNext a) (reply.Lost row) → CoreIs (stopped c place) new
-lost_ends c w new k place cj (Work object s) row stripe lost o r = off_arm c w new k place cj (Work object s) (Ended (Lost stripe lost)) o w.providers refl o.acts.2
+lost_ends : (c : CoreView) (w new : State) (k place : ℕ) (cj : CoreJob) (a : Action) (row : ℕ)
+    (stripe lost : ℕ) (o : OnMachine c w new k place cj a (Ended (Lost stripe lost))) →
+    HasReply c k (ActsNext a) (reply.Lost row) → CoreIs (stopped c place) new
+lost_ends c w new k place cj (Work object s) row stripe lost o r =
+    off_arm c w new k place cj (Work object s) (Ended (Lost stripe lost)) o w.providers refl o.acts.2
 lost_ends c w new k place cj a row stripe lost o r = absurd r
 
 -- a stripe that was lost ends the job in the core as in the machine
-pub stops_lost : (c : CoreView) (w new : State) (k place : ℕ) (cj : CoreJob) (a : Action) (row : ℕ) (outcome : Outcome) (o : OnMachine c w new k place cj a outcome) → HasReply c k (ActsNext a) (reply.Lost row) →
+pub stops_lost : (c : CoreView) (w new : State) (k place : ℕ) (cj : CoreJob) (a : Action) (row : ℕ)
+    (outcome : Outcome) (o : OnMachine c w new k place cj a outcome) →
+    HasReply c k (ActsNext a) (reply.Lost row) →
     Tells k (reply.Lost row) outcome new → CoreIs (stopped c place) new
-stops_lost c w new k place cj a row (Ended (Lost stripe lost)) o r t = lost_ends c w new k place cj a row stripe lost o r
+stops_lost c w new k place cj a row (Ended (Lost stripe lost)) o r t =
+    lost_ends c w new k place cj a row stripe lost o r
 stops_lost c w new k place cj a row outcome o r t = absurd t
 
 -- a verdict: the last ask
-verdict_more : (c : CoreView) (w new : State) (k place : ℕ) (cj : CoreJob) (a : Action) (u : ℕ) (counts : Counts) (o : OnMachine c w new k place cj a More) → HasReply c k (ActsNext a) (reply.Verdict u counts) →
-    Tells k (reply.Verdict u counts) More new → CoreIs (with_at c place (judged cj (record { counts = counted counts; undecided = u }))) new
+verdict_more : (c : CoreView) (w new : State) (k place : ℕ) (cj : CoreJob) (a : Action) (u : ℕ)
+    (counts : Counts) (o : OnMachine c w new k place cj a More) →
+    HasReply c k (ActsNext a) (reply.Verdict u counts) →
+    Tells k (reply.Verdict u counts) More new →
+    CoreIs (with_at c place (judged cj (record { counts = counted counts; undecided = u }))) new
 verdict_more c w new k place cj (Ask j object round) u counts o r t =
     (let e = o.acts.1.2 in
     let given = Answered j object round o.acts.0 ∷ o.job.given in
     let m = onward o.job o.job.subject given in
     let setup : setup_in new ≡ setup_in w = setup_same new w (ap (λ (s : State). setup_of s.records) e) in
-    let before : job_of w.jobs o.job.number ≡ Some o.job = subst (λ (i : ℕ). job_of w.jobs i ≡ Some o.job) (sym o.number) o.found in
-    let found : job_of new.jobs k ≡ Some m = subst (λ (i : ℕ). job_of new.jobs i ≡ Some m) o.number (ap (λ (s : State). job_of s.jobs o.job.number) e ∙ found_itself w.jobs m o.job before) in
-    let sums : HasSums (setup_in w) m (record { counts = counted counts; undecided = u }) = subst (λ (s : Setup). HasSums s m (record { counts = counted counts; undecided = u })) setup (t m found) in
-    on_arm c w new k place cj (Ask j object round) More o (with_provider w.providers j o.acts.1.0) (judged cj (record { counts = counted counts; undecided = u })) m o.called o.number refl e
-    (on-judged w cj o.job (Ask j object round) o.is o.next (λ x. cc) j object round refl given (record { counts = counted counts; undecided = u }) sums))
+    let before : job_of w.jobs o.job.number ≡ Some o.job =
+    subst (λ (i : ℕ). job_of w.jobs i ≡ Some o.job) (sym o.number) o.found in
+    let found : job_of new.jobs k ≡ Some m = subst (λ (i : ℕ). job_of new.jobs i ≡ Some m) o.number
+    (ap (λ (s : State). job_of s.jobs o.job.number) e ∙ found_itself w.jobs m o.job before) in
+    let sums : HasSums (setup_in w) m (record { counts = counted counts; undecided = u }) =
+    subst (λ (s : Setup). HasSums s m (record { counts = counted counts; undecided = u })) setup
+    (t m found) in
+    on_arm c w new k place cj (Ask j object round) More o (with_provider w.providers j o.acts.1.0)
+    (judged cj (record { counts = counted counts; undecided = u })) m o.called o.number refl e
+    (on-judged w cj o.job (Ask j object round) o.is o.next (λ x. cc) j object round refl given
+    (record { counts = counted counts; undecided = u }) sums))
 verdict_more c w new k place cj a u counts o r t = absurd r
 
 -- a verdict on an audit's last ask leaves a core that stands for the machine's state after it
-pub judges_verdict : (c : CoreView) (w new : State) (k place : ℕ) (cj : CoreJob) (a : Action) (u : ℕ) (counts : Counts) (outcome : Outcome) (o : OnMachine c w new k place cj a outcome) → HasReply c k (ActsNext a) (reply.Verdict u counts) →
-    Tells k (reply.Verdict u counts) outcome new → CoreIs (with_at c place (judged cj (record { counts = counted counts; undecided = u }))) new
+pub judges_verdict : (c : CoreView) (w new : State) (k place : ℕ) (cj : CoreJob) (a : Action) (u : ℕ)
+    (counts : Counts) (outcome : Outcome) (o : OnMachine c w new k place cj a outcome) →
+    HasReply c k (ActsNext a) (reply.Verdict u counts) →
+    Tells k (reply.Verdict u counts) outcome new →
+    CoreIs (with_at c place (judged cj (record { counts = counted counts; undecided = u }))) new
 judges_verdict c w new k place cj a u counts More o r t = verdict_more c w new k place cj a u counts o r t
 judges_verdict c w new k place cj a u counts outcome o r t = absurd t
 
 -- another action than a store
-pub other_store : (a : ActionValue) → ((provider object stripe : ℕ) → a ≡ act.Store provider object stripe → ⊥) → is_store (seen_action a) ≡ false
+pub other_store : (a : ActionValue) →
+    ((provider object stripe : ℕ) → a ≡ act.Store provider object stripe → ⊥) →
+    is_store (seen_action a) ≡ false
 other_store (act.Store provider object stripe) n = absurd (n provider object stripe refl)
 other_store a n = refl

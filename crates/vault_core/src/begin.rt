@@ -19,8 +19,8 @@ use stream_model::Memory;
 use vault_table::Table;
 
 impl Core {
-    /// Begins a job, or says why not, and then nothing changes. Conditions: a number is left for the job, and a put has at
-    /// most 2^22 bytes.
+    /// Begins a job, or says why not, and then nothing changes. Conditions: a number is left for the job, and
+    /// a put has at most 2^22 bytes.
     pub fn begin(&mut self, wish: Wish) -> Result<u32, BeginFault>
         requires number { self.old.next_job < 2 ^ 32 - 1 }
         requires size { IsShort wish }

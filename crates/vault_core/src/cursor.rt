@@ -40,8 +40,8 @@ impl Move {
     }
 }
 
-/// Where a job is among the files that it works on: at this stripe or round of this object, which has so many. The files
-/// behind it begin at this place.
+/// Where a job is among the files that it works on: at this stripe or round of this object, which has so
+/// many. The files behind it begin at this place.
 #[derive(Clone, Copy)]
 pub struct Spot {
     pub object: u64,

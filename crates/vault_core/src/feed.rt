@@ -40,7 +40,8 @@ fn pin(jobs: &[Job], object: u64) -> bool
 }
 
 impl Core {
-    /// Goes on by what came of a job's next action. Condition: `next` gave an action, and the reply is one that it has.
+    /// Goes on by what came of a job's next action. Condition: `next` gave an action, and the reply is one
+    /// that it has.
     pub fn feed(&mut self, job: u32, reply: Reply)
         requires { TakesReply self.old job reply }
         ensures step { (w new : State) (outcome : Outcome) (moment : ℕ) → CoreIs self.old w

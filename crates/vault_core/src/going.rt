@@ -241,7 +241,8 @@ impl Job {
         }
     }
 
-    /// The next action decides on the removal of an older object: it is the last move of a put's or a drop's last append.
+    /// The next action decides on the removal of an older object: it is the last move of a put's or a drop's
+    /// last append.
     pub fn decides(&self) -> bool
         ensures { result ≡ decides self.now }
     {
@@ -277,7 +278,8 @@ impl Job {
         }
     }
 
-    /// Makes the last move of an append, which decides on the removal of an older object where there is one to decide on.
+    /// Makes the last move of an append, which decides on the removal of an older object where there is one
+    /// to decide on.
     pub fn finish(&mut self, older: Option<u64>, providers: u32)
         requires few { providers ≤ 16 }
         requires some { 0 < providers }

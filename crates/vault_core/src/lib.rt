@@ -1,4 +1,5 @@
-//! The job machine of a vault: which action of which job comes next, and what a reply to it changes. It calls no device.
+//! The job machine of a vault: which action of which job comes next, and what a reply to it changes. It calls
+//! no device.
 #![tactic(auto)]
 
 mod action;

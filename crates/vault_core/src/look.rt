@@ -67,7 +67,8 @@ impl Core {
         &self.table
     }
 
-    /// Why the begin of a put, a get or a drop would be refused before its words are looked at: `MustReopen` or `Busy`.
+    /// Why the begin of a put, a get or a drop would be refused before its words are looked at: `MustReopen`
+    /// or `Busy`.
     pub fn barred(&self) -> Option<BeginFault>
         ensures { (w : State) → CoreIs self.now w → option_map refusal_of result ≡ first_refusal (
             record { applies = w.is_barred; refusal = refusal.MustReopen }
@@ -133,8 +134,8 @@ impl Core {
         self.coming(job)
     }
 
-    /// How many steps of a job may remain at most if nothing fails: a removal from each provider counts until it is decided.
-    /// None exactly where no running job has the number.
+    /// How many steps of a job may remain at most if nothing fails: a removal from each provider counts until
+    /// it is decided. None exactly where no running job has the number.
     pub fn left(&self, job: u32) -> Option<u64>
         ensures value { result ≡ left_in self.now job }
         ensures machine { (w : State) → CoreIs self.now w

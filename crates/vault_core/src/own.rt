@@ -9,7 +9,8 @@ use std::alloc::Global;
 use std::marker::Model;
 use vault_table::Table;
 
-/// The jobs of a vault over the table of its records. It says which action comes next and is told what came of it.
+/// The jobs of a vault over the table of its records. It says which action comes next and is told what came
+/// of it.
 #[derive(Drop)]
 pub struct Core {
     pub(crate) alloc: Global,
@@ -36,8 +37,8 @@ impl Model for Core {
 }
 
 impl Core {
-    /// No job yet, over a table and a journal's text of `end` bytes, the closed gate included; jobs are numbered from `first`
-    /// on. Conditions: the table's setup is within its limits, and `9 <= end <= 2^24`.
+    /// No job yet, over a table and a journal's text of `end` bytes, the closed gate included; jobs are
+    /// numbered from `first` on. Conditions: the table's setup is within its limits, and `9 <= end <= 2^24`.
     pub fn new(alloc: Global, table: Table, end: u64, first: u32) -> Core
         requires set_up { IsTrue (is_setup (setup_or_none table.setup)) }
         requires least { 9 ≤ end }

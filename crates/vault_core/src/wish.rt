@@ -1,6 +1,7 @@
 use record_codec::Name;
 
-/// What a job is wished for. A put is told the length of its file in bytes; the bytes themselves stay with the caller.
+/// What a job is wished for. A put is told the length of its file in bytes; the bytes themselves stay with
+/// the caller.
 #[derive(Clone, Copy, Debug, PartialEq, Eq)]
 pub enum Wish {
     /// To put a file of so many bytes under a name.
@@ -20,8 +21,8 @@ pub enum Wish {
 pub enum BeginFault {
     /// A disk call of these jobs failed: the vault must be opened anew.
     MustReopen,
-    /// Eight jobs run; or an audit is wished while a put, an audit or a repair runs; or a repair while an audit or a repair
-    /// runs.
+    /// Eight jobs run; or an audit is wished while a put, an audit or a repair runs; or a repair while an
+    /// audit or a repair runs.
     Busy,
     /// The bytes are no name.
     BadName,

@@ -17,12 +17,14 @@ err-still (Ok x) P Q step held = tt
 err-still (Err e) P Q step held = step e held
 
 -- what follows from the error of an answer is a statement about that error
-pub err-from : {T E : Type 0} (r : Result T E) (P Q : E → Type 0) → ((e : E) → P e → Q e) → IsErrAnd r P → IfErr r Q
+pub err-from : {T E : Type 0} (r : Result T E) (P Q : E → Type 0) → ((e : E) → P e → Q e) → IsErrAnd r P →
+    IfErr r Q
 err-from (Ok x) P Q step held = tt
 err-from (Err e) P Q step held = step e held
 
 -- an answer of an init whose cause is not its setup
-pub unjudged : {T : Type 0} (r : Result T InitFault) (why : InitFault) → IsErrAnd r (λ e. e ≡ why) → (why ≡ init_fault.BadSetup → ⊥) → r ≡ Err init_fault.BadSetup → ⊥
+pub unjudged : {T : Type 0} (r : Result T InitFault) (why : InitFault) → IsErrAnd r (λ e. e ≡ why) →
+    (why ≡ init_fault.BadSetup → ⊥) → r ≡ Err init_fault.BadSetup → ⊥
 unjudged (Ok x) why is other same = absurd is
 unjudged (Err e) why is other same = other (let k : e ≡ init_fault.BadSetup = cc in sym is ∙ k)
 

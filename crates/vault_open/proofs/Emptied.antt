@@ -27,7 +27,8 @@ length-reads cells = length-map {B = ℕ} cells (λ c. c.0)
 
 written-front : (cells : Cells) → length (reads cells) ≤ 9 → written 0 (text []) cells ≡ loose (text [])
 written-front cells short =
-    written-behind [] cells 0 refl (text []) ∙ ap (λ (l : Cells). loose (text []) ++ l) (drop_all 9 cells (omega (arith, short, length-reads cells)))
+    written-behind [] cells 0 refl (text [])
+    ∙ ap (λ (l : Cells). loose (text []) ++ l) (drop_all 9 cells (omega (arith, short, length-reads cells)))
 
 -- a disk of at most nine bytes, once emptied, is the text of no records
 pub emptied-is : (cells : Cells) → length (reads cells) ≤ 9 → emptied cells ≡ firm (text [])
@@ -41,22 +42,42 @@ torn-short old new torn short =
     let from = min 0 (length old) in
     let new_cells = loose torn.bytes in
     let size : length new_cells ≡ length torn.bytes = length-map torn.bytes (λ b. (b, true)) in
-    let all : length new ≡ length (take from old) + (length new_cells + length (drop (from + length new_cells) old)) =
-    ap length torn.held ∙ length-append (take from old) (new_cells ++ drop (from + length new_cells) old) ∙ ap (λ (k : ℕ). length (take from old) + k) (length-append new_cells (drop (from + length new_cells) old)) in
+    let all : length new ≡ length
+    (take from old) + (length new_cells + length (drop (from + length new_cells) old)) =
+    ap length torn.held ∙ length-append (take from old) (new_cells ++ drop (from + length new_cells) old)
+    ∙ ap (λ (k : ℕ). length (take from old) + k)
+    (length-append new_cells (drop (from + length new_cells) old)) in
     let no_longer = torn.no_longer in
-    short-cells new (omega (arith, all, size, no_longer, short, length-reads old, length-take from old, length-drop (from + length new_cells) old))
+    short-cells new (omega (
+      arith,
+      all,
+      size,
+      no_longer,
+      short,
+      length-reads old,
+      length-take from old,
+      length-drop (from + length new_cells) old,
+    ))
 
 -- a write to the front that failed leaves a short disk's images short
-pub failed-short : (fault : WriteFault) (old new : Option Cells) → (fault ≡ write_fault.Failed → Goes (Torn 0 9) old new) → (fault ≡ write_fault.Memory → new ≡ old)
+pub failed-short : (fault : WriteFault) (old new : Option Cells) →
+    (fault ≡ write_fault.Failed → Goes (Torn 0 9) old new) → (fault ≡ write_fault.Memory → new ≡ old)
     → IfSome old (λ cells. length (reads cells) ≤ 9) → EachImage new (λ image. length image ≤ 9)
-failed-short write_fault.Memory None new failed memory short = subst (λ (o : Option Cells). EachImage o (λ image. length image ≤ 9)) (sym (memory refl)) tt
+failed-short write_fault.Memory None new failed memory short =
+    subst (λ (o : Option Cells). EachImage o (λ image. length image ≤ 9)) (sym (memory refl)) tt
 failed-short write_fault.Memory (Some old) new failed memory short =
-    subst (λ (o : Option Cells). EachImage o (λ image. length image ≤ 9)) (sym (memory refl)) (short-cells old (omega (arith, short, length-reads old)))
+    subst (λ (o : Option Cells). EachImage o (λ image. length image ≤ 9)) (sym (memory refl))
+    (short-cells old (omega (arith, short, length-reads old)))
 failed-short write_fault.Failed None None failed memory short = tt
 failed-short write_fault.Failed None (Some new) failed memory short = absurd (failed refl)
 failed-short write_fault.Failed (Some old) None failed memory short = absurd (failed refl)
-failed-short write_fault.Failed (Some old) (Some new) failed memory short = torn-short old new (failed refl) short
+failed-short write_fault.Failed (Some old) (Some new) failed memory short =
+    torn-short old new (failed refl) short
 
 -- the text of no record stands for none
 pub text-blank : IsBlank (firm (text []))
-text-blank = record { bytes = text []; firm_is = refl; stands = record { in_grammar = refl; gate = 0; rest = []; closed = omega arith; bytes_are = refl } }
+text-blank = record {
+  bytes = text [];
+  firm_is = refl;
+  stands = record { in_grammar = refl; gate = 0; rest = []; closed = omega arith; bytes_are = refl };
+}

@@ -59,7 +59,8 @@ others-more (InEffect id size profile kept) (q ∷ rs) h = h
 others-more (RepairDue number counts) (q ∷ rs) h = h
 
 -- one record more leaves the answer to the first one
-pub fault-more : (r : Record) (rs : List Record) (why : InitFault) → IsFirstFault rs why → IsFirstFault (r ∷ rs) why
+pub fault-more : (r : Record) (rs : List Record) (why : InitFault) → IsFirstFault rs why →
+    IsFirstFault (r ∷ rs) why
 fault-more r rs init_fault.Already is = begins-more r rs is
 fault-more r rs (init_fault.BadJournal at) is = (others-more r rs is.0, is.1)
 fault-more r rs init_fault.BadSetup is = absurd is
@@ -81,7 +82,8 @@ fault-first (kind.Resume id audit) = (tt, refl)
 fault-first (kind.File id size profile name) = (tt, refl)
 fault-first (kind.Due number counts) = (tt, refl)
 
-fault-text : (bytes : List ℕ) (rs : List Record) (why : InitFault) → StandsFor bytes rs → IsFirstFault rs why → IsTextFault bytes why
+fault-text : (bytes : List ℕ) (rs : List Record) (why : InitFault) → StandsFor bytes rs →
+    IsFirstFault rs why → IsTextFault bytes why
 fault-text bytes rs init_fault.Already stands is = (rs, stands, is)
 fault-text bytes rs (init_fault.BadJournal at) stands is = inr (rs, stands, is.0, is.1)
 fault-text bytes rs init_fault.BadSetup stands is = absurd is
@@ -90,12 +92,14 @@ fault-text bytes rs init_fault.Memory stands is = absurd is
 
 module _ (bytes : List ℕ) (rs : List Record) (stands : StandsFor bytes rs) where
   -- where the answer is Ok, the bytes stand for no records
-  pub none-stands : (answer : Result Unit InitFault) → IsFirstAnswer rs answer → OnOk answer (StandsFor bytes [])
+  pub none-stands : (answer : Result Unit InitFault) → IsFirstAnswer rs answer →
+      OnOk answer (StandsFor bytes [])
   none-stands (Ok done) is = subst (StandsFor bytes) is stands
   none-stands (Err why) is = tt
 
   -- an error told for the first of some records is a fault of the bytes that stand for them
-  pub text-refused : (answer : Result Unit InitFault) → IsFirstAnswer rs answer → IfErr answer (IsTextFault bytes)
+  pub text-refused : (answer : Result Unit InitFault) → IsFirstAnswer rs answer →
+      IfErr answer (IsTextFault bytes)
   text-refused (Ok done) is = tt
   text-refused (Err why) is = fault-text bytes rs why stands is
 
@@ -109,7 +113,8 @@ module _ (s : Setup) where
     behind : List ℕ
     behind = body ++ drop (length body) rest
 
-    reads-body : reads (written 9 body (firm (magic ++ gate ∷ rest))) ≡ magic ++ gate ∷ (body ++ drop (length body) rest)
+    reads-body : reads (written 9 body (firm (magic ++ gate ∷ rest)))
+        ≡ magic ++ gate ∷ (body ++ drop (length body) rest)
     reads-body =
         ap reads (written-behind (firm (magic ++ gate ∷ [])) (firm rest) 9 refl body)
         ∙ ap (λ (l : List ℕ). magic ++ gate ∷ l) (
@@ -118,29 +123,37 @@ module _ (s : Setup) where
         ∙ ap (λ (l : Cells). body ++ reads l) (drop-map (λ b. (b, false)) (length body) rest)
         ∙ ap (λ (l : List ℕ). body ++ l) (reads-firm (drop (length body) rest)))
 
-    reads-gate : (more : List ℕ) → reads (written 8 (1 ∷ []) (firm (magic ++ gate ∷ more))) ≡ magic ++ 1 ∷ more
+    reads-gate : (more : List ℕ) → reads (written 8 (1 ∷ []) (firm (magic ++ gate ∷ more)))
+        ≡ magic ++ 1 ∷ more
     reads-gate more =
         ap reads (written-behind (firm magic) (firm (gate ∷ more)) 8 refl (1 ∷ []))
         ∙ ap (λ (l : List ℕ). magic ++ 1 ∷ l) (reads-firm more)
 
-    after-moves : with_first_record s (firm (magic ++ gate ∷ rest)) ≡ firm (magic ++ 1 ∷ (body ++ drop (length body) rest))
+    after-moves : with_first_record s (firm (magic ++ gate ∷ rest))
+        ≡ firm (magic ++ 1 ∷ (body ++ drop (length body) rest))
     after-moves =
         ap (λ (l : List ℕ). synced (written 8 (1 ∷ []) (firm l))) reads-body
         ∙ ap firm (reads-gate (body ++ drop (length body) rest))
 
-    text-behind : text (SetUp s ∷ []) ++ drop (length (text (SetUp s ∷ []))) (magic ++ gate ∷ rest) ≡ magic ++ 1 ∷ (body ++ drop (length body) rest)
+    text-behind : text (SetUp s ∷ []) ++ drop (length (text (SetUp s ∷ []))) (magic ++ gate ∷ rest)
+        ≡ magic ++ 1 ∷ (body ++ drop (length body) rest)
     text-behind =
-        let size : length (text (SetUp s ∷ [])) ≡ length (magic ++ gate ∷ []) + length body = omega (arith, length-append (spelling (SetUp s)) (0 ∷ [])) in
+        let size : length (text (SetUp s ∷ [])) ≡ length (magic ++ gate ∷ []) + length body =
+        omega (arith, length-append (spelling (SetUp s)) (0 ∷ [])) in
         ap (λ (k : ℕ). text (SetUp s ∷ []) ++ drop k (magic ++ gate ∷ rest)) size
-        ∙ ap (λ (l : List ℕ). text (SetUp s ∷ []) ++ l) (drop-append-add (magic ++ gate ∷ []) rest (length body))
+        ∙ ap (λ (l : List ℕ). text (SetUp s ∷ []) ++ l)
+        (drop-append-add (magic ++ gate ∷ []) rest (length body))
 
   -- a blank disk with its first record written is the text of the setup, and then any bytes
-  pub set-up : (cells : Cells) → IsBlank cells → with_first_record s cells ≡ firm (text (SetUp s ∷ []) ++ drop (length (text (SetUp s ∷ []))) (reads cells))
+  pub set-up : (cells : Cells) → IsBlank cells → with_first_record s cells
+      ≡ firm (text (SetUp s ∷ []) ++ drop (length (text (SetUp s ∷ []))) (reads cells))
   set-up cells is =
       let bytes_are = is.stands.bytes_are in
       let whole : cells ≡ firm (magic ++ is.stands.gate ∷ is.stands.rest) = is.firm_is ∙ ap firm bytes_are in
-      ap (with_first_record s) whole ∙ after-moves is.stands.gate is.stands.rest ∙ ap firm (sym (text-behind is.stands.gate is.stands.rest))
-      ∙ ap (λ (l : List ℕ). firm (text (SetUp s ∷ []) ++ drop (length (text (SetUp s ∷ []))) l)) (sym (ap reads whole ∙ reads-firm (magic ++ is.stands.gate ∷ is.stands.rest)))
+      ap (with_first_record s) whole ∙ after-moves is.stands.gate is.stands.rest
+      ∙ ap firm (sym (text-behind is.stands.gate is.stands.rest))
+      ∙ ap (λ (l : List ℕ). firm (text (SetUp s ∷ []) ++ drop (length (text (SetUp s ∷ []))) l))
+      (sym (ap reads whole ∙ reads-firm (magic ++ is.stands.gate ∷ is.stands.rest)))
 
   -- ---- an append to a blank disk
 
@@ -148,13 +161,16 @@ module _ (s : Setup) where
   closed-blank cells is = subst (IsClosed magic) (sym is.firm_is) (read_is_closed is.bytes [] is.stands)
 
   -- an append of the setup to a blank disk is at its start, behind no records
-  pub begun : (a : Append) (told : Option Cells) (r : Record) → r ≡ SetUp s → IsTrue (is_in_grammar r) → gate_of a ≡ 8 → moves_of a ≡ 0 → body_of a ≡ spelling r ++ 0 ∷ [] → IfSome told IsBlank → Appends [] (SetUp s) a told
+  pub begun : (a : Append) (told : Option Cells) (r : Record) → r ≡ SetUp s → IsTrue (is_in_grammar r) →
+      gate_of a ≡ 8 → moves_of a ≡ 0 → body_of a ≡ spelling r ++ 0 ∷ [] → IfSome told IsBlank →
+      Appends [] (SetUp s) a told
   begun a told r r_is valid gate_is moves_is body_is blank = record {
     records = refl;
     entry = subst (λ (r : Record). IsTrue (is_in_grammar r)) r_is valid;
     gate = gate_is;
     body = body_is ∙ ap (λ (r : Record). spelling r ++ 0 ∷ []) r_is;
-    disk = subst (λ (m : ℕ). IfSome told (IsAfterMoves m magic (body_of a))) (sym moves_is) (IfSome-same IsBlank (IsClosed magic) closed-blank told told refl blank);
+    disk = subst (λ (m : ℕ). IfSome told (IsAfterMoves m magic (body_of a))) (sym moves_is)
+        (IfSome-same IsBlank (IsClosed magic) closed-blank told told refl blank);
   }
 
 -- ---- a store is set up on a disk that was made ready
@@ -162,17 +178,25 @@ module _ (s : Setup) where
 same-behind : (n : ℕ) (old new : List ℕ) → 9 ≤ n → drop 9 new ≡ drop 9 old → drop n new ≡ drop n old
 same-behind n old new long same =
     let n_is : n ≡ 9 + (n - 9) = omega (arith, long) in
-    ap (λ (k : ℕ). drop k new) n_is ∙ sym (drop-drop (n - 9) 9 new) ∙ ap (drop (n - 9)) same ∙ sym (ap (λ (k : ℕ). drop k old) n_is ∙ sym (drop-drop (n - 9) 9 old))
+    ap (λ (k : ℕ). drop k new) n_is ∙ sym (drop-drop (n - 9) 9 new) ∙ ap (drop (n - 9)) same
+    ∙ sym (ap (λ (k : ℕ). drop k old) n_is ∙ sym (drop-drop (n - 9) 9 old))
 
 -- a disk made ready, with the setup as its first record, is set up
-pub set-up-on : (s : Setup) (told mid new : Option Cells) → Goes IsReadied told mid → new ≡ option_map (with_first_record s) mid → Goes (IsSetUpOn s) told new
+pub set-up-on : (s : Setup) (told mid new : Option Cells) → Goes IsReadied told mid →
+    new ≡ option_map (with_first_record s) mid → Goes (IsSetUpOn s) told new
 set-up-on s None None new ready made = subst (λ (o : Option Cells). Goes (IsSetUpOn s) None o) (sym made) tt
 set-up-on s None (Some mid) new ready made = absurd ready
 set-up-on s (Some old) None new ready made = absurd ready
 set-up-on s (Some old) (Some mid) new ready made =
     let n = length (text (SetUp s ∷ [])) in
-    let long : 9 ≤ n = omega (arith, length-append (before_gate (SetUp s ∷ [])) (0 ∷ []), length-append magic (1 ∷ spelling (SetUp s))) in
+    let long : 9 ≤ n = omega (
+      arith,
+      length-append (before_gate (SetUp s ∷ [])) (0 ∷ []),
+      length-append magic (1 ∷ spelling (SetUp s)),
+    ) in
     subst (λ (o : Option Cells). Goes (IsSetUpOn s) (Some old) o) (sym made) (record {
       free = ready.free;
-      reads_are = set-up s mid ready.blank ∙ ap (λ (l : List ℕ). firm (text (SetUp s ∷ []) ++ l)) (same-behind n (reads old) (reads mid) long ready.same);
+      reads_are = set-up s mid ready.blank
+          ∙ ap (λ (l : List ℕ). firm (text (SetUp s ∷ []) ++ l))
+          (same-behind n (reads old) (reads mid) long ready.same);
     })

@@ -19,7 +19,8 @@ stops-behind bytes rs at (inl end) = inl end
 stops-behind bytes rs at (inr break) = inr (inl break)
 
 -- where reading stops behind accepted records is the first place at which the bytes go wrong
-pub stopped : (bytes : List ℕ) (rs : List Record) (at : ℕ) → AreAccepted rs → StopsAt bytes rs at → IsBadStart bytes at
+pub stopped : (bytes : List ℕ) (rs : List Record) (at : ℕ) → AreAccepted rs → StopsAt bytes rs at →
+    IsBadStart bytes at
 stopped bytes rs at accepted stops = inr (rs, accepted, stops-behind bytes rs at stops)
 
 module _ (bytes : List ℕ) (rs : List Record) (t : Kept) (gate : ℕ) (is : IsReadUpTo bytes rs t gate) where
@@ -27,10 +28,18 @@ module _ (bytes : List ℕ) (rs : List Record) (t : Kept) (gate : ℕ) (is : IsR
   text-at : text_size rs ≡ gate + 1
   text-at =
       let w = is.read.within in
-      omega (arith, length-text rs is.read.in_grammar, length-append (before_gate rs) (0 ∷ []), ap length is.read.so_far, length-take gate bytes, w)
+      omega (
+        arith,
+        length-text rs is.read.in_grammar,
+        length-append (before_gate rs) (0 ∷ []),
+        ap length is.read.so_far,
+        length-take gate bytes,
+        w,
+      )
 
   -- the gate is closed
-  pub closed : length bytes ≤ 2 ^ 24 → gate < length bytes → StandsFor bytes rs → IsFolded bytes rs t (gate + 1)
+  pub closed : length bytes ≤ 2 ^ 24 → gate < length bytes → StandsFor bytes rs →
+      IsFolded bytes rs t (gate + 1)
   closed few some stands = record {
     stands = stands;
     accepted = is.accepted;
@@ -41,7 +50,8 @@ module _ (bytes : List ℕ) (rs : List Record) (t : Kept) (gate : ℕ) (is : IsR
 
   module _ (r : Record) (next : ℕ) (more : IsReadTo bytes (r ∷ rs) next) where
     -- the record is taken
-    pub taken : (new : Kept) → refused rs r ≡ None → IsFoldOf (r ∷ rs) new → IsReadUpTo bytes (r ∷ rs) new next
+    pub taken : (new : Kept) → refused rs r ≡ None → IsFoldOf (r ∷ rs) new →
+        IsReadUpTo bytes (r ∷ rs) new next
     taken new accepted folds = record { read = more; accepted = (accepted, is.accepted); folds = folds }
 
     refuses : refused rs r ≢ None → IsBadStart bytes (gate + 1)
@@ -53,14 +63,17 @@ module _ (bytes : List ℕ) (rs : List Record) (t : Kept) (gate : ℕ) (is : IsR
             entry = r;
             rest = drop next bytes;
             in_grammar = more.in_grammar;
-            bytes_are = sym (take-append-drop next bytes) ∙ ap (λ (l : List ℕ). l ++ drop next bytes) more.so_far;
+            bytes_are = sym (take-append-drop next bytes)
+                ∙ ap (λ (l : List ℕ). l ++ drop next bytes) more.so_far;
             refused_is = why;
-            place = (let w = is.read.within in omega (arith, ap length is.read.so_far, length-take gate bytes, w));
+            place = (let w = is.read.within in
+                omega (arith, ap length is.read.so_far, length-take gate bytes, w));
           })),
         )
 
     -- the record is not taken
-    pub refusal : (why : Refused) → IsCause why (refused rs r) → IsFoldFault bytes (refusal_answer why (gate + 1))
+    pub refusal : (why : Refused) → IsCause why (refused rs r) →
+        IsFoldFault bytes (refusal_answer why (gate + 1))
     refusal fault.NoSetup is = refuses (λ e. (let x = sym is ∙ e in cc))
     refusal fault.SecondSetup is = refuses (λ e. (let x = sym is ∙ e in cc))
     refusal fault.BadId is = refuses (λ e. (let x = sym is ∙ e in cc))

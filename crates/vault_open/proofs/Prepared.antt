@@ -26,79 +26,112 @@ IsShort cells = length (reads cells) ≤ 9
 
 -- ---- what a fault leaves
 
-half-image : (cells : Cells) (new : Option Cells) → Goes IsResynced (Some cells) new → EachImage new (IsImage cells)
+half-image : (cells : Cells) (new : Option Cells) → Goes IsResynced (Some cells) new →
+    EachImage new (IsImage cells)
 half-image cells None goes = absurd goes
 half-image cells (Some new) goes = image-resynced cells new goes
 
 -- a disk that was synced, or left as it was, has only images that it had before
-pub half-resynced : (told new : Option Cells) → Goes IsResynced told new → IfSome told (λ cells. IsHalfReady cells new)
+pub half-resynced : (told new : Option Cells) → Goes IsResynced told new →
+    IfSome told (λ cells. IsHalfReady cells new)
 half-resynced None new goes = tt
 half-resynced (Some cells) new goes = inl (half-image cells new goes)
 
 -- a short disk of which a fault leaves only short images is one that a fault may leave on the way
-pub half-empty : (told mid new : Option Cells) → mid ≡ option_map synced told → IfSome told IsShort → (IfSome mid IsShort → EachImage new (λ image. length image ≤ 9))
+pub half-empty : (told mid new : Option Cells) → mid ≡ option_map synced told → IfSome told IsShort →
+    (IfSome mid IsShort → EachImage new (λ image. length image ≤ 9))
     → IfSome told (λ cells. IsHalfReady cells new)
 half-empty None mid new is short left = tt
 half-empty (Some cells) mid new is short left =
-    inr (short, left (subst (λ (o : Option Cells). IfSome o IsShort) (sym is) (subst (λ (l : List ℕ). length l ≤ 9) (sym (reads-synced cells)) short)))
+    inr (
+      short,
+      left (subst (λ (o : Option Cells). IfSome o IsShort) (sym is)
+          (subst (λ (l : List ℕ). length l ≤ 9) (sym (reads-synced cells)) short)),
+    )
 
 -- ---- why it is not made ready
 
-text-at : (cells : Cells) (bytes : List ℕ) (why : InitFault) (s : Setup) → (9 < length (reads cells)) × (bytes ≡ journal_read cells) → IsTextFault bytes why → IsInitFault (journal_read cells) s why
-text-at cells bytes (init_fault.BadJournal at) s is bad = (omega (arith, is.0, length-take largest_journal (reads cells)), subst (λ (l : List ℕ). IsTextFault l (init_fault.BadJournal at)) is.1 bad)
-text-at cells bytes init_fault.Already s is bad = (omega (arith, is.0, length-take largest_journal (reads cells)), subst (λ (l : List ℕ). IsTextFault l init_fault.Already) is.1 bad)
+text-at : (cells : Cells) (bytes : List ℕ) (why : InitFault) (s : Setup) →
+    (9 < length (reads cells)) × (bytes ≡ journal_read cells) → IsTextFault bytes why →
+    IsInitFault (journal_read cells) s why
+text-at cells bytes (init_fault.BadJournal at) s is bad = (
+  omega (arith, is.0, length-take largest_journal (reads cells)),
+  subst (λ (l : List ℕ). IsTextFault l (init_fault.BadJournal at)) is.1 bad,
+)
+text-at cells bytes init_fault.Already s is bad = (
+  omega (arith, is.0, length-take largest_journal (reads cells)),
+  subst (λ (l : List ℕ). IsTextFault l init_fault.Already) is.1 bad,
+)
 text-at cells bytes init_fault.Memory s is bad = absurd bad
 text-at cells bytes init_fault.BadSetup s is bad = absurd bad
 text-at cells bytes init_fault.DiskFault s is bad = absurd bad
 
 -- a fault that lies in the text is one that an init may tell of this disk
-pub text_fault : (told : Option Cells) (bytes : List ℕ) (why : InitFault) (s : Setup) → IsLookedAt told bytes → IsTextFault bytes why → IfSome told (λ cells. IsInitFault (journal_read cells) s why)
+pub text_fault : (told : Option Cells) (bytes : List ℕ) (why : InitFault) (s : Setup) →
+    IsLookedAt told bytes → IsTextFault bytes why →
+    IfSome told (λ cells. IsInitFault (journal_read cells) s why)
 text_fault None bytes why s is bad = tt
 text_fault (Some cells) bytes why s is bad = text-at cells bytes why s is bad
 
 -- ---- how it is made ready
 
 -- a short disk, once synced and emptied, is ready
-pub readied-empty : (told mid new : Option Cells) → mid ≡ option_map synced told → new ≡ option_map emptied mid → IfSome told IsShort → Goes IsReadied told new
-readied-empty None mid new is made short = subst (λ (o : Option Cells). Goes IsReadied None o) (sym (made ∙ ap (option_map emptied) is)) tt
+pub readied-empty : (told mid new : Option Cells) → mid ≡ option_map synced told →
+    new ≡ option_map emptied mid → IfSome told IsShort → Goes IsReadied told new
+readied-empty None mid new is made short =
+    subst (λ (o : Option Cells). Goes IsReadied None o) (sym (made ∙ ap (option_map emptied) is)) tt
 readied-empty (Some cells) mid new is made short =
-    let short_synced : length (reads (synced cells)) ≤ 9 = subst (λ (l : List ℕ). length l ≤ 9) (sym (reads-synced cells)) short in
+    let short_synced : length (reads (synced cells)) ≤ 9 =
+    subst (λ (l : List ℕ). length l ≤ 9) (sym (reads-synced cells)) short in
     let whole = emptied-is (synced cells) short_synced in
-    subst (λ (o : Option Cells). Goes IsReadied (Some cells) o) (sym (made ∙ ap (option_map emptied) is)) (record {
+    subst (λ (o : Option Cells). Goes IsReadied (Some cells) o) (sym (made ∙ ap (option_map emptied) is))
+    (record {
       free = inl short;
       blank = subst IsBlank (sym whole) text-blank;
       same = ap (λ (c : Cells). drop 9 (reads c)) whole ∙ sym (drop_all 9 (reads cells) short);
     })
 
 -- a disk that stands for no records, once synced, is ready
-pub readied-read : (told mid : Option Cells) (bytes : List ℕ) → mid ≡ option_map synced told → IsLookedAt told bytes → StandsFor bytes [] → Goes IsReadied told mid
+pub readied-read : (told mid : Option Cells) (bytes : List ℕ) → mid ≡ option_map synced told →
+    IsLookedAt told bytes → StandsFor bytes [] → Goes IsReadied told mid
 readied-read None mid bytes is looked stands = subst (λ (o : Option Cells). Goes IsReadied None o) (sym is) tt
 readied-read (Some cells) mid bytes is looked stands =
     let read : StandsFor (journal_read cells) [] = subst (λ (l : List ℕ). StandsFor l []) looked.1 stands in
     subst (λ (o : Option Cells). Goes IsReadied (Some cells) o) (sym is) (record {
       free = inr read;
-      blank = record { bytes = reads cells; firm_is = refl; stands = stands-front largest_journal (reads cells) [] read };
+      blank = record {
+        bytes = reads cells;
+        firm_is = refl;
+        stands = stands-front largest_journal (reads cells) [] read;
+      };
       same = ap (drop 9) (reads-synced cells);
     })
 
 -- ---- what a failed init leaves
 
-each-left : (s : Setup) (cells : Cells) (new : Option Cells) (P : List ℕ → Type 0) → ((image : List ℕ) → P image → MayBeLeft s cells image) → EachImage new P → EachImage new (MayBeLeft s cells)
+each-left : (s : Setup) (cells : Cells) (new : Option Cells) (P : List ℕ → Type 0) →
+    ((image : List ℕ) → P image → MayBeLeft s cells image) → EachImage new P →
+    EachImage new (MayBeLeft s cells)
 each-left s cells None P step all = tt
 each-left s cells (Some new) P step all = λ image of. step image (all image of)
 
-half-left-at : (s : Setup) (cells : Cells) (new : Option Cells) → IsHalfReady cells new → EachImage new (MayBeLeft s cells)
+half-left-at : (s : Setup) (cells : Cells) (new : Option Cells) → IsHalfReady cells new →
+    EachImage new (MayBeLeft s cells)
 half-left-at s cells new (inl same) = each-left s cells new (IsImage cells) (λ image is. inl is) same
-half-left-at s cells new (inr short) = each-left s cells new (λ image. length image ≤ 9) (λ image is. inr (inl short.0, inl is)) short.1
+half-left-at s cells new (inr short) =
+    each-left s cells new (λ image. length image ≤ 9) (λ image is. inr (inl short.0, inl is)) short.1
 
 -- what a fault on the way leaves of a disk is what a failed init may leave
-pub half-left : (s : Setup) (told new : Option Cells) → IfSome told (λ cells. IsHalfReady cells new) → IfSome told (λ cells. EachImage new (MayBeLeft s cells))
+pub half-left : (s : Setup) (told new : Option Cells) → IfSome told (λ cells. IsHalfReady cells new) →
+    IfSome told (λ cells. EachImage new (MayBeLeft s cells))
 half-left s None new half = tt
 half-left s (Some cells) new half = half-left-at s cells new half
 
 -- what a failed append of the setup leaves of a ready disk is what a failed init may leave
-pub append-left : (s : Setup) (told mid new : Option Cells) → Goes IsReadied told mid → MayStandFor [] (SetUp s) new → IfSome told (λ cells. EachImage new (MayBeLeft s cells))
+pub append-left : (s : Setup) (told mid new : Option Cells) → Goes IsReadied told mid →
+    MayStandFor [] (SetUp s) new → IfSome told (λ cells. EachImage new (MayBeLeft s cells))
 append-left s None mid new ready stands = tt
 append-left s (Some cells) None new ready stands = absurd ready
 append-left s (Some cells) (Some mid) new ready stands =
-    each-left s cells new (λ image. StandsFor image [] ⊎ StandsFor image (SetUp s ∷ [])) (λ image is. inr (ready.free, inr is)) stands
+    each-left s cells new (λ image. StandsFor image [] ⊎ StandsFor image (SetUp s ∷ []))
+    (λ image is. inr (ready.free, inr is)) stands

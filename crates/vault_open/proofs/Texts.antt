@@ -10,4 +10,11 @@ pub short-none : (bytes : List ℕ) (rs : List Record) → StandsFor bytes rs �
 short-none bytes [] is short = refl
 short-none bytes (r ∷ rs) is short =
     let front = before_gate (r ∷ rs) in
-    absurd (omega (arith, ap length is.bytes_are, length-append front (is.gate ∷ is.rest), length-before_gate (r ∷ rs) is.in_grammar, text_size-least rs, short))
+    absurd (omega (
+      arith,
+      ap length is.bytes_are,
+      length-append front (is.gate ∷ is.rest),
+      length-before_gate (r ∷ rs) is.in_grammar,
+      text_size-least rs,
+      short,
+    ))

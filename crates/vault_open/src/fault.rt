@@ -16,7 +16,8 @@ pub enum InitFault {
     /// A call of the disk failed.
     #[error("DiskFault")]
     DiskFault,
-    /// More than nine bytes are no journal, or its first record is no setup: the offset of the first bad byte.
+    /// More than nine bytes are no journal, or its first record is no setup: the offset of the first bad
+    /// byte.
     #[error("BadJournal {at}")]
     BadJournal { at: u64 },
     /// The journal's first record is a setup.
@@ -36,7 +37,8 @@ pub enum StartFault {
     /// The disk has at most nine bytes, or a journal with no record.
     #[error("NotSetUp")]
     NotSetUp,
-    /// More than nine bytes are no journal, or a record may not follow those before it: the offset of the first bad byte.
+    /// More than nine bytes are no journal, or a record may not follow those before it: the offset of the
+    /// first bad byte.
     #[error("BadJournal {at}")]
     BadJournal { at: u64 },
     /// Memory ran out.

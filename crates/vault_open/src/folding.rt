@@ -18,8 +18,8 @@ fn answer_to(why: Refused, at: u64) -> StartFault
     }
 }
 
-/// The fold of the records of a journal's bytes, and the length of their text, the closed gate included. The time is
-/// linear in the number of bytes.
+/// The fold of the records of a journal's bytes, and the length of their text, the closed gate included. The
+/// time is linear in the number of bytes.
 pub(crate) fn fold_journal(alloc: Global, bytes: &[u8]) -> Result<(Table, u64), StartFault>
     requires { length bytes.now ≤ 2 ^ 24 }
     ensures ok { IfOk result (λ x. (rs : List Record) × IsFolded bytes.now rs x.0 x.1) }

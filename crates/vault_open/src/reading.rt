@@ -17,7 +17,8 @@ const LIMIT: u64 = 1 << 24;
 /// The largest length of a disk that counts as empty, in bytes.
 const EMPTY: u64 = 9;
 
-/// The bytes of a disk that are looked at, after a sync; None where it has at most nine, of which none is read.
+/// The bytes of a disk that are looked at, after a sync; None where it has at most nine, of which none is
+/// read.
 pub(crate) fn read_disk<D: Disk>(alloc: Global, disk: &mut D) -> Result<Option<Vec<u8>>, WriteFault>
     ensures empty { IfOk result (λ found. IfSome (D.holds disk.old)
         (λ cells. IfNone found (length (reads cells) ≤ 9))) }

@@ -19,10 +19,9 @@ use key_schedule::Master;
 use record_codec::Setup;
 use std::alloc::Global;
 
-/// Sets a store up on a disk: its journal has the setup and the key as its one record. A disk of at most nine bytes counts as
-/// empty, and a journal with no record is kept as it is, and what
-/// lies beyond 2^24 bytes is not looked at. After a fault of the disk the call may be made again, unless the
-/// store is set up.
+/// Sets a store up on a disk: its journal has the setup and the key as its one record. A disk of at most nine
+/// bytes counts as empty, and a journal with no record is kept as it is, and what lies beyond 2^24 bytes is
+/// not looked at. After a fault of the disk the call may be made again, unless the store is set up.
 pub fn init<D: Disk>(
     alloc: Global,
     disk: &mut D,

@@ -18,8 +18,8 @@ use record_codec::Setup;
 use std::alloc::Global;
 use vault_table::Table;
 
-/// What a start reads of a disk: the fold of its records, the setup and the key among them, and the length of their text in
-/// bytes, the closed gate included.
+/// What a start reads of a disk: the fold of its records, the setup and the key among them, and the length of
+/// their text in bytes, the closed gate included.
 #[derive(Drop)]
 pub struct Store {
     pub table: Table,
@@ -28,9 +28,9 @@ pub struct Store {
     pub master: Master,
 }
 
-/// Reads the store on a disk, after a sync; what lies beyond 2^24 bytes is not looked at. It refuses, as `StartFault`
-/// tells, a disk of at most nine bytes or with no record, bytes that are no journal, a record that may not follow, a call
-/// of the disk that fails, and want of memory.
+/// Reads the store on a disk, after a sync; what lies beyond 2^24 bytes is not looked at. It refuses, as
+/// `StartFault` tells, a disk of at most nine bytes or with no record, bytes that are no journal, a record
+/// that may not follow, a call of the disk that fails, and want of memory.
 pub fn read_store<D: Disk>(alloc: Global, disk: &mut D) -> Result<Store, StartFault>
     ensures read { IfOk result (λ store. (rs : List Record) × IsRead (D.holds disk.old) rs
         × IsStoreOf store rs (D.holds disk.new)) }

@@ -6,8 +6,8 @@ use crate::store::Seen;
 /// A file of three stripes of 384 bytes, the last of them not full.
 const LONG: &[u8] = &[7; 1000];
 
-/// A put of three stripes stores on six providers. An audit of four rounds appends the record of its start in four steps, asks in
-/// twenty-four, appends that of its end in four, and ends.
+/// A put of three stripes stores on six providers. An audit of four rounds appends the record of its start in
+/// four steps, asks in twenty-four, appends that of its end in four, and ends.
 const AUDITED: &[Deed] = &[
     Begins(Job::Put(b"long", LONG), Ok(1)),
     Runs(1, 27, Seen::Put),

@@ -7,7 +7,8 @@ use std::alloc::Global;
 use vault_core::{Action, BeginFault, Core, Next, Reply, Wish};
 use vault_table::Table;
 
-/// Six providers, one of them primary and one of them bad, the first profile, one round, one pick, and no tolerance.
+/// Six providers, one of them primary and one of them bad, the first profile, one round, one pick, and no
+/// tolerance.
 const SETUP: [u8; 41] = [
     1, 6, 1, 1, 0, 1, 1, 0, 0, 0, 0, 0, 0, 0, 0, 0, 0, 0, 0, 0, 0, 0, 0, 0, 0, 0, 0, 0, 0, 0, 0, 0,
     0, 0, 0, 0, 0, 0, 0, 0, 0,
@@ -26,7 +27,8 @@ const AUDITED: [u8; 38] = [
     0, 0, 0, 0, 0, 0,
 ];
 
-/// Which records a journal has: a setup alone; a file that is stored; that, and an audit by which a repair is due.
+/// Which records a journal has: a setup alone; a file that is stored; that, and an audit by which a repair is
+/// due.
 #[derive(Clone, Copy)]
 enum Base {
     Empty,

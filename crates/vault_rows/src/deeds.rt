@@ -58,7 +58,8 @@ pub enum Deed {
 }
 
 impl Store {
-    /// Whether a step of a job that is not its last asks one provider, the next in turn of six, and calls none otherwise.
+    /// Whether a step of a job that is not its last asks one provider, the next in turn of six, and calls
+    /// none otherwise.
     fn asks_next(&mut self, job: u32) -> bool {
         let before = self.asks();
         let more = self.step(job) == Seen::More;

@@ -4,7 +4,8 @@ use crate::job::Job;
 use crate::store::Seen;
 use vault::BeginFault;
 
-/// A file of one stripe is stored, a provider loses its block, an audit finds that, and the repair is cut after ten steps.
+/// A file of one stripe is stored, a provider loses its block, an audit finds that, and the repair is cut
+/// after ten steps.
 const CUT_REPAIR: &[Deed] = &[
     Begins(Job::Put(b"a", b"old"), Ok(1)),
     Runs(1, 15, Seen::Put),

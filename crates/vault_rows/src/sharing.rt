@@ -98,7 +98,8 @@ fn an_older_object_is_removed(rt: HostRuntime) {
     assert_eq!(rt; first_wrong(rt.alloc(), &FOUR, REPLACED), None);
 }
 
-/// Two drops of a file run: a journal of 9 bytes, a setup of 42, the records of a put of 12 and 14, and one drop of 4.
+/// Two drops of a file run: a journal of 9 bytes, a setup of 42, the records of a put of 12 and 14, and one
+/// drop of 4.
 const TWO_DROPS: &[Deed] = &[
     Begins(Job::Put(b"a", b"old"), Ok(1)),
     Runs(1, 13, Seen::Put),

@@ -4,14 +4,16 @@ use crate::job::Job;
 use crate::store::{Seen, Text};
 use std::alloc::Global;
 
-/// A put of the new text over the old one has so many steps: two appends, four stores, four removals and the end.
+/// A put of the new text over the old one has so many steps: two appends, four stores, four removals and the
+/// end.
 const STEPS: u32 = 17;
 
-/// What a put leaves that is cut: how its last step ended, the text that a get gives, and the number of the next object.
+/// What a put leaves that is cut: how its last step ended, the text that a get gives, and the number of the
+/// next object.
 type Left = (Seen, Text, u64);
 
-/// A put of the new text over the old one is cut after so many steps, with the disk stopped by these picks. A get then gives one of the
-/// two texts, and the next put draws a number under which no provider held a block.
+/// A put of the new text over the old one is cut after so many steps, with the disk stopped by these picks. A
+/// get then gives one of the two texts, and the next put draws a number under which no provider held a block.
 fn cut(steps: u32, picks: &'static [u8], left: Left) -> [Deed; 12] {
     let (last, text, number) = left;
     [
@@ -35,8 +37,8 @@ fn leaves(alloc: Global, steps: u32, picks: &'static [u8], left: Left) -> bool {
     first_wrong(alloc, &FOUR, &cut(steps, picks, left)).is_none()
 }
 
-/// What it is to leave, where the gates that a stop may undo stay open, or are closed. The fourth and the twelfth step
-/// sync a gate that the step before wrote.
+/// What it is to leave, where the gates that a stop may undo stay open, or are closed. The fourth and the
+/// twelfth step sync a gate that the step before wrote.
 fn wanted(steps: u32, open: bool) -> Left {
     let last = if steps == STEPS {
         Seen::Put

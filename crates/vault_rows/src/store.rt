@@ -224,7 +224,8 @@ impl Store {
         blocks
     }
 
-    /// Keeps the first blocks of the first object in mind, and answers whether each of six providers holds one.
+    /// Keeps the first blocks of the first object in mind, and answers whether each of six providers holds
+    /// one.
     pub fn keeps_blocks(&mut self) -> bool {
         self.kept = self.blocks();
         self.kept.iter().all(Option::is_some)
@@ -299,7 +300,8 @@ impl Store {
         last
     }
 
-    /// Steps a job until a step is not followed by more, and tells how many steps it made and what the last one came to.
+    /// Steps a job until a step is not followed by more, and tells how many steps it made and what the last
+    /// one came to.
     pub fn run(&mut self, job: u32) -> (u32, Seen) {
         for made in 1..1000u32 {
             let last = self.step(job);

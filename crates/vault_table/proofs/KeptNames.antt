@@ -20,14 +20,17 @@ length-names (s ∷ sizes) letters = ap suc (length-names sizes (drop (s % 128) 
 -- ---- where names begin
 
 -- a name begins where the one before it ends
-pub begins-step : (sizes : List ℕ) (k : ℕ) → k < length sizes → begins_at sizes (k + 1) ≡ begins_at sizes k + get_or sizes k 0 % 128
+pub begins-step : (sizes : List ℕ) (k : ℕ) → k < length sizes →
+    begins_at sizes (k + 1) ≡ begins_at sizes k + get_or sizes k 0 % 128
 begins-step [] k l = absurd (omega (arith, l))
 begins-step (s ∷ sizes) zero l = (let e : begins_at sizes 0 ≡ 0 = at-zero sizes in omega (arith, e))
   where
     at-zero : (sizes : List ℕ) → begins_at sizes 0 ≡ 0
     at-zero [] = refl
     at-zero (s ∷ sizes) = refl
-begins-step (s ∷ sizes) (suc k) l = (let n : suc k + 1 ≡ suc (k + 1) = omega arith in let e = begins-step sizes k (omega (arith, l)) in ap (begins_at (s ∷ sizes)) n ∙ omega (arith, e))
+begins-step (s ∷ sizes) (suc k) l =
+    (let n : suc k + 1 ≡ suc (k + 1) = omega arith in let e = begins-step sizes k (omega (arith, l)) in
+    ap (begins_at (s ∷ sizes)) n ∙ omega (arith, e))
 
 -- a later name begins no earlier
 pub begins-le : (sizes : List ℕ) (k n : ℕ) → k ≤ n → begins_at sizes k ≤ begins_at sizes n
@@ -36,19 +39,22 @@ begins-le (s ∷ sizes) zero n l = omega arith
 begins-le (s ∷ sizes) (suc k) zero l = absurd (omega (arith, l))
 begins-le (s ∷ sizes) (suc k) (suc n) l = (let e = begins-le sizes k n (omega (arith, l)) in omega (arith, e))
 
-begins-push : (sizes : List ℕ) (x k : ℕ) → k ≤ length sizes → begins_at (sizes ++ x ∷ []) k ≡ begins_at sizes k
+begins-push : (sizes : List ℕ) (x k : ℕ) → k ≤ length sizes →
+    begins_at (sizes ++ x ∷ []) k ≡ begins_at sizes k
 begins-push [] x zero l = refl
 begins-push [] x (suc k) l = absurd (omega (arith, l))
 begins-push (s ∷ sizes) x zero l = refl
 begins-push (s ∷ sizes) x (suc k) l = ap (λ n. s % 128 + n) (begins-push sizes x k (omega (arith, l)))
 
 -- behind one more name, the letters end by its size later
-pub begins-all : (sizes : List ℕ) (x : ℕ) → begins_at (sizes ++ x ∷ []) (length (sizes ++ x ∷ [])) ≡ begins_at sizes (length sizes) + x % 128
+pub begins-all : (sizes : List ℕ) (x : ℕ) → begins_at (sizes ++ x ∷ []) (length (sizes ++ x ∷ []))
+    ≡ begins_at sizes (length sizes) + x % 128
 begins-all [] x = omega arith
 begins-all (s ∷ sizes) x = (let e = begins-all sizes x in omega (arith, e))
 
 -- a size that is marked as done moves no name
-pub begins-set : (sizes : List ℕ) (place y k : ℕ) → y % 128 ≡ get_or sizes place 0 % 128 → begins_at (set sizes place y) k ≡ begins_at sizes k
+pub begins-set : (sizes : List ℕ) (place y k : ℕ) → y % 128 ≡ get_or sizes place 0 % 128 →
+    begins_at (set sizes place y) k ≡ begins_at sizes k
 begins-set [] place y k e = refl
 begins-set (s ∷ sizes) zero y zero e = refl
 begins-set (s ∷ sizes) zero y (suc k) e = ap (λ n. n + begins_at sizes k) e
@@ -58,7 +64,8 @@ begins-set (s ∷ sizes) (suc place) y (suc k) e = ap (λ n. s % 128 + n) (begin
 -- ---- the name at a place
 
 -- the name of a place is as many letters as its size says, from where it begins
-pub name-at : (sizes letters : List ℕ) (k : ℕ) → k < length sizes → started_from (kept_names sizes letters) k ≡ name_of (get_or sizes k 0) (drop (begins_at sizes k) letters)
+pub name-at : (sizes letters : List ℕ) (k : ℕ) → k < length sizes →
+    started_from (kept_names sizes letters) k ≡ name_of (get_or sizes k 0) (drop (begins_at sizes k) letters)
 name-at [] letters k l = absurd (omega (arith, l))
 name-at (s ∷ sizes) letters zero l = refl
 name-at (s ∷ sizes) letters (suc k) l = name-at sizes (drop (s % 128) letters) k (omega (arith, l))
@@ -71,42 +78,63 @@ name-past (n ∷ names) zero l = absurd (omega (arith, l))
 name-past (n ∷ names) (suc k) l = name-past names k (omega (arith, l))
 
 -- each that is kept is a name
-kept-at : (names : List (Option (List ℕ))) (k : ℕ) (o : Option (List ℕ)) → list_all is_kept_name names ≡ true → started_from names k ≡ o → is_kept_name o ≡ true
+kept-at : (names : List (Option (List ℕ))) (k : ℕ) (o : Option (List ℕ)) →
+    list_all is_kept_name names ≡ true → started_from names k ≡ o → is_kept_name o ≡ true
 kept-at [] k o all is = ap is_kept_name (sym is)
-kept-at (n ∷ names) zero o all is = (let e : is_kept_name n ≡ true = grind (arith, all) in ap is_kept_name (sym is) ∙ e)
-kept-at (n ∷ names) (suc k) o all is = (let e : list_all is_kept_name names ≡ true = grind (arith, all) in kept-at names k o e is)
+kept-at (n ∷ names) zero o all is =
+    (let e : is_kept_name n ≡ true = grind (arith, all) in ap is_kept_name (sym is) ∙ e)
+kept-at (n ∷ names) (suc k) o all is =
+    (let e : list_all is_kept_name names ≡ true = grind (arith, all) in kept-at names k o e is)
 
 -- ---- one more name, and one that is done
 
 -- a size and its letters put behind the others are one more name
-pub names-push : (sizes letters name : List ℕ) (n : ℕ) → length letters ≡ begins_at sizes (length sizes) → length name ≡ n → n < 128 →
+pub names-push : (sizes letters name : List ℕ) (n : ℕ) → length letters ≡ begins_at sizes (length sizes) →
+    length name ≡ n → n < 128 →
     kept_names (sizes ++ n ∷ []) (letters ++ name) ≡ kept_names sizes letters ++ Some name ∷ []
 names-push [] [] name n whole size small =
     (let low : nat_le 128 n ≡ false = grind (arith, nat_tests, small) in
     let own : n % 128 ≡ length name = omega (arith, size, small) in
-    ap (λ b. (if b then None else Some (take (n % 128) name)) ∷ []) low ∙ (ap (λ k. Some (take k name) ∷ []) own ∙ ap (λ t. Some t ∷ []) (take_all (length name) name (omega arith))))
+    ap (λ b. (if b then None else Some (take (n % 128) name)) ∷ []) low
+    ∙ (ap (λ k. Some (take k name) ∷ []) own
+    ∙ ap (λ t. Some t ∷ []) (take_all (length name) name (omega arith))))
 names-push [] (x ∷ letters) name n whole size small = absurd (omega (arith, whole))
 names-push (s ∷ sizes) letters name n whole size small =
     (let fits : s % 128 ≤ length letters = omega (arith, whole) in
-    let size_left : length (drop (s % 128) letters) ≡ begins_at sizes (length sizes) = omega (arith, whole, length-drop (s % 128) letters) in
-    rw (take-append-le (s % 128) letters name fits, drop-append-le (s % 128) letters name fits, names-push sizes (drop (s % 128) letters) name n size_left size small) refl)
+    let size_left : length (drop (s % 128) letters) ≡ begins_at sizes (length sizes) =
+    omega (arith, whole, length-drop (s % 128) letters) in
+    rw (
+      take-append-le (s % 128) letters name fits,
+      drop-append-le (s % 128) letters name fits,
+      names-push sizes (drop (s % 128) letters) name n size_left size small,
+    ) refl)
 
 -- names within their limits stay so with one more
-pub kept-push : (names : List (Option (List ℕ))) (name : List ℕ) → list_all is_kept_name names ≡ true → is_kept_name (Some name) ≡ true → list_all is_kept_name (names ++ Some name ∷ []) ≡ true
+pub kept-push : (names : List (Option (List ℕ))) (name : List ℕ) → list_all is_kept_name names ≡ true →
+    is_kept_name (Some name) ≡ true → list_all is_kept_name (names ++ Some name ∷ []) ≡ true
 kept-push [] name all is = grind (arith, is)
-kept-push (n ∷ names) name all is = (let e : list_all is_kept_name names ≡ true = grind (arith, all) in let r = kept-push names name e is in grind (arith, all, r))
+kept-push (n ∷ names) name all is =
+    (let e : list_all is_kept_name names ≡ true = grind (arith, all) in let r = kept-push names name e is in
+    grind (arith, all, r))
 
 -- a size that is marked as done leaves no name at its place, and all others
-pub names-set : (sizes letters : List ℕ) (place y : ℕ) → place < length sizes → 128 ≤ y → y % 128 ≡ get_or sizes place 0 % 128 → kept_names (set sizes place y) letters ≡ set (kept_names sizes letters) place None
+pub names-set : (sizes letters : List ℕ) (place y : ℕ) → place < length sizes → 128 ≤ y →
+    y % 128 ≡ get_or sizes place 0 % 128 → kept_names (set sizes place y) letters
+    ≡ set (kept_names sizes letters) place None
 names-set [] letters place y l large e = absurd (omega (arith, l))
 names-set (s ∷ sizes) letters zero y l large e = rw e (grind (arith, nat_tests, large))
-names-set (s ∷ sizes) letters (suc place) y l large e = ap (λ r. name_of s letters ∷ r) (names-set sizes (drop (s % 128) letters) place y (omega (arith, l)) large e)
+names-set (s ∷ sizes) letters (suc place) y l large e =
+    ap (λ r. name_of s letters ∷ r)
+    (names-set sizes (drop (s % 128) letters) place y (omega (arith, l)) large e)
 
 -- names within their limits stay so without one
-pub kept-set : (names : List (Option (List ℕ))) (place : ℕ) → list_all is_kept_name names ≡ true → list_all is_kept_name (set names place None) ≡ true
+pub kept-set : (names : List (Option (List ℕ))) (place : ℕ) → list_all is_kept_name names ≡ true →
+    list_all is_kept_name (set names place None) ≡ true
 kept-set [] place all = refl
 kept-set (n ∷ names) zero all = grind (arith, all)
-kept-set (n ∷ names) (suc place) all = (let e : list_all is_kept_name names ≡ true = grind (arith, all) in let r = kept-set names place e in grind (arith, all, r))
+kept-set (n ∷ names) (suc place) all =
+    (let e : list_all is_kept_name names ≡ true = grind (arith, all) in let r = kept-set names place e in
+    grind (arith, all, r))
 
 -- ---- marks
 
@@ -117,18 +145,21 @@ get_or-any (x ∷ xs) zero d e l = refl
 get_or-any (x ∷ xs) (suc k) d e l = get_or-any xs k d e (omega (arith, l))
 
 -- the mark of a place tells where the first name of its 64 begins
-pub mark-at : (sizes marks : List ℕ) (place : ℕ) → AreNameMarks sizes marks → place < length sizes → slice_index_or marks (place / 64) 0 ≡ begins_at sizes (place / 64 * 64)
+pub mark-at : (sizes marks : List ℕ) (place : ℕ) → AreNameMarks sizes marks → place < length sizes →
+    slice_index_or marks (place / 64) 0 ≡ begins_at sizes (place / 64 * 64)
 mark-at sizes marks place m l =
     (let within : place / 64 < length marks = omega (arith, m.count, l) in
     let order : 64 * (place / 64) ≡ place / 64 * 64 = omega arith in
     m.at (place / 64) within ∙ ap (begins_at sizes) order)
 
 -- a size that is marked as done is the same size, without its mark
-pub same-size : (sizes : List ℕ) (k x : ℕ) → k < length sizes → x ≡ slice_index_or sizes k x → (x % 128 + 128) % 128 ≡ get_or sizes k 0 % 128
+pub same-size : (sizes : List ℕ) (k x : ℕ) → k < length sizes → x ≡ slice_index_or sizes k x →
+    (x % 128 + 128) % 128 ≡ get_or sizes k 0 % 128
 same-size sizes k x l e = (let f : x ≡ get_or sizes k 0 = e ∙ get_or-any sizes k x 0 l in omega (arith, f))
 
 -- marks are still right where a size is marked as done
-pub marks-set : (sizes marks : List ℕ) (place y : ℕ) → y % 128 ≡ get_or sizes place 0 % 128 → AreNameMarks sizes marks → AreNameMarks (set sizes place y) marks
+pub marks-set : (sizes marks : List ℕ) (place y : ℕ) → y % 128 ≡ get_or sizes place 0 % 128 →
+    AreNameMarks sizes marks → AreNameMarks (set sizes place y) marks
 marks-set sizes marks place y same m = record {
   count = m.count ∙ ap marks_for (sym (length-set sizes place y));
   at = λ i l. m.at i l ∙ sym (begins-set sizes place y (64 * i) same);
@@ -142,7 +173,8 @@ length-marked count at marks = elim (cases_Bool (count % 64 == 0)) [
 ]
 
 -- marks are still right with one more name, marked where it is a 64th
-pub marks-push : (sizes marks : List ℕ) (x at : ℕ) → at ≡ begins_at sizes (length sizes) → AreNameMarks sizes marks → AreNameMarks (sizes ++ x ∷ []) (with_mark (length sizes) at marks)
+pub marks-push : (sizes marks : List ℕ) (x at : ℕ) → at ≡ begins_at sizes (length sizes) →
+    AreNameMarks sizes marks → AreNameMarks (sizes ++ x ∷ []) (with_mark (length sizes) at marks)
 marks-push sizes marks x at whole m = elim (cases_Bool (length sizes % 64 == 0)) [
   | inl t ↦ (let even : length sizes % 64 ≡ 0 = eqb-true (length sizes % 64) 0 t in
       let size = length-append sizes (x ∷ []) in
@@ -150,10 +182,13 @@ marks-push sizes marks x at whole m = elim (cases_Bool (length sizes % 64 == 0))
       rw t (record {
         count = omega (arith, even, size, more, m.count);
         at = λ i l. elim (cases_lt i (length marks)) [
-          | inl low ↦ get_or_append_left marks (at ∷ []) 0 i low ∙ (m.at i low ∙ sym (begins-push sizes x (64 * i) (omega (arith, even, m.count, low))))
+          | inl low ↦ get_or_append_left marks (at ∷ []) 0 i low
+              ∙ (m.at i low ∙ sym (begins-push sizes x (64 * i) (omega (arith, even, m.count, low))))
           | inr high ↦ (let last : i ≡ length marks = omega (arith, l, high, more) in
               let here : 64 * i ≡ length sizes = omega (arith, last, m.count, even) in
-              get_or_at marks at [] 0 i (sym last) ∙ (whole ∙ (sym (begins-push sizes x (length sizes) (omega arith)) ∙ ap (begins_at (sizes ++ x ∷ [])) (sym here))))
+              get_or_at marks at [] 0 i (sym last)
+              ∙ (whole ∙ (sym (begins-push sizes x (length sizes) (omega arith))
+              ∙ ap (begins_at (sizes ++ x ∷ [])) (sym here))))
         ];
       }))
   | inr f ↦ (let size = length-append sizes (x ∷ []) in
@@ -166,7 +201,8 @@ marks-push sizes marks x at whole m = elim (cases_Bool (length sizes % 64 == 0))
 -- ---- names are short
 
 -- a name has at most 64 bytes, so its size has room below the mark
-pub name-short : (name : List ℕ) → is_name name ≡ true → (length name < 128) × (length name % 128 ≡ length name) × (length name ≤ 64)
+pub name-short : (name : List ℕ) → is_name name ≡ true →
+    (length name < 128) × (length name % 128 ≡ length name) × (length name ≤ 64)
 name-short name is =
     (let low : nat_le (length name) 64 ≡ true = grind (arith, is) in
     let le : length name ≤ 64 = leb-true (length name) 64 low in
@@ -175,14 +211,19 @@ name-short name is =
 -- ---- the name at a place, by the size that was read
 
 -- a place whose size is marked as done has no name
-pub name-done : (sizes letters : List ℕ) (k x : ℕ) → k < length sizes → x ≡ slice_index_or sizes k x → 128 ≤ x → started_from (kept_names sizes letters) k ≡ None
+pub name-done : (sizes letters : List ℕ) (k x : ℕ) → k < length sizes → x ≡ slice_index_or sizes k x →
+    128 ≤ x → started_from (kept_names sizes letters) k ≡ None
 name-done sizes letters k x l e large =
     (let f : x ≡ get_or sizes k 0 = e ∙ get_or-any sizes k x 0 l in
-    let done : nat_le 128 (get_or sizes k 0) ≡ true = le-leb 128 (get_or sizes k 0) (omega (arith, f, large)) in
-    name-at sizes letters k l ∙ ap (λ b. if b then None else Some (take (get_or sizes k 0 % 128) (drop (begins_at sizes k) letters))) done)
+    let done : nat_le 128 (get_or sizes k 0) ≡ true =
+    le-leb 128 (get_or sizes k 0) (omega (arith, f, large)) in
+    name-at sizes letters k l
+    ∙ ap (λ b. if b then None else Some (take (get_or sizes k 0 % 128) (drop (begins_at sizes k) letters)))
+    done)
 
 -- a name ends within the letters
-pub name-fits : (sizes : List ℕ) (k x : ℕ) → k < length sizes → x ≡ slice_index_or sizes k x → x < 128 → begins_at sizes k + x ≤ begins_at sizes (length sizes)
+pub name-fits : (sizes : List ℕ) (k x : ℕ) → k < length sizes → x ≡ slice_index_or sizes k x → x < 128 →
+    begins_at sizes k + x ≤ begins_at sizes (length sizes)
 name-fits sizes k x l e small =
     (let f : x ≡ get_or sizes k 0 = e ∙ get_or-any sizes k x 0 l in
     let step = begins-step sizes k l in
@@ -190,15 +231,23 @@ name-fits sizes k x l e small =
     omega (arith, f, step, le, small))
 
 -- what is read of the letters at a place is the name of a put that was started
-pub name-there : (sizes letters seen : List ℕ) (k x begin : ℕ) → k < length sizes → x ≡ slice_index_or sizes k x → x < 128 → begin ≡ begins_at sizes k → seen ≡ letters → list_all is_kept_name (kept_names sizes letters) ≡ true →
-    (if is_name (take x (drop begin seen)) then Some (take x (drop begin seen)) else None) ≡ started_from (kept_names sizes letters) k
+pub name-there : (sizes letters seen : List ℕ) (k x begin : ℕ) → k < length sizes →
+    x ≡ slice_index_or sizes k x → x < 128 → begin ≡ begins_at sizes k → seen ≡ letters →
+    list_all is_kept_name (kept_names sizes letters) ≡ true →
+    (if is_name (take x (drop begin seen)) then Some (take x (drop begin seen)) else None)
+    ≡ started_from (kept_names sizes letters) k
 name-there sizes letters seen k x begin l e small at same all =
     (let f : x ≡ get_or sizes k 0 = e ∙ get_or-any sizes k x 0 l in
-    let low : nat_le 128 (get_or sizes k 0) ≡ false = lt-leb 128 (get_or sizes k 0) (omega (arith, f, small)) in
+    let low : nat_le 128 (get_or sizes k 0) ≡ false =
+    lt-leb 128 (get_or sizes k 0) (omega (arith, f, small)) in
     let own : get_or sizes k 0 % 128 ≡ x = omega (arith, f, small) in
     let here : started_from (kept_names sizes letters) k ≡ Some (take x (drop begin seen)) =
-    name-at sizes letters k l ∙ (ap (λ b. if b then None else Some (take (get_or sizes k 0 % 128) (drop (begins_at sizes k) letters))) low
+    name-at sizes letters k l
+    ∙ (ap (λ b. if b then None else Some (take (get_or sizes k 0 % 128) (drop (begins_at sizes k) letters)))
+    low
     ∙ (ap (λ n. Some (take n (drop (begins_at sizes k) letters))) own
-    ∙ (ap (λ n. Some (take x (drop n letters))) (sym at) ∙ ap (λ t. Some (take x (drop begin t))) (sym same)))) in
-    let is : is_name (take x (drop begin seen)) ≡ true = kept-at (kept_names sizes letters) k (Some (take x (drop begin seen))) all here in
+    ∙ (ap (λ n. Some (take x (drop n letters))) (sym at)
+    ∙ ap (λ t. Some (take x (drop begin t))) (sym same)))) in
+    let is : is_name (take x (drop begin seen)) ≡ true =
+    kept-at (kept_names sizes letters) k (Some (take x (drop begin seen))) all here in
     ap (λ b. if b then Some (take x (drop begin seen)) else None) is ∙ sym here)

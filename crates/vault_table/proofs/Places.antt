@@ -22,51 +22,56 @@ module _ (es : List Entry) (i : ℕ) (e : Entry) (lt : i < length es) (read : e 
   found = get_or-map file_of_entry es i e (file_of_entry e) lt ∙ ap file_of_entry (sym read)
 
   -- a name behind that of an entry comes behind all up to its place
-  pub less : (name : List ℕ) → are_ordered fs ≡ true → is_name_before e.name name ≡ true → comes_after name (take (i + 1) fs) ≡ true
-  less name o p = front-after fs i (file_of_entry e) name o inside (subst (λ (f : File). is_name_before f.name name ≡ true) (sym found) p)
+  pub less : (name : List ℕ) → are_ordered fs ≡ true → is_name_before e.name name ≡ true →
+      comes_after name (take (i + 1) fs) ≡ true
+  less name o p = front-after fs i (file_of_entry e) name o inside
+      (subst (λ (f : File). is_name_before f.name name ≡ true) (sym found) p)
 
   -- a name before that of an entry comes before all from its place on
-  pub greater : (name : List ℕ) → are_ordered fs ≡ true → is_name_before name e.name ≡ true → comes_before name (drop i fs) ≡ true
-  greater name o p = back-before fs i (file_of_entry e) name o inside (subst (λ (f : File). is_name_before name f.name ≡ true) (sym found) p)
+  pub greater : (name : List ℕ) → are_ordered fs ≡ true → is_name_before name e.name ≡ true →
+      comes_before name (drop i fs) ≡ true
+  greater name o p = back-before fs i (file_of_entry e) name o inside
+      (subst (λ (f : File). is_name_before name f.name ≡ true) (sym found) p)
 
   -- the name of an entry has its file at this place
   pub equal : (name : List ℕ) → are_ordered fs ≡ true → e.name ≡ name → IsHere fs name i
   equal name o p = is_here fs i (file_of_entry e) name o inside (ap (λ (f : File). f.name) found ∙ p)
 
 -- edits of the entries are edits of the files
-pub map-insert : (es : List Entry) (i : ℕ) (e : Entry) → map file_of_entry (insert es i e) ≡ insert (map file_of_entry es) i (file_of_entry e)
-map-insert es i e = map-append file_of_entry (take i es) (e ∷ drop i es) ∙ (λ k. sym (take-map file_of_entry i es) k ++ file_of_entry e ∷ sym (drop-map file_of_entry i es) k)
+pub map-insert : (es : List Entry) (i : ℕ) (e : Entry) →
+    map file_of_entry (insert es i e) ≡ insert (map file_of_entry es) i (file_of_entry e)
+map-insert es i e = map-append file_of_entry (take i es) (e ∷ drop i es)
+    ∙ (λ k. sym (take-map file_of_entry i es) k ++ file_of_entry e ∷ sym (drop-map file_of_entry i es) k)
 
 -- the files of entries without one are the files without that one
 pub map-remove : (es : List Entry) (i : ℕ) → map file_of_entry (remove es i) ≡ remove (map file_of_entry es) i
-map-remove es i = map-append file_of_entry (take i es) (drop (suc i) es) ∙ (λ k. sym (take-map file_of_entry i es) k ++ sym (drop-map file_of_entry (suc i) es) k)
+map-remove es i = map-append file_of_entry (take i es) (drop (suc i) es)
+    ∙ (λ k. sym (take-map file_of_entry i es) k ++ sym (drop-map file_of_entry (suc i) es) k)
 
 -- the place of a name is one among the entries
-pub inside-here : (es : List Entry) (name : List ℕ) (i : ℕ) → IsHere (map file_of_entry es) name i → i < length es
+pub inside-here : (es : List Entry) (name : List ℕ) (i : ℕ) → IsHere (map file_of_entry es) name i →
+    i < length es
 inside-here es name i here = omega (arith, here.within, length-map {B = File} es file_of_entry)
 
-inside-between : (es : List Entry) (name : List ℕ) (i : ℕ) → IsBetween (map file_of_entry es) name i → i ≤ length es
-inside-between es name i is = omega (arith, is.within, length-map {B = File} es file_of_entry)
-
 -- a name that there is has room in any table
-pub fits-here : (es : List Entry) (name : List ℕ) (i : ℕ) → IsHere (map file_of_entry es) name i → true ≡ not (is_full_without (map file_of_entry es) name)
+pub fits-here : (es : List Entry) (name : List ℕ) (i : ℕ) → IsHere (map file_of_entry es) name i →
+    true ≡ not (is_full_without (map file_of_entry es) name)
 fits-here es name i here = rw (find-here (map file_of_entry es) name i here) (grind arith)
 
-fits-between : (es : List Entry) (name : List ℕ) (i : ℕ) → IsBetween (map file_of_entry es) name i → length es < 1024 → true ≡ not (is_full_without (map file_of_entry es) name)
-fits-between es name i is few =
-    let tests : nat_le 1024 (length (map file_of_entry es)) ≡ false = lt-leb _ _ (omega (arith, few, length-map {B = File} es file_of_entry)) in
-    rw tests refl
-
 -- a new name has no room in a table that is full
-pub full-between : (es : List Entry) (name : List ℕ) (i : ℕ) → IsBetween (map file_of_entry es) name i → 1024 ≤ length es → false ≡ not (is_full_without (map file_of_entry es) name)
+pub full-between : (es : List Entry) (name : List ℕ) (i : ℕ) → IsBetween (map file_of_entry es) name i →
+    1024 ≤ length es → false ≡ not (is_full_without (map file_of_entry es) name)
 full-between es name i is many =
-    let tests : nat_le 1024 (length (map file_of_entry es)) ≡ true = le-leb _ _ (omega (arith, many, length-map {B = File} es file_of_entry)) in
+    let tests : nat_le 1024 (length (map file_of_entry es)) ≡ true =
+    le-leb _ _ (omega (arith, many, length-map {B = File} es file_of_entry)) in
     rw (tests, find-between (map file_of_entry es) name i is) refl
 
 -- a name has the same place in equal lists of entries
-pub here-of : (l es : List Entry) (name : List ℕ) (i : ℕ) → l ≡ es → IsHere (map file_of_entry l) name i → IsHere (map file_of_entry es) name i
+pub here-of : (l es : List Entry) (name : List ℕ) (i : ℕ) → l ≡ es → IsHere (map file_of_entry l) name i →
+    IsHere (map file_of_entry es) name i
 here-of l es name i e here = subst (λ (x : List Entry). IsHere (map file_of_entry x) name i) e here
 
 -- a name that is new to a list of entries would stand at the same place of an equal one
-pub between-of : (l es : List Entry) (name : List ℕ) (i : ℕ) → l ≡ es → IsBetween (map file_of_entry l) name i → IsBetween (map file_of_entry es) name i
+pub between-of : (l es : List Entry) (name : List ℕ) (i : ℕ) → l ≡ es →
+    IsBetween (map file_of_entry l) name i → IsBetween (map file_of_entry es) name i
 between-of l es name i e is = subst (λ (x : List Entry). IsBetween (map file_of_entry x) name i) e is

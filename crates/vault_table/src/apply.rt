@@ -15,8 +15,8 @@ use record_codec::{Counts, Name, Record, Setup};
 use stream_model::Memory;
 
 impl Table {
-    /// Goes on by a record, or says why it may not follow, and then stays as it is. Only a `PutStart` with nothing reserved
-    /// may take memory. Condition: the counts of the record are padded.
+    /// Goes on by a record, or says why it may not follow, and then stays as it is. Only a `PutStart` with
+    /// nothing reserved may take memory. Condition: the counts of the record are padded.
     pub fn apply(&mut self, entry: &Record) -> Result<(), Refused>
         requires { HasPadding entry.now }
         ensures ok { (rs : List EntryData) → IsFoldOf rs self.old
@@ -87,7 +87,8 @@ impl Table {
         }
     }
 
-    /// The name under which a put was started and is not done, where the first place is that of the id after `passed`.
+    /// The name under which a put was started and is not done, where the first place is that of the id after
+    /// `passed`.
     fn started_name(&self, id: u64) -> Option<Name>
         ensures { result ≡ started_at self.now id }
     {
@@ -215,7 +216,8 @@ impl Table {
         has_id(&self.files, id) || self.started_name(id).is_some()
     }
 
-    /// Takes the due audit of a packed journal: its number is drawn, none is due, and its counts flag a provider.
+    /// Takes the due audit of a packed journal: its number is drawn, none is due, and its counts flag a
+    /// provider.
     fn keep_due(&mut self, number: u64, counts: &Counts) -> Result<(), Refused>
         requires { IsPadded counts.now }
         ensures { Applies self.old (RepairDue number (counted counts.now)) result self.new }

@@ -16,8 +16,8 @@ pub enum Refused {
     NoSetup,
     /// A setup stands already.
     SecondSetup,
-    /// A put must take the next id, and not the last number there is; a file of a packed journal an id below the next one
-    /// that no other file and no started put has.
+    /// A put must take the next id, and not the last number there is; a file of a packed journal an id below
+    /// the next one that no other file and no started put has.
     BadId,
     /// No put with this id is started and not done.
     NotStarted,
@@ -25,9 +25,9 @@ pub enum Refused {
     TooMany,
     /// The name is not in effect.
     NoName,
-    /// An audit must take the next number, not the last there is, with no repair due; and end as it was started, with a
-    /// count for each provider. A due audit of a packed journal has a number below the next one, none else is due, and a
-    /// count exceeds the tolerance.
+    /// An audit must take the next number, not the last there is, with no repair due; and end as it was
+    /// started, with a count for each provider. A due audit of a packed journal has a number below the next
+    /// one, none else is due, and a count exceeds the tolerance.
     BadAudit,
     /// No repair of this audit is due.
     NoRepair,
@@ -37,7 +37,8 @@ pub enum Refused {
     OldVersion,
     /// The journal has its second version already.
     NewVersion,
-    /// A packed journal's next numbers must come in the second version, before any number is drawn, and are not 0.
+    /// A packed journal's next numbers must come in the second version, before any number is drawn, and are
+    /// not 0.
     BadResume,
     /// A packed journal's file has a name that is in effect.
     NameTwice,

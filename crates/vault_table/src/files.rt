@@ -52,7 +52,8 @@ pub fn find(files: &[Entry], name: &Name) -> Option<Entry>
     }
 }
 
-/// Puts a file in the place of an older one of its name, or beside the others; false where there is no room for it.
+/// Puts a file in the place of an older one of its name, or beside the others; false where there is no room
+/// for it.
 pub fn put_file(files: &mut Vec<Entry>, file: Entry) -> bool
     requires ordered { IsTrue (are_ordered (map file_of_entry files.old.items)) }
     requires room { 1024 ≤ vec_capacity files.old }

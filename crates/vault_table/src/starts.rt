@@ -8,8 +8,8 @@ use std::alloc::Global;
 use std::marker::Model;
 use stream_model::Memory;
 
-/// The names of started puts in the order of their ids, one behind the other; each 64th has a mark. A put that is done leaves
-/// its letters. So a name takes one byte and a sixty-fourth of a mark beside its letters.
+/// The names of started puts in the order of their ids, one behind the other; each 64th has a mark. A put
+/// that is done leaves its letters. So a name takes one byte and a sixty-fourth of a mark beside its letters.
 #[derive(Drop)]
 pub struct Starts {
     sizes: Vec<u8>,

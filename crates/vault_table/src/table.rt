@@ -13,8 +13,8 @@ use std::alloc::Global;
 use std::marker::Model;
 use stream_model::Memory;
 
-/// The fold of the records of a journal. Ids up to `passed` are those of no started put; the started ones stand behind it in
-/// the order of their ids, and a put that is done leaves None there.
+/// The fold of the records of a journal. Ids up to `passed` are those of no started put; the started ones
+/// stand behind it in the order of their ids, and a put that is done leaves None there.
 #[derive(Drop)]
 pub struct Table {
     pub(crate) setup: Option<(Setup, Master)>,
@@ -109,7 +109,8 @@ impl Table {
         self.version
     }
 
-    /// Empties the started puts and the running audit. So the table of accepted records becomes that of a packed journal.
+    /// Empties the started puts and the running audit. So the table of accepted records becomes that of a
+    /// packed journal.
     pub fn forget(&mut self)
         ensures { self.new ≡ forgotten self.old }
     {

@@ -11,12 +11,15 @@ loop-j-preserved c =
     let o = shaped_object c.args.master.now.0 c.args.file.now in
     let question = asked c.args.drawn.now.challenge in
     let heard = c.args.heard.now in
-    put_more (λ (k : ℕ). bare_answer o question k (get_or heard k None)) c.loop-j.out c.loop-j.j c.bare_answer.result None (omega arith)
+    put_more (λ (k : ℕ). bare_answer o question k (get_or heard k None)) c.loop-j.out c.loop-j.j
+    c.bare_answer.result None (omega arith)
     (c.bare_answer.ensures
-    ∙ ap (bare_answer o question c.loop-j.j) (c.index-heard-j.is ∙ get_or_default heard c.loop-j.j c.index-heard-j.result None (omega arith)))
+    ∙ ap (bare_answer o question c.loop-j.j) (c.index-heard-j.is
+    ∙ get_or_default heard c.loop-j.j c.index-heard-j.result None (omega arith)))
     c.loop-j.invariant
 
 pub returns : goal.returns
 returns c =
-    bare_answers-each (shaped_object c.args.master.now.0 c.args.file.now) (asked c.args.drawn.now.challenge) c.args.heard.now c.loop-j.out (omega arith)
+    bare_answers-each (shaped_object c.args.master.now.0 c.args.file.now)
+    (asked c.args.drawn.now.challenge) c.args.heard.now c.loop-j.out (omega arith)
     (λ k below. c.loop-j.invariant k (omega (arith, below)))

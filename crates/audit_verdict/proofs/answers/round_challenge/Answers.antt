@@ -16,4 +16,9 @@ invariant_of-result c =
     }
 
 pub returns : goal.returns
-returns c = λ i. record { seed = c.seed.ensures i; rows = c.rows.ensures.value c.args.master.now.0 i; size = c.args.file.now.profile.size; picks = c.args.picks }
+returns c = λ i. record {
+  seed = c.seed.ensures i;
+  rows = c.rows.ensures.value c.args.master.now.0 i;
+  size = c.args.file.now.profile.size;
+  picks = c.args.picks;
+}

@@ -17,9 +17,11 @@ pub returns : goal.returns
 returns c =
     let p = c.args.profile in
     let filled : c.loop-k.out ≡ map (coefficient p.keep c.args.place) (upto p.keep) =
-    fill_by_all (coefficient p.keep c.args.place) c.loop-k.out p.keep 0 (omega arith) (λ k h. c.loop-k.invariant k (omega arith)) in
+    fill_by_all (coefficient p.keep c.args.place) c.loop-k.out p.keep 0 (omega arith)
+    (λ k h. c.loop-k.invariant k (omega arith)) in
     record {
       row = subst (λ (row : List ℕ). IsGeneratorRow (plain_profile p) c.args.place row) (sym filled)
           (parity_row (plain_profile p) c.args.place c.requires.behind c.requires.place);
-      bytes = λ k h. parity-lt p.number p.size p.keep c.args.place c.loop-k.out k p.size_is p.keep_is c.requires.place filled (omega arith);
+      bytes = λ k h. parity-lt p.number p.size p.keep c.args.place c.loop-k.out k p.size_is p.keep_is
+          c.requires.place filled (omega arith);
     }

@@ -6,7 +6,8 @@ use Rattle.column_codec.proofs.weights.weight.Goals as goal
 
 pub unwrap-requires : goal.unwrap-requires
 unwrap-requires c =
-    let some : c.mul-gaps.result ≢ 0 = λ e. gaps_not_zero c.args.x c.args.point c.args.l c.requires (cc (e)) in
+    let some : c.mul-gaps.result ≢ 0 = λ e. gaps_not_zero c.args.x c.args.point c.args.l c.requires
+    (cc (e)) in
     grind (arith, common_steps, some, c.inv.ensures.zero)
 
 pub returns : goal.returns

@@ -7,35 +7,48 @@ use Rattle.command_jobs.proofs.Fresh.{fresh-vault}
 use Rattle.command_jobs.proofs.open.open_vault.Goals as goal
 
 pub returns-in_err-vault-clause-refused : goal.returns-in_err-vault-clause-refused
-returns-in_err-vault-clause-refused g c = told-by c.from_residual.result (unopened_of c.in_err-vault.field-0.0) (IsUnopened (g.D.Disk.holds c.args.disk.now) c.args.handed) c.from_residual.ensures.1
-    (fault-seen (g.D.Disk.holds c.args.disk.now) c.args.handed c.in_err-vault.field-0.0 c.in_err-vault.ensures.refused)
+returns-in_err-vault-clause-refused g c = told-by c.from_residual.result
+    (unopened_of c.in_err-vault.field-0.0) (IsUnopened (g.D.Disk.holds c.args.disk.now) c.args.handed)
+    c.from_residual.ensures.1
+    (fault-seen (g.D.Disk.holds c.args.disk.now) c.args.handed c.in_err-vault.field-0.0
+    c.in_err-vault.ensures.refused)
 
 pub returns-in_err-vault-clause-reads : goal.returns-in_err-vault-clause-reads
-returns-in_err-vault-clause-reads g c = reads-resynced (g.D.Disk.holds c.args.disk.now) (g.D.Disk.holds c.start.new.disk) c.start.ensures.disk
+returns-in_err-vault-clause-reads g c =
+    reads-resynced (g.D.Disk.holds c.args.disk.now) (g.D.Disk.holds c.start.new.disk) c.start.ensures.disk
 
 pub returns-then-handed-from-clause-refused : goal.returns-then-handed-from-clause-refused
 returns-then-handed-from-clause-refused g c =
     let o = c.in_ok-vault.ensures.opened in
-    let f = fresh-vault c.opened_states.ensures.opened c.opened_states.ensures.there_is_one c.in_ok-vault.vault o.0 (g.D.Disk.holds c.args.disk.now) (g.D.Disk.holds c.start.new.disk) (g.D.Disk.faults c.start.new.disk)
+    let f = fresh-vault c.opened_states.ensures.opened c.opened_states.ensures.there_is_one
+    c.in_ok-vault.vault o.0 (g.D.Disk.holds c.args.disk.now) (g.D.Disk.holds c.start.new.disk)
+    (g.D.Disk.faults c.start.new.disk)
     o.1 o.2 c.in_ok-vault.ensures.number in
     let few : c.args.handed < (setup_in_effect o.0).n =
-    (let e = f.providers in let l = c.if-handed-from.true in let m = c.from.ensures in let n = ap (λ (s : Setup). s.n) c.setup.ensures in omega (arith, e, l, m, n)) in
+    (let e = f.providers in let l = c.if-handed-from.true in let m = c.from.ensures in
+    let n = ap (λ (s : Setup). s.n) c.setup.ensures in omega (arith, e, l, m, n)) in
     (o.0, o.1, few)
 
 pub returns-then-handed-from-clause-reads : goal.returns-then-handed-from-clause-reads
-returns-then-handed-from-clause-reads g c = reads-resynced (g.D.Disk.holds c.args.disk.now) (g.D.Disk.holds c.start.new.disk) c.start.ensures.disk
+returns-then-handed-from-clause-reads g c =
+    reads-resynced (g.D.Disk.holds c.args.disk.now) (g.D.Disk.holds c.start.new.disk) c.start.ensures.disk
 
 pub returns-clause-opened : goal.returns-clause-opened
 returns-clause-opened g c =
     let o = c.in_ok-vault.ensures.opened in
-    let f = fresh-vault c.opened_states.ensures.opened c.opened_states.ensures.there_is_one c.in_ok-vault.vault o.0 (g.D.Disk.holds c.args.disk.now) (g.D.Disk.holds c.start.new.disk) (g.D.Disk.faults c.start.new.disk)
+    let f = fresh-vault c.opened_states.ensures.opened c.opened_states.ensures.there_is_one
+    c.in_ok-vault.vault o.0 (g.D.Disk.holds c.args.disk.now) (g.D.Disk.holds c.start.new.disk)
+    (g.D.Disk.faults c.start.new.disk)
     o.1 o.2 c.in_ok-vault.ensures.number in
     let enough : (setup_in_effect o.0).n ≤ c.args.handed =
-    (let e = f.providers in let l = c.if-handed-from.false in let m = c.from.ensures in let n = ap (λ (s : Setup). s.n) c.setup.ensures in omega (arith, e, l, m, n)) in
+    (let e = f.providers in let l = c.if-handed-from.false in let m = c.from.ensures in
+    let n = ap (λ (s : Setup). s.n) c.setup.ensures in omega (arith, e, l, m, n)) in
     (o.0, record { read = o.1; enough = enough }, f)
 
 pub returns-clause-ready : goal.returns-clause-ready
-returns-clause-ready g c = let o = returns-clause-opened g c in record { records = o.0; fresh = o.2; enough = o.1.enough }
+returns-clause-ready g c =
+    let o = returns-clause-opened g c in record { records = o.0; fresh = o.2; enough = o.1.enough }
 
 pub returns-clause-reads : goal.returns-clause-reads
-returns-clause-reads g c = reads-resynced (g.D.Disk.holds c.args.disk.now) (g.D.Disk.holds c.start.new.disk) c.start.ensures.disk
+returns-clause-reads g c =
+    reads-resynced (g.D.Disk.holds c.args.disk.now) (g.D.Disk.holds c.start.new.disk) c.start.ensures.disk

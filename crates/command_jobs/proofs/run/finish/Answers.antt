@@ -18,18 +18,21 @@ pub loop-ended-preserved : goal.loop-ended-preserved
 loop-ended-preserved g c = (
   λ start w kind moment only stands.
       let way = c.loop-ended.invariant.0 start w kind moment only stands in
-      one-more start kind w moment c.args.number c.requires.first c.loop-ended.vault c.step.new.self _ _ _ way (c.in-More.ensures.machine (now w way.steps) (moment + length way.steps) way.stands),
+      one-more start kind w moment c.args.number c.requires.first c.loop-ended.vault c.step.new.self _ _ _ way
+      (c.in-More.ensures.machine (now w way.steps) (moment + length way.steps) way.stands),
   c.step.ensures.tells ∙ c.loop-ended.invariant.1,
 )
 
 pub returns-in-Done-clause-ended : goal.returns-in-Done-clause-ended
 returns-in-Done-clause-ended g c = λ start w kind moment only stands.
     let way = c.loop-ended.invariant.0 start w kind moment only stands in
-    at-end start kind w moment c.args.number c.requires.first c.loop-ended.vault c.step.new.self _ _ _ way c.in-Done.ended (c.in-Done.ensures.machine (now w way.steps) (moment + length way.steps) way.stands)
+    at-end start kind w moment c.args.number c.requires.first c.loop-ended.vault c.step.new.self _ _ _ way
+    c.in-Done.ended (c.in-Done.ensures.machine (now w way.steps) (moment + length way.steps) way.stands)
 
 pub unreachable-requires : goal.unreachable-requires
 unreachable-requires g c =
     let u = c.requires.under_way in
     let way = c.loop-ended.invariant.0 u.start u.state u.kind 0 u.only u.stands in
     never-stops c.step.result c.in-Waiting.is
-    (steps-turn u.start u.kind (now u.state way.steps) 0 c.args.number c.step.result c.step.new.self _ _ way.only c.requires.first (c.step.ensures.machine (now u.state way.steps) 0 way.stands))
+    (steps-turn u.start u.kind (now u.state way.steps) 0 c.args.number c.step.result c.step.new.self _ _
+    way.only c.requires.first (c.step.ensures.machine (now u.state way.steps) 0 way.stands))

@@ -10,6 +10,8 @@ returns c =
     let counted = c.push_counted-2.new.text.items in
     let new = c.extend_from_slice.new.self.items in
     told_as result old new _ _
-    (count_line_is c.args.tolerance c.args.place c.args.count c.from.result c.verdict.result.now c.from.ensures c.verdict.ensures)
+    (count_line_is c.args.tolerance c.args.place c.args.count c.from.result c.verdict.result.now
+    c.from.ensures c.verdict.ensures)
     (then_last result old placed new _ _ c.in_ok-push_counted.ensures
-    (then_slice result placed counted new _ c.verdict.result.now c.in_ok-push_counted-2.ensures c.extend_from_slice.ensures.items))
+    (then_slice result placed counted new _ c.verdict.result.now c.in_ok-push_counted-2.ensures
+    c.extend_from_slice.ensures.items))

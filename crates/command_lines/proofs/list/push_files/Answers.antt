@@ -17,6 +17,9 @@ loop-place-preserved c =
           rw w.text-is (w.in_ok-push_line.ensures
           ∙ ap (λ (name : List ℕ). text ++ line (name ++ then_number w.from.result)) w.as_bytes.ensures.value
           ∙ ap (λ (size : ℕ). text ++ line (file.name ++ then_number size)) w.from.ensures
-          ∙ listed_more files c.args.text.now.items text place file (sym w.in-Some.ensures) c.loop-place.invariant)
-      | in_default w ↦ absurd (get_within files place (omega (arith, c.loop-place-test.true, c.count-place-end.ensures)) w.in_default.ensures)
+          ∙ listed_more files c.args.text.now.items text place file
+          (sym w.in-Some.ensures) c.loop-place.invariant)
+      | in_default w ↦ absurd
+          (get_within files place (omega (arith, c.loop-place-test.true, c.count-place-end.ensures))
+          w.in_default.ensures)
     ]

@@ -5,4 +5,5 @@ use Rattle.hail_bench.proofs.blocks.fill.Goals as goal
 
 pub returns : goal.returns
 returns c =
-    fill_by_all (λ k. number_after (c.args.block + k)) c.loop-place.out (length c.args.out.now) 0 (omega arith) (λ k h. c.loop-place.invariant k (omega arith))
+    fill_by_all (λ k. number_after (c.args.block + k)) c.loop-place.out (length c.args.out.now) 0
+    (omega arith) (λ k h. c.loop-place.invariant k (omega arith))

@@ -6,10 +6,12 @@ use Rattle.hail_bench.proofs.stripes.fill_bytes.Goals as goal
 
 pub loop-place-preserved : goal.loop-place-preserved
 loop-place-preserved c = record {
-  filled = λ k below. place_more c.loop-place.bytes c.loop-place.place k (c.loop-place.next / 2 ^ 120) byte_at (omega arith) c.loop-place.invariant.filled
+  filled = λ k below. place_more c.loop-place.bytes c.loop-place.place k (c.loop-place.next / 2 ^ 120) byte_at
+      (omega arith) c.loop-place.invariant.filled
       (ap (λ n. n / 2 ^ 120) c.loop-place.invariant.next) below;
   next = c.after-next.ensures ∙ next_number c.loop-place.place c.loop-place.next c.loop-place.invariant.next;
 }
 
 pub returns : goal.returns
-returns c = fill_by_all byte_at c.loop-place.bytes (length c.args.bytes.now) 0 (omega arith) (λ k h. c.loop-place.invariant.filled k (omega arith))
+returns c = fill_by_all byte_at c.loop-place.bytes (length c.args.bytes.now) 0 (omega arith)
+    (λ k h. c.loop-place.invariant.filled k (omega arith))

@@ -11,7 +11,8 @@ loop-j-init c = mixed_blocks-none c.args.start
 pub loop-j-preserved : goal.loop-j-preserved
 loop-j-preserved c =
     c.mix_all-sum.ensures ∙ ap (mixed_all c.loop-j.sum) c.symbols.ensures
-    ∙ mixed_blocks-more c.args.start c.loop-j.sum c.args.blocks.now c.loop-j.j c.index-blocks-j.result c.index-blocks-j.result (omega arith) c.index-blocks-j.is c.loop-j.invariant
+    ∙ mixed_blocks-more c.args.start c.loop-j.sum c.args.blocks.now c.loop-j.j c.index-blocks-j.result
+    c.index-blocks-j.result (omega arith) c.index-blocks-j.is c.loop-j.invariant
 
 pub returns : goal.returns
 returns c =

@@ -8,5 +8,6 @@ pub returns : goal.returns
 returns c = record {
   stands = stored-stands;
   kept = stored-kept;
-  images = images-have stored.holds stored_state (codes "notes.txt") notes stored-stands.sound stored-stands.devices.images stored-kept;
+  images = images-have stored.holds stored_state (codes "notes.txt") notes stored-stands.sound
+      stored-stands.devices.images stored-kept;
 }

@@ -11,6 +11,7 @@ returns-in-Err-clause-runs g c = λ start before told L.
     inr (
       refl,
       refl,
-      subst (λ (es : List Entry). RunsTo start before (trial_commands c.args.number) es (devices_of g.D.Disk g.P.Provider c.args.disk.now c.args.providers.now)) (sym c.new-heard.ensures)
+      subst (λ (es : List Entry). RunsTo start before (trial_commands c.args.number) es
+          (devices_of g.D.Disk g.P.Provider c.args.disk.now c.args.providers.now)) (sym c.new-heard.ensures)
           (none-run _ _ start before L),
     )

@@ -21,9 +21,11 @@ returns-in-Init g c =
     let ps = map (provider_seen g.P.Provider) c.args.providers.now in
     record {
       performed = performed-as _ _ _ _ _ _ _ c.in-Init.is (record {
-        machine = λ start ms told R. once (Init (with_master c.in-Init.setup c.in-Init.master.0)) (Some (came.Inited c.init.result)) _ _ _ _
+        machine = λ start ms told R. once (Init (with_master c.in-Init.setup c.in-Init.master.0))
+            (Some (came.Inited c.init.result)) _ _ _ _
             (λ w moment T. c.init.ensures.machine w ps moment told T) (λ w es T. refl) start ms R;
-        kept = init-kept _ _ _ _ _ ps c.init.ensures.tells c.init.ensures.cause.never_falls (c.init.ensures.standing ps) c.requires.standing;
+        kept = init-kept _ _ _ _ _ ps c.init.ensures.tells c.init.ensures.cause.never_falls
+            (c.init.ensures.standing ps) c.requires.standing;
       });
     }
 
@@ -36,7 +38,8 @@ returns-in-Reopen g c =
       performed = performed-as _ _ _ _ _ _ _ c.in-Reopen.is (record {
         machine = λ start ms told R. once Reopen (Some (came.Reopened c.reopen.result)) _ _ _ _
             (λ w moment T. c.reopen.ensures.machine w ps moment told count T) (λ w es T. refl) start ms R;
-        kept = reopen-kept _ _ _ _ _ _ ps _ c.reopen.result (is_some-goes _ _ _ c.reopen.ensures.disk) c.reopen.ensures.cause.never_falls count
+        kept = reopen-kept _ _ _ _ _ _ ps _ c.reopen.result
+            (is_some-goes _ _ _ c.reopen.ensures.disk) c.reopen.ensures.cause.never_falls count
             c.reopen.ensures.opens c.reopen.ensures.next_job c.reopen.ensures.opened;
       });
     }
@@ -44,39 +47,53 @@ returns-in-Reopen g c =
 pub returns-in-BeginPut : goal.returns-in-BeginPut
 returns-in-BeginPut g c =
     record {
-      performed = performed-as _ _ _ _ _ _ _ c.in-BeginPut.is (begun _ _ _ (PutJob c.in-BeginPut.name c.in-BeginPut.bytes) c.begin_put.result c.requires.standing
+      performed = performed-as _ _ _ _ _ _ _ c.in-BeginPut.is
+          (begun _ _ _ (PutJob c.in-BeginPut.name c.in-BeginPut.bytes) c.begin_put.result c.requires.standing
           (rw c.as_slice.ensures at c.begin_put.ensures.machine));
     }
 
 pub returns-in-BeginGet : goal.returns-in-BeginGet
 returns-in-BeginGet g c =
     record {
-      performed = performed-as _ _ _ _ _ _ _ c.in-BeginGet.is (begun _ _ _ (GetJob c.in-BeginGet.name) c.begin_get.result c.requires.standing
+      performed = performed-as _ _ _ _ _ _ _ c.in-BeginGet.is
+          (begun _ _ _ (GetJob c.in-BeginGet.name) c.begin_get.result c.requires.standing
           (rw c.as_slice-in-BeginGet.ensures at c.begin_get.ensures.machine));
     }
 
 pub returns-in-BeginDrop : goal.returns-in-BeginDrop
 returns-in-BeginDrop g c =
     record {
-      performed = performed-as _ _ _ _ _ _ _ c.in-BeginDrop.is (begun _ _ _ (DropJob c.in-BeginDrop.name) c.begin_drop.result c.requires.standing
+      performed = performed-as _ _ _ _ _ _ _ c.in-BeginDrop.is
+          (begun _ _ _ (DropJob c.in-BeginDrop.name) c.begin_drop.result c.requires.standing
           (rw c.as_slice-in-BeginDrop.ensures at c.begin_drop.ensures.machine));
     }
 
 pub returns-in-BeginAudit : goal.returns-in-BeginAudit
 returns-in-BeginAudit g c =
-    record { performed = performed-as _ _ _ _ _ _ _ c.in-BeginAudit.is (begun _ _ _ AuditJob c.begin_audit.result c.requires.standing c.begin_audit.ensures.machine) }
+    record {
+      performed = performed-as _ _ _ _ _ _ _ c.in-BeginAudit.is
+          (begun _ _ _ AuditJob c.begin_audit.result c.requires.standing c.begin_audit.ensures.machine);
+    }
 
 pub returns-in-BeginRepair : goal.returns-in-BeginRepair
 returns-in-BeginRepair g c =
-    record { performed = performed-as _ _ _ _ _ _ _ c.in-BeginRepair.is (begun _ _ _ RepairJob c.begin_repair.result c.requires.standing c.begin_repair.ensures.machine) }
+    record {
+      performed = performed-as _ _ _ _ _ _ _ c.in-BeginRepair.is
+          (begun _ _ _ RepairJob c.begin_repair.result c.requires.standing c.begin_repair.ensures.machine);
+    }
 
 pub returns-in-Step : goal.returns-in-Step
 returns-in-Step g c =
     let see = provider_seen g.P.Provider in
     record {
-      performed = performed-as _ _ _ _ _ _ _ c.in-Step.is (stepped c.in-Step.job _ _ _ _ c.step.result c.requires.standing c.step.ensures.tells
+      performed = performed-as _ _ _ _ _ _ _ c.in-Step.is
+          (stepped c.in-Step.job _ _ _ _ c.step.result c.requires.standing c.step.ensures.tells
           (λ w moment T. (c.step.ensures.machine w moment T).makes) c.step.ensures.heard
-          (λ none. (let n = c.step.ensures.no_job none in (n.0, ap₂ (λ disk ps. devices (g.D.Disk.holds disk) (g.D.Disk.faults disk) (map see ps)) n.1 n.2))));
+          (λ none. (let n = c.step.ensures.no_job none in (
+            n.0,
+            ap₂ (λ disk ps. devices (g.D.Disk.holds disk) (g.D.Disk.faults disk) (map see ps)) n.1
+                n.2,
+          ))));
     }
 
 pub returns-in-Run : goal.returns-in-Run
@@ -85,17 +102,23 @@ returns-in-Run g c = record { performed = performed-as _ _ _ _ _ _ _ c.in-Run.is
 pub returns-in-Alter : goal.returns-in-Alter
 returns-in-Alter g c =
     record {
-      performed = performed-as _ _ _ _ _ _ _ c.in-Alter.is (replaced (Alter c.in-Alter.provider c.in-Alter.object c.in-Alter.stripe c.in-Alter.place c.in-Alter.symbol) _ _ _ _ _ c.alter.result
-          (λ w u h. replaces_if w _ c.in-Alter.provider (λ held. HasPlace (held c.in-Alter.object c.in-Alter.stripe) c.in-Alter.place)
-          (with_symbol c.in-Alter.object c.in-Alter.stripe c.in-Alter.place c.in-Alter.symbol) (replace_outcome c.alter.result) u h)
+      performed = performed-as _ _ _ _ _ _ _ c.in-Alter.is
+          (replaced (Alter c.in-Alter.provider c.in-Alter.object c.in-Alter.stripe c.in-Alter.place
+          c.in-Alter.symbol) _ _ _ _ _ c.alter.result
+          (λ w u h. replaces_if w _ c.in-Alter.provider
+          (λ held. HasPlace (held c.in-Alter.object c.in-Alter.stripe) c.in-Alter.place)
+          (with_symbol c.in-Alter.object c.in-Alter.stripe c.in-Alter.place c.in-Alter.symbol)
+          (replace_outcome c.alter.result) u h)
           (λ w es. refl) c.alter.ensures.machine c.requires.standing);
     }
 
 pub returns-in-Lose : goal.returns-in-Lose
 returns-in-Lose g c =
     record {
-      performed = performed-as _ _ _ _ _ _ _ c.in-Lose.is (replaced (Lose c.in-Lose.provider c.in-Lose.object c.in-Lose.stripe) _ _ _ _ _ c.lose.result
-          (λ w u h. replaces_if w _ c.in-Lose.provider (λ held. IsSome (held c.in-Lose.object c.in-Lose.stripe))
+      performed = performed-as _ _ _ _ _ _ _ c.in-Lose.is
+          (replaced (Lose c.in-Lose.provider c.in-Lose.object c.in-Lose.stripe) _ _ _ _ _ c.lose.result
+          (λ w u h. replaces_if w _ c.in-Lose.provider
+          (λ held. IsSome (held c.in-Lose.object c.in-Lose.stripe))
           (without_block c.in-Lose.object c.in-Lose.stripe) (replace_outcome c.lose.result) u h)
           (λ w es. refl) c.lose.ensures.machine c.requires.standing);
     }
@@ -106,8 +129,10 @@ returns-in-Stop g c =
     record {
       performed = performed-as _ _ _ _ _ _ _ c.in-Stop.is (record {
         machine = λ start ms told R. once (Stop c.in-Stop.picks) (Some came.Stopped) _ _ _ _
-            (λ w moment T. (rw c.as_slice-in-Stop.ensures at c.stop.ensures.machine) w ps moment T) (λ w es T. refl) start ms R;
-        kept = stop-kept _ _ _ _ _ _ ps c.stop.ensures.tells (let n = c.stop.ensures.count in omega (arith, n)) c.stop.ensures.closed c.stop.ensures.next_job;
+            (λ w moment T. (rw c.as_slice-in-Stop.ensures at c.stop.ensures.machine) w ps moment T)
+            (λ w es T. refl) start ms R;
+        kept = stop-kept _ _ _ _ _ _ ps c.stop.ensures.tells
+            (let n = c.stop.ensures.count in omega (arith, n)) c.stop.ensures.closed c.stop.ensures.next_job;
       });
     }
 

@@ -15,12 +15,14 @@ loop-place-preserved c =
           let above : 0 < get_or counts place 0 = omega (arith, w.if-counts-place.true, c.from.ensures) in
           rw w.flagged-is (w.in_ok-push.ensures.items
           ∙ ap (λ (front : List ℕ). front ++ place ∷ []) c.loop-place.invariant
-          ∙ ap (λ (end : List ℕ). flagged_from 0 (take place counts) ++ end) (sym (flagged_one place (get_or counts place 0) above))
+          ∙ ap (λ (end : List ℕ). flagged_from 0 (take place counts) ++ end)
+          (sym (flagged_one place (get_or counts place 0) above))
           ∙ sym more)
       | else-counts-place w ↦
           let below : get_or counts place 0 ≤ 0 = omega (arith, w.if-counts-place.false, c.from.ensures) in
           rw w.flagged-is (c.loop-place.invariant
           ∙ sym (append-nil (flagged_from 0 (take place counts)))
-          ∙ ap (λ (end : List ℕ). flagged_from 0 (take place counts) ++ end) (sym (flagged_none place (get_or counts place 0) below))
+          ∙ ap (λ (end : List ℕ). flagged_from 0 (take place counts) ++ end)
+          (sym (flagged_none place (get_or counts place 0) below))
           ∙ sym more)
     ]

@@ -11,23 +11,33 @@ use Rattle.hail_top.proofs.alone.alone.Goals as goal
 pub returns-in-Ok-clause-answers : goal.returns-in-Ok-clause-answers
 returns-in-Ok-clause-answers g c left count =
     let see = provider_seen g.P.Provider in
-    let old : Seen = seen (g.D.Disk.holds c.args.disk.now) (g.D.Disk.faults c.args.disk.now) (map see c.args.providers.now) left count (g.K.Sink.written c.args.sink.now) (g.K.Sink.faults c.args.sink.now) in
+    let old : Seen = seen (g.D.Disk.holds c.args.disk.now) (g.D.Disk.faults c.args.disk.now)
+    (map see c.args.providers.now) left count (g.K.Sink.written c.args.sink.now)
+    (g.K.Sink.faults c.args.sink.now) in
     let found = c.in-Ok.ensures.opened in
-    let opened = opened-read old found.0 (length c.args.providers.now) (sym (length-map c.args.providers.now see)) found.1 in
+    let opened = opened-read old found.0 (length c.args.providers.now)
+    (sym (length-map c.args.providers.now see)) found.1 in
     begun found.0 opened (c.answer_job.ensures.over found.0 old left count found.2 opened
-    (record { reads = c.in-Ok.ensures.reads; faults = c.in-Ok.ensures.cause.never_falls; providers = refl }) c.in-Ok.ensures.synced refl refl).answers
+    (record { reads = c.in-Ok.ensures.reads; faults = c.in-Ok.ensures.cause.never_falls; providers = refl })
+    c.in-Ok.ensures.synced refl refl).answers
 
 pub returns-in-Ok-clause-counts : goal.returns-in-Ok-clause-counts
 returns-in-Ok-clause-counts g c left count =
     let see = provider_seen g.P.Provider in
-    let old : Seen = seen (g.D.Disk.holds c.args.disk.now) (g.D.Disk.faults c.args.disk.now) (map see c.args.providers.now) left count (g.K.Sink.written c.args.sink.now) (g.K.Sink.faults c.args.sink.now) in
+    let old : Seen = seen (g.D.Disk.holds c.args.disk.now) (g.D.Disk.faults c.args.disk.now)
+    (map see c.args.providers.now) left count (g.K.Sink.written c.args.sink.now)
+    (g.K.Sink.faults c.args.sink.now) in
     let found = c.in-Ok.ensures.opened in
-    let opened = opened-read old found.0 (length c.args.providers.now) (sym (length-map c.args.providers.now see)) found.1 in
+    let opened = opened-read old found.0 (length c.args.providers.now)
+    (sym (length-map c.args.providers.now see)) found.1 in
     no_count_falls old _ (c.answer_job.ensures.over found.0 old left count found.2 opened
-    (record { reads = c.in-Ok.ensures.reads; faults = c.in-Ok.ensures.cause.never_falls; providers = refl }) c.in-Ok.ensures.synced refl refl).counts (still count) c.answer_job.ensures.count
+    (record { reads = c.in-Ok.ensures.reads; faults = c.in-Ok.ensures.cause.never_falls; providers = refl })
+    c.in-Ok.ensures.synced refl refl).counts (still count) c.answer_job.ensures.count
 
 pub returns-in-Err-clause-answers : goal.returns-in-Err-clause-answers
 returns-in-Err-clause-answers g c left count =
     let see = provider_seen g.P.Provider in
-    unstarted (unopened-told _ _ _ c.in-Err.why (length c.args.providers.now) c.unopened.ensures (sym (length-map c.args.providers.now see)) c.in-Err.ensures.refused c.in-Err.ensures.disk
-    (λ few. c.in-Err.ensures.few (ap (λ (w : Unopened). Err w) few)) (λ same. c.in-Err.ensures.cause.rose (ap (λ (w : Unopened). Err w) same)) refl refl)
+    unstarted (unopened-told _ _ _ c.in-Err.why (length c.args.providers.now) c.unopened.ensures
+    (sym (length-map c.args.providers.now see)) c.in-Err.ensures.refused c.in-Err.ensures.disk
+    (λ few. c.in-Err.ensures.few (ap (λ (w : Unopened). Err w) few))
+    (λ same. c.in-Err.ensures.cause.rose (ap (λ (w : Unopened). Err w) same)) refl refl)

@@ -9,11 +9,16 @@ use Rattle.hail_top.proofs.list.list.Goals as goal
 
 pub returns-in-Ok-clause-answers : goal.returns-in-Ok-clause-answers
 returns-in-Ok-clause-answers g c providers left count handed =
-    let old : Seen = seen (g.D.Disk.holds c.args.disk.now) (g.D.Disk.faults c.args.disk.now) providers left count (g.K.Sink.written c.args.sink.now) (g.K.Sink.faults c.args.sink.now) in
+    let old : Seen = seen (g.D.Disk.holds c.args.disk.now)
+    (g.D.Disk.faults c.args.disk.now) providers left count (g.K.Sink.written c.args.sink.now)
+    (g.K.Sink.faults c.args.sink.now) in
     let found = c.in-Ok.ensures.opened in
-    listed-told found.0 old _ _ _ c.of.ensures (opened-read old found.0 c.args.handed (sym handed) found.1) (c.write_files.ensures.written found.0 found.2.table) c.in-Ok.ensures.synced refl
+    listed-told found.0 old _ _ _ c.of.ensures (opened-read old found.0 c.args.handed (sym handed) found.1)
+    (c.write_files.ensures.written found.0 found.2.table) c.in-Ok.ensures.synced refl
 
 pub returns-in-Err-clause-answers : goal.returns-in-Err-clause-answers
 returns-in-Err-clause-answers g c providers left count handed =
-    unstarted (unopened-told _ _ _ c.in-Err.why c.args.handed c.unopened.ensures (sym handed) c.in-Err.ensures.refused c.in-Err.ensures.disk
-    (λ few. c.in-Err.ensures.few (ap (λ (w : Unopened). Err w) few)) (λ same. c.in-Err.ensures.cause.rose (ap (λ (w : Unopened). Err w) same)) refl refl)
+    unstarted (unopened-told _ _ _ c.in-Err.why c.args.handed c.unopened.ensures
+    (sym handed) c.in-Err.ensures.refused c.in-Err.ensures.disk
+    (λ few. c.in-Err.ensures.few (ap (λ (w : Unopened). Err w) few))
+    (λ same. c.in-Err.ensures.cause.rose (ap (λ (w : Unopened). Err w) same)) refl refl)

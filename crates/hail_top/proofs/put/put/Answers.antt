@@ -11,26 +11,36 @@ use Rattle.hail_top.proofs.put.put.Goals as goal
 pub returns-in-Ok-clause-answers : goal.returns-in-Ok-clause-answers
 returns-in-Ok-clause-answers g c =
     let see = provider_seen g.P.Provider in
-    let old : Seen = seen (g.D.Disk.holds c.args.disk.now) (g.D.Disk.faults c.args.disk.now) (map see c.args.providers.now) (g.S.Source.left c.args.source.now)
-    (g.S.Source.faults c.args.source.now) (g.K.Sink.written c.args.sink.now) (g.K.Sink.faults c.args.sink.now) in
+    let old : Seen = seen (g.D.Disk.holds c.args.disk.now) (g.D.Disk.faults c.args.disk.now)
+    (map see c.args.providers.now) (g.S.Source.left c.args.source.now)
+    (g.S.Source.faults c.args.source.now) (g.K.Sink.written c.args.sink.now)
+    (g.K.Sink.faults c.args.sink.now) in
     let found = c.in-Ok.ensures.opened in
-    let opened = opened-read old found.0 (length c.args.providers.now) (sym (length-map c.args.providers.now see)) found.1 in
+    let opened = opened-read old found.0 (length c.args.providers.now)
+    (sym (length-map c.args.providers.now see)) found.1 in
     (c.put_read.ensures.over found.0 old found.2 opened
-    (record { reads = c.in-Ok.ensures.reads; faults = c.in-Ok.ensures.cause.never_falls; providers = refl }) c.in-Ok.ensures.synced refl refl refl refl).answers
+    (record { reads = c.in-Ok.ensures.reads; faults = c.in-Ok.ensures.cause.never_falls; providers = refl })
+    c.in-Ok.ensures.synced refl refl refl refl).answers
 
 pub returns-in-Ok-clause-counts : goal.returns-in-Ok-clause-counts
 returns-in-Ok-clause-counts g c =
     let see = provider_seen g.P.Provider in
-    let old : Seen = seen (g.D.Disk.holds c.args.disk.now) (g.D.Disk.faults c.args.disk.now) (map see c.args.providers.now) (g.S.Source.left c.args.source.now)
-    (g.S.Source.faults c.args.source.now) (g.K.Sink.written c.args.sink.now) (g.K.Sink.faults c.args.sink.now) in
+    let old : Seen = seen (g.D.Disk.holds c.args.disk.now) (g.D.Disk.faults c.args.disk.now)
+    (map see c.args.providers.now) (g.S.Source.left c.args.source.now)
+    (g.S.Source.faults c.args.source.now) (g.K.Sink.written c.args.sink.now)
+    (g.K.Sink.faults c.args.sink.now) in
     let found = c.in-Ok.ensures.opened in
-    let opened = opened-read old found.0 (length c.args.providers.now) (sym (length-map c.args.providers.now see)) found.1 in
+    let opened = opened-read old found.0 (length c.args.providers.now)
+    (sym (length-map c.args.providers.now see)) found.1 in
     no_count_falls old _ (c.put_read.ensures.over found.0 old found.2 opened
-    (record { reads = c.in-Ok.ensures.reads; faults = c.in-Ok.ensures.cause.never_falls; providers = refl }) c.in-Ok.ensures.synced refl refl refl refl).counts
+    (record { reads = c.in-Ok.ensures.reads; faults = c.in-Ok.ensures.cause.never_falls; providers = refl })
+    c.in-Ok.ensures.synced refl refl refl refl).counts
     c.put_read.ensures.source_count c.put_read.ensures.sink_count
 
 pub returns-in-Err-clause-answers : goal.returns-in-Err-clause-answers
 returns-in-Err-clause-answers g c =
     let see = provider_seen g.P.Provider in
-    unstarted (unopened-told _ _ _ c.in-Err.why (length c.args.providers.now) c.unopened.ensures (sym (length-map c.args.providers.now see)) c.in-Err.ensures.refused c.in-Err.ensures.disk
-    (λ few. c.in-Err.ensures.few (ap (λ (w : Unopened). Err w) few)) (λ same. c.in-Err.ensures.cause.rose (ap (λ (w : Unopened). Err w) same)) refl refl) (refl, refl)
+    unstarted (unopened-told _ _ _ c.in-Err.why (length c.args.providers.now) c.unopened.ensures
+    (sym (length-map c.args.providers.now see)) c.in-Err.ensures.refused c.in-Err.ensures.disk
+    (λ few. c.in-Err.ensures.few (ap (λ (w : Unopened). Err w) few))
+    (λ same. c.in-Err.ensures.cause.rose (ap (λ (w : Unopened). Err w) same)) refl refl) (refl, refl)

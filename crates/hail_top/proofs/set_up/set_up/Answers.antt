@@ -5,12 +5,16 @@ use Rattle.hail_top.proofs.set_up.set_up.Goals as goal
 
 pub returns-then-handed-from-clause-answers : goal.returns-then-handed-from-clause-answers
 returns-then-handed-from-clause-answers g c providers handed =
-    let same : c.in-Some.setup.n ≡ c.args.numbers.now.n = ap (λ (s : Setup). s.n) (c.in-Some.ensures.value []) in
-    too_few-told _ _ _ _ c.in-Some.ensures.found (omega (arith, same, handed, c.if-handed-from.true, c.from.ensures)) c.of-then-handed-from.ensures (refl, refl) refl refl refl
+    let same : c.in-Some.setup.n ≡ c.args.numbers.now.n =
+    ap (λ (s : Setup). s.n) (c.in-Some.ensures.value []) in
+    too_few-told _ _ _ _ c.in-Some.ensures.found
+    (omega (arith, same, handed, c.if-handed-from.true, c.from.ensures)) c.of-then-handed-from.ensures
+    (refl, refl) refl refl refl
 
 pub returns-clause-answers : goal.returns-clause-answers
 returns-clause-answers g c providers handed =
-    let same : c.in-Some.setup.n ≡ c.args.numbers.now.n = ap (λ (s : Setup). s.n) (c.in-Some.ensures.value []) in
+    let same : c.in-Some.setup.n ≡ c.args.numbers.now.n =
+    ap (λ (s : Setup). s.n) (c.in-Some.ensures.value []) in
     c.set_up_read.ensures.answers _ providers (record {
       fits = c.in-Some.ensures.found;
       enough = omega (arith, same, handed, c.if-handed-from.false, c.from.ensures);

@@ -4,7 +4,8 @@ use Rattle.hail_top.proofs.set_up.set_up_with.Goals as goal
 
 pub returns-in-Some-clause-answers : goal.returns-in-Some-clause-answers
 returns-in-Some-clause-answers g c numbers providers left left' count count' for reads =
-    keyed-told c.args.setup.now numbers _ _ _ _ _ for reads c.in-Some.ensures (c.set_up_disk.ensures.answers providers left left' count count')
+    keyed-told c.args.setup.now numbers _ _ _ _ _ for reads c.in-Some.ensures
+    (c.set_up_disk.ensures.answers providers left left' count count')
 
 pub returns-in-None-clause-answers : goal.returns-in-None-clause-answers
 returns-in-None-clause-answers g c numbers providers left left' count count' for reads =

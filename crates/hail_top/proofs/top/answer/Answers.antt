@@ -7,41 +7,64 @@ use Rattle.hail_top.proofs.top.answer.Goals as goal
 pub returns-in-Init-clause-answers : goal.returns-in-Init-clause-answers
 returns-in-Init-clause-answers g c =
     let see = provider_seen g.P.Provider in
-    answered _ _ _ _ _ c.in-Init.is (c.set_up.ensures.answers (map see c.args.providers.now) (length-map c.args.providers.now see))
+    answered _ _ _ _ _ c.in-Init.is
+    (c.set_up.ensures.answers (map see c.args.providers.now) (length-map c.args.providers.now see))
 
 pub returns-in-Put-clause-answers : goal.returns-in-Put-clause-answers
 returns-in-Put-clause-answers g c = answered _ _ _ _ _ c.in-Put.is c.put.ensures.answers
 
 pub returns-in-Get-clause-answers : goal.returns-in-Get-clause-answers
 returns-in-Get-clause-answers g c =
-    answered _ _ _ _ _ c.in-Get.is (c.alone.ensures.answers (g.S.Source.left c.args.source.now) (g.S.Source.faults c.args.source.now), (refl, refl))
+    answered _ _ _ _ _ c.in-Get.is (
+      c.alone.ensures.answers (g.S.Source.left c.args.source.now) (g.S.Source.faults c.args.source.now),
+      (refl, refl),
+    )
 
 pub returns-in-Get-clause-counts : goal.returns-in-Get-clause-counts
-returns-in-Get-clause-counts g c = c.alone.ensures.counts (g.S.Source.left c.args.source.now) (g.S.Source.faults c.args.source.now)
+returns-in-Get-clause-counts g c =
+    c.alone.ensures.counts (g.S.Source.left c.args.source.now) (g.S.Source.faults c.args.source.now)
 
 pub returns-in-Drop-clause-answers : goal.returns-in-Drop-clause-answers
 returns-in-Drop-clause-answers g c =
-    answered _ _ _ _ _ c.in-Drop.is (c.alone-in-Drop.ensures.answers (g.S.Source.left c.args.source.now) (g.S.Source.faults c.args.source.now), (refl, refl))
+    answered _ _ _ _ _ c.in-Drop.is (
+      c.alone-in-Drop.ensures.answers (g.S.Source.left c.args.source.now)
+          (g.S.Source.faults c.args.source.now),
+      (refl, refl),
+    )
 
 pub returns-in-Drop-clause-counts : goal.returns-in-Drop-clause-counts
-returns-in-Drop-clause-counts g c = c.alone-in-Drop.ensures.counts (g.S.Source.left c.args.source.now) (g.S.Source.faults c.args.source.now)
+returns-in-Drop-clause-counts g c =
+    c.alone-in-Drop.ensures.counts (g.S.Source.left c.args.source.now) (g.S.Source.faults c.args.source.now)
 
 pub returns-in-List-clause-answers : goal.returns-in-List-clause-answers
 returns-in-List-clause-answers g c =
     let see = provider_seen g.P.Provider in
-    answered _ _ _ _ _ c.in-List.is
-    (c.list.ensures.answers (map see c.args.providers.now) (g.S.Source.left c.args.source.now) (g.S.Source.faults c.args.source.now) (length-map c.args.providers.now see), (refl, refl))
+    answered _ _ _ _ _ c.in-List.is (
+      c.list.ensures.answers (map see c.args.providers.now) (g.S.Source.left c.args.source.now)
+          (g.S.Source.faults c.args.source.now) (length-map c.args.providers.now see),
+      (refl, refl),
+    )
 
 pub returns-in-Audit-clause-answers : goal.returns-in-Audit-clause-answers
 returns-in-Audit-clause-answers g c =
-    answered _ _ _ _ _ c.in-Audit.is (c.alone-in-Audit.ensures.answers (g.S.Source.left c.args.source.now) (g.S.Source.faults c.args.source.now), (refl, refl))
+    answered _ _ _ _ _ c.in-Audit.is (
+      c.alone-in-Audit.ensures.answers (g.S.Source.left c.args.source.now)
+          (g.S.Source.faults c.args.source.now),
+      (refl, refl),
+    )
 
 pub returns-in-Audit-clause-counts : goal.returns-in-Audit-clause-counts
-returns-in-Audit-clause-counts g c = c.alone-in-Audit.ensures.counts (g.S.Source.left c.args.source.now) (g.S.Source.faults c.args.source.now)
+returns-in-Audit-clause-counts g c =
+    c.alone-in-Audit.ensures.counts (g.S.Source.left c.args.source.now) (g.S.Source.faults c.args.source.now)
 
 pub returns-in-Repair-clause-answers : goal.returns-in-Repair-clause-answers
 returns-in-Repair-clause-answers g c =
-    answered _ _ _ _ _ c.in-Repair.is (c.alone-in-Repair.ensures.answers (g.S.Source.left c.args.source.now) (g.S.Source.faults c.args.source.now), (refl, refl))
+    answered _ _ _ _ _ c.in-Repair.is (
+      c.alone-in-Repair.ensures.answers (g.S.Source.left c.args.source.now)
+          (g.S.Source.faults c.args.source.now),
+      (refl, refl),
+    )
 
 pub returns-in-Repair-clause-counts : goal.returns-in-Repair-clause-counts
-returns-in-Repair-clause-counts g c = c.alone-in-Repair.ensures.counts (g.S.Source.left c.args.source.now) (g.S.Source.faults c.args.source.now)
+returns-in-Repair-clause-counts g c =
+    c.alone-in-Repair.ensures.counts (g.S.Source.left c.args.source.now) (g.S.Source.faults c.args.source.now)

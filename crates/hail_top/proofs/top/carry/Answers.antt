@@ -6,4 +6,5 @@ returns-in-Replay-clause-answers g c = carried-as _ _ _ _ _ c.in-Replay.is c.rep
 
 pub returns-in-Trial-clause-answers : goal.returns-in-Trial-clause-answers
 returns-in-Trial-clause-answers g c =
-    carried-as _ _ _ _ _ c.in-Trial.is (c.do_trial.ensures.answers (g.S.Source.left c.args.source.now) (g.S.Source.faults c.args.source.now))
+    carried-as _ _ _ _ _ c.in-Trial.is
+    (c.do_trial.ensures.answers (g.S.Source.left c.args.source.now) (g.S.Source.faults c.args.source.now))

@@ -5,11 +5,14 @@ use Rattle.journal_core.proofs.JournalLemmas.{StandsFor-at, stops-end, stops-beh
 use Rattle.journal_core.proofs.gates.next_record.Goals as goal
 
 pub returns-then-gate-bytes-clause-bad : goal.returns-then-gate-bytes-clause-bad
-returns-then-gate-bytes-clause-bad c = λ rs is. stops-end c.args.bytes.now rs c.args.gate is c.if-gate-bytes.true
+returns-then-gate-bytes-clause-bad c =
+    λ rs is. stops-end c.args.bytes.now rs c.args.gate is c.if-gate-bytes.true
 
 pub returns-then-bytes-gate-ne1-clause-taken : goal.returns-then-bytes-gate-ne1-clause-taken
-returns-then-bytes-gate-ne1-clause-taken c = λ rs is.
-    (c.if-gate-bytes.false, StandsFor-at c.args.bytes.now rs c.args.gate is c.if-gate-bytes.false c.if-bytes-gate-ne1.true)
+returns-then-bytes-gate-ne1-clause-taken c = λ rs is. (
+  c.if-gate-bytes.false,
+  StandsFor-at c.args.bytes.now rs c.args.gate is c.if-gate-bytes.false c.if-bytes-gate-ne1.true,
+)
 
 pub returns-in-Some-clause-taken : goal.returns-in-Some-clause-taken
 returns-in-Some-clause-taken c = λ rs is.
@@ -17,7 +20,8 @@ returns-in-Some-clause-taken c = λ rs is.
     let found = rw (take_rest c.args.bytes.now (c.args.gate + 1)) at c.in-Some.ensures.found in (
       omega arith,
       c.in-Some.ensures.in_grammar,
-      read-more c.args.bytes.now rs c.args.gate is c.if-gate-bytes.false (entry_of c.in-Some.entry) c.in-Some.size c.if-bytes-gate-ne1.false size_le found,
+      read-more c.args.bytes.now rs c.args.gate is c.if-gate-bytes.false
+          (entry_of c.in-Some.entry) c.in-Some.size c.if-bytes-gate-ne1.false size_le found,
     )
 
 pub returns-in-None-clause-bad : goal.returns-in-None-clause-bad

@@ -9,7 +9,8 @@ use Rattle.journal_core.proofs.FirmCells.{all-firm}
 use Rattle.journal_core.proofs.laws.firm_text_is_firm.Goals as goal
 
 pub returns-clause-active : goal.returns-clause-active
-returns-clause-active c = subst (λ bytes. StandsActive bytes A four_set_up) (sym (reads-firm (text four_set_up))) (old_is_active (text four_set_up) four_set_up first-stands)
+returns-clause-active c = subst (λ bytes. StandsActive bytes A four_set_up)
+    (sym (reads-firm (text four_set_up))) (old_is_active (text four_set_up) four_set_up first-stands)
 
 pub returns-clause-front : goal.returns-clause-front
 returns-clause-front c = all-firm (text four_set_up) 0 8

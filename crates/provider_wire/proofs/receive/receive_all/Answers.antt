@@ -17,6 +17,7 @@ loop-at-preserved g c =
     let same : length (put_mid at k out part) ≡ length out = part_length out part at k size (omega arith) in
     record {
       within = omega (arith, same, few, size);
-      so_far = advance _ _ _ out (put_mid at k out part) part at n c.loop-at.invariant.so_far c.in-Ok.ensures.given same (take-put_mid_behind out part at k n (omega arith) few);
+      so_far = advance _ _ _ out (put_mid at k out part) part at n c.loop-at.invariant.so_far
+          c.in-Ok.ensures.given same (take-put_mid_behind out part at k n (omega arith) few);
       untold = λ e. c.receive.ensures.untold (c.loop-at.invariant.untold e);
     }

@@ -9,7 +9,15 @@ use Rattle.provider_wire.proofs.server.serve_all.Goals as goal
 pub loop-count-init : goal.loop-count-init
 loop-count-init g c =
     let none : c.args.window.now ≡ [] = c.requires in
-    record { so_far = rw none (starts _ _ _); within = omega arith; none = subst SpellsNoRequest (sym none) nothing_spells; fine = ap is_bad_request none; short = rw none (omega arith); source_count = omega arith; sink_count = omega arith }
+    record {
+      so_far = rw none (starts _ _ _);
+      within = omega arith;
+      none = subst SpellsNoRequest (sym none) nothing_spells;
+      fine = ap is_bad_request none;
+      short = rw none (omega arith);
+      source_count = omega arith;
+      sink_count = omega arith;
+    }
 
 -- sizes, in the order of the code
 
@@ -37,7 +45,8 @@ overflow_sub-within g c =
 pub slice_bounds-bytes-end : goal.slice_bounds-bytes-end
 slice_bounds-bytes-end g c =
     let inv = c.loop-count.invariant in
-    bytes_size _ inv.so_far c.in-Ok.ensures.given inv.within c.len-waiting.ensures c.saturating_sub.ensures c.as_slice.ensures
+    bytes_size _ inv.so_far c.in-Ok.ensures.given inv.within c.len-waiting.ensures c.saturating_sub.ensures
+    c.as_slice.ensures
 
 pub slice_bounds-is_bad-count : goal.slice_bounds-is_bad-count
 slice_bounds-is_bad-count g c = c.in-Ok-serve_front.ensures.within
@@ -45,17 +54,20 @@ slice_bounds-is_bad-count g c = c.in-Ok-serve_front.ensures.within
 pub overflow_sub-result-then-is_bad : goal.overflow_sub-result-then-is_bad
 overflow_sub-result-then-is_bad g c =
     let inv = c.loop-count.invariant in
-    front_waits _ inv.so_far c.in-Ok.ensures.given inv.within c.len-waiting.ensures c.saturating_sub.ensures c.as_slice.ensures c.in-Ok-serve_front.ensures.within
+    front_waits _ inv.so_far c.in-Ok.ensures.given inv.within c.len-waiting.ensures c.saturating_sub.ensures
+    c.as_slice.ensures c.in-Ok-serve_front.ensures.within
 
 pub overflow_sub-result-then-is_bad-2 : goal.overflow_sub-result-then-is_bad-2
 overflow_sub-result-then-is_bad-2 g c =
     let inv = c.loop-count.invariant in
-    rest_was_read _ inv.so_far c.in-Ok.ensures.given inv.within c.len-waiting.ensures c.saturating_sub.ensures c.as_slice.ensures c.in-Ok-serve_front.done
+    rest_was_read _ inv.so_far c.in-Ok.ensures.given inv.within c.len-waiting.ensures c.saturating_sub.ensures
+    c.as_slice.ensures c.in-Ok-serve_front.done
 
 pub skip-requires : goal.skip-requires
 skip-requires g c =
     let inv = c.loop-count.invariant in
-    front_is_there _ inv.so_far c.in-Ok.ensures.given inv.within c.len-waiting.ensures c.saturating_sub.ensures c.as_slice.ensures c.in-Ok-serve_front.ensures.within
+    front_is_there _ inv.so_far c.in-Ok.ensures.given inv.within c.len-waiting.ensures
+    c.saturating_sub.ensures c.as_slice.ensures c.in-Ok-serve_front.ensures.within
 
 pub loop-count-smaller : goal.loop-count-smaller
 loop-count-smaller g c = less_to_read c.loop-count.invariant.within c.if-count-eq0.false
@@ -71,37 +83,46 @@ pub returns-then-waiting-eq0-clause-served : goal.returns-then-waiting-eq0-claus
 returns-then-waiting-eq0-clause-served g c =
     let inv = c.loop-count.invariant in
     let told = c.in-Ok.ensures in
-    finished_at _ inv.so_far told.given inv.within c.len-waiting.ensures c.if-count-eq0.true told.end inv.short c.if-waiting-eq0.true
+    finished_at _ inv.so_far told.given inv.within c.len-waiting.ensures c.if-count-eq0.true told.end
+    inv.short c.if-waiting-eq0.true
 
 pub returns-then-count-eq0-clause-served : goal.returns-then-count-eq0-clause-served
 returns-then-count-eq0-clause-served g c =
     let inv = c.loop-count.invariant in
     let told = c.in-Ok.ensures in
-    stopped_at _ inv.so_far told.given inv.within c.len-waiting.ensures c.if-count-eq0.true told.end inv.short inv.none c.if-waiting-eq0.false
+    stopped_at _ inv.so_far told.given inv.within c.len-waiting.ensures c.if-count-eq0.true told.end inv.short
+    inv.none c.if-waiting-eq0.false
 
 pub returns-in-Err-serve_front-clause-served : goal.returns-in-Err-serve_front-clause-served
 returns-in-Err-serve_front-clause-served g c =
     let inv = c.loop-count.invariant in
     let given = c.in-Ok.ensures.given in
     let w = c.len-waiting.result - c.saturating_sub.result in
-    write_failed _ _ (c.loop-count.taken + c.in-Ok.count) w c.fill.new.self (take w c.as_slice.result.now) _ _ _ _ _ _ c.in-Err-serve_front.fault c.fault_end.result
-    (read_more _ inv.so_far given inv.within c.len-waiting.ensures) (ap (take w) c.as_slice.ensures) (few_read _ inv.so_far given inv.within c.len-waiting.ensures) c.fault_end.ensures c.in-Err-serve_front.ensures.err
+    write_failed _ _ (c.loop-count.taken + c.in-Ok.count) w c.fill.new.self
+    (take w c.as_slice.result.now) _ _ _ _ _ _ c.in-Err-serve_front.fault c.fault_end.result
+    (read_more _ inv.so_far given inv.within c.len-waiting.ensures) (ap (take w) c.as_slice.ensures)
+    (few_read _ inv.so_far given inv.within c.len-waiting.ensures) c.fault_end.ensures
+    c.in-Err-serve_front.ensures.err
 
 pub returns-then-is_bad-clause-served : goal.returns-then-is_bad-clause-served
 returns-then-is_bad-clause-served g c =
     let inv = c.loop-count.invariant in
     let served = c.in-Ok-serve_front.ensures in
     let bytes = take (c.len-waiting.result - c.saturating_sub.result) c.as_slice.result.now in
-    bad_at _ inv.so_far c.in-Ok.ensures.given inv.within c.len-waiting.ensures c.saturating_sub.ensures c.as_slice.ensures c.if-count-eq0.false served.within served.ok
-    (ap is_bad_request (sym (take_rest bytes c.in-Ok-serve_front.done)) ∙ sym c.is_bad.ensures ∙ c.if-is_bad.true)
+    bad_at _ inv.so_far c.in-Ok.ensures.given inv.within c.len-waiting.ensures c.saturating_sub.ensures
+    c.as_slice.ensures c.if-count-eq0.false served.within served.ok
+    (ap is_bad_request (sym (take_rest bytes c.in-Ok-serve_front.done)) ∙ sym c.is_bad.ensures
+    ∙ c.if-is_bad.true)
 
 pub returns-then-taken-gt-MOST-clause-served : goal.returns-then-taken-gt-MOST-clause-served
 returns-then-taken-gt-MOST-clause-served g c =
     let inv = c.loop-count.invariant in
     let served = c.in-Ok-serve_front.ensures in
     let bytes = take (c.len-waiting.result - c.saturating_sub.result) c.as_slice.result.now in
-    too_long _ inv.so_far c.in-Ok.ensures.given inv.within c.len-waiting.ensures c.saturating_sub.ensures c.as_slice.ensures c.if-count-eq0.false served.within served.ok c.if-taken-gt-MOST.true served.none
-    (ap is_bad_request (sym (take_rest bytes c.in-Ok-serve_front.done)) ∙ sym c.is_bad.ensures ∙ c.if-is_bad.false)
+    too_long _ inv.so_far c.in-Ok.ensures.given inv.within c.len-waiting.ensures c.saturating_sub.ensures
+    c.as_slice.ensures c.if-count-eq0.false served.within served.ok c.if-taken-gt-MOST.true served.none
+    (ap is_bad_request (sym (take_rest bytes c.in-Ok-serve_front.done)) ∙ sym c.is_bad.ensures
+    ∙ c.if-is_bad.false)
 
 pub loop-count-preserved : goal.loop-count-preserved
 loop-count-preserved g c =
@@ -111,11 +132,15 @@ loop-count-preserved g c =
     let done = c.in-Ok-serve_front.done in
     let bytes = take (c.len-waiting.result - c.saturating_sub.result) c.as_slice.result.now in
     let few = c.if-taken-gt-MOST.false in
-    let fine : is_bad_request (drop done bytes) ≡ false = ap is_bad_request (sym (take_rest bytes done)) ∙ sym c.is_bad.ensures ∙ c.if-is_bad.false in
+    let fine : is_bad_request (drop done bytes) ≡ false = ap is_bad_request (sym (take_rest bytes done))
+    ∙ sym c.is_bad.ensures ∙ c.if-is_bad.false in
     let rest : drop done bytes ≡ c.skip.new.self =
-    rest_waits _ inv.so_far given inv.within c.len-waiting.ensures c.saturating_sub.ensures c.as_slice.ensures c.if-count-eq0.false served.within served.ok few ∙ sym c.skip.ensures in
+    rest_waits _ inv.so_far given inv.within c.len-waiting.ensures c.saturating_sub.ensures c.as_slice.ensures
+    c.if-count-eq0.false served.within served.ok few ∙ sym c.skip.ensures in
     record {
-      so_far = rw c.skip.ensures (went_on _ inv.so_far given inv.within c.len-waiting.ensures c.saturating_sub.ensures c.as_slice.ensures c.if-count-eq0.false served.within served.ok);
+      so_far = rw c.skip.ensures
+          (went_on _ inv.so_far given inv.within c.len-waiting.ensures c.saturating_sub.ensures
+          c.as_slice.ensures c.if-count-eq0.false served.within served.ok);
       within = few;
       none = subst SpellsNoRequest rest served.none;
       fine = ap is_bad_request (sym rest) ∙ fine;
@@ -127,10 +152,12 @@ loop-count-preserved g c =
 -- the counts of faults at each end
 
 pub returns-in-Err-clause-source : goal.returns-in-Err-clause-source
-returns-in-Err-clause-source g c = last_part c.loop-count.invariant.source_count c.in-Err.ensures.cause (λ _. refl)
+returns-in-Err-clause-source g c =
+    last_part c.loop-count.invariant.source_count c.in-Err.ensures.cause (λ _. refl)
 
 pub returns-in-Err-clause-sink : goal.returns-in-Err-clause-sink
-returns-in-Err-clause-sink g c = no_fault c.loop-count.invariant.sink_count (no_sink_fault serve_end.SourceFault refl)
+returns-in-Err-clause-sink g c =
+    no_fault c.loop-count.invariant.sink_count (no_sink_fault serve_end.SourceFault refl)
 
 pub returns-then-waiting-eq0-clause-source : goal.returns-then-waiting-eq0-clause-source
 returns-then-waiting-eq0-clause-source g c =

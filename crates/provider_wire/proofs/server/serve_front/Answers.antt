@@ -17,7 +17,8 @@ pub answer-answer-requires : goal.answer-answer-requires
 answer-answer-requires g c = c.in-Some.ensures.found.is_request
 
 pub loop-request-smaller : goal.loop-request-smaller
-loop-request-smaller g c = nearer c.args.bytes.now c.loop-request.at c.in-Some.size c.in-Some.ensures.size c.in-Some.ensures.some
+loop-request-smaller g c =
+    nearer c.args.bytes.now c.loop-request.at c.in-Some.size c.in-Some.ensures.size c.in-Some.ensures.some
 
 pub loop-request-preserved : goal.loop-request-preserved
 loop-request-preserved g c =
@@ -27,9 +28,11 @@ loop-request-preserved g c =
     let inv = c.loop-request.invariant in
     record {
       within = within_rest bytes at size inv.within c.in-Some.ensures.size;
-      so_far = serves_more bytes at size (request_of c.in-Some.request) _ _ _ _ _ _ c.answer-answer.result inv.so_far
+      so_far = serves_more bytes at size (request_of c.in-Some.request) _ _ _ _ _ _ c.answer-answer.result
+          inv.so_far
           (rw (take_rest bytes at) at c.in-Some.ensures.found) c.answer-answer.ensures
-          (c.in_ok-write_all.ensures.ok ∙ ap (told_then (g.K.Sink.written c.loop-request.sink)) c.as_slice-bytes.ensures);
+          (c.in_ok-write_all.ensures.ok
+          ∙ ap (told_then (g.K.Sink.written c.loop-request.sink)) c.as_slice-bytes.ensures);
       count = le_trans inv.count c.write_all.ensures.cause.never_falls;
     }
 
@@ -53,10 +56,16 @@ returns-in_err-write_all-clause-err g c =
     let at = c.loop-request.at in
     let size = c.in-Some.size in
     let inv = c.loop-request.invariant in
-    let front : TakesFront (g.K.Sink.written c.loop-request.sink) (g.K.Sink.written c.write_all.new.sink) c.answer-answer.result =
-    subst (λ (l : List ℕ). TakesFront (g.K.Sink.written c.loop-request.sink) (g.K.Sink.written c.write_all.new.sink) l) c.as_slice-bytes.ensures c.in_err-write_all.ensures.err in
-    if_err c.from_residual.result _
-    (at + size, within_rest bytes at size inv.within c.in-Some.ensures.size, serves_part bytes at size (request_of c.in-Some.request) _ _ _ _ _ _ c.answer-answer.result inv.so_far (rw (take_rest bytes at) at c.in-Some.ensures.found) c.answer-answer.ensures front)
+    let front : TakesFront (g.K.Sink.written c.loop-request.sink)
+    (g.K.Sink.written c.write_all.new.sink) c.answer-answer.result =
+    subst (λ (l : List ℕ). TakesFront (g.K.Sink.written c.loop-request.sink)
+    (g.K.Sink.written c.write_all.new.sink) l) c.as_slice-bytes.ensures c.in_err-write_all.ensures.err in
+    if_err c.from_residual.result _ (
+      at + size,
+      within_rest bytes at size inv.within c.in-Some.ensures.size,
+      serves_part bytes at size (request_of c.in-Some.request) _ _ _ _ _ _ c.answer-answer.result inv.so_far
+          (rw (take_rest bytes at) at c.in-Some.ensures.found) c.answer-answer.ensures front,
+    )
 
 -- no request is there
 
@@ -67,7 +76,8 @@ pub returns-clause-ok : goal.returns-clause-ok
 returns-clause-ok g c = c.loop-request.invariant.so_far
 
 pub returns-clause-none : goal.returns-clause-none
-returns-clause-none g c = subst SpellsNoRequest (take_rest c.args.bytes.now c.loop-request.at) c.in_default.ensures.none
+returns-clause-none g c =
+    subst SpellsNoRequest (take_rest c.args.bytes.now c.loop-request.at) c.in_default.ensures.none
 
 pub returns-clause-short : goal.returns-clause-short
 returns-clause-short g c = short_rest c.args.bytes.now c.loop-request.at c.in_default.ensures.short

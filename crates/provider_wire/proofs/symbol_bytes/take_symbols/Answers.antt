@@ -8,4 +8,5 @@ unfolding symbols_read
 loop-k-init c = refl
 
 pub loop-k-preserved : goal.loop-k-preserved
-loop-k-preserved c = took_more _ _ c.loop-k.k _ c.symbol_of.result (omega arith) (omega arith) c.symbol_of.ensures c.loop-k.invariant
+loop-k-preserved c = took_more _ _ c.loop-k.k _ c.symbol_of.result (omega arith)
+    (omega arith) c.symbol_of.ensures c.loop-k.invariant

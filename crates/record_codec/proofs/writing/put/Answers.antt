@@ -7,6 +7,7 @@ pub returns-clause-front : goal.returns-clause-front
 returns-clause-front c =
     let at = c.args.at in
     let out = c.args.out.now in
-    take-put_mid at (at + length c.args.piece.now - at) out c.copy_from_slice.new.self (at + length c.args.piece.now)
+    take-put_mid at (at + length c.args.piece.now - at) out c.copy_from_slice.new.self
+    (at + length c.args.piece.now)
     (omega (arith, ap length c.copy_from_slice.ensures.after)) (omega arith)
     ∙ ap (λ (piece : List ℕ). take at out ++ piece) c.copy_from_slice.ensures.after

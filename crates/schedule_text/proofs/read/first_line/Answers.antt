@@ -10,8 +10,14 @@ returns-in-Some c =
     let next = c.in-Some.end + 1 in
     let behind = lines (take (length text - next) (drop next text)) in
     record {
-      lines = lines-first text c.in-Some.end found.0.high found.0.before found.1 ∙ ap (λ (line : List ℕ). line ∷ behind) (sym c.without_return.ensures);
-      shorter = omega (arith, found.0.high, length-take (length text - next) (drop next text), length-drop next text);
+      lines = lines-first text c.in-Some.end found.0.high found.0.before found.1
+          ∙ ap (λ (line : List ℕ). line ∷ behind) (sym c.without_return.ensures);
+      shorter = omega (
+        arith,
+        found.0.high,
+        length-take (length text - next) (drop next text),
+        length-drop next text,
+      );
     }
 
 pub returns-in-None : goal.returns-in-None

@@ -9,6 +9,8 @@ returns c =
     record {
       ok = ok;
       bad = bad;
-      reads = λ commands is. reads_as (λ events. commands_of events.items) c.args.text.now c.read_lines.result ok bad commands is;
-      refuses = λ number is. refuses_for (λ events. commands_of events.items) c.args.text.now c.read_lines.result ok bad number is;
+      reads = λ commands is. reads_as (λ events. commands_of events.items) c.args.text.now c.read_lines.result
+          ok bad commands is;
+      refuses = λ number is. refuses_for (λ events. commands_of events.items) c.args.text.now
+          c.read_lines.result ok bad number is;
     }

@@ -10,9 +10,11 @@ returns-in-Some-clause-read c =
     let left = c.without_spaces-left.result.now in
     let some : 0 < length left = grind (arith, nat_tests) in
     let found = c.in-Some.ensures in
-    rw (take_all (length left - c.in-Some.end) (drop c.in-Some.end left) (omega (arith, length-drop c.in-Some.end left)))
+    rw (take_all (length left - c.in-Some.end) (drop c.in-Some.end left)
+    (omega (arith, length-drop c.in-Some.end left)))
     (ap (λ (ws : List (List ℕ)). word_at ws) (sym c.without_spaces-left.ensures.same
-    ∙ words-first left c.in-Some.end some (front_is left some c.without_spaces-left.ensures.front) found.0.high found.0.before found.1))
+    ∙ words-first left c.in-Some.end some (front_is left some c.without_spaces-left.ensures.front)
+    found.0.high found.0.before found.1))
 
 pub returns-in-None-clause-read : goal.returns-in-None-clause-read
 returns-in-None-clause-read c =

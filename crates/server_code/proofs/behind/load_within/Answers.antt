@@ -13,18 +13,30 @@ load-requires-clause-apart c =
 pub load-requires-clause-even : goal.load-requires-clause-even
 load-requires-clause-even c =
     let p = c.args.tables.now.profile in
-    omega (arith, ap length c.points_behind.ensures, length-range_with_len p.keep (p.size - p.keep), c.fill_shares.ensures.length, c.requires.shares)
+    omega (
+      arith,
+      ap length c.points_behind.ensures,
+      length-range_with_len p.keep (p.size - p.keep),
+      c.fill_shares.ensures.length,
+      c.requires.shares,
+    )
 
 pub load-requires-clause-room : goal.load-requires-clause-room
 load-requires-clause-room c =
     let p = c.args.tables.now.profile in
-    omega (arith, ap length c.points_behind.ensures, length-range_with_len p.keep (p.size - p.keep), c.requires.room)
+    omega (
+      arith,
+      ap length c.points_behind.ensures,
+      length-range_with_len p.keep (p.size - p.keep),
+      c.requires.room,
+    )
 
 pub returns : goal.returns
 returns c =
     let p = c.args.tables.now.profile in
     let shares = c.fill_shares.new.out in
-    let long : p.size - p.keep ≡ length shares = omega (arith, c.fill_shares.ensures.length, c.requires.shares) in
+    let long : p.size - p.keep ≡ length shares = omega
+    (arith, c.fill_shares.ensures.length, c.requires.shares) in
     record {
       shares = shares;
       full = omega (arith, c.fill_shares.ensures.length, c.requires.shares, c.requires.block);

@@ -20,4 +20,5 @@ pub returns-clause-codeword : goal.returns-clause-codeword
 returns-clause-codeword c = is_codeword
 
 pub returns-clause-zero : goal.returns-clause-zero
-returns-clause-zero c = codeword_zero (profile_of 0) (1 ∷ 1 ∷ 1 ∷ 1 ∷ 1 ∷ 1 ∷ []) refl (omega arith) is_codeword
+returns-clause-zero c =
+    codeword_zero (profile_of 0) (1 ∷ 1 ∷ 1 ∷ 1 ∷ 1 ∷ 1 ∷ []) refl (omega arith) is_codeword

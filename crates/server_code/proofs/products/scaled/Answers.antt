@@ -16,6 +16,8 @@ pub returns : goal.returns
 returns c =
     let fits : AreLanes c.lanes-bytes.result = search rules in
     c.from_bytes.ensures ∙
-    ap (from_le_bytes w128) (products_of_lanes c.entry-multiples.result c.args.c c.lanes-bytes.result c.entry-multiples.ensures fits) ∙
+    ap (from_le_bytes w128)
+    (products_of_lanes c.entry-multiples.result c.args.c c.lanes-bytes.result c.entry-multiples.ensures fits)
+    ∙
     ap (λ bytes. from_le_bytes w128 (map (λ byte. nim_mul byte c.args.c) bytes)) c.lanes-bytes.ensures ∙
     sym c.bytes_of_product.ensures.number ∙ nim_ring.mul_comm c.args.a c.args.c

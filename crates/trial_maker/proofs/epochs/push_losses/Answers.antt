@@ -9,7 +9,9 @@ use Rattle.trial_maker.proofs.epochs.push_losses.Goals as goal
 
 pub loop-stripe-init : goal.loop-stripe-init
 loop-stripe-init c =
-    sym (append-nil (commands_of c.args.events.now.items)) ∙ ap (λ (more : List Instruction). commands_of c.args.events.now.items ++ more) (sym (no-losses c.args.provider))
+    sym (append-nil (commands_of c.args.events.now.items))
+    ∙ ap (λ (more : List Instruction). commands_of c.args.events.now.items ++ more)
+    (sym (no-losses c.args.provider))
 
 pub loop-stripe-preserved : goal.loop-stripe-preserved
 loop-stripe-preserved c =
@@ -18,4 +20,5 @@ loop-stripe-preserved c =
     c.in_ok-push.ensures
     ∙ ap (λ (front : List Instruction). front ++ next) c.loop-stripe.invariant
     ∙ append_assoc before (losses c.args.provider c.loop-stripe.stripe) next
-    ∙ ap (λ (more : List Instruction). before ++ more) (sym (losses_more c.args.provider c.loop-stripe.stripe))
+    ∙ ap (λ (more : List Instruction). before ++ more)
+    (sym (losses_more c.args.provider c.loop-stripe.stripe))

@@ -5,4 +5,5 @@ use Rattle.schedule_text.specs.Events.{commands_of}
 use Rattle.trial_maker.proofs.epochs.push_steps.Given as goal
 
 abbrev pub invariant-loop : goal.invariant-loop
-invariant-loop l = commands_of l.events.items ≡ commands_of l.fn.events.items ++ replicate l.counter (Once (Step l.job))
+invariant-loop l = commands_of l.events.items ≡ commands_of l.fn.events.items ++ replicate l.counter
+    (Once (Step l.job))

@@ -9,7 +9,8 @@ pub returns : goal.returns
 returns c =
     let bench = c.args.bench.now in
     let file = bench.keys.file in
-    let total : c.stripes-stripes.result ≡ stripes_on bench = c.stripes-stripes.ensures.value bench.keys.master.0 in
+    let total : c.stripes-stripes.result ≡ stripes_on bench =
+    c.stripes-stripes.ensures.value bench.keys.master.0 in
     let b = c.in_ok-blocks.ensures in
     let f = c.in_ok-fetches.ensures in
     let y = c.in_ok-bytes.ensures in
@@ -24,6 +25,8 @@ returns c =
       bytes = y.items;
       room_fetches = room _ _ _ _ f.len (λ i. sym total i * sym c.from.ensures i) f.capacity;
       room_present = room _ _ _ _ b.no_present (λ i. sym total i * sym c.from.ensures i) b.room_present;
-      room_symbols = room _ _ _ _ b.no_symbols (λ i. sym total i * sym c.from.ensures i * b.size i) b.room_symbols;
-      room_bytes = room _ _ _ _ y.len (λ i. sym total i * (16 * (sym c.from-2.ensures i * file.profile.keep))) y.capacity;
+      room_symbols = room _ _ _ _ b.no_symbols (λ i. sym total i * sym c.from.ensures i * b.size i)
+          b.room_symbols;
+      room_bytes = room _ _ _ _ y.len (λ i. sym total i * (16 * (sym c.from-2.ensures i * file.profile.keep)))
+          y.capacity;
     }

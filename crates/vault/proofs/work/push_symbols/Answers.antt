@@ -10,11 +10,17 @@ loop-symbol-preserved c =
     let e = c.push_bytes.ensures in
     let old = c.args.bytes.now.items in
     let part = bytes_of_symbols (take c.loop-symbol.symbol-index c.args.symbols.now) in
-    let more = bytes_of_symbols-more c.args.symbols.now c.loop-symbol.symbol-index c.symbol-item.result c.loop-symbol-test.true c.symbol-item.is in
-    let long : length c.to_bytes.result ≡ 16 = ap length c.to_bytes.ensures ∙ length-symbol c.symbol-item.result in
-    let grown : length c.push_bytes.new.bytes.items ≡ length c.loop-symbol.bytes.items + length c.to_bytes.result = ap length e.pushed ∙ length-append c.loop-symbol.bytes.items c.to_bytes.result in
+    let more = bytes_of_symbols-more c.args.symbols.now c.loop-symbol.symbol-index c.symbol-item.result
+    c.loop-symbol-test.true c.symbol-item.is in
+    let long : length c.to_bytes.result ≡ 16 = ap length c.to_bytes.ensures
+    ∙ length-symbol c.symbol-item.result in
+    let grown : length c.push_bytes.new.bytes.items
+    ≡ length c.loop-symbol.bytes.items + length c.to_bytes.result = ap length e.pushed
+    ∙ length-append c.loop-symbol.bytes.items c.to_bytes.result in
     record {
-      so_far = e.pushed ∙ (λ k. i.so_far k ++ c.to_bytes.ensures k) ∙ append_assoc old part (to_le_bytes w128 c.symbol-item.result) ∙ ap (λ (l : List ℕ). old ++ l) (sym more);
+      so_far = e.pushed ∙ (λ k. i.so_far k ++ c.to_bytes.ensures k)
+          ∙ append_assoc old part (to_le_bytes w128 c.symbol-item.result)
+          ∙ ap (λ (l : List ℕ). old ++ l) (sym more);
       size = omega (arith, i.size, long, grown, c.push_bytes.new.bytes.ok.0, c.loop-symbol.bytes.ok.0);
       grown = omega (arith, i.grown, e.capacity);
     }

@@ -3,4 +3,5 @@ use Rattle.vault_core.proofs.Rests.{aim_more}
 use Rattle.vault_core.proofs.going.aim.Goals as goal
 
 pub loop-task-preserved : goal.loop-task-preserved
-loop-task-preserved c = aim_more c.args.object _ c.args.tasks.now c.loop-task.tasks c.loop-task.task-index (omega arith) c.loop-task.invariant
+loop-task-preserved c = aim_more c.args.object _ c.args.tasks.now c.loop-task.tasks c.loop-task.task-index
+    (omega arith) c.loop-task.invariant

@@ -7,7 +7,8 @@ loop-j-init c = λ object turn. refl
 
 pub loop-j-preserved : goal.loop-j-preserved
 loop-j-preserved c = λ object turn. c.loop-j.invariant object turn
-    ∙ rewrites_skip c.loop-j.j c.args.providers c.args.flagged.now object turn (omega arith) c.if-flagged-j.false
+    ∙ rewrites_skip c.loop-j.j c.args.providers c.args.flagged.now object turn
+    (omega arith) c.if-flagged-j.false
 
 pub returns-clause-none : goal.returns-clause-none
 returns-clause-none c = λ object turn. c.loop-j.invariant object turn

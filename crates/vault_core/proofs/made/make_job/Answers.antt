@@ -15,15 +15,24 @@ returns-clause-made c = λ key. record {
   number = refl;
   wish = refl;
   pinned = c.in_ok-pinned.ensures;
-  tasks = c.in_ok-tasks.ensures key ∙ ap (λ (ps : List Pinned). tasks_made (turns_for (with_master c.args.setup.now key) c.args.wish) (targets_of c.args.wish ps)) c.deref.ensures.value;
-  flags = λ j l. c.flags-flagged.ensures.flags j l ∙ ap (λ (d : Option Due). due_flags c.args.setup.now.tolerance d j) c.due-due.ensures.value;
-  subject = subject_is c.args.table.now c.args.wish c.subject.result (λ e. c.subject.ensures.repair e ∙ ap due_number c.due-due.ensures.value) c.subject.ensures.other;
+  tasks = c.in_ok-tasks.ensures key
+      ∙ ap (λ (ps : List Pinned). tasks_made (turns_for (with_master c.args.setup.now key) c.args.wish)
+      (targets_of c.args.wish ps)) c.deref.ensures.value;
+  flags = λ j l. c.flags-flagged.ensures.flags j l
+      ∙ ap (λ (d : Option Due). due_flags c.args.setup.now.tolerance d j) c.due-due.ensures.value;
+  subject = subject_is c.args.table.now c.args.wish c.subject.result
+      (λ e. c.subject.ensures.repair e ∙ ap due_number c.due-due.ensures.value) c.subject.ensures.other;
   cursor = c.first_cursor-cursor.ensures ∙ ap (cursor_first c.args.wish) c.deref-3.ensures.value;
   undecided = refl;
   counts = refl;
 }
 
 pub returns-clause-kept : goal.returns-clause-kept
-returns-clause-kept c = made-kept c.args.table.now (with_master c.args.setup.now []) c.args.number c.args.wish _ (returns-clause-made c []) c.requires.some c.requires.few c.requires.named c.requires.short
+returns-clause-kept c = made-kept c.args.table.now
+    (with_master c.args.setup.now []) c.args.number c.args.wish _
+    (returns-clause-made c []) c.requires.some c.requires.few c.requires.named c.requires.short
     c.flags-flagged.ensures.long
-    (c.in-Some.ensures ∙ ap (λ (ts : List Task). sum_by (λ (x : Task). x.turns * size_of_turn c.args.setup.now.n c.args.wish c.flags-flagged.result) ts + other_actions c.args.setup.now.n c.args.wish) c.deref-2.ensures.value)
+    (c.in-Some.ensures ∙ ap
+    (λ (ts : List Task). sum_by
+    (λ (x : Task). x.turns * size_of_turn c.args.setup.now.n c.args.wish c.flags-flagged.result)
+    ts + other_actions c.args.setup.now.n c.args.wish) c.deref-2.ensures.value)

@@ -10,9 +10,13 @@ use Rattle.machine_defs.specs.Begins.{pin_by}
 pub loop-place-preserved : goal.loop-place-preserved
 loop-place-preserved c = record {
   within = omega arith;
-  pinned = pins_step c.args.table.now.files c.loop-place.place (file_of_entry c.in-Some.file) c.loop-place.pinned.items c.pin.new.pinned.items (omega arith) c.in-Some.ensures
-      c.loop-place.invariant.pinned (c.in_ok-pin-in-Some.ensures ∙ ap (λ (p : Pinned). pin_by core_pins p c.loop-place.pinned.items) c.pinned_entry.ensures);
+  pinned = pins_step c.args.table.now.files c.loop-place.place
+      (file_of_entry c.in-Some.file) c.loop-place.pinned.items c.pin.new.pinned.items
+      (omega arith) c.in-Some.ensures
+      c.loop-place.invariant.pinned (c.in_ok-pin-in-Some.ensures
+      ∙ ap (λ (p : Pinned). pin_by core_pins p c.loop-place.pinned.items) c.pinned_entry.ensures);
 }
 
 pub unreachable-requires : goal.unreachable-requires
-unreachable-requires c = get_within c.args.table.now.files (c.loop-place.place - 1) (omega arith) c.in-None.ensures
+unreachable-requires c =
+    get_within c.args.table.now.files (c.loop-place.place - 1) (omega arith) c.in-None.ensures

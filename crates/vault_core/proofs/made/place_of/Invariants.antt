@@ -5,4 +5,5 @@ use Rattle.vault_core.proofs.made.place_of.Given as goal
 use Rattle.machine_defs.specs.Begins.{pin_by}
 
 abbrev pub invariant-loop-place : goal.invariant-loop-place
-invariant-loop-place l = (file : Pinned) → file.id ≡ l.id → pin_by core_pins file l.pinned ≡ take l.place l.pinned ++ pin_by core_pins file (drop l.place l.pinned)
+invariant-loop-place l = (file : Pinned) → file.id ≡ l.id →
+    pin_by core_pins file l.pinned ≡ take l.place l.pinned ++ pin_by core_pins file (drop l.place l.pinned)

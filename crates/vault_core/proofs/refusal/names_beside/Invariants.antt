@@ -4,6 +4,7 @@ use Rattle.vault_core.proofs.refusal.names_beside.Given as goal
 
 abbrev pub invariant-loop-place : goal.invariant-loop-place
 invariant-loop-place l = record {
-  value : length (taken_names l.table.files (aims_kept l.jobs)) ≡ l.count + length (taken_names l.table.files (aims_kept (drop l.place l.jobs)));
+  value : length (taken_names l.table.files (aims_kept l.jobs))
+      ≡ l.count + length (taken_names l.table.files (aims_kept (drop l.place l.jobs)));
   few : l.count ≤ l.place;
 }

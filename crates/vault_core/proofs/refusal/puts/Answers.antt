@@ -12,4 +12,5 @@ returns-in-Put c =
     c.eq.ensures
     ∙ (ap (λ (xs : List ℕ). pointwise nat_eq xs c.as_bytes-in-Put.result.now) c.as_bytes.ensures.value
     ∙ (ap (pointwise nat_eq c.in-Put.own) c.as_bytes-in-Put.ensures.value
-    ∙ (same-pointwise c.in-Put.own c.args.name.now ∙ ap (λ (w : Wish). puts_name c.args.name.now (aim_of_wish w)) (sym c.in-Put.is))))
+    ∙ (same-pointwise c.in-Put.own c.args.name.now
+    ∙ ap (λ (w : Wish). puts_name c.args.name.now (aim_of_wish w)) (sym c.in-Put.is))))

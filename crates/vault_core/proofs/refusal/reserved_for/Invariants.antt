@@ -7,6 +7,7 @@ use Rattle.vault_core.proofs.refusal.reserved_for.Given as goal
 
 abbrev pub invariant-loop-job : goal.invariant-loop-job
 invariant-loop-job l = record {
-  value : l.room ≡ sum_by (λ (j : Job). reserved_of l.providers (core_job l.providers j)) (take l.job-index l.jobs);
+  value : l.room ≡ sum_by (λ (j : Job). reserved_of l.providers (core_job l.providers j))
+      (take l.job-index l.jobs);
   bound : l.room ≤ l.job-index * 1045;
 }

@@ -22,18 +22,21 @@ use Rattle.vault_open.proofs.set_up.init.Goals as goal
 pub returns-then-not-check-clause-refused : goal.returns-then-not-check-clause-refused
 returns-then-not-check-clause-refused g c =
     let s = with_master c.args.setup.now c.args.master.now.0 in
-    bad-refused s (g.D.Disk.holds c.args.disk.now) (sym (c.check.ensures c.args.master.now.0) ∙ c.if-not-check.true)
+    bad-refused s (g.D.Disk.holds c.args.disk.now) (sym (c.check.ensures c.args.master.now.0)
+    ∙ c.if-not-check.true)
 
 pub returns-then-not-check-clause-machine : goal.returns-then-not-check-clause-machine
 returns-then-not-check-clause-machine g c = λ w providers moment may are.
     let s = with_master c.args.setup.now c.args.master.now.0 in
-    bad-setup s w moment providers (g.D.Disk.holds c.args.disk.now) _ may are (sym (c.check.ensures c.args.master.now.0) ∙ c.if-not-check.true)
+    bad-setup s w moment providers (g.D.Disk.holds c.args.disk.now) _ may are
+    (sym (c.check.ensures c.args.master.now.0) ∙ c.if-not-check.true)
 
 pub returns-in_err-prepare-clause-refused : goal.returns-in_err-prepare-clause-refused
 returns-in_err-prepare-clause-refused g c =
     let s = with_master c.args.setup.now c.args.master.now.0 in
     err-from c.from_residual.result _ _
-    (λ why is. subst (λ (f : InitFault). IfSome (g.D.Disk.holds c.args.disk.now) (λ cells. IsInitFault (journal_read cells) s f)) (sym is) (c.in_err-prepare.ensures.refused s))
+    (λ why is. subst (λ (f : InitFault). IfSome (g.D.Disk.holds c.args.disk.now)
+    (λ cells. IsInitFault (journal_read cells) s f)) (sym is) (c.in_err-prepare.ensures.refused s))
     c.from_residual.ensures.1
 
 pub returns-in_err-prepare-clause-machine : goal.returns-in_err-prepare-clause-machine
@@ -42,15 +45,20 @@ returns-in_err-prepare-clause-machine g c = λ w providers moment may are.
     let valid : is_setup s ≡ true = sym (c.check.ensures c.args.master.now.0) ∙ c.if-not-check.false in
     let why = c.in_err-prepare.field-0.0 in
     let after = devices (g.D.Disk.holds c.prepare.new.disk) (g.D.Disk.faults c.prepare.new.disk) providers in
-    let cause = cause-after (g.D.Disk.faults c.args.disk.now) (g.D.Disk.faults c.args.disk.now) (g.D.Disk.faults c.prepare.new.disk) _ (why ≡ init_fault.DiskFault) (omega arith)
+    let cause = cause-after (g.D.Disk.faults c.args.disk.now) (g.D.Disk.faults c.args.disk.now)
+    (g.D.Disk.faults c.prepare.new.disk) _ (why ≡ init_fault.DiskFault) (omega arith)
     c.in_err-prepare.ensures.cause (λ is. ap (λ (f : InitFault). Err f) is) in
-    subst (λ (r : Result Unit InitFault). MakesInit w moment s r after) (sym (err-is c.from_residual.result why c.from_residual.ensures.1))
-    (prepared-event s w moment providers (g.D.Disk.holds c.args.disk.now) (g.D.Disk.holds c.prepare.new.disk) (g.D.Disk.faults c.args.disk.now) (g.D.Disk.faults c.prepare.new.disk) why may are valid
+    subst (λ (r : Result Unit InitFault). MakesInit w moment s r after)
+    (sym (err-is c.from_residual.result why c.from_residual.ensures.1))
+    (prepared-event s w moment providers (g.D.Disk.holds c.args.disk.now) (g.D.Disk.holds c.prepare.new.disk)
+    (g.D.Disk.faults c.args.disk.now) (g.D.Disk.faults c.prepare.new.disk) why may are valid
     (c.in_err-prepare.ensures.refused s) c.in_err-prepare.ensures.looked c.in_err-prepare.ensures.left cause)
 
 pub returns-in_err-prepare-clause-left : goal.returns-in_err-prepare-clause-left
 returns-in_err-prepare-clause-left g c =
-    on_err c.from_residual.result _ (half-left (with_master c.args.setup.now c.args.master.now.0) (g.D.Disk.holds c.args.disk.now) (g.D.Disk.holds c.prepare.new.disk) c.in_err-prepare.ensures.left)
+    on_err c.from_residual.result _
+    (half-left (with_master c.args.setup.now c.args.master.now.0) (g.D.Disk.holds c.args.disk.now)
+    (g.D.Disk.holds c.prepare.new.disk) c.in_err-prepare.ensures.left)
 
 pub append_setup-requires : goal.append_setup-requires
 append_setup-requires g c = sym (c.check.ensures c.args.master.now.0) ∙ c.if-not-check.false
@@ -60,25 +68,35 @@ returns-in_err-append_setup-clause-machine g c = λ w providers moment may are.
     let s = with_master c.args.setup.now c.args.master.now.0 in
     let valid : is_setup s ≡ true = sym (c.check.ensures c.args.master.now.0) ∙ c.if-not-check.false in
     let fault = c.in_err-append_setup.field-0.0 in
-    let after = devices (g.D.Disk.holds c.append_setup.new.disk) (g.D.Disk.faults c.append_setup.new.disk) providers in
+    let after = devices (g.D.Disk.holds c.append_setup.new.disk)
+    (g.D.Disk.faults c.append_setup.new.disk) providers in
     let first = c.in_ok-prepare.ensures.cause.never_falls in
-    let blank = readied-blank (g.D.Disk.holds c.args.disk.now) (g.D.Disk.holds c.prepare.new.disk) c.in_ok-prepare.ensures.ok in
-    let cause = cause-after (g.D.Disk.faults c.args.disk.now) (g.D.Disk.faults c.prepare.new.disk) (g.D.Disk.faults c.append_setup.new.disk) _ (fault ≡ write_fault.Failed) first
+    let blank = readied-blank (g.D.Disk.holds c.args.disk.now)
+    (g.D.Disk.holds c.prepare.new.disk) c.in_ok-prepare.ensures.ok in
+    let cause = cause-after (g.D.Disk.faults c.args.disk.now) (g.D.Disk.faults c.prepare.new.disk)
+    (g.D.Disk.faults c.append_setup.new.disk) _ (fault ≡ write_fault.Failed) first
     c.in_err-append_setup.ensures.cause (λ is. ap (λ (f : WriteFault). Err f) is) in
-    subst (λ (r : Result Unit InitFault). MakesInit w moment s r after) (sym (err-is c.from_residual-in_err-append_setup.result (init_answer fault) c.from_residual-in_err-append_setup.ensures.1))
-    (append-event s w moment providers (g.D.Disk.holds c.args.disk.now) (g.D.Disk.holds c.prepare.new.disk) (g.D.Disk.holds c.append_setup.new.disk) (g.D.Disk.faults c.args.disk.now)
-    (g.D.Disk.faults c.append_setup.new.disk) fault may are valid c.in_ok-prepare.ensures.ok (c.in_err-append_setup.ensures.left blank) cause)
+    subst (λ (r : Result Unit InitFault). MakesInit w moment s r after)
+    (sym (err-is c.from_residual-in_err-append_setup.result
+    (init_answer fault) c.from_residual-in_err-append_setup.ensures.1))
+    (append-event s w moment providers (g.D.Disk.holds c.args.disk.now) (g.D.Disk.holds c.prepare.new.disk)
+    (g.D.Disk.holds c.append_setup.new.disk) (g.D.Disk.faults c.args.disk.now)
+    (g.D.Disk.faults c.append_setup.new.disk) fault may are valid c.in_ok-prepare.ensures.ok
+    (c.in_err-append_setup.ensures.left blank) cause)
 
 pub returns-in_err-append_setup-clause-left : goal.returns-in_err-append_setup-clause-left
 returns-in_err-append_setup-clause-left g c =
-    let blank = readied-blank (g.D.Disk.holds c.args.disk.now) (g.D.Disk.holds c.prepare.new.disk) c.in_ok-prepare.ensures.ok in
+    let blank = readied-blank (g.D.Disk.holds c.args.disk.now)
+    (g.D.Disk.holds c.prepare.new.disk) c.in_ok-prepare.ensures.ok in
     on_err c.from_residual-in_err-append_setup.result _
-    (append-left (with_master c.args.setup.now c.args.master.now.0) (g.D.Disk.holds c.args.disk.now) (g.D.Disk.holds c.prepare.new.disk) (g.D.Disk.holds c.append_setup.new.disk)
+    (append-left (with_master c.args.setup.now c.args.master.now.0) (g.D.Disk.holds c.args.disk.now)
+    (g.D.Disk.holds c.prepare.new.disk) (g.D.Disk.holds c.append_setup.new.disk)
     c.in_ok-prepare.ensures.ok (c.in_err-append_setup.ensures.left blank))
 
 pub returns-clause-ok : goal.returns-clause-ok
 returns-clause-ok g c =
-    set-up-on (with_master c.args.setup.now c.args.master.now.0) (g.D.Disk.holds c.args.disk.now) (g.D.Disk.holds c.prepare.new.disk) (g.D.Disk.holds c.append_setup.new.disk)
+    set-up-on (with_master c.args.setup.now c.args.master.now.0) (g.D.Disk.holds c.args.disk.now)
+    (g.D.Disk.holds c.prepare.new.disk) (g.D.Disk.holds c.append_setup.new.disk)
     c.in_ok-prepare.ensures.ok c.in_ok-append_setup.ensures.ok
 
 pub returns-clause-machine : goal.returns-clause-machine
@@ -87,35 +105,48 @@ returns-clause-machine g c = λ w providers moment may are.
     let valid : is_setup s ≡ true = sym (c.check.ensures c.args.master.now.0) ∙ c.if-not-check.false in
     let first = c.in_ok-prepare.ensures.cause.never_falls in
     let second = c.in_ok-append_setup.ensures.cause.never_falls in
-    ready-event s w moment providers (g.D.Disk.holds c.args.disk.now) (g.D.Disk.holds c.append_setup.new.disk) (g.D.Disk.faults c.args.disk.now) (g.D.Disk.faults c.append_setup.new.disk) may are valid
+    ready-event s w moment providers (g.D.Disk.holds c.args.disk.now) (g.D.Disk.holds c.append_setup.new.disk)
+    (g.D.Disk.faults c.args.disk.now) (g.D.Disk.faults c.append_setup.new.disk) may are valid
     (returns-clause-ok g c) c.in_ok-append_setup.ensures.spelled (omega (arith, first, second))
 
 pub returns-then-not-check-clause-bad_setup : goal.returns-then-not-check-clause-bad_setup
-returns-then-not-check-clause-bad_setup g c = (λ is. sym (c.check.ensures c.args.master.now.0) ∙ c.if-not-check.true, λ bad. refl)
+returns-then-not-check-clause-bad_setup g c =
+    (λ is. sym (c.check.ensures c.args.master.now.0) ∙ c.if-not-check.true, λ bad. refl)
 
 pub returns-in_err-prepare-clause-unlooked : goal.returns-in_err-prepare-clause-unlooked
 returns-in_err-prepare-clause-unlooked g c = λ is.
-    absurd (unjudged c.from_residual.result c.in_err-prepare.field-0.0 c.from_residual.ensures.1 (λ same. c.in_err-prepare.ensures.unjudged (ap (λ (f : InitFault). Err f) same)) is)
+    absurd (unjudged c.from_residual.result c.in_err-prepare.field-0.0 c.from_residual.ensures.1
+    (λ same. c.in_err-prepare.ensures.unjudged (ap (λ (f : InitFault). Err f) same)) is)
 
 pub returns-in_err-prepare-clause-bad_setup : goal.returns-in_err-prepare-clause-bad_setup
 returns-in_err-prepare-clause-bad_setup g c =
-    let valid : is_setup (with_master c.args.setup.now c.args.master.now.0) ≡ true = sym (c.check.ensures c.args.master.now.0) ∙ c.if-not-check.false in (
-      λ is. absurd (unjudged c.from_residual.result c.in_err-prepare.field-0.0 c.from_residual.ensures.1 (λ same. c.in_err-prepare.ensures.unjudged (ap (λ (f : InitFault). Err f) same)) is),
+    let valid : is_setup (with_master c.args.setup.now c.args.master.now.0) ≡ true =
+    sym (c.check.ensures c.args.master.now.0) ∙ c.if-not-check.false in (
+      λ is. absurd (unjudged c.from_residual.result c.in_err-prepare.field-0.0 c.from_residual.ensures.1
+          (λ same. c.in_err-prepare.ensures.unjudged (ap (λ (f : InitFault). Err f) same)) is),
       λ bad. absurd (false≢true (sym bad ∙ valid)),
     )
 
 pub returns-in_err-append_setup-clause-unlooked : goal.returns-in_err-append_setup-clause-unlooked
 returns-in_err-append_setup-clause-unlooked g c = λ is.
-    absurd (unjudged c.from_residual-in_err-append_setup.result (init_answer c.in_err-append_setup.field-0.0) c.from_residual-in_err-append_setup.ensures.1 (disk-unjudged c.in_err-append_setup.field-0.0) is)
+    absurd (unjudged c.from_residual-in_err-append_setup.result
+    (init_answer c.in_err-append_setup.field-0.0) c.from_residual-in_err-append_setup.ensures.1
+    (disk-unjudged c.in_err-append_setup.field-0.0) is)
 
 pub returns-in_err-append_setup-clause-bad_setup : goal.returns-in_err-append_setup-clause-bad_setup
 returns-in_err-append_setup-clause-bad_setup g c =
-    let valid : is_setup (with_master c.args.setup.now c.args.master.now.0) ≡ true = sym (c.check.ensures c.args.master.now.0) ∙ c.if-not-check.false in (
-      λ is. absurd (unjudged c.from_residual-in_err-append_setup.result (init_answer c.in_err-append_setup.field-0.0) c.from_residual-in_err-append_setup.ensures.1 (disk-unjudged c.in_err-append_setup.field-0.0) is),
+    let valid : is_setup (with_master c.args.setup.now c.args.master.now.0) ≡ true =
+    sym (c.check.ensures c.args.master.now.0) ∙ c.if-not-check.false in (
+      λ is. absurd (unjudged c.from_residual-in_err-append_setup.result
+          (init_answer c.in_err-append_setup.field-0.0) c.from_residual-in_err-append_setup.ensures.1
+          (disk-unjudged c.in_err-append_setup.field-0.0) is),
       λ bad. absurd (false≢true (sym bad ∙ valid)),
     )
 
 pub returns-clause-bad_setup : goal.returns-clause-bad_setup
 returns-clause-bad_setup g c =
-    let valid : is_setup (with_master c.args.setup.now c.args.master.now.0) ≡ true = sym (c.check.ensures c.args.master.now.0) ∙ c.if-not-check.false in
-    (λ is. absurd (let e : ◌≡◌ {A = Result Unit InitFault} (Ok tt) (Err init_fault.BadSetup) = is in cc), λ bad. absurd (false≢true (sym bad ∙ valid)))
+    let valid : is_setup (with_master c.args.setup.now c.args.master.now.0) ≡ true =
+    sym (c.check.ensures c.args.master.now.0) ∙ c.if-not-check.false in (
+      λ is. absurd (let e : ◌≡◌ {A = Result Unit InitFault} (Ok tt) (Err init_fault.BadSetup) = is in cc),
+      λ bad. absurd (false≢true (sym bad ∙ valid)),
+    )

@@ -17,7 +17,9 @@ returns-in_err-table-clause-refused g c =
     let looked : IsLookedAt told c.in-Some.bytes.items = rw c.in-Some.is at c.in_ok-bytes.ensures.bytes in
     let looked_at = subst (λ (l : List ℕ). IsLookedAt told l) (sym c.deref.ensures.value) looked in
     err-from c.from_residual-in_err-table.result _ _
-    (λ why is. subst (λ (f : StartFault). IfSome told (λ cells. IsStartFault (journal_read cells) f)) (sym is) (fold_fault told c.deref.result.now c.in_err-table.field-0.0 looked_at c.in_err-table.ensures.refused))
+    (λ why is. subst (λ (f : StartFault). IfSome told (λ cells. IsStartFault (journal_read cells) f)) (sym is)
+    (fold_fault told c.deref.result.now c.in_err-table.field-0.0 looked_at
+    c.in_err-table.ensures.refused))
     c.from_residual-in_err-table.ensures.1
 
 pub returns-in_default-setup-clause-refused : goal.returns-in_default-setup-clause-refused
@@ -26,7 +28,8 @@ returns-in_default-setup-clause-refused g c =
     let looked : IsLookedAt told c.in-Some.bytes.items = rw c.in-Some.is at c.in_ok-bytes.ensures.bytes in
     let looked_at = subst (λ (l : List ℕ). IsLookedAt told l) (sym c.deref.ensures.value) looked in
     let folded = c.in_ok-table.ensures.ok in
-    none_fault c.deref.result.now folded.0 c.in_ok-table.table c.in_ok-table.end folded.1 told looked_at (sym c.in_default-setup.ensures)
+    none_fault c.deref.result.now folded.0 c.in_ok-table.table c.in_ok-table.end folded.1 told looked_at
+    (sym c.in_default-setup.ensures)
 
 pub returns-clause-read : goal.returns-clause-read
 returns-clause-read g c =
@@ -37,5 +40,6 @@ returns-clause-read g c =
     let found = sym c.in-Some-setup.ensures in (
       folded.0,
       read c.deref.result.now folded.0 c.in_ok-table.table c.in_ok-table.end folded.1 _ found told looked_at,
-      stored c.deref.result.now folded.0 c.in_ok-table.table c.in_ok-table.end folded.1 _ told _ refl refl found c.in_ok-bytes.ensures.synced looked_at,
+      stored c.deref.result.now folded.0 c.in_ok-table.table c.in_ok-table.end folded.1 _ told _ refl refl
+          found c.in_ok-bytes.ensures.synced looked_at,
     )

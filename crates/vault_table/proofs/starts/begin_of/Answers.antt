@@ -9,13 +9,16 @@ loop-i-init c = mark-at c.args.sizes.now c.args.marks.now c.args.place c.require
 pub overflow_add-at : goal.overflow_add-at
 overflow_add-at c =
     let at = c.loop-i.invariant in
-    let step = begins-step c.args.sizes.now c.loop-i.i (omega (arith, c.loop-i-test.true, c.requires.place)) in
-    let below = begins-le c.args.sizes.now (c.loop-i.i + 1) (length c.args.sizes.now) (omega (arith, c.loop-i-test.true, c.requires.place)) in
+    let step = begins-step c.args.sizes.now c.loop-i.i
+    (omega (arith, c.loop-i-test.true, c.requires.place)) in
+    let below = begins-le c.args.sizes.now (c.loop-i.i + 1) (length c.args.sizes.now)
+    (omega (arith, c.loop-i-test.true, c.requires.place)) in
     omega (arith, at, step, below, c.requires.fits)
 
 pub loop-i-preserved : goal.loop-i-preserved
 loop-i-preserved c =
-    let step = begins-step c.args.sizes.now c.loop-i.i (omega (arith, c.loop-i-test.true, c.requires.place)) in
+    let step = begins-step c.args.sizes.now c.loop-i.i
+    (omega (arith, c.loop-i-test.true, c.requires.place)) in
     ap (λ n. n + slice_index_or c.args.sizes.now c.loop-i.i 0 % 128) c.loop-i.invariant ∙ sym step
 
 pub returns : goal.returns

@@ -8,7 +8,9 @@ use Rattle.column_codec.proofs.keys.ObjectKeys.carry.Goals as goal
 pub returns-in-None-clause-carried : goal.returns-in-None-clause-carried
 returns-in-None-clause-carried c = λ place below.
     let file = c.args.self.now.file in
-    has-row (shaped_object c.args.self.now.master.0 file) (opened_of c.args.marks.now c.args.blocks.now file.shape.n) c.guess.new.rows place
+    has-row (shaped_object c.args.self.now.master.0 file)
+    (opened_of c.args.marks.now c.args.blocks.now file.shape.n) c.guess.new.rows place
     (c.guess.auto.rows ∙ c.loop-left.auto.rows ∙ c.requires.rows) below
-    (keep_below file.profile.number file.profile.size file.profile.keep file.profile.size_is file.profile.keep_is)
+    (keep_below file.profile.number file.profile.size file.profile.keep file.profile.size_is
+    file.profile.keep_is)
     (c.in-None.ensures.none place below)

@@ -15,7 +15,9 @@ returns-clause-given c =
     let seen = present_blocks file.profile.size c.args.present.now c.args.seen.now in
     on_true _ (GivesSymbols o c.args.stripe seen c.carry.new.rows) c.carry.result
     (marked-give o c.args.stripe seen c.mark_clean-count.new.marks c.mark_clean-count.new.out
-    (profile_room file.profile.number file.profile.size file.profile.keep file.profile.fix file.profile.size_is file.profile.keep_is file.profile.fix_is)
-    (length-present_blocks file.profile.size c.args.present.now c.args.seen.now ∙ c.requires.present) c.mark_clean-count.ensures.opened c.carry.new.rows
+    (profile_room file.profile.number file.profile.size file.profile.keep file.profile.fix
+    file.profile.size_is file.profile.keep_is file.profile.fix_is)
+    (length-present_blocks file.profile.size c.args.present.now c.args.seen.now
+    ∙ c.requires.present) c.mark_clean-count.ensures.opened c.carry.new.rows
     (c.carry.auto.rows ∙ c.requires.rows))
     c.carry.ensures.carried

@@ -7,6 +7,8 @@ use Rattle.column_codec.proofs.keys.ObjectKeys.columns_into.Given as goal
 -- the blocks before this one are filled, and the others have their size
 abbrev pub invariant-loop-j : goal.invariant-loop-j
 invariant-loop-j l = record {
-  filled : take l.j l.out ≡ map (λ (j : ℕ). column_of_symbols (shaped_object l.self.master.0 l.self.file) l.symbols j l.stripe) (upto l.j);
+  filled : take l.j l.out
+      ≡ map (λ (j : ℕ). column_of_symbols (shaped_object l.self.master.0 l.self.file) l.symbols j l.stripe)
+      (upto l.j);
   sizes : (k : ℕ) → l.j ≤ k → k < length l.out → length (get_or l.out k []) ≡ l.self.file.profile.size;
 }

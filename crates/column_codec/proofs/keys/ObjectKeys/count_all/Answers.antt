@@ -8,7 +8,9 @@ use Rattle.column_codec.proofs.keys.ObjectKeys.count_all.Goals as goal
 
 pub loop-j-init : goal.loop-j-init
 loop-j-init c = record {
-  counted = λ place below. c.requires.zeros place ∙ agreed_none (shaped_object c.args.self.now.master.0 c.args.self.now.file) c.args.rows.now c.args.marks.now c.args.blocks.now place;
+  counted = λ place below. c.requires.zeros place
+      ∙ agreed_none (shaped_object c.args.self.now.master.0 c.args.self.now.file) c.args.rows.now
+      c.args.marks.now c.args.blocks.now place;
   few = λ place. omega (arith, c.requires.zeros place);
 }
 
@@ -19,9 +21,12 @@ loop-j-preserved c =
     let inside : j < length c.args.blocks.now = c.loop-j-test.true in
     record {
       counted = λ place below.
-          agreed_more (shaped_object keys.master.0 keys.file) c.args.rows.now c.args.marks.now c.args.blocks.now place j (get_or c.loop-j.counts place 0) (get_or c.count_provider.new.counts place 0) _
+          agreed_more (shaped_object keys.master.0 keys.file) c.args.rows.now c.args.marks.now
+          c.args.blocks.now place j (get_or c.loop-j.counts place 0)
+          (get_or c.count_provider.new.counts place 0) _
           (λ i. if get_or c.args.marks.now j false
-          then Some ((c.symbols.ensures ∙ c.index-blocks-j.is ∙ get_or_default c.args.blocks.now j c.index-blocks-j.result [] inside) i) else None)
+          then Some ((c.symbols.ensures ∙ c.index-blocks-j.is
+          ∙ get_or_default c.args.blocks.now j c.index-blocks-j.result [] inside) i) else None)
           (c.loop-j.invariant.counted place below) (c.count_provider.ensures.counts place below);
       few = c.count_provider.ensures.few;
     }
@@ -29,6 +34,8 @@ loop-j-preserved c =
 pub returns-clause-counts : goal.returns-clause-counts
 returns-clause-counts c = λ place below.
     let keys = c.args.self.now in
-    let end : c.loop-j.j ≡ keys.file.shape.n = omega (arith, c.loop-j-test.false, c.loop-j.auto, c.requires.blocks) in
+    let end : c.loop-j.j ≡ keys.file.shape.n = omega
+    (arith, c.loop-j-test.false, c.loop-j.auto, c.requires.blocks) in
     c.loop-j.invariant.counted place below
-    ∙ ap (agreed (shaped_object keys.master.0 keys.file) c.args.rows.now c.args.marks.now c.args.blocks.now place) end
+    ∙ ap (agreed (shaped_object keys.master.0 keys.file) c.args.rows.now c.args.marks.now c.args.blocks.now
+    place) end

@@ -5,4 +5,5 @@ use Rattle.column_codec.proofs.keys.ObjectKeys.encode_stripe.Goals as goal
 pub returns-clause-sizes : goal.returns-clause-sizes
 returns-clause-sizes c =
     let keys = c.args.self.now in
-    columns-sizes (shaped_object keys.master.0 keys.file) _ c.args.stripe keys.file.shape.n c.columns_into.new.out c.columns_into.ensures
+    columns-sizes (shaped_object keys.master.0 keys.file) _ c.args.stripe keys.file.shape.n
+    c.columns_into.new.out c.columns_into.ensures

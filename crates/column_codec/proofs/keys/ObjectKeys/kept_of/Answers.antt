@@ -7,11 +7,13 @@ use Rattle.column_codec.proofs.keys.ObjectKeys.kept_of.Goals as goal
 pub slice_bounds-result-end : goal.slice_bounds-result-end
 slice_bounds-result-end c =
     let profile = c.args.self.now.file.profile in
-    sym (length-front c.args.blocks.now c.symbols.result.now _ c.args.provider profile.size profile.keep c.symbols.ensures c.index-blocks-provider.is c.requires.provider c.requires.sizes
+    sym (length-front c.args.blocks.now c.symbols.result.now _ c.args.provider profile.size profile.keep
+    c.symbols.ensures c.index-blocks-provider.is c.requires.provider c.requires.sizes
     (keep_below profile.number profile.size profile.keep profile.size_is profile.keep_is))
 
 pub returns : goal.returns
 returns c =
     let profile = c.args.self.now.file.profile in
-    length-front c.args.blocks.now c.symbols.result.now _ c.args.provider profile.size profile.keep c.symbols.ensures c.index-blocks-provider.is c.requires.provider c.requires.sizes
+    length-front c.args.blocks.now c.symbols.result.now _ c.args.provider profile.size profile.keep
+    c.symbols.ensures c.index-blocks-provider.is c.requires.provider c.requires.sizes
     (keep_below profile.number profile.size profile.keep profile.size_is profile.keep_is)

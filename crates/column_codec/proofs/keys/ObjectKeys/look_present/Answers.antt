@@ -10,7 +10,10 @@ returns c =
     let keys = c.args.self.now in
     let size = keys.file.profile.size in
     let o = shaped_object keys.master.0 keys.file in
-    on_true _ (OpensTo o c.args.provider c.args.stripe (get_or (present_blocks size c.args.present.now c.args.seen.now) c.args.provider None) (Some c.look_whole.new.out)) c.look_whole.result
-    (opens-present o c.args.stripe size c.args.present.now c.args.seen.now _ c.args.provider (Some c.look_whole.new.out) (omega (arith, c.requires.present, c.requires.provider))
+    on_true _ (OpensTo o c.args.provider c.args.stripe
+    (get_or (present_blocks size c.args.present.now c.args.seen.now) c.args.provider None)
+    (Some c.look_whole.new.out)) c.look_whole.result
+    (opens-present o c.args.stripe size c.args.present.now c.args.seen.now _ c.args.provider
+    (Some c.look_whole.new.out) (omega (arith, c.requires.present, c.requires.provider))
     c.if-not-present-provider.false (part-is c.args.seen.now c.args.provider _ size c.requires.out))
     c.look_whole.ensures

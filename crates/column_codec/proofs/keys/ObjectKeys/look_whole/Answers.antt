@@ -13,6 +13,8 @@ returns c =
     let profile = plain_profile keys.file.profile in
     let out = c.take_masks_off.new.block in
     let o = shaped_object keys.master.0 keys.file in
-    OnTrue_from c.is_codeword.result (Opens profile (bare o c.args.provider c.args.stripe c.args.seen.now) out)
-    (λ e. subst (λ (b : List ℕ). Opens profile b out) (c.take_masks_off.ensures ∙ ap (bare o c.args.provider c.args.stripe) c.copy_from_slice.ensures.after)
+    OnTrue_from c.is_codeword.result
+    (Opens profile (bare o c.args.provider c.args.stripe c.args.seen.now) out)
+    (λ e. subst (λ (b : List ℕ). Opens profile b out)
+    (c.take_masks_off.ensures ∙ ap (bare o c.args.provider c.args.stripe) c.copy_from_slice.ensures.after)
     (codeword_opens profile out (rw c.requires.code at (c.is_codeword.ensures.0 e))))

@@ -14,8 +14,11 @@ look_present-requires-clause-mark c =
     let keys = c.args.self.now in
     let seen = present_blocks keys.file.profile.size c.args.present.now c.args.seen.now in
     let j = c.loop-j.j in
-    let is = c.deref_mut.ensures.value ∙ c.block.view_is ∙ get_or_default c.loop-j.out j c.index-out-j.result [] (omega arith) in
-    OnTrue_from _ _ (λ marked. subst (λ (b : List ℕ). OpensTo (shaped_object keys.master.0 keys.file) j c.args.stripe (get_or seen j None) (Some b)) (sym is)
+    let is = c.deref_mut.ensures.value ∙ c.block.view_is
+    ∙ get_or_default c.loop-j.out j c.index-out-j.result [] (omega arith) in
+    OnTrue_from _ _ (λ marked. subst
+    (λ (b : List ℕ). OpensTo (shaped_object keys.master.0 keys.file) j c.args.stripe (get_or seen j None)
+    (Some b)) (sym is)
     (c.loop-j.invariant.opened j (omega arith) marked))
 
 -- one block more was looked at
@@ -29,13 +32,17 @@ loop-j-preserved c =
     let size : length new ≡ keys.file.profile.size = omega (
       arith,
       c.look_present.auto.out,
-      ap length (c.deref_mut.ensures.value ∙ c.block.view_is ∙ get_or_default c.loop-j.out j c.index-out-j.result [] inside),
+      ap length (c.deref_mut.ensures.value ∙ c.block.view_is
+          ∙ get_or_default c.loop-j.out j c.index-out-j.result [] inside),
       c.loop-j.invariant.sizes j inside,
     ) in
-    let len : c.block.inside.symbols.len ≡ length new = omega (arith, c.deref_mut.ensures.len, c.look_present.auto.out) in
+    let len : c.block.inside.symbols.len ≡ length new =
+    omega (arith, c.deref_mut.ensures.len, c.look_present.auto.out) in
     record {
-      opened = marked_more (shaped_object keys.master.0 keys.file) c.args.stripe seen c.loop-j.marks c.loop-j.out j c.look_present.result _ new (omega arith) inside
+      opened = marked_more (shaped_object keys.master.0 keys.file) c.args.stripe seen c.loop-j.marks
+          c.loop-j.out j c.look_present.result _ new (omega arith) inside
           (rewritten new _ c.block.inside.symbols.len len) c.look_present.ensures c.loop-j.invariant.opened;
-      sizes = all_sizes c.loop-j.out keys.file.profile.size j _ new inside (rewritten new _ c.block.inside.symbols.len len) size c.loop-j.invariant.sizes;
+      sizes = all_sizes c.loop-j.out keys.file.profile.size j _ new inside
+          (rewritten new _ c.block.inside.symbols.len len) size c.loop-j.invariant.sizes;
       few = grind arith;
     }

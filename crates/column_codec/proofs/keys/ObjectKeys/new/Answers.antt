@@ -6,4 +6,5 @@ use Rattle.column_codec.proofs.keys.ObjectKeys.new.Goals as goal
 pub all_weights-requires : goal.all_weights-requires
 all_weights-requires c =
     let file = c.args.file.now in
-    secondary-outside (shaped_object c.args.master.now.0 file) c.points-points.result c.points-points.ensures (omega (arith, file.shape.fits.1))
+    secondary-outside (shaped_object c.args.master.now.0 file) c.points-points.result c.points-points.ensures
+    (omega (arith, file.shape.fits.1))

@@ -17,7 +17,11 @@ pub loop-place-preserved : goal.loop-place-preserved
 loop-place-preserved c =
     let keys = c.args.self.now in
     record {
-      has = rows_more (shaped_object keys.master.0 keys.file) (opened_of c.args.marks.now c.args.blocks.now keys.file.shape.n) c.loop-place.rows c.put_row.new.out c.open_place.new.work.rest c.loop-place.place
-          (omega arith) c.if-not-open_place.ensures.yes (λ j below. c.put_row.ensures.here j (omega (arith, below, c.from-l.ensures))) c.put_row.ensures.others c.loop-place.invariant.has;
+      has = rows_more (shaped_object keys.master.0 keys.file)
+          (opened_of c.args.marks.now c.args.blocks.now keys.file.shape.n) c.loop-place.rows c.put_row.new.out
+          c.open_place.new.work.rest c.loop-place.place
+          (omega arith) c.if-not-open_place.ensures.yes
+          (λ j below. c.put_row.ensures.here j (omega (arith, below, c.from-l.ensures)))
+          c.put_row.ensures.others c.loop-place.invariant.has;
       room = c.open_place.ensures.room ∙ c.loop-place.invariant.room;
     }

@@ -6,6 +6,8 @@ use Rattle.column_codec.proofs.keys.ObjectKeys.open_each_row.Given as goal
 -- the rows before this one stand in their places
 abbrev pub invariant-loop-place : goal.invariant-loop-place
 invariant-loop-place l = record {
-  has : (p : ℕ) → p < l.place → HasRow (shaped_object l.self.master.0 l.self.file) (opened_of l.marks l.blocks l.self.file.shape.n) p l.rows;
+  has : (p : ℕ) → p < l.place →
+      HasRow (shaped_object l.self.master.0 l.self.file)
+      (opened_of l.marks l.blocks l.self.file.shape.n) p l.rows;
   room : l.work.size ≡ l.initial.work.size;
 }

@@ -8,7 +8,8 @@ use Rattle.column_codec.proofs.keys.ObjectKeys.open_present_block.Goals as goal
 pub returns-then-not-present-provider-clause-no : goal.returns-then-not-present-provider-clause-no
 returns-then-not-present-provider-clause-no c =
     let keys = c.args.self.now in
-    opens-absent (shaped_object keys.master.0 keys.file) c.args.stripe keys.file.profile.size c.args.present.now c.args.seen.now c.args.provider
+    opens-absent (shaped_object keys.master.0 keys.file) c.args.stripe keys.file.profile.size
+    c.args.present.now c.args.seen.now c.args.provider
     (omega (arith, c.requires.present, c.requires.provider)) c.if-not-present-provider.true
 
 pub returns-clause-yes : goal.returns-clause-yes
@@ -16,8 +17,11 @@ returns-clause-yes c =
     let keys = c.args.self.now in
     let size = keys.file.profile.size in
     let o = shaped_object keys.master.0 keys.file in
-    on_true _ (OpensTo o c.args.provider c.args.stripe (get_or (present_blocks size c.args.present.now c.args.seen.now) c.args.provider None) (Some c.open_whole.new.out)) c.open_whole.result
-    (opens-present o c.args.stripe size c.args.present.now c.args.seen.now _ c.args.provider (Some c.open_whole.new.out) (omega (arith, c.requires.present, c.requires.provider))
+    on_true _ (OpensTo o c.args.provider c.args.stripe
+    (get_or (present_blocks size c.args.present.now c.args.seen.now) c.args.provider None)
+    (Some c.open_whole.new.out)) c.open_whole.result
+    (opens-present o c.args.stripe size c.args.present.now c.args.seen.now _ c.args.provider
+    (Some c.open_whole.new.out) (omega (arith, c.requires.present, c.requires.provider))
     c.if-not-present-provider.false (part-is c.args.seen.now c.args.provider _ size c.requires.out))
     c.open_whole.ensures.yes
 
@@ -26,7 +30,10 @@ returns-clause-no c =
     let keys = c.args.self.now in
     let size = keys.file.profile.size in
     let o = shaped_object keys.master.0 keys.file in
-    on_false _ (OpensTo o c.args.provider c.args.stripe (get_or (present_blocks size c.args.present.now c.args.seen.now) c.args.provider None) None) c.open_whole.result
-    (opens-present o c.args.stripe size c.args.present.now c.args.seen.now _ c.args.provider None (omega (arith, c.requires.present, c.requires.provider))
+    on_false _ (OpensTo o c.args.provider c.args.stripe
+    (get_or (present_blocks size c.args.present.now c.args.seen.now) c.args.provider None) None)
+    c.open_whole.result
+    (opens-present o c.args.stripe size c.args.present.now c.args.seen.now _ c.args.provider None
+    (omega (arith, c.requires.present, c.requires.provider))
     c.if-not-present-provider.false (part-is c.args.seen.now c.args.provider _ size c.requires.out))
     c.open_whole.ensures.no

@@ -8,7 +8,9 @@ use Rattle.column_codec.proofs.keys.ObjectKeys.open_present_blocks.Given as goal
 -- the blocks before this one are opened, and all have their size
 abbrev pub invariant-loop-j : goal.invariant-loop-j
 invariant-loop-j l = record {
-  each : (k : ℕ) → k < l.j → OpensTo (shaped_object l.self.master.0 l.self.file) k l.stripe (get_or (present_blocks l.self.file.profile.size l.present l.seen) k None) (opened_at l.marks l.out k);
+  each : (k : ℕ) → k < l.j →
+      OpensTo (shaped_object l.self.master.0 l.self.file) k l.stripe
+      (get_or (present_blocks l.self.file.profile.size l.present l.seen) k None) (opened_at l.marks l.out k);
   sizes : (k : ℕ) → k < length l.out → length (get_or l.out k []) ≡ l.self.file.profile.size;
   many : length l.marks ≡ 16;
   room : l.work.size ≡ l.initial.work.size;

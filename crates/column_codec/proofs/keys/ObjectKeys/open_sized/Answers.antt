@@ -5,5 +5,6 @@ use Rattle.column_codec.proofs.keys.ObjectKeys.open_sized.Goals as goal
 
 pub returns-else-seen-out-clause-no : goal.returns-else-seen-out-clause-no
 returns-else-seen-out-clause-no c =
-    opens-other_size (shaped_object c.args.self.now.master.0 c.args.self.now.file) c.args.provider c.args.stripe c.args.seen.now
+    opens-other_size (shaped_object c.args.self.now.master.0 c.args.self.now.file) c.args.provider
+    c.args.stripe c.args.seen.now
     (λ e. c.if-seen-out.false (e ∙ sym c.requires.out))

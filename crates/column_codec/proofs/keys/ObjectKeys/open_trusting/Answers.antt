@@ -12,9 +12,12 @@ returns-clause-ok c =
     let keys = c.args.self.now in
     let seen = present_blocks keys.file.profile.size c.args.present.now c.args.seen.now in
     let o = shaped_object keys.master.0 keys.file in
-    let opened = opened_of c.open_present_blocks-marks.result c.open_present_blocks-marks.new.out keys.file.shape.n in
-    on_ok ((place : ℕ) → place < keys.file.profile.keep → HasRow o opened place c.open_rows.new.rows) (GivesSymbols o c.args.stripe seen c.open_rows.new.rows) c.open_rows.result
-    (gives o c.args.stripe seen opened c.open_rows.new.rows c.open_present_blocks-marks.ensures.opens (c.open_rows.auto.rows ∙ c.carry_clean.auto.rows ∙ c.requires.rows))
+    let opened = opened_of c.open_present_blocks-marks.result c.open_present_blocks-marks.new.out
+    keys.file.shape.n in
+    on_ok ((place : ℕ) → place < keys.file.profile.keep → HasRow o opened place c.open_rows.new.rows)
+    (GivesSymbols o c.args.stripe seen c.open_rows.new.rows) c.open_rows.result
+    (gives o c.args.stripe seen opened c.open_rows.new.rows c.open_present_blocks-marks.ensures.opens
+    (c.open_rows.auto.rows ∙ c.carry_clean.auto.rows ∙ c.requires.rows))
     c.open_rows.ensures.ok
 
 pub returns-clause-lost : goal.returns-clause-lost
@@ -22,8 +25,10 @@ returns-clause-lost c =
     let keys = c.args.self.now in
     let seen = present_blocks keys.file.profile.size c.args.present.now c.args.seen.now in
     let o = shaped_object keys.master.0 keys.file in
-    let opened = opened_of c.open_present_blocks-marks.result c.open_present_blocks-marks.new.out keys.file.shape.n in
-    IfErr-weaker c.open_rows.result (λ lost. LosesPlace o opened c.args.stripe lost.row) (λ lost. LosesRow o c.args.stripe seen lost.row)
+    let opened = opened_of c.open_present_blocks-marks.result c.open_present_blocks-marks.new.out
+    keys.file.shape.n in
+    IfErr-weaker c.open_rows.result (λ lost. LosesPlace o opened c.args.stripe lost.row)
+    (λ lost. LosesRow o c.args.stripe seen lost.row)
     (λ lost. loses o c.args.stripe lost.row seen opened c.open_present_blocks-marks.ensures.opens)
     c.open_rows.ensures.err
 
@@ -32,13 +37,17 @@ pub carry_clean-requires-clause-sizes : goal.carry_clean-requires-clause-sizes
 carry_clean-requires-clause-sizes c = λ j below. c.requires.blocks j [] below
 
 pub returns-then-carry_clean-clause-blocks : goal.returns-then-carry_clean-clause-blocks
-returns-then-carry_clean-clause-blocks c = all-blocks c.carry_clean.new.scratch c.args.self.now.file.profile.size c.carry_clean.ensures.sizes
+returns-then-carry_clean-clause-blocks c =
+    all-blocks c.carry_clean.new.scratch c.args.self.now.file.profile.size c.carry_clean.ensures.sizes
 
 pub open_present_blocks-marks-requires-clause-blocks : goal.open_present_blocks-marks-requires-clause-blocks
-open_present_blocks-marks-requires-clause-blocks c = all-blocks c.carry_clean.new.scratch c.args.self.now.file.profile.size c.carry_clean.ensures.sizes
+open_present_blocks-marks-requires-clause-blocks c =
+    all-blocks c.carry_clean.new.scratch c.args.self.now.file.profile.size c.carry_clean.ensures.sizes
 
 pub open_rows-requires-clause-sizes : goal.open_rows-requires-clause-sizes
 open_rows-requires-clause-sizes c = c.open_present_blocks-marks.ensures.sizes
 
 pub returns-clause-blocks : goal.returns-clause-blocks
-returns-clause-blocks c = all-blocks c.open_present_blocks-marks.new.out c.args.self.now.file.profile.size c.open_present_blocks-marks.ensures.sizes
+returns-clause-blocks c =
+    all-blocks c.open_present_blocks-marks.new.out c.args.self.now.file.profile.size
+    c.open_present_blocks-marks.ensures.sizes

@@ -11,8 +11,10 @@ returns c =
     let keys = c.args.self.now in
     let file = keys.file in
     c.add_masks.ensures
-    ∙ secondary-final (shaped_object keys.master.0 file) c.args.symbols.now c.encode_into.new.out c.kept_into.new.kept c.args.provider c.args.stripe
+    ∙ secondary-final (shaped_object keys.master.0 file) c.args.symbols.now c.encode_into.new.out
+    c.kept_into.new.kept c.args.provider c.args.stripe
     (plain_profile (code_profile c.args.code.now)) c.requires.symbols
-    (keep_below file.profile.number file.profile.size file.profile.keep file.profile.size_is file.profile.keep_is)
+    (keep_below file.profile.number file.profile.size file.profile.keep file.profile.size_is
+    file.profile.keep_is)
     c.requires.secondary (omega (arith, c.requires.provider, file.shape.fits.1))
     (ap plain_profile c.requires.code) c.encode_into.ensures c.kept_into.ensures

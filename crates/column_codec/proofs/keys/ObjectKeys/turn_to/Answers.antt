@@ -6,5 +6,6 @@ pub turned-requires : goal.turned-requires
 turned-requires c =
     let keys = c.args.self.now in
     let shape = keys.file.shape in
-    subst (λ (tables : Option (List ℕ)). IfSome tables (λ all. length all ≡ (shape.n - shape.l) * (shape.l - 1))) (sym c.take.ensures.value)
+    subst (λ (tables : Option (List ℕ)). IfSome tables
+    (λ all. length all ≡ (shape.n - shape.l) * (shape.l - 1))) (sym c.take.ensures.value)
     (tabled-long shape.n shape.l keys.weights keys.tables keys.are_tabled)

@@ -17,8 +17,12 @@ returns-clause-none c =
     let o = shaped_object keys.master.0 file in
     let counts = c.count_all.new.counts in
     none-gives ((i : ℕ) → i < length counts → file.shape.n - file.shape.b ≤ get_or counts i 0)
-    ((place : ℕ) → place < file.profile.keep → AcceptsRow o (opened_of c.args.marks.now c.args.blocks.now file.shape.n) place (row_polynomial o c.args.rows.now place)) c.first_below.result
+    ((place : ℕ) → place < file.profile.keep →
+    AcceptsRow o (opened_of c.args.marks.now c.args.blocks.now file.shape.n) place
+    (row_polynomial o c.args.rows.now place)) c.first_below.result
     (λ each place below.
-    agreed_accepts o c.args.rows.now c.args.marks.now c.args.blocks.now place file.shape.n (file.shape.n - file.shape.b) (λ i. file.shape.n) (omega arith)
-    (subst (λ (m : ℕ). file.shape.n - file.shape.b ≤ m) (c.count_all.ensures.counts place below) (each place (omega (arith, below, c.count_all.ensures.size)))))
+    agreed_accepts o c.args.rows.now c.args.marks.now c.args.blocks.now place file.shape.n
+    (file.shape.n - file.shape.b) (λ i. file.shape.n) (omega arith)
+    (subst (λ (m : ℕ). file.shape.n - file.shape.b ≤ m) (c.count_all.ensures.counts place below)
+    (each place (omega (arith, below, c.count_all.ensures.size)))))
     c.first_below.ensures.none

@@ -20,7 +20,8 @@ loop-half-preserved c =
       sum = c.add-sum.ensures
           ∙ product_more c.self.inside.constant c.args.symbol half c.loop-half.sum rest _
           c.loop-half.invariant.sum c.loop-half.invariant.rest
-          (get_or_default c.self.inside.entries (16 * half + rest % 16) _ 0 (omega (arith, small, c.self.invariant.full))
+          (get_or_default c.self.inside.entries (16 * half + rest % 16) _ 0
+          (omega (arith, small, c.self.invariant.full))
           ∙ c.self.invariant.each (16 * half + rest % 16) (omega (arith, small)));
       rest = next_rest c.args.symbol rest half c.loop-half.invariant.rest;
     }

@@ -8,6 +8,7 @@ use Rattle.hail_bench.proofs.decode.DecodeWork.correct_all.Given as goal
 abbrev pub invariant-loop-number : goal.invariant-loop-number
 invariant-loop-number l = record {
   size : l.work.size ≡ l.initial.work.size;
-  block : l.block ≡ codeword (plain_profile (code_profile l.self.code)) (kept_symbols 0 (code_profile l.self.code).keep);
+  block : l.block ≡ codeword (plain_profile (code_profile l.self.code))
+      (kept_symbols 0 (code_profile l.self.code).keep);
   sum : l.sum ≡ decoding_checksum (plain_profile (code_profile l.self.code)) l.self.errors l.number;
 }

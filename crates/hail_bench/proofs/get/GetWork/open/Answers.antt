@@ -13,5 +13,8 @@ returns-in-Ok-clause-symbols c =
     let p = file.profile in
     let o = shaped_object MASTER.0 file in
     let given = rw (c.requires.master, c.requires.file) at c.in-Ok.ensures.ok in
-    opened-right o (file_bytes file.length) p.number (stripes o file.length) c.args.stripe self.spoilt.liars self.seen.items _ c.open_trusting.new.rows _
-    (λ i. record { size = p.size_is i; keep = p.keep_is i; fix = p.fix_is i }) file.shape.fits self.seen_are self.few c.requires.stripe (ap (λ n. take n (replicate 16 true)) c.from.ensures) c.blocks-seen.ensures.part given
+    opened-right o (file_bytes file.length) p.number
+    (stripes o file.length) c.args.stripe self.spoilt.liars self.seen.items _ c.open_trusting.new.rows _
+    (λ i. record { size = p.size_is i; keep = p.keep_is i; fix = p.fix_is i }) file.shape.fits self.seen_are
+    self.few c.requires.stripe (ap (λ n. take n (replicate 16 true)) c.from.ensures)
+    c.blocks-seen.ensures.part given

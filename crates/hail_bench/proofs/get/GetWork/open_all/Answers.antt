@@ -13,7 +13,8 @@ loop-stripe-preserved c =
     let file = c.args.self.now.coded.file in
     record {
       sum = c.mix_all-sum.ensures
-          ∙ opening_more (shaped_object MASTER.0 file) (file_bytes file.length) c.loop-stripe.stripe c.loop-stripe.sum c.open.new.rows
+          ∙ opening_more (shaped_object MASTER.0 file)
+          (file_bytes file.length) c.loop-stripe.stripe c.loop-stripe.sum c.open.new.rows
           c.loop-stripe.invariant.sum c.in_ok-open.ensures.symbols;
       sizes = c.open.ensures.blocks;
       room = c.open.ensures.room ∙ c.loop-stripe.invariant.room;

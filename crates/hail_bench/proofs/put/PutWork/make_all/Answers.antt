@@ -15,7 +15,11 @@ loop-stripe-preserved c =
     let bytes : c.deref.result.now ≡ file_bytes file.length = c.deref.ensures.value ∙ self.bytes_are in
     record {
       sum = c.mix_blocks-sum.ensures
-          ∙ making_more (shaped_object c.args.keys.now.master.0 file) (file_bytes file.length) stripe c.loop-stripe.sum c.encode_stripe.new.out c.loop-stripe.invariant.sum
-          (made ∙ ap (λ (bs : List ℕ). map (λ (j : ℕ). columns (shaped_object c.args.keys.now.master.0 file) bs j stripe) (upto file.shape.n)) bytes);
+          ∙ making_more (shaped_object c.args.keys.now.master.0 file)
+          (file_bytes file.length) stripe c.loop-stripe.sum c.encode_stripe.new.out
+          c.loop-stripe.invariant.sum
+          (made ∙ ap (λ (bs : List ℕ). map
+          (λ (j : ℕ). columns (shaped_object c.args.keys.now.master.0 file) bs j stripe)
+          (upto file.shape.n)) bytes);
       sizes = rw c.requires.file at c.encode_stripe.ensures.sizes;
     }

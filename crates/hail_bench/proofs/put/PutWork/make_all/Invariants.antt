@@ -6,6 +6,7 @@ use Rattle.hail_bench.proofs.put.PutWork.make_all.Given as goal
 -- the stripes before this one are in the checksum, and the blocks have their number and sizes
 abbrev pub invariant-loop-stripe : goal.invariant-loop-stripe
 invariant-loop-stripe l = record {
-  sum : l.sum ≡ making_checksum (shaped_object l.keys.master.0 l.self.coded.file) (file_bytes l.self.coded.file.length) l.stripe;
+  sum : l.sum ≡ making_checksum (shaped_object l.keys.master.0 l.self.coded.file)
+      (file_bytes l.self.coded.file.length) l.stripe;
   sizes : All (λ block. length block ≡ l.self.coded.file.profile.size) l.blocks;
 }

@@ -8,22 +8,29 @@ use Rattle.hail_client.proofs.client.Client.init.Goals as goal
 
 pub returns-then-is_some-clause-machine : goal.returns-then-is_some-clause-machine
 returns-then-is_some-clause-machine g c = λ w providers moment told stands.
-    init-open w moment (with_master c.args.setup.now c.args.master.now.0) c.setup_is_spelled.ensures c.args.self.now _ (sym c.is_some.ensures ∙ c.if-is_some.true) stands
+    init-open w moment (with_master c.args.setup.now c.args.master.now.0) c.setup_is_spelled.ensures
+    c.args.self.now _ (sym c.is_some.ensures ∙ c.if-is_some.true) stands
 
 pub returns-clause-machine : goal.returns-clause-machine
 returns-clause-machine g c = λ w providers moment told stands.
-    init-closed w moment (with_master c.args.setup.now c.args.master.now.0) c.setup_is_spelled.ensures c.args.self.now (g.D.Disk.holds c.args.disk.now) (g.D.Disk.holds c.init.new.disk)
-    (g.D.Disk.faults c.args.disk.now) (g.D.Disk.faults c.init.new.disk) providers c.init.result (sym c.is_some.ensures ∙ c.if-is_some.false) told (c.init.ensures.machine w providers moment) stands
+    init-closed w moment (with_master c.args.setup.now c.args.master.now.0) c.setup_is_spelled.ensures
+    c.args.self.now (g.D.Disk.holds c.args.disk.now) (g.D.Disk.holds c.init.new.disk)
+    (g.D.Disk.faults c.args.disk.now) (g.D.Disk.faults c.init.new.disk) providers c.init.result
+    (sym c.is_some.ensures ∙ c.if-is_some.false) told (c.init.ensures.machine w providers moment) stands
 
 pub returns-then-is_some-clause-looked : goal.returns-then-is_some-clause-looked
 returns-then-is_some-clause-looked g c = λ unwritten. resynced-same (g.D.Disk.holds c.args.disk.now)
 
 pub returns-then-is_some-clause-left : goal.returns-then-is_some-clause-left
-returns-then-is_some-clause-left g c = left-same (with_master c.args.setup.now c.args.master.now.0) (g.D.Disk.holds c.args.disk.now)
+returns-then-is_some-clause-left g c =
+    left-same (with_master c.args.setup.now c.args.master.now.0) (g.D.Disk.holds c.args.disk.now)
 
 pub returns-clause-standing : goal.returns-clause-standing
 returns-clause-standing g c = λ providers S.
     by-told (g.D.Disk.holds c.args.disk.now)
-    (λ told. (let M = returns-clause-machine g c S.state providers 0 told S.stands in record { state = M.state; stands = M.stands }))
-    (λ none. closed-standing c.args.self.now.vault c.args.self.now.next_job (g.D.Disk.faults c.init.new.disk) providers (g.D.Disk.holds c.init.new.disk) (sym c.is_some.ensures ∙ c.if-is_some.false)
+    (λ told. (let M = returns-clause-machine g c S.state providers 0 told S.stands in
+    record { state = M.state; stands = M.stands }))
+    (λ none. closed-standing c.args.self.now.vault c.args.self.now.next_job
+    (g.D.Disk.faults c.init.new.disk) providers (g.D.Disk.holds c.init.new.disk)
+    (sym c.is_some.ensures ∙ c.if-is_some.false)
     (is_some-none (g.D.Disk.holds c.init.new.disk) (c.init.ensures.tells ∙ none)))

@@ -13,18 +13,37 @@ pub returns-then-index-providers : goal.returns-then-index-providers
 returns-then-index-providers g c = record {
   machine = λ w holds faults moment stands.
       (let seen = provider_seen g.P.Provider in
-      let spelled : IsSpelled (Lose c.args.provider c.args.object c.args.stripe) = ((let a = c.ranges.provider.fits in omega (arith, a)), (let a = c.ranges.object.fits in omega (arith, a)), (let a = c.ranges.stripe.fits in omega (arith, a))) in
-      not-handed (Lose c.args.provider c.args.object c.args.stripe) w moment c.args.provider (λ blocks. IsSome (blocks c.args.object c.args.stripe)) (without_block c.args.object c.args.stripe) c.args.self.now holds faults (map seen c.args.providers.now) spelled (λ outcome new h. h)
-      (let size = length-map c.args.providers.now seen in let beyond = c.if-index-providers.true in omega (arith, size, beyond)) stands);
+      let spelled : IsSpelled (Lose c.args.provider c.args.object c.args.stripe) = (
+        (let a = c.ranges.provider.fits in omega (arith, a)),
+        (let a = c.ranges.object.fits in omega (arith, a)),
+        (let a = c.ranges.stripe.fits in omega (arith, a)),
+      ) in
+      not-handed (Lose c.args.provider c.args.object c.args.stripe) w moment c.args.provider
+      (λ blocks. IsSome (blocks c.args.object c.args.stripe))
+      (without_block c.args.object c.args.stripe) c.args.self.now holds faults
+      (map seen c.args.providers.now) spelled (λ outcome new h. h)
+      (let size = length-map c.args.providers.now seen in let beyond = c.if-index-providers.true in
+      omega (arith, size, beyond)) stands);
 }
 
 pub returns : goal.returns
 returns g c = record {
   machine = λ w holds faults moment stands.
       (let seen = provider_seen g.P.Provider in
-      let spelled : IsSpelled (Lose c.args.provider c.args.object c.args.stripe) = ((let a = c.ranges.provider.fits in omega (arith, a)), (let a = c.ranges.object.fits in omega (arith, a)), (let a = c.ranges.stripe.fits in omega (arith, a))) in
-      handed (Lose c.args.provider c.args.object c.args.stripe) w moment c.args.provider (λ blocks. IsSome (blocks c.args.object c.args.stripe)) (without_block c.args.object c.args.stripe) c.args.self.now holds faults (map seen c.args.providers.now) _ _ _ c.lose_of.result spelled (λ outcome new h. h)
-      (let size = length-map c.args.providers.now seen in let within = c.if-index-providers.false in omega (arith, size, within))
-      (slice_get-map seen c.args.providers.now c.args.provider ∙ ap (option_map seen) (slice_get-get_or c.args.providers.now c.args.provider c.index-providers-index.result (let within = c.if-index-providers.false in omega (arith, within))))
+      let spelled : IsSpelled (Lose c.args.provider c.args.object c.args.stripe) = (
+        (let a = c.ranges.provider.fits in omega (arith, a)),
+        (let a = c.ranges.object.fits in omega (arith, a)),
+        (let a = c.ranges.stripe.fits in omega (arith, a)),
+      ) in
+      handed (Lose c.args.provider c.args.object c.args.stripe) w moment c.args.provider
+      (λ blocks. IsSome (blocks c.args.object c.args.stripe))
+      (without_block c.args.object c.args.stripe) c.args.self.now holds faults
+      (map seen c.args.providers.now) _ _ _ c.lose_of.result spelled (λ outcome new h. h)
+      (let size = length-map c.args.providers.now seen in let within = c.if-index-providers.false in
+      omega (arith, size, within))
+      (slice_get-map seen c.args.providers.now c.args.provider
+      ∙ ap (option_map seen)
+      (slice_get-get_or c.args.providers.now c.args.provider c.index-providers-index.result
+      (let within = c.if-index-providers.false in omega (arith, within))))
       (map-set seen c.args.providers.now c.args.provider c.lose_of.new.held) c.lose_of.ensures stands);
 }

@@ -10,7 +10,8 @@ use Rattle.hail_client.proofs.client.Client.run.Given as goal
 
 abbrev pub invariant-loop-turn : goal.invariant-loop-turn
 invariant-loop-turn g l = ((start : State) (ms : List Moment)
-    → IsReached start ms l.initial.self (devices_seen g.D.Disk g.P.Provider l.initial.disk l.initial.providers)
+    → IsReached start ms l.initial.self
+    (devices_seen g.D.Disk g.P.Provider l.initial.disk l.initial.providers)
     → IsOnWay start ms l.job l.self (devices_seen g.D.Disk g.P.Provider l.disk l.providers))
     × (is_open l.self ≡ true → IsStanding l.self (devices_seen g.D.Disk g.P.Provider l.disk l.providers))
     × (length l.providers ≡ length l.initial.providers)

@@ -5,4 +5,5 @@ use Rattle.hail_replay.proofs.Steps.{sees_one}
 use Rattle.hail_replay.proofs.tally.Tally.see.Goals as goal
 
 pub returns-clause-run : goal.returns-clause-run
-returns-clause-run c = sees_one c.args.expected.now (came_outcome c.args.came.now) c.args.self.now _ (grind (arith, common_steps))
+returns-clause-run c = sees_one c.args.expected.now (came_outcome c.args.came.now) c.args.self.now _
+    (grind (arith, common_steps))

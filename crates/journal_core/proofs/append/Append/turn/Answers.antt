@@ -27,7 +27,9 @@ returns-then-self-eq0-clause-moved g c = λ rs r a.
       entry = a.entry;
       gate = a.gate;
       body = a.body;
-      disk = IfSome-mapped (IsClosed front) (IsAfterMoves 1 front body) (written (length front + 1) body) (body_written front body) _ _ (c.in_ok-write_at.ensures.ok ∙ ap (λ (k : ℕ). option_map (written (k + 1) body) was) a.gate) start;
+      disk = IfSome-mapped (IsClosed front) (IsAfterMoves 1 front body) (written (length front + 1) body)
+          (body_written front body) _ _ (c.in_ok-write_at.ensures.ok
+          ∙ ap (λ (k : ℕ). option_map (written (k + 1) body) was) a.gate) start;
     }
 
 pub returns-then-self-eq0-clause-before : goal.returns-then-self-eq0-clause-before
@@ -48,16 +50,24 @@ returns-in_err-write_at-clause-given_up g c = λ rs r a.
     let now = g.D.Disk.holds c.write_at.new.self in
     let fault = c.in_err-write_at.field-0.0 in
     let start = subst (λ (m : ℕ). IfSome was (IsAfterMoves m front body)) c.if-self-eq0.true a.disk in
-    on_err c.from_residual.result _ (subst (λ (m : ℕ). IfSome now (IsGivenUp m front body)) (sym c.if-self-eq0.true)
-    (body_failed front body (length body) fault was now (λ is. subst (λ (k : ℕ). Goes (Torn (k + 1) (length body)) was now) a.gate (c.in_err-write_at.ensures.failed (ap (λ (f : WriteFault). Err f) is))) (λ is. c.in_err-write_at.ensures.memory (ap (λ (f : WriteFault). Err f) is)) start))
+    on_err c.from_residual.result _
+    (subst (λ (m : ℕ). IfSome now (IsGivenUp m front body)) (sym c.if-self-eq0.true)
+    (body_failed front body (length body) fault was now
+    (λ is. subst (λ (k : ℕ). Goes (Torn (k + 1) (length body)) was now) a.gate
+    (c.in_err-write_at.ensures.failed (ap (λ (f : WriteFault). Err f) is)))
+    (λ is. c.in_err-write_at.ensures.memory (ap (λ (f : WriteFault). Err f) is)) start))
 
 pub returns-in_err-write_at-clause-before : goal.returns-in_err-write_at-clause-before
 returns-in_err-write_at-clause-before g c = λ rs r a few.
-    before_given_up rs r a.records a.entry (body_of c.args.self.now) _ a.body (moves_of c.args.self.now) few (from_on_err c.from_residual.result _ c.from_residual.ensures.0 (returns-in_err-write_at-clause-given_up g c rs r a))
+    before_given_up rs r a.records a.entry (body_of c.args.self.now) _ a.body (moves_of c.args.self.now) few
+    (from_on_err c.from_residual.result _ c.from_residual.ensures.0
+    (returns-in_err-write_at-clause-given_up g c rs r a))
 
 pub returns-in_err-write_at-clause-between : goal.returns-in_err-write_at-clause-between
 returns-in_err-write_at-clause-between g c = λ rs r a.
-    between_given_up rs r a.records a.entry (body_of c.args.self.now) _ a.body (moves_of c.args.self.now) (from_on_err c.from_residual.result _ c.from_residual.ensures.0 (returns-in_err-write_at-clause-given_up g c rs r a))
+    between_given_up rs r a.records a.entry (body_of c.args.self.now) _ a.body (moves_of c.args.self.now)
+    (from_on_err c.from_residual.result _ c.from_residual.ensures.0
+    (returns-in_err-write_at-clause-given_up g c rs r a))
 
 pub returns-then-self-eq0-clause-does : goal.returns-then-self-eq0-clause-does
 returns-then-self-eq0-clause-does g c =
@@ -80,7 +90,9 @@ returns-then-self-eq2-clause-moved g c = λ rs r a.
       entry = a.entry;
       gate = a.gate;
       body = a.body;
-      disk = IfSome-mapped (IsAfterMoves 2 front body) (IsAfterMoves 3 front body) (written (length front) (1 ∷ [])) (gate_written front body) _ _ (c.in_ok-write_at-2.ensures.ok ∙ ap (λ (k : ℕ). option_map (written k (1 ∷ [])) was) a.gate) start;
+      disk = IfSome-mapped (IsAfterMoves 2 front body) (IsAfterMoves 3 front body)
+          (written (length front) (1 ∷ [])) (gate_written front body) _ _
+          (c.in_ok-write_at-2.ensures.ok ∙ ap (λ (k : ℕ). option_map (written k (1 ∷ [])) was) a.gate) start;
     }
 
 pub returns-then-self-eq2-clause-between : goal.returns-then-self-eq2-clause-between
@@ -96,12 +108,18 @@ returns-in_err-write_at-2-clause-given_up g c = λ rs r a.
     let now = g.D.Disk.holds c.write_at-then-self-eq2.new.self in
     let fault = c.in_err-write_at-2.field-0.0 in
     let start = subst (λ (m : ℕ). IfSome was (IsAfterMoves m front body)) c.if-self-eq2.true a.disk in
-    on_err c.from_residual-in_err-write_at-2.result _ (subst (λ (m : ℕ). IfSome now (IsGivenUp m front body)) (sym c.if-self-eq2.true)
-    (gate_failed front body fault was now (λ is. subst (λ (k : ℕ). Goes (Torn k 1) was now) a.gate (c.in_err-write_at-2.ensures.failed (ap (λ (f : WriteFault). Err f) is))) (λ is. c.in_err-write_at-2.ensures.memory (ap (λ (f : WriteFault). Err f) is)) start))
+    on_err c.from_residual-in_err-write_at-2.result _
+    (subst (λ (m : ℕ). IfSome now (IsGivenUp m front body)) (sym c.if-self-eq2.true)
+    (gate_failed front body fault was now
+    (λ is. subst (λ (k : ℕ). Goes (Torn k 1) was now) a.gate
+    (c.in_err-write_at-2.ensures.failed (ap (λ (f : WriteFault). Err f) is)))
+    (λ is. c.in_err-write_at-2.ensures.memory (ap (λ (f : WriteFault). Err f) is)) start))
 
 pub returns-in_err-write_at-2-clause-between : goal.returns-in_err-write_at-2-clause-between
 returns-in_err-write_at-2-clause-between g c = λ rs r a.
-    between_given_up rs r a.records a.entry (body_of c.args.self.now) _ a.body (moves_of c.args.self.now) (from_on_err c.from_residual-in_err-write_at-2.result _ c.from_residual-in_err-write_at-2.ensures.0 (returns-in_err-write_at-2-clause-given_up g c rs r a))
+    between_given_up rs r a.records a.entry (body_of c.args.self.now) _ a.body (moves_of c.args.self.now)
+    (from_on_err c.from_residual-in_err-write_at-2.result _ c.from_residual-in_err-write_at-2.ensures.0
+    (returns-in_err-write_at-2-clause-given_up g c rs r a))
 
 -- ---- the two syncs
 
@@ -112,36 +130,44 @@ returns-clause-moved g c = λ rs r a.
       entry = a.entry;
       gate = a.gate;
       body = a.body;
-      disk = synced (before_gate rs) (body_of c.args.self.now) (moves_of c.args.self.now) c.if-self-eq0.false c.if-self-eq2.false (omega arith) _ _ c.in_ok-sync.ensures.ok a.disk;
+      disk = synced (before_gate rs) (body_of c.args.self.now)
+          (moves_of c.args.self.now) c.if-self-eq0.false c.if-self-eq2.false
+          (omega arith) _ _ c.in_ok-sync.ensures.ok a.disk;
     }
 
 pub returns-clause-before : goal.returns-clause-before
 returns-clause-before g c = λ rs r a few.
     let now = returns-clause-moved g c rs r a in
-    before_after rs r a.records a.entry (body_of c.args.self.now) _ a.body (moves_of c.args.self.now + 1) (omega (arith, few)) now.disk
+    before_after rs r a.records a.entry (body_of c.args.self.now) _ a.body (moves_of c.args.self.now + 1)
+    (omega (arith, few)) now.disk
 
 pub returns-clause-between : goal.returns-clause-between
 returns-clause-between g c = λ rs r a.
     let now = returns-clause-moved g c rs r a in
-    between_after rs r a.records a.entry (body_of c.args.self.now) _ a.body (moves_of c.args.self.now + 1) now.disk
+    between_after rs r a.records a.entry (body_of c.args.self.now) _ a.body
+    (moves_of c.args.self.now + 1) now.disk
 
 pub returns-clause-after : goal.returns-clause-after
 returns-clause-after g c = λ rs r a four.
     let now = returns-clause-moved g c rs r a in
-    after_after rs r a.records a.entry (body_of c.args.self.now) _ a.body (moves_of c.args.self.now + 1) four now.disk
+    after_after rs r a.records a.entry (body_of c.args.self.now) _ a.body
+    (moves_of c.args.self.now + 1) four now.disk
 
 pub returns-clause-closed : goal.returns-clause-closed
 returns-clause-closed g c = λ rs r a four.
     let now = returns-clause-moved g c rs r a in
-    closed_after rs r a.records a.entry (body_of c.args.self.now) _ a.body (moves_of c.args.self.now + 1) four now.disk
+    closed_after rs r a.records a.entry (body_of c.args.self.now) _ a.body
+    (moves_of c.args.self.now + 1) four now.disk
 
 pub returns-in_err-sync-clause-before : goal.returns-in_err-sync-clause-before
 returns-in_err-sync-clause-before g c = λ rs r a few.
-    before_after rs r a.records a.entry (body_of c.args.self.now) _ a.body (moves_of c.args.self.now) (omega (arith, few)) (rw (c.in_err-sync.ensures.failed refl) a.disk)
+    before_after rs r a.records a.entry (body_of c.args.self.now) _ a.body (moves_of c.args.self.now)
+    (omega (arith, few)) (rw (c.in_err-sync.ensures.failed refl) a.disk)
 
 pub returns-in_err-sync-clause-between : goal.returns-in_err-sync-clause-between
 returns-in_err-sync-clause-between g c = λ rs r a.
-    between_after rs r a.records a.entry (body_of c.args.self.now) _ a.body (moves_of c.args.self.now) (rw (c.in_err-sync.ensures.failed refl) a.disk)
+    between_after rs r a.records a.entry (body_of c.args.self.now) _ a.body (moves_of c.args.self.now)
+    (rw (c.in_err-sync.ensures.failed refl) a.disk)
 
 -- ---- what is read past the body
 
@@ -155,7 +181,9 @@ pub returns-in_err-write_at-clause-beyond : goal.returns-in_err-write_at-clause-
 returns-in_err-write_at-clause-beyond g c =
     let at = gate_of c.args.self.now in
     let body = body_of c.args.self.now in
-    failed_beyond (at + 1 + length body) (at + 1) (length body) c.in_err-write_at.field-0.0 _ _ (omega arith) (λ is. c.in_err-write_at.ensures.failed (ap (λ (f : WriteFault). Err f) is)) (λ is. c.in_err-write_at.ensures.memory (ap (λ (f : WriteFault). Err f) is))
+    failed_beyond (at + 1 + length body) (at + 1) (length body) c.in_err-write_at.field-0.0 _ _ (omega arith)
+    (λ is. c.in_err-write_at.ensures.failed (ap (λ (f : WriteFault). Err f) is))
+    (λ is. c.in_err-write_at.ensures.memory (ap (λ (f : WriteFault). Err f) is))
 
 pub returns-then-self-eq2-clause-beyond : goal.returns-then-self-eq2-clause-beyond
 returns-then-self-eq2-clause-beyond g c =
@@ -167,13 +195,17 @@ pub returns-in_err-write_at-2-clause-beyond : goal.returns-in_err-write_at-2-cla
 returns-in_err-write_at-2-clause-beyond g c =
     let at = gate_of c.args.self.now in
     let body = body_of c.args.self.now in
-    failed_beyond (at + 1 + length body) at 1 c.in_err-write_at-2.field-0.0 _ _ (omega arith) (λ is. c.in_err-write_at-2.ensures.failed (ap (λ (f : WriteFault). Err f) is)) (λ is. c.in_err-write_at-2.ensures.memory (ap (λ (f : WriteFault). Err f) is))
+    failed_beyond (at + 1 + length body) at 1 c.in_err-write_at-2.field-0.0 _ _ (omega arith)
+    (λ is. c.in_err-write_at-2.ensures.failed (ap (λ (f : WriteFault). Err f) is))
+    (λ is. c.in_err-write_at-2.ensures.memory (ap (λ (f : WriteFault). Err f) is))
 
 pub returns-clause-beyond : goal.returns-clause-beyond
-returns-clause-beyond g c = synced_beyond (gate_of c.args.self.now + 1 + length (body_of c.args.self.now)) _ _ c.in_ok-sync.ensures.ok
+returns-clause-beyond g c =
+    synced_beyond (gate_of c.args.self.now + 1 + length (body_of c.args.self.now)) _ _ c.in_ok-sync.ensures.ok
 
 pub returns-in_err-sync-clause-beyond : goal.returns-in_err-sync-clause-beyond
-returns-in_err-sync-clause-beyond g c = goes_still (gate_of c.args.self.now + 1 + length (body_of c.args.self.now)) _ _ (c.in_err-sync.ensures.failed refl)
+returns-in_err-sync-clause-beyond g c = goes_still
+    (gate_of c.args.self.now + 1 + length (body_of c.args.self.now)) _ _ (c.in_err-sync.ensures.failed refl)
 
 -- ---- the count of moves
 

@@ -15,7 +15,8 @@ returns-else-is_held-clause-none c = λ entry front rest s e.
     let whole : spelling found ++ drop size bytes ≡ bytes =
     ap (λ (l : List ℕ). l ++ drop size bytes) (sym c.in-Some.ensures.found) ∙ take-append-drop size bytes in
     let other : bytes ≡ spelling entry ++ rest = e ∙ ap (λ (l : List ℕ). l ++ rest) s.bytes_are in
-    let same = one_spelled found entry (drop size bytes) rest c.in-Some.ensures.spelled.spelled (grammar-spelled entry s.in_grammar) (whole ∙ other) in
+    let same = one_spelled found entry (drop size bytes) rest c.in-Some.ensures.spelled.spelled
+    (grammar-spelled entry s.in_grammar) (whole ∙ other) in
     let out : false ≡ is_held found = c.if-is_held.ensures in
     let not_held : false ≡ is_held entry = out ∙ ap is_held same.0 in
     let held = grammar-held entry s.in_grammar in cc

@@ -11,6 +11,8 @@ returns c =
     let block = c.args.block.now in
     let le = keep_below p.number p.size p.keep p.size_is p.keep_is in
     let told = rw c.deref-2.ensures.value at c.is_extended.ensures in (
-      (λ yes. extended_is (plain_profile p) self.rows.items block p.keep (length block - p.keep) self.rows_are c.requires refl refl le (told.0 yes)),
-      (λ is. told.1 (codeword_extends (plain_profile p) self.rows.items block p.keep (length block - p.keep) self.rows_are c.requires refl refl le is)),
+      (λ yes. extended_is (plain_profile p) self.rows.items block p.keep
+          (length block - p.keep) self.rows_are c.requires refl refl le (told.0 yes)),
+      (λ is. told.1 (codeword_extends (plain_profile p) self.rows.items block p.keep
+          (length block - p.keep) self.rows_are c.requires refl refl le is)),
     )

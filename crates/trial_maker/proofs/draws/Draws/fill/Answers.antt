@@ -11,7 +11,9 @@ loop-place-init c = record {
 
 pub loop-place-preserved : goal.loop-place-preserved
 loop-place-preserved c = record {
-  filled = filled_more c.args.self.now.last c.loop-place.place c.loop-place.self.last c.next_byte.result c.loop-place.bytes (omega arith)
+  filled = filled_more c.args.self.now.last c.loop-place.place c.loop-place.self.last c.next_byte.result
+      c.loop-place.bytes (omega arith)
       c.loop-place.invariant.filled c.loop-place.invariant.last c.next_byte.ensures.value;
-  last = c.next_byte.ensures.last ∙ ap (λ (x : ℕ). next_draw x) c.loop-place.invariant.last ∙ sym (draw_more c.args.self.now.last c.loop-place.place);
+  last = c.next_byte.ensures.last ∙ ap (λ (x : ℕ). next_draw x) c.loop-place.invariant.last
+      ∙ sym (draw_more c.args.self.now.last c.loop-place.place);
 }

@@ -15,7 +15,8 @@ returns-clause-fetched g c =
     let same : length new ≡ length all = c.fetch_into-found.auto.all in
     let start : c.len-start.result ≡ length old = omega arith in
     let whole : length new ≡ c.push_zeros.new.symbols.len = same ∙ c.deref_mut.ensures.len in
-    let front : take (length old) new ≡ take (length old) all = subst (λ (k : ℕ). take k new ≡ take k all) start c.fetch_into-found.ensures.front in (
+    let front : take (length old) new ≡ take (length old) all =
+    subst (λ (k : ℕ). take k new ≡ take k all) start c.fetch_into-found.ensures.front in (
       found,
       drop (length old) new,
       record {
@@ -23,9 +24,11 @@ returns-clause-fetched g c =
         symbols_is = take_at new _ _ whole ∙ written_behind old all new size all_is same front;
         size_is = refl;
         fits = length-written old all new size all_is same;
-        numbers = subst (λ (k : ℕ). All (λ symbol. symbol < 2 ^ 128) (drop k new)) start c.fetch_into-found.ensures.numbers;
+        numbers = subst (λ (k : ℕ). All (λ symbol. symbol < 2 ^ 128) (drop k new)) start
+            c.fetch_into-found.ensures.numbers;
         present_room = omega arith;
         symbols_room = omega arith;
       },
-      fetched_there c.args.object c.args.stripe size c.len-start.result old all new found _ _ start all_is c.fetch_into-found.ensures.fetched,
+      fetched_there c.args.object c.args.stripe size c.len-start.result old all new found _ _ start all_is
+          c.fetch_into-found.ensures.fetched,
     )

@@ -84,7 +84,8 @@ pub returns-in-Store-clause-one_disk_call : goal.returns-in-Store-clause-one_dis
 returns-in-Store-clause-one_disk_call g c = λ calls. no_disk _ _ c.in-Store.is refl calls
 
 pub returns-in-Store-clause-away : goal.returns-in-Store-clause-away
-returns-in-Store-clause-away g c = λ none. absurd (some_provider _ _ c.in-Store.provider c.in-Store.is refl none)
+returns-in-Store-clause-away g c =
+    λ none. absurd (some_provider _ _ c.in-Store.provider c.in-Store.is refl none)
 
 pub returns-in-Store-clause-count : goal.returns-in-Store-clause-count
 returns-in-Store-clause-count g c = c.store.ensures.count
@@ -139,7 +140,8 @@ pub returns-in-Fetch-clause-one_disk_call : goal.returns-in-Fetch-clause-one_dis
 returns-in-Fetch-clause-one_disk_call g c = λ calls. no_disk _ _ c.in-Fetch.is refl calls
 
 pub returns-in-Fetch-clause-away : goal.returns-in-Fetch-clause-away
-returns-in-Fetch-clause-away g c = λ none. absurd (some_provider _ _ c.in-Fetch.provider c.in-Fetch.is refl none)
+returns-in-Fetch-clause-away g c =
+    λ none. absurd (some_provider _ _ c.in-Fetch.provider c.in-Fetch.is refl none)
 
 pub returns-in-Fetch-clause-count : goal.returns-in-Fetch-clause-count
 returns-in-Fetch-clause-count g c = c.fetch.ensures.count
@@ -246,7 +248,8 @@ pub returns-in-Remove-clause-one_disk_call : goal.returns-in-Remove-clause-one_d
 returns-in-Remove-clause-one_disk_call g c = λ calls. no_disk _ _ c.in-Remove.is refl calls
 
 pub returns-in-Remove-clause-away : goal.returns-in-Remove-clause-away
-returns-in-Remove-clause-away g c = λ none. absurd (some_provider _ _ c.in-Remove.provider c.in-Remove.is refl none)
+returns-in-Remove-clause-away g c =
+    λ none. absurd (some_provider _ _ c.in-Remove.provider c.in-Remove.is refl none)
 
 pub returns-in-Remove-clause-count : goal.returns-in-Remove-clause-count
 returns-in-Remove-clause-count g c = c.remove.ensures.count

@@ -52,7 +52,8 @@ refused old new d w moment kind why stands core jobs keeps flight is = record {
 pub returns-then-is_err-clause-machine : goal.returns-then-is_err-clause-machine
 returns-then-is_err-clause-machine c = λ w d moment kind stands of spelled is.
     refused c.args.self.now _ d w moment kind fault.Memory stands refl c.reserve.ensures.items
-    (record { setup = refl; master = refl; shape = refl; profile = refl }) refl (λ memory. absurd (memory refl))
+    (record { setup = refl; master = refl; shape = refl; profile = refl }) refl
+    (λ memory. absurd (memory refl))
 
 pub returns-in-Err-clause-machine : goal.returns-in-Err-clause-machine
 returns-in-Err-clause-machine c = λ w d moment kind stands of spelled is.

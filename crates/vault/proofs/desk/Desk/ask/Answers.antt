@@ -19,7 +19,8 @@ question-question-requires-clause-runs g c = runs_next c.args.self.now.core c.ar
 
 pub question-question-requires-clause-there : goal.question-question-requires-clause-there
 question-question-requires-clause-there g c =
-    ∥∥₁_map c.requires.at_work (λ x. put_there c.args.self.now x.0 None x.1 0 c.args.job _ _ _ x.2 x.3 c.requires.next)
+    ∥∥₁_map c.requires.at_work
+    (λ x. put_there c.args.self.now x.0 None x.1 0 c.args.job _ _ _ x.2 x.3 c.requires.next)
 
 pub place_of-place-requires : goal.place_of-place-requires
 place_of-place-requires g c = place_there c.args.self.now c.args.job _ c.requires.next c.requires.at_work
@@ -32,7 +33,8 @@ ask-requires-clause-there g c =
     let at = c.place_of-place.ensures in
     let there = item_at v.jobs.items c.args.job place running at c.index_mut.ensures.value in
     by_work (ask_prop _ _ running.task) v
-    (λ w faults ps stands. ask_there v w None faults 0 c.args.job _ _ _ ps stands c.requires.next place running at there c.question-question.result c.question-question.ensures)
+    (λ w faults ps stands. ask_there v w None faults 0 c.args.job _ _ _ ps stands c.requires.next place
+    running at there c.question-question.result c.question-question.ensures)
     c.requires.at_work
 
 pub reply-reply-requires : goal.reply-reply-requires
@@ -46,21 +48,30 @@ feed-requires g c =
     let at = c.place_of-place.ensures in
     let there = item_at v.jobs.items c.args.job place running at c.index_mut.ensures.value in
     let made = c.ask.ensures.asked in
-    told_takes v.core c.args.job _ _ _ c.is_last_ask-is_last.result c.ask.new.self c.reply-reply.result c.requires.next.value c.is_last_ask-is_last.ensures c.reply-reply.ensures
+    told_takes v.core c.args.job _ _ _ c.is_last_ask-is_last.result c.ask.new.self c.reply-reply.result
+    c.requires.next.value c.is_last_ask-is_last.ensures c.reply-reply.ensures
     (by_work (tell_prop v.core.setup.n c.ask.new.self) v
-    (λ w faults ps stands. tell_there v w None faults 0 c.args.job _ _ _ ps stands c.requires.next place running at there c.question-question.result c.question-question.ensures c.ask.new.self made.0 made.1)
+    (λ w faults ps stands. tell_there v w None faults 0 c.args.job _ _ _ ps stands c.requires.next place
+    running at there c.question-question.result c.question-question.ensures c.ask.new.self made.0 made.1)
     c.requires.at_work)
 
 pub returns-clause-machine : goal.returns-clause-machine
 returns-clause-machine g c = λ w moment holds faults is_told stands.
     let at = c.place_of-place.ensures in
-    let there = item_at c.args.self.now.jobs.items c.args.job c.place_of-place.result c.index_mut.result.now at c.index_mut.ensures.value in
+    let there = item_at c.args.self.now.jobs.items c.args.job c.place_of-place.result
+    c.index_mut.result.now at c.index_mut.ensures.value in
     let made = c.ask.ensures.asked in
     let seen = sight is_told g.P.Provider in
-    ask_step c.args.self.now w holds faults moment c.args.job _ _ _ _ stands c.requires.next c.place_of-place.result c.index_mut.result.now at there c.question-question.result c.question-question.ensures
-    _ _ _ _ (record { number = c.index_mut.result.now.number; task = c.ask.new.self }) made.0 c.is_last_ask-is_last.result c.reply-reply.result refl made.1
+    ask_step c.args.self.now w holds faults moment c.args.job _ _ _ _ stands c.requires.next
+    c.place_of-place.result c.index_mut.result.now at there c.question-question.result
+    c.question-question.ensures
+    _ _ _ _ (record { number = c.index_mut.result.now.number; task = c.ask.new.self }) made.0
+    c.is_last_ask-is_last.result c.reply-reply.result refl made.1
     (asks_by is_told _ _ _ _ _ (answered _ _ _ _ _ made.0 made.1) made.2)
-    (slice_get-map seen c.args.providers.now c.args.provider ∙ ap (option_map seen) (slice_get-get_or c.args.providers.now c.args.provider c.index-providers-index.result c.requires.there))
+    (slice_get-map seen c.args.providers.now c.args.provider
+    ∙ ap (option_map seen)
+    (slice_get-get_or c.args.providers.now c.args.provider c.index-providers-index.result
+    c.requires.there))
     (map-set seen c.args.providers.now c.args.provider c.ask.new.from)
     c.is_last_ask-is_last.ensures
     c.reply-reply.ensures

@@ -19,15 +19,18 @@ sums_of-sums-requires c = runs_next c.args.self.now.core c.args.job _ c.requires
 pub returns-clause-machine : goal.returns-clause-machine
 returns-clause-machine c = λ w moment d stands.
     let at = c.place_of-place.ensures in
-    let there = item_at c.args.self.now.jobs.items c.args.job c.place_of-place.result c.remove-running.result at c.remove-running.ensures.value in
-    end_step c.args.self.now d w moment c.args.job stands c.requires.next _ _ c.place_of-place.result c.subject_of-number.result c.sums_of-sums.result.0 c.sums_of-sums.result.1 c.remove-running.result
+    let there = item_at c.args.self.now.jobs.items c.args.job c.place_of-place.result
+    c.remove-running.result at c.remove-running.ensures.value in
+    end_step c.args.self.now d w moment c.args.job stands c.requires.next _ _ c.place_of-place.result
+    c.subject_of-number.result c.sums_of-sums.result.0 c.sums_of-sums.result.1 c.remove-running.result
     (sym c.subject_of-number.ensures) (sym c.sums_of-sums.ensures.value) at there
     (record {
       place = c.place_of-place.result;
       running = c.remove-running.result;
       found = at;
       there = there;
-      turn_is = λ i. turn.Done (record { answer = c.into_end.ensures.answer i; heard = c.into_end.ensures.heard i });
+      turn_is = λ i. turn.Done
+          (record { answer = c.into_end.ensures.answer i; heard = c.into_end.ensures.heard i });
       jobs = c.remove-running.ensures.items;
       flight = refl;
       fed = c.feed.ensures.step;

@@ -24,19 +24,26 @@ fetch-requires g c =
     let at = c.place_of-place.ensures in
     let there = item_at v.jobs.items c.args.job place running at c.index_mut.ensures.value in
     by_work (room_prop running.task) v
-    (λ w faults ps stands. room_there v w None faults 0 c.args.job _ _ _ ps stands c.requires.next place running at there)
+    (λ w faults ps stands. room_there v w None faults 0 c.args.job _ _ _ ps stands c.requires.next place
+    running at there)
     c.requires.at_work
 
 pub returns-clause-machine : goal.returns-clause-machine
 returns-clause-machine g c = λ w moment holds faults is_told stands.
     let at = c.place_of-place.ensures in
-    let there = item_at c.args.self.now.jobs.items c.args.job c.place_of-place.result c.index_mut.result.now at c.index_mut.ensures.value in
+    let there = item_at c.args.self.now.jobs.items c.args.job c.place_of-place.result
+    c.index_mut.result.now at c.index_mut.ensures.value in
     let made = c.fetch.ensures.fetched in
     let seen = sight is_told g.P.Provider in
-    fetch_step c.args.self.now w holds faults moment c.args.job _ _ _ _ stands c.requires.next c.place_of-place.result c.index_mut.result.now at there
-    _ _ _ _ (record { number = c.index_mut.result.now.number; task = c.fetch.new.self }) _ made.0 made.1 refl refl made.2
+    fetch_step c.args.self.now w holds faults moment c.args.job _ _ _ _ stands c.requires.next
+    c.place_of-place.result c.index_mut.result.now at there
+    _ _ _ _ (record { number = c.index_mut.result.now.number; task = c.fetch.new.self }) _ made.0 made.1 refl
+    refl made.2
     (fetches_by is_told _ _ _ _ _ _ (taken _ _ _ made.0 made.1 made.2) made.3)
-    (slice_get-map seen c.args.providers.now c.args.provider ∙ ap (option_map seen) (slice_get-get_or c.args.providers.now c.args.provider c.index-providers-index.result c.requires.there))
+    (slice_get-map seen c.args.providers.now c.args.provider
+    ∙ ap (option_map seen)
+    (slice_get-get_or c.args.providers.now c.args.provider c.index-providers-index.result
+    c.requires.there))
     (map-set seen c.args.providers.now c.args.provider c.fetch.new.from)
     refl
     (record { setup = refl; master = refl; shape = refl; profile = refl })

@@ -27,39 +27,92 @@ stop-requires-in-Memory-clause-there g c =
 pub returns-in-On-clause-machine : goal.returns-in-On-clause-machine
 returns-in-On-clause-machine g c = λ w moment providers is_told stands.
     let keeps = gave_away c.args.self.now c.take_flight.new.self c.take_flight.ensures.rest in
-    append_goes_on c.args.self.now w _ _ _ _ moment c.args.job providers stands c.take_flight.result c.requires.next.action c.requires.next.comes c.requires.next.moves
-    (c.take_flight.ensures.is w _ _ providers c.requires.next.action stands c.requires.next.comes) _ _ (move_by is_told c.take_flight.result.append (g.D.Disk.holds c.args.disk.now) (moved.On c.in-On.flight) (g.D.Disk.holds c.turn.new.disk) c.in-On.ensures.made) (goes_by is_told _ _ _ c.turn.ensures.beyond) c.in-On.ensures.cause refl (ap (λ (v : Desk). v.jobs.items) c.take_flight.ensures.rest) (record { setup = keeps.setup; master = keeps.master; shape = keeps.shape; profile = keeps.profile })
-    (fed_away c.args.self.now c.take_flight.new.self c.args.job reply.Done _ c.take_flight.ensures.rest c.feed.ensures.step)
+    append_goes_on c.args.self.now w _ _ _ _ moment c.args.job providers stands c.take_flight.result
+    c.requires.next.action c.requires.next.comes c.requires.next.moves
+    (c.take_flight.ensures.is w _ _ providers c.requires.next.action stands c.requires.next.comes) _ _
+    (move_by is_told c.take_flight.result.append (g.D.Disk.holds c.args.disk.now) (moved.On c.in-On.flight)
+    (g.D.Disk.holds c.turn.new.disk) c.in-On.ensures.made)
+    (goes_by is_told _ _ _ c.turn.ensures.beyond) c.in-On.ensures.cause refl
+    (ap (λ (v : Desk). v.jobs.items) c.take_flight.ensures.rest)
+    (record {
+      setup = keeps.setup;
+      master = keeps.master;
+      shape = keeps.shape;
+      profile = keeps.profile;
+    })
+    (fed_away c.args.self.now c.take_flight.new.self c.args.job reply.Done _ c.take_flight.ensures.rest
+    c.feed.ensures.step)
 
 pub returns-in-Done-clause-machine : goal.returns-in-Done-clause-machine
 returns-in-Done-clause-machine g c = λ w moment providers is_told stands.
     let keeps = gave_away c.args.self.now c.take_flight.new.self c.take_flight.ensures.rest in
-    append_done c.args.self.now w _ _ _ _ moment c.args.job providers stands c.take_flight.result c.requires.next.action c.requires.next.comes c.requires.next.moves
-    (c.take_flight.ensures.is w _ _ providers c.requires.next.action stands c.requires.next.comes) _ (move_by is_told c.take_flight.result.append (g.D.Disk.holds c.args.disk.now) moved.Done (g.D.Disk.holds c.turn.new.disk) c.in-Done.ensures.made) (goes_by is_told _ _ _ c.turn.ensures.beyond) c.in-Done.ensures.cause (ap (λ (v : Desk). v.flight) c.take_flight.ensures.rest) (ap (λ (v : Desk). v.jobs.items) c.take_flight.ensures.rest) (record { setup = keeps.setup; master = keeps.master; shape = keeps.shape; profile = keeps.profile })
-    (fed_away c.args.self.now c.take_flight.new.self c.args.job reply.Done _ c.take_flight.ensures.rest c.feed-in-Done.ensures.step)
+    append_done c.args.self.now w _ _ _ _ moment c.args.job providers stands c.take_flight.result
+    c.requires.next.action c.requires.next.comes c.requires.next.moves
+    (c.take_flight.ensures.is w _ _ providers c.requires.next.action stands c.requires.next.comes) _
+    (move_by is_told c.take_flight.result.append (g.D.Disk.holds c.args.disk.now) moved.Done
+    (g.D.Disk.holds c.turn.new.disk) c.in-Done.ensures.made)
+    (goes_by is_told _ _ _ c.turn.ensures.beyond) c.in-Done.ensures.cause
+    (ap (λ (v : Desk). v.flight) c.take_flight.ensures.rest)
+    (ap (λ (v : Desk). v.jobs.items) c.take_flight.ensures.rest)
+    (record {
+      setup = keeps.setup;
+      master = keeps.master;
+      shape = keeps.shape;
+      profile = keeps.profile;
+    })
+    (fed_away c.args.self.now c.take_flight.new.self c.args.job reply.Done _ c.take_flight.ensures.rest
+    c.feed-in-Done.ensures.step)
 
 pub returns-in-Failed-clause-machine : goal.returns-in-Failed-clause-machine
 returns-in-Failed-clause-machine g c = λ w moment providers is_told stands.
-    append_failed c.args.self.now w _ _ _ _ moment c.args.job providers stands c.take_flight.result c.requires.next.action c.requires.next.comes c.requires.next.moves
-    (c.take_flight.ensures.is w _ _ providers c.requires.next.action stands c.requires.next.comes) _ _ _ (move_by is_told c.take_flight.result.append (g.D.Disk.holds c.args.disk.now) moved.Failed (g.D.Disk.holds c.turn.new.disk) c.in-Failed.ensures.made) (goes_by is_told _ _ _ c.turn.ensures.beyond) c.in-Failed.ensures.cause (ap (λ (v : Desk). v.core) c.take_flight.ensures.rest) (ap (λ (v : Desk). v.jobs.items) c.take_flight.ensures.rest) (gave_away c.args.self.now c.take_flight.new.self c.take_flight.ensures.rest) c.stop.ensures.stopped
+    append_failed c.args.self.now w _ _ _ _ moment c.args.job providers stands c.take_flight.result
+    c.requires.next.action c.requires.next.comes c.requires.next.moves
+    (c.take_flight.ensures.is w _ _ providers c.requires.next.action stands c.requires.next.comes) _ _ _
+    (move_by is_told c.take_flight.result.append (g.D.Disk.holds c.args.disk.now) moved.Failed
+    (g.D.Disk.holds c.turn.new.disk) c.in-Failed.ensures.made)
+    (goes_by is_told _ _ _ c.turn.ensures.beyond) c.in-Failed.ensures.cause
+    (ap (λ (v : Desk). v.core) c.take_flight.ensures.rest)
+    (ap (λ (v : Desk). v.jobs.items) c.take_flight.ensures.rest)
+    (gave_away c.args.self.now c.take_flight.new.self c.take_flight.ensures.rest)
+    c.stop.ensures.stopped
 
 pub returns-in-Memory-clause-machine : goal.returns-in-Memory-clause-machine
 returns-in-Memory-clause-machine g c = λ w moment providers is_told stands.
-    append_unwritten c.args.self.now w _ _ _ _ moment c.args.job providers stands c.take_flight.result c.requires.next.action c.requires.next.comes c.requires.next.moves
-    (c.take_flight.ensures.is w _ _ providers c.requires.next.action stands c.requires.next.comes) _ _ _ (move_by is_told c.take_flight.result.append (g.D.Disk.holds c.args.disk.now) moved.Memory (g.D.Disk.holds c.turn.new.disk) c.in-Memory.ensures.made) c.in-Memory.ensures.cause (ap (λ (v : Desk). v.core) c.take_flight.ensures.rest) (ap (λ (v : Desk). v.jobs.items) c.take_flight.ensures.rest) (ap (λ (v : Desk). v.flight) c.take_flight.ensures.rest) (gave_away c.args.self.now c.take_flight.new.self c.take_flight.ensures.rest) c.stop-in-Memory.ensures.stopped
+    append_unwritten c.args.self.now w _ _ _ _ moment c.args.job providers stands c.take_flight.result
+    c.requires.next.action c.requires.next.comes c.requires.next.moves
+    (c.take_flight.ensures.is w _ _ providers c.requires.next.action stands c.requires.next.comes) _ _ _
+    (move_by is_told c.take_flight.result.append (g.D.Disk.holds c.args.disk.now) moved.Memory
+    (g.D.Disk.holds c.turn.new.disk) c.in-Memory.ensures.made) c.in-Memory.ensures.cause
+    (ap (λ (v : Desk). v.core) c.take_flight.ensures.rest)
+    (ap (λ (v : Desk). v.jobs.items) c.take_flight.ensures.rest)
+    (ap (λ (v : Desk). v.flight) c.take_flight.ensures.rest)
+    (gave_away c.args.self.now c.take_flight.new.self c.take_flight.ensures.rest)
+    c.stop-in-Memory.ensures.stopped
 
 pub returns-in-On-clause-cells : goal.returns-in-On-clause-cells
 returns-in-On-clause-cells g c = λ w entry providers stands given.
-    cells_on c.args.self.now _ entry _ _ _ (append_of c.args.self.now w _ _ c.args.job providers stands c.requires.next.action c.requires.next.comes c.take_flight.result (c.take_flight.ensures.is w _ _ providers c.requires.next.action stands c.requires.next.comes) entry given) c.in-On.ensures.cells
+    cells_on c.args.self.now _ entry _ _ _
+    (append_of c.args.self.now w _ _ c.args.job providers stands c.requires.next.action c.requires.next.comes
+    c.take_flight.result (c.take_flight.ensures.is w _ _ providers c.requires.next.action stands
+    c.requires.next.comes) entry given) c.in-On.ensures.cells
 
 pub returns-in-Done-clause-cells : goal.returns-in-Done-clause-cells
 returns-in-Done-clause-cells g c = λ w entry providers stands given.
-    cells_on c.args.self.now _ entry _ _ _ (append_of c.args.self.now w _ _ c.args.job providers stands c.requires.next.action c.requires.next.comes c.take_flight.result (c.take_flight.ensures.is w _ _ providers c.requires.next.action stands c.requires.next.comes) entry given) c.in-Done.ensures.cells
+    cells_on c.args.self.now _ entry _ _ _
+    (append_of c.args.self.now w _ _ c.args.job providers stands c.requires.next.action c.requires.next.comes
+    c.take_flight.result (c.take_flight.ensures.is w _ _ providers c.requires.next.action stands
+    c.requires.next.comes) entry given) c.in-Done.ensures.cells
 
 pub returns-in-Failed-clause-cells : goal.returns-in-Failed-clause-cells
 returns-in-Failed-clause-cells g c = λ w entry providers stands given.
-    cells_stopped _ c.stop.new.self c.args.job _ (c.args.self.now.core.end - 1) (spelling entry ++ 0 ∷ []) reply.Failed answer.DiskFault c.stop.result (g.D.Disk.holds c.args.disk.now) (g.D.Disk.holds c.turn.new.disk) c.stop.ensures.stopped
-    (cells_torn c.args.self.now _ entry _ _ _ (append_of c.args.self.now w _ _ c.args.job providers stands c.requires.next.action c.requires.next.comes c.take_flight.result (c.take_flight.ensures.is w _ _ providers c.requires.next.action stands c.requires.next.comes) entry given) c.in-Failed.ensures.cells)
+    cells_stopped _ c.stop.new.self c.args.job _ (c.args.self.now.core.end - 1)
+    (spelling entry ++ 0 ∷ []) reply.Failed answer.DiskFault c.stop.result (g.D.Disk.holds c.args.disk.now)
+    (g.D.Disk.holds c.turn.new.disk) c.stop.ensures.stopped
+    (cells_torn c.args.self.now _ entry _ _ _
+    (append_of c.args.self.now w _ _ c.args.job providers stands c.requires.next.action
+    c.requires.next.comes c.take_flight.result
+    (c.take_flight.ensures.is w _ _ providers c.requires.next.action stands c.requires.next.comes)
+    entry given) c.in-Failed.ensures.cells)
 
 pub returns-in-Memory-clause-cells : goal.returns-in-Memory-clause-cells
 returns-in-Memory-clause-cells g c = λ w entry providers stands given.
@@ -147,7 +200,8 @@ pub returns-in-Memory-clause-called : goal.returns-in-Memory-clause-called
 returns-in-Memory-clause-called g c = c.turn.ensures.called
 
 pub returns-in-Memory-clause-left : goal.returns-in-Memory-clause-left
-returns-in-Memory-clause-left g c = λ more. absurd (goes_not_on _ _ _ _ _ _ c.stop-in-Memory.ensures.stopped more)
+returns-in-Memory-clause-left g c =
+    λ more. absurd (goes_not_on _ _ _ _ _ _ c.stop-in-Memory.ensures.stopped more)
 
 pub returns-in-Memory-clause-padded : goal.returns-in-Memory-clause-padded
 returns-in-Memory-clause-padded g c = padded_end _ _ _ _ _ _ c.stop-in-Memory.ensures.stopped tt

@@ -15,7 +15,10 @@ returns-clause-machine g c = λ w moment holds faults is_told stands.
     let seen = sight is_told g.P.Provider in
     remove_step c.args.self.now w holds faults moment c.args.job _ _ _ stands c.requires.next
     _ _ _ _ (removes_by is_told _ _ _ c.remove_from.ensures.removed)
-    (slice_get-map seen c.args.providers.now c.args.provider ∙ ap (option_map seen) (slice_get-get_or c.args.providers.now c.args.provider c.index-providers-index.result c.requires.there))
+    (slice_get-map seen c.args.providers.now c.args.provider
+    ∙ ap (option_map seen)
+    (slice_get-get_or c.args.providers.now c.args.provider c.index-providers-index.result
+    c.requires.there))
     (map-set seen c.args.providers.now c.args.provider c.remove_from.new.from)
     refl
     (record { setup = refl; master = refl; shape = refl; profile = refl })

@@ -26,14 +26,16 @@ store-requires g c =
     let at = c.place_of-place.ensures in
     let there = item_at v.jobs.items c.args.job place running at c.index_mut.ensures.value in
     by_work (storer_prop running.task c.args.provider) v
-    (λ w faults ps stands. storer_there v w None faults 0 c.args.job _ _ _ ps stands c.requires.next place running at there)
+    (λ w faults ps stands. storer_there v w None faults 0 c.args.job _ _ _ ps stands c.requires.next place
+    running at there)
     c.requires.at_work
 
 pub stop-requires-clause-there : goal.stop-requires-clause-there
 stop-requires-clause-there g c =
     let v = c.args.self.now in
     let at = c.place_of-place.ensures in
-    let there = item_at v.jobs.items c.args.job c.place_of-place.result c.index_mut.result.now at c.index_mut.ensures.value in
+    let there = item_at v.jobs.items c.args.job c.place_of-place.result
+    c.index_mut.result.now at c.index_mut.ensures.value in
     ap is_some (place_set v.jobs.items c.args.job c.place_of-place.result c.index_mut.result.now
     (record { number = c.index_mut.result.now.number; task = c.store.new.self }) at there refl)
 
@@ -41,44 +43,68 @@ pub stop-requires-in-Err-Memory-clause-there : goal.stop-requires-in-Err-Memory-
 stop-requires-in-Err-Memory-clause-there g c =
     let v = c.args.self.now in
     let at = c.place_of-place.ensures in
-    let there = item_at v.jobs.items c.args.job c.place_of-place.result c.index_mut.result.now at c.index_mut.ensures.value in
+    let there = item_at v.jobs.items c.args.job c.place_of-place.result
+    c.index_mut.result.now at c.index_mut.ensures.value in
     ap is_some (place_set v.jobs.items c.args.job c.place_of-place.result c.index_mut.result.now
     (record { number = c.index_mut.result.now.number; task = c.store.new.self }) at there refl)
 
 pub returns-in-Ok-clause-machine : goal.returns-in-Ok-clause-machine
 returns-in-Ok-clause-machine g c = λ w moment holds faults is_told stands.
     let at = c.place_of-place.ensures in
-    let there = item_at c.args.self.now.jobs.items c.args.job c.place_of-place.result c.index_mut.result.now at c.index_mut.ensures.value in
+    let there = item_at c.args.self.now.jobs.items c.args.job c.place_of-place.result
+    c.index_mut.result.now at c.index_mut.ensures.value in
     let seen = sight is_told g.P.Provider in
-    store_step c.args.self.now w holds faults moment c.args.job _ _ _ _ stands c.requires.next c.place_of-place.result c.index_mut.result.now at there
-    (record { number = c.index_mut.result.now.number; task = c.store.new.self }) refl c.store.ensures.keeps _ _ _
-    (slice_get-map seen c.args.providers.now c.args.provider ∙ ap (option_map seen) (slice_get-get_or c.args.providers.now c.args.provider c.index-providers-index.result c.requires.there))
+    store_step c.args.self.now w holds faults moment c.args.job _ _ _ _ stands c.requires.next
+    c.place_of-place.result c.index_mut.result.now at there
+    (record { number = c.index_mut.result.now.number; task = c.store.new.self }) refl c.store.ensures.keeps _
+    _ _
+    (slice_get-map seen c.args.providers.now c.args.provider
+    ∙ ap (option_map seen)
+    (slice_get-get_or c.args.providers.now c.args.provider c.index-providers-index.result
+    c.requires.there))
     (map-set seen c.args.providers.now c.args.provider c.store.new.to)
-    _ (stores_by is_told _ _ _ _ _ (was_stored _ _ _ _ _ _ _ c.in-Ok.is c.store.ensures.stored)) refl (record { setup = refl; master = refl; shape = refl; profile = refl }) refl c.feed.ensures.step
+    _ (stores_by is_told _ _ _ _ _ (was_stored _ _ _ _ _ _ _ c.in-Ok.is c.store.ensures.stored)) refl
+    (record { setup = refl; master = refl; shape = refl; profile = refl }) refl c.feed.ensures.step
 
 pub returns-in-Err-Failed-clause-machine : goal.returns-in-Err-Failed-clause-machine
 returns-in-Err-Failed-clause-machine g c = λ w moment holds faults is_told stands.
     let at = c.place_of-place.ensures in
-    let there = item_at c.args.self.now.jobs.items c.args.job c.place_of-place.result c.index_mut.result.now at c.index_mut.ensures.value in
+    let there = item_at c.args.self.now.jobs.items c.args.job c.place_of-place.result
+    c.index_mut.result.now at c.index_mut.ensures.value in
     let seen = sight is_told g.P.Provider in
-    failed_step c.args.self.now w holds faults moment c.args.job _ _ _ _ stands c.requires.next c.place_of-place.result c.index_mut.result.now at there
-    (record { number = c.index_mut.result.now.number; task = c.store.new.self }) refl c.store.ensures.keeps _ _ _
-    (slice_get-map seen c.args.providers.now c.args.provider ∙ ap (option_map seen) (slice_get-get_or c.args.providers.now c.args.provider c.index-providers-index.result c.requires.there))
+    failed_step c.args.self.now w holds faults moment c.args.job _ _ _ _ stands c.requires.next
+    c.place_of-place.result c.index_mut.result.now at there
+    (record { number = c.index_mut.result.now.number; task = c.store.new.self }) refl c.store.ensures.keeps _
+    _ _
+    (slice_get-map seen c.args.providers.now c.args.provider
+    ∙ ap (option_map seen)
+    (slice_get-get_or c.args.providers.now c.args.provider c.index-providers-index.result
+    c.requires.there))
     (map-set seen c.args.providers.now c.args.provider c.store.new.to)
     _ _ _ refl refl (record { setup = refl; master = refl; shape = refl; profile = refl }) refl
-    (fails_by is_told _ _ (was_failed _ _ _ _ _ _ _ c.in-Err-Failed.is c.in-Err-Failed.field-0-is c.store.ensures.stored)) c.stop.ensures.stopped
+    (fails_by is_told _ _
+    (was_failed _ _ _ _ _ _ _ c.in-Err-Failed.is c.in-Err-Failed.field-0-is c.store.ensures.stored))
+    c.stop.ensures.stopped
 
 pub returns-in-Err-Memory-clause-machine : goal.returns-in-Err-Memory-clause-machine
 returns-in-Err-Memory-clause-machine g c = λ w moment holds faults is_told stands.
     let at = c.place_of-place.ensures in
-    let there = item_at c.args.self.now.jobs.items c.args.job c.place_of-place.result c.index_mut.result.now at c.index_mut.ensures.value in
+    let there = item_at c.args.self.now.jobs.items c.args.job c.place_of-place.result
+    c.index_mut.result.now at c.index_mut.ensures.value in
     let seen = sight is_told g.P.Provider in
-    no_memory_step c.args.self.now w holds faults moment c.args.job _ _ _ _ stands c.requires.next c.place_of-place.result c.index_mut.result.now at there
-    (record { number = c.index_mut.result.now.number; task = c.store.new.self }) refl c.store.ensures.keeps _ _ _
-    (slice_get-map seen c.args.providers.now c.args.provider ∙ ap (option_map seen) (slice_get-get_or c.args.providers.now c.args.provider c.index-providers-index.result c.requires.there))
+    no_memory_step c.args.self.now w holds faults moment c.args.job _ _ _ _ stands c.requires.next
+    c.place_of-place.result c.index_mut.result.now at there
+    (record { number = c.index_mut.result.now.number; task = c.store.new.self }) refl c.store.ensures.keeps _
+    _ _
+    (slice_get-map seen c.args.providers.now c.args.provider
+    ∙ ap (option_map seen)
+    (slice_get-get_or c.args.providers.now c.args.provider c.index-providers-index.result
+    c.requires.there))
     (map-set seen c.args.providers.now c.args.provider c.store.new.to)
     _ _ _ refl refl (record { setup = refl; master = refl; shape = refl; profile = refl }) refl
-    (no_memory_by is_told _ _ (found_no_memory _ _ _ _ _ _ _ c.in-Err-Memory.is c.in-Err-Memory.field-0-is c.store.ensures.stored)) c.stop-in-Err-Memory.ensures.stopped
+    (no_memory_by is_told _ _
+    (found_no_memory _ _ _ _ _ _ _ c.in-Err-Memory.is c.in-Err-Memory.field-0-is c.store.ensures.stored))
+    c.stop-in-Err-Memory.ensures.stopped
 
 pub index_mut-requires : goal.index_mut-requires
 index_mut-requires g c =
@@ -152,7 +178,8 @@ returns-in-Err-Memory-clause-called g c =
     c.store.new.to c.requires.there c.store.ensures.called
 
 pub returns-in-Err-Memory-clause-left : goal.returns-in-Err-Memory-clause-left
-returns-in-Err-Memory-clause-left g c = λ more. absurd (goes_not_on _ _ _ _ _ _ c.stop-in-Err-Memory.ensures.stopped more)
+returns-in-Err-Memory-clause-left g c =
+    λ more. absurd (goes_not_on _ _ _ _ _ _ c.stop-in-Err-Memory.ensures.stopped more)
 
 pub returns-in-Err-Memory-clause-padded : goal.returns-in-Err-Memory-clause-padded
 returns-in-Err-Memory-clause-padded g c = padded_end _ _ _ _ _ _ c.stop-in-Err-Memory.ensures.stopped tt

@@ -20,32 +20,40 @@ work-requires c =
     let at = c.place_of-place.ensures in
     let there = item_at v.jobs.items c.args.job place running at c.index_mut.ensures.value in
     by_work (work_prop running.task) v
-    (λ w faults ps stands. work_there v w (devices None faults ps) 0 c.args.job _ _ stands c.requires.next place running at there)
+    (λ w faults ps stands. work_there v w (devices None faults ps) 0 c.args.job _ _ stands c.requires.next
+    place running at there)
     c.requires.at_work
 
 pub stop-requires-clause-there : goal.stop-requires-clause-there
 stop-requires-clause-there c =
     let v = c.args.self.now in
     let at = c.place_of-place.ensures in
-    let there = item_at v.jobs.items c.args.job c.place_of-place.result c.index_mut.result.now at c.index_mut.ensures.value in
+    let there = item_at v.jobs.items c.args.job c.place_of-place.result
+    c.index_mut.result.now at c.index_mut.ensures.value in
     ap is_some (place_set v.jobs.items c.args.job c.place_of-place.result c.index_mut.result.now
     (record { number = c.index_mut.result.now.number; task = c.work.new.self }) at there refl)
 
 pub returns-in-Ok-clause-machine : goal.returns-in-Ok-clause-machine
 returns-in-Ok-clause-machine c = λ w moment d stands.
     let at = c.place_of-place.ensures in
-    let there = item_at c.args.self.now.jobs.items c.args.job c.place_of-place.result c.index_mut.result.now at c.index_mut.ensures.value in
-    work_step c.args.self.now w d moment c.args.job _ _ stands c.requires.next c.place_of-place.result c.index_mut.result.now at there
+    let there = item_at c.args.self.now.jobs.items c.args.job c.place_of-place.result
+    c.index_mut.result.now at c.index_mut.ensures.value in
+    work_step c.args.self.now w d moment c.args.job _ _ stands c.requires.next c.place_of-place.result
+    c.index_mut.result.now at there
     (record { number = c.index_mut.result.now.number; task = c.work.new.self }) refl
-    _ _ _ c.in-Ok.is c.work.ensures refl (record { setup = refl; master = refl; shape = refl; profile = refl }) refl c.feed.ensures.step
+    _ _ _ c.in-Ok.is c.work.ensures refl
+    (record { setup = refl; master = refl; shape = refl; profile = refl }) refl c.feed.ensures.step
 
 pub returns-in-Err-clause-machine : goal.returns-in-Err-clause-machine
 returns-in-Err-clause-machine c = λ w moment d stands.
     let at = c.place_of-place.ensures in
-    let there = item_at c.args.self.now.jobs.items c.args.job c.place_of-place.result c.index_mut.result.now at c.index_mut.ensures.value in
-    lost_step c.args.self.now w d moment c.args.job _ _ stands c.requires.next c.place_of-place.result c.index_mut.result.now at there
+    let there = item_at c.args.self.now.jobs.items c.args.job c.place_of-place.result
+    c.index_mut.result.now at c.index_mut.ensures.value in
+    lost_step c.args.self.now w d moment c.args.job _ _ stands c.requires.next c.place_of-place.result
+    c.index_mut.result.now at there
     (record { number = c.index_mut.result.now.number; task = c.work.new.self }) refl
-    _ _ _ _ _ _ c.in-Err.is refl c.work.ensures refl refl (record { setup = refl; master = refl; shape = refl; profile = refl }) refl c.stop.ensures.stopped
+    _ _ _ _ _ _ c.in-Err.is refl c.work.ensures refl refl
+    (record { setup = refl; master = refl; shape = refl; profile = refl }) refl c.stop.ensures.stopped
 
 pub index_mut-requires : goal.index_mut-requires
 index_mut-requires c =

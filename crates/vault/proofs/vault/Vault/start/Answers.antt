@@ -11,12 +11,19 @@ open_fresh-requires-clause-least g c =
 pub invariant_of-result : goal.invariant_of-result
 invariant_of-result g c =
     let r = c.in_ok-store.ensures.read in
-    record { at_work = fresh_works _ _ r.0 c.in_ok-store.store c.args.first c.in_ok-desk.desk r.1 r.2 c.in_ok-desk.ensures.ok }
+    record {
+      at_work = fresh_works _ _ r.0 c.in_ok-store.store c.args.first c.in_ok-desk.desk r.1 r.2
+          c.in_ok-desk.ensures.ok;
+    }
 
 pub returns-clause-opened : goal.returns-clause-opened
 returns-clause-opened g c =
-    let r = c.in_ok-store.ensures.read in
-    (r.0, r.1, λ w providers j. stands _ _ r.0 c.in_ok-store.store c.args.first c.in_ok-desk.desk r.1 r.2 c.in_ok-desk.ensures.ok _ w providers j)
+    let r = c.in_ok-store.ensures.read in (
+      r.0,
+      r.1,
+      λ w providers j. stands _ _ r.0 c.in_ok-store.store c.args.first c.in_ok-desk.desk r.1 r.2
+          c.in_ok-desk.ensures.ok _ w providers j,
+    )
 
 pub returns-clause-carries : goal.returns-clause-carries
 returns-clause-carries g c =

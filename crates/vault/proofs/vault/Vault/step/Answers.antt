@@ -29,9 +29,12 @@ returns-in-Act-clause-machine g c = λ w moment stands. c.act.ensures.machine w 
 
 pub act-requires-clause-there : goal.act-requires-clause-there
 act-requires-clause-there g c = λ j called.
-    omega
-    (arith, c.requires, c.in-Act.ensures.within j (ap called_provider (sym c.in-Act.ensures.value) ∙ called),
-    providers_fit c.args.self.now.desk c.args.self.now.at_work)
+    omega (
+      arith,
+      c.requires,
+      c.in-Act.ensures.within j (ap called_provider (sym c.in-Act.ensures.value) ∙ called),
+      providers_fit c.args.self.now.desk c.args.self.now.at_work,
+    )
 
 pub act-requires-clause-at_work : goal.act-requires-clause-at_work
 act-requires-clause-at_work g c = c.args.self.now.at_work
@@ -54,7 +57,8 @@ returns-in-Act-clause-moves g c = λ w entry stands given calls.
     (λ (coming : Coming). MovesCells (moves_before_next coming) (closed_gate_of c.args.self.now)
     (spelling entry ++ 0 ∷ []) c.act.result (g.D.Disk.holds c.args.disk.now)
     (g.D.Disk.holds c.act.new.disk))
-    c.in-Act.ensures.value (c.act.ensures.moves w entry stands given (ap calls_disk c.in-Act.ensures.value ∙ calls))
+    c.in-Act.ensures.value
+    (c.act.ensures.moves w entry stands given (ap calls_disk c.in-Act.ensures.value ∙ calls))
 
 pub returns-in-Act-clause-away : goal.returns-in-Act-clause-away
 returns-in-Act-clause-away g c = λ none.
@@ -81,7 +85,8 @@ returns-in-Act-clause-waits g c = λ none. absurd (c.act.ensures.acted none)
 pub returns-in-Act-clause-no_job : goal.returns-in-Act-clause-no_job
 returns-in-Act-clause-no_job g c = (
   (λ (is : c.act.result ≡ turn.NoSuchJob). absurd (c.act.ensures.acted (subst IsNoAction (sym is) tt))),
-  (λ (none : coming_of c.args.self.now c.args.job ≡ IsNoJob). absurd (acts-none _ (c.in-Act.ensures.value ∙ none))),
+  (λ (none : coming_of c.args.self.now c.args.job ≡ IsNoJob). absurd
+      (acts-none _ (c.in-Act.ensures.value ∙ none))),
 )
 
 pub returns-in-Waiting-clause-tells : goal.returns-in-Waiting-clause-tells

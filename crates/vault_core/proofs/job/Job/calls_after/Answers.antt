@@ -2,4 +2,6 @@ use Rattle.vault_core.proofs.Rests.{no_work}
 use Rattle.vault_core.proofs.job.Job.calls_after.Goals as goal
 
 pub returns-in_default-clause-at : goal.returns-in_default-clause-at
-returns-in_default-clause-at c = λ n l stays calls. no_work n c.args.self.now c.args.spot c.turn_after.result c.in_default.not-Get c.in_default.not-Repair (c.turn_after.ensures.at n l stays calls)
+returns-in_default-clause-at c =
+    λ n l stays calls. no_work n c.args.self.now c.args.spot c.turn_after.result c.in_default.not-Get
+    c.in_default.not-Repair (c.turn_after.ensures.at n l stays calls)

@@ -4,8 +4,10 @@ use Rattle.vault_core.proofs.job.Job.task_at.Goals as goal
 pub returns-in-Some-clause-at : goal.returns-in-Some-clause-at
 returns-in-Some-clause-at c = λ n l stays.
     let h = c.in-Some.ensures.lookup in
-    task_found n c.args.self.now c.args.place c.in-Some.task.now l stays (get_here _ _ c.args.place c.in-Some.task.now c.deref.ensures.value h.3.0 h.1)
+    task_found n c.args.self.now c.args.place c.in-Some.task.now l stays
+    (get_here _ _ c.args.place c.in-Some.task.now c.deref.ensures.value h.3.0 h.1)
 
 pub returns-in-None-clause-at : goal.returns-in-None-clause-at
 returns-in-None-clause-at c = λ n l stays.
-    tasks_over n c.args.self.now c.args.place c.closing.result (get_past _ _ c.args.place c.deref.ensures.value c.in-None.ensures.lookup.3) (c.closing.ensures.at n)
+    tasks_over n c.args.self.now c.args.place c.closing.result
+    (get_past _ _ c.args.place c.deref.ensures.value c.in-None.ensures.lookup.3) (c.closing.ensures.at n)

@@ -8,22 +8,31 @@ use Rattle.vault_core.proofs.own.Core.advance.Goals as goal
 
 pub advance-requires-clause-going : goal.advance-requires-clause-going
 advance-requires-clause-going c =
-    (plain_here c.self.inside c.args.self.now c.args.place c.index_mut-job.result.now c.self.view_is c.self.invariant c.index_mut-job.ensures.value c.requires).going
+    (plain_here c.self.inside c.args.self.now c.args.place c.index_mut-job.result.now c.self.view_is
+    c.self.invariant c.index_mut-job.ensures.value c.requires).going
 
 pub advance-requires-clause-undecided : goal.advance-requires-clause-undecided
 advance-requires-clause-undecided c =
-    (plain_here c.self.inside c.args.self.now c.args.place c.index_mut-job.result.now c.self.view_is c.self.invariant c.index_mut-job.ensures.value c.requires).undecided
+    (plain_here c.self.inside c.args.self.now c.args.place c.index_mut-job.result.now c.self.view_is
+    c.self.invariant c.index_mut-job.ensures.value c.requires).undecided
 
 pub invariant_of-self : goal.invariant_of-self
 invariant_of-self c =
-    let here = plain_here c.self.inside c.args.self.now c.args.place c.index_mut-job.result.now c.self.view_is c.self.invariant c.index_mut-job.ensures.value c.requires in
-    let s = seen_moved c.self.inside.setup.n c.index_mut-job.result.now c.advance.new.self here.kept c.advance.ensures.rest c.advance.ensures.opening c.advance.ensures.same in
+    let here = plain_here c.self.inside c.args.self.now c.args.place c.index_mut-job.result.now c.self.view_is
+    c.self.invariant c.index_mut-job.ensures.value c.requires in
+    let s = seen_moved c.self.inside.setup.n c.index_mut-job.result.now c.advance.new.self here.kept
+    c.advance.ensures.rest c.advance.ensures.opening c.advance.ensures.same in
     let j = core_job c.self.inside.setup.n c.index_mut-job.result.now in
-    other_core c.self.inside (with_item c.self.inside.jobs c.args.place c.advance.new.self) c.args.place c.advance.new.self j (stepped j) c.self.inside.append refl s here.here refl c.advance.ensures.kept (moved_room c.self.inside.setup.n j) (moved_starts j)
+    other_core c.self.inside (with_item c.self.inside.jobs c.args.place c.advance.new.self) c.args.place
+    c.advance.new.self j (stepped j) c.self.inside.append refl s here.here refl c.advance.ensures.kept
+    (moved_room c.self.inside.setup.n j) (moved_starts j)
     c.self.invariant
 
 pub returns : goal.returns
 returns c =
-    let here = plain_here c.self.inside c.args.self.now c.args.place c.index_mut-job.result.now c.self.view_is c.self.invariant c.index_mut-job.ensures.value c.requires in
-    let s = seen_moved c.self.inside.setup.n c.index_mut-job.result.now c.advance.new.self here.kept c.advance.ensures.rest c.advance.ensures.opening c.advance.ensures.same in
-    set_view_same c.self.inside c.args.self.now (with_item c.self.inside.jobs c.args.place c.advance.new.self) c.args.place c.advance.new.self c.index_mut-job.result.now stepped c.self.view_is refl here.here s
+    let here = plain_here c.self.inside c.args.self.now c.args.place c.index_mut-job.result.now c.self.view_is
+    c.self.invariant c.index_mut-job.ensures.value c.requires in
+    let s = seen_moved c.self.inside.setup.n c.index_mut-job.result.now c.advance.new.self here.kept
+    c.advance.ensures.rest c.advance.ensures.opening c.advance.ensures.same in
+    set_view_same c.self.inside c.args.self.now (with_item c.self.inside.jobs c.args.place c.advance.new.self)
+    c.args.place c.advance.new.self c.index_mut-job.result.now stepped c.self.view_is refl here.here s

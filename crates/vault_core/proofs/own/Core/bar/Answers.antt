@@ -6,7 +6,8 @@ use Rattle.vault_core.proofs.own.Core.bar.Goals as goal
 
 pub invariant_of-self : goal.invariant_of-self
 invariant_of-self c = less_core c.self.inside c.remove.new.self c.args.place c.remove.result None true
-    (subst (λ (x : CoreView). c.args.place < length x.jobs) (sym c.self.view_is) c.requires) c.remove.ensures.items c.self.invariant
+    (subst (λ (x : CoreView). c.args.place < length x.jobs) (sym c.self.view_is) c.requires)
+    c.remove.ensures.items c.self.invariant
 
 pub returns : goal.returns
 returns c = less_view c.self.inside c.remove.new.self c.args.place None true c.remove.ensures.items

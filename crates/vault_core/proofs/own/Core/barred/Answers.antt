@@ -12,7 +12,8 @@ returns-then-running-ge-MOST_JOBS c = λ w is.
     let v = c.running.ensures.value in
     let t = c.if-running-ge-MOST_JOBS.true in
     let n : 8 ≤ length c.args.self.now.jobs = omega (arith, v, t) in
-    sym (ap (λ (b : Bool). refused_early b (length c.args.self.now.jobs)) (sym (ap (λ (x : CoreView). x.barred) c.self.view_is) ∙ c.if-self.false)
+    sym (ap (λ (b : Bool). refused_early b (length c.args.self.now.jobs))
+    (sym (ap (λ (x : CoreView). x.barred) c.self.view_is) ∙ c.if-self.false)
     ∙ ap (λ (b : Bool). if b then Some Busy else None) (le-leb 8 (length c.args.self.now.jobs) n))
     ∙ (early_same c.args.self.now w is ∙ early_shut c.args.self.now w is)
 
@@ -21,6 +22,7 @@ returns c = λ w is.
     let v = c.running.ensures.value in
     let t = c.if-running-ge-MOST_JOBS.false in
     let n : length c.args.self.now.jobs < 8 = omega (arith, v, t) in
-    sym (ap (λ (b : Bool). refused_early b (length c.args.self.now.jobs)) (sym (ap (λ (x : CoreView). x.barred) c.self.view_is) ∙ c.if-self.false)
+    sym (ap (λ (b : Bool). refused_early b (length c.args.self.now.jobs))
+    (sym (ap (λ (x : CoreView). x.barred) c.self.view_is) ∙ c.if-self.false)
     ∙ ap (λ (b : Bool). if b then Some Busy else None) (lt-leb 8 (length c.args.self.now.jobs) n))
     ∙ (early_same c.args.self.now w is ∙ early_shut c.args.self.now w is)

@@ -15,24 +15,37 @@ use Rattle.vault_core.proofs.Gating.{providers}
 
 pub admit-requires-clause-room : goal.admit-requires-clause-room
 admit-requires-clause-room c =
-    let made = subst (λ (v : CoreView). IsMade v.table v.setup v.next_job c.args.wish c.in-Ok.job) c.self.view_is (c.in-Ok.ensures.made c.self.inside.master.0) in
-    let e = made-room c.args.self.now.table c.args.self.now.setup c.args.self.now.next_job c.args.wish c.in-Ok.job made in
-    let l = room-left c.args.self.now c.args.wish (subst Reserves c.self.view_is c.self.invariant.reserves) (sym c.in_default.is ∙ c.refusal.ensures.value) in
-    let whole : c.args.self.now.end + sum_by (reserved_of c.args.self.now.setup.n) c.args.self.now.jobs + reserved_of c.args.self.now.setup.n (core_job c.args.self.now.setup.n c.in-Ok.job) ≤ largest_journal = omega (arith, e, l) in
+    let made = subst (λ (v : CoreView). IsMade v.table v.setup v.next_job c.args.wish c.in-Ok.job)
+    c.self.view_is (c.in-Ok.ensures.made c.self.inside.master.0) in
+    let e = made-room c.args.self.now.table c.args.self.now.setup c.args.self.now.next_job c.args.wish
+    c.in-Ok.job made in
+    let l = room-left c.args.self.now c.args.wish (subst Reserves c.self.view_is c.self.invariant.reserves)
+    (sym c.in_default.is ∙ c.refusal.ensures.value) in
+    let whole : c.args.self.now.end + sum_by (reserved_of c.args.self.now.setup.n)
+    c.args.self.now.jobs + reserved_of c.args.self.now.setup.n
+    (core_job c.args.self.now.setup.n c.in-Ok.job) ≤ largest_journal = omega (arith, e, l) in
     whole
 
 pub admit-requires-clause-few : goal.admit-requires-clause-few
-admit-requires-clause-few c = few-left c.args.self.now c.args.wish (sym c.in_default.is ∙ c.refusal.ensures.value)
+admit-requires-clause-few c =
+    few-left c.args.self.now c.args.wish (sym c.in_default.is ∙ c.refusal.ensures.value)
 
 pub returns-in-Ok-clause-begun : goal.returns-in-Ok-clause-begun
 returns-in-Ok-clause-begun c = λ w kind moment is of spelled.
-    let made = subst (λ (v : CoreView). IsMade v.table v.setup v.next_job c.args.wish c.in-Ok.job) c.self.view_is (c.in-Ok.ensures.made c.self.inside.master.0) in
-    let bounds = providers c.args.self.now.setup (subst (λ (v : CoreView). IsTrue (is_setup v.setup)) c.self.view_is c.self.invariant.set_up) in
-    let allowed : begin_refusal 8 w kind ≡ None = sym (c.refusal.ensures.machine w kind is of c.requires.size) ∙ ap (option_map refusal_of) c.in_default.is in
-    on_ok_then c.admit.result _ _ (λ (e : c.admit.new.self ≡ admitted c.args.self.now c.in-Ok.job.wish c.in-Ok.job).
-    subst (λ (v : CoreView). CoreIs v (begun w moment kind)) (sym (e ∙ ap (λ (v : Wish). admitted c.args.self.now v c.in-Ok.job) made.wish))
-    (core-begun c.args.self.now w kind moment c.args.wish c.in-Ok.job is of spelled allowed bounds.0 bounds.1 made))
+    let made = subst (λ (v : CoreView). IsMade v.table v.setup v.next_job c.args.wish c.in-Ok.job)
+    c.self.view_is (c.in-Ok.ensures.made c.self.inside.master.0) in
+    let bounds = providers c.args.self.now.setup
+    (subst (λ (v : CoreView). IsTrue (is_setup v.setup)) c.self.view_is c.self.invariant.set_up) in
+    let allowed : begin_refusal 8 w kind ≡ None = sym (c.refusal.ensures.machine w kind is of c.requires.size)
+    ∙ ap (option_map refusal_of) c.in_default.is in
+    on_ok_then c.admit.result _ _
+    (λ (e : c.admit.new.self ≡ admitted c.args.self.now c.in-Ok.job.wish c.in-Ok.job).
+    subst (λ (v : CoreView). CoreIs v (begun w moment kind))
+    (sym (e ∙ ap (λ (v : Wish). admitted c.args.self.now v c.in-Ok.job) made.wish))
+    (core-begun c.args.self.now w kind moment c.args.wish c.in-Ok.job is of spelled allowed bounds.0 bounds.1
+    made))
     c.admit.ensures.admitted
 
 pub admit-requires-clause-next : goal.admit-requires-clause-next
-admit-requires-clause-next c = (c.in-Ok.ensures.made c.self.inside.master.0).number ∙ ap (λ (v : CoreView). v.next_job) c.self.view_is
+admit-requires-clause-next c =
+    (c.in-Ok.ensures.made c.self.inside.master.0).number ∙ ap (λ (v : CoreView). v.next_job) c.self.view_is

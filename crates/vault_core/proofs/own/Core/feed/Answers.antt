@@ -12,160 +12,261 @@ use Rattle.vault_core.proofs.Steps.{on_machine, other_store, begins_done, gates_
 use Rattle.vault_core.proofs.own.Core.feed.Goals as goal
 
 pub returns-in_default-clause-step : goal.returns-in_default-clause-step
-returns-in_default-clause-step c = absurd (step_runs c.args.self.now c.args.job c.args.reply c.requires c.in_default.ensures)
+returns-in_default-clause-step c =
+    absurd (step_runs c.args.self.now c.args.job c.args.reply c.requires c.in_default.ensures)
 
 pub returns-in_default-clause-falls : goal.returns-in_default-clause-falls
-returns-in_default-clause-falls c = absurd (step_runs c.args.self.now c.args.job c.args.reply c.requires c.in_default.ensures)
+returns-in_default-clause-falls c =
+    absurd (step_runs c.args.self.now c.args.job c.args.reply c.requires c.in_default.ensures)
 
 pub begin_append-requires : goal.begin_append-requires
 begin_append-requires c = step_first c.args.self.now c.args.job c.in-Some.place c.args.reply WriteBody
-    (step_here c.self.inside c.args.self.now c.args.job c.in-Some.place c.index.result.now c.args.reply act.WriteBody c.self.view_is c.self.invariant c.requires c.in-Some.ensures c.index.ensures c.in-WriteBody.ensures.value) (λ e. cc)
+    (step_here c.self.inside c.args.self.now c.args.job c.in-Some.place c.index.result.now c.args.reply
+    act.WriteBody c.self.view_is c.self.invariant c.requires c.in-Some.ensures c.index.ensures
+    c.in-WriteBody.ensures.value) (λ e. cc)
 
 pub end_append-requires : goal.end_append-requires
 end_append-requires c = step_first c.args.self.now c.args.job c.in-Some.place c.args.reply SyncGate
-    (step_here c.self.inside c.args.self.now c.args.job c.in-Some.place c.index.result.now c.args.reply act.SyncGate c.self.view_is c.self.invariant c.requires c.in-Some.ensures c.index.ensures c.in-SyncGate.ensures.value) (λ e. cc)
+    (step_here c.self.inside c.args.self.now c.args.job c.in-Some.place c.index.result.now c.args.reply
+    act.SyncGate c.self.view_is c.self.invariant c.requires c.in-Some.ensures c.index.ensures
+    c.in-SyncGate.ensures.value) (λ e. cc)
 
 pub advance-requires : goal.advance-requires
-advance-requires c = step_plain c.args.self.now c.args.job c.in-Some.place c.args.reply (seen_action c.action_over-action.result)
-    (step_here c.self.inside c.args.self.now c.args.job c.in-Some.place c.index.result.now c.args.reply c.action_over-action.result c.self.view_is c.self.invariant c.requires c.in-Some.ensures c.index.ensures c.action_over-action.ensures.value)
-    (plain_by c.action_over-action.result c.in_default-action.not-WriteBody c.in_default-action.not-SyncGate c.in_default-action.not-End)
+advance-requires c = step_plain c.args.self.now c.args.job c.in-Some.place c.args.reply
+    (seen_action c.action_over-action.result)
+    (step_here c.self.inside c.args.self.now c.args.job c.in-Some.place c.index.result.now c.args.reply
+    c.action_over-action.result c.self.view_is c.self.invariant c.requires c.in-Some.ensures
+    c.index.ensures c.action_over-action.ensures.value)
+    (plain_by c.action_over-action.result c.in_default-action.not-WriteBody c.in_default-action.not-SyncGate
+    c.in_default-action.not-End)
 
 pub judge-requires-clause-plain : goal.judge-requires-clause-plain
 judge-requires-clause-plain c =
-    let here = step_here c.self.inside c.args.self.now c.args.job c.in-Some.place c.index.result.now c.args.reply c.action_over-action.result c.self.view_is c.self.invariant c.requires c.in-Some.ensures c.index.ensures c.action_over-action.ensures.value in
-    step_plain c.args.self.now c.args.job c.in-Some.place c.args.reply (seen_action c.action_over-action.result) here
-    (verdict_plain c.args.self.now c.args.job c.action_over-action.result c.in-Verdict.undecided c.in-Verdict.counts
-    (subst (λ (r : Reply). HasReply c.args.self.now c.args.job (Acts (seen_action c.action_over-action.result)) r) c.in-Verdict.is here.replies))
+    let here = step_here c.self.inside c.args.self.now c.args.job c.in-Some.place c.index.result.now
+    c.args.reply c.action_over-action.result c.self.view_is c.self.invariant c.requires c.in-Some.ensures
+    c.index.ensures c.action_over-action.ensures.value in
+    step_plain c.args.self.now c.args.job c.in-Some.place c.args.reply
+    (seen_action c.action_over-action.result) here
+    (verdict_plain c.args.self.now c.args.job c.action_over-action.result c.in-Verdict.undecided
+    c.in-Verdict.counts
+    (subst (λ (r : Reply). HasReply c.args.self.now c.args.job
+    (Acts (seen_action c.action_over-action.result)) r) c.in-Verdict.is here.replies))
 
 pub returns-in-WriteBody-clause-falls : goal.returns-in-WriteBody-clause-falls
 returns-in-WriteBody-clause-falls c =
-    let here = step_here c.self.inside c.args.self.now c.args.job c.in-Some.place c.index.result.now c.args.reply c.action_over-action.result c.self.view_is c.self.invariant c.requires c.in-Some.ensures c.index.ensures c.action_over-action.ensures.value in
-    step_left c.args.self.now c.begin_append.new.self c.args.job c.in-Some.place c.args.reply (seen_action c.action_over-action.result) here
-    (drawn_goes c.self.inside c.args.self.now c.begin_append.new.self c.in-Some.place c.self.view_is c.self.invariant c.begin_append.ensures)
+    let here = step_here c.self.inside c.args.self.now c.args.job c.in-Some.place c.index.result.now
+    c.args.reply c.action_over-action.result c.self.view_is c.self.invariant c.requires c.in-Some.ensures
+    c.index.ensures c.action_over-action.ensures.value in
+    step_left c.args.self.now c.begin_append.new.self c.args.job c.in-Some.place c.args.reply
+    (seen_action c.action_over-action.result) here
+    (drawn_goes c.self.inside c.args.self.now c.begin_append.new.self c.in-Some.place c.self.view_is
+    c.self.invariant c.begin_append.ensures)
 
 pub returns-in-WriteBody-clause-setup : goal.returns-in-WriteBody-clause-setup
 returns-in-WriteBody-clause-setup c =
-    let here = step_here c.self.inside c.args.self.now c.args.job c.in-Some.place c.index.result.now c.args.reply c.action_over-action.result c.self.view_is c.self.invariant c.requires c.in-Some.ensures c.index.ensures c.action_over-action.ensures.value in
+    let here = step_here c.self.inside c.args.self.now c.args.job c.in-Some.place c.index.result.now
+    c.args.reply c.action_over-action.result c.self.view_is c.self.invariant c.requires c.in-Some.ensures
+    c.index.ensures c.action_over-action.ensures.value in
     ap (λ (x : CoreView). x.setup) (c.begin_append.ensures here.job here.here)
 
 pub returns-in-SyncGate-clause-falls : goal.returns-in-SyncGate-clause-falls
 returns-in-SyncGate-clause-falls c =
-    let here = step_here c.self.inside c.args.self.now c.args.job c.in-Some.place c.index.result.now c.args.reply c.action_over-action.result c.self.view_is c.self.invariant c.requires c.in-Some.ensures c.index.ensures c.action_over-action.ensures.value in
-    step_left c.args.self.now c.end_append.new.self c.args.job c.in-Some.place c.args.reply (seen_action c.action_over-action.result) here c.end_append.ensures.falls
+    let here = step_here c.self.inside c.args.self.now c.args.job c.in-Some.place c.index.result.now
+    c.args.reply c.action_over-action.result c.self.view_is c.self.invariant c.requires c.in-Some.ensures
+    c.index.ensures c.action_over-action.ensures.value in
+    step_left c.args.self.now c.end_append.new.self c.args.job c.in-Some.place c.args.reply
+    (seen_action c.action_over-action.result) here c.end_append.ensures.falls
 
 pub returns-in-End-clause-falls : goal.returns-in-End-clause-falls
 returns-in-End-clause-falls c =
-    let here = step_here c.self.inside c.args.self.now c.args.job c.in-Some.place c.index.result.now c.args.reply c.action_over-action.result c.self.view_is c.self.invariant c.requires c.in-Some.ensures c.index.ensures c.action_over-action.ensures.value in
-    step_left c.args.self.now c.stop.new.self c.args.job c.in-Some.place c.args.reply (seen_action c.action_over-action.result) here
-    (removed_falls c.self.inside c.args.self.now c.stop.new.self c.in-Some.place c.self.view_is c.self.invariant (ap (λ (x : CoreView). x.jobs) c.stop.ensures))
+    let here = step_here c.self.inside c.args.self.now c.args.job c.in-Some.place c.index.result.now
+    c.args.reply c.action_over-action.result c.self.view_is c.self.invariant c.requires c.in-Some.ensures
+    c.index.ensures c.action_over-action.ensures.value in
+    step_left c.args.self.now c.stop.new.self c.args.job c.in-Some.place c.args.reply
+    (seen_action c.action_over-action.result) here
+    (removed_falls c.self.inside c.args.self.now c.stop.new.self c.in-Some.place c.self.view_is
+    c.self.invariant (ap (λ (x : CoreView). x.jobs) c.stop.ensures))
 
 pub returns-in-Store-clause-falls : goal.returns-in-Store-clause-falls
 returns-in-Store-clause-falls c =
-    let here = step_here c.self.inside c.args.self.now c.args.job c.in-Some.place c.index.result.now c.args.reply c.action_over-action.result c.self.view_is c.self.invariant c.requires c.in-Some.ensures c.index.ensures c.action_over-action.ensures.value in
-    step_left c.args.self.now c.stop-in-Store.new.self c.args.job c.in-Some.place c.args.reply (seen_action c.action_over-action.result) here
-    (removed_falls c.self.inside c.args.self.now c.stop-in-Store.new.self c.in-Some.place c.self.view_is c.self.invariant (ap (λ (x : CoreView). x.jobs) c.stop-in-Store.ensures))
+    let here = step_here c.self.inside c.args.self.now c.args.job c.in-Some.place c.index.result.now
+    c.args.reply c.action_over-action.result c.self.view_is c.self.invariant c.requires c.in-Some.ensures
+    c.index.ensures c.action_over-action.ensures.value in
+    step_left c.args.self.now c.stop-in-Store.new.self c.args.job c.in-Some.place c.args.reply
+    (seen_action c.action_over-action.result) here
+    (removed_falls c.self.inside c.args.self.now c.stop-in-Store.new.self c.in-Some.place c.self.view_is
+    c.self.invariant (ap (λ (x : CoreView). x.jobs) c.stop-in-Store.ensures))
 
 pub returns-in-Memory-clause-falls : goal.returns-in-Memory-clause-falls
 returns-in-Memory-clause-falls c =
-    let here = step_here c.self.inside c.args.self.now c.args.job c.in-Some.place c.index.result.now c.args.reply c.action_over-action.result c.self.view_is c.self.invariant c.requires c.in-Some.ensures c.index.ensures c.action_over-action.ensures.value in
-    step_left c.args.self.now c.stop-in-Memory.new.self c.args.job c.in-Some.place c.args.reply (seen_action c.action_over-action.result) here
-    (removed_falls c.self.inside c.args.self.now c.stop-in-Memory.new.self c.in-Some.place c.self.view_is c.self.invariant (ap (λ (x : CoreView). x.jobs) c.stop-in-Memory.ensures))
+    let here = step_here c.self.inside c.args.self.now c.args.job c.in-Some.place c.index.result.now
+    c.args.reply c.action_over-action.result c.self.view_is c.self.invariant c.requires c.in-Some.ensures
+    c.index.ensures c.action_over-action.ensures.value in
+    step_left c.args.self.now c.stop-in-Memory.new.self c.args.job c.in-Some.place c.args.reply
+    (seen_action c.action_over-action.result) here
+    (removed_falls c.self.inside c.args.self.now c.stop-in-Memory.new.self c.in-Some.place c.self.view_is
+    c.self.invariant (ap (λ (x : CoreView). x.jobs) c.stop-in-Memory.ensures))
 
 pub returns-in-Lost-clause-falls : goal.returns-in-Lost-clause-falls
 returns-in-Lost-clause-falls c =
-    let here = step_here c.self.inside c.args.self.now c.args.job c.in-Some.place c.index.result.now c.args.reply c.action_over-action.result c.self.view_is c.self.invariant c.requires c.in-Some.ensures c.index.ensures c.action_over-action.ensures.value in
-    step_left c.args.self.now c.stop-in-Lost.new.self c.args.job c.in-Some.place c.args.reply (seen_action c.action_over-action.result) here
-    (removed_falls c.self.inside c.args.self.now c.stop-in-Lost.new.self c.in-Some.place c.self.view_is c.self.invariant (ap (λ (x : CoreView). x.jobs) c.stop-in-Lost.ensures))
+    let here = step_here c.self.inside c.args.self.now c.args.job c.in-Some.place c.index.result.now
+    c.args.reply c.action_over-action.result c.self.view_is c.self.invariant c.requires c.in-Some.ensures
+    c.index.ensures c.action_over-action.ensures.value in
+    step_left c.args.self.now c.stop-in-Lost.new.self c.args.job c.in-Some.place c.args.reply
+    (seen_action c.action_over-action.result) here
+    (removed_falls c.self.inside c.args.self.now c.stop-in-Lost.new.self c.in-Some.place c.self.view_is
+    c.self.invariant (ap (λ (x : CoreView). x.jobs) c.stop-in-Lost.ensures))
 
 pub returns-in_default-action : goal.returns-in_default-action
 returns-in_default-action c =
-    let here = step_here c.self.inside c.args.self.now c.args.job c.in-Some.place c.index.result.now c.args.reply c.action_over-action.result c.self.view_is c.self.invariant c.requires c.in-Some.ensures c.index.ensures c.action_over-action.ensures.value in
+    let here = step_here c.self.inside c.args.self.now c.args.job c.in-Some.place c.index.result.now
+    c.args.reply c.action_over-action.result c.self.view_is c.self.invariant c.requires c.in-Some.ensures
+    c.index.ensures c.action_over-action.ensures.value in
     record {
       step = λ w new outcome moment is happens told.
-          let on = on_machine c.args.self.now w new c.args.job c.in-Some.place c.args.reply (seen_action c.action_over-action.result) outcome moment here is c.ranges.job.fits happens in
+          let on = on_machine c.args.self.now w new c.args.job c.in-Some.place c.args.reply
+          (seen_action c.action_over-action.result) outcome moment here is c.ranges.job.fits happens in
           let tells = subst (λ (r : Reply). Tells c.args.job r outcome new) c.in-Done.is told.tells in
-          let replies = subst (λ (r : Reply). HasReply c.args.self.now c.args.job (Acts (seen_action c.action_over-action.result)) r) c.in-Done.is here.replies in
+          let replies = subst (λ (r : Reply). HasReply c.args.self.now c.args.job
+          (Acts (seen_action c.action_over-action.result)) r) c.in-Done.is here.replies in
           subst (λ (x : CoreView). CoreIs x new) (sym (c.advance.ensures here.job here.here))
-          (plain_done c.args.self.now w new c.args.job c.in-Some.place here.job (seen_action c.action_over-action.result) outcome on tells (plain_by c.action_over-action.result c.in_default-action.not-WriteBody c.in_default-action.not-SyncGate c.in_default-action.not-End) replies);
-      falls = step_left c.args.self.now c.advance.new.self c.args.job c.in-Some.place c.args.reply (seen_action c.action_over-action.result) here
-          (moved_goes c.self.inside c.args.self.now c.advance.new.self c.in-Some.place c.self.view_is c.self.invariant c.advance.ensures);
+          (plain_done c.args.self.now w new c.args.job c.in-Some.place here.job
+          (seen_action c.action_over-action.result) outcome on tells
+          (plain_by c.action_over-action.result c.in_default-action.not-WriteBody
+          c.in_default-action.not-SyncGate c.in_default-action.not-End) replies);
+      falls = step_left c.args.self.now c.advance.new.self c.args.job c.in-Some.place c.args.reply
+          (seen_action c.action_over-action.result) here
+          (moved_goes c.self.inside c.args.self.now c.advance.new.self c.in-Some.place c.self.view_is
+          c.self.invariant c.advance.ensures);
       setup = ap (λ (x : CoreView). x.setup) (c.advance.ensures here.job here.here);
     }
 
 pub returns-in_default-action-2 : goal.returns-in_default-action-2
 returns-in_default-action-2 c =
-    let here = step_here c.self.inside c.args.self.now c.args.job c.in-Some.place c.index.result.now c.args.reply c.action_over-action.result c.self.view_is c.self.invariant c.requires c.in-Some.ensures c.index.ensures c.action_over-action.ensures.value in
+    let here = step_here c.self.inside c.args.self.now c.args.job c.in-Some.place c.index.result.now
+    c.args.reply c.action_over-action.result c.self.view_is c.self.invariant c.requires c.in-Some.ensures
+    c.index.ensures c.action_over-action.ensures.value in
     record {
       step = λ w new outcome moment is happens told.
-          let on = on_machine c.args.self.now w new c.args.job c.in-Some.place c.args.reply (seen_action c.action_over-action.result) outcome moment here is c.ranges.job.fits happens in
+          let on = on_machine c.args.self.now w new c.args.job c.in-Some.place c.args.reply
+          (seen_action c.action_over-action.result) outcome moment here is c.ranges.job.fits happens in
           let tells = subst (λ (r : Reply). Tells c.args.job r outcome new) c.in-Failed.is told.tells in
-          let replies = subst (λ (r : Reply). HasReply c.args.self.now c.args.job (Acts (seen_action c.action_over-action.result)) r) c.in-Failed.is here.replies in
+          let replies = subst (λ (r : Reply). HasReply c.args.self.now c.args.job
+          (Acts (seen_action c.action_over-action.result)) r) c.in-Failed.is here.replies in
           subst (λ (x : CoreView). CoreIs x new) (sym c.bar.ensures)
-          (bars_failed c.args.self.now w new c.args.job c.in-Some.place here.job (seen_action c.action_over-action.result) outcome on (other_store c.action_over-action.result c.in_default-action-2.not-Store) replies tells);
-      falls = step_left c.args.self.now c.bar.new.self c.args.job c.in-Some.place c.args.reply (seen_action c.action_over-action.result) here
-          (removed_falls c.self.inside c.args.self.now c.bar.new.self c.in-Some.place c.self.view_is c.self.invariant (ap (λ (x : CoreView). x.jobs) c.bar.ensures));
+          (bars_failed c.args.self.now w new c.args.job c.in-Some.place here.job
+          (seen_action c.action_over-action.result) outcome on
+          (other_store c.action_over-action.result c.in_default-action-2.not-Store) replies tells);
+      falls = step_left c.args.self.now c.bar.new.self c.args.job c.in-Some.place c.args.reply
+          (seen_action c.action_over-action.result) here
+          (removed_falls c.self.inside c.args.self.now c.bar.new.self c.in-Some.place c.self.view_is
+          c.self.invariant (ap (λ (x : CoreView). x.jobs) c.bar.ensures));
       setup = ap (λ (x : CoreView). x.setup) c.bar.ensures;
     }
 
 pub returns-in-Verdict-clause-falls : goal.returns-in-Verdict-clause-falls
 returns-in-Verdict-clause-falls c =
-    let here = step_here c.self.inside c.args.self.now c.args.job c.in-Some.place c.index.result.now c.args.reply c.action_over-action.result c.self.view_is c.self.invariant c.requires c.in-Some.ensures c.index.ensures c.action_over-action.ensures.value in
-    step_left c.args.self.now c.judge.new.self c.args.job c.in-Some.place c.args.reply (seen_action c.action_over-action.result) here
-    (judged_goes c.self.inside c.args.self.now c.judge.new.self c.in-Some.place (record { counts = counted c.in-Verdict.counts; undecided = c.in-Verdict.undecided }) c.self.view_is c.self.invariant c.judge.ensures)
+    let here = step_here c.self.inside c.args.self.now c.args.job c.in-Some.place c.index.result.now
+    c.args.reply c.action_over-action.result c.self.view_is c.self.invariant c.requires c.in-Some.ensures
+    c.index.ensures c.action_over-action.ensures.value in
+    step_left c.args.self.now c.judge.new.self c.args.job c.in-Some.place c.args.reply
+    (seen_action c.action_over-action.result) here
+    (judged_goes c.self.inside c.args.self.now c.judge.new.self c.in-Some.place
+    (record { counts = counted c.in-Verdict.counts; undecided = c.in-Verdict.undecided }) c.self.view_is
+    c.self.invariant c.judge.ensures)
 
 pub returns-in-Verdict-clause-setup : goal.returns-in-Verdict-clause-setup
 returns-in-Verdict-clause-setup c =
-    let here = step_here c.self.inside c.args.self.now c.args.job c.in-Some.place c.index.result.now c.args.reply c.action_over-action.result c.self.view_is c.self.invariant c.requires c.in-Some.ensures c.index.ensures c.action_over-action.ensures.value in
+    let here = step_here c.self.inside c.args.self.now c.args.job c.in-Some.place c.index.result.now
+    c.args.reply c.action_over-action.result c.self.view_is c.self.invariant c.requires c.in-Some.ensures
+    c.index.ensures c.action_over-action.ensures.value in
     ap (λ (x : CoreView). x.setup) (c.judge.ensures here.job here.here)
 
 pub returns-in-WriteBody-clause-step : goal.returns-in-WriteBody-clause-step
 returns-in-WriteBody-clause-step c = λ w new outcome moment is happens told.
-    let here = step_here c.self.inside c.args.self.now c.args.job c.in-Some.place c.index.result.now c.args.reply act.WriteBody c.self.view_is c.self.invariant c.requires c.in-Some.ensures c.index.ensures c.in-WriteBody.ensures.value in
-    let on = on_machine c.args.self.now w new c.args.job c.in-Some.place c.args.reply WriteBody outcome moment here is c.ranges.job.fits happens in
+    let here = step_here c.self.inside c.args.self.now c.args.job c.in-Some.place c.index.result.now
+    c.args.reply act.WriteBody c.self.view_is c.self.invariant c.requires c.in-Some.ensures c.index.ensures
+    c.in-WriteBody.ensures.value in
+    let on = on_machine c.args.self.now w new c.args.job c.in-Some.place c.args.reply WriteBody outcome moment
+    here is c.ranges.job.fits happens in
     let tells = subst (λ (r : Reply). Tells c.args.job r outcome new) c.in-Done.is told.tells in
-    subst (λ (x : CoreView). CoreIs x new) (sym (c.begin_append.ensures here.job here.here)) (begins_done c.args.self.now w new c.args.job c.in-Some.place here.job outcome on tells told.entry)
+    subst (λ (x : CoreView). CoreIs x new) (sym (c.begin_append.ensures here.job here.here))
+    (begins_done c.args.self.now w new c.args.job c.in-Some.place here.job outcome on tells told.entry)
 
 pub returns-in-SyncGate-clause-step : goal.returns-in-SyncGate-clause-step
 returns-in-SyncGate-clause-step c = λ w new outcome moment is happens told.
-    let here = step_here c.self.inside c.args.self.now c.args.job c.in-Some.place c.index.result.now c.args.reply act.SyncGate c.self.view_is c.self.invariant c.requires c.in-Some.ensures c.index.ensures c.in-SyncGate.ensures.value in
-    let on = on_machine c.args.self.now w new c.args.job c.in-Some.place c.args.reply SyncGate outcome moment here is c.ranges.job.fits happens in
+    let here = step_here c.self.inside c.args.self.now c.args.job c.in-Some.place c.index.result.now
+    c.args.reply act.SyncGate c.self.view_is c.self.invariant c.requires c.in-Some.ensures c.index.ensures
+    c.in-SyncGate.ensures.value in
+    let on = on_machine c.args.self.now w new c.args.job c.in-Some.place c.args.reply SyncGate outcome moment
+    here is c.ranges.job.fits happens in
     let tells = subst (λ (r : Reply). Tells c.args.job r outcome new) c.in-Done.is told.tells in
-    gates_done c.args.self.now c.end_append.new.self w new c.args.job c.in-Some.place here.job outcome on tells (λ entry rs. c.end_append.ensures.gated here.job entry rs here.here)
+    gates_done c.args.self.now c.end_append.new.self w new c.args.job c.in-Some.place here.job outcome on
+    tells (λ entry rs. c.end_append.ensures.gated here.job entry rs here.here)
 
 pub returns-in-End-clause-step : goal.returns-in-End-clause-step
 returns-in-End-clause-step c = λ w new outcome moment is happens told.
-    let here = step_here c.self.inside c.args.self.now c.args.job c.in-Some.place c.index.result.now c.args.reply act.End c.self.view_is c.self.invariant c.requires c.in-Some.ensures c.index.ensures c.in-End.ensures.value in
-    let on = on_machine c.args.self.now w new c.args.job c.in-Some.place c.args.reply End outcome moment here is c.ranges.job.fits happens in
+    let here = step_here c.self.inside c.args.self.now c.args.job c.in-Some.place c.index.result.now
+    c.args.reply act.End c.self.view_is c.self.invariant c.requires c.in-Some.ensures c.index.ensures
+    c.in-End.ensures.value in
+    let on = on_machine c.args.self.now w new c.args.job c.in-Some.place c.args.reply End outcome moment here
+    is c.ranges.job.fits happens in
     let tells = subst (λ (r : Reply). Tells c.args.job r outcome new) c.in-Done.is told.tells in
-    subst (λ (x : CoreView). CoreIs x new) (sym (c.stop.ensures)) (ends_done c.args.self.now w new c.args.job c.in-Some.place here.job outcome on tells)
+    subst (λ (x : CoreView). CoreIs x new) (sym (c.stop.ensures))
+    (ends_done c.args.self.now w new c.args.job c.in-Some.place here.job outcome on tells)
 
 pub returns-in-Store-clause-step : goal.returns-in-Store-clause-step
 returns-in-Store-clause-step c = λ w new outcome moment is happens told.
-    let here = step_here c.self.inside c.args.self.now c.args.job c.in-Some.place c.index.result.now c.args.reply c.action_over-action.result c.self.view_is c.self.invariant c.requires c.in-Some.ensures c.index.ensures c.action_over-action.ensures.value in
-    let on = on_machine c.args.self.now w new c.args.job c.in-Some.place c.args.reply (seen_action c.action_over-action.result) outcome moment here is c.ranges.job.fits happens in
+    let here = step_here c.self.inside c.args.self.now c.args.job c.in-Some.place c.index.result.now
+    c.args.reply c.action_over-action.result c.self.view_is c.self.invariant c.requires c.in-Some.ensures
+    c.index.ensures c.action_over-action.ensures.value in
+    let on = on_machine c.args.self.now w new c.args.job c.in-Some.place c.args.reply
+    (seen_action c.action_over-action.result) outcome moment here is c.ranges.job.fits happens in
     let tells = subst (λ (r : Reply). Tells c.args.job r outcome new) c.in-Failed.is told.tells in
-    subst (λ (x : CoreView). CoreIs x new) (sym (c.stop-in-Store.ensures)) (stops_failed c.args.self.now w new c.args.job c.in-Some.place here.job (seen_action c.action_over-action.result) c.in-Store.provider c.in-Store.object c.in-Store.stripe outcome on (ap seen_action c.in-Store.is) tells)
+    subst (λ (x : CoreView). CoreIs x new) (sym (c.stop-in-Store.ensures))
+    (stops_failed c.args.self.now w new c.args.job c.in-Some.place here.job
+    (seen_action c.action_over-action.result) c.in-Store.provider c.in-Store.object c.in-Store.stripe
+    outcome on (ap seen_action c.in-Store.is) tells)
 
 pub returns-in-Memory-clause-step : goal.returns-in-Memory-clause-step
 returns-in-Memory-clause-step c = λ w new outcome moment is happens told.
-    let here = step_here c.self.inside c.args.self.now c.args.job c.in-Some.place c.index.result.now c.args.reply c.action_over-action.result c.self.view_is c.self.invariant c.requires c.in-Some.ensures c.index.ensures c.action_over-action.ensures.value in
-    let on = on_machine c.args.self.now w new c.args.job c.in-Some.place c.args.reply (seen_action c.action_over-action.result) outcome moment here is c.ranges.job.fits happens in
+    let here = step_here c.self.inside c.args.self.now c.args.job c.in-Some.place c.index.result.now
+    c.args.reply c.action_over-action.result c.self.view_is c.self.invariant c.requires c.in-Some.ensures
+    c.index.ensures c.action_over-action.ensures.value in
+    let on = on_machine c.args.self.now w new c.args.job c.in-Some.place c.args.reply
+    (seen_action c.action_over-action.result) outcome moment here is c.ranges.job.fits happens in
     let tells = subst (λ (r : Reply). Tells c.args.job r outcome new) c.in-Memory.is told.tells in
-    let replies = subst (λ (r : Reply). HasReply c.args.self.now c.args.job (Acts ((seen_action c.action_over-action.result))) r) c.in-Memory.is here.replies in
-    subst (λ (x : CoreView). CoreIs x new) (sym (c.stop-in-Memory.ensures)) (stops_memory c.args.self.now w new c.args.job c.in-Some.place here.job (seen_action c.action_over-action.result) outcome on replies tells)
+    let replies = subst (λ (r : Reply). HasReply c.args.self.now c.args.job
+    (Acts ((seen_action c.action_over-action.result))) r) c.in-Memory.is here.replies in
+    subst (λ (x : CoreView). CoreIs x new) (sym (c.stop-in-Memory.ensures))
+    (stops_memory c.args.self.now w new c.args.job c.in-Some.place here.job
+    (seen_action c.action_over-action.result) outcome on replies tells)
 
 pub returns-in-Lost-clause-step : goal.returns-in-Lost-clause-step
 returns-in-Lost-clause-step c = λ w new outcome moment is happens told.
-    let here = step_here c.self.inside c.args.self.now c.args.job c.in-Some.place c.index.result.now c.args.reply c.action_over-action.result c.self.view_is c.self.invariant c.requires c.in-Some.ensures c.index.ensures c.action_over-action.ensures.value in
-    let on = on_machine c.args.self.now w new c.args.job c.in-Some.place c.args.reply (seen_action c.action_over-action.result) outcome moment here is c.ranges.job.fits happens in
+    let here = step_here c.self.inside c.args.self.now c.args.job c.in-Some.place c.index.result.now
+    c.args.reply c.action_over-action.result c.self.view_is c.self.invariant c.requires c.in-Some.ensures
+    c.index.ensures c.action_over-action.ensures.value in
+    let on = on_machine c.args.self.now w new c.args.job c.in-Some.place c.args.reply
+    (seen_action c.action_over-action.result) outcome moment here is c.ranges.job.fits happens in
     let tells = subst (λ (r : Reply). Tells c.args.job r outcome new) c.in-Lost.is told.tells in
-    let replies = subst (λ (r : Reply). HasReply c.args.self.now c.args.job (Acts ((seen_action c.action_over-action.result))) r) c.in-Lost.is here.replies in
-    subst (λ (x : CoreView). CoreIs x new) (sym (c.stop-in-Lost.ensures)) (stops_lost c.args.self.now w new c.args.job c.in-Some.place here.job (seen_action c.action_over-action.result) c.in-Lost.row outcome on replies tells)
+    let replies = subst (λ (r : Reply). HasReply c.args.self.now c.args.job
+    (Acts ((seen_action c.action_over-action.result))) r) c.in-Lost.is here.replies in
+    subst (λ (x : CoreView). CoreIs x new) (sym (c.stop-in-Lost.ensures))
+    (stops_lost c.args.self.now w new c.args.job c.in-Some.place here.job
+    (seen_action c.action_over-action.result) c.in-Lost.row outcome on replies tells)
 
 pub returns-in-Verdict-clause-step : goal.returns-in-Verdict-clause-step
 returns-in-Verdict-clause-step c = λ w new outcome moment is happens told.
-    let here = step_here c.self.inside c.args.self.now c.args.job c.in-Some.place c.index.result.now c.args.reply c.action_over-action.result c.self.view_is c.self.invariant c.requires c.in-Some.ensures c.index.ensures c.action_over-action.ensures.value in
-    let on = on_machine c.args.self.now w new c.args.job c.in-Some.place c.args.reply (seen_action c.action_over-action.result) outcome moment here is c.ranges.job.fits happens in
+    let here = step_here c.self.inside c.args.self.now c.args.job c.in-Some.place c.index.result.now
+    c.args.reply c.action_over-action.result c.self.view_is c.self.invariant c.requires c.in-Some.ensures
+    c.index.ensures c.action_over-action.ensures.value in
+    let on = on_machine c.args.self.now w new c.args.job c.in-Some.place c.args.reply
+    (seen_action c.action_over-action.result) outcome moment here is c.ranges.job.fits happens in
     let tells = subst (λ (r : Reply). Tells c.args.job r outcome new) c.in-Verdict.is told.tells in
-    let replies = subst (λ (r : Reply). HasReply c.args.self.now c.args.job (Acts ((seen_action c.action_over-action.result))) r) c.in-Verdict.is here.replies in
-    subst (λ (x : CoreView). CoreIs x new) (sym (c.judge.ensures here.job here.here)) (judges_verdict c.args.self.now w new c.args.job c.in-Some.place here.job (seen_action c.action_over-action.result) c.in-Verdict.undecided c.in-Verdict.counts outcome on replies tells)
+    let replies = subst (λ (r : Reply). HasReply c.args.self.now c.args.job
+    (Acts ((seen_action c.action_over-action.result))) r) c.in-Verdict.is here.replies in
+    subst (λ (x : CoreView). CoreIs x new) (sym (c.judge.ensures here.job here.here))
+    (judges_verdict c.args.self.now w new c.args.job c.in-Some.place here.job
+    (seen_action c.action_over-action.result) c.in-Verdict.undecided c.in-Verdict.counts outcome on
+    replies tells)

@@ -8,8 +8,16 @@ use Rattle.vault_core.proofs.Places.{found_at, found_none}
 use Rattle.vault_core.proofs.own.Core.find.Goals as goal
 
 pub returns-in-Some-clause-found : goal.returns-in-Some-clause-found
-returns-in-Some-clause-found c = sym (found_at c.args.self.now.jobs c.args.job c.in-Some.place (sym c.place_of.ensures ∙ c.in-Some.is)
-    ∙ (ap (λ (x : CoreView). slice_get x.jobs c.in-Some.place) (sym c.self.view_is) ∙ (seen_at c.self.inside c.in-Some.place c.index.result.now (subst (λ (x : CoreView). c.in-Some.place < length x.jobs) (sym c.self.view_is) (position-Some (λ (j : CoreJob). j.number == c.args.job) c.args.self.now.jobs c.in-Some.place (core_job c.self.inside.setup.n c.index.result.now) (sym c.place_of.ensures ∙ c.in-Some.is)).0) c.index.ensures ∙ ap (λ (x : CoreView). Some (core_job x.setup.n c.index.result.now)) c.self.view_is)))
+returns-in-Some-clause-found c =
+    sym (found_at c.args.self.now.jobs c.args.job c.in-Some.place (sym c.place_of.ensures ∙ c.in-Some.is)
+    ∙ (ap (λ (x : CoreView). slice_get x.jobs c.in-Some.place) (sym c.self.view_is)
+    ∙ (seen_at c.self.inside c.in-Some.place c.index.result.now
+    (subst (λ (x : CoreView). c.in-Some.place < length x.jobs) (sym c.self.view_is)
+    (position-Some (λ (j : CoreJob). j.number == c.args.job) c.args.self.now.jobs c.in-Some.place
+    (core_job c.self.inside.setup.n c.index.result.now)
+    (sym c.place_of.ensures ∙ c.in-Some.is)).0) c.index.ensures
+    ∙ ap (λ (x : CoreView). Some (core_job x.setup.n c.index.result.now)) c.self.view_is)))
 
 pub returns-in-None-clause-found : goal.returns-in-None-clause-found
-returns-in-None-clause-found c = sym (found_none c.args.self.now.jobs c.args.job (sym c.place_of.ensures ∙ c.in-None.is))
+returns-in-None-clause-found c =
+    sym (found_none c.args.self.now.jobs c.args.job (sym c.place_of.ensures ∙ c.in-None.is))

@@ -11,18 +11,28 @@ use Rattle.vault_core.proofs.own.Core.is_busy.Goals as goal
 
 pub returns-then-len-ge-MOST_JOBS : goal.returns-then-len-ge-MOST_JOBS
 returns-then-len-ge-MOST_JOBS c = busy c.self.inside c.args.self.now c.args.wish.now _ c.self.view_is
-    (sym (ap (λ (b : Bool). b || are_in_the_way (aims_kept c.self.inside.jobs.items) (aim_of_wish c.args.wish.now)) (le-leb 8 (length c.self.inside.jobs.items) (omega (arith, c.len.ensures)))))
+    (sym (ap (λ (b : Bool). b || are_in_the_way (aims_kept c.self.inside.jobs.items)
+    (aim_of_wish c.args.wish.now))
+    (le-leb 8 (length c.self.inside.jobs.items) (omega (arith, c.len.ensures)))))
 
 pub returns-in-Audit : goal.returns-in-Audit
-returns-in-Audit c = beside c.self.inside c.args.self.now c.args.wish.now c.some_put_or_check.result c.self.view_is (omega (arith, c.len.ensures))
-    (c.some_put_or_check.ensures ∙ (any-map (λ (j : Job). aim_of_wish j.wish) is_put_or_check c.deref.result.now
-    ∙ (ap (λ (js : List Job). list_any is_put_or_check (aims_kept js)) c.deref.ensures.value ∙ ap (λ w. are_in_the_way (aims_kept c.self.inside.jobs.items) (aim_of_wish w)) (sym c.in-Audit.is))))
+returns-in-Audit c = beside c.self.inside c.args.self.now c.args.wish.now c.some_put_or_check.result
+    c.self.view_is (omega (arith, c.len.ensures))
+    (c.some_put_or_check.ensures
+    ∙ (any-map (λ (j : Job). aim_of_wish j.wish) is_put_or_check c.deref.result.now
+    ∙ (ap (λ (js : List Job). list_any is_put_or_check (aims_kept js)) c.deref.ensures.value
+    ∙ ap (λ w. are_in_the_way (aims_kept c.self.inside.jobs.items) (aim_of_wish w)) (sym c.in-Audit.is))))
 
 pub returns-in-Repair : goal.returns-in-Repair
-returns-in-Repair c = beside c.self.inside c.args.self.now c.args.wish.now c.some_check.result c.self.view_is (omega (arith, c.len.ensures))
+returns-in-Repair c = beside c.self.inside c.args.self.now c.args.wish.now c.some_check.result c.self.view_is
+    (omega (arith, c.len.ensures))
     (c.some_check.ensures ∙ (any-map (λ (j : Job). aim_of_wish j.wish) is_check c.deref-in-Repair.result.now
-    ∙ (ap (λ (js : List Job). list_any is_check (aims_kept js)) c.deref-in-Repair.ensures.value ∙ ap (λ w. are_in_the_way (aims_kept c.self.inside.jobs.items) (aim_of_wish w)) (sym c.in-Repair.is))))
+    ∙ (ap (λ (js : List Job). list_any is_check (aims_kept js)) c.deref-in-Repair.ensures.value
+    ∙ ap (λ w. are_in_the_way (aims_kept c.self.inside.jobs.items) (aim_of_wish w))
+    (sym c.in-Repair.is))))
 
 pub returns-in_default : goal.returns-in_default
-returns-in_default c = beside c.self.inside c.args.self.now c.args.wish.now false c.self.view_is (omega (arith, c.len.ensures))
-    (none-beside (aims_kept c.self.inside.jobs.items) c.args.wish.now c.in_default.not-Audit c.in_default.not-Repair)
+returns-in_default c =
+    beside c.self.inside c.args.self.now c.args.wish.now false c.self.view_is (omega (arith, c.len.ensures))
+    (none-beside (aims_kept c.self.inside.jobs.items) c.args.wish.now c.in_default.not-Audit
+    c.in_default.not-Repair)

@@ -7,11 +7,16 @@ use Rattle.vault_core.specs.View.{CoreView}
 use Rattle.vault_core.proofs.NextMoves.{moves-job}
 
 pub returns-clause-room : goal.returns-clause-room
-returns-clause-room c = writing_room c.args.self.now c.args.job c.in_ok-running.running.now c.self.inside.table c.entry_over.result c.in_ok-running.ensures.reserves c.in_ok-running.ensures.kept
-    c.in_ok-running.ensures.found (c.entry_over.ensures.value c.args.self.now.setup.n c.in_ok-running.ensures.kept)
+returns-clause-room c =
+    writing_room c.args.self.now c.args.job c.in_ok-running.running.now c.self.inside.table
+    c.entry_over.result c.in_ok-running.ensures.reserves c.in_ok-running.ensures.kept
+    c.in_ok-running.ensures.found
+    (c.entry_over.ensures.value c.args.self.now.setup.n c.in_ok-running.ensures.kept)
 
 pub returns-clause-there : goal.returns-clause-there
 returns-clause-there c = λ moves.
     c.entry_over.ensures.there c.args.self.now.setup.n c.in_ok-running.ensures.kept
-    (subst (λ (v : CoreView). is_move (action_next v.table (core_job c.args.self.now.setup.n c.in_ok-running.running.now)) ≡ true) (sym c.self.view_is)
+    (subst (λ (v : CoreView). is_move
+    (action_next v.table (core_job c.args.self.now.setup.n c.in_ok-running.running.now)) ≡ true)
+    (sym c.self.view_is)
     (moves-job c.args.self.now c.args.job _ (sym c.in_ok-running.ensures.found) moves))

@@ -3,7 +3,8 @@ use Rattle.vault_table.proofs.table.Table.drop_name.Goals as goal
 
 pub invariant_of-self : goal.invariant_of-self
 invariant_of-self c = record {
-  ordered = drop-in_order _ _ c.args.name.now c.drop_file.result c.self.invariant.ordered c.drop_file.ensures.files;
+  ordered = drop-in_order _ _ c.args.name.now c.drop_file.result c.self.invariant.ordered
+      c.drop_file.ensures.files;
   room = c.drop_file.ensures.room;
   below = c.self.invariant.below;
   padded = c.self.invariant.padded;
@@ -11,7 +12,8 @@ invariant_of-self c = record {
 
 pub invariant_of-self-2 : goal.invariant_of-self-2
 invariant_of-self-2 c = record {
-  ordered = drop-in_order _ _ c.args.name.now c.drop_file.result c.self.invariant.ordered c.drop_file.ensures.files;
+  ordered = drop-in_order _ _ c.args.name.now c.drop_file.result c.self.invariant.ordered
+      c.drop_file.ensures.files;
   room = c.drop_file.ensures.room;
   below = c.self.invariant.below;
   padded = c.self.invariant.padded;
