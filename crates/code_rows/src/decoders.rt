@@ -213,7 +213,8 @@ fn find_x(work: &mut Work) -> bool
     both_find(&others(), &values, 2, 2, Some([0, 1, 0, 0, 0, 0]), work)
 }
 
-/// Whether both find 0 where one of three values may be wrong, and take the values as they are where none may.
+/// Whether both find 0 where one of three values may be wrong, and take the values as they are where none
+/// may.
 fn find_zero(work: &mut Work) -> bool
     requires { 3 ≤ work.old.size }
 {

@@ -28,8 +28,8 @@ fn opened(
     Some([first.0, second.0, third.0])
 }
 
-/// A shape, the numbers of the symbols seen at the points 0, 1 and so on, and those of the first three symbols
-/// of the opened row.
+/// A shape, the numbers of the symbols seen at the points 0, 1 and so on, and those of the first three
+/// symbols of the opened row.
 type Row = ([u8; 3], &'static [Option<u128>], Option<[u128; 3]>);
 
 static ROWS: [Row; 8] = [

@@ -74,8 +74,8 @@ fn coefficients_have_a_value_at_a_symbol(rt: HostRuntime) {
     assert!(rt; value() == 3773);
 }
 
-/// Whether registers loaded with three points have the polynomial through them, and Euclid's algorithm leaves the
-/// row that another program computed.
+/// Whether registers loaded with three points have the polynomial through them, and Euclid's algorithm leaves
+/// the row that another program computed.
 fn run_euclid(work: &mut Work) -> bool
     requires { 3 ≤ work.old.size }
     ensures { work.new.size ≡ work.old.size }

@@ -81,8 +81,8 @@ fn spoil(block: &mut [Symbol], errors: u32)
     }
 }
 
-/// How many symbols are corrected of the codeword of a 1 behind zeros, spoiled at so many places, and whether it
-/// is given back.
+/// How many symbols are corrected of the codeword of a 1 behind zeros, spoiled at so many places, and whether
+/// it is given back.
 fn corrected(code: &AnyCode, errors: u32, work: &mut Work) -> (Option<u32>, bool)
     requires size { 1 ≤ (code_profile code.now).size }
     requires most { (code_profile code.now).size ≤ 128 }
