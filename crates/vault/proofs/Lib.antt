@@ -34,5 +34,6 @@ pub mod MovedCells
 pub mod AtWork
 pub mod Untold
 pub mod Called
+pub mod Idle
 pub mod Replies
 pub mod Props

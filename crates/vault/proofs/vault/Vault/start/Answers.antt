@@ -1,5 +1,7 @@
-use Rattle.std.proofs.Common.{arith}
+use Rattle.std.proofs.Common.{◌≡◌, Result, Ok, Err, ap, arith}
 use Rattle.record_defs.proofs.Standing.{text_size-least}
+use Rattle.vault_core.specs.View.{CoreView}
+use Rattle.vault_open.specs.declared.fault.StartFault.{StartFault}
 use Rattle.vault.proofs.Opened.{carries, stands, fresh_works}
 use Rattle.vault.proofs.vault.Vault.start.Goals as goal
 
@@ -29,3 +31,28 @@ pub returns-clause-carries : goal.returns-clause-carries
 returns-clause-carries g c =
     let r = c.in_ok-store.ensures.read in
     carries _ _ r.0 c.in_ok-store.store c.args.first c.in_ok-desk.desk r.1 r.2 c.in_ok-desk.ensures.ok
+
+-- an answer is no refusal
+not_refused : {X : Type 0} (x : X) (why : StartFault) → Ok x ≡ Err why → ⊥
+not_refused x why e = cc
+
+pub returns-clause-number : goal.returns-clause-number
+returns-clause-number g c = ap (λ (core : CoreView). core.next_job) c.in_ok-desk.ensures.ok.core
+
+pub returns-clause-refused : goal.returns-clause-refused
+returns-clause-refused g c = tt
+
+pub returns-clause-synced : goal.returns-clause-synced
+returns-clause-synced g c = c.in_ok-store.ensures.synced
+
+pub returns-clause-resynced : goal.returns-clause-resynced
+returns-clause-resynced g c = tt
+
+pub returns-clause-disk : goal.returns-clause-disk
+returns-clause-disk g c = c.in_ok-store.ensures.disk
+
+pub returns-clause-cause : goal.returns-clause-cause
+returns-clause-cause g c = record {
+  never_falls = c.in_ok-store.ensures.cause.never_falls;
+  rose = λ e. absurd (not_refused _ _ e);
+}

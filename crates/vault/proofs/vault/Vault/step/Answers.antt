@@ -9,6 +9,7 @@ use Rattle.vault.specs.Seen.{closed_gate_of, coming_of}
 use Rattle.vault.specs.declared.turn.Turn.TheVariants as turn
 use Rattle.vault.proofs.AtWork.{works_on, providers_fit}
 use Rattle.vault.proofs.Called.{calls-none, called-none, acts-none}
+use Rattle.vault.proofs.Idle.{step-waits, step-unknown, step-barred}
 use Rattle.vault.proofs.Replies.{goes-on-not}
 use Rattle.vault.proofs.vault.Vault.step.Goals as goal
 
@@ -207,3 +208,15 @@ returns-in-MustReopen-clause-waits g c = λ none. (
   refl,
   refl,
 )
+
+pub returns-in-Waiting-clause-machine : goal.returns-in-Waiting-clause-machine
+returns-in-Waiting-clause-machine g c = λ w moment stands.
+    step-waits c.args.self.now.desk w _ moment c.args.job stands _ (c.in-Waiting.ensures.machine w stands.core)
+
+pub returns-in-NoSuchJob-clause-machine : goal.returns-in-NoSuchJob-clause-machine
+returns-in-NoSuchJob-clause-machine g c = λ w moment stands.
+    step-unknown c.args.self.now.desk w _ moment c.args.job stands (c.in-NoSuchJob.ensures.machine w stands.core)
+
+pub returns-in-MustReopen-clause-machine : goal.returns-in-MustReopen-clause-machine
+returns-in-MustReopen-clause-machine g c = λ w moment stands.
+    step-barred c.args.self.now.desk w _ moment c.args.job stands (c.in-MustReopen.ensures.machine w stands.core)
