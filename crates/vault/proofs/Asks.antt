@@ -203,7 +203,8 @@ module _ (s : Setup) where
       (map (round_of f) (rounds_of (profiled s f.profile) (length f.bytes))) (rounds_in s fs)
       (elim (cases_Bool (stripes_of (profiled s f.profile) (length f.bytes) == 0)) [
         | inl t ↦ subst (λ (rs : List ℕ). Each (IsRound P) (map (round_of f) rs))
-            (sym (cond_true (stripes_of (profiled s f.profile) (length f.bytes) == 0) [] (upto s.rounds) t)) tt
+            (sym (cond_true (stripes_of (profiled s f.profile) (length f.bytes) == 0) [] (upto s.rounds) t))
+            tt
         | inr t ↦ map_round P f (rounds_of (profiled s f.profile) (length f.bytes)) h.0
             (positive (stripes_of (profiled s f.profile) (length f.bytes))
             (eqb-false (stripes_of (profiled s f.profile) (length f.bytes)) 0 t))

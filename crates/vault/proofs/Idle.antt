@@ -18,7 +18,8 @@ use Rattle.vault.proofs.Ways.{same_beyond}
 
 module _ (v : Desk) (w : State) (d : Devices) (moment number : ℕ) (stands : DeskStands v d w) where
   -- where a vault is open, a step is one of a job or is barred
-  opened : (outcome : Outcome) → StepsOpen w number w.is_barred outcome w → Happens 8 moment w (Step number) outcome w
+  opened : (outcome : Outcome) → StepsOpen w number w.is_barred outcome w →
+      Happens 8 moment w (Step number) outcome w
   opened outcome steps =
       subst (λ (b : Bool). Steps w number b outcome w) (sym stands.core.is_open) steps
 

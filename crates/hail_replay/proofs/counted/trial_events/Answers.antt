@@ -28,7 +28,8 @@ loop-event-preserved g c =
     (let W = c.loop-event.invariant in
     let is = ap commands_of c.in-Some.ensures.items in (
       count-course c.args.expected.now _ _ _ (event_command c.in-Some.event) _ _ _ _ _ _ _ _
-          (entries_heard c.trial_event.new.heard) is c.reserve.ensures.same W.0 W.1 c.trial_event.ensures.kept,
+          (entries_heard c.trial_event.new.heard) is c.reserve.ensures.same W.0 W.1
+          c.trial_event.ensures.kept,
       count-on c.args.expected.now _ _ _ (event_command c.in-Some.event) _ _ _ _ _ _ _ _ _ is
           c.reserve.ensures.same W.0 W.1 _ c.in_ok-trial_event.ensures.ok,
       (let w = W.2 in let n = c.trial_event.ensures.counted in let m = ap length c.in-Some.ensures.items in

@@ -211,12 +211,15 @@ returns-in-MustReopen-clause-waits g c = λ none. (
 
 pub returns-in-Waiting-clause-machine : goal.returns-in-Waiting-clause-machine
 returns-in-Waiting-clause-machine g c = λ w moment stands.
-    step-waits c.args.self.now.desk w _ moment c.args.job stands _ (c.in-Waiting.ensures.machine w stands.core)
+    step-waits c.args.self.now.desk w _ moment c.args.job stands _
+    (c.in-Waiting.ensures.machine w stands.core)
 
 pub returns-in-NoSuchJob-clause-machine : goal.returns-in-NoSuchJob-clause-machine
 returns-in-NoSuchJob-clause-machine g c = λ w moment stands.
-    step-unknown c.args.self.now.desk w _ moment c.args.job stands (c.in-NoSuchJob.ensures.machine w stands.core)
+    step-unknown c.args.self.now.desk w _ moment c.args.job stands
+    (c.in-NoSuchJob.ensures.machine w stands.core)
 
 pub returns-in-MustReopen-clause-machine : goal.returns-in-MustReopen-clause-machine
 returns-in-MustReopen-clause-machine g c = λ w moment stands.
-    step-barred c.args.self.now.desk w _ moment c.args.job stands (c.in-MustReopen.ensures.machine w stands.core)
+    step-barred c.args.self.now.desk w _ moment c.args.job stands
+    (c.in-MustReopen.ensures.machine w stands.core)
