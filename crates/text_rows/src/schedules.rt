@@ -101,7 +101,10 @@ fn all_shown(alloc: Global, events: &[Event]) -> Result<String, AllocError> {
 }
 
 fn fault_shown(alloc: Global, fault: ScheduleFault) -> Result<String, AllocError> {
-    format!(in alloc; "{fault:?}")
+    match fault {
+        ScheduleFault::BadLine { number } => format!(in alloc; "bad line {number}"),
+        ScheduleFault::Memory => "no memory".to_string(alloc),
+    }
 }
 
 /// What a text is read as: its events with a semicolon behind each, or the fault.
@@ -144,7 +147,7 @@ fn reads_with_key(alloc: Global, line: &str, more: &str, wanted: &str) -> bool {
 }
 
 /// The fault of a text whose first line is bad.
-const BAD: &str = "BadLine { number: 1 }";
+const BAD: &str = "bad line 1";
 
 /// The first of these lines that is read, or none.
 fn first_read<'a>(alloc: Global, lines: &[&'a str]) -> Option<&'a str> {
@@ -199,15 +202,15 @@ fn lines_are_cut_at_newlines(rt: HostRuntime) {
         ("reopen\r\nlist\r\n", "reopen;list;"),
         ("reopen \r\n\n# fly\r\n  #\nlist", "reopen;list;"),
         ("#\r", ""),
-        ("reopen\r\r\n", "BadLine { number: 1 }"),
-        ("reopen\nlist\r", "BadLine { number: 2 }"),
+        ("reopen\r\r\n", "bad line 1"),
+        ("reopen\nlist\r", "bad line 2"),
         ("begin get a\r \r\n", "get 610d;"),
-        ("\r\r\n", "BadLine { number: 1 }"),
-        ("reopen\nlist\nfly\n", "BadLine { number: 3 }"),
-        ("# one\n\nfly\nflee\n", "BadLine { number: 3 }"),
-        ("reopen list", "BadLine { number: 1 }"),
-        ("reopen\tlist", "BadLine { number: 1 }"),
-        ("reopen\n\tlist", "BadLine { number: 2 }"),
+        ("\r\r\n", "bad line 1"),
+        ("reopen\nlist\nfly\n", "bad line 3"),
+        ("# one\n\nfly\nflee\n", "bad line 3"),
+        ("reopen list", "bad line 1"),
+        ("reopen\tlist", "bad line 1"),
+        ("reopen\n\tlist", "bad line 2"),
     ];
     assert_eq!(rt; first_misread(rt.alloc(), &rows), None);
 }
