@@ -1,8 +1,8 @@
 //! The words that the program takes, and the lines that it tells.
 #![tactic(auto)]
 
+mod given;
 mod text;
-mod words;
 
+pub use given::{only_reads, words};
 pub use text::{has_place, text_of};
-pub use words::{only_reads, words};
