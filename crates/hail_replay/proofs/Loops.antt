@@ -20,7 +20,7 @@ use Rattle.hail_client.specs.Stands.{ClientStands}
 use Rattle.hail_client.proofs.Settled.{same-images}
 use Rattle.hail_replay.specs.Performed.{StandsWhereOpen, NoCountFell, KeepsStanding}
 use Rattle.hail_replay.specs.Replayed.{CarriesOn, Replays}
-use Rattle.hail_replay.specs.Starts.{AreLeft, IsFresh, called_behind}
+use Rattle.hail_replay.specs.Starts.{AreLeft, IsNewClient, called_behind}
 use Rattle.hail_replay.specs.Trials.{RunsTrial, RunsTo, CountsTo}
 use Rattle.hail_replay.specs.UnderWay.{HasDone, HasRun, HasCounted}
 use Rattle.hail_replay.proofs.Counts.{none-fell, then-fell}
@@ -75,7 +75,7 @@ course-on all left command c next old mid new W K = record {
 
 -- before the first instruction none is done
 pub none-done : (all : List Instruction) (c : Client) (d : Devices) (first : Option (List ℕ)) (b : ℕ) →
-    IsFresh c → AreDone all all c d d first first b b []
+    IsNewClient c → AreDone all all c d d first first b b []
 none-done all c d first b fresh start before told L = (
   [],
   refl,
@@ -165,7 +165,7 @@ module _ (all : List Instruction) (c : Client) (old new : Devices) (first last :
 -- ---- a trial
 
 none-counted : (expected : List ℕ) (all : List Instruction) (c : Client) (d : Devices)
-    (counts : TrialCounts) → IsFresh c → counts ≡ counts_of expected [] []
+    (counts : TrialCounts) → IsNewClient c → counts ≡ counts_of expected [] []
     → AreCounted expected all all c d d counts []
 none-counted expected all c d counts fresh is start before told L = (
   [],
@@ -312,7 +312,7 @@ none-run all d start before L =
 -- a replay begins with no vault open, and nothing done
 pub begin-course : (all left : List Instruction) (c : Client) (d : Devices) (first : Option (List ℕ)) (b : ℕ)
     (heard : List Entry) → left ≡ all → heard ≡ []
-    → IsFresh c → IsOnCourse all left c d d × AreDone all left c d d first first b b heard × (b ≤ b)
+    → IsNewClient c → IsOnCourse all left c d d × AreDone all left c d d first first b b heard × (b ≤ b)
 begin-course all left c d first b heard is none fresh = (
   subst (λ (l : List Instruction). IsOnCourse all l c d d) (sym is)
       (first-course all c d fresh.closed fresh.first),
@@ -325,7 +325,7 @@ begin-course all left c d first b heard is none fresh = (
 -- so does a trial, with all counts 0
 pub begin-count : (expected : List ℕ) (all left : List Instruction) (c : Client) (d : Devices)
     (counts : TrialCounts) (heard : List Entry) → left ≡ all → heard ≡ []
-    → IsFresh c → counts ≡ counts_of expected [] [] →
+    → IsNewClient c → counts ≡ counts_of expected [] [] →
     IsOnCourse all left c d d × AreCounted expected all left c d d counts heard
 begin-count expected all left c d counts heard is none fresh zero_counts = (
   subst (λ (l : List Instruction). IsOnCourse all l c d d) (sym is)

@@ -5,7 +5,7 @@
 --   sinking_of K old new          == the same, of two moments of a sink
 --   call_from w                   == the event of a later call of the program, from a state
 --   called_behind start before    == a run with that event behind it
---   IsFresh c                     == a client with no vault open, whose jobs are numbered from 1; it stands
+--   IsNewClient c                 == a client with no vault open, whose jobs are numbered from 1; it stands
 --                                    for what a later call of the program finds
 --   AreLeft start before d        == the devices are those that a run from a start has left; before the
 --                                    first event the run is empty
@@ -47,7 +47,7 @@ abbrev pub called_behind : State → List Moment → List Moment
 called_behind start before = call_from (now start before) ∷ before
 
 -- a client with no vault open and no job behind it
-pub record IsFresh (c : Client) : Type 0 where
+pub record IsNewClient (c : Client) : Type 0 where
   pub closed : is_open c ≡ false
   pub first : client_next_job c ≡ 1
   pub stands : (d : Devices) (w : State) → IsSound 8 w → AreDevices d w → ClientStands c d (continued w)

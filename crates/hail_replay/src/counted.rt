@@ -10,7 +10,7 @@ ghost use Rattle.hail_replay.specs.Answers.{CarriedOut};
 ghost use Rattle.hail_replay.specs.Counts.{counts_of};
 ghost use Rattle.hail_replay.specs.Heard.{entries_heard, room_of};
 ghost use Rattle.hail_replay.specs.Performed.{StandsWhereOpen, KeepsStanding, NoCountFell};
-ghost use Rattle.hail_replay.specs.Starts.{devices_of, sinking_of, AreLeft, IsFresh};
+ghost use Rattle.hail_replay.specs.Starts.{devices_of, sinking_of, AreLeft, IsNewClient};
 ghost use Rattle.hail_replay.specs.Trials.{RunsTrial, RunsTo, CountsTo};
 ghost use Rattle.hail_replay.specs.UnderWay.{HasRun, HasCounted};
 
@@ -80,7 +80,7 @@ fn trial_events<D: Disk, P: Tamper>(
     providers: &mut [P],
 ) -> Result<(), Memory>
     requires few { length events.items < 2 ^ 32 - 2 }
-    requires fresh { IsFresh client.old }
+    requires fresh { IsNewClient client.old }
     requires zero { tally.old ≡ counts_of expected.now [] [] }
     requires nothing { entries_heard heard.old ≡ [] }
     ensures ok { OnOk result ((start : State) (before : List Moment) → IsSome (D.holds disk.old)

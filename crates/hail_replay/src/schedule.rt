@@ -11,7 +11,7 @@ ghost use Rattle.hail_replay.specs.Answers.{CarriedOut};
 ghost use Rattle.hail_replay.specs.Heard.{entries_heard, room_of};
 ghost use Rattle.hail_replay.specs.Performed.{outcome_in, heard_in_came, StandsWhereOpen, KeepsStanding, NoCountFell};
 ghost use Rattle.hail_replay.specs.Replayed.{Replays};
-ghost use Rattle.hail_replay.specs.Starts.{devices_of, sinking_of, sinking_since, AreLeft, IsFresh};
+ghost use Rattle.hail_replay.specs.Starts.{devices_of, sinking_of, sinking_since, AreLeft, IsNewClient};
 ghost use Rattle.hail_replay.specs.UnderWay.{HasDone};
 
 use crate::event::perform;
@@ -110,7 +110,7 @@ fn replay_events<D: Disk, P: Tamper, K: Sink>(
     sink: &mut K,
 ) -> u8
     requires few { length events.items < 2 ^ 32 - 2 }
-    requires fresh { IsFresh client.old }
+    requires fresh { IsNewClient client.old }
     requires nothing { entries_heard heard.old ≡ [] }
     ensures runs { (start : State) (before : List Moment) → IsSome (D.holds disk.old)
         → AreLeft start before (devices_of D.Disk P.Provider disk.old providers.old)
