@@ -1,5 +1,5 @@
 -- What the form of a key says of its text.
-use Rattle.std.proofs.Common.{◌≡◌, ℕ, ◌≤◌, List, ◌++◌, length, drop, refl, sym, ◌∙◌, ap, subst, arith, length-append, take-append-drop}
+use Rattle.std.proofs.Common.{◌≡◌, ℕ, List, ◌++◌, length, drop, refl, sym, ◌∙◌, ap, subst, take-append-drop}
 use Rattle.std.proofs.Math.Seq.{drop-append_seam}
 use Rattle.std.specs.Prelude.{◌↔◌, true, false, Ok, Option, Some, None, MatchOption, IfSome, IsSome}
 use Rattle.std.specs.List.{AllPass, IsSplitAt}

@@ -1,5 +1,5 @@
 -- What the words of a row spell, word by word.
-use Rattle.std.proofs.Common.{◌≡◌, ℕ, zero, suc, ◌<◌, ◌≤◌, List, [], ◌∷◌, ◌++◌, length, get_or, drop, Option, String, arith, Bool, true, false, refl}
+use Rattle.std.proofs.Common.{◌≡◌, ℕ, zero, suc, ◌<◌, ◌≤◌, List, [], ◌∷◌, ◌++◌, length, get_or, drop, Option, String, arith, Bool, true, false, refl, sym, subst}
 use mathlib.Core.Bool.{not}
 use Rattle.std.specs.Str.{bytes_eq}
 use Rattle.std.proofs.lemmas.Slice.Eq.{bytes_eq-Decides}
@@ -59,3 +59,8 @@ same_from_ne text other not_different =
     equal : (test : Bool) → false ≡ not test → test ≡ true
     equal true is = refl
     equal false is = cc
+
+-- what one text spells, the same text spells
+pub spelled_by : {text other : List ℕ} {number : ℕ} → text ≡ other → IsNumberWord other number →
+    IsNumberWord text number
+spelled_by {text} {other} {number} is word = subst (λ (t : List ℕ). IsNumberWord t number) (sym is) word

@@ -6,7 +6,7 @@ ghost use Rattle.command_defs.specs.Forms.{IsInitForm};
 ghost use Rattle.command_defs.specs.Inits.{setup_with};
 ghost use Rattle.command_words.specs.Commands.{numbers_of};
 
-use crate::word::read_number;
+use crate::word::{read_number, read_three};
 use record_codec::Setup;
 
 /// The numbers of the command `init`, as its words spell them: they may fit no setup.
@@ -33,14 +33,17 @@ pub fn read_init(words: &[String]) -> Option<Numbers>
     if command.as_str() != "init" {
         return None;
     }
+    let (n, l, b) = read_three(n.as_str(), l.as_str(), b.as_str())?;
+    let (profile, rounds, picks) = read_three(profile.as_str(), rounds.as_str(), picks.as_str())?;
+    let tolerance = read_number(tolerance.as_str())?;
     Some(Numbers {
-        n: read_number(n.as_str())?,
-        l: read_number(l.as_str())?,
-        b: read_number(b.as_str())?,
-        profile: read_number(profile.as_str())?,
-        rounds: read_number(rounds.as_str())?,
-        picks: read_number(picks.as_str())?,
-        tolerance: read_number(tolerance.as_str())?,
+        n,
+        l,
+        b,
+        profile,
+        rounds,
+        picks,
+        tolerance,
     })
 }
 

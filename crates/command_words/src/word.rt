@@ -1,4 +1,4 @@
-// Reads single words.
+// Reads words, each by itself.
 ghost use Rattle.std.specs.Prelude.{ℕ, MatchOption};
 ghost use Rattle.command_defs.specs.Words.{IsNumberWord, IsSymbolWord};
 
@@ -13,6 +13,20 @@ pub fn read_number(word: &str) -> Option<u128>
         return None;
     }
     word.parse().ok()
+}
+
+/// The numbers that three words spell, or `None` where one of them spells none.
+pub(crate) fn read_three(first: &str, second: &str, third: &str) -> Option<(u128, u128, u128)>
+    ensures { MatchOption result
+        ((a b c : ℕ) → IsNumberWord first.now a → IsNumberWord second.now b → IsNumberWord third.now c → ⊥)
+        (λ numbers. IsNumberWord first.now numbers.0 × IsNumberWord second.now numbers.1
+        × IsNumberWord third.now numbers.2) }
+{
+    Some((
+        read_number(first)?,
+        read_number(second)?,
+        read_number(third)?,
+    ))
 }
 
 /// The symbol that the word spells, or that it is absent.
