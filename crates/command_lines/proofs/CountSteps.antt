@@ -1,6 +1,7 @@
 -- The lines of an audit: the line of a provider, and one provider more.
-use Rattle.std.proofs.Common.{◌≡◌, ℕ, ◌+◌, ◌<◌, codes, List, [], ◌∷◌, ◌++◌, length, take, get_or, sym, ap, ◌∙◌, append_assoc, arith}
+use Rattle.std.proofs.Common.{◌≡◌, ℕ, ◌+◌, ◌<◌, ◌≤◌, Bool, true, false, codes, List, [], ◌∷◌, ◌++◌, length, take, get_or, sym, ap, ◌∙◌, append_assoc, arith}
 use Rattle.std.proofs.lemmas.List.{take_more, append-nil, length-take-le}
+use Rattle.std.proofs.lemmas.Bool.Decides.{nat_tests}
 use Rattle.std.specs.Prelude.{nat_lt, if◌then◌else◌}
 use Rattle.machine_defs.specs.Lines.{line, then_number}
 use Rattle.command_defs.specs.Lines.{count_line, count_lines}
@@ -17,6 +18,20 @@ count_line_is tolerance place count told end told_is end_is =
     (λ i. front ++ ((codes " count" ++ then_number (told_is i)) ++ end_is i))
     ∙ behind_two front (codes " count") (then_number count) (line word)
     ∙ sym (append_assoc ((front ++ codes " count") ++ then_number count) word (10 ∷ []))
+
+-- a count above the tolerance is flagged
+pub flagged_above : (tolerance count told : ℕ) → told ≡ tolerance → told < count →
+    line (codes " flagged") ≡ line (if nat_lt tolerance count then codes " flagged" else codes " ok")
+flagged_above tolerance count told is above =
+    let so : nat_lt tolerance count ≡ true = grind (arith, nat_tests) in
+    ap (λ (b : Bool). line (if b then codes " flagged" else codes " ok")) (sym so)
+
+-- and no other
+pub not_flagged : (tolerance count told : ℕ) → told ≡ tolerance → count ≤ told →
+    line (codes " ok") ≡ line (if nat_lt tolerance count then codes " flagged" else codes " ok")
+not_flagged tolerance count told is within =
+    let so : nat_lt tolerance count ≡ false = grind (arith, nat_tests) in
+    ap (λ (b : Bool). line (if b then codes " flagged" else codes " ok")) (sym so)
 
 -- one count more, behind others
 count_lines-snoc : (tolerance j : ℕ) (counts : List ℕ) (count : ℕ) →

@@ -1,6 +1,5 @@
 -- Pieces that were put behind a text, one behind the other.
-use Rattle.std.proofs.Common.{◌≡◌, ℕ, List, [], ◌∷◌, ◌++◌, Result, Ok, Err, is_ok, if◌then◌else◌, OnOk, sym, ap, ◌∙◌, append_assoc}
-use Rattle.machine_defs.specs.Lines.{line}
+use Rattle.std.proofs.Common.{◌≡◌, ℕ, List, ◌++◌, Result, Ok, Err, is_ok, if◌then◌else◌, OnOk, sym, ap, ◌∙◌, append_assoc}
 
 -- two pieces, one behind the other
 pub both : {mid new : List ℕ} (old first last : List ℕ) → mid ≡ old ++ first → new ≡ mid ++ last →

@@ -1,10 +1,14 @@
 use Rattle.std.proofs.Common.{◌++◌, List, ℕ, sym, ap, ◌∙◌, arith}
+use Rattle.std.proofs.lemmas.List.{append-nil}
 use Rattle.algebra_laws.proofs.Lists.{get_within}
 use Rattle.machine_defs.specs.Lines.{line, then_number}
 use Rattle.vault_table.specs.Values.{file_of_entry}
 use Rattle.command_lines.proofs.ListSteps.{listed_more}
 use Rattle.command_lines.proofs.list.push_files.Goals as goal
 use Rattle.command_lines.proofs.list.push_files.Goals.{in-Some+in_ok-push_line, in_default}
+
+pub loop-place-init : goal.loop-place-init
+loop-place-init c = sym (append-nil c.args.text.now.items)
 
 pub loop-place-preserved : goal.loop-place-preserved
 loop-place-preserved c =
