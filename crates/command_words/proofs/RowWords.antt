@@ -1,5 +1,5 @@
 -- What the words of a row spell, word by word.
-use Rattle.std.proofs.Common.{◌≡◌, ℕ, zero, suc, ◌<◌, ◌≤◌, List, [], ◌∷◌, ◌++◌, length, get_or, drop, Option, String, arith, Bool, true, false, refl, sym, subst}
+use Rattle.std.proofs.Common.{◌≡◌, ℕ, zero, suc, ◌<◌, ◌≤◌, List, [], ◌∷◌, ◌++◌, length, get_or, drop, Option, Some, None, Result, Ok, Err, MatchOption, IfOk, String, arith, Bool, true, false, refl, sym, subst}
 use mathlib.Core.Bool.{not}
 use Rattle.std.specs.Str.{bytes_eq}
 use Rattle.std.proofs.lemmas.Slice.Eq.{bytes_eq-Decides}
@@ -64,3 +64,15 @@ same_from_ne text other not_different =
 pub spelled_by : {text other : List ℕ} {number : ℕ} → text ≡ other → IsNumberWord other number →
     IsNumberWord text number
 spelled_by {text} {other} {number} is word = subst (λ (t : List ℕ). IsNumberWord t number) (sym is) word
+
+-- the symbols of so many words
+pub counted-symbols : {V E : Type 0} (items : V → List (Option ℕ)) (count : ℕ) (words : List Word)
+    (read : Result (Option V) E) → length words ≡ count
+    → IfOk read (λ found. MatchOption found ((symbols : List (Option ℕ)) → AreSymbolWords words symbols → ⊥)
+    (λ symbols. AreSymbolWords words (items symbols)))
+    → IfOk read (λ found. MatchOption found
+    ((symbols : List (Option ℕ)) → length words ≡ count → AreSymbolWords words symbols → ⊥)
+    (λ symbols. (length words ≡ count) × AreSymbolWords words (items symbols)))
+counted-symbols items count words (Ok (Some symbols)) so_many are = (so_many, are)
+counted-symbols items count words (Ok None) so_many none = λ symbols _ are. none symbols are
+counted-symbols items count words (Err fault) so_many _ = tt
