@@ -1,7 +1,7 @@
 use record_codec::Name;
 
 /// A file in effect: its name, the number of its object, its length in bytes, and the number of its profile.
-#[derive(Clone, Copy, Debug, PartialEq, Eq)]
+#[derive(Clone, Copy)]
 pub struct Entry {
     pub name: Name,
     pub id: u64,
@@ -10,7 +10,7 @@ pub struct Entry {
 }
 
 /// Why a record may not follow those before it.
-#[derive(Clone, Copy, Debug, PartialEq, Eq)]
+#[derive(Clone, Copy, PartialEq, Eq)]
 pub enum Refused {
     /// Nothing is set up, and the record is no setup.
     NoSetup,

@@ -8,6 +8,9 @@ use std::alloc::Global;
 use std::marker::Model;
 use stream_model::Memory;
 
+/// For how many more names room can be reserved: a name has at most 64 letters.
+const MOST_SPARE: usize = usize::MAX / 64;
+
 /// The names of started puts in the order of their ids, one behind the other; each 64th has a mark. A put
 /// that is done leaves its letters. So a name takes one byte and a sixty-fourth of a mark beside its letters.
 #[derive(Drop)]
@@ -105,10 +108,12 @@ impl Starts {
         ensures ok { OnOk result (self.new ≡ record self.old { spare = suc self.old.spare }) }
         ensures err { OnErr result (self.new ≡ self.old) }
     {
-        let spare = self.spare.checked_add(1).ok_or(Memory)?;
-        let letters = spare.checked_mul(64).ok_or(Memory)?;
+        if self.spare >= MOST_SPARE {
+            return Err(Memory);
+        }
+        let spare = self.spare + 1;
         self.sizes.reserve(spare)?;
-        self.letters.reserve(letters)?;
+        self.letters.reserve(64 * spare)?;
         self.marks.reserve(spare)?;
         self.spare = spare;
         Ok(())

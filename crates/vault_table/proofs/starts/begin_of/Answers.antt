@@ -1,4 +1,4 @@
-use Rattle.std.proofs.Common.{◌≡◌, ◌+◌, ◌*◌, ◌/◌, ◌%◌, ◌<◌, ◌≤◌, length, ap, sym, ◌∙◌, arith, slice_index_or}
+use Rattle.std.proofs.Common.{◌≡◌, ◌+◌, ◌%◌, length, ap, sym, ◌∙◌, arith, slice_index_or}
 use Rattle.vault_table.specs.Starts.{begins_at}
 use Rattle.vault_table.proofs.KeptNames.{begins-step, begins-le, mark-at}
 use Rattle.vault_table.proofs.starts.begin_of.Goals as goal

@@ -1,8 +1,7 @@
-use Rattle.std.proofs.Common.{◌≡◌, ℕ, ◌+◌, ◌%◌, ◌<◌, ◌≤◌, true, List, Option, Some, None, length, take, drop, ap, sym, ◌∙◌, arith, subst, get_or}
-use Rattle.std.specs.Prelude.{slice_index_or}
+use Rattle.std.proofs.Common.{◌≡◌, ℕ, ◌<◌, ◌≤◌, List, length, ap, sym, ◌∙◌, arith}
 use Rattle.vault_table.specs.Values.{started_from}
-use Rattle.vault_table.specs.Starts.{Starts, begins_at, name_of, kept_names}
-use Rattle.vault_table.proofs.KeptNames.{length-names, name-at, name-past, name-done, name-there, name-fits, begins-le, get_or-any}
+use Rattle.vault_table.specs.Starts.{Starts, begins_at, kept_names}
+use Rattle.vault_table.proofs.KeptNames.{length-names, name-past, name-done, name-there, name-fits}
 use Rattle.vault_table.proofs.starts.Starts.name.Goals as goal
 
 -- what is seen is what is kept
