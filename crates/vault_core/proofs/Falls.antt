@@ -336,6 +336,19 @@ drawn_goes a c new place v h e j g = set_falls a c new place j (drawn j (number_
     (ap (λ (x : CoreView). x.setup) (e j g)) (ap (λ (x : CoreView). x.jobs) (e j g)) refl
     (drawn_falls c.setup.n (number_drawn c.table j j.wish) j (some_rest a c place j v h g))
 
+-- the setup stays where a job goes on
+pub moved_setup : (c new : CoreView) (place : ℕ) (f : CoreJob → CoreJob) (j : CoreJob) →
+    ((k : CoreJob) → slice_get c.jobs place ≡ Some k → new ≡ with_at c place (f k)) →
+    slice_get c.jobs place ≡ Some j → new.setup ≡ c.setup
+moved_setup c new place f j e g = ap (λ (x : CoreView). x.setup) (e j g)
+
+-- the setup stays where a job begins its append
+pub drawn_setup : (c new : CoreView) (place : ℕ) (j : CoreJob) →
+    ((k : CoreJob) → slice_get c.jobs place ≡ Some k →
+    new ≡ record (with_at c place (drawn k (number_drawn c.table k k.wish))) { append = Some k.number }) →
+    slice_get c.jobs place ≡ Some j → new.setup ≡ c.setup
+drawn_setup c new place j e g = ap (λ (x : CoreView). x.setup) (e j g)
+
 -- an action other than an idle drop's end is the head of those that are left
 head_is : (t : Kept) (j : CoreJob) (a : Action) → action_next t j ≡ Some a → (a ≡ End → ⊥) →
     slice_get j.rest 0 ≡ Some a

@@ -21,7 +21,7 @@ use Rattle.vault_core.specs.declared.cursor.Cursor.TheVariants as at
 use Rattle.vault_core.specs.declared.job.Task.{Task}
 use Rattle.vault_core.specs.declared.job.Job.{Job}
 use Rattle.vault_core.specs.Rest.{numbers, call_of, calls_from, work_of, turns_from, tasks_of, moves_from, actions_after, closing_of, tasks_on, beyond, rest_at, rest_of}
-use Rattle.vault_core.specs.Coming.{most_of, asks_next, begins_append, is_last_ask, is_gone, is_idle}
+use Rattle.vault_core.specs.Coming.{most_of, begins_append, is_last_ask, is_gone, is_idle}
 use Rattle.vault_core.specs.Going.{decides, decides_at, is_taker}
 use Rattle.vault_core.specs.Parts.{comes_to, is_unbegun, is_opening, is_start, is_over, is_caller, is_worker, is_rewriter, core_job, IsWithin, MayBeAt, IsJobKept}
 use Rattle.vault_core.proofs.Rests.{numbers_here, calls_here, rewrites_take, rest_is, rest_opening, rest_closing, rest_calling, rest_removing, first_work, first_of_front, by_call}

@@ -1,6 +1,6 @@
 -- Jobs of a core and jobs of the machine, in order.
 use Rattle.std.proofs.Common.{◌≡◌, ℕ, zero, suc, ◌+◌, Bool, List, [], ◌∷◌, Some, None, length, set, inl, inr, refl, ap, sym, subst, ◌∙◌, arith}
-use Rattle.std.specs.Prelude.{Option, if◌then◌else◌, ◌==◌, slice_get, remove}
+use Rattle.std.specs.Prelude.{Option, if◌then◌else◌, ◌==◌, remove}
 use Rattle.std.specs.List.{AllZip}
 use Rattle.std.proofs.lemmas.Bool.{cases_Bool, eqb-true, eq-eqb, ne_eqb}
 use Rattle.record_defs.specs.Records.{Setup}

@@ -1,5 +1,5 @@
 /// One action of a job, which makes at most one call of a device.
-#[derive(Clone, Copy, Debug, PartialEq, Eq)]
+#[derive(Clone, Copy)]
 pub enum Action {
     /// Write the record of the job's append, and the closed gate behind it.
     WriteBody,
@@ -42,7 +42,7 @@ pub enum Action {
 }
 
 /// What comes next for a job.
-#[derive(Clone, Copy, Debug, PartialEq, Eq)]
+#[derive(Clone, Copy)]
 pub enum Next {
     /// This action is to be made.
     Act(Action),

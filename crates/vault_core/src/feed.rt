@@ -1,4 +1,5 @@
 ghost use Rattle.std.specs.Prelude.{◌≡◌, ◌<◌, ◌==◌, ℕ, List, None, Some, true, length, slice_get, position};
+ghost use Rattle.std.specs.Option.{option_map};
 ghost use Rattle.std.specs.List.{list_any};
 ghost use Rattle.vault_core.specs.declared.pinned.Pinned.{Pinned as PinnedFile};
 ghost use Rattle.vault_core.specs.declared.job.Job.{Job as JobValue};
@@ -9,11 +10,11 @@ ghost use Rattle.machine_defs.specs.Events.{Outcome, Step};
 ghost use Rattle.machine_defs.specs.States.{State};
 ghost use Rattle.machine_defs.specs.Machine.{Happens};
 ghost use Rattle.record_codec.specs.Entries.{counted, IsPadded};
-ghost use Rattle.vault_table.specs.Values.{IsFoldOf};
+ghost use Rattle.vault_table.specs.Values.{file_of_entry, IsFoldOf};
 ghost use Rattle.vault_core.specs.View.{CoreJob};
 ghost use Rattle.vault_core.specs.Coming.{TakesReply, core_left, written_by};
 ghost use Rattle.vault_core.specs.Parts.{core_job};
-ghost use Rattle.vault_core.specs.Fed.{first_at, goes_plainly, stopped, barred_at, stepped, with_at, judged, number_drawn, drawn, is_pinned_in, older_of, HasGated};
+ghost use Rattle.vault_core.specs.Fed.{first_at, goes_plainly, stopped, barred_at, stepped, with_at, judged, number_drawn, drawn, is_pinned_in, removable_in, older_of, HasGated};
 ghost use Rattle.vault_core.specs.Carried.{CoreIs};
 ghost use Rattle.vault_core.specs.Replies.{IsReplyTo};
 
@@ -23,6 +24,7 @@ use crate::own::Core;
 use crate::reply::Reply;
 use crate::wish::Wish;
 use record_codec::Counts;
+use vault_table::Entry;
 
 /// The place of the job of a number.
 fn place_in(jobs: &[Job], job: u32) -> Option<usize>
@@ -159,19 +161,30 @@ impl Core {
         pin(&self.jobs, object)
     }
 
+    /// The object of a file, unless there is none or it is pinned.
+    fn removable(&self, file: Option<Entry>) -> Option<u64>
+        ensures { result ≡ removable_in self.now.jobs (option_map file_of_entry file) }
+    {
+        match file {
+            Some(file) => {
+                if self.is_pinned(file.id) {
+                    return None;
+                }
+                Some(file.id)
+            }
+            None => None,
+        }
+    }
+
     /// The object that a put or a drop takes out of effect, unless there is none or it is pinned.
     fn older(&self, wish: &Wish) -> Option<u64>
         ensures { result ≡ older_of self.now.table self.now.jobs wish.now }
     {
-        let file = match wish {
-            Wish::Put { name, .. } => self.table.find(name)?,
-            Wish::Drop { name } => self.table.find(name)?,
-            _ => return None,
-        };
-        if self.is_pinned(file.id) {
-            return None;
+        match wish {
+            Wish::Put { name, .. } => self.removable(self.table.find(name)),
+            Wish::Drop { name } => self.removable(self.table.find(name)),
+            _ => None,
         }
-        Some(file.id)
     }
 
     /// The append of the job at a place is done: its record is in effect.

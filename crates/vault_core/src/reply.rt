@@ -1,7 +1,7 @@
 use record_codec::Counts;
 
 /// What came of an action. A fault of a provider at a fetch, an ask or a removal is told as `Done`.
-#[derive(Clone, Copy, Debug)]
+#[derive(Clone, Copy)]
 pub enum Reply {
     /// The action was done.
     Done,

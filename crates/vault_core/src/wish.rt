@@ -2,7 +2,7 @@ use record_codec::Name;
 
 /// What a job is wished for. A put is told the length of its file in bytes; the bytes themselves stay with
 /// the caller.
-#[derive(Clone, Copy, Debug, PartialEq, Eq)]
+#[derive(Clone, Copy)]
 pub enum Wish {
     /// To put a file of so many bytes under a name.
     Put { name: Name, length: u32 },
@@ -17,7 +17,7 @@ pub enum Wish {
 }
 
 /// Why a job does not begin; the first that applies, in this order.
-#[derive(Clone, Copy, Debug, PartialEq, Eq)]
+#[derive(Clone, Copy, PartialEq, Eq)]
 pub enum BeginFault {
     /// A disk call of these jobs failed: the vault must be opened anew.
     MustReopen,

@@ -47,8 +47,12 @@ enum Act {
     Makes(u32, u32),
     /// A job has no action that it can make now.
     Rests(u32),
-    /// This is what comes next for a job.
-    Next(u32, Next),
+    /// A job waits for the append of this other one.
+    Waits(u32, u32),
+    /// A job is to sync the record that it has written.
+    SyncsBody(u32),
+    /// No running job has the number.
+    Unknown(u32),
     /// So many jobs run, and no other may begin.
     Full(u32),
 }
@@ -153,6 +157,14 @@ fn makes(core: &mut Core, job: u32, count: u32) -> bool {
     true
 }
 
+/// Whether a job waits for the append of this other one.
+fn waits(core: &Core, job: u32, other: u32) -> bool {
+    match core.next(job) {
+        Next::Waiting { holder } => holder == other,
+        _ => false,
+    }
+}
+
 /// Whether an act comes to what it is to.
 fn goes(core: &mut Core, act: Act) -> bool {
     match act {
@@ -160,7 +172,9 @@ fn goes(core: &mut Core, act: Act) -> bool {
         Act::Left(job, wanted) => core.left(job) == Some(wanted),
         Act::Makes(job, count) => makes(core, job, count),
         Act::Rests(job) => !make(core, job),
-        Act::Next(job, wanted) => core.next(job) == wanted,
+        Act::Waits(job, other) => waits(core, job, other),
+        Act::SyncsBody(job) => matches!(core.next(job), Next::Act(Action::SyncBody)),
+        Act::Unknown(job) => matches!(core.next(job), Next::NoSuchJob),
         Act::Full(count) => core.running() == count && core.barred() == Some(BeginFault::Busy),
     }
 }
@@ -345,9 +359,9 @@ const CROWDED: &[Case] = &[Case {
         Act::Begins(Job::Put(b"a", b"x"), Ok(2)),
         Act::Begins(Job::Audit, Err(BeginFault::Busy)),
         Act::Makes(2, 1),
-        Act::Next(1, Next::Waiting { holder: 2 }),
-        Act::Next(2, Next::Act(Action::SyncBody)),
-        Act::Next(3, Next::NoSuchJob),
+        Act::Waits(1, 2),
+        Act::SyncsBody(2),
+        Act::Unknown(3),
         Act::Begins(Job::Get(b"a"), Ok(3)),
         Act::Begins(Job::Get(b"a"), Ok(4)),
         Act::Begins(Job::Get(b"a"), Ok(5)),

@@ -3,9 +3,10 @@ use Rattle.machine_defs.specs.Actions.{WriteBody, SyncGate, End}
 use Rattle.vault_core.specs.declared.action.Action.TheVariants as act
 use Rattle.vault_core.specs.declared.reply.Reply.{Reply}
 use Rattle.record_codec.specs.Entries.{counted}
-use Rattle.vault_core.specs.View.{CoreView}
+use Rattle.vault_core.specs.View.{CoreJob, CoreView}
+use Rattle.vault_core.specs.Fed.{stepped, judged}
 use Rattle.vault_core.specs.Coming.{Acts, seen_action, HasReply}
-use Rattle.vault_core.proofs.Falls.{step_here, step_left, step_first, step_plain, step_runs, plain_by, verdict_plain, removed_falls, moved_goes, drawn_goes, judged_goes}
+use Rattle.vault_core.proofs.Falls.{step_here, step_left, step_first, step_plain, step_runs, plain_by, verdict_plain, removed_falls, moved_goes, moved_setup, drawn_goes, drawn_setup, judged_goes}
 use Rattle.vault_core.specs.Carried.{CoreIs}
 use Rattle.vault_core.specs.Replies.{Tells}
 use Rattle.vault_core.proofs.Steps.{on_machine, other_store, begins_done, gates_done, ends_done, plain_done, stops_failed, bars_failed, stops_memory, stops_lost, judges_verdict}
@@ -67,7 +68,7 @@ returns-in-WriteBody-clause-setup c =
     let here = step_here c.self.inside c.args.self.now c.args.job c.in-Some.place c.index.result.now
     c.args.reply c.action_over-action.result c.self.view_is c.self.invariant c.requires c.in-Some.ensures
     c.index.ensures c.action_over-action.ensures.value in
-    ap (λ (x : CoreView). x.setup) (c.begin_append.ensures here.job here.here)
+    drawn_setup c.args.self.now c.begin_append.new.self c.in-Some.place here.job c.begin_append.ensures here.here
 
 pub returns-in-SyncGate-clause-falls : goal.returns-in-SyncGate-clause-falls
 returns-in-SyncGate-clause-falls c =
@@ -138,7 +139,8 @@ returns-in_default-action c =
           (seen_action c.action_over-action.result) here
           (moved_goes c.self.inside c.args.self.now c.advance.new.self c.in-Some.place c.self.view_is
           c.self.invariant c.advance.ensures);
-      setup = ap (λ (x : CoreView). x.setup) (c.advance.ensures here.job here.here);
+      setup = moved_setup c.args.self.now c.advance.new.self c.in-Some.place stepped here.job
+          c.advance.ensures here.here;
     }
 
 pub returns-in_default-action-2 : goal.returns-in_default-action-2
@@ -180,7 +182,10 @@ returns-in-Verdict-clause-setup c =
     let here = step_here c.self.inside c.args.self.now c.args.job c.in-Some.place c.index.result.now
     c.args.reply c.action_over-action.result c.self.view_is c.self.invariant c.requires c.in-Some.ensures
     c.index.ensures c.action_over-action.ensures.value in
-    ap (λ (x : CoreView). x.setup) (c.judge.ensures here.job here.here)
+    moved_setup c.args.self.now c.judge.new.self c.in-Some.place
+    (λ (k : CoreJob). judged k
+    (record { counts = counted c.in-Verdict.counts; undecided = c.in-Verdict.undecided }))
+    here.job c.judge.ensures here.here
 
 pub returns-in-WriteBody-clause-step : goal.returns-in-WriteBody-clause-step
 returns-in-WriteBody-clause-step c = λ w new outcome moment is happens told.

@@ -1,0 +1,9 @@
+use Rattle.std.proofs.Common.{ap, sym}
+use Rattle.vault_core.specs.declared.wish.Wish.{Wish}
+use Rattle.vault_core.specs.Rest.{call_of}
+use Rattle.vault_core.proofs.job.call.Goals as goal
+
+pub returns-in-Audit : goal.returns-in-Audit
+returns-in-Audit c =
+    ap (λ (w : Wish). call_of w c.args.spot.now.object c.args.spot.now.turn c.args.provider)
+    (sym c.in-Audit.is)
