@@ -2,10 +2,10 @@ use crate::calls::Call::{self, Alter, Fetch, Lacks, Lose, Remove, Store};
 use crate::calls::is_right_tampered;
 use crate::disk_calls::DiskCall::{self, Len, Sync, Write};
 use crate::files::Look;
+use crate::given::no_other;
 use disk_model::Disk;
 use hail_adapters::transfer::{fill, write_some};
 use hail_adapters::*;
-use hail_field::Symbol;
 use provider_model::{StoreFault, Tamper};
 use std::alloc::{Alloc, Global};
 use std::fmt::Display;
@@ -39,48 +39,52 @@ fn first_wrong_of_disk<R: Files + Alloc + Clone + Drop, D: Disk>(
     None
 }
 
-/// The same over the file at a path.
+/// The same over the file at a path; want of memory is told behind the last.
 fn over_file<R: Files + Alloc + Clone + Drop>(
     rt: &R,
     alloc: Global,
     path: &str,
     deeds: &[OfDisk],
-) -> Option<Option<usize>> {
-    let mut disk = FileDisk::new(rt, alloc, path).ok()?;
-    Some(first_wrong_of_disk(rt, &mut disk, deeds))
+) -> Option<usize> {
+    match FileDisk::new(rt, alloc, path) {
+        Ok(mut disk) => first_wrong_of_disk(rt, &mut disk, deeds),
+        Err(_) => Some(deeds.len()),
+    }
 }
 
 const NINES: &[u8] = &[9; 8];
 
+static FIRST_OPENED: [OfDisk; 11] = [
+    OfDisk::Calls(Len(Ok(0))),
+    OfDisk::Calls(DiskCall::Read(0, NINES, Ok(0), NINES)),
+    OfDisk::Calls(Sync(Ok(()))),
+    OfDisk::Looks(Look::IsFile("journal", false)),
+    OfDisk::Calls(Write(2, b"abcd", Ok(()))),
+    OfDisk::Calls(Write(3, b"x", Ok(()))),
+    OfDisk::Calls(Len(Ok(6))),
+    OfDisk::Calls(DiskCall::Read(1, NINES, Ok(5), b"\0axcd\x09\x09\x09")),
+    OfDisk::Calls(DiskCall::Read(7, NINES, Ok(0), NINES)),
+    OfDisk::Calls(Write(8, b"", Ok(()))),
+    OfDisk::Calls(Sync(Ok(()))),
+];
+
+static OPENED_AGAIN: [OfDisk; 4] = [
+    OfDisk::Calls(Sync(Ok(()))),
+    OfDisk::Calls(DiskCall::Read(0, NINES, Ok(8), b"\0\0axcd\0\0")),
+    OfDisk::Looks(Look::Mode("journal", 0o600)),
+    OfDisk::Looks(Look::RemoveFile("journal")),
+];
+
+static NOWHERE: [OfDisk; 2] = [
+    OfDisk::Calls(Len(Ok(0))),
+    OfDisk::Calls(Write(0, b"a", Err(WriteFault::Failed))),
+];
+
 #[test]
 fn a_file_is_a_disk(rt: HostRuntime) {
-    let first = [
-        OfDisk::Calls(Len(Ok(0))),
-        OfDisk::Calls(DiskCall::Read(0, NINES, Ok(0), NINES)),
-        OfDisk::Calls(Sync(Ok(()))),
-        OfDisk::Looks(Look::IsFile("journal", false)),
-        OfDisk::Calls(Write(2, b"abcd", Ok(()))),
-        OfDisk::Calls(Write(3, b"x", Ok(()))),
-        OfDisk::Calls(Len(Ok(6))),
-        OfDisk::Calls(DiskCall::Read(1, NINES, Ok(5), b"\0axcd\x09\x09\x09")),
-        OfDisk::Calls(DiskCall::Read(7, NINES, Ok(0), NINES)),
-        OfDisk::Calls(Write(8, b"", Ok(()))),
-        OfDisk::Calls(Sync(Ok(()))),
-    ];
-    assert_eq!(rt; over_file(&rt, rt.alloc(), "journal", &first), Some(None));
-    let again = [
-        OfDisk::Calls(Sync(Ok(()))),
-        OfDisk::Calls(DiskCall::Read(0, NINES, Ok(8), b"\0\0axcd\0\0")),
-        OfDisk::Looks(Look::Mode("journal", 0o600)),
-        OfDisk::Looks(Look::RemoveFile("journal")),
-    ];
-    assert_eq!(rt; over_file(&rt, rt.alloc(), "journal", &again), Some(None));
-    let nowhere = [
-        OfDisk::Calls(Len(Ok(0))),
-        OfDisk::Calls(Write(0, b"a", Err(WriteFault::Failed))),
-    ];
-    let seen = over_file(&rt, rt.alloc(), "nowhere/journal", &nowhere);
-    assert_eq!(rt; seen, Some(None));
+    no_other(&rt, over_file(&rt, rt.alloc(), "journal", &FIRST_OPENED));
+    no_other(&rt, over_file(&rt, rt.alloc(), "journal", &OPENED_AGAIN));
+    no_other(&rt, over_file(&rt, rt.alloc(), "nowhere/journal", &NOWHERE));
 }
 
 /// A call of a provider, or a look at the files.
@@ -108,15 +112,17 @@ fn first_wrong_of_provider<R: Files + Alloc + Clone + Drop, P: Tamper>(
     None
 }
 
-/// The same over the folder at a path.
+/// The same over the folder at a path; want of memory is told behind the last.
 fn over_folder<R: Files + Alloc + Clone + Drop>(
     rt: &R,
     alloc: Global,
     path: &str,
     deeds: &[OfProvider],
-) -> Option<Option<usize>> {
-    let mut provider = FolderProvider::new(rt, alloc, path).ok()?;
-    Some(first_wrong_of_provider(rt, &mut provider, deeds))
+) -> Option<usize> {
+    match FolderProvider::new(rt, alloc, path) {
+        Ok(mut provider) => first_wrong_of_provider(rt, &mut provider, deeds),
+        Err(_) => Some(deeds.len()),
+    }
 }
 
 const OWN: &[u128] = &[513, 1 << 127];
@@ -147,102 +153,105 @@ const BYTES: &[u8] = &[
     128,
 ];
 
+static FILES: [OfProvider; 13] = [
+    OfProvider::Calls(Lacks(7, 12, 2)),
+    OfProvider::Looks(Look::IsThere("blocks", false)),
+    OfProvider::Calls(Store(7, 12, OWN, Ok(()))),
+    OfProvider::Looks(Look::Bytes("blocks/7-12", BYTES)),
+    OfProvider::Looks(Look::Mode("blocks", 0o700)),
+    OfProvider::Looks(Look::Mode("blocks/7-12", 0o600)),
+    OfProvider::Calls(Lacks(7, 12, 1)),
+    OfProvider::Calls(Lacks(7, 12, 3)),
+    OfProvider::Calls(Fetch(7, 12, WIDE_ROOM, Ok(true), OWN)),
+    OfProvider::Calls(Store(7, 12, FIRST, Ok(()))),
+    OfProvider::Calls(Fetch(7, 12, ROOM, Ok(true), FIRST)),
+    OfProvider::Calls(Remove(7, Ok(()))),
+    OfProvider::Looks(Look::RemoveFolder("blocks")),
+];
+
 #[test]
 fn blocks_are_files(rt: HostRuntime) {
-    let deeds = [
-        OfProvider::Calls(Lacks(7, 12, 2)),
-        OfProvider::Looks(Look::IsThere("blocks", false)),
-        OfProvider::Calls(Store(7, 12, OWN, Ok(()))),
-        OfProvider::Looks(Look::Bytes("blocks/7-12", BYTES)),
-        OfProvider::Looks(Look::Mode("blocks", 0o700)),
-        OfProvider::Looks(Look::Mode("blocks/7-12", 0o600)),
-        OfProvider::Calls(Lacks(7, 12, 1)),
-        OfProvider::Calls(Lacks(7, 12, 3)),
-        OfProvider::Calls(Fetch(7, 12, WIDE_ROOM, Ok(true), OWN)),
-        OfProvider::Calls(Store(7, 12, FIRST, Ok(()))),
-        OfProvider::Calls(Fetch(7, 12, ROOM, Ok(true), FIRST)),
-        OfProvider::Calls(Remove(7, Ok(()))),
-        OfProvider::Looks(Look::RemoveFolder("blocks")),
-    ];
-    let seen = over_folder(&rt, rt.alloc(), "blocks", &deeds);
-    assert_eq!(rt; seen, Some(None));
+    no_other(&rt, over_folder(&rt, rt.alloc(), "blocks", &FILES));
 }
+
+static ALTERED: [OfProvider; 14] = [
+    OfProvider::Calls(Store(7, 12, NINE, Ok(()))),
+    OfProvider::Calls(Alter(7, 12, 1, 5, true)),
+    OfProvider::Calls(Alter(7, 12, 2, 5, false)),
+    OfProvider::Calls(Alter(7, 11, 0, 5, false)),
+    OfProvider::Calls(Fetch(7, 12, WIDE_ROOM, Ok(true), FIVE)),
+    OfProvider::Looks(Look::Write("altered/7-13", ODD)),
+    OfProvider::Calls(Lacks(7, 13, 1)),
+    OfProvider::Calls(Alter(7, 13, 0, 5, false)),
+    OfProvider::Calls(Lose(7, 13, false)),
+    OfProvider::Calls(Lose(7, 12, true)),
+    OfProvider::Calls(Lose(7, 12, false)),
+    OfProvider::Calls(Lacks(7, 12, 2)),
+    OfProvider::Calls(Remove(7, Ok(()))),
+    OfProvider::Looks(Look::RemoveFolder("altered")),
+];
 
 #[test]
 fn blocks_are_altered_and_lost(rt: HostRuntime) {
-    let deeds = [
-        OfProvider::Calls(Store(7, 12, NINE, Ok(()))),
-        OfProvider::Calls(Alter(7, 12, 1, Symbol(5), true)),
-        OfProvider::Calls(Alter(7, 12, 2, Symbol(5), false)),
-        OfProvider::Calls(Alter(7, 11, 0, Symbol(5), false)),
-        OfProvider::Calls(Fetch(7, 12, WIDE_ROOM, Ok(true), FIVE)),
-        OfProvider::Looks(Look::Write("altered/7-13", ODD)),
-        OfProvider::Calls(Lacks(7, 13, 1)),
-        OfProvider::Calls(Alter(7, 13, 0, Symbol(5), false)),
-        OfProvider::Calls(Lose(7, 13, false)),
-        OfProvider::Calls(Lose(7, 12, true)),
-        OfProvider::Calls(Lose(7, 12, false)),
-        OfProvider::Calls(Lacks(7, 12, 2)),
-        OfProvider::Calls(Remove(7, Ok(()))),
-        OfProvider::Looks(Look::RemoveFolder("altered")),
-    ];
-    let seen = over_folder(&rt, rt.alloc(), "altered", &deeds);
-    assert_eq!(rt; seen, Some(None));
+    no_other(&rt, over_folder(&rt, rt.alloc(), "altered", &ALTERED));
 }
 
 // A hole of 4,095 stripes hides nothing; an entry that is no file is a fault, behind which the removal goes
 // on.
+static REMOVED: [OfProvider; 12] = [
+    OfProvider::Calls(Remove(7, Ok(()))),
+    OfProvider::Calls(Store(7, 0, ONE, Ok(()))),
+    OfProvider::Calls(Store(7, 4096, ONE, Ok(()))),
+    OfProvider::Calls(Store(u64::MAX, 0, ONE, Ok(()))),
+    OfProvider::Looks(Look::Folder("removed/7-9")),
+    OfProvider::Looks(Look::Write("removed/7-00", b"")),
+    OfProvider::Looks(Look::Write("removed/77-1", b"")),
+    OfProvider::Looks(Look::Write("removed/7-+1", b"")),
+    OfProvider::Calls(Remove(7, Err(Failed))),
+    OfProvider::Looks(Look::Names("removed", 5)),
+    OfProvider::Calls(Remove(u64::MAX, Ok(()))),
+    OfProvider::Looks(Look::RemoveAll("removed")),
+];
+
 #[test]
 fn only_blocks_of_the_object_are_removed(rt: HostRuntime) {
-    let deeds = [
-        OfProvider::Calls(Remove(7, Ok(()))),
-        OfProvider::Calls(Store(7, 0, ONE, Ok(()))),
-        OfProvider::Calls(Store(7, 4096, ONE, Ok(()))),
-        OfProvider::Calls(Store(u64::MAX, 0, ONE, Ok(()))),
-        OfProvider::Looks(Look::Folder("removed/7-9")),
-        OfProvider::Looks(Look::Write("removed/7-00", b"")),
-        OfProvider::Looks(Look::Write("removed/77-1", b"")),
-        OfProvider::Looks(Look::Write("removed/7-+1", b"")),
-        OfProvider::Calls(Remove(7, Err(Failed))),
-        OfProvider::Looks(Look::Names("removed", 5)),
-        OfProvider::Calls(Remove(u64::MAX, Ok(()))),
-        OfProvider::Looks(Look::RemoveAll("removed")),
-    ];
-    let seen = over_folder(&rt, rt.alloc(), "removed", &deeds);
-    assert_eq!(rt; seen, Some(None));
+    no_other(&rt, over_folder(&rt, rt.alloc(), "removed", &REMOVED));
 }
 
 // A link is not followed, and a store puts a block in its place, and in that of what a cut store left. A
 // folder that is a file holds nothing.
+static LINKED: [OfProvider; 11] = [
+    OfProvider::Calls(Store(1, 0, ONE, Ok(()))),
+    OfProvider::Looks(Look::Link("1-0", "linked/2-0")),
+    OfProvider::Looks(Look::Link("1-0", "linked/new")),
+    OfProvider::Calls(Lacks(2, 0, 1)),
+    OfProvider::Calls(Alter(2, 0, 0, 5, false)),
+    OfProvider::Calls(Lose(2, 0, false)),
+    OfProvider::Calls(Store(2, 0, TWO, Ok(()))),
+    OfProvider::Looks(Look::IsFile("linked/2-0", true)),
+    OfProvider::Calls(Fetch(1, 0, ROOM, Ok(true), ONE)),
+    OfProvider::Looks(Look::Folder("linked/3-0")),
+    OfProvider::Calls(Store(3, 0, THREE, Err(StoreFault::Failed))),
+];
+
+static DISK_OF_A_FOLDER: [OfDisk; 2] = [
+    OfDisk::Calls(Len(Err(Failed))),
+    OfDisk::Calls(Write(0, b"a", Err(WriteFault::Failed))),
+];
+
+static WITHIN_A_FILE: [OfProvider; 4] = [
+    OfProvider::Calls(Store(1, 0, ONE, Err(StoreFault::Failed))),
+    OfProvider::Calls(Lacks(1, 0, 1)),
+    OfProvider::Calls(Remove(1, Ok(()))),
+    OfProvider::Looks(Look::RemoveAll("linked")),
+];
+
 #[test]
 fn only_plain_files_are_blocks(rt: HostRuntime) {
     let alloc = rt.alloc();
-    let linked = [
-        OfProvider::Calls(Store(1, 0, ONE, Ok(()))),
-        OfProvider::Looks(Look::Link("1-0", "linked/2-0")),
-        OfProvider::Looks(Look::Link("1-0", "linked/new")),
-        OfProvider::Calls(Lacks(2, 0, 1)),
-        OfProvider::Calls(Alter(2, 0, 0, Symbol(5), false)),
-        OfProvider::Calls(Lose(2, 0, false)),
-        OfProvider::Calls(Store(2, 0, TWO, Ok(()))),
-        OfProvider::Looks(Look::IsFile("linked/2-0", true)),
-        OfProvider::Calls(Fetch(1, 0, ROOM, Ok(true), ONE)),
-        OfProvider::Looks(Look::Folder("linked/3-0")),
-        OfProvider::Calls(Store(3, 0, THREE, Err(StoreFault::Failed))),
-    ];
-    assert_eq!(rt; over_folder(&rt, alloc, "linked", &linked), Some(None));
-    let disk = [
-        OfDisk::Calls(Len(Err(Failed))),
-        OfDisk::Calls(Write(0, b"a", Err(WriteFault::Failed))),
-    ];
-    assert_eq!(rt; over_file(&rt, alloc, "linked/3-0", &disk), Some(None));
-    let within = [
-        OfProvider::Calls(Store(1, 0, ONE, Err(StoreFault::Failed))),
-        OfProvider::Calls(Lacks(1, 0, 1)),
-        OfProvider::Calls(Remove(1, Ok(()))),
-        OfProvider::Looks(Look::RemoveAll("linked")),
-    ];
-    assert_eq!(rt; over_folder(&rt, alloc, "linked/1-0", &within), Some(None));
+    no_other(&rt, over_folder(&rt, alloc, "linked", &LINKED));
+    no_other(&rt, over_file(&rt, alloc, "linked/3-0", &DISK_OF_A_FOLDER));
+    no_other(&rt, over_folder(&rt, alloc, "linked/1-0", &WITHIN_A_FILE));
 }
 
 // Is cut off at its first call, gives one byte at the next two, and fails at the fourth.
@@ -294,10 +303,6 @@ fn filled<const N: usize>() -> Option<[u8; N]> {
 
 #[test]
 fn a_signal_is_no_fault_and_nothing_taken_is_one(rt: HostRuntime) {
-    assert_eq!(rt; (filled(), filled::<3>()), (Some([2, 3]), None));
-    let taken = [
-        write_some(&Full, b"a").is_ok(),
-        write_some(&Full, b"").is_ok(),
-    ];
-    assert_eq!(rt; taken, [false, true]);
+    assert!(rt; filled() == Some([2, 3]) && filled::<3>().is_none());
+    assert!(rt; write_some(&Full, b"a").is_err() && write_some(&Full, b"").is_ok());
 }

@@ -1,7 +1,6 @@
 // Calls of a provider and what they are to answer. What is tested is called through functions with no clause:
 // a test is proved to be safe, and shows the rest by running.
 use crate::given::CHALLENGE;
-use challenge::Challenge;
 use hail_field::Symbol;
 use provider_model::{Provider, StoreFault, Tamper};
 use stream_model::Failed;
@@ -17,11 +16,11 @@ pub enum Call {
     /// No block of so many symbols is fetched, be it a fault or not.
     Lacks(u64, u32, usize),
     /// The challenge is answered.
-    Ask(u64, Result<Option<Symbol>, Failed>),
+    Ask(u64, Result<Option<u128>, Failed>),
     /// An object is removed.
     Remove(u64, Result<(), Failed>),
     /// The symbol at a place of a block becomes another.
-    Alter(u64, u32, u32, Symbol, bool),
+    Alter(u64, u32, u32, u128, bool),
     /// A block is lost.
     Lose(u64, u32, bool),
 }
@@ -113,26 +112,21 @@ fn lacks<P: Provider>(provider: &mut P, object: u64, stripe: u32, size: usize) -
     }
 }
 
-fn ask<P: Provider>(
-    provider: &mut P,
-    object: u64,
-    challenge: &Challenge,
-) -> Result<Option<Symbol>, Failed> {
-    provider.ask(object, challenge)
+/// The number of the answer to the challenge.
+fn ask<P: Provider>(provider: &mut P, object: u64) -> Result<Option<u128>, Failed> {
+    match provider.ask(object, &CHALLENGE) {
+        Ok(Some(symbol)) => Ok(Some(symbol.0)),
+        Ok(None) => Ok(None),
+        Err(failed) => Err(failed),
+    }
 }
 
 fn remove<P: Provider>(provider: &mut P, object: u64) -> Result<(), Failed> {
     provider.remove(object)
 }
 
-fn alter<P: Tamper>(
-    provider: &mut P,
-    object: u64,
-    stripe: u32,
-    place: u32,
-    symbol: Symbol,
-) -> bool {
-    provider.alter(object, stripe, place, symbol)
+fn alter<P: Tamper>(provider: &mut P, object: u64, stripe: u32, place: u32, number: u128) -> bool {
+    provider.alter(object, stripe, place, Symbol(number))
 }
 
 fn lose<P: Tamper>(provider: &mut P, object: u64, stripe: u32) -> bool {
@@ -149,7 +143,7 @@ pub fn is_right<P: Provider>(provider: &mut P, call: &Call) -> bool {
             fetches(provider, object, stripe, room, found, wanted)
         }
         Call::Lacks(object, stripe, size) => lacks(provider, object, stripe, size),
-        Call::Ask(object, wanted) => ask(provider, object, &CHALLENGE) == wanted,
+        Call::Ask(object, wanted) => ask(provider, object) == wanted,
         Call::Remove(object, wanted) => remove(provider, object) == wanted,
         _ => false,
     }
@@ -158,8 +152,8 @@ pub fn is_right<P: Provider>(provider: &mut P, call: &Call) -> bool {
 /// Whether a call is answered as it is to be.
 pub fn is_right_tampered<P: Tamper>(provider: &mut P, call: &Call) -> bool {
     match *call {
-        Call::Alter(object, stripe, place, symbol, wanted) => {
-            alter(provider, object, stripe, place, symbol) == wanted
+        Call::Alter(object, stripe, place, number, wanted) => {
+            alter(provider, object, stripe, place, number) == wanted
         }
         Call::Lose(object, stripe, wanted) => lose(provider, object, stripe) == wanted,
         _ => is_right(provider, call),

@@ -1,5 +1,6 @@
 use crate::disk_calls::DiskCall::{self, Len, Read, Stop, Sync, Write};
 use crate::disk_calls::first_wrong;
+use crate::given::{no_other, or_behind};
 use disk_model::*;
 use std::alloc::Global;
 use stream_model::{Failed, WriteFault};
@@ -17,79 +18,88 @@ fn has_bytes(disk: &MemDisk, bytes: &[u8]) -> bool {
     disk.bytes() == bytes
 }
 
-/// A disk in memory of these bytes whose listed calls fail.
-fn disk_of(alloc: Global, bytes: &[u8], fails: &[u64]) -> Option<MemDisk> {
-    MemDisk::new(alloc, bytes, fails).ok()
+/// The first of these calls that is answered otherwise by a disk in memory. Where all go right and the disk
+/// then has other bytes, or gives others as its front, that is told behind the last.
+fn first_other(
+    alloc: Global,
+    disk: &mut MemDisk,
+    calls: &[DiskCall],
+    wanted: &[u8],
+) -> Option<usize> {
+    let wrong = first_wrong(disk, calls);
+    let is_right = has_bytes(disk, wanted) && has_front(alloc, disk, wanted);
+    or_behind(wrong, calls.len(), is_right)
 }
 
-/// The first of these calls that is answered otherwise by a disk in memory whose listed calls fail, and
-/// whether it then has some bytes and gives them as its front.
+/// The same by one of some bytes whose listed calls fail.
 fn by_memory(
     alloc: Global,
     bytes: &[u8],
     fails: &[u64],
     calls: &[DiskCall],
     wanted: &[u8],
-) -> Option<(Option<usize>, bool, bool)> {
-    let mut disk = disk_of(alloc, bytes, fails)?;
-    let wrong = first_wrong(&mut disk, calls);
-    let has = has_bytes(&disk, wanted);
-    Some((wrong, has, has_front(alloc, &mut disk, wanted)))
+) -> Option<usize> {
+    match MemDisk::new(alloc, bytes, fails) {
+        Ok(mut disk) => first_other(alloc, &mut disk, calls, wanted),
+        Err(_) => Some(calls.len()),
+    }
 }
 
-/// Whether a disk that never fails has these bytes.
-fn sure_has_bytes(disk: &SureDisk, bytes: &[u8]) -> bool {
-    disk.bytes() == bytes
+/// The same by a disk that never fails, whose front is not read.
+fn first_other_of_sure(disk: &mut SureDisk, calls: &[DiskCall], wanted: &[u8]) -> Option<usize> {
+    let wrong = first_wrong(disk, calls);
+    or_behind(wrong, calls.len(), disk.bytes() == wanted)
 }
 
-/// A disk in memory of these bytes that never fails.
-fn sure_disk_of(alloc: Global, bytes: &[u8]) -> Option<SureDisk> {
-    SureDisk::new(alloc, bytes).ok()
+/// The same by one of some bytes.
+fn by_sure(alloc: Global, bytes: &[u8], calls: &[DiskCall], wanted: &[u8]) -> Option<usize> {
+    match SureDisk::new(alloc, bytes) {
+        Ok(mut disk) => first_other_of_sure(&mut disk, calls, wanted),
+        Err(_) => Some(calls.len()),
+    }
 }
 
-/// The first of these calls that is answered otherwise by a disk in memory that never fails, and whether it
-/// then has some bytes.
-fn by_sure(
-    alloc: Global,
-    bytes: &[u8],
-    calls: &[DiskCall],
-    wanted: &[u8],
-) -> Option<(Option<usize>, bool)> {
-    let mut disk = sure_disk_of(alloc, bytes)?;
-    let wrong = first_wrong(&mut disk, calls);
-    Some((wrong, sure_has_bytes(&disk, wanted)))
-}
+static STOPPED: [DiskCall; 2] = [Write(2, b"\x01\x02", Ok(())), Stop(b"\xff")];
 
 #[test]
 fn a_stop_leaves_what_is_picked(rt: HostRuntime) {
-    let calls = [Write(2, b"\x01\x02", Ok(())), Stop(b"\xff")];
-    let seen = by_memory(rt.alloc(), &[7, 8, 9], &[], &calls, &[7, 8, 255, 2]);
-    assert_eq!(rt; seen, Some((None, true, true)));
+    let other = by_memory(rt.alloc(), &[7, 8, 9], &[], &STOPPED, &[7, 8, 255, 2]);
+    no_other(&rt, other);
 }
+
+static SYNCED: [DiskCall; 3] = [
+    Write(3, b"\x01", Ok(())),
+    Sync(Ok(())),
+    Write(0, b"\x06\x05", Ok(())),
+];
+
+static SYNCED_AND_STOPPED: [DiskCall; 4] = [
+    Write(3, b"\x01", Ok(())),
+    Sync(Ok(())),
+    Write(0, b"\x06\x05", Ok(())),
+    Stop(b"\x01\x02\x03\x04"),
+];
 
 #[test]
 fn a_stop_leaves_what_is_synced(rt: HostRuntime) {
-    let calls = [
-        Write(3, b"\x01", Ok(())),
-        Sync(Ok(())),
-        Write(0, b"\x06\x05", Ok(())),
-        Stop(b"\x01\x02\x03\x04"),
-    ];
-    let before = by_sure(rt.alloc(), &[7], &calls[..3], &[6, 5, 0, 1]);
-    let behind = by_sure(rt.alloc(), &[7], &calls, &[1, 2, 0, 1]);
-    assert_eq!(rt; [before, behind], [Some((None, true)); 2]);
+    no_other(&rt, by_sure(rt.alloc(), &[7], &SYNCED, &[6, 5, 0, 1]));
+    no_other(
+        &rt,
+        by_sure(rt.alloc(), &[7], &SYNCED_AND_STOPPED, &[1, 2, 0, 1]),
+    );
 }
+
+static FAILING: [DiskCall; 6] = [
+    Write(1, b"\x01\x02\x03\x04", Err(WriteFault::Failed)),
+    Len(Ok(3)),
+    Sync(Err(Failed)),
+    Read(1, b"\0\0\0\0", Err(Failed), b""),
+    Read(1, b"\0\0\0\0", Ok(2), b"\x01\x02\0\0"),
+    Stop(b"\x05\x06"),
+];
 
 #[test]
 fn listed_calls_fail(rt: HostRuntime) {
-    let calls = [
-        Write(1, b"\x01\x02\x03\x04", Err(WriteFault::Failed)),
-        Len(Ok(3)),
-        Sync(Err(Failed)),
-        Read(1, b"\0\0\0\0", Err(Failed), b""),
-        Read(1, b"\0\0\0\0", Ok(2), b"\x01\x02\0\0"),
-        Stop(b"\x05\x06"),
-    ];
-    let seen = by_memory(rt.alloc(), &[7, 8, 9], &[0, 2, 3], &calls, &[7, 5, 6]);
-    assert_eq!(rt; seen, Some((None, true, true)));
+    let other = by_memory(rt.alloc(), &[7, 8, 9], &[0, 2, 3], &FAILING, &[7, 5, 6]);
+    no_other(&rt, other);
 }

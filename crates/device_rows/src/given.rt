@@ -1,5 +1,19 @@
 use challenge::Challenge;
-use hail_field::Symbol;
+use std::process::Abort;
+
+/// Passes where no row goes otherwise. Else the test ends with the place of the first that does.
+pub fn no_other(rt: &impl Abort, place: Option<usize>) {
+    assert_eq!(rt; place, None);
+}
+
+/// The place of the first of so many rows that goes otherwise; behind them where they go right, and what is
+/// left by them does not.
+pub fn or_behind(place: Option<usize>, rows: usize, is_right: bool) -> Option<usize> {
+    if place.is_none() && !is_right {
+        return Some(rows);
+    }
+    place
+}
 
 /// Four of the 96 rows of 16 stripes of six, by the seed of the first round of the first audit to object 1
 /// under the master key of the bytes 0 to 31. A ChaCha20 written in Python from RFC 8439 gives it the rows
@@ -15,4 +29,4 @@ pub const CHALLENGE: Challenge = Challenge {
 };
 
 /// The weight of the first row of that challenge.
-pub const WEIGHT: Symbol = Symbol(65_912_960_681_525_404_807_291_868_634_059_098_642);
+pub const WEIGHT: u128 = 65_912_960_681_525_404_807_291_868_634_059_098_642;

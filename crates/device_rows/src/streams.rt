@@ -1,50 +1,134 @@
-use std::test::Fail;
+use crate::given::{no_other, or_behind};
+use std::alloc::Global;
 use stream_model::*;
+
+/// A write to a sink and what it answers, or a text that is written whole.
+#[derive(Clone, Copy)]
+enum Writing {
+    Once(&'static [u8], Result<usize, WriteFault>),
+    Whole(&'static [u8]),
+}
 
 fn put<K: Sink>(sink: &mut K, bytes: &[u8]) -> Result<usize, WriteFault> {
     sink.write(bytes)
 }
 
+fn put_whole<K: Sink>(sink: &mut K, bytes: &[u8]) -> Result<(), WriteFault> {
+    write_all(sink, bytes)
+}
+
+/// The place of the first of these writes that goes otherwise, if any.
+fn first_wrong_put<K: Sink>(sink: &mut K, puts: &[Writing]) -> Option<usize> {
+    for place in 0..puts.len() {
+        let right = match puts[place] {
+            Writing::Once(bytes, answer) => put(sink, bytes) == answer,
+            Writing::Whole(bytes) => put_whole(sink, bytes).is_ok(),
+        };
+        if !right {
+            return Some(place);
+        }
+    }
+    None
+}
+
+/// The same in memory where the second call fails; behind the last where other bytes than these are written.
+fn by_memory(alloc: Global, puts: &[Writing], bytes: &[u8]) -> Option<usize> {
+    match MemSink::new(alloc, &[1]) {
+        Ok(mut sink) => {
+            let place = first_wrong_put(&mut sink, puts);
+            or_behind(place, puts.len(), sink.written() == bytes)
+        }
+        Err(_) => Some(puts.len()),
+    }
+}
+
+/// The same where no call fails.
+fn by_sure(alloc: Global, puts: &[Writing], bytes: &[u8]) -> Option<usize> {
+    match SureSink::new(alloc) {
+        Ok(mut sink) => {
+            let place = first_wrong_put(&mut sink, puts);
+            or_behind(place, puts.len(), sink.written() == bytes)
+        }
+        Err(_) => Some(puts.len()),
+    }
+}
+
+static PUTS: [Writing; 3] = [
+    Writing::Once(b"ab", Ok(2)),
+    Writing::Once(b"cd", Err(WriteFault::Failed)),
+    Writing::Whole(b"ef"),
+];
+
+static SURE_PUTS: [Writing; 2] = [Writing::Once(b"ab", Ok(2)), Writing::Whole(b"c")];
+
+#[test]
+fn a_sink_fails_at_a_listed_call_and_goes_on(rt: HostRuntime) {
+    no_other(&rt, by_memory(rt.alloc(), &PUTS, b"abef"));
+    no_other(&rt, by_sure(rt.alloc(), &SURE_PUTS, b"abc"));
+}
+
+/// What a read of two bytes answers, and the two bytes then, unless it fails.
+type Reading = (Result<usize, Failed>, [u8; 2]);
+
 fn take<S: Source>(source: &mut S, out: &mut [u8]) -> Result<usize, Failed> {
     source.read(out)
 }
 
-#[test]
-fn a_sink_fails_at_a_listed_call_and_goes_on(rt: HostRuntime) -> Result<(), Fail> {
-    let mut sink = MemSink::new(rt.alloc(), &[1])?;
-    assert_eq!(rt; put(&mut sink, b"ab"), Ok(2));
-    assert_eq!(rt; put(&mut sink, b"cd"), Err(WriteFault::Failed));
-    assert_eq!(rt; write_all(&mut sink, b"ef"), Ok(()));
-    assert_eq!(rt; sink.written(), b"abef".as_slice());
-    let mut sure = SureSink::new(rt.alloc())?;
-    assert_eq!(rt; put(&mut sure, b"ab"), Ok(2));
-    assert_eq!(rt; write_all(&mut sure, b"c"), Ok(()));
-    assert_eq!(rt; sure.written(), b"abc".as_slice());
-    Ok(())
-}
-
-#[test]
-fn a_source_fails_at_a_listed_call_and_gives_the_rest(rt: HostRuntime) -> Result<(), Fail> {
+/// The place of the first of these reads that goes otherwise, if any.
+fn first_wrong_take<S: Source>(source: &mut S, takes: &[Reading]) -> Option<usize> {
     let mut out = [0; 2];
-    let mut source = MemSource::new(rt.alloc(), b"abc", &[1])?;
-    assert_eq!(rt; take(&mut source, &mut out), Ok(2));
-    assert_eq!(rt; out, *b"ab");
-    assert_eq!(rt; take(&mut source, &mut out), Err(Failed));
-    assert_eq!(rt; take(&mut source, &mut out), Ok(1));
-    assert_eq!(rt; out, *b"cb");
-    assert_eq!(rt; take(&mut source, &mut out), Ok(0));
-    let mut sure = SureSource::new(rt.alloc(), b"xyz")?;
-    assert_eq!(rt; take(&mut sure, &mut out), Ok(2));
-    assert_eq!(rt; take(&mut sure, &mut out), Ok(1));
-    assert_eq!(rt; out, *b"zy");
-    Ok(())
+    for place in 0..takes.len() {
+        let (answer, wanted) = takes[place];
+        if take(source, &mut out) != answer || (answer.is_ok() && out != wanted) {
+            return Some(place);
+        }
+    }
+    None
+}
+
+/// The same in memory where the second call fails.
+fn from_memory(alloc: Global, bytes: &[u8], takes: &[Reading]) -> Option<usize> {
+    match MemSource::new(alloc, bytes, &[1]) {
+        Ok(mut source) => first_wrong_take(&mut source, takes),
+        Err(_) => Some(takes.len()),
+    }
+}
+
+/// The same where no call fails.
+fn from_sure(alloc: Global, bytes: &[u8], takes: &[Reading]) -> Option<usize> {
+    match SureSource::new(alloc, bytes) {
+        Ok(mut source) => first_wrong_take(&mut source, takes),
+        Err(_) => Some(takes.len()),
+    }
+}
+
+static TAKES: [Reading; 4] = [
+    (Ok(2), *b"ab"),
+    (Err(Failed), *b"ab"),
+    (Ok(1), *b"cb"),
+    (Ok(0), *b"cb"),
+];
+
+static SURE_TAKES: [Reading; 2] = [(Ok(2), *b"xy"), (Ok(1), *b"zy")];
+
+#[test]
+fn a_source_fails_at_a_listed_call_and_gives_the_rest(rt: HostRuntime) {
+    no_other(&rt, from_memory(rt.alloc(), b"abc", &TAKES));
+    no_other(&rt, from_sure(rt.alloc(), b"xyz", &SURE_TAKES));
+}
+
+/// Whether bytes are these, and again when they were made a vector and back.
+fn come_back(bytes: Bytes, wanted: &[u8]) -> bool {
+    let right = bytes.as_slice() == wanted;
+    let again = Bytes::from_vec(bytes.into_vec());
+    right && again.as_slice() == wanted
 }
 
 #[test]
-fn bytes_come_back(rt: HostRuntime) -> Result<(), Fail> {
-    let bytes = Bytes::from_slice(rt.alloc(), b"abc")?;
-    assert_eq!(rt; bytes.as_slice(), b"abc".as_slice());
-    let again = Bytes::from_vec(bytes.into_vec());
-    assert_eq!(rt; again.as_slice(), b"abc".as_slice());
-    Ok(())
+fn bytes_come_back(rt: HostRuntime) {
+    let right = match Bytes::from_slice(rt.alloc(), b"abc") {
+        Ok(bytes) => come_back(bytes, b"abc"),
+        Err(_) => false,
+    };
+    assert!(rt; right);
 }

@@ -2,8 +2,7 @@ ghost use Rattle.std.specs.Prelude.{◌≡◌, None, IfOk};
 
 use crate::calls::Call::{self, Alter, Ask, Fetch, Lose, Remove, Store};
 use crate::calls::{first_wrong, is_right};
-use crate::given::WEIGHT;
-use hail_field::Symbol;
+use crate::given::{WEIGHT, no_other, or_behind};
 use provider_model::{MemProvider, Provider, StoreFault, SureProvider};
 use provider_wire::*;
 use std::alloc::Global;
@@ -150,7 +149,7 @@ fn first_served_otherwise(alloc: Global, rows: &[Row]) -> Option<usize> {
     None
 }
 
-const ROWS: [Row; 7] = [
+static ROWS: [Row; 7] = [
     (&FETCH_SIX, &[0], ServeEnd::Done),
     (&STORE_AND_FETCH_FIVE, &FOUND_FIVE, ServeEnd::Done),
     (
@@ -166,7 +165,7 @@ const ROWS: [Row; 7] = [
 
 #[test]
 fn rows_are_served_in_any_pieces(rt: HostRuntime) {
-    assert_eq!(rt; first_served_otherwise(rt.alloc(), &ROWS), None);
+    no_other(&rt, first_served_otherwise(rt.alloc(), &ROWS));
 }
 
 /// Whether a server whose source fails at its second read answers what came before.
@@ -205,13 +204,9 @@ fn tells_its_providers_fault(alloc: Global) -> Option<bool> {
 
 #[test]
 fn faults_end_a_server(rt: HostRuntime) {
-    let alloc = rt.alloc();
-    let right = [
-        ends_with_its_source(alloc),
-        ends_with_its_sink(alloc),
-        tells_its_providers_fault(alloc),
-    ];
-    assert_eq!(rt; right, [Some(true); 3]);
+    assert!(rt; ends_with_its_source(rt.alloc()) == Some(true));
+    assert!(rt; ends_with_its_sink(rt.alloc()) == Some(true));
+    assert!(rt; tells_its_providers_fault(rt.alloc()) == Some(true));
 }
 
 /// A provider over a loop to one in memory whose listed calls fail.
@@ -226,12 +221,22 @@ fn is_broken<L: Link>(provider: &LinkProvider<L>) -> bool {
     provider.broken()
 }
 
-/// The first of these calls that is answered otherwise over a loop to a provider whose listed calls fail, and
-/// whether the link is out of step then.
-fn over_a_loop(alloc: Global, fails: &[u64], calls: &[Call]) -> Option<(Option<usize>, bool)> {
-    let mut provider = looped(alloc, fails)?;
-    let wrong = first_wrong(&mut provider, calls);
-    Some((wrong, is_broken(&provider)))
+/// The first of these calls that is answered otherwise. Where all go right and the link is out of step then,
+/// that is told behind the last.
+fn first_wrong_in_step(
+    provider: &mut LinkProvider<LoopLink<MemProvider>>,
+    calls: &[Call],
+) -> Option<usize> {
+    let wrong = first_wrong(provider, calls);
+    or_behind(wrong, calls.len(), !is_broken(provider))
+}
+
+/// The same over a loop to a provider whose listed calls fail.
+fn over_a_loop(alloc: Global, fails: &[u64], calls: &[Call]) -> Option<usize> {
+    match looped(alloc, fails) {
+        Some(mut provider) => first_wrong_in_step(&mut provider, calls),
+        None => Some(calls.len()),
+    }
 }
 
 const ZEROS: &[u128] = &[0; 6];
@@ -244,34 +249,28 @@ const SEVENS: &[u128] = &[7; 6];
 
 const SEVEN: &[u128] = &[7];
 
+static LOOP_CALLS: [Call; 16] = [
+    Store(1, 1, ZEROS, Ok(())),
+    Store(1, 4, ZEROS, Ok(())),
+    Store(1, 11, ZEROS, Ok(())),
+    Store(1, 3, ONE, Ok(())),
+    Ask(1, Ok(Some(WEIGHT))),
+    Ask(2, Ok(None)),
+    Ask(1, Err(Failed)),
+    Fetch(1, 3, SEVENS, Ok(true), ONE),
+    Fetch(1, 2, SEVENS, Ok(false), SEVENS),
+    Store(1, 2, ONE, Err(StoreFault::Failed)),
+    Alter(1, 3, 0, 9, true),
+    Lose(1, 4, true),
+    Lose(1, 4, false),
+    Fetch(1, 3, SEVENS, Ok(true), NINE_AND_ONE),
+    Remove(1, Ok(())),
+    Fetch(1, 3, SEVENS, Ok(false), SEVENS),
+];
+
 #[test]
 fn a_provider_is_reached_over_a_loop(rt: HostRuntime) {
-    let calls = [
-        Store(1, 1, ZEROS, Ok(())),
-        Store(1, 4, ZEROS, Ok(())),
-        Store(1, 11, ZEROS, Ok(())),
-        Store(1, 3, ONE, Ok(())),
-        Ask(1, Ok(Some(WEIGHT))),
-        Ask(2, Ok(None)),
-        Ask(1, Err(Failed)),
-        Fetch(1, 3, SEVENS, Ok(true), ONE),
-        Fetch(1, 2, SEVENS, Ok(false), SEVENS),
-        Store(1, 2, ONE, Err(StoreFault::Failed)),
-        Alter(1, 3, 0, Symbol(9), true),
-        Lose(1, 4, true),
-        Lose(1, 4, false),
-        Fetch(1, 3, SEVENS, Ok(true), NINE_AND_ONE),
-        Remove(1, Ok(())),
-        Fetch(1, 3, SEVENS, Ok(false), SEVENS),
-    ];
-    let seen = over_a_loop(rt.alloc(), &[6, 9], &calls);
-    assert_eq!(rt; seen, Some((None, false)));
-}
-
-/// A provider over a link that gives these answers.
-fn scripted(alloc: Global, answers: &[u8]) -> Option<LinkProvider<Script>> {
-    let link = Script::new(alloc, answers).ok()?;
-    LinkProvider::new(link).ok()
+    no_other(&rt, over_a_loop(rt.alloc(), &[6, 9], &LOOP_CALLS));
 }
 
 /// A call, and whether the link is out of step then.
@@ -288,35 +287,55 @@ fn first_wrong_step<L: Link>(provider: &mut LinkProvider<L>, steps: &[Step]) -> 
     None
 }
 
-/// Whether all of these steps go so over a link that gives these answers.
-fn go_right(alloc: Global, answers: &[u8], steps: &[Step]) -> Option<bool> {
-    let mut provider = scripted(alloc, answers)?;
-    Some(first_wrong_step(&mut provider, steps).is_none())
+/// A provider over a link that gives these answers.
+fn scripted(alloc: Global, answers: &[u8]) -> Option<LinkProvider<Script>> {
+    let link = Script::new(alloc, answers).ok()?;
+    LinkProvider::new(link).ok()
+}
+
+/// The same over a link that gives these answers; want of memory is told behind the last.
+fn over_a_script(alloc: Global, answers: &[u8], steps: &[Step]) -> Option<usize> {
+    match scripted(alloc, answers) {
+        Some(mut provider) => first_wrong_step(&mut provider, steps),
+        None => Some(steps.len()),
+    }
 }
 
 const FIVE: &[u128] = &[5];
 
-#[test]
-fn a_link_out_of_step_stays_broken(rt: HostRuntime) {
-    let steps = [
-        (Store(1, 0, FIVE, Err(StoreFault::Failed)), true),
-        (Remove(1, Err(Failed)), true),
-    ];
-    for answers in [[].as_slice(), [7].as_slice(), [0].as_slice()] {
-        let right = go_right(rt.alloc(), answers, &steps);
-        assert_eq!(rt; right, Some(true), "{answers:?}");
+static BROKEN_AT_ONCE: [Step; 2] = [
+    (Store(1, 0, FIVE, Err(StoreFault::Failed)), true),
+    (Remove(1, Err(Failed)), true),
+];
+
+/// Answers at the first of which a link is out of step.
+static NO_ANSWERS: [&[u8]; 3] = [&[], &[7], &[0]];
+
+/// The first of these answers at which a link goes on, or none.
+fn first_that_goes_on(alloc: Global) -> Option<usize> {
+    for place in 0..NO_ANSWERS.len() {
+        if over_a_script(alloc, NO_ANSWERS[place], &BROKEN_AT_ONCE).is_some() {
+            return Some(place);
+        }
     }
+    None
 }
 
 #[test]
+fn a_link_out_of_step_stays_broken(rt: HostRuntime) {
+    no_other(&rt, first_that_goes_on(rt.alloc()));
+}
+
+static BROKEN_AT_LAST: [Step; 5] = [
+    (Store(1, 0, FIVE, Err(StoreFault::Failed)), false),
+    (Store(1, 0, FIVE, Ok(())), false),
+    (Store(1, 0, FIVE, Err(StoreFault::Memory)), false),
+    (Fetch(1, 0, SEVEN, Ok(false), SEVEN), false),
+    (Fetch(1, 0, SEVEN, Err(Failed), SEVEN), true),
+];
+
+#[test]
 fn a_link_breaks_at_an_answer_that_there_is_not(rt: HostRuntime) {
-    let steps = [
-        (Store(1, 0, FIVE, Err(StoreFault::Failed)), false),
-        (Store(1, 0, FIVE, Ok(())), false),
-        (Store(1, 0, FIVE, Err(StoreFault::Memory)), false),
-        (Fetch(1, 0, SEVEN, Ok(false), SEVEN), false),
-        (Fetch(1, 0, SEVEN, Err(Failed), SEVEN), true),
-    ];
-    let right = go_right(rt.alloc(), &[2, 1, 3, 0, 1, 5], &steps);
-    assert_eq!(rt; right, Some(true));
+    let other = over_a_script(rt.alloc(), &[2, 1, 3, 0, 1, 5], &BROKEN_AT_LAST);
+    no_other(&rt, other);
 }
