@@ -6,21 +6,12 @@ use std::alloc::AllocError;
 /// The most bytes that a block's name has, with the slash before it.
 pub const NAME_BYTES: usize = 32;
 
-/// Appends the name of a block's file.
-fn push_name(out: &mut String, object: u64, stripe: u32) -> Result<(), AllocError>
-    ensures { OnOk result (string_bytes out.new ≡ string_bytes out.old ++ block_name object stripe) }
-{
-    write!(out, "{object}-{stripe}")
-}
-
 /// Puts the path of a block's file in place of what `out` holds.
 pub fn put_path(out: &mut String, folder: &str, object: u64, stripe: u32) -> Result<(), AllocError>
     ensures { OnOk result (string_bytes out.new ≡ folder.now ++ 47 ∷ block_name object stripe) }
 {
     out.clear();
-    out.push_str(folder)?;
-    out.push('/')?;
-    push_name(out, object, stripe)
+    write!(out, "{folder}/{object}-{stripe}")
 }
 
 /// Puts the path of a provider's folder in place of what `out` holds.
@@ -28,6 +19,5 @@ pub fn put_folder(out: &mut String, home: &str, provider: u8) -> Result<(), Allo
     ensures { OnOk result (string_bytes out.new ≡ home.now ++ provider_folder provider) }
 {
     out.clear();
-    out.push_str(home)?;
-    write!(out, "/provider-{provider}")
+    write!(out, "{home}/provider-{provider}")
 }

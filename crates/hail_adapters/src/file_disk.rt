@@ -39,6 +39,18 @@ impl<R: Files + Clone + Drop> FileDisk<R> {
         FileDisk::after(rt, alloc, path, None)
     }
 
+    /// The disk of a file and of folders before its first call.
+    fn of(file: KeptFile<R>, folders: Option<ProviderFolders<R>>) -> FileDisk<R>
+        ensures { result ≡ not_called }
+    {
+        FileDisk {
+            file,
+            folders,
+            faults: 0,
+            calls: 0,
+        }
+    }
+
     /// The same, where each write comes after the sync of these folders.
     pub fn after(
         rt: &R,
@@ -48,23 +60,30 @@ impl<R: Files + Clone + Drop> FileDisk<R> {
     ) -> Result<FileDisk<R>, Memory>
         ensures { IfOk result (λ disk. disk ≡ not_called) }
     {
-        Ok(FileDisk {
-            file: KeptFile::new(rt, alloc, path)?,
-            folders,
-            faults: 0,
-            calls: 0,
-        })
+        match KeptFile::new(rt, alloc, path) {
+            Ok(file) => Ok(FileDisk::of(file, folders)),
+            Err(memory) => Err(memory),
+        }
+    }
+
+    /// Brings the folders' names to the medium.
+    fn sync_folders(&mut self) -> io::Result<()>
+        ensures { self.new ≡ self.old }
+    {
+        match &mut self.folders {
+            Some(folders) => folders.sync(),
+            None => Ok(()),
+        }
     }
 
     /// Writes to the file, behind the folders' names.
     fn write(&mut self, at: u64, bytes: &[u8]) -> io::Result<()>
         ensures { self.new ≡ self.old }
     {
-        if let Some(folders) = &mut self.folders {
-            if let Err(error) = folders.sync() {
-                self.file.give_up();
-                return Err(error);
-            }
+        let synced = self.sync_folders();
+        if synced.is_err() {
+            self.file.give_up();
+            return synced;
         }
         self.file.write_at(at, bytes)
     }

@@ -65,6 +65,21 @@ impl Unsynced {
         }
     }
 
+    /// Whether a provider's folder is marked.
+    fn is_marked(&self, provider: u8) -> bool {
+        match self.marks.get(usize::from(provider)) {
+            Some(mark) => mark.is_set.get(),
+            None => false,
+        }
+    }
+
+    /// Takes back the mark of a provider's folder.
+    fn unmark(&self, provider: u8) {
+        if let Some(mark) = self.marks.get(usize::from(provider)) {
+            mark.is_set.set(false);
+        }
+    }
+
     /// The same marks, for another holder.
     fn share(&self, alloc: Global) -> Result<Unsynced, Memory> {
         let mut marks = Vec::new(alloc);
@@ -102,35 +117,33 @@ impl<R: Files + Clone + Drop> ProviderFolders<R> {
         })
     }
 
-    /// Syncs a folder; one that is gone has lost its blocks, and nothing is left to sync.
-    fn sync_one(&mut self, provider: u8) -> io::Result<()> {
+    /// Writes the path of a provider's folder.
+    fn put_path(&mut self, provider: u8) -> Result<(), AllocError> {
         put_folder(&mut self.path, &self.home, provider)?;
-        self.path.push('/')?;
-        found(sync_folder(&self.rt, &self.path))?;
+        self.path.push('/')
+    }
+
+    /// Syncs the folder at the path; one that is gone has lost its blocks, and nothing is left to sync.
+    fn sync_path(&self) -> io::Result<()> {
+        match found(sync_folder(&self.rt, &self.path)) {
+            Ok(_) => Ok(()),
+            Err(error) => Err(error),
+        }
+    }
+
+    /// Syncs a provider's folder, and takes back its mark.
+    fn sync_one(&mut self, provider: u8) -> io::Result<()> {
+        self.put_path(provider)?;
+        self.sync_path()?;
+        self.unsynced.unmark(provider);
         Ok(())
-    }
-
-    /// Whether a provider's folder is marked.
-    fn is_marked(&self, provider: u8) -> bool {
-        match self.unsynced.marks.get(usize::from(provider)) {
-            Some(mark) => mark.is_set.get(),
-            None => false,
-        }
-    }
-
-    /// Takes back the mark of a provider's folder.
-    fn unmark(&self, provider: u8) {
-        if let Some(mark) = self.unsynced.marks.get(usize::from(provider)) {
-            mark.is_set.set(false);
-        }
     }
 
     /// Brings to the medium the names of all blocks that were stored.
     pub fn sync(&mut self) -> io::Result<()> {
         for provider in 0..16u8 {
-            if self.is_marked(provider) {
+            if self.unsynced.is_marked(provider) {
                 self.sync_one(provider)?;
-                self.unmark(provider);
             }
         }
         Ok(())
