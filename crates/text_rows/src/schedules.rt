@@ -1,4 +1,4 @@
-use crate::given::KEY;
+use crate::given::{KEY, no_other};
 use record_codec::Setup;
 use schedule_text::*;
 use std::alloc::{AllocError, Global};
@@ -123,11 +123,15 @@ fn reads_as(alloc: Global, text: &[u8], wanted: &str) -> bool {
     }
 }
 
-/// The first of these texts that is read as something else than what stands behind it, or none.
-fn first_misread<'a>(alloc: Global, rows: &[(&'a str, &'a str)]) -> Option<&'a str> {
-    for (text, wanted) in rows {
+/// A text, and what it is read as.
+type Row = (&'static str, &'static str);
+
+/// The place of the first of these texts that is read otherwise, if any.
+fn first_misread(alloc: Global, rows: &[Row]) -> Option<usize> {
+    for place in 0..rows.len() {
+        let (text, wanted) = rows[place];
         if !reads_as(alloc, text.as_bytes(), wanted) {
-            return Some(*text);
+            return Some(place);
         }
     }
     None
@@ -149,131 +153,151 @@ fn reads_with_key(alloc: Global, line: &str, more: &str, wanted: &str) -> bool {
 /// The fault of a text whose first line is bad.
 const BAD: &str = "bad line 1";
 
-/// The first of these lines that is read, or none.
-fn first_read<'a>(alloc: Global, lines: &[&'a str]) -> Option<&'a str> {
-    for line in lines {
-        if !reads_as(alloc, line.as_bytes(), BAD) {
-            return Some(*line);
+/// The place of the first of these lines that is read, if any.
+fn first_read(alloc: Global, lines: &[&str]) -> Option<usize> {
+    for place in 0..lines.len() {
+        if !reads_as(alloc, lines[place].as_bytes(), BAD) {
+            return Some(place);
+        }
+    }
+    None
+}
+
+static LINES: [Row; 19] = [
+    ("reopen", "reopen;"),
+    ("list", "list;"),
+    ("begin put a/b 00", "put 612f62 00;"),
+    ("begin put a 00fFAb", "put 61 00ffab;"),
+    ("begin put put -", "put 707574 -;"),
+    ("begin get #", "get 23;"),
+    ("begin get é\t", "get c3a909;"),
+    ("begin drop trial", "drop 747269616c;"),
+    ("begin audit", "audit;"),
+    ("begin repair", "repair;"),
+    ("step 0", "step 0;"),
+    ("step 4294967295", "step 4294967295;"),
+    ("run 1", "run 1;"),
+    ("alter 0 1 0 0 5", "alter 0 1 0 0 5;"),
+    (
+        "alter 4294967295 18446744073709551615 4294967295 4294967295 340282366920938463463374607431768211455",
+        "alter 4294967295 18446744073709551615 4294967295 4294967295 340282366920938463463374607431768211455;",
+    ),
+    ("lose 15 2 3", "lose 15 2 3;"),
+    ("stop -", "stop -;"),
+    ("stop 0aFF", "stop 0aff;"),
+    ("  step   7  ", "step 7;"),
+];
+
+#[test]
+fn each_line_is_read(rt: HostRuntime) {
+    no_other(&rt, first_misread(rt.alloc(), &LINES));
+}
+
+/// What an `init` is read as whose key is the one that stands here.
+const SET_UP: &str =
+    "init Setup { n: 6, l: 3, b: 1, profile: 2, rounds: 4, picks: 8, tolerance: 65535 } 000102030405060708090a0b0c0d0e0f101112131415161718191a1b1c1d1eff;";
+
+#[test]
+fn an_init_is_read(rt: HostRuntime) {
+    let right = reads_with_key(rt.alloc(), "init 6 3 1 2 4 8 65535", "", SET_UP);
+    assert!(rt; right);
+}
+
+static CUTS: [Row; 16] = [
+    ("", ""),
+    ("\n", ""),
+    ("\r\n \r\n", ""),
+    ("reopen\nlist\n", "reopen;list;"),
+    ("reopen\r\nlist\r\n", "reopen;list;"),
+    ("reopen \r\n\n# fly\r\n  #\nlist", "reopen;list;"),
+    ("#\r", ""),
+    ("reopen\r\r\n", "bad line 1"),
+    ("reopen\nlist\r", "bad line 2"),
+    ("begin get a\r \r\n", "get 610d;"),
+    ("\r\r\n", "bad line 1"),
+    ("reopen\nlist\nfly\n", "bad line 3"),
+    ("# one\n\nfly\nflee\n", "bad line 3"),
+    ("reopen list", "bad line 1"),
+    ("reopen\tlist", "bad line 1"),
+    ("reopen\n\tlist", "bad line 2"),
+];
+
+#[test]
+fn lines_are_cut_at_newlines(rt: HostRuntime) {
+    no_other(&rt, first_misread(rt.alloc(), &CUTS));
+}
+
+static NO_LINES: [&str; 42] = [
+    "fly",
+    "Reopen",
+    "init",
+    "init 6 3 1 2 4 8 0",
+    "init 6 3 1 2 4 8 0 00",
+    "init 6 3 1 2 4 8 0 -",
+    "step",
+    "step -1",
+    "step +1",
+    "step 01",
+    "step 00",
+    "step 1x",
+    "step 4294967296",
+    "step 1 2",
+    "run",
+    "run a",
+    "run 340282366920938463463374607431768211456",
+    "begin",
+    "begin put",
+    "begin put a",
+    "begin put a 0",
+    "begin put a 0g",
+    "begin put a 00 00",
+    "begin put a --",
+    "begin get",
+    "begin get a b",
+    "begin drop",
+    "begin audit 1",
+    "begin repair 1",
+    "begin scrub",
+    "alter 0 1 0 0",
+    "alter 0 1 0 0 5 6",
+    "alter 4294967296 1 0 0 5",
+    "alter 0 18446744073709551616 0 0 5",
+    "alter 0 1 0 0 340282366920938463463374607431768211456",
+    "alter 0 1 0 0 -",
+    "lose 0 1",
+    "lose 0 1 0 0",
+    "stop",
+    "stop 0",
+    "stop 00 00",
+    "list 1",
+];
+
+#[test]
+fn other_lines_are_bad(rt: HostRuntime) {
+    no_other(&rt, first_read(rt.alloc(), &NO_LINES));
+    assert!(rt; reads_as(rt.alloc(), b"step \xff", BAD));
+}
+
+/// Lines with the key behind them, and more, that are bad.
+static NO_SETUPS: [Row; 4] = [
+    ("init 256 3 1 2 4 8 0", ""),
+    ("init 6 3 1 2 4 8 65536", ""),
+    ("init 6 3 1 2 4 8", ""),
+    ("init 6 3 1 2 4 8 0", "00"),
+];
+
+/// The place of the first of these lines that is read, if any.
+fn first_set_up(alloc: Global, rows: &[Row]) -> Option<usize> {
+    for place in 0..rows.len() {
+        let (line, more) = rows[place];
+        if !reads_with_key(alloc, line, more, BAD) {
+            return Some(place);
         }
     }
     None
 }
 
 #[test]
-fn each_line_is_read(rt: HostRuntime) {
-    let rows = [
-        ("reopen", "reopen;"),
-        ("list", "list;"),
-        ("begin put a/b 00", "put 612f62 00;"),
-        ("begin put a 00fFAb", "put 61 00ffab;"),
-        ("begin put put -", "put 707574 -;"),
-        ("begin get #", "get 23;"),
-        ("begin get é\t", "get c3a909;"),
-        ("begin drop trial", "drop 747269616c;"),
-        ("begin audit", "audit;"),
-        ("begin repair", "repair;"),
-        ("step 0", "step 0;"),
-        ("step 4294967295", "step 4294967295;"),
-        ("run 1", "run 1;"),
-        ("alter 0 1 0 0 5", "alter 0 1 0 0 5;"),
-        (
-            "alter 4294967295 18446744073709551615 4294967295 4294967295 340282366920938463463374607431768211455",
-            "alter 4294967295 18446744073709551615 4294967295 4294967295 340282366920938463463374607431768211455;",
-        ),
-        ("lose 15 2 3", "lose 15 2 3;"),
-        ("stop -", "stop -;"),
-        ("stop 0aFF", "stop 0aff;"),
-        ("  step   7  ", "step 7;"),
-    ];
-    assert_eq!(rt; first_misread(rt.alloc(), &rows), None);
-    let wanted =
-        "init Setup { n: 6, l: 3, b: 1, profile: 2, rounds: 4, picks: 8, tolerance: 65535 } 000102030405060708090a0b0c0d0e0f101112131415161718191a1b1c1d1eff;";
-    let right = reads_with_key(rt.alloc(), "init 6 3 1 2 4 8 65535", "", wanted);
-    assert_eq!(rt; right, true);
-}
-
-#[test]
-fn lines_are_cut_at_newlines(rt: HostRuntime) {
-    let rows = [
-        ("", ""),
-        ("\n", ""),
-        ("\r\n \r\n", ""),
-        ("reopen\nlist\n", "reopen;list;"),
-        ("reopen\r\nlist\r\n", "reopen;list;"),
-        ("reopen \r\n\n# fly\r\n  #\nlist", "reopen;list;"),
-        ("#\r", ""),
-        ("reopen\r\r\n", "bad line 1"),
-        ("reopen\nlist\r", "bad line 2"),
-        ("begin get a\r \r\n", "get 610d;"),
-        ("\r\r\n", "bad line 1"),
-        ("reopen\nlist\nfly\n", "bad line 3"),
-        ("# one\n\nfly\nflee\n", "bad line 3"),
-        ("reopen list", "bad line 1"),
-        ("reopen\tlist", "bad line 1"),
-        ("reopen\n\tlist", "bad line 2"),
-    ];
-    assert_eq!(rt; first_misread(rt.alloc(), &rows), None);
-}
-
-#[test]
-fn other_lines_are_bad(rt: HostRuntime) {
-    let lines = [
-        "fly",
-        "Reopen",
-        "init",
-        "init 6 3 1 2 4 8 0",
-        "init 6 3 1 2 4 8 0 00",
-        "init 6 3 1 2 4 8 0 -",
-        "step",
-        "step -1",
-        "step +1",
-        "step 01",
-        "step 00",
-        "step 1x",
-        "step 4294967296",
-        "step 1 2",
-        "run",
-        "run a",
-        "run 340282366920938463463374607431768211456",
-        "begin",
-        "begin put",
-        "begin put a",
-        "begin put a 0",
-        "begin put a 0g",
-        "begin put a 00 00",
-        "begin put a --",
-        "begin get",
-        "begin get a b",
-        "begin drop",
-        "begin audit 1",
-        "begin repair 1",
-        "begin scrub",
-        "alter 0 1 0 0",
-        "alter 0 1 0 0 5 6",
-        "alter 4294967296 1 0 0 5",
-        "alter 0 18446744073709551616 0 0 5",
-        "alter 0 1 0 0 340282366920938463463374607431768211456",
-        "alter 0 1 0 0 -",
-        "lose 0 1",
-        "lose 0 1 0 0",
-        "stop",
-        "stop 0",
-        "stop 00 00",
-        "list 1",
-    ];
-    assert_eq!(rt; first_read(rt.alloc(), &lines), None);
-    assert_eq!(rt; reads_as(rt.alloc(), b"step \xff", BAD), true);
-}
-
-#[test]
 fn other_setups_are_bad(rt: HostRuntime) {
-    for (line, more) in [
-        ("init 256 3 1 2 4 8 0", ""),
-        ("init 6 3 1 2 4 8 65536", ""),
-        ("init 6 3 1 2 4 8", ""),
-        ("init 6 3 1 2 4 8 0", "00"),
-    ] {
-        let right = reads_with_key(rt.alloc(), line, more, BAD);
-        assert_eq!(rt; right, true, "{line}");
-    }
+    no_other(&rt, first_set_up(rt.alloc(), &NO_SETUPS));
 }

@@ -1,4 +1,4 @@
-use crate::given::{SETUP, table_of};
+use crate::given::{SETUP, TWO_FILES, is_line, no_other, table_of};
 use hail_client::ReopenFault;
 use hail_replay::*;
 use record_codec::Counts;
@@ -6,190 +6,303 @@ use std::alloc::Global;
 use stream_model::{Bytes, Memory};
 use vault::{Answer, BeginFault, InitFault, StartFault, Turn};
 
-/// Whether a line is told, and is this.
-fn is_line(line: Result<Bytes, Memory>, wanted: &str) -> bool {
-    match line {
-        Ok(line) => line.as_slice() == wanted.as_bytes(),
-        Err(_) => false,
+/// What a step of a job answers.
+#[derive(Clone, Copy)]
+enum Step {
+    More,
+    Waiting(u32),
+    NoSuchJob,
+    MustReopen,
+}
+
+/// How a job ends.
+#[derive(Clone, Copy)]
+enum End {
+    Put,
+    Dropped,
+    /// An audit with these counts: its number, and how many rounds were undecided.
+    Audited(u64, u32),
+    Repaired(u64),
+    Lost(u32, u64),
+    ProviderFault(u32),
+    DiskFault,
+    Memory,
+}
+
+/// What came of an event.
+#[derive(Clone, Copy)]
+enum Event {
+    Inited,
+    Reopened,
+    Begun,
+    Stepped,
+    Replaced,
+    Stopped,
+}
+
+/// What is told by a line or several.
+#[derive(Clone, Copy)]
+enum Line {
+    Begin(Option<Result<u32, BeginFault>>),
+    Init(Result<(), InitFault>),
+    Reopen(Result<(), ReopenFault>),
+    /// A step, or none where no vault is open.
+    Step(Option<Step>),
+    End(End),
+    /// The end of a get with these bytes.
+    Got(&'static [u8]),
+    /// The files of no table.
+    NoNames,
+    /// The files of a table of these records, and the same as an event.
+    Names(&'static [&'static [u8]]),
+    NamesAsEvent(&'static [&'static [u8]]),
+    Came(Event),
+}
+
+/// The counts of the audit.
+const COUNTS: Counts = Counts {
+    n: 6,
+    by: [4, 0, 0, 0, 0, u32::MAX, 0, 0, 0, 0, 0, 0, 0, 0, 0, 0],
+};
+
+fn turn_of(step: Step) -> Turn {
+    match step {
+        Step::More => Turn::More,
+        Step::Waiting(holder) => Turn::Waiting { holder },
+        Step::NoSuchJob => Turn::NoSuchJob,
+        Step::MustReopen => Turn::MustReopen,
     }
 }
 
-/// Whether a begin tells this.
-fn begin_tells(alloc: Global, answer: Option<Result<u32, BeginFault>>, wanted: &str) -> bool {
-    is_line(begin_line(alloc, answer), wanted)
+fn step_told(alloc: Global, step: Option<Step>) -> Result<Bytes, Memory> {
+    match step {
+        Some(step) => step_line(alloc, &Some(turn_of(step))),
+        None => step_line(alloc, &None),
+    }
 }
 
-/// Whether a set-up tells this.
-fn init_tells(alloc: Global, answer: Result<(), InitFault>, wanted: &str) -> bool {
-    is_line(init_line(alloc, answer), wanted)
+fn answer_of(end: End) -> Answer {
+    match end {
+        End::Put => Answer::Put,
+        End::Dropped => Answer::Dropped,
+        End::Audited(number, undecided) => Answer::Audited {
+            number,
+            undecided,
+            counts: COUNTS,
+        },
+        End::Repaired(number) => Answer::Repaired { number },
+        End::Lost(stripe, row) => Answer::Lost { stripe, row },
+        End::ProviderFault(provider) => Answer::ProviderFault { provider },
+        End::DiskFault => Answer::DiskFault,
+        End::Memory => Answer::Memory,
+    }
 }
 
-/// Whether a reopening tells this.
-fn reopen_tells(alloc: Global, answer: Result<(), ReopenFault>, wanted: &str) -> bool {
-    is_line(reopen_line(alloc, answer), wanted)
+fn end_told(alloc: Global, end: End) -> Result<Bytes, Memory> {
+    answer_line(alloc, &answer_of(end))
 }
 
-/// Whether a step tells this.
-fn step_tells(alloc: Global, answer: &Option<Turn>, wanted: &str) -> bool {
-    is_line(step_line(alloc, answer), wanted)
+fn got_told(alloc: Global, bytes: &[u8]) -> Result<Bytes, Memory> {
+    let bytes = Bytes::from_slice(alloc, bytes)?;
+    answer_line(alloc, &Answer::Got { bytes })
 }
 
-/// Whether the end of a job tells this.
-fn end_tells(alloc: Global, answer: &Answer, wanted: &str) -> bool {
-    is_line(answer_line(alloc, answer), wanted)
+fn names_told(alloc: Global, records: &[&[u8]]) -> Result<Bytes, Memory> {
+    match table_of(alloc, records) {
+        Some(table) => names_lines(alloc, Some(&table)),
+        None => Err(Memory),
+    }
 }
 
-/// Whether the end of a get with these bytes tells this.
-fn get_tells(alloc: Global, bytes: &[u8], wanted: &str) -> Option<bool> {
-    let bytes = Bytes::from_slice(alloc, bytes).ok()?;
-    Some(end_tells(alloc, &Answer::Got { bytes }, wanted))
+fn names_told_as_event(alloc: Global, records: &[&[u8]]) -> Result<Bytes, Memory> {
+    match table_of(alloc, records) {
+        Some(table) => came_lines(alloc, &Came::Named(Some(&table))),
+        None => Err(Memory),
+    }
 }
 
-/// Whether the list of the files of a table of these records tells this.
-fn list_tells(alloc: Global, records: &[&[u8]], wanted: &str) -> Option<bool> {
-    let table = table_of(alloc, records)?;
-    Some(is_line(names_lines(alloc, Some(&table)), wanted))
+fn came_of(event: Event) -> Came<'static> {
+    match event {
+        Event::Inited => Came::Inited(Ok(())),
+        Event::Reopened => Came::Reopened(Ok(())),
+        Event::Begun => Came::Begun(None),
+        Event::Stepped => Came::Stepped(Some(Turn::More)),
+        Event::Replaced => Came::Replaced(true),
+        Event::Stopped => Came::Stopped,
+    }
 }
 
-/// Whether what came of an event tells this.
-fn event_tells(alloc: Global, came: &Came<'_>, wanted: &str) -> bool {
-    is_line(came_lines(alloc, came), wanted)
+fn event_told(alloc: Global, event: Event) -> Result<Bytes, Memory> {
+    came_lines(alloc, &came_of(event))
 }
 
-/// Whether a list of the files of a table of these records tells this as an event.
-fn list_tells_as_event(alloc: Global, records: &[&[u8]], wanted: &str) -> Option<bool> {
-    let table = table_of(alloc, records)?;
-    Some(event_tells(alloc, &Came::Named(Some(&table)), wanted))
+/// The line or the lines that are told.
+fn told(alloc: Global, what: Line) -> Result<Bytes, Memory> {
+    match what {
+        Line::Begin(answer) => begin_line(alloc, answer),
+        Line::Init(answer) => init_line(alloc, answer),
+        Line::Reopen(answer) => reopen_line(alloc, answer),
+        Line::Step(step) => step_told(alloc, step),
+        Line::End(end) => end_told(alloc, end),
+        Line::Got(bytes) => got_told(alloc, bytes),
+        Line::NoNames => names_lines(alloc, None),
+        Line::Names(records) => names_told(alloc, records),
+        Line::NamesAsEvent(records) => names_told_as_event(alloc, records),
+        Line::Came(event) => event_told(alloc, event),
+    }
 }
+
+/// What is told, and its text.
+type Row = (Line, &'static str);
+
+/// The place of the first row that is told otherwise, if any.
+fn first_other(alloc: Global, rows: &[Row]) -> Option<usize> {
+    for place in 0..rows.len() {
+        let (what, wanted) = rows[place];
+        if !is_line(told(alloc, what), wanted) {
+            return Some(place);
+        }
+    }
+    None
+}
+
+static BEGINS: [Row; 13] = [
+    (Line::Begin(None), "closed\n"),
+    (Line::Begin(Some(Ok(1))), "job 1\n"),
+    (Line::Begin(Some(Ok(u32::MAX))), "job 4294967295\n"),
+    (
+        Line::Begin(Some(Err(BeginFault::MustReopen))),
+        "refused MustReopen\n",
+    ),
+    (Line::Begin(Some(Err(BeginFault::Busy))), "refused Busy\n"),
+    (
+        Line::Begin(Some(Err(BeginFault::BadName))),
+        "refused BadName\n",
+    ),
+    (
+        Line::Begin(Some(Err(BeginFault::TooLong))),
+        "refused TooLong\n",
+    ),
+    (
+        Line::Begin(Some(Err(BeginFault::NoSuchName))),
+        "refused NoSuchName\n",
+    ),
+    (
+        Line::Begin(Some(Err(BeginFault::TooManyFiles))),
+        "refused TooManyFiles\n",
+    ),
+    (
+        Line::Begin(Some(Err(BeginFault::RepairDue))),
+        "refused RepairDue\n",
+    ),
+    (
+        Line::Begin(Some(Err(BeginFault::NothingDue))),
+        "refused NothingDue\n",
+    ),
+    (
+        Line::Begin(Some(Err(BeginFault::JournalFull))),
+        "refused JournalFull\n",
+    ),
+    (
+        Line::Begin(Some(Err(BeginFault::Memory))),
+        "refused Memory\n",
+    ),
+];
 
 #[test]
 fn a_begin_tells_its_job_or_why_not(rt: HostRuntime) {
-    for (answer, wanted) in [
-        (None, "closed\n"),
-        (Some(Ok(1)), "job 1\n"),
-        (Some(Ok(u32::MAX)), "job 4294967295\n"),
-        (Some(Err(BeginFault::MustReopen)), "refused MustReopen\n"),
-        (Some(Err(BeginFault::Busy)), "refused Busy\n"),
-        (Some(Err(BeginFault::BadName)), "refused BadName\n"),
-        (Some(Err(BeginFault::TooLong)), "refused TooLong\n"),
-        (Some(Err(BeginFault::NoSuchName)), "refused NoSuchName\n"),
-        (
-            Some(Err(BeginFault::TooManyFiles)),
-            "refused TooManyFiles\n",
-        ),
-        (Some(Err(BeginFault::RepairDue)), "refused RepairDue\n"),
-        (Some(Err(BeginFault::NothingDue)), "refused NothingDue\n"),
-        (Some(Err(BeginFault::JournalFull)), "refused JournalFull\n"),
-        (Some(Err(BeginFault::Memory)), "refused Memory\n"),
-    ] {
-        let right = begin_tells(rt.alloc(), answer, wanted);
-        assert_eq!(rt; right, true, "{wanted}");
-    }
+    no_other(&rt, first_other(rt.alloc(), &BEGINS));
 }
+
+static INITS: [Row; 6] = [
+    (Line::Init(Ok(())), "ready\n"),
+    (Line::Init(Err(InitFault::BadSetup)), "refused BadSetup\n"),
+    (Line::Init(Err(InitFault::DiskFault)), "refused DiskFault\n"),
+    (
+        Line::Init(Err(InitFault::BadJournal { at: u64::MAX })),
+        "refused BadJournal 18446744073709551615\n",
+    ),
+    (Line::Init(Err(InitFault::Already)), "refused Already\n"),
+    (Line::Init(Err(InitFault::Memory)), "refused Memory\n"),
+];
 
 #[test]
 fn an_init_tells_why_not(rt: HostRuntime) {
-    for (answer, wanted) in [
-        (Ok(()), "ready\n"),
-        (Err(InitFault::BadSetup), "refused BadSetup\n"),
-        (Err(InitFault::DiskFault), "refused DiskFault\n"),
-        (
-            Err(InitFault::BadJournal { at: u64::MAX }),
-            "refused BadJournal 18446744073709551615\n",
-        ),
-        (Err(InitFault::Already), "refused Already\n"),
-        (Err(InitFault::Memory), "refused Memory\n"),
-    ] {
-        let right = init_tells(rt.alloc(), answer, wanted);
-        assert_eq!(rt; right, true, "{wanted}");
-    }
+    no_other(&rt, first_other(rt.alloc(), &INITS));
 }
+
+static REOPENINGS: [Row; 6] = [
+    (Line::Reopen(Ok(())), "opened\n"),
+    (
+        Line::Reopen(Err(ReopenFault::TooFewProviders)),
+        "refused TooFewProviders\n",
+    ),
+    (
+        Line::Reopen(Err(ReopenFault::NotOpened(StartFault::DiskFault))),
+        "refused DiskFault\n",
+    ),
+    (
+        Line::Reopen(Err(ReopenFault::NotOpened(StartFault::NotSetUp))),
+        "refused NotSetUp\n",
+    ),
+    (
+        Line::Reopen(Err(ReopenFault::NotOpened(StartFault::BadJournal { at: 9 }))),
+        "refused BadJournal 9\n",
+    ),
+    (
+        Line::Reopen(Err(ReopenFault::NotOpened(StartFault::Memory))),
+        "refused Memory\n",
+    ),
+];
 
 #[test]
 fn a_reopening_tells_why_not(rt: HostRuntime) {
-    for (answer, wanted) in [
-        (Ok(()), "opened\n"),
-        (
-            Err(ReopenFault::TooFewProviders),
-            "refused TooFewProviders\n",
-        ),
-        (
-            Err(ReopenFault::NotOpened(StartFault::DiskFault)),
-            "refused DiskFault\n",
-        ),
-        (
-            Err(ReopenFault::NotOpened(StartFault::NotSetUp)),
-            "refused NotSetUp\n",
-        ),
-        (
-            Err(ReopenFault::NotOpened(StartFault::BadJournal { at: 9 })),
-            "refused BadJournal 9\n",
-        ),
-        (
-            Err(ReopenFault::NotOpened(StartFault::Memory)),
-            "refused Memory\n",
-        ),
-    ] {
-        let right = reopen_tells(rt.alloc(), answer, wanted);
-        assert_eq!(rt; right, true, "{wanted}");
-    }
+    no_other(&rt, first_other(rt.alloc(), &REOPENINGS));
 }
+
+static STEPS: [Row; 5] = [
+    (Line::Step(None), "closed\n"),
+    (Line::Step(Some(Step::More)), "more\n"),
+    (Line::Step(Some(Step::Waiting(3))), "waiting 3\n"),
+    (Line::Step(Some(Step::NoSuchJob)), "refused NoSuchJob\n"),
+    (Line::Step(Some(Step::MustReopen)), "refused MustReopen\n"),
+];
 
 #[test]
 fn a_step_tells_whether_its_job_goes_on(rt: HostRuntime) {
-    let rows = [
-        (None, "closed\n"),
-        (Some(Turn::More), "more\n"),
-        (Some(Turn::Waiting { holder: 3 }), "waiting 3\n"),
-        (Some(Turn::NoSuchJob), "refused NoSuchJob\n"),
-        (Some(Turn::MustReopen), "refused MustReopen\n"),
-    ];
-    for (answer, wanted) in rows.iter() {
-        let right = step_tells(rt.alloc(), answer, wanted);
-        assert_eq!(rt; right, true, "{wanted}");
-    }
+    no_other(&rt, first_other(rt.alloc(), &STEPS));
 }
+
+static ENDS: [Row; 8] = [
+    (Line::End(End::Put), "put\n"),
+    (Line::End(End::Dropped), "dropped\n"),
+    (
+        Line::End(End::Audited(1, 2)),
+        "audited 1 undecided 2 counts 4 0 0 0 0 4294967295\n",
+    ),
+    (Line::End(End::Repaired(1)), "repaired 1\n"),
+    (Line::End(End::Lost(56, 7)), "lost 56 7\n"),
+    (Line::End(End::ProviderFault(3)), "provider fault 3\n"),
+    (Line::End(End::DiskFault), "disk fault\n"),
+    (Line::End(End::Memory), "memory\n"),
+];
 
 #[test]
 fn a_job_tells_how_it_ended(rt: HostRuntime) {
-    let mut counts = Counts { n: 6, by: [0; 16] };
-    counts.by[0] = 4;
-    counts.by[5] = u32::MAX;
-    let rows = [
-        (Answer::Put, "put\n"),
-        (Answer::Dropped, "dropped\n"),
-        (
-            Answer::Audited {
-                number: 1,
-                undecided: 2,
-                counts,
-            },
-            "audited 1 undecided 2 counts 4 0 0 0 0 4294967295\n",
-        ),
-        (Answer::Repaired { number: 1 }, "repaired 1\n"),
-        (Answer::Lost { stripe: 56, row: 7 }, "lost 56 7\n"),
-        (Answer::ProviderFault { provider: 3 }, "provider fault 3\n"),
-        (Answer::DiskFault, "disk fault\n"),
-        (Answer::Memory, "memory\n"),
-    ];
-    for (answer, wanted) in rows.iter() {
-        let right = end_tells(rt.alloc(), answer, wanted);
-        assert_eq!(rt; right, true, "{wanted}");
-    }
+    no_other(&rt, first_other(rt.alloc(), &ENDS));
 }
+
+static GETS: [Row; 2] = [
+    (Line::Got(b""), "got -\n"),
+    (
+        Line::Got(b"\x00\x09\x0a\x9f\xf0hail\xff"),
+        "got 00090a9ff06861696cff\n",
+    ),
+];
 
 #[test]
 fn a_get_tells_its_bytes_as_digits(rt: HostRuntime) {
-    for (bytes, wanted) in [
-        (b"".as_slice(), "got -\n"),
-        (
-            b"\x00\x09\x0a\x9f\xf0hail\xff".as_slice(),
-            "got 00090a9ff06861696cff\n",
-        ),
-    ] {
-        let right = get_tells(rt.alloc(), bytes, wanted);
-        assert_eq!(rt; right, Some(true), "{wanted}");
-    }
+    no_other(&rt, first_other(rt.alloc(), &GETS));
 }
 
 /// The line of a get of 2^22 bytes of a7.
@@ -213,45 +326,35 @@ fn the_largest_file_is_told(rt: HostRuntime) {
     assert_eq!(rt; largest_seen(rt.alloc()), Some((8_388_613, true, true)));
 }
 
+static NAMES: [Row; 3] = [
+    (Line::NoNames, "closed\n"),
+    (Line::Names(&[&SETUP]), "names 0\n"),
+    (Line::Names(&TWO_FILES), "names 2\nZ. 256\nab 100\n"),
+];
+
 #[test]
 fn files_are_listed_behind_their_number(rt: HostRuntime) {
-    let closed = is_line(names_lines(rt.alloc(), None), "closed\n");
-    assert_eq!(rt; closed, true);
-    let records: [&[u8]; 5] = [
-        &SETUP,
-        &[2, 1, 0, 0, 0, 0, 0, 0, 0, 2, 97, 98],
-        &[3, 1, 0, 0, 0, 0, 0, 0, 0, 100, 0, 0, 0],
-        &[2, 2, 0, 0, 0, 0, 0, 0, 0, 2, 90, 46],
-        &[3, 2, 0, 0, 0, 0, 0, 0, 0, 0, 1, 0, 0],
-    ];
-    let right = [
-        list_tells(rt.alloc(), &records[..1], "names 0\n"),
-        list_tells(rt.alloc(), &records, "names 2\nZ. 256\nab 100\n"),
-    ];
-    assert_eq!(rt; right, [Some(true); 2]);
+    no_other(&rt, first_other(rt.alloc(), &NAMES));
 }
 
 #[test]
 fn changes_and_stops_have_fixed_lines(rt: HostRuntime) {
-    assert_eq!(rt; replace_line(true), b"replaced\n".as_slice());
-    assert_eq!(rt; replace_line(false), b"nothing held\n".as_slice());
-    assert_eq!(rt; stop_line(), b"stopped\n".as_slice());
+    assert!(rt; replace_line(true) == b"replaced\n".as_slice());
+    assert!(rt; replace_line(false) == b"nothing held\n".as_slice());
+    assert!(rt; stop_line() == b"stopped\n".as_slice());
 }
+
+static EVENTS: [Row; 7] = [
+    (Line::Came(Event::Inited), "ready\n"),
+    (Line::Came(Event::Reopened), "opened\n"),
+    (Line::Came(Event::Begun), "closed\n"),
+    (Line::Came(Event::Stepped), "more\n"),
+    (Line::Came(Event::Replaced), "replaced\n"),
+    (Line::Came(Event::Stopped), "stopped\n"),
+    (Line::NamesAsEvent(&[&SETUP]), "names 0\n"),
+];
 
 #[test]
 fn each_kind_of_event_has_its_line(rt: HostRuntime) {
-    let rows = [
-        (Came::Inited(Ok(())), "ready\n"),
-        (Came::Reopened(Ok(())), "opened\n"),
-        (Came::Begun(None), "closed\n"),
-        (Came::Stepped(Some(Turn::More)), "more\n"),
-        (Came::Replaced(true), "replaced\n"),
-        (Came::Stopped, "stopped\n"),
-    ];
-    for (came, wanted) in rows.iter() {
-        let right = event_tells(rt.alloc(), came, wanted);
-        assert_eq!(rt; right, true, "{wanted}");
-    }
-    let listed = list_tells_as_event(rt.alloc(), &[&SETUP], "names 0\n");
-    assert_eq!(rt; listed, Some(true));
+    no_other(&rt, first_other(rt.alloc(), &EVENTS));
 }

@@ -1,4 +1,4 @@
-use crate::given::KEY;
+use crate::given::{KEY, no_other};
 use command_words::*;
 use hail_field::Symbol;
 use record_codec::Setup;
@@ -14,32 +14,18 @@ fn words(alloc: Global, line: &str) -> Option<Vec<String>> {
     Some(all)
 }
 
-/// Whether words are read as this command, or as none.
-fn are_read_as(alloc: Global, words: &[String], wanted: &Option<Command>) -> bool {
-    match read_command(alloc, words) {
-        Ok(found) => found == *wanted,
-        Err(_) => false,
-    }
-}
-
-/// Whether a line is read as this command, or as none.
-fn is_read_as(alloc: Global, line: &str, wanted: &Option<Command>) -> Option<bool> {
-    let words = words(alloc, line)?;
-    Some(are_read_as(alloc, &words, wanted))
-}
-
-/// Whether a line is read as the row of these numbers: providers, primaries, bad ones, and what is seen of
-/// each.
-fn is_read_as_row(
-    alloc: Global,
-    line: &str,
-    numbers: [u128; 3],
-    seen: &[Option<Symbol>],
-) -> Option<bool> {
-    let [n, l, b] = numbers;
-    let seen = Vec::from_slice(alloc, seen).ok()?;
-    let row = Row { n, l, b, seen };
-    is_read_as(alloc, line, &Some(Command::Row(row)))
+/// The command that words are to spell.
+#[derive(Clone, Copy)]
+enum Wanted {
+    Init([u128; 7]),
+    Put(&'static [u8]),
+    Get(&'static [u8]),
+    Drop(&'static [u8]),
+    List,
+    Audit,
+    Repair,
+    /// Providers, primaries, bad ones, and what is seen of each.
+    Row([u128; 3], &'static [Option<u128>]),
 }
 
 /// The numbers of an `init` in the order of its words.
@@ -56,98 +42,162 @@ fn numbers(all: [u128; 7]) -> Numbers {
     }
 }
 
-#[test]
-fn each_command_is_read(rt: HostRuntime) {
-    let cases = [
-        (
-            "init 6 3 1 2 4 8 0",
-            Some(Command::Init(numbers([6, 3, 1, 2, 4, 8, 0]))),
-        ),
-        (
-            "init 256 3 1 2 4 8 340282366920938463463374607431768211455",
-            Some(Command::Init(numbers([256, 3, 1, 2, 4, 8, u128::MAX]))),
-        ),
-        ("put a", Some(Command::Put { name: b"a" })),
-        ("put put", Some(Command::Put { name: b"put" })),
-        (
-            "put -/é",
-            Some(Command::Put {
-                name: "-/é".as_bytes(),
-            }),
-        ),
-        ("get trial", Some(Command::Get { name: b"trial" })),
-        ("drop trial", Some(Command::Drop { name: b"trial" })),
-        ("list", Some(Command::List)),
-        ("audit", Some(Command::Audit)),
-        ("repair", Some(Command::Repair)),
-    ];
-    for (line, command) in cases.iter() {
-        let right = is_read_as(rt.alloc(), line, command);
-        assert_eq!(rt; right, Some(true), "at {line}");
+/// Whether these symbols have these numbers.
+fn are_seen(symbols: &[Option<Symbol>], numbers: &[Option<u128>]) -> bool {
+    for place in 0..symbols.len() {
+        let number = match symbols[place] {
+            Some(symbol) => Some(symbol.0),
+            None => None,
+        };
+        if numbers.get(place) != Some(&number) {
+            return false;
+        }
+    }
+    symbols.len() == numbers.len()
+}
+
+/// Whether a row has these numbers and symbols.
+fn is_row(row: &Row, numbers: [u128; 3], seen: &[Option<u128>]) -> bool {
+    [row.n, row.l, row.b] == numbers && are_seen(&row.seen, seen)
+}
+
+/// Whether a command is this.
+fn is(command: &Command, wanted: Wanted) -> bool {
+    match (command, wanted) {
+        (Command::Init(found), Wanted::Init(all)) => *found == numbers(all),
+        (Command::Put { name }, Wanted::Put(wanted)) => *name == wanted,
+        (Command::Get { name }, Wanted::Get(wanted)) => *name == wanted,
+        (Command::Drop { name }, Wanted::Drop(wanted)) => *name == wanted,
+        (Command::List, Wanted::List) => true,
+        (Command::Audit, Wanted::Audit) => true,
+        (Command::Repair, Wanted::Repair) => true,
+        (Command::Row(row), Wanted::Row(numbers, seen)) => is_row(row, numbers, seen),
+        _ => false,
     }
 }
+
+/// Whether what was read is this command, or none.
+fn is_wanted(command: &Option<Command>, wanted: Option<Wanted>) -> bool {
+    match (command, wanted) {
+        (Some(command), Some(wanted)) => is(command, wanted),
+        (None, None) => true,
+        _ => false,
+    }
+}
+
+/// Whether words are read as this command, or as none.
+fn are_read_as(alloc: Global, words: &[String], wanted: Option<Wanted>) -> bool {
+    match read_command(alloc, words) {
+        Ok(command) => is_wanted(&command, wanted),
+        Err(_) => false,
+    }
+}
+
+/// Whether a line is read as this command, or as none.
+fn is_read_as(alloc: Global, line: &str, wanted: Option<Wanted>) -> bool {
+    match words(alloc, line) {
+        Some(words) => are_read_as(alloc, &words, wanted),
+        None => false,
+    }
+}
+
+/// The place of the first line that is read as another command, if any.
+fn first_misread(alloc: Global, rows: &[(&str, Wanted)]) -> Option<usize> {
+    for place in 0..rows.len() {
+        let (line, wanted) = rows[place];
+        if !is_read_as(alloc, line, Some(wanted)) {
+            return Some(place);
+        }
+    }
+    None
+}
+
+/// The place of the first line that is read as a command, if any.
+fn first_read(alloc: Global, lines: &[&str]) -> Option<usize> {
+    for place in 0..lines.len() {
+        if !is_read_as(alloc, lines[place], None) {
+            return Some(place);
+        }
+    }
+    None
+}
+
+static COMMANDS: [(&str, Wanted); 10] = [
+    ("init 6 3 1 2 4 8 0", Wanted::Init([6, 3, 1, 2, 4, 8, 0])),
+    (
+        "init 256 3 1 2 4 8 340282366920938463463374607431768211455",
+        Wanted::Init([256, 3, 1, 2, 4, 8, u128::MAX]),
+    ),
+    ("put a", Wanted::Put(b"a")),
+    ("put put", Wanted::Put(b"put")),
+    ("put -/é", Wanted::Put(b"-/\xc3\xa9")),
+    ("get trial", Wanted::Get(b"trial")),
+    ("drop trial", Wanted::Drop(b"trial")),
+    ("list", Wanted::List),
+    ("audit", Wanted::Audit),
+    ("repair", Wanted::Repair),
+];
+
+#[test]
+fn each_command_is_read(rt: HostRuntime) {
+    no_other(&rt, first_misread(rt.alloc(), &COMMANDS));
+}
+
+static ROWS: [(&str, Wanted); 3] = [
+    (
+        "row 4 1 1 7 - 0 340282366920938463463374607431768211455",
+        Wanted::Row([4, 1, 1], &[Some(7), None, Some(0), Some(u128::MAX)]),
+    ),
+    ("row 0 260 0", Wanted::Row([0, 260, 0], &[])),
+    ("row 1 1 1 -", Wanted::Row([1, 1, 1], &[None])),
+];
 
 #[test]
 fn rows_are_read(rt: HostRuntime) {
-    let most = Some(Symbol(u128::MAX));
-    let cases: [(&str, [u128; 3], &[Option<Symbol>]); 3] = [
-        (
-            "row 4 1 1 7 - 0 340282366920938463463374607431768211455",
-            [4, 1, 1],
-            &[Some(Symbol(7)), None, Some(Symbol(0)), most],
-        ),
-        ("row 0 260 0", [0, 260, 0], &[]),
-        ("row 1 1 1 -", [1, 1, 1], &[None]),
-    ];
-    for (line, numbers, seen) in cases {
-        let right = is_read_as_row(rt.alloc(), line, numbers, seen);
-        assert_eq!(rt; right, Some(true), "at {line}");
-    }
+    no_other(&rt, first_misread(rt.alloc(), &ROWS));
 }
+
+static NO_COMMANDS: [&str; 31] = [
+    "",
+    "fly",
+    "get",
+    "get a b",
+    "GET a",
+    "put",
+    "drop",
+    "list a",
+    "lists",
+    "audit 1",
+    "repair all",
+    "init",
+    "init 6 3 1 2 4 8",
+    "init 6 3 1 2 4 8 0 0",
+    "init 06 3 1 2 4 8 0",
+    "init 6 +3 1 2 4 8 0",
+    "init 6 3 -1 2 4 8 0",
+    "init 6 3 1 2 4 8 -",
+    "init 6 3 1 2 4 8 00",
+    "init 6 3 1 2 4 340282366920938463463374607431768211456 0",
+    "init six 3 1 2 4 8 0",
+    "row",
+    "row 4 1 1",
+    "row 4 1 1 7 7 7",
+    "row 4 1 1 7 7 7 7 7",
+    "row 4 1 1 7 7 7 340282366920938463463374607431768211456",
+    "row 4 1 1 07 7 7 7",
+    "row 4 1 1 +7 7 7 7",
+    "row 4 1 1 7 7 7 --",
+    "row 4 1 - 7 7 7 7",
+    "row 260 1 1 7",
+];
 
 #[test]
 fn faulty_words_are_no_command(rt: HostRuntime) {
-    let lines = [
-        "",
-        "fly",
-        "get",
-        "get a b",
-        "GET a",
-        "put",
-        "drop",
-        "list a",
-        "lists",
-        "audit 1",
-        "repair all",
-        "init",
-        "init 6 3 1 2 4 8",
-        "init 6 3 1 2 4 8 0 0",
-        "init 06 3 1 2 4 8 0",
-        "init 6 +3 1 2 4 8 0",
-        "init 6 3 -1 2 4 8 0",
-        "init 6 3 1 2 4 8 -",
-        "init 6 3 1 2 4 8 00",
-        "init 6 3 1 2 4 340282366920938463463374607431768211456 0",
-        "init six 3 1 2 4 8 0",
-        "row",
-        "row 4 1 1",
-        "row 4 1 1 7 7 7",
-        "row 4 1 1 7 7 7 7 7",
-        "row 4 1 1 7 7 7 340282366920938463463374607431768211456",
-        "row 4 1 1 07 7 7 7",
-        "row 4 1 1 +7 7 7 7",
-        "row 4 1 1 7 7 7 --",
-        "row 4 1 - 7 7 7 7",
-        "row 260 1 1 7",
-    ];
-    for line in lines {
-        let right = is_read_as(rt.alloc(), line, &None);
-        assert_eq!(rt; right, Some(true), "at {line}");
-    }
+    no_other(&rt, first_read(rt.alloc(), &NO_COMMANDS));
 }
 
 #[test]
-fn setups_are_within_limits(rt: HostRuntime) {
+fn a_setup_is_made_of_its_numbers(rt: HostRuntime) {
     let setup = Setup {
         n: 6,
         l: 3,
@@ -157,21 +207,35 @@ fn setups_are_within_limits(rt: HostRuntime) {
         picks: 8,
         tolerance: 300,
     };
-    assert_eq!(rt; read_setup(&numbers([6, 3, 1, 2, 4, 8, 300])), Some(setup));
-    for all in [
-        [262, 3, 1, 2, 4, 8, 300],
-        [6, 259, 1, 2, 4, 8, 300],
-        [6, 3, 257, 2, 4, 8, 300],
-        [6, 3, 1, 258, 4, 8, 300],
-        [6, 3, 1, 2, 260, 8, 300],
-        [6, 3, 1, 2, 4, 264, 300],
-        [6, 3, 1, 2, 4, 8, 65_836],
-        [5, 3, 1, 2, 4, 8, 300],
-        [6, 3, 1, 5, 4, 8, 300],
-        [6, 3, 1, 2, 4, 8, 4097],
-    ] {
-        assert_eq!(rt; read_setup(&numbers(all)), None, "{all:?}");
+    assert!(rt; read_setup(&numbers([6, 3, 1, 2, 4, 8, 300])) == Some(setup));
+}
+
+static NO_SETUPS: [[u128; 7]; 10] = [
+    [262, 3, 1, 2, 4, 8, 300],
+    [6, 259, 1, 2, 4, 8, 300],
+    [6, 3, 257, 2, 4, 8, 300],
+    [6, 3, 1, 258, 4, 8, 300],
+    [6, 3, 1, 2, 260, 8, 300],
+    [6, 3, 1, 2, 4, 264, 300],
+    [6, 3, 1, 2, 4, 8, 65_836],
+    [5, 3, 1, 2, 4, 8, 300],
+    [6, 3, 1, 5, 4, 8, 300],
+    [6, 3, 1, 2, 4, 8, 4097],
+];
+
+/// The place of the first of these numbers that give a setup, if any.
+fn first_within(rows: &[[u128; 7]]) -> Option<usize> {
+    for place in 0..rows.len() {
+        if read_setup(&numbers(rows[place])).is_some() {
+            return Some(place);
+        }
     }
+    None
+}
+
+#[test]
+fn setups_are_within_limits(rt: HostRuntime) {
+    no_other(&rt, first_within(&NO_SETUPS));
 }
 
 /// The key that a text spells.
@@ -201,35 +265,42 @@ const BYTES: [u8; 32] = [
     26, 27, 28, 29, 30, 255,
 ];
 
+/// What stands behind the digits of the key, and whether it is a key then.
+static ENDS: [(&str, bool); 10] = [
+    ("", true),
+    ("\n", true),
+    ("\r\n", true),
+    ("\r", false),
+    ("\n\n", false),
+    ("\n\r", false),
+    ("\r\n\n", false),
+    (" ", false),
+    ("0", false),
+    ("00", false),
+];
+
+/// The place of the first of these ends that is taken otherwise, if any.
+fn first_other_end(alloc: Global, rows: &[(&str, bool)]) -> Option<usize> {
+    for place in 0..rows.len() {
+        let (end, is_key) = rows[place];
+        if !spells(alloc, end, if is_key { Some(BYTES) } else { None }) {
+            return Some(place);
+        }
+    }
+    None
+}
+
 #[test]
 fn keys_are_sixty_four_digits_and_a_line_end(rt: HostRuntime) {
-    for (behind, wanted) in [
-        ("", Some(BYTES)),
-        ("\n", Some(BYTES)),
-        ("\r\n", Some(BYTES)),
-        ("\r", None),
-        ("\n\n", None),
-        ("\n\r", None),
-        ("\r\n\n", None),
-        (" ", None),
-        ("0", None),
-        ("00", None),
-    ] {
-        let right = spells(rt.alloc(), behind, wanted);
-        assert_eq!(rt; right, true, "behind: {behind:?}");
-    }
+    no_other(&rt, first_other_end(rt.alloc(), &ENDS));
 }
+
+/// The digits of the key but for the first, which is none.
+const NO_DIGITS: &[u8] = b"g00102030405060708090A0b0c0d0e0f101112131415161718191a1b1C1d1eFf";
 
 #[test]
 fn other_texts_are_no_key(rt: HostRuntime) {
     let text = KEY.as_bytes();
-    let mut other = *b"000102030405060708090A0b0c0d0e0f101112131415161718191a1b1C1d1eFf";
-    other[0] = b'g';
-    let found = [
-        key_of(&text[1..]),
-        key_of(&text[..62]),
-        key_of(b""),
-        key_of(&other),
-    ];
-    assert_eq!(rt; found, [None; 4]);
+    assert!(rt; key_of(&text[1..]).is_none() && key_of(&text[..62]).is_none());
+    assert!(rt; key_of(b"").is_none() && key_of(NO_DIGITS).is_none());
 }
