@@ -4,7 +4,7 @@ use crate::given::{CHALLENGE, MASK_KEY};
 use aggregate::*;
 use hail_field::Symbol;
 
-// The same block in each stripe.
+/// The same block in each stripe.
 #[derive(Drop)]
 struct Same([Symbol; 6]);
 
@@ -21,7 +21,7 @@ impl Blocks for Same {
     }
 }
 
-// No block.
+/// No block.
 #[derive(Drop)]
 struct Nothing;
 
@@ -34,21 +34,31 @@ impl Blocks for Nothing {
     }
 }
 
+/// The symbols of the block.
+const BLOCK: [Symbol; 6] = [
+    Symbol(5),
+    Symbol((1 << 127) + 9),
+    Symbol(1 << 64),
+    Symbol(7),
+    Symbol((1 << 100) + 3),
+    Symbol(1),
+];
+
+/// The answer to the challenge, none of no block, and the sum of the masks.
+const ANSWERS: [Option<Symbol>; 3] = [
+    Some(Symbol(282_382_073_608_155_101_318_765_447_739_515_010_375)),
+    None,
+    Some(Symbol(186_073_828_432_353_188_380_391_439_944_653_270_136)),
+];
+
 // Keys, rows and products written in Python from the definitions gave these values.
 #[test]
 fn answers_are_as_computed_elsewhere(rt: HostRuntime) {
-    let block = [
-        Symbol(5),
-        Symbol((1 << 127) + 9),
-        Symbol(1 << 64),
-        Symbol(7),
-        Symbol((1 << 100) + 3),
-        Symbol(1),
+    let answers = [
+        answer(&CHALLENGE, &Same(BLOCK)),
+        answer(&CHALLENGE, &Nothing),
+        Some(mask_sum(&MASK_KEY, &CHALLENGE)),
     ];
-    let right = Symbol(282_382_073_608_155_101_318_765_447_739_515_010_375);
-    assert_eq!(rt; answer(&CHALLENGE, &Same(block)), Some(right));
-    assert_eq!(rt; answer(&CHALLENGE, &Nothing), None);
-    let sum = Symbol(186_073_828_432_353_188_380_391_439_944_653_270_136);
-    assert_eq!(rt; mask_sum(&MASK_KEY, &CHALLENGE), sum);
     laws::right_answers_are_a_row();
+    assert_eq!(rt; answers, ANSWERS);
 }

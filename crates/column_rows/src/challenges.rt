@@ -1,18 +1,32 @@
-use crate::given::CHALLENGE;
+use crate::given::{CHALLENGE, SEED};
+use challenge::Challenge;
 use hail_field::Symbol;
+
+/// The same picks among 2^32 rows.
+const WIDE: Challenge = Challenge {
+    seed: SEED,
+    rows: 1 << 32,
+    size: 6,
+    picks: 4,
+};
+
+/// The picked rows.
+fn rows(challenge: &Challenge) -> [u64; 4] {
+    [
+        challenge.row(0),
+        challenge.row(1),
+        challenge.row(2),
+        challenge.row(3),
+    ]
+}
 
 // A ChaCha20 written in Python from RFC 8439 computed these values.
 #[test]
 fn weight_and_rows_are_as_computed_elsewhere(rt: HostRuntime) {
-    let mut challenge = CHALLENGE;
-    assert_eq!(rt;
-        challenge.alpha(),
-        Symbol(65_912_960_681_525_404_807_291_868_634_059_098_642)
+    let wide = [WIDE.row(0), WIDE.row(1)];
+    assert!(rt;
+        CHALLENGE.alpha() == Symbol(65_912_960_681_525_404_807_291_868_634_059_098_642)
+            && rows(&CHALLENGE) == [19, 70, 6, 24]
+            && wide == [1_823_315_891, 1_879_516_262]
     );
-    for (k, row) in [(0, 19), (1, 70), (2, 6), (3, 24)] {
-        assert_eq!(rt; challenge.row(k), row);
-    }
-    challenge.rows = 1 << 32;
-    assert_eq!(rt; challenge.row(0), 1_823_315_891);
-    assert_eq!(rt; challenge.row(1), 1_879_516_262);
 }

@@ -1,29 +1,53 @@
+ghost use Rattle.std.specs.Prelude.{◌≤◌, ◌^◌};
+
 use code_points::find_profile;
 use file_layout::*;
 use hail_field::{Shape, Symbol};
 
-#[test]
-fn stripes_rows_and_symbols_of_small_files(rt: HostRuntime) {
-    let mut file = FileShape {
+/// A file of this many bytes in stripes of 32.
+fn file(length: u32) -> FileShape
+    requires { length ≤ 2 ^ 22 }
+{
+    FileShape {
         id: 1,
-        length: 33,
+        length,
         shape: Shape::new(4, 1, 1).unwrap(),
         profile: find_profile(0).unwrap(),
-    };
-    assert_eq!(rt; file.stripes(), 2);
-    assert_eq!(rt; file.rows(), 12);
-    let ones = Symbol(1_334_440_654_591_915_542_993_625_911_497_130_241);
-    for (number, symbol) in [
-        (0, ones),
-        (1, ones),
-        (2, Symbol::ONE),
-        (3, Symbol::ZERO),
-        (u64::MAX, Symbol::ZERO),
-    ] {
-        assert_eq!(rt; file.symbol_at(&[1; 33], number), symbol);
     }
-    for (length, stripes) in [(0, 0), (1, 1), (32, 1), (1 << 22, 131_072)] {
-        file.length = length;
-        assert_eq!(rt; file.stripes(), stripes);
+}
+
+#[test]
+fn files_have_stripes_and_rows(rt: HostRuntime) {
+    let stripes = [
+        file(0).stripes(),
+        file(1).stripes(),
+        file(32).stripes(),
+        file(33).stripes(),
+        file(1 << 22).stripes(),
+    ];
+    assert!(rt; stripes == [0, 1, 1, 2, 131_072] && file(33).rows() == 12);
+}
+
+/// Numbers of symbols in a file of 33 ones, and the symbols.
+static SYMBOLS: [(u64, Symbol); 5] = [
+    (0, Symbol(0x0101_0101_0101_0101_0101_0101_0101_0101)),
+    (1, Symbol(0x0101_0101_0101_0101_0101_0101_0101_0101)),
+    (2, Symbol(1)),
+    (3, Symbol(0)),
+    (u64::MAX, Symbol(0)),
+];
+
+/// The place of the first of them that is another one.
+fn first_other_symbol(file: &FileShape) -> Option<usize> {
+    for (place, (number, symbol)) in SYMBOLS.iter().enumerate() {
+        if file.symbol_at(&[1; 33], *number) != *symbol {
+            return Some(place);
+        }
     }
+    None
+}
+
+#[test]
+fn symbols_of_a_small_file(rt: HostRuntime) {
+    assert_eq!(rt; first_other_symbol(&file(33)), None);
 }

@@ -1,4 +1,5 @@
-//! Worked rows of keys, masks, layout and columns, of challenges, answers and verdicts.
+//! Worked rows of keys, masks, layout and columns, of challenges, answers and verdicts, and of the works that
+//! are measured.
 #![tactic(auto)]
 
 #[cfg(test)]
@@ -17,3 +18,5 @@ mod layout;
 mod masks;
 #[cfg(test)]
 mod verdicts;
+#[cfg(test)]
+mod works;

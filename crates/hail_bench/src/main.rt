@@ -2,27 +2,11 @@
 //! long it took.
 #![tactic(auto)]
 
-mod audit;
-mod blocks;
-mod decode;
-mod encode;
-mod failure;
-mod field;
-mod get;
-mod numbers;
-mod outcome;
-mod put;
-mod spoilt;
-mod stripes;
-mod work;
-
-use failure::Failure;
-use outcome::Outcome;
+use bench_works::{FORMS, Failure, Outcome, Work};
 use std::env::{self, Env};
 use std::process::ExitCode;
 use std::rt::Clock;
 use std::time::Instant;
-use work::{FORMS, Work};
 
 const FAULT: u8 = 1;
 
@@ -36,24 +20,35 @@ fn words(rt: &(impl Env + AllocGlobal)) -> Result<Vec<String>, Failure> {
     Ok(all.skip(1).collect(rt.alloc())?)
 }
 
-/// Does the work; its words and answers go to standard output, the time to standard error.
-fn measure(rt: &(impl Env + AllocGlobal + Clock + Print + Eprint)) -> Result<(), Failure> {
-    let words = words(rt)?;
-    let work = Work::from_words(rt.alloc(), &words)?;
+/// Does a work, and tells what it came to and how many nanoseconds it took.
+fn timed(rt: &(impl AllocGlobal + Clock), work: &Work) -> Result<(Outcome, u128), Failure> {
     let start = Instant::now(rt)?;
     let outcome = work.run(rt.alloc())?;
-    let nanos = start.elapsed(rt)?.as_nanos();
-    for word in &words {
+    Ok((outcome, start.elapsed(rt)?.as_nanos()))
+}
+
+/// Writes the words and the checksum to standard output, the time to standard error.
+fn tell(
+    rt: &(impl Print + Eprint),
+    words: &[String],
+    outcome: &Outcome,
+    nanos: u128,
+) -> Result<(), Failure> {
+    for word in words {
         print!(rt; "{word} ")?;
     }
     println!(rt; "checksum {:032x}", outcome.checksum)?;
-    eprintln!(rt;
-        "{} in {} ns, {} a second",
-        outcome.count,
-        nanos,
-        outcome.rate(nanos)
-    )?;
+    let rate = outcome.rate(nanos);
+    eprintln!(rt; "{} in {nanos} ns, {rate} a second", outcome.count)?;
     Ok(())
+}
+
+/// Does the work that the words name, and tells of it.
+fn measure(rt: &(impl Env + AllocGlobal + Clock + Print + Eprint)) -> Result<(), Failure> {
+    let words = words(rt)?;
+    let work = Work::from_words(rt.alloc(), &words)?;
+    let (outcome, nanos) = timed(rt, &work)?;
+    tell(rt, &words, &outcome, nanos)
 }
 
 fn main(rt: HostRuntime) -> ExitCode {

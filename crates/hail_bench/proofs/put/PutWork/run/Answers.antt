@@ -1,5 +1,0 @@
-use Rattle.hail_bench.proofs.put.PutWork.run.Goals as goal
-use Rattle.hail_bench.specs.declared.stripes.TheConstants.{MASTER}
-
-pub returns-clause-count : goal.returns-clause-count
-returns-clause-count c = c.stripes-count.ensures.value MASTER.0
