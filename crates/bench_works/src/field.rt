@@ -52,9 +52,9 @@ pub struct FieldWork {
 }
 
 impl FieldWork {
-    /// The work that these words name: an operation and a count.
-    pub fn from_words(words: &[String]) -> Result<FieldWork, Failure> {
-        let [operation, count] = words else {
+    /// The work of this operation, with a count as the one word behind its name.
+    pub fn from_words(operation: &str, words: &[String]) -> Result<FieldWork, Failure> {
+        let [count] = words else {
             return Err(Failure::Usage);
         };
         Ok(FieldWork {

@@ -8,13 +8,13 @@ mod encode;
 mod failure;
 mod field;
 mod get;
+mod measure;
 mod numbers;
 mod outcome;
 mod put;
 mod spoilt;
 mod stripes;
-mod work;
 
 pub use failure::Failure;
+pub use measure::{FORMS, measured};
 pub use outcome::Outcome;
-pub use work::{FORMS, Work};

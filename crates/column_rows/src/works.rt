@@ -1,5 +1,6 @@
-use bench_works::{Failure, Work};
+use bench_works::{Failure, measured};
 use std::alloc::Global;
+use std::rt::Clock;
 
 /// The words of a command line, and the count and checksum of the work that they name, if any.
 type Row = (&'static [&'static str], Option<(u32, u128)>);
@@ -82,26 +83,19 @@ fn owned(alloc: Global, words: &[&str]) -> Result<Vec<String>, Failure> {
     Ok(owned)
 }
 
-/// The count and the checksum of the work that these words name.
-fn outcome_of(alloc: Global, words: &[String]) -> Result<(u32, u128), Failure> {
-    let work = Work::from_words(alloc, words)?;
-    let outcome = work.run(alloc)?;
-    Ok((outcome.count, outcome.checksum))
-}
-
 /// Whether a row goes as it says.
-fn goes_so(alloc: Global, (words, wanted): &Row) -> Result<bool, Failure> {
-    match outcome_of(alloc, &owned(alloc, words)?) {
-        Ok(outcome) => Ok(*wanted == Some(outcome)),
+fn goes_so(rt: &(impl AllocGlobal + Clock), (words, wanted): &Row) -> Result<bool, Failure> {
+    match measured(rt, &owned(rt.alloc(), words)?) {
+        Ok((outcome, _)) => Ok(*wanted == Some((outcome.count, outcome.checksum))),
         Err(Failure::Usage) => Ok(wanted.is_none()),
         Err(Failure::Fault) => Ok(false),
     }
 }
 
 /// The place of the first row that goes otherwise.
-fn first_other_row(alloc: Global) -> Option<usize> {
+fn first_other_row(rt: &(impl AllocGlobal + Clock)) -> Option<usize> {
     for (place, row) in ROWS.iter().enumerate() {
-        if !matches!(goes_so(alloc, row), Ok(true)) {
+        if !matches!(goes_so(rt, row), Ok(true)) {
             return Some(place);
         }
     }
@@ -111,5 +105,5 @@ fn first_other_row(alloc: Global) -> Option<usize> {
 // Python gave the checksums of products, other programs some of the others.
 #[test]
 fn works_are_done_that_words_name(rt: HostRuntime) {
-    assert_eq!(rt; first_other_row(rt.alloc()), None);
+    assert_eq!(rt; first_other_row(&rt), None);
 }

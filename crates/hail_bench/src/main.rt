@@ -2,11 +2,10 @@
 //! long it took.
 #![tactic(auto)]
 
-use bench_works::{FORMS, Failure, Outcome, Work};
+use bench_works::{FORMS, Failure, Outcome, measured};
 use std::env::{self, Env};
 use std::process::ExitCode;
 use std::rt::Clock;
-use std::time::Instant;
 
 const FAULT: u8 = 1;
 
@@ -18,13 +17,6 @@ fn words(rt: &(impl Env + AllocGlobal)) -> Result<Vec<String>, Failure> {
         return Err(Failure::Usage);
     };
     Ok(all.skip(1).collect(rt.alloc())?)
-}
-
-/// Does a work, and tells what it came to and how many nanoseconds it took.
-fn timed(rt: &(impl AllocGlobal + Clock), work: &Work) -> Result<(Outcome, u128), Failure> {
-    let start = Instant::now(rt)?;
-    let outcome = work.run(rt.alloc())?;
-    Ok((outcome, start.elapsed(rt)?.as_nanos()))
 }
 
 /// Writes the words and the checksum to standard output, the time to standard error.
@@ -46,8 +38,7 @@ fn tell(
 /// Does the work that the words name, and tells of it.
 fn measure(rt: &(impl Env + AllocGlobal + Clock + Print + Eprint)) -> Result<(), Failure> {
     let words = words(rt)?;
-    let work = Work::from_words(rt.alloc(), &words)?;
-    let (outcome, nanos) = timed(rt, &work)?;
+    let (outcome, nanos) = measured(rt, &words)?;
     tell(rt, &words, &outcome, nanos)
 }
 

@@ -18,3 +18,24 @@ returns-in-Ok-clause-symbols c =
     (λ i. record { size = p.size_is i; keep = p.keep_is i; fix = p.fix_is i }) file.shape.fits self.seen_are
     self.few c.requires.stripe (ap (λ n. take n (replicate 16 true)) c.from.ensures)
     c.blocks-seen.ensures.part given
+
+pub open_trusting-requires-clause-code : goal.open_trusting-requires-clause-code
+open_trusting-requires-clause-code c = rw c.requires.file c.args.self.now.coded.same
+
+pub open_trusting-requires-clause-seen : goal.open_trusting-requires-clause-seen
+open_trusting-requires-clause-seen c = rw c.requires.file c.blocks-seen.ensures.size
+
+pub open_trusting-requires-clause-rows : goal.open_trusting-requires-clause-rows
+open_trusting-requires-clause-rows c = rw c.requires.file c.requires.rows
+
+pub open_trusting-requires-clause-scratch : goal.open_trusting-requires-clause-scratch
+open_trusting-requires-clause-scratch c = rw c.requires.file c.requires.scratch
+
+pub open_trusting-requires-clause-blocks : goal.open_trusting-requires-clause-blocks
+open_trusting-requires-clause-blocks c = rw c.requires.file c.requires.blocks
+
+pub returns-in-Ok-clause-blocks : goal.returns-in-Ok-clause-blocks
+returns-in-Ok-clause-blocks c = rw c.requires.file at c.open_trusting.ensures.blocks
+
+pub returns-in-Err-clause-blocks : goal.returns-in-Err-clause-blocks
+returns-in-Err-clause-blocks c = rw c.requires.file at c.open_trusting.ensures.blocks
