@@ -2,7 +2,7 @@
 use Rattle.std.specs.Prelude.{◌≡◌, ℕ, zero, suc, ◌+◌, ◌-◌, ◌*◌, ◌/◌, ◌%◌, ◌<◌, ◌≤◌, ◌==◌, ◌||◌, Bool, true, false, not, nat_lt, nat_eq, List, [], ◌∷◌, ◌++◌, length, map, take, drop, replicate, Some, None, option_and_then, if◌then◌else◌}
 use Rattle.std.proofs.Common.{arith, ap, sym, refl, ◌∙◌, get_or, set, subst, add-one, eqb-true, append-nil}
 use Rattle.std.specs.List.{range_with_len}
-use Rattle.std.proofs.Math.Nat.{mod-add-mod, mul-le-mul_right}
+use Rattle.std.proofs.Math.Nat.{mul-le-mul_right}
 use Rattle.std.proofs.Math.Seq.{drop-append_seam, take-append_seam}
 use Rattle.std.proofs.lemmas.Nat.{div-mul-add, mod-mul-add}
 use Rattle.std.proofs.lemmas.List.{take_more, take-append-le, drop-append-le, length-append, length-drop, drop-drop, drop-take, get_or-take, get_or-replicate, length-take-le, get_or-set_other}
@@ -12,12 +12,10 @@ use Rattle.hail_field.specs.Shape.{IsShape}
 use Rattle.code_defs.specs.Points.{upto}
 use Rattle.code_defs.specs.Profiles.{profile_of}
 use Rattle.code_defs.specs.ServerCode.{differences}
-use Rattle.code_defs.proofs.Codewords.{differences-same}
 use Rattle.column_defs.specs.Objects.{Object, symbols_in}
 use Rattle.column_defs.specs.Columns.{columns, is_wrong_block}
 use Rattle.column_defs.specs.Opened.{block_at, GivesSymbols}
 use Rattle.column_defs.specs.Forgeries.{count_of}
-use Rattle.column_defs.proofs.ColumnLaws.{length-column_of_symbols}
 use Rattle.column_laws.proofs.RightRows.{symbols-right}
 use Rattle.column_codec.specs.PresentBlocks.{present_blocks}
 use Rattle.column_codec.proofs.PresentLemmas.{length-present_blocks, get_or-present_blocks}

@@ -1,4 +1,4 @@
-use Rattle.std.proofs.Common.{◌≤◌, ◌*◌, arith, rules, subst, sym}
+use Rattle.std.proofs.Common.{◌≤◌, ◌*◌, rules, subst, sym}
 use Rattle.column_defs.specs.Objects.{stripes}
 use Rattle.file_layout.specs.Files.{shaped_object}
 use Rattle.file_layout.specs.declared.file.FileShape.{FileShape}
