@@ -17,3 +17,4 @@ mod Taken
 mod Carried
 mod FormWords
 mod ServeWords
+mod Words

@@ -4,3 +4,4 @@ pub mod Jobs
 pub mod SetUps
 pub mod Rows
 pub mod Carried
+pub mod Answered

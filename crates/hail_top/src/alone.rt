@@ -1,17 +1,16 @@
 // Commands that run one job.
-ghost use Rattle.std.specs.Prelude.{◌≡◌, ◌≤◌, ℕ, List, Option, length, map, is_some};
+ghost use Rattle.std.specs.Prelude.{◌≡◌, ◌≤◌, ℕ, List, Option, length, is_some};
 ghost use Rattle.std.specs.Option.{option_map};
 ghost use Rattle.device_defs.specs.Disks.{synced};
 ghost use Rattle.record_defs.specs.Records.{Record};
-ghost use Rattle.command_defs.specs.Seen.{Seen, NoCountFalls, seen};
+ghost use Rattle.command_defs.specs.Seen.{Seen, NoCountFalls};
 ghost use Rattle.command_defs.specs.Opens.{IsOpened};
 ghost use Rattle.command_defs.specs.Commands.{AnswersAlone};
 ghost use Rattle.vault.specs.Devices.{devices_seen};
-ghost use Rattle.provider_model.specs.Seen.{provider_seen};
 ghost use Rattle.command_jobs.specs.Kinds.{kind_of};
 ghost use Rattle.command_jobs.specs.Opened.{IsFreshOver, IsFreshFor};
 ghost use Rattle.command_jobs.specs.Ends.{IsSeenBefore};
-ghost use Rattle.hail_top.specs.Endings.{ending_of};
+ghost use Rattle.hail_top.specs.Endings.{seen_over, ending_of};
 ghost use Rattle.hail_top.specs.Jobs.{AnswersOver};
 
 use crate::refusals::{refused, unopened};
@@ -40,9 +39,8 @@ pub fn answer_job<D: Disk, P: Provider, K: Sink>(
         → D.holds disk.old ≡ option_map synced old.disk → old.sink ≡ K.written sink.old
         → old.sink_faults ≡ K.faults sink.old
         → AnswersOver (kind_of job.entry) records old
-        (seen (D.holds disk.new) (D.faults disk.new) (map (provider_seen P.Provider) providers.new) left
-        read_faults
-        (K.written sink.new) (K.faults sink.new)) (ending_of result) }
+        (seen_over D.Disk P.Provider K.Sink disk.new providers.new left read_faults sink.new)
+        (ending_of result) }
     ensures count { K.faults sink.old ≤ K.faults sink.new }
     ensures tells { is_some (D.holds disk.new) ≡ is_some (D.holds disk.old) }
 {
@@ -62,19 +60,12 @@ pub fn alone<D: Disk, P: Provider, K: Sink>(
     sink: &mut K,
 ) -> Report
     ensures answers { (left : Option (List ℕ)) (read_faults : ℕ) → AnswersAlone (kind_of job.entry)
-        (seen (D.holds disk.old) (D.faults disk.old) (map (provider_seen P.Provider) providers.old) left
-        read_faults
-        (K.written sink.old) (K.faults sink.old))
-        (seen (D.holds disk.new) (D.faults disk.new) (map (provider_seen P.Provider) providers.new) left
-        read_faults
-        (K.written sink.new) (K.faults sink.new)) (ending_of result) }
+        (seen_over D.Disk P.Provider K.Sink disk.old providers.old left read_faults sink.old)
+        (seen_over D.Disk P.Provider K.Sink disk.new providers.new left read_faults sink.new)
+        (ending_of result) }
     ensures counts { (left : Option (List ℕ)) (read_faults : ℕ) → NoCountFalls
-        (seen (D.holds disk.old) (D.faults disk.old) (map (provider_seen P.Provider) providers.old) left
-        read_faults
-        (K.written sink.old) (K.faults sink.old))
-        (seen (D.holds disk.new) (D.faults disk.new) (map (provider_seen P.Provider) providers.new) left
-        read_faults
-        (K.written sink.new) (K.faults sink.new)) }
+        (seen_over D.Disk P.Provider K.Sink disk.old providers.old left read_faults sink.old)
+        (seen_over D.Disk P.Provider K.Sink disk.new providers.new left read_faults sink.new) }
     ensures tells { is_some (D.holds disk.new) ≡ is_some (D.holds disk.old) }
 {
     match open_vault(alloc, disk, providers.len()) {

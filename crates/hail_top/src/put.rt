@@ -1,16 +1,15 @@
 // The command `put`.
-ghost use Rattle.std.specs.Prelude.{◌≡◌, ◌≤◌, List, length, map, is_some};
+ghost use Rattle.std.specs.Prelude.{◌≡◌, ◌≤◌, List, length, is_some};
 ghost use Rattle.std.specs.Option.{option_map};
 ghost use Rattle.device_defs.specs.Disks.{synced};
 ghost use Rattle.record_defs.specs.Records.{Record};
-ghost use Rattle.command_defs.specs.Seen.{Seen, NoCountFalls, seen};
+ghost use Rattle.command_defs.specs.Seen.{Seen, NoCountFalls};
 ghost use Rattle.command_defs.specs.Opens.{IsOpened};
 ghost use Rattle.command_defs.specs.Commands.{AnswersPut};
 ghost use Rattle.vault.specs.Devices.{devices_seen};
-ghost use Rattle.provider_model.specs.Seen.{provider_seen};
 ghost use Rattle.command_jobs.specs.Opened.{IsFreshOver, IsFreshFor};
 ghost use Rattle.command_jobs.specs.Ends.{IsSeenBefore};
-ghost use Rattle.hail_top.specs.Endings.{ending_of};
+ghost use Rattle.hail_top.specs.Endings.{seen_of, ending_of};
 ghost use Rattle.hail_top.specs.Jobs.{PutsOver};
 
 use crate::alone::answer_job;
@@ -45,9 +44,8 @@ fn put_read<D: Disk, P: Provider, S: Source, K: Sink>(
         → old.source_faults ≡ S.faults source.old
         → old.sink ≡ K.written sink.old → old.sink_faults ≡ K.faults sink.old
         → PutsOver name.now old
-        (seen (D.holds disk.new) (D.faults disk.new) (map (provider_seen P.Provider) providers.new)
-        (S.left source.new)
-        (S.faults source.new) (K.written sink.new) (K.faults sink.new)) (ending_of result) }
+        (seen_of D.Disk P.Provider S.Source K.Sink disk.new providers.new source.new sink.new)
+        (ending_of result) }
     ensures source_count { S.faults source.old ≤ S.faults source.new }
     ensures sink_count { K.faults sink.old ≤ K.faults sink.new }
     ensures tells { is_some (D.holds disk.new) ≡ is_some (D.holds disk.old) }
@@ -75,19 +73,12 @@ pub fn put<D: Disk, P: Provider, S: Source, K: Sink>(
     sink: &mut K,
 ) -> Report
     ensures answers { AnswersPut name.now
-        (seen (D.holds disk.old) (D.faults disk.old) (map (provider_seen P.Provider) providers.old)
-        (S.left source.old)
-        (S.faults source.old) (K.written sink.old) (K.faults sink.old))
-        (seen (D.holds disk.new) (D.faults disk.new) (map (provider_seen P.Provider) providers.new)
-        (S.left source.new)
-        (S.faults source.new) (K.written sink.new) (K.faults sink.new)) (ending_of result) }
+        (seen_of D.Disk P.Provider S.Source K.Sink disk.old providers.old source.old sink.old)
+        (seen_of D.Disk P.Provider S.Source K.Sink disk.new providers.new source.new sink.new)
+        (ending_of result) }
     ensures counts { NoCountFalls
-        (seen (D.holds disk.old) (D.faults disk.old) (map (provider_seen P.Provider) providers.old)
-        (S.left source.old)
-        (S.faults source.old) (K.written sink.old) (K.faults sink.old))
-        (seen (D.holds disk.new) (D.faults disk.new) (map (provider_seen P.Provider) providers.new)
-        (S.left source.new)
-        (S.faults source.new) (K.written sink.new) (K.faults sink.new)) }
+        (seen_of D.Disk P.Provider S.Source K.Sink disk.old providers.old source.old sink.old)
+        (seen_of D.Disk P.Provider S.Source K.Sink disk.new providers.new source.new sink.new) }
     ensures tells { is_some (D.holds disk.new) ≡ is_some (D.holds disk.old) }
 {
     match open_vault(alloc, disk, providers.len()) {

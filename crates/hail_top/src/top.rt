@@ -1,14 +1,10 @@
-ghost use Rattle.std.specs.Prelude.{◌≡◌, ℕ, map, is_some};
+ghost use Rattle.std.specs.Prelude.{◌≡◌, is_some};
 ghost use Rattle.command_defs.specs.Forms.{Command as Spelled, IsForm};
-ghost use Rattle.command_defs.specs.Seen.{NoCountFalls, seen};
-ghost use Rattle.command_defs.specs.Commands.{Answers, IsUsage};
-ghost use Rattle.provider_model.specs.Seen.{provider_seen};
+ghost use Rattle.command_defs.specs.Seen.{NoCountFalls};
+ghost use Rattle.command_defs.specs.Commands.{Answers};
 ghost use Rattle.command_words.specs.Commands.{command_of};
-ghost use Rattle.hail_top.specs.Carried.{AnswersForm, KeepsTheHeadline};
-ghost use Rattle.hail_replay.specs.Forms.{IsFormOf};
-ghost use Rattle.hail_replay.specs.declared.forms.Form.{Form as FormOf};
-ghost use Rattle.provider_server.specs.Words.{IsServeForm};
-ghost use Rattle.provider_server.specs.Answers.{AnswersServe};
+ghost use Rattle.hail_top.specs.Answered.{IsAnswered};
+ghost use Rattle.hail_top.specs.Carried.{AnswersForm};
 ghost use Rattle.hail_top.specs.Endings.{seen_of, ending_of};
 ghost use Rattle.hail_top.specs.Rows.{HasItsSymbols};
 
@@ -41,19 +37,12 @@ fn answer<D: Disk, P: Tamper, S: Source, K: Sink>(
 ) -> Report
     requires { HasItsSymbols (command_of command) }
     ensures answers { Answers (command_of command.entry)
-        (seen (D.holds disk.old) (D.faults disk.old) (map (provider_seen P.Provider) providers.old)
-        (S.left source.old)
-        (S.faults source.old) (K.written sink.old) (K.faults sink.old))
-        (seen (D.holds disk.new) (D.faults disk.new) (map (provider_seen P.Provider) providers.new)
-        (S.left source.new)
-        (S.faults source.new) (K.written sink.new) (K.faults sink.new)) (ending_of result) }
+        (seen_of D.Disk P.Provider S.Source K.Sink disk.old providers.old source.old sink.old)
+        (seen_of D.Disk P.Provider S.Source K.Sink disk.new providers.new source.new sink.new)
+        (ending_of result) }
     ensures counts { NoCountFalls
-        (seen (D.holds disk.old) (D.faults disk.old) (map (provider_seen P.Provider) providers.old)
-        (S.left source.old)
-        (S.faults source.old) (K.written sink.old) (K.faults sink.old))
-        (seen (D.holds disk.new) (D.faults disk.new) (map (provider_seen P.Provider) providers.new)
-        (S.left source.new)
-        (S.faults source.new) (K.written sink.new) (K.faults sink.new)) }
+        (seen_of D.Disk P.Provider S.Source K.Sink disk.old providers.old source.old sink.old)
+        (seen_of D.Disk P.Provider S.Source K.Sink disk.new providers.new source.new sink.new) }
     ensures tells { is_some (D.holds disk.new) ≡ is_some (D.holds disk.old) }
 {
     match command {
@@ -92,7 +81,7 @@ fn carry<D: Disk, P: Tamper, S: Source, K: Sink>(
     }
 }
 
-/// Does what words ask for that are no command: a replay, a trial, a server or nothing.
+/// Does what words ask for that spell no command: a replay, a trial, a server or nothing.
 fn carry_words<D: Disk, P: Tamper, S: Source, K: Sink>(
     alloc: Global,
     words: &[String],
@@ -101,27 +90,39 @@ fn carry_words<D: Disk, P: Tamper, S: Source, K: Sink>(
     source: &mut S,
     sink: &mut K,
 ) -> Report
-    ensures usage { ((form : FormOf) → IsFormOf words.now form → ⊥)
-        → ((number : ℕ) → IsServeForm words.now number → ⊥) → IsUsage
+    requires none { (command : Spelled) → IsForm words.now command → ⊥ }
+    ensures answered { IsAnswered words.now
         (seen_of D.Disk P.Provider S.Source K.Sink disk.old providers.old source.old sink.old)
         (seen_of D.Disk P.Provider S.Source K.Sink disk.new providers.new source.new sink.new)
         (ending_of result) }
-    ensures carries { (form : FormOf) → IsFormOf words.now form → AnswersForm form
-        (seen_of D.Disk P.Provider S.Source K.Sink disk.old providers.old source.old sink.old)
-        (seen_of D.Disk P.Provider S.Source K.Sink disk.new providers.new source.new sink.new)
-        (ending_of result) }
-    ensures serves { (number : ℕ) → IsServeForm words.now number → AnswersServe number
-        (seen_of D.Disk P.Provider S.Source K.Sink disk.old providers.old source.old sink.old)
-        (seen_of D.Disk P.Provider S.Source K.Sink disk.new providers.new source.new sink.new)
-        (ending_of result) }
-    ensures counts { NoCountFalls
-        (seen_of D.Disk P.Provider S.Source K.Sink disk.old providers.old source.old sink.old)
-        (seen_of D.Disk P.Provider S.Source K.Sink disk.new providers.new source.new sink.new) }
     ensures tells { is_some (D.holds disk.new) ≡ is_some (D.holds disk.old) }
 {
     match read_form(words) {
         Some(form) => carry(alloc, form, disk, providers, source, sink),
         None => serve_words(alloc, words, providers, source, sink),
+    }
+}
+
+/// Does what words ask for, over a slice of providers.
+fn answer_words<D: Disk, P: Tamper, S: Source, K: Sink>(
+    alloc: Global,
+    words: &[String],
+    disk: &mut D,
+    providers: &mut [P],
+    source: &mut S,
+    sink: &mut K,
+) -> Report
+    ensures answered { IsAnswered words.now
+        (seen_of D.Disk P.Provider S.Source K.Sink disk.old providers.old source.old sink.old)
+        (seen_of D.Disk P.Provider S.Source K.Sink disk.new providers.new source.new sink.new)
+        (ending_of result) }
+    ensures tells { is_some (D.holds disk.new) ≡ is_some (D.holds disk.old) }
+{
+    words_spell_one_command();
+    match read_command(alloc, words) {
+        Ok(Some(command)) => answer(alloc, command, disk, providers, source, sink),
+        Ok(None) => carry_words(alloc, words, disk, providers, source, sink),
+        Err(Memory) => Report::of(NO_MEMORY),
     }
 }
 
@@ -134,37 +135,11 @@ pub fn hail<D: Disk, P: Tamper, S: Source, K: Sink>(
     source: &mut S,
     sink: &mut K,
 ) -> Report
-    ensures usage { ((command : Spelled) → IsForm words.now command → ⊥)
-        → ((form : FormOf) → IsFormOf words.now form → ⊥)
-        → ((number : ℕ) → IsServeForm words.now number → ⊥) → IsUsage
+    ensures answered { IsAnswered words.now
         (seen_of D.Disk P.Provider S.Source K.Sink disk.old providers.old.items source.old sink.old)
         (seen_of D.Disk P.Provider S.Source K.Sink disk.new providers.new.items source.new sink.new)
         (ending_of result) }
-    ensures answers { (command : Spelled) → IsForm words.now command → Answers command
-        (seen_of D.Disk P.Provider S.Source K.Sink disk.old providers.old.items source.old sink.old)
-        (seen_of D.Disk P.Provider S.Source K.Sink disk.new providers.new.items source.new sink.new)
-        (ending_of result) }
-    ensures carries { (form : FormOf) → IsFormOf words.now form → AnswersForm form
-        (seen_of D.Disk P.Provider S.Source K.Sink disk.old providers.old.items source.old sink.old)
-        (seen_of D.Disk P.Provider S.Source K.Sink disk.new providers.new.items source.new sink.new)
-        (ending_of result) }
-    ensures serves { (number : ℕ) → IsServeForm words.now number → AnswersServe number
-        (seen_of D.Disk P.Provider S.Source K.Sink disk.old providers.old.items source.old sink.old)
-        (seen_of D.Disk P.Provider S.Source K.Sink disk.new providers.new.items source.new sink.new)
-        (ending_of result) }
-    ensures headline { (form : FormOf) → IsFormOf words.now form → KeepsTheHeadline
-        (seen_of D.Disk P.Provider S.Source K.Sink disk.old providers.old.items source.old sink.old)
-        (seen_of D.Disk P.Provider S.Source K.Sink disk.new providers.new.items source.new sink.new)
-        (ending_of result) }
-    ensures counts { NoCountFalls
-        (seen_of D.Disk P.Provider S.Source K.Sink disk.old providers.old.items source.old sink.old)
-        (seen_of D.Disk P.Provider S.Source K.Sink disk.new providers.new.items source.new sink.new) }
     ensures tells { is_some (D.holds disk.new) ≡ is_some (D.holds disk.old) }
 {
-    words_spell_one_command();
-    match read_command(alloc, words) {
-        Ok(Some(command)) => answer(alloc, command, disk, providers, source, sink),
-        Ok(None) => carry_words(alloc, words, disk, providers, source, sink),
-        Err(Memory) => Report::of(NO_MEMORY),
-    }
+    answer_words(alloc, words, disk, providers, source, sink)
 }

@@ -1,0 +1,91 @@
+-- What words come to, by what they spell: one command, one form or one number of a server, or nothing.
+use Rattle.std.proofs.Common.{◌≡◌, ℕ, List, String, refl, ap, subst, inr, arith}
+use Rattle.std.specs.declared.alloc.Global.{Global}
+use Rattle.command_defs.specs.Seen.{Seen, Ending, NoCountFalls}
+use Rattle.command_defs.specs.Forms.{Command, IsForm}
+use Rattle.command_defs.specs.Commands.{Answers, IsUsage}
+use Rattle.hail_replay.specs.Forms.{IsFormOf}
+use Rattle.hail_replay.specs.declared.forms.Form.{Form}
+use Rattle.provider_server.specs.Words.{IsServeForm}
+use Rattle.provider_server.specs.Answers.{AnswersServe}
+use Rattle.hail_top.specs.Answered.{IsAnswered}
+use Rattle.hail_top.specs.Carried.{AnswersForm}
+use Rattle.hail_top.specs.Endings.{ending_with}
+use Rattle.hail_top.proofs.Answered.{no_memory-told}
+use Rattle.hail_top.proofs.Carried.{form-keeps, unstarted-form}
+use Rattle.hail_top.proofs.FormWords.{answered-form, no-form}
+use Rattle.hail_top.proofs.ServeWords.{form-serves-none, no-serve, unstarted-serve}
+
+-- words that spell one command are answered as it is
+pub command-words : (words : List (String Global)) (command : Command) (old new : Seen) (end : Ending) →
+    IsForm words command → ((other : Command) → IsForm words other → command ≡ other)
+    → Answers command old new end → NoCountFalls old new → IsAnswered words old new end
+command-words words command old new end is once a counts = record {
+  usage = λ none no_form no_serve. absurd (none command is);
+  answers = λ other spelled. subst (λ (c : Command). Answers c old new end) (once other spelled) a;
+  carries = λ form spelled. absurd (no-form words command form is spelled);
+  serves = λ number spelled. absurd (no-serve words command number is spelled);
+  headline = λ form spelled. absurd (no-form words command form is spelled);
+  counts = counts;
+}
+
+-- words that spell a form are answered as it is
+pub form-words : (words : List (String Global)) (form : Form) (old new : Seen) (end : Ending) →
+    ((command : Command) → IsForm words command → ⊥) → IsFormOf words form
+    → AnswersForm form old new end → NoCountFalls old new → IsAnswered words old new end
+form-words words form old new end none is a counts = record {
+  usage = λ no_command no_form no_serve. absurd (no_form form is);
+  answers = λ command spelled. absurd (none command spelled);
+  carries = λ other spelled. answered-form words form other old new end is a spelled;
+  serves = λ number spelled. absurd (form-serves-none words form number is spelled);
+  headline = λ other spelled. form-keeps other old new end (answered-form words form other old new end is a spelled);
+  counts = counts;
+}
+
+-- words that spell neither are answered as a server, or as a usage
+pub other-words : (words : List (String Global)) (old new : Seen) (end : Ending) →
+    ((command : Command) → IsForm words command → ⊥) → ((form : Form) → IsFormOf words form → ⊥)
+    → (((number : ℕ) → IsServeForm words number → ⊥) → IsUsage old new end)
+    → ((number : ℕ) → IsServeForm words number → AnswersServe number old new end)
+    → NoCountFalls old new → IsAnswered words old new end
+other-words words old new end none no_form usage serves counts = record {
+  usage = λ no_command no_other no_serve. usage no_serve;
+  answers = λ command spelled. absurd (none command spelled);
+  carries = λ form spelled. absurd (no_form form spelled);
+  serves = serves;
+  headline = λ form spelled. absurd (no_form form spelled);
+  counts = counts;
+}
+
+-- no count of a fault falls where nothing changes
+none-falls : (same : Seen) → NoCountFalls same same
+none-falls same = record {
+  disk = omega arith;
+  handed = refl;
+  stores = λ j. omega arith;
+  others = λ j. omega arith;
+  source = omega arith;
+  sink = omega arith;
+}
+
+-- any words, where there was no memory to read them and no device was called
+pub unread-words : (words : List (String Global)) (same : Seen) (end : Ending) → end ≡ ending_with 70 0 →
+    IsAnswered words same same end
+unread-words words same end is = record {
+  usage = λ no_command no_form no_serve. record {
+    refused = (inr (ap (λ (e : Ending). e.status) is), refl);
+    touches = record {
+      disk = refl;
+      disk_faults = refl;
+      providers = refl;
+      source = (refl, refl);
+      place = ap (λ (e : Ending). e.at) is;
+      heard = ap (λ (e : Ending). e.heard) is;
+    };
+  };
+  answers = λ command spelled. no_memory-told command same end is;
+  carries = λ form spelled. unstarted-form form same end is;
+  serves = λ number spelled. unstarted-serve number same end is;
+  headline = λ form spelled. form-keeps form same same end (unstarted-form form same end is);
+  counts = none-falls same;
+}
