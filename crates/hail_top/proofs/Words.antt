@@ -8,7 +8,7 @@ use Rattle.hail_replay.specs.Forms.{IsFormOf}
 use Rattle.hail_replay.specs.declared.forms.Form.{Form}
 use Rattle.provider_server.specs.Words.{IsServeForm}
 use Rattle.provider_server.specs.Answers.{AnswersServe}
-use Rattle.hail_top.specs.Answered.{IsAnswered}
+use Rattle.hail_top.specs.Answered.{AnswersWords}
 use Rattle.hail_top.specs.Carried.{AnswersForm}
 use Rattle.hail_top.specs.Endings.{ending_with}
 use Rattle.hail_top.proofs.Answered.{no_memory-told}
@@ -19,7 +19,7 @@ use Rattle.hail_top.proofs.ServeWords.{form-serves-none, no-serve, unstarted-ser
 -- words that spell one command are answered as it is
 pub command-words : (words : List (String Global)) (command : Command) (old new : Seen) (end : Ending) →
     IsForm words command → ((other : Command) → IsForm words other → command ≡ other)
-    → Answers command old new end → NoCountFalls old new → IsAnswered words old new end
+    → Answers command old new end → NoCountFalls old new → AnswersWords words old new end
 command-words words command old new end is once a counts = record {
   usage = λ none no_form no_serve. absurd (none command is);
   answers = λ other spelled. subst (λ (c : Command). Answers c old new end) (once other spelled) a;
@@ -32,7 +32,7 @@ command-words words command old new end is once a counts = record {
 -- words that spell a form are answered as it is
 pub form-words : (words : List (String Global)) (form : Form) (old new : Seen) (end : Ending) →
     ((command : Command) → IsForm words command → ⊥) → IsFormOf words form
-    → AnswersForm form old new end → NoCountFalls old new → IsAnswered words old new end
+    → AnswersForm form old new end → NoCountFalls old new → AnswersWords words old new end
 form-words words form old new end none is a counts = record {
   usage = λ no_command no_form no_serve. absurd (no_form form is);
   answers = λ command spelled. absurd (none command spelled);
@@ -47,7 +47,7 @@ pub other-words : (words : List (String Global)) (old new : Seen) (end : Ending)
     ((command : Command) → IsForm words command → ⊥) → ((form : Form) → IsFormOf words form → ⊥)
     → (((number : ℕ) → IsServeForm words number → ⊥) → IsUsage old new end)
     → ((number : ℕ) → IsServeForm words number → AnswersServe number old new end)
-    → NoCountFalls old new → IsAnswered words old new end
+    → NoCountFalls old new → AnswersWords words old new end
 other-words words old new end none no_form usage serves counts = record {
   usage = λ no_command no_other no_serve. usage no_serve;
   answers = λ command spelled. absurd (none command spelled);
@@ -70,7 +70,7 @@ none-falls same = record {
 
 -- any words, where there was no memory to read them and no device was called
 pub unread-words : (words : List (String Global)) (same : Seen) (end : Ending) → end ≡ ending_with 70 0 →
-    IsAnswered words same same end
+    AnswersWords words same same end
 unread-words words same end is = record {
   usage = λ no_command no_form no_serve. record {
     refused = (inr (ap (λ (e : Ending). e.status) is), refl);

@@ -12,7 +12,7 @@ use Rattle.hail_top.specs.Carried.{AnswersForm, KeepsTheHeadline}
 
 -- words end as what they spell does: a command on a store, a replay or a trial, a server, or else a usage; a
 -- replay and a trial keep the headline, and no count of faults falls
-pub record IsAnswered (words : List (String Global)) (old new : Seen) (end : Ending) : Type 0 where
+pub record AnswersWords (words : List (String Global)) (old new : Seen) (end : Ending) : Type 0 where
   pub usage : ((command : Command) → IsForm words command → ⊥) → ((form : Form) → IsFormOf words form → ⊥)
       → ((number : ℕ) → IsServeForm words number → ⊥) → IsUsage old new end
   pub answers : (command : Command) → IsForm words command → Answers command old new end

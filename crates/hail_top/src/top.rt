@@ -3,7 +3,7 @@ ghost use Rattle.command_defs.specs.Forms.{Command as Spelled, IsForm};
 ghost use Rattle.command_defs.specs.Seen.{NoCountFalls};
 ghost use Rattle.command_defs.specs.Commands.{Answers};
 ghost use Rattle.command_words.specs.Commands.{command_of};
-ghost use Rattle.hail_top.specs.Answered.{IsAnswered};
+ghost use Rattle.hail_top.specs.Answered.{AnswersWords};
 ghost use Rattle.hail_top.specs.Carried.{AnswersForm};
 ghost use Rattle.hail_top.specs.Endings.{seen_of, ending_of};
 ghost use Rattle.hail_top.specs.Rows.{HasItsSymbols};
@@ -91,7 +91,7 @@ fn carry_words<D: Disk, P: Tamper, S: Source, K: Sink>(
     sink: &mut K,
 ) -> Report
     requires none { (command : Spelled) → IsForm words.now command → ⊥ }
-    ensures answered { IsAnswered words.now
+    ensures answered { AnswersWords words.now
         (seen_of D.Disk P.Provider S.Source K.Sink disk.old providers.old source.old sink.old)
         (seen_of D.Disk P.Provider S.Source K.Sink disk.new providers.new source.new sink.new)
         (ending_of result) }
@@ -112,7 +112,7 @@ fn answer_words<D: Disk, P: Tamper, S: Source, K: Sink>(
     source: &mut S,
     sink: &mut K,
 ) -> Report
-    ensures answered { IsAnswered words.now
+    ensures answered { AnswersWords words.now
         (seen_of D.Disk P.Provider S.Source K.Sink disk.old providers.old source.old sink.old)
         (seen_of D.Disk P.Provider S.Source K.Sink disk.new providers.new source.new sink.new)
         (ending_of result) }
@@ -135,7 +135,7 @@ pub fn hail<D: Disk, P: Tamper, S: Source, K: Sink>(
     source: &mut S,
     sink: &mut K,
 ) -> Report
-    ensures answered { IsAnswered words.now
+    ensures answered { AnswersWords words.now
         (seen_of D.Disk P.Provider S.Source K.Sink disk.old providers.old.items source.old sink.old)
         (seen_of D.Disk P.Provider S.Source K.Sink disk.new providers.new.items source.new sink.new)
         (ending_of result) }

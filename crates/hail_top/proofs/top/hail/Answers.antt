@@ -1,13 +1,13 @@
 use Rattle.std.proofs.Common.{arith}
 use Rattle.std.proofs.lemmas.List.{take_at}
-use Rattle.hail_top.specs.Answered.{IsAnswered}
+use Rattle.hail_top.specs.Answered.{AnswersWords}
 use Rattle.hail_top.specs.Endings.{seen_of, ending_of}
 use Rattle.hail_top.proofs.Carried.{over-lists}
 use Rattle.hail_top.proofs.top.hail.Goals as goal
 
 pub returns-clause-answered : goal.returns-clause-answered
 returns-clause-answered g c =
-    over-lists (λ old new. IsAnswered c.args.words.now
+    over-lists (λ old new. AnswersWords c.args.words.now
     (seen_of g.D.Disk g.P.Provider g.S.Source g.K.Sink c.args.disk.now old c.args.source.now c.args.sink.now)
     (seen_of g.D.Disk g.P.Provider g.S.Source g.K.Sink c.answer_words.new.disk new c.answer_words.new.source
     c.answer_words.new.sink) (ending_of c.answer_words.result))
