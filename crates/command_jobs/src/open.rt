@@ -63,6 +63,7 @@ pub fn open_vault<D: Disk>(alloc: Global, disk: &mut D, handed: usize) -> Result
     opened_states();
     let vault = Vault::start(alloc, disk, FIRST_JOB)?;
     if handed < usize::from(vault.setup().n) {
+        vault.close();
         return Err(Unopened::TooFewProviders);
     }
     Ok(vault)

@@ -43,8 +43,17 @@ pub fn run_job<D: Disk, P: Provider>(
 {
     opened_states();
     told_jobs_leave();
-    let number = begin(&mut vault, job)?;
-    Ok(finish(&mut vault, number, disk, providers))
+    match begin(&mut vault, job) {
+        Ok(number) => {
+            let ended = finish(&mut vault, number, disk, providers);
+            vault.close();
+            Ok(ended)
+        }
+        Err(why) => {
+            vault.close();
+            Err(why)
+        }
+    }
 }
 
 /// Begins a job of a vault.

@@ -141,6 +141,7 @@ fn count_events<D: Disk, P: Tamper>(
         disk,
         providers,
     );
+    client.close();
     counted
 }
 

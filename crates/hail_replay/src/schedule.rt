@@ -168,5 +168,6 @@ pub fn replay<D: Disk, P: Tamper, K: Sink>(
         providers,
         sink,
     );
+    client.close();
     Replayed { status, heard }
 }

@@ -1,6 +1,6 @@
 -- A schedule or a trial, carried out or not.
-use Rattle.std.proofs.Common.{◌≡◌, ◌⊎◌, inl, inr, ℕ, ◌≤◌, ◌+◌, List, length, reverse, refl, ap, sym, subst, arith}
-use Rattle.command_defs.specs.Seen.{Seen, Ending, NoCountFalls, provider_at, sinking}
+use Rattle.std.proofs.Common.{◌≡◌, ◌⊎◌, inl, inr, ℕ, ◌+◌, List, length, reverse, refl, ap, sym, subst, arith}
+use Rattle.command_defs.specs.Seen.{Seen, Ending, provider_at, sinking}
 use Rattle.device_defs.specs.Faults.{Rose}
 use Rattle.command_defs.specs.Sinking.{Sinking}
 use Rattle.machine_defs.specs.Heard.{Entry}
@@ -8,7 +8,6 @@ use Rattle.machine_defs.specs.Runs.{Moment}
 use Rattle.machine_defs.specs.States.{State}
 use Rattle.machine_defs.specs.Transcripts.{Instruction}
 use Rattle.vault_open.specs.Devices.{Devices}
-use Rattle.vault.specs.Devices.{devices_seen}
 use Rattle.hail_replay.specs.Replayed.{Replays}
 use Rattle.hail_replay.specs.Trials.{RunsTrial, RunsTo}
 use Rattle.hail_replay.specs.Answers as answers

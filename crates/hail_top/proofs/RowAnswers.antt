@@ -1,5 +1,5 @@
 -- The answer to a row follows from what was found in it.
-use Rattle.std.proofs.Common.{◌≡◌, ℕ, List, [], Option, ap, ◌∙◌, subst}
+use Rattle.std.proofs.Common.{◌≡◌, ℕ, List, Option, ap, ◌∙◌, subst}
 use Rattle.hail_field.specs.Shape.{IsShape}
 use Rattle.code_defs.specs.Polynomials.{value}
 use Rattle.code_defs.specs.Points.{upto}

@@ -1,12 +1,12 @@
 -- How an `init` ends before it comes to the disk, or with the disk's end.
-use Rattle.std.proofs.Common.{◌≡◌, ℕ, ◌<◌, true, false, List, [], length, refl, subst}
+use Rattle.std.proofs.Common.{◌≡◌, ℕ, ◌<◌, true, List, [], length, refl, subst}
 use Rattle.device_defs.specs.Faults.{Rose}
 use Rattle.record_defs.specs.Records.{is_setup}
 use Rattle.record_defs.specs.Records.{Setup as SetupData}
 use Rattle.command_defs.specs.Forms.{Numbers}
 use Rattle.command_defs.specs.Keys.{IsKeyForm, longest_key}
 use Rattle.command_defs.specs.Seen.{Seen, Ending, ReadsAtMost, ReadsUpTo, SameSource}
-use Rattle.command_defs.specs.Inits.{setup_with, InitsDisk, AnswersInit, bad_setup, too_few_providers, source_fault, bad_key, keyed, no_memory}
+use Rattle.command_defs.specs.Inits.{setup_with, InitsDisk, AnswersInit, too_few_providers, source_fault, bad_key, keyed, no_memory}
 use Rattle.record_codec.specs.declared.setup.Setup.{Setup}
 use Rattle.record_codec.specs.Entries.{with_master}
 use Rattle.opening_defs.proofs.Resyncs.{resynced-equal}

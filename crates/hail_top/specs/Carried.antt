@@ -13,7 +13,6 @@ use Rattle.machine_defs.specs.Runs.{Moment}
 use Rattle.machine_defs.specs.States.{State}
 use Rattle.machine_defs.specs.Transcripts.{Instruction}
 use Rattle.vault_open.specs.Devices.{Devices}
-use Rattle.vault.specs.Devices.{devices_seen}
 use Rattle.hail_replay.specs.Starts.{AreLeft}
 use Rattle.hail_replay.specs.Replayed.{CarriesOn}
 use Rattle.hail_replay.specs.Answers.{AnswersReplay, AnswersTrial, IsUndone, devices_of_seen}

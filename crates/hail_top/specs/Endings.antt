@@ -15,7 +15,6 @@ use Rattle.provider_model.specs.declared.provider.Provider.{Ghosts as ProviderGh
 use Rattle.stream_model.specs.declared.sink.Sink.{Ghosts as SinkGhosts}
 use Rattle.stream_model.specs.declared.source.Source.{Ghosts as SourceGhosts}
 use Rattle.device_defs.specs.Cells.{Cells}
-use Rattle.device_defs.specs.Providers.{Provider}
 use Rattle.command_defs.specs.Seen.{Seen, Ending, seen}
 use Rattle.provider_model.specs.Seen.{provider_seen}
 use Rattle.hail_replay.specs.Heard.{entries_heard}

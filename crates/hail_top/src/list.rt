@@ -51,7 +51,11 @@ pub fn list<D: Disk, K: Sink>(alloc: Global, handed: usize, disk: &mut D, sink: 
     ensures sink_count { K.faults sink.old ≤ K.faults sink.new }
 {
     match open_vault(alloc, disk, handed) {
-        Ok(vault) => Report::of(write_files(alloc, &vault, sink)),
+        Ok(vault) => {
+            let status = write_files(alloc, &vault, sink);
+            vault.close();
+            Report::of(status)
+        }
         Err(why) => unopened(why),
     }
 }

@@ -59,7 +59,10 @@ fn put_read<D: Disk, P: Provider, S: Source, K: Sink>(
             providers,
             sink,
         ),
-        Err(fault) => unread(fault),
+        Err(fault) => {
+            vault.close();
+            unread(fault)
+        }
     }
 }
 

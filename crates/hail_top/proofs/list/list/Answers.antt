@@ -14,7 +14,7 @@ returns-in-Ok-clause-answers g c providers left count handed =
     (g.K.Sink.faults c.args.sink.now) in
     let found = c.in-Ok.ensures.opened in
     listed-told found.0 old _ _ _ c.of.ensures (opened-read old found.0 c.args.handed (sym handed) found.1)
-    (c.write_files.ensures.written found.0 found.2.table) c.in-Ok.ensures.synced refl
+    (c.write_files-status.ensures.written found.0 found.2.table) c.in-Ok.ensures.synced refl
 
 pub returns-in-Err-clause-answers : goal.returns-in-Err-clause-answers
 returns-in-Err-clause-answers g c providers left count handed =
