@@ -10,23 +10,20 @@ const WIDE: Challenge = Challenge {
     picks: 4,
 };
 
-/// The picked rows.
-fn rows(challenge: &Challenge) -> [u64; 4] {
-    [
-        challenge.row(0),
-        challenge.row(1),
-        challenge.row(2),
-        challenge.row(3),
-    ]
-}
+/// The picked rows, and the first two among 2^32.
+const ROWS: [u64; 6] = [19, 70, 6, 24, 1_823_315_891, 1_879_516_262];
 
 // A ChaCha20 written in Python from RFC 8439 computed these values.
 #[test]
 fn weight_and_rows_are_as_computed_elsewhere(rt: HostRuntime) {
-    let wide = [WIDE.row(0), WIDE.row(1)];
-    assert!(rt;
-        CHALLENGE.alpha() == Symbol(65_912_960_681_525_404_807_291_868_634_059_098_642)
-            && rows(&CHALLENGE) == [19, 70, 6, 24]
-            && wide == [1_823_315_891, 1_879_516_262]
-    );
+    let rows = [
+        CHALLENGE.row(0),
+        CHALLENGE.row(1),
+        CHALLENGE.row(2),
+        CHALLENGE.row(3),
+        WIDE.row(0),
+        WIDE.row(1),
+    ];
+    let alpha = Symbol(65_912_960_681_525_404_807_291_868_634_059_098_642);
+    assert!(rt; CHALLENGE.alpha() == alpha && rows == ROWS);
 }

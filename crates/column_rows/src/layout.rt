@@ -2,7 +2,7 @@ ghost use Rattle.std.specs.Prelude.{◌≤◌, ◌^◌};
 
 use code_points::find_profile;
 use file_layout::*;
-use hail_field::{Shape, Symbol};
+use hail_field::Shape;
 
 /// A file of this many bytes in stripes of 32.
 fn file(length: u32) -> FileShape
@@ -28,19 +28,19 @@ fn files_have_stripes_and_rows(rt: HostRuntime) {
     assert!(rt; stripes == [0, 1, 1, 2, 131_072] && file(33).rows() == 12);
 }
 
-/// Numbers of symbols in a file of 33 ones, and the symbols.
-static SYMBOLS: [(u64, Symbol); 5] = [
-    (0, Symbol(0x0101_0101_0101_0101_0101_0101_0101_0101)),
-    (1, Symbol(0x0101_0101_0101_0101_0101_0101_0101_0101)),
-    (2, Symbol(1)),
-    (3, Symbol(0)),
-    (u64::MAX, Symbol(0)),
+/// Places of symbols in a file of 33 ones, and their numbers.
+static SYMBOLS: [(u64, u128); 5] = [
+    (0, 0x0101_0101_0101_0101_0101_0101_0101_0101),
+    (1, 0x0101_0101_0101_0101_0101_0101_0101_0101),
+    (2, 1),
+    (3, 0),
+    (u64::MAX, 0),
 ];
 
 /// The place of the first of them that is another one.
 fn first_other_symbol(file: &FileShape) -> Option<usize> {
-    for (place, (number, symbol)) in SYMBOLS.iter().enumerate() {
-        if file.symbol_at(&[1; 33], *number) != *symbol {
+    for (place, (number, wanted)) in SYMBOLS.iter().enumerate() {
+        if file.symbol_at(&[1; 33], *number).0 != *wanted {
             return Some(place);
         }
     }
