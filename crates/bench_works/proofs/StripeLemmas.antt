@@ -5,7 +5,7 @@ use Rattle.std.specs.List.{range_with_len}
 use Rattle.std.proofs.Math.Nat.{mul-le-mul_right}
 use Rattle.std.proofs.Math.Seq.{drop-append_seam, take-append_seam}
 use Rattle.std.proofs.lemmas.Nat.{div-mul-add, mod-mul-add}
-use Rattle.std.proofs.lemmas.List.{take_more, take-append-le, drop-append-le, length-append, length-drop, drop-drop, drop-take, get_or-take, get_or-replicate, length-take-le, get_or-set_other}
+use Rattle.std.proofs.lemmas.List.{take_more, take-append-le, drop-append-le, length-append, length-replicate, length-drop, drop-drop, drop-take, get_or-take, get_or-replicate, length-take-le, get_or-set_other}
 use Rattle.std.proofs.lemmas.Grind.{get_or-set_at}
 use Rattle.std.proofs.lemmas.Option.{slice_get-get_or}
 use Rattle.hail_field.specs.Shape.{IsShape}
@@ -266,3 +266,16 @@ opened-right o bytes number count stripe liars seen part symbols flags is shape 
         (subst (λ (m : ℕ). differences
         (take o.profile.size (drop ((stripe * o.shape.n + j) * o.profile.size) seen))
         (columns o bytes ((stripe * o.shape.n + j) % o.shape.n) m) ≤ o.profile.fix) column near))
+
+-- as many blocks as there are copies
+pub zeros-length : (blocks : List (List ℕ)) (n size : ℕ) → blocks ≡ replicate n (replicate size 0) →
+    length blocks ≡ n
+zeros-length blocks n size e = ap length e ∙ length-replicate n (replicate size 0)
+
+-- each of them has the size
+pub zeros-sizes : (blocks : List (List ℕ)) (n size : ℕ) → blocks ≡ replicate n (replicate size 0) →
+    (k : ℕ) (d : List ℕ) → k < length blocks → length (get_or blocks k d) ≡ size
+zeros-sizes blocks n size e k d below =
+    ap (λ (bs : List (List ℕ)). length (get_or bs k d)) e
+    ∙ ap length (get_or-replicate n k (replicate size 0) d (omega (arith, below, zeros-length blocks n size e)))
+    ∙ length-replicate size 0
