@@ -39,18 +39,6 @@ impl<R: Files + Clone + Drop> FileDisk<R> {
         FileDisk::after(rt, alloc, path, None)
     }
 
-    /// The disk of a file and of folders before its first call.
-    fn of(file: KeptFile<R>, folders: Option<ProviderFolders<R>>) -> FileDisk<R>
-        ensures { result ≡ not_called }
-    {
-        FileDisk {
-            file,
-            folders,
-            faults: 0,
-            calls: 0,
-        }
-    }
-
     /// The same, where each write comes after the sync of these folders.
     pub fn after(
         rt: &R,
@@ -63,6 +51,18 @@ impl<R: Files + Clone + Drop> FileDisk<R> {
         match KeptFile::new(rt, alloc, path) {
             Ok(file) => Ok(FileDisk::of(file, folders)),
             Err(memory) => Err(memory),
+        }
+    }
+
+    /// The disk of a file and of folders before its first call.
+    fn of(file: KeptFile<R>, folders: Option<ProviderFolders<R>>) -> FileDisk<R>
+        ensures { result ≡ not_called }
+    {
+        FileDisk {
+            file,
+            folders,
+            faults: 0,
+            calls: 0,
         }
     }
 
