@@ -1,5 +1,5 @@
 -- One record taken out of a journal's text.
-use Rattle.std.proofs.Common.{◌≡◌, ◌≢◌, inl, inr, ℕ, ◌+◌, ◌<◌, ◌≤◌, ◌^◌, List, [], ◌∷◌, ◌++◌, length, take, drop, sym, ap, ◌∙◌, arith, take-append-drop, length-take, length-append, None}
+use Rattle.std.proofs.Common.{◌≡◌, ◌≢◌, inl, inr, ℕ, ◌+◌, ◌<◌, ◌≤◌, ◌^◌, List, [], ◌∷◌, ◌++◌, length, drop, sym, ap, ◌∙◌, arith, take-append-drop, length-take, length-append, None}
 use Rattle.record_defs.specs.Records.{Record}
 use Rattle.record_defs.specs.Journal.{before_gate, text_size, StandsFor}
 use Rattle.record_defs.specs.Acceptance.{refused, AreAccepted}

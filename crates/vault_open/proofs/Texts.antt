@@ -1,5 +1,5 @@
 -- What a text is long, and what stands at the front of bytes.
-use Rattle.std.proofs.Common.{◌≡◌, ℕ, ◌-◌, ◌≤◌, List, [], ◌∷◌, length, refl, ap, arith, length-append}
+use Rattle.std.proofs.Common.{◌≡◌, ℕ, ◌≤◌, List, [], ◌∷◌, length, refl, ap, arith, length-append}
 use Rattle.record_defs.specs.Records.{Record}
 use Rattle.record_defs.specs.Journal.{before_gate, StandsFor}
 use Rattle.record_defs.proofs.Sizes.{length-before_gate}

@@ -8,7 +8,7 @@ use stream_model::{Memory, WriteFault};
 use thiserror::Error;
 
 /// Why a store was not set up.
-#[derive(Clone, Copy, Debug, PartialEq, Eq, Drop, Error)]
+#[derive(Clone, Copy, Debug, Drop, Error)]
 pub enum InitFault {
     /// A number of the setup is outside its limits.
     #[error("BadSetup")]
@@ -29,7 +29,7 @@ pub enum InitFault {
 }
 
 /// Why a vault was not opened.
-#[derive(Clone, Copy, Debug, PartialEq, Eq, Drop, Error)]
+#[derive(Clone, Copy, Debug, Drop, Error)]
 pub enum StartFault {
     /// A call of the disk failed.
     #[error("DiskFault")]
