@@ -8,7 +8,6 @@ use Rattle.state_laws.proofs.Resting.{start-sound}
 use Rattle.state_laws.proofs.Events.{events-sound}
 use Rattle.vault.specs.declared.vault.Vault.{Vault}
 use Rattle.vault_open.specs.Devices.{Devices, AreDevices}
-use Rattle.vault.proofs.Ways.{images_on}
 use Rattle.hail_client.specs.Client.{next_job_by, uses_by}
 use Rattle.hail_client.specs.Stands.{StandsClosed, StandsBy}
 use Rattle.hail_client.proofs.Settled.{same-images}

@@ -5,7 +5,7 @@ use thiserror::Error;
 use vault::StartFault;
 
 /// Why no vault is open after a reopening.
-#[derive(Clone, Copy, Debug, PartialEq, Eq, Drop, Error)]
+#[derive(Clone, Copy, Debug, Drop, Error)]
 pub enum ReopenFault {
     /// The disk gave no vault.
     #[error("{0}")]

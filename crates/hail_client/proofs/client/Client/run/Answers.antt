@@ -1,5 +1,6 @@
 use Rattle.std.proofs.Common.{length, ◌++◌, sym, ◌∙◌}
 use Rattle.machine_defs.specs.Runs.{now}
+use Rattle.vault.specs.Devices.{devices_seen}
 use Rattle.hail_client.proofs.Runs.{one-more, at-end, over-at}
 use Rattle.hail_client.proofs.client.Client.run.Goals as goal
 
@@ -7,7 +8,9 @@ pub loop-turn-preserved-else-not-goes_on-4 : goal.loop-turn-preserved-else-not-g
 loop-turn-preserved-else-not-goes_on-4 g c = (
   λ start ms reached.
       (let way = c.loop-turn.invariant.0 start ms reached in
-      one-more start ms c.args.job c.loop-turn.self c.step-turn.new.self _ _ way c.step-turn.result
+      one-more start ms c.args.job c.loop-turn.self c.step-turn.new.self
+      (devices_seen g.D.Disk g.P.Provider c.loop-turn.disk c.loop-turn.providers)
+      (devices_seen g.D.Disk g.P.Provider c.step-turn.new.disk c.step-turn.new.providers) way c.step-turn.result
       (sym c.goes_on.ensures ∙ c.if-not-goes_on.false)
       (c.step-turn.ensures.machine (now start (way.steps ++ ms))
       (length (way.steps ++ ms)) way.reached.stands).makes),
@@ -21,7 +24,9 @@ loop-turn-preserved-else-not-goes_on-4 g c = (
 pub returns-then-not-goes_on-clause-machine : goal.returns-then-not-goes_on-clause-machine
 returns-then-not-goes_on-clause-machine g c = λ start ms reached.
     (let way = c.loop-turn.invariant.0 start ms reached in
-    at-end start ms c.args.job c.loop-turn.self c.step-turn.new.self _ _ way c.step-turn.result
+    at-end start ms c.args.job c.loop-turn.self c.step-turn.new.self
+    (devices_seen g.D.Disk g.P.Provider c.loop-turn.disk c.loop-turn.providers)
+    (devices_seen g.D.Disk g.P.Provider c.step-turn.new.disk c.step-turn.new.providers) way c.step-turn.result
     (over-at c.step-turn.result (sym c.goes_on.ensures ∙ c.if-not-goes_on.true))
     (c.step-turn.ensures.machine (now start (way.steps ++ ms))
     (length (way.steps ++ ms)) way.reached.stands).makes
