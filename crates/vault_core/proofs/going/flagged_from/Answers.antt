@@ -10,9 +10,6 @@ loop-j-preserved c = λ object turn. c.loop-j.invariant object turn
     ∙ rewrites_skip c.loop-j.j c.args.providers c.args.flagged.now object turn
     (omega arith) c.if-flagged-j.false
 
-pub returns-then-flagged-j-clause-flagged : goal.returns-then-flagged-j-clause-flagged
-returns-then-flagged-j-clause-flagged c = c.if-flagged-j.true
-
 pub returns-clause-none : goal.returns-clause-none
 returns-clause-none c = λ object turn. c.loop-j.invariant object turn
     ∙ rewrites_none c.loop-j.j c.args.providers c.args.flagged.now object turn (omega arith)
