@@ -1,4 +1,3 @@
-use Rattle.std.proofs.Common.{List, ℕ, subst}
 use Rattle.hail_replay.proofs.counted.count_events.Goals as goal
 
 pub trial_events-counted-requires-clause-fresh : goal.trial_events-counted-requires-clause-fresh

@@ -1,7 +1,8 @@
-use Rattle.std.proofs.Common.{ap, arith}
+use Rattle.std.proofs.Common.{inl, inr, refl, ap, ◌∙◌, arith}
 use Rattle.std.specs.Vec.Iter.{into_iter_items}
 use Rattle.std.proofs.lemmas.List.{nil_from_length}
 use Rattle.schedule_text.specs.Events.{event_command, commands_of}
+use Rattle.hail_replay.proofs.Counts.{then-fell}
 use Rattle.hail_replay.proofs.Loops.{begin-course, go-on, go-wrong, go-short, go-home}
 use Rattle.hail_replay.proofs.schedule.replay_events.Goals as goal
 
@@ -35,3 +36,33 @@ returns-clause-runs g c =
     (ap commands_of (nil_from_length (into_iter_items c.loop-event.left)
     (let n = c.in_default.ensures.cases.0 in let m = c.loop-event.left.rest.ok.0 in
     omega (arith, n, m)))) c.loop-event.invariant.1)
+
+pub returns-then-is_err-clause-ends : goal.returns-then-is_err-clause-ends
+returns-then-is_err-clause-ends g c = inr (inr refl)
+
+pub returns-then-is_err-clause-tells : goal.returns-then-is_err-clause-tells
+returns-then-is_err-clause-tells g c = c.loop-event.invariant.0.tells
+
+pub returns-then-is_err-clause-counts : goal.returns-then-is_err-clause-counts
+returns-then-is_err-clause-counts g c = c.loop-event.invariant.0.counts
+
+pub returns-then-is_err-clause-sink_count : goal.returns-then-is_err-clause-sink_count
+returns-then-is_err-clause-sink_count g c = c.loop-event.invariant.2
+
+pub returns-clause-ends : goal.returns-clause-ends
+returns-clause-ends g c = inl refl
+
+pub returns-clause-tells : goal.returns-clause-tells
+returns-clause-tells g c = c.loop-event.invariant.0.tells
+
+pub returns-clause-counts : goal.returns-clause-counts
+returns-clause-counts g c = c.loop-event.invariant.0.counts
+
+pub returns-clause-sink_count : goal.returns-clause-sink_count
+returns-clause-sink_count g c = c.loop-event.invariant.2
+
+pub returns-then-status-ne-WRITTEN-clause-tells : goal.returns-then-status-ne-WRITTEN-clause-tells
+returns-then-status-ne-WRITTEN-clause-tells g c = c.replay_event-status.ensures.kept.tells ∙ c.loop-event.invariant.0.tells
+
+pub returns-then-status-ne-WRITTEN-clause-counts : goal.returns-then-status-ne-WRITTEN-clause-counts
+returns-then-status-ne-WRITTEN-clause-counts g c = then-fell _ _ _ c.loop-event.invariant.0.counts c.replay_event-status.ensures.kept.counts
