@@ -53,6 +53,14 @@ fn values(alloc: Global, points: &[Symbol], work: &Work) -> Result<Vec<Symbol>, 
     Ok(values)
 }
 
+/// The values of the rest at so many points, from 0 on.
+fn first_values(alloc: Global, count: u8, work: &Work) -> Result<Vec<Symbol>, AllocError>
+    ensures { IfOk result (λ values. values.items ≡ values_at (upto count) work.now.rest) }
+{
+    let first = points(alloc, count)?;
+    values(alloc, &first, work)
+}
+
 /// The values at the first `l` points of the polynomial that is accepted at the points 0 to n - 1.
 fn open(alloc: Global, seen: &[Option<Symbol>], shape: Shape) -> Result<Option<Vec<Symbol>>, Memory>
     requires { length seen.now ≡ shape.n }
@@ -65,8 +73,7 @@ fn open(alloc: Global, seen: &[Option<Symbol>], shape: Shape) -> Result<Option<V
     if open_row(&all, seen, shape, &mut work).is_none() {
         return Ok(None);
     }
-    let first = points(alloc, shape.l)?;
-    Ok(Some(values(alloc, &first, &work)?))
+    Ok(Some(first_values(alloc, shape.l, &work)?))
 }
 
 /// Writes the line of some values.
