@@ -10,7 +10,8 @@ loop-turn-preserved-else-not-goes_on-4 g c = (
       (let way = c.loop-turn.invariant.0 start ms reached in
       one-more start ms c.args.job c.loop-turn.self c.step-turn.new.self
       (devices_seen g.D.Disk g.P.Provider c.loop-turn.disk c.loop-turn.providers)
-      (devices_seen g.D.Disk g.P.Provider c.step-turn.new.disk c.step-turn.new.providers) way c.step-turn.result
+      (devices_seen g.D.Disk g.P.Provider c.step-turn.new.disk c.step-turn.new.providers)
+      way c.step-turn.result
       (sym c.goes_on.ensures ∙ c.if-not-goes_on.false)
       (c.step-turn.ensures.machine (now start (way.steps ++ ms))
       (length (way.steps ++ ms)) way.reached.stands).makes),

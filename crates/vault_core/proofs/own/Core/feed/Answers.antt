@@ -68,7 +68,8 @@ returns-in-WriteBody-clause-setup c =
     let here = step_here c.self.inside c.args.self.now c.args.job c.in-Some.place c.index.result.now
     c.args.reply c.action_over-action.result c.self.view_is c.self.invariant c.requires c.in-Some.ensures
     c.index.ensures c.action_over-action.ensures.value in
-    drawn_setup c.args.self.now c.begin_append.new.self c.in-Some.place here.job c.begin_append.ensures here.here
+    drawn_setup c.args.self.now c.begin_append.new.self c.in-Some.place here.job
+    c.begin_append.ensures here.here
 
 pub returns-in-SyncGate-clause-falls : goal.returns-in-SyncGate-clause-falls
 returns-in-SyncGate-clause-falls c =
