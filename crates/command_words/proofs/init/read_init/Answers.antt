@@ -8,9 +8,12 @@ pub returns-in_err-n : goal.returns-in_err-n
 returns-in_err-n c = rw c.from_residual.ensures (λ numbers form.
     let words = c.args.words.now in
     c.in_err-n.ensures numbers.n numbers.l numbers.b
-    (spelled_by c.as_str-2.ensures.value ((IsInitForm-spells words numbers c.n-item.result form).n c.n-item.is))
-    (spelled_by c.as_str-3.ensures.value ((IsInitForm-spells words numbers c.l-item.result form).l c.l-item.is))
-    (spelled_by c.as_str-4.ensures.value ((IsInitForm-spells words numbers c.b-item.result form).b c.b-item.is)))
+    (spelled_by c.as_str-2.ensures.value
+    ((IsInitForm-spells words numbers c.n-item.result form).n c.n-item.is))
+    (spelled_by c.as_str-3.ensures.value
+    ((IsInitForm-spells words numbers c.l-item.result form).l c.l-item.is))
+    (spelled_by c.as_str-4.ensures.value
+    ((IsInitForm-spells words numbers c.b-item.result form).b c.b-item.is)))
 
 -- and of the next three
 pub returns-in_err-profile : goal.returns-in_err-profile

@@ -62,7 +62,9 @@ pub returns-clause-sink_count : goal.returns-clause-sink_count
 returns-clause-sink_count g c = c.loop-event.invariant.2
 
 pub returns-then-status-ne-WRITTEN-clause-tells : goal.returns-then-status-ne-WRITTEN-clause-tells
-returns-then-status-ne-WRITTEN-clause-tells g c = c.replay_event-status.ensures.kept.tells ∙ c.loop-event.invariant.0.tells
+returns-then-status-ne-WRITTEN-clause-tells g c =
+    c.replay_event-status.ensures.kept.tells ∙ c.loop-event.invariant.0.tells
 
 pub returns-then-status-ne-WRITTEN-clause-counts : goal.returns-then-status-ne-WRITTEN-clause-counts
-returns-then-status-ne-WRITTEN-clause-counts g c = then-fell _ _ _ c.loop-event.invariant.0.counts c.replay_event-status.ensures.kept.counts
+returns-then-status-ne-WRITTEN-clause-counts g c =
+    then-fell _ _ _ c.loop-event.invariant.0.counts c.replay_event-status.ensures.kept.counts

@@ -10,7 +10,8 @@ returns-in-Got c =
     let flags = c.nothing-nothing.ensures.flags in
     rw c.in-Got.is (record {
       got = refl;
-      right = c.eq-right.ensures ∙ ap (λ (bytes : List ℕ). bytes_eq bytes c.args.expected.now) c.as_slice.ensures;
+      right = c.eq-right.ensures
+          ∙ ap (λ (bytes : List ℕ). bytes_eq bytes c.args.expected.now) c.as_slice.ensures;
       audited = flags.2;
       flagged = c.nothing-nothing.ensures.flagged;
       repaired = flags.3;
