@@ -38,7 +38,8 @@ form-words words form old new end none is a counts = record {
   answers = λ command spelled. absurd (none command spelled);
   carries = λ other spelled. answered-form words form other old new end is a spelled;
   serves = λ number spelled. absurd (form-serves-none words form number is spelled);
-  headline = λ other spelled. form-keeps other old new end (answered-form words form other old new end is a spelled);
+  headline = λ other spelled.
+      form-keeps other old new end (answered-form words form other old new end is a spelled);
   counts = counts;
 }
 

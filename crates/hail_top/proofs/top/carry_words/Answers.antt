@@ -10,5 +10,6 @@ pub returns-in-None-clause-answered : goal.returns-in-None-clause-answered
 returns-in-None-clause-answered g c =
     let disk = g.D.Disk.holds c.args.disk.now in
     let faults = g.D.Disk.faults c.args.disk.now in
-    other-words c.args.words.now _ _ _ c.requires.none c.in-None.ensures (c.serve_words.ensures.usage disk faults)
-    (c.serve_words.ensures.serves disk faults) (c.serve_words.ensures.counts disk faults)
+    other-words c.args.words.now _ _ _ c.requires.none c.in-None.ensures
+    (c.serve_words.ensures.usage disk faults) (c.serve_words.ensures.serves disk faults)
+    (c.serve_words.ensures.counts disk faults)
