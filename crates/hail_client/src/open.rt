@@ -135,9 +135,10 @@ impl Client {
         self.give_up();
         let vault = Vault::start(alloc, disk, self.next_job)?;
         if handed < usize::from(vault.setup().n) {
+            vault.close();
             return Err(ReopenFault::TooFewProviders);
         }
-        self.vault = Some(vault);
+        self.hold(vault);
         Ok(())
     }
 
@@ -163,6 +164,17 @@ impl Client {
         ensures closed { self.new ≡ record { vault = None; next_job = client_next_job self.old } }
     {
         self.next_job = self.next_job();
-        self.vault = None;
+        if let Some(vault) = self.vault.take() {
+            vault.close();
+        }
+    }
+
+    /// Has this vault for its own, and no other.
+    fn hold(&mut self, vault: Vault)
+        ensures held { self.new ≡ record self.old { vault = Some vault } }
+    {
+        if let Some(older) = self.vault.replace(vault) {
+            older.close();
+        }
     }
 }

@@ -27,13 +27,14 @@ returns-then-handed-from-clause-machine g c = λ w providers moment told handed 
 
 pub returns-clause-machine : goal.returns-clause-machine
 returns-clause-machine g c = λ w providers moment told handed stands.
+    rw c.hold.ensures.held (
     opened-event w moment c.args.self.now c.give_up.new.self (g.D.Disk.holds c.args.disk.now)
     (g.D.Disk.holds c.start.new.disk) (g.D.Disk.faults c.args.disk.now)
     (g.D.Disk.faults c.start.new.disk) providers
     c.in_ok-vault.vault told c.give_up.ensures.closed c.in_ok-vault.ensures.opened
     c.in_ok-vault.ensures.synced c.in_ok-vault.ensures.cause.never_falls
     (let a = c.if-handed-from.false in let b = c.from.ensures in
-    let n = ap (λ (s : Setup). s.n) c.setup.ensures in omega (arith, a, b, n, handed)) stands
+    let n = ap (λ (s : Setup). s.n) c.setup.ensures in omega (arith, a, b, n, handed)) stands)
 
 pub returns-in_err-vault-clause-anew : goal.returns-in_err-vault-clause-anew
 returns-in_err-vault-clause-anew g c = λ providers moment none handed.
@@ -72,12 +73,13 @@ returns-then-handed-from-clause-standing g c = λ providers handed S.
 
 pub returns-clause-anew : goal.returns-clause-anew
 returns-clause-anew g c = λ providers moment none handed.
+    rw c.hold.ensures.held (
     enough-are c.args.self.now c.give_up.new.self c.give_up.ensures.closed (g.D.Disk.holds c.args.disk.now)
     (g.D.Disk.holds c.start.new.disk) (g.D.Disk.faults c.args.disk.now) (g.D.Disk.faults c.start.new.disk)
     moment providers none c.in_ok-vault.ensures.disk c.in_ok-vault.ensures.cause.never_falls
     c.in_ok-vault.vault c.in_ok-vault.ensures.opened
     (let a = c.if-handed-from.false in let b = c.from.ensures in
-    let n = ap (λ (s : Setup). s.n) c.setup.ensures in omega (arith, a, b, n, handed))
+    let n = ap (λ (s : Setup). s.n) c.setup.ensures in omega (arith, a, b, n, handed)))
 
 pub returns-clause-standing : goal.returns-clause-standing
 returns-clause-standing g c = λ providers handed S.
@@ -89,8 +91,9 @@ returns-clause-standing g c = λ providers handed S.
 
 pub returns-clause-opened : goal.returns-clause-opened
 returns-clause-opened g c =
+    rw c.hold.ensures.held (
     opens-over c.args.self.now c.give_up.new.self c.give_up.ensures.closed (g.D.Disk.holds c.args.disk.now)
     (g.D.Disk.holds c.start.new.disk) (g.D.Disk.faults c.args.disk.now) (g.D.Disk.faults c.start.new.disk)
     c.in_ok-vault.vault c.args.handed c.in_ok-vault.ensures.opened
     (let a = c.if-handed-from.false in let b = c.from.ensures in
-    let n = ap (λ (s : Setup). s.n) c.setup.ensures in omega (arith, a, b, n))
+    let n = ap (λ (s : Setup). s.n) c.setup.ensures in omega (arith, a, b, n)))
