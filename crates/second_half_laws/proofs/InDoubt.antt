@@ -186,6 +186,14 @@ Rewritten start ms = (d : Doubt) (job : Job) (i o s : ℕ) (b : Option (List ℕ
     is_replaced_since job.begun i ms ≡ false → told_block (now start ms) i o s ≡ Some b →
     b ≡ Some (columns (worked_object (now start ms) job o) ((now start ms).bytes o) i s)
 
+-- what a job made by a setup it made by one that is the same
+made_alike : (t u : Setup) (job : Job) (i o s : ℕ) → t ≡ u → HasMadeStore t job i o s → HasMadeStore u job i o s
+made_alike t u job i o s same made = record {
+  place = made.place;
+  made = made.made;
+  action = ap (λ v. slice_get (actions_of v job) made.place) (sym same) ∙ made.action;
+}
+
 -- the stores of a repair before its third move were made before
 made_before : (t : Setup) (w : State) (x job : Job) (i o s : ℕ) → t ≡ setup_in w → job ≡ advanced x →
     next_action w x ≡ Some WriteGate → HasMadeStore t job i o s → HasMadeStore (setup_in w) x i o s
@@ -259,12 +267,7 @@ rewritten limit mark start clean tell (m ∷ ms) run calm marks =
         elim ((turns (now start ms) limit (length ms) m.event m.outcome m.state run.1).doubt d h) [
           | Doubt_now.kept was rec ↦
               (let setup = setup_same m.state (now start ms) (ap setup_of rec) in
-              let old : HasMadeStore (setup_in (now start ms)) job i o s =
-              record {
-                place = made.place;
-                made = made.made;
-                action = ap (λ t. slice_get (actions_of t job) made.place) (sym setup) ∙ made.action;
-              } in
+              let old = made_alike (setup_in m.state) (setup_in (now start ms)) job i o s setup made in
               let p = pin job i o s kind old in
               let below : o < next_id (now start ms).records =
               subst (λ n. n < next_id (now start ms).records) p.id_is
