@@ -1,30 +1,23 @@
 -- When a count of faults rose in a call, from what its parts did.
-use Rattle.std.proofs.Common.{◌≡◌, ◌<◌, ◌≤◌, ℕ, Bool, true, false, refl, sym, ap, ◌∙◌, inl, inr, le_trans, lt_of_le_of_lt, lt_of_lt_of_le}
-use Rattle.std.proofs.lemmas.Bool.{cases_lt}
+use Rattle.std.proofs.Common.{◌≡◌, ◌≤◌, ℕ, Bool, true, false, refl, sym, ap, ◌∙◌, le_trans}
 use Rattle.std.specs.Prelude.{Ok, Err, IsErrOf}
-use Rattle.device_defs.specs.Faults.{HasCause, Rose, last_count}
+use Rattle.device_defs.specs.Faults.{HasCause}
 use Rattle.stream_model.specs.declared.fault.WriteFault.{WriteFault}
 use Rattle.stream_model.specs.declared.fault.WriteFault.TheVariants as write_fault
 use Rattle.provider_wire.specs.declared.end.ServeEnd.{ServeEnd}
 use Rattle.provider_wire.specs.declared.end.ServeEnd.TheVariants as serve_end
+use Rattle.device_defs.proofs.Lasting.{rose-before}
 use Rattle.provider_wire.specs.Ends.{end_after}
 
 -- a call that is no fault says of its count only that it did not fall
 pub no_fault : {before now : ℕ} {F : Type 0} → before ≤ now → (F → ⊥) → HasCause before now F
 no_fault kept none = record { never_falls = kept; rose = λ fault. absurd (none fault) }
 
--- a count that rose from the later of two values rose from the earlier too
-rose_from : (a b c : ℕ) → a ≤ b → b ≤ c → Rose b c → Rose a c
-rose_from a b c first second rose below = elim (cases_lt b last_count) [
-  | inl less ↦ lt_of_le_of_lt first (rose less)
-  | inr more ↦ lt_of_lt_of_le below (le_trans more second)
-]
-
 -- a last part that counts its faults, behind others in which the count did not fall
 pub last_part : {a b c : ℕ} {F G : Type 0} → a ≤ b → HasCause b c F → (G → F) → HasCause a c G
 last_part {a = a} {b = b} {c = c} kept last same = record {
   never_falls = le_trans kept last.never_falls;
-  rose = λ fault. rose_from a b c kept last.never_falls (last.rose (same fault));
+  rose = λ fault. rose-before a b c kept last.never_falls (last.rose (same fault));
 }
 
 -- whether a server says that its source failed

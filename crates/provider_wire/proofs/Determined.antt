@@ -1,10 +1,10 @@
 -- What the answers to requests are, where no call fails, and how many say that one did.
-use Rattle.std.proofs.Common.{◌≡◌, ℕ, ◌+◌, ◌<◌, ◌≤◌, Bool, true, false, List, [], ◌∷◌, ◌++◌, Option, Some, None, refl, sym, ap, subst, ◌∙◌, arith, ◌⊎◌, inl, inr, ⊎_elim}
+use Rattle.std.proofs.Common.{◌≡◌, ℕ, ◌+◌, ◌<◌, ◌≤◌, List, [], ◌∷◌, ◌++◌, Option, Some, None, refl, ap, subst, ◌∙◌, arith, ◌⊎◌, inl, inr, ⊎_elim}
 use Rattle.std.specs.Prelude.{if◌then◌else◌}
 use Rattle.std.specs.Option.{option_map}
 use Rattle.column_defs.specs.Challenges.{honest_answer}
 use Rattle.device_defs.specs.Faults.{last_count, Rose}
-use Rattle.device_defs.specs.Providers.{Held, Provider, sized, with_block, without_object}
+use Rattle.device_defs.specs.Providers.{Held, Provider, with_block, without_object}
 use Rattle.device_defs.specs.ProviderCalls.{FetchGives, AskGives}
 use Rattle.wire_defs.specs.Requests.{Request, Store, Fetch, Ask, Remove}
 use Rattle.wire_defs.specs.Replies.{Reply, Done, Found, Missing, Failed, NoMemory, AnswersRequest, Serves, AreClean, is_failed, failed_count, found, reply_to, held_after, served, reply_bytes, replies_text}

@@ -1,14 +1,14 @@
 -- The bytes of requests, piece by piece.
-use Rattle.std.proofs.Common.{◌≡◌, ℕ, suc, ◌+◌, ◌*◌, ◌<◌, ◌≤◌, ◌^◌, Bool, true, List, [], ◌∷◌, ◌++◌, length, get_or, refl, sym, ap, ◌∙◌, arith, append_assoc}
-use Rattle.std.specs.Prelude.{◌&&◌, nat_lt, nat_le, ◌==◌, IsTrue, All}
-use Rattle.std.specs.Int.{w32, w64, to_le_bytes}
+use Rattle.std.proofs.Common.{◌≡◌, ℕ, suc, ◌<◌, ◌≤◌, ◌^◌, true, List, [], ◌∷◌, ◌++◌, length, refl, ap, ◌∙◌, arith, append_assoc}
+use Rattle.std.specs.Prelude.{◌&&◌, nat_lt, ◌==◌, All}
+use Rattle.std.specs.Int.{w64, to_le_bytes}
 use Rattle.std.specs.List.{list_all}
 use Rattle.std.proofs.lemmas.Bool.{lt-ltb}
 use Rattle.std.proofs.lemmas.Bool.Decides.{nat_tests}
 use Rattle.column_defs.specs.Challenges.{Challenge}
 use Rattle.column_defs.specs.Objects.{bytes_of_symbols}
 use Rattle.device_defs.specs.Told.{IsByte}
-use Rattle.wire_defs.specs.Requests.{Request, Store, Fetch, Ask, Remove, SpellsRequest, request_bytes, place_bytes, block_bytes, challenge_bytes, is_within, is_block, is_challenge, is_request}
+use Rattle.wire_defs.specs.Requests.{Store, Fetch, Ask, Remove, SpellsRequest, request_bytes, place_bytes, is_within}
 
 -- numbers that are all below a limit pass the test for it
 pub all_below : (limit : ℕ) (xs : List ℕ) → All (λ x. x < limit) xs → list_all (λ x. nat_lt x limit) xs ≡ true

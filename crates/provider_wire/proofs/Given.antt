@@ -1,5 +1,5 @@
 -- What a fetch and an ask give, where they give something.
-use Rattle.std.proofs.Common.{◌≡◌, ◌↔◌, ◌<◌, ◌^◌, ℕ, Bool, true, false, List, length, Option, Some, None, refl, subst}
+use Rattle.std.proofs.Common.{◌≡◌, ◌↔◌, ◌<◌, ◌^◌, ℕ, Bool, true, false, List, length, Option, Some, None, subst}
 use Rattle.std.specs.Prelude.{IsTrue, IfSome, All}
 use Rattle.device_defs.specs.Providers.{Held, HasSize}
 use Rattle.device_defs.specs.ProviderCalls.{FetchGives, AskGives}

@@ -1,5 +1,5 @@
 -- A provider over a link stays in step where the link tells what is behind it.
-use Rattle.std.proofs.Common.{◌≡◌, ℕ, Bool, true, false, List, [], ◌∷◌, Option, Some, None, is_some, refl, sym, ap, subst, ◌∙◌}
+use Rattle.std.proofs.Common.{◌≡◌, ℕ, Bool, true, false, List, [], Option, Some, None, refl, sym, ap, ◌∙◌}
 use Rattle.wire_defs.specs.Requests.{Request}
 use Rattle.wire_defs.specs.Links.{Behind}
 use Rattle.provider_wire.specs.Linked.{AskedFor, out_of_step}

@@ -1,8 +1,8 @@
 -- A removal of the object 1, and a byte 9 behind it.
-use Rattle.std.proofs.Common.{◌≡◌, ℕ, List, [], ◌∷◌, Some, refl, arith, inl}
-use Rattle.device_defs.specs.Providers.{Held, Provider, without_object}
-use Rattle.wire_defs.specs.Requests.{Request, Remove, AreFrames, request_bytes}
-use Rattle.wire_defs.specs.Replies.{Reply, Done, Serves}
+use Rattle.std.proofs.Common.{[], ◌∷◌, Some, refl, arith, inl}
+use Rattle.device_defs.specs.Providers.{Held, without_object}
+use Rattle.wire_defs.specs.Requests.{Remove, AreFrames, request_bytes}
+use Rattle.wire_defs.specs.Replies.{Done, Serves}
 use Rattle.wire_defs.specs.Links.{provider_behind}
 use Rattle.wire_defs.specs.Serving.{BadAt, HasServed}
 use Rattle.provider_wire.specs.Loops.{idle}

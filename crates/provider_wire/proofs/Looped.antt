@@ -1,5 +1,5 @@
 -- What a link to a provider in the same program tells.
-use Rattle.std.proofs.Common.{◌≡◌, ℕ, ◌<◌, ◌+◌, List, [], ◌∷◌, ◌++◌, length, take, drop, Option, Some, None, is_some, refl, sym, ap, subst, ◌∙◌, arith}
+use Rattle.std.proofs.Common.{◌≡◌, ℕ, ◌<◌, List, [], ◌∷◌, length, Option, Some, None, is_some, sym, ap, subst, ◌∙◌, arith}
 use Rattle.std.specs.Option.{option_map}
 use Rattle.std.proofs.lemmas.List.{append-nil}
 use Rattle.algebra_laws.proofs.Options.{is_some-option_map}
@@ -8,7 +8,7 @@ use Rattle.device_defs.specs.Providers.{Held, Provider, LosesPart}
 use Rattle.device_defs.proofs.Lasting.{is_some-goes}
 use Rattle.wire_defs.specs.Requests.{Request, Store, Fetch, Ask, Remove, SpellsRequest, request_bytes}
 use Rattle.wire_defs.specs.Replies.{Reply, Done, Found, Missing, Failed, NoMemory, AnswersRequest, AnswersIn}
-use Rattle.wire_defs.specs.Links.{Behind, Sends, Receives}
+use Rattle.wire_defs.specs.Links.{Behind, Sends}
 use Rattle.provider_wire.proofs.Takes.{one_front}
 
 -- a provider that tells what it holds goes on to tell it, and one that does not never begins to

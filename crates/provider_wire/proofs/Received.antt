@@ -1,5 +1,5 @@
 -- What is received over a link that tells what is behind it.
-use Rattle.std.proofs.Common.{◌≡◌, ◌≢◌, ℕ, suc, ◌+◌, ◌*◌, ◌-◌, ◌<◌, ◌≤◌, Bool, true, false, List, [], ◌∷◌, ◌++◌, length, take, drop, Option, Some, None, refl, sym, ap, subst, ◌∙◌, append_assoc, arith, length-append, length-take, get_or}
+use Rattle.std.proofs.Common.{◌≡◌, ℕ, ◌+◌, ◌≤◌, List, [], ◌∷◌, ◌++◌, length, take, Option, Some, None, refl, sym, ap, subst, ◌∙◌, append_assoc, arith, length-append, get_or}
 use Rattle.std.proofs.lemmas.List.{append-nil, take_all}
 use Rattle.device_defs.specs.Told.{Goes}
 use Rattle.wire_defs.specs.Links.{Behind, Receives, provider_behind}

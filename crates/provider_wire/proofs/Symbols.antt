@@ -1,5 +1,5 @@
 -- The bytes of symbols, one after the other, and the symbols of bytes.
-use Rattle.std.proofs.Common.{◌≡◌, ℕ, zero, suc, ◌+◌, ◌*◌, ◌-◌, ◌<◌, ◌≤◌, ◌^◌, List, [], ◌∷◌, ◌++◌, length, take, drop, get_or, set, refl, sym, ap, ◌∙◌, arith, append_assoc, add-one, length-append, length-take, length-drop, take-append-drop, mul-le-mul_right, le_of_suc-le-suc, pow-suc, Bool, true, false}
+use Rattle.std.proofs.Common.{◌≡◌, ℕ, zero, suc, ◌+◌, ◌*◌, ◌<◌, ◌≤◌, ◌^◌, List, [], ◌∷◌, ◌++◌, length, take, drop, get_or, set, refl, sym, ap, ◌∙◌, arith, append_assoc, add-one, length-append, length-take, length-drop, take-append-drop, mul-le-mul_right, le_of_suc-le-suc, pow-suc, Bool, true, false}
 use Rattle.std.specs.Prelude.{nat_lt, ◌&&◌}
 use Rattle.std.specs.List.{list_all}
 use Rattle.std.specs.Int.{w128, to_le_bytes, from_le_bytes, sum_through, byte_worth}

@@ -9,9 +9,7 @@
 use Rattle.std.specs.Prelude.{◌≡◌, ℕ, ◌*◌, Bool, true, false, List, [], ◌∷◌, length, Option, Some, None, Result, Ok, Err, if◌then◌else◌}
 use Rattle.column_defs.specs.Objects.{bytes_of_symbols}
 use Rattle.device_defs.specs.Providers.{Held, Provider}
-use Rattle.device_defs.specs.ProviderCalls.{Stores, FailsToStore, FindsNoMemory, RemovesAll, FailsToRemove}
-use Rattle.provider_model.specs.declared.fault.StoreFault.{StoreFault}
-use Rattle.provider_model.specs.declared.fault.StoreFault.TheVariants as store_fault
+use Rattle.device_defs.specs.ProviderCalls.{RemovesAll, FailsToRemove}
 use Rattle.stream_model.specs.declared.fault.Failed.{Failed}
 use Rattle.wire_defs.specs.Requests.{Request, Store, Fetch, Ask, Remove}
 use Rattle.wire_defs.specs.Replies.{Reply, Done, Found, Missing, Failed as FailedReply, NoMemory, AnswersRequest, FetchesAs, FailsToFetch, AsksAs, FailsToAnswer}

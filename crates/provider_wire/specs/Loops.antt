@@ -2,7 +2,7 @@
 --
 --   behind_loop held .. link == what such a link tells: nothing where its provider tells nothing
 --   idle stores others fetches held == a provider that holds this, with nothing due
-use Rattle.std.specs.Prelude.{ℕ, List, [], drop, Option}
+use Rattle.std.specs.Prelude.{ℕ, [], drop, Option}
 use Rattle.std.specs.Option.{option_map}
 use Rattle.device_defs.specs.Providers.{Held}
 use Rattle.wire_defs.specs.Links.{Behind}

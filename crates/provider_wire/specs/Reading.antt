@@ -1,6 +1,6 @@
 -- Reading a request from left to right: its plain data and what stands behind it; None where no request
 -- stands at the front.
-use Rattle.std.specs.Prelude.{ℕ, zero, suc, ◌+◌, ◌*◌, ◌^◌, List, [], ◌∷◌, ◌++◌, length, take, drop, Option, Some, None, nat_lt, ◌==◌, if◌then◌else◌}
+use Rattle.std.specs.Prelude.{ℕ, zero, suc, ◌*◌, ◌^◌, List, [], ◌∷◌, ◌++◌, length, take, drop, Option, Some, None, nat_lt, ◌==◌, if◌then◌else◌}
 use Rattle.std.specs.Int.{w32, w64, w128, from_le_bytes}
 use Rattle.record_codec.specs.Reading.{◌>>=◌, number_at}
 use Rattle.column_defs.specs.Challenges.{Challenge}

@@ -1,5 +1,4 @@
-use Rattle.std.proofs.Common.{◌≡◌, ℕ, [], length, ap, sym, ◌∙◌, arith, Some}
-use Rattle.wire_defs.specs.Links.{Behind}
+use Rattle.std.proofs.Common.{◌≡◌, ℕ, ap, sym, ◌∙◌, arith, Some}
 use Rattle.provider_wire.proofs.Received.{all_came}
 use Rattle.provider_wire.proofs.receive.receive_answer.Goals as goal
 

@@ -1,5 +1,4 @@
-use Rattle.std.proofs.Common.{◌≡◌, ℕ, ap, ◌∙◌, arith, Some, length}
-use Rattle.wire_defs.specs.Links.{Behind}
+use Rattle.std.proofs.Common.{ℕ, ap, ◌∙◌, arith, Some, length}
 use Rattle.provider_wire.proofs.Received.{first_byte}
 use Rattle.provider_wire.proofs.receive.receive_kind.Goals as goal
 

@@ -1,7 +1,7 @@
-use Rattle.std.proofs.Common.{◌≡◌, ◌+◌, ◌-◌, ◌<◌, ◌≤◌, ◌++◌, ℕ, List, [], length, take, drop, true, false, refl, sym, ap, ◌∙◌, subst, le_trans, arith}
+use Rattle.std.proofs.Common.{◌≡◌, ◌+◌, ◌-◌, [], take, drop, false, refl, sym, ap, ◌∙◌, subst, le_trans, arith}
 use Rattle.std.proofs.lemmas.List.{take_rest}
 use Rattle.wire_defs.specs.Requests.{SpellsNoRequest, is_bad_request}
-use Rattle.provider_wire.proofs.Progress.{starts, nothing_spells, source_failed, most_and_one_fits, no_more_than_most, less_to_read, read_more, few_read, read_fits, waited_before, beyond_waits, some_wait, width_is, bytes_size, front_waits, front_is_there, rest_was_read, finished_at, stopped_at, write_failed, went_on, bad_at, too_long, rest_waits, rest_is_short}
+use Rattle.provider_wire.proofs.Progress.{starts, nothing_spells, source_failed, most_and_one_fits, no_more_than_most, less_to_read, read_more, few_read, read_fits, waited_before, beyond_waits, bytes_size, front_waits, front_is_there, rest_was_read, finished_at, stopped_at, write_failed, went_on, bad_at, too_long, rest_waits, rest_is_short}
 use Rattle.provider_wire.specs.declared.end.ServeEnd.TheVariants as serve_end
 use Rattle.provider_wire.proofs.Causes.{no_fault, last_part, no_source_fault, no_sink_fault, after_is_no_source_fault, sink_failed}
 use Rattle.provider_wire.proofs.server.serve_all.Goals as goal

@@ -1,7 +1,7 @@
-use Rattle.std.proofs.Common.{◌≡◌, ◌+◌, ◌≤◌, ◌-◌, List, ℕ, length, take, drop, sym, ap, ◌∙◌, subst, le_trans, arith}
+use Rattle.std.proofs.Common.{◌+◌, List, ℕ, ap, ◌∙◌, subst, le_trans, arith}
 use Rattle.std.proofs.lemmas.List.{take_rest}
 use Rattle.device_defs.specs.Told.{told_then, TakesFront}
-use Rattle.wire_defs.specs.Requests.{SpellsRequest, SpellsNoRequest, is_bad_request}
+use Rattle.wire_defs.specs.Requests.{SpellsNoRequest}
 use Rattle.provider_wire.specs.Asking.{request_of}
 use Rattle.provider_wire.proofs.Served.{serves_none, serves_more, serves_part, if_err, no_value, within_rest, nearer, short_rest}
 use Rattle.provider_wire.proofs.Causes.{no_fault, not_failed}

@@ -1,4 +1,4 @@
-use Rattle.std.proofs.Common.{◌≡◌, ◌<◌, ◌^◌, refl, sym, ap, ◌∙◌, subst, arith, List, []}
+use Rattle.std.proofs.Common.{refl, sym, ap, ◌∙◌, subst, arith, List}
 use Rattle.wire_defs.specs.Requests.{Ask, SpellsRequest}
 use Rattle.provider_wire.specs.Linked.{out_of_step}
 use Rattle.provider_wire.proofs.Outcomes.{ask_done, ask_missing, ask_failed, ask_steps}

@@ -1,4 +1,4 @@
-use Rattle.std.proofs.Common.{◌≡◌, ◌<◌, ◌^◌, refl, sym, ap, ◌∙◌, subst, arith, List, []}
+use Rattle.std.proofs.Common.{refl, sym, ap, ◌∙◌, subst, arith, List}
 use Rattle.wire_defs.specs.Requests.{Fetch, SpellsRequest}
 use Rattle.provider_wire.specs.Linked.{out_of_step}
 use Rattle.provider_wire.proofs.Outcomes.{fetch_done, fetch_missing, fetch_failed, fetch_steps}
