@@ -291,8 +291,7 @@ module _ (v : Desk) (w : State) (holds holds' : Option Cells) (faults faults' mo
       core jobs keeps stopped tt
       (record {
         setup = setup_same w new refl;
-        handed =
-            handed_same ps w new stands.devices.providers refl (λ j. refl);
+        handed = handed_same ps w new stands.devices.providers refl (λ j. refl);
         faults = refl;
         images = all_images holds' new (up.before (let k = m.moves in omega (arith, k)));
         flight = λ free. absurd (true_false free);
@@ -311,8 +310,7 @@ module _ (v : Desk) (w : State) (holds holds' : Option Cells) (faults faults' mo
       core jobs keeps stopped tt
       (record {
         setup = setup_same w new refl;
-        handed =
-            handed_same ps w new stands.devices.providers refl (λ j. refl);
+        handed = handed_same ps w new stands.devices.providers refl (λ j. refl);
         faults = refl;
         images = all_images holds' new (up.before (let k = m.moves in omega (arith, k)));
         flight = λ free. absurd (true_false free);
@@ -331,8 +329,7 @@ module _ (v : Desk) (w : State) (holds holds' : Option Cells) (faults faults' mo
       core jobs keeps stopped tt
       (record {
         setup = setup_same w new refl;
-        handed =
-            handed_same ps w new stands.devices.providers refl (λ j. refl);
+        handed = handed_same ps w new stands.devices.providers refl (λ j. refl);
         faults = refl;
         images = doubted_images holds' new a.0.entry _ refl refl up.between;
         flight = λ free. absurd (true_false free);
@@ -354,8 +351,7 @@ module _ (v : Desk) (w : State) (holds holds' : Option Cells) (faults faults' mo
       core jobs keeps stopped tt
       (record {
         setup = setup_same w new refl;
-        handed =
-            handed_same ps w new stands.devices.providers refl (λ j. refl);
+        handed = handed_same ps w new stands.devices.providers refl (λ j. refl);
         faults = refl;
         images = doubted_images holds' new a.0.entry doubt.0 doubt.1 doubt.2 up.between;
         flight = λ free. absurd (true_false free);

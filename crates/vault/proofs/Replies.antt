@@ -1,5 +1,5 @@
 -- A reply to the action that comes next, and the end that one brings.
-use Rattle.std.proofs.Common.{◌≡◌, ℕ, true, Option, Some, None, sym, subst, ◌∙◌}
+use Rattle.std.proofs.Common.{◌≡◌, ℕ, true, Some, None, sym, subst, ◌∙◌}
 use Rattle.std.proofs.lemmas.Bool.{false≢true}
 use Rattle.machine_defs.specs.Actions.{Action, WriteBody, SyncBody, WriteGate, SyncGate, Store, Fetch, Ask, Work, Remove, End}
 use Rattle.vault_core.specs.View.{CoreView}

@@ -9,7 +9,7 @@
 --   IsSameDesk old new      == the same jobs with what they work with, the same core, the same append;
 --                              spare room does not count
 --   IsStopped old job reply answer t new == a job was ended with an answer
-use Rattle.std.specs.Prelude.{◌≡◌, ℕ, ◌==◌, true, List, [], Option, Some, None, is_some, slice_get, position}
+use Rattle.std.specs.Prelude.{◌≡◌, ℕ, ◌==◌, true, List, [], Option, Some, is_some, slice_get, position}
 use Rattle.std.specs.List.{remove}
 use Rattle.machine_defs.specs.Events.{Outcome, Step}
 use Rattle.machine_defs.specs.Heard.{Entry}

@@ -1,4 +1,4 @@
-use Rattle.std.proofs.Common.{ap, sym, subst, ◌≡◌, ◌∙◌, List, ℕ, Result, Ok, Err, length, refl}
+use Rattle.std.proofs.Common.{ap, sym, subst, ◌≡◌, ◌∙◌, List, ℕ, Result, Ok, Err, length}
 use Rattle.std.specs.Prelude.{All, OnOk, IfErr}
 use Rattle.column_codec.specs.PresentBlocks.{present_blocks}
 use Rattle.column_codec.specs.declared.opening.RowLost.{RowLost}

@@ -1,4 +1,4 @@
-use Rattle.std.proofs.Common.{◌≡◌, ◌≢◌, ℕ, ◌-◌, [], ◌∷◌, ◌++◌, refl, sym, ap, subst}
+use Rattle.std.proofs.Common.{◌≢◌, ℕ, ◌-◌, [], ◌∷◌, ◌++◌, refl, sym, ap, subst}
 use Rattle.record_defs.specs.Spellings.{spelling}
 use Rattle.vault_core.specs.declared.action.Action.{Action}
 use Rattle.vault_core.specs.Coming.{Coming, Acts, seen_action, called_provider}

@@ -1,4 +1,4 @@
-use Rattle.std.proofs.Common.{refl, ap, arith}
+use Rattle.std.proofs.Common.{refl, arith}
 use Rattle.vault.specs.declared.turn.Turn.TheVariants as turn
 use Rattle.vault.proofs.JobPlaces.{item_at, place_within}
 use Rattle.vault.proofs.desk.Desk.stop.Goals as goal

@@ -1,4 +1,4 @@
-use Rattle.std.proofs.Common.{Result, Err, List, ℕ, ◌∷◌, ◌∙◌, ◌<◌, length, refl, sym, subst, arith}
+use Rattle.std.proofs.Common.{Result, Err, List, ℕ, ◌∷◌, ◌∙◌, ◌<◌, length, sym, subst, arith}
 use Rattle.record_defs.specs.Records.{largest_file}
 use Rattle.machine_defs.specs.Events.{AreBytes}
 use Rattle.machine_defs.specs.Jobs.{PutJob, ToPut}

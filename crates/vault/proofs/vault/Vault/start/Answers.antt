@@ -1,4 +1,4 @@
-use Rattle.std.proofs.Common.{◌≡◌, Result, Ok, Err, ap, arith}
+use Rattle.std.proofs.Common.{◌≡◌, Ok, Err, ap, arith}
 use Rattle.record_defs.proofs.Standing.{text_size-least}
 use Rattle.vault_core.specs.View.{CoreView}
 use Rattle.vault_open.specs.declared.fault.StartFault.{StartFault}
