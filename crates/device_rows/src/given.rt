@@ -28,6 +28,6 @@ pub const CHALLENGE: Challenge = Challenge {
     picks: 4,
 };
 
-/// The weight that the challenge gives its first picked row, as the number of a symbol (below 2^128), written by
-/// the same Python.
+/// The weight that the challenge gives its first picked row, as the number of a symbol (below 2^128); by the
+/// same Python.
 pub const WEIGHT: u128 = 65_912_960_681_525_404_807_291_868_634_059_098_642;
