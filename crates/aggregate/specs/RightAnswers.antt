@@ -1,4 +1,5 @@
--- The right answers to a challenge lie on one polynomial.
+-- The right answers to a challenge lie on one polynomial: sums of rows are rows, so that one aggregated
+-- symbol a provider answers for many (Bowers, Juels and Oprea, HAIL, 2009).
 use Rattle.std.specs.Prelude.{◌≡◌, ℕ, ◌≤◌, List, Some, length}
 use Rattle.code_defs.specs.Polynomials.{value}
 use Rattle.column_defs.specs.Objects.{Object, point}

@@ -17,7 +17,7 @@ fn symbol_in<B: Blocks>(challenge: &Challenge, blocks: &B, row: u64) -> Option<S
 
 /// The honest answer to a challenge that was drawn: the sum, over the picks `k`, of `alpha ^ (k + 1)` times
 /// the symbol held in row `k`; none where one of these rows has no symbol. It takes one product a pick
-/// (Horner's rule).
+/// (Horner's rule). One symbol answers for many rows (Bowers, Juels and Oprea, HAIL, 2009).
 pub fn answer_drawn<B: Blocks>(drawn: &Drawn, blocks: &B) -> Option<Symbol>
     ensures { result ≡ honest_answer (asked drawn.now.challenge) (B.held blocks.now) }
 {

@@ -1,11 +1,13 @@
 -- Rings and fields of characteristic two, in which each element is its own negative: their operations, and
 -- their laws.
 --
--- IsRing add mul zero one == these are a commutative ring in which x + x = 0 (so that x + y is also x - y)
--- FieldOf A == operations on the elements A: zero, one, add, mul, inv, and eq, a test of equality IsField F
--- == those of F are a field: a ring, 1 is not 0, x * inv x = 1 for x other than 0; of inv 0 nothing is said
--- Apart xs == no two places of xs hold equal elements; true of [] and of one element IsEndless A == for
--- each n a list of n elements of A that are apart: there are infinitely many
+--   IsRing add mul zero one == these are a commutative ring in which x + x = 0 (so that x + y is also x - y)
+--   FieldOf A               == operations on the elements A: zero, one, add, mul, inv, and eq, a test of
+--                              equality
+--   IsField F               == those of F are a field: a ring, 1 is not 0, x * inv x = 1 for x other than 0;
+--                              of inv 0 nothing is said
+--   Apart xs                == no two places of xs hold equal elements; true of [] and of one element
+--   IsEndless A             == for each n a list of n elements of A that are apart: there are infinitely many
 use Rattle.std.specs.Prelude.{◌≡◌, ◌≢◌, ℕ, Bool, true, List, [], ◌∷◌, length}
 use Rattle.algebra_laws.specs.Lists.{Each}
 

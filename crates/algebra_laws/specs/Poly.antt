@@ -2,25 +2,35 @@
 -- first. Zeros at the end change no value: [] and [0] both are the polynomial 0. 'Of degree below K' is
 -- said as 'length p ≤ K'.
 --
--- value F p x == the value of p at x, the sum of p[i] * x^i (value_is_sum_of_terms), by Horner's rule; 0
--- for [] plus F p q == the sum, which is also the difference; as long as the longer of the two scale F c p
--- == c times p, as long as p times F p q == the product; [] where p is [] root_times F r c p == (x + r) p +
--- c, one coefficient longer than p vanish F points == the product of x + point over the points: one
--- coefficient more than points, the last one 1; [1] for no points
---                               (the annihilator, or locator, of the points)
--- interpolate F points ys == the polynomial of as many coefficients as points that takes the values ys at
--- points that are apart (Newton) Takes F p points ys == p takes each value at its point; false where there
--- are fewer values than points; further values do not count is_seen F y s == whether the symbol s is
--- present and is y agree F p points seen == at how many points the symbol seen there is present and is the
--- value of p; an absent place agrees with nothing present seen == how many places of seen are present
--- Decodes F points ys keep fix p == p has degree below keep and differs from the values ys at no more than
--- fix points trim F p == p without zeros at the end, the one spelling of a polynomial; [] for 0 front F a p
--- == a before p, but [] where a is 0 and p is []: a step of trim quotient F d m w p, remainder F d m w p ==
--- p divided by d, which has m + 1 coefficients and a last one whose inverse is w; the
---                               quotient is as long as p, the remainder has at most m coefficients
--- FirstRow F below r0 f0 r1 f1 r f == Euclid's algorithm, from the rows (r0, f0) and (r1, f1) on, comes to
--- the row (r, f), and r is
---                               the first remainder from r1 on of at most below coefficients
+--   value F p x                      == the value of p at x, the sum of p[i] * x^i (value_is_sum_of_terms),
+--                                       by Horner's rule; 0 for []
+--   plus F p q                       == the sum, which is also the difference; as long as the longer of the
+--                                       two
+--   scale F c p                      == c times p, as long as p
+--   times F p q                      == the product; [] where p is []
+--   root_times F r c p               == (x + r) p + c, one coefficient longer than p
+--   vanish F points                  == the product of x + point over the points: one coefficient more than
+--                                       points, the last one 1; [1] for no points (the annihilator, or
+--                                       locator, of the points)
+--   interpolate F points ys          == the polynomial of as many coefficients as points that takes the
+--                                       values ys at points that are apart (Newton)
+--   Takes F p points ys              == p takes each value at its point; false where there are fewer values
+--                                       than points; further values do not count
+--   is_seen F y s                    == whether the symbol s is present and is y
+--   agree F p points seen            == at how many points the symbol seen there is present and is the value
+--                                       of p; an absent place agrees with nothing
+--   present seen                     == how many places of seen are present
+--   Decodes F points ys keep fix p   == p has degree below keep and differs from the values ys at no more
+--                                       than fix points
+--   trim F p                         == p without zeros at the end, the one spelling of a polynomial; [] for
+--                                       0
+--   front F a p                      == a before p, but [] where a is 0 and p is []: a step of trim
+--   quotient F d m w p               == p divided by d, which has m + 1 coefficients and a last one whose
+--                                       inverse is w; as long as p
+--   remainder F d m w p              == what this division leaves, at most m coefficients
+--   FirstRow F below r0 f0 r1 f1 r f == Euclid's algorithm, from the rows (r0, f0) and (r1, f1) on, comes to
+--                                       the row (r, f), and r is the first remainder from r1 on of at most
+--                                       below coefficients
 use Rattle.std.proofs.Common.{map, ◌≡◌, ◌≤◌, ◌<◌, ℕ, ◌+◌, Bool, false, cond, List, [], ◌∷◌, Option, Some, None, take, get_or, length}
 use Rattle.algebra_laws.specs.Field.{FieldOf}
 

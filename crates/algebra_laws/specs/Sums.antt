@@ -1,7 +1,7 @@
 -- Sums and powers in a field.
 --
--- sum_below F f n == f 0 + f 1 + .. + f (n - 1); 0 for n = 0
--- power F x n     == x^n, the product of n factors x; 1 for n = 0, also where x is 0
+--   sum_below F f n == f 0 + f 1 + .. + f (n - 1); 0 for n = 0
+--   power F x n     == x^n, the product of n factors x; 1 for n = 0, also where x is 0
 use Rattle.std.proofs.Common.{ℕ, zero, suc}
 use Rattle.algebra_laws.specs.Field.{FieldOf}
 

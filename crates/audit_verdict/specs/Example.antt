@@ -1,7 +1,7 @@
 -- A round of one pick to the small object of column_laws, and what three of its providers answer rightly.
 --
--- one_pick master bytes    == the challenge of round 0 of audit 1, which picks one row
--- three_heard master bytes == the right answers of three providers; the fourth is absent
+--   one_pick master bytes    == the challenge of round 0 of audit 1, which picks one row
+--   three_heard master bytes == the right answers of three providers; the fourth is absent
 use Rattle.std.specs.Prelude.{ℕ, List, [], ◌∷◌, length, Option, None}
 use Rattle.column_defs.specs.Challenges.{Challenge, challenge_of, right_answer}
 use Rattle.column_laws.specs.Example.{example}

@@ -1,12 +1,15 @@
 -- What a round of an audit comes to, and when a provider is right in it.
 --
--- sums_of counts undecided == the sums that these counters stand for answer_of heard j == the answer of
--- provider j among those of all; None where there is none is_right o bytes c j answer == the answer is
--- present and is the right one of provider j wrong_answers o bytes c heard == how many of all n answers are
--- not right HasFewWrong o bytes c heard == a round over blocks of the object's size in which at most b of
--- all n answers are not right own_symbol o bytes j size row == what stands in a row of the blocks that
--- provider j is to hold DiffersOnce o bytes j c held == exactly one pick falls on a symbol of the blocks
--- held that is not the provider's own count_of_provider s j == how often provider j was counted
+--   sums_of counts undecided      == the sums that these counters stand for
+--   answer_of heard j             == the answer of provider j among those of all; None where there is none
+--   is_right o bytes c j answer   == the answer is present and is the right one of provider j
+--   wrong_answers o bytes c heard == how many of all n answers are not right
+--   HasFewWrong o bytes c heard   == a round over blocks of the object's size in which at most b of all n
+--                                    answers are not right
+--   own_symbol o bytes j size row == what stands in a row of the blocks that provider j is to hold
+--   DiffersOnce o bytes j c held  == exactly one pick falls on a symbol of the blocks held that is not the
+--                                    provider's own
+--   count_of_provider s j         == how often provider j was counted
 use Rattle.std.specs.Prelude.{◌≡◌, ◌≢◌, ◌<◌, ◌≤◌, ℕ, Bool, false, List, length, not, slice_index, slice_index_or, Option, None, Some}
 use Rattle.hail_field.specs.Shape.{IsShape}
 use Rattle.code_defs.specs.Polynomials.{is_seen}

@@ -20,7 +20,8 @@ use record_codec::Counts;
 /// agrees with all but `b` of the answers without their mask sums, each provider whose answer is absent or
 /// does not agree counts one more; else the round is one more undecided one, and nobody counts. What stands
 /// behind the counts of the `n` providers stays. The file must have a row (`FileShape::rows`). It takes no
-/// memory.
+/// memory. A count that passes a threshold tells whom to rebuild (Bowers, Juels and Oprea, HAIL, 2009); the
+/// rule of the verdict is this project's own.
 pub fn judge_round(
     master: &Master,
     file: &FileShape,

@@ -1,8 +1,8 @@
--- The words that a challenge is drawn from.
+-- The words of ChaCha20 (RFC 8439) that a challenge is drawn from.
 --
---   at_word key place      == the generator of stream 0 under a key, at a word
---   next_number g          == a number below 2 ^ 64: the next two words, the low one first
---   next_rows g rows k     == the row that the k-th such number falls on, below rows
+--   at_word key place             == the generator of stream 0 under a key, at a word
+--   next_number g                 == a number below 2 ^ 64: the next two words, the low one first
+--   next_rows g rows k            == the row that the k-th such number falls on, below rows
 --   AreRows seed rows picks drawn == the first of the rows drawn are those of the picks
 --   AreBelow rows picks drawn     == they are below the number of rows
 use Rattle.std.specs.Prelude.{◌≡◌, ◌<◌, ℕ, ◌+◌, ◌*◌, ◌%◌, ◌^◌, List, slice_index}

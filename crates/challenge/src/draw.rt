@@ -67,7 +67,7 @@ fn draw_rows(rng: &mut ChaCha20Rng, rows: u64, picks: u32) -> [u64; 64]
 }
 
 impl Challenge {
-    /// The challenge with its weight and rows, read off one generator.
+    /// The challenge with its weight and rows, read off one generator of ChaCha20 (RFC 8439).
     pub fn draw(&self) -> Drawn
         ensures { result.challenge ≡ self.now }
     {

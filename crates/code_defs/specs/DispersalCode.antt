@@ -1,5 +1,5 @@
--- The dispersal code: the symbols of a row are the values, at the providers' points, of a polynomial of
--- degree below l.
+-- The dispersal code (Bowers, Juels and Oprea, HAIL, 2009): the symbols of a row are the values, at the
+-- providers' points, of a polynomial of degree below l.
 use Rattle.std.specs.Prelude.{◌≡◌, ℕ, ◌≤◌, ◌+◌, List, Option, length, take}
 use Rattle.code_defs.specs.Polynomials.{agree, interpolate, trim}
 use Rattle.code_defs.specs.Points.{values_at}

@@ -1,9 +1,9 @@
 -- The points 0 to n - 1, which the server code has, and what is made of points.
 --
--- upto n              == the points 0 to n - 1
--- values_at ps p      == the values of the polynomial p at the points ps
--- others_product x ps == the product, over those of ps that are not x, of x + point; 1 if there are none
--- multiplier x ps     == the inverse of that product
+--   upto n              == the points 0 to n - 1
+--   values_at ps p      == the values of the polynomial p at the points ps
+--   others_product x ps == the product, over those of ps that are not x, of x + point; 1 if there are none
+--   multiplier x ps     == the inverse of that product
 use Rattle.std.specs.Prelude.{ℕ, List, [], ◌∷◌, map, nat_eq, cond}
 use Rattle.std.specs.List.{range_with_len}
 use Rattle.hail_field.specs.Nim.{nim_add, nim_mul, nim_inv}

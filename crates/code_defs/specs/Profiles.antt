@@ -1,4 +1,5 @@
--- The five profiles of the server code.
+-- The five profiles of the server code (Bowers, Juels and Oprea, HAIL, 2009). The sizes are this project's
+-- own.
 use Rattle.std.specs.Prelude.{ℕ, zero, suc}
 
 -- a server code: blocks of size symbols, of which keep are kept, and in which fix wrong ones are corrected

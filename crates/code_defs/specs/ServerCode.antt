@@ -1,15 +1,17 @@
--- The server code: a Reed-Solomon code at the points 0 to size - 1, whose first keep symbols are the kept
--- ones.
+-- The server code (Bowers, Juels and Oprea, HAIL, 2009): a Reed-Solomon code at the points 0 to size - 1,
+-- whose first keep symbols are the kept ones.
 --
--- codeword profile kept == the block of size symbols that begins with the kept ones IsCodeword profile
--- block == the block is the values of a polynomial of degree below keep IsNear profile block p == p has
--- degree below keep, and is the block's symbol at all but fix places: its values are a codeword
---                                     within Hamming distance fix of the block
--- Opens profile block opened == opened is the values of a polynomial that is near the block
--- (bounded-distance decoding) OpensToNone profile block == no polynomial is near the block, as where it is
--- not of size symbols differences xs ys == at how many places the two differ, as far as both go: the
--- Hamming distance of two blocks IsGeneratorRow profile place row == the symbol at the place is the sum of
--- coefficient times kept symbol
+--   codeword profile kept            == the block of size symbols that begins with the kept ones
+--   IsCodeword profile block         == the block is the values of a polynomial of degree below keep
+--   IsNear profile block p           == p has degree below keep, and is the block's symbol at all but fix
+--                                       places: its values are a codeword within Hamming distance fix of the
+--                                       block
+--   Opens profile block opened       == opened is the values of a polynomial that is near the block
+--                                       (bounded-distance decoding)
+--   OpensToNone profile block        == no polynomial is near the block, as where it is not of size symbols
+--   differences xs ys                == at how many places the two differ, as far as both go: the Hamming
+--                                       distance of two blocks
+--   IsGeneratorRow profile place row == the symbol at the place is the sum of coefficient times kept symbol
 use Rattle.std.specs.Prelude.{◌≡◌, ◌≤◌, ℕ, suc, List, ◌∷◌, length, slice_index, ◌==◌, if◌then◌else◌}
 use Rattle.hail_field.specs.Nim.{nim}
 use Rattle.algebra_laws.specs.Poly.{Decodes}

@@ -1,18 +1,27 @@
--- Challenges, honest and right answers to them, and the sums of masks.
+-- Challenges, honest and right answers to them, and the sums of masks. One aggregated symbol answers for
+-- many rows (Bowers, Juels and Oprea, HAIL, 2009); the weights are this project's own.
 --
--- c.seed, .rows, .size, .picks == a challenge: its key, how many rows and symbols a block there are, and
--- how many rows it picks challenge_of o bytes picks number round == the challenge of a round of audit
--- number to a file of so many bytes alpha seed == the weight of a challenge: the first symbol of its
--- stream, and 1 in place of 0 picked_row seed rows k == the row that pick k falls on, below rows sum_over c
--- at k == the sum over the first k picks of alpha ^ (1 + pick) times what stands at the picked row combined
--- c at == the same over all picks held_symbol size held row == what stands in a row of the blocks held, by
--- stripe; None where the block is absent or not size long all_held c held k == there is a symbol in the row
--- of each of the first k picks honest_answer c held == the combined symbols held in the picked rows, and
--- None where one is not there right_answer o bytes j c == the honest answer of what provider j is to hold
--- of a file mask_sum_of key c, mask_sum o j c == the combined masks of the picked rows, under a key of
--- masks and of provider j bare_answer o c j answer == an answer of provider j with its mask sum taken off,
--- which a primary one has none of bare_answers o c j answers == the same for the answers of the providers
--- from j on
+--   c.seed, .rows, .size, .picks            == a challenge: its key, how many rows and symbols a block there
+--                                              are, and how many rows it picks
+--   challenge_of o bytes picks number round == the challenge of a round of audit number to a file of so many
+--                                              bytes
+--   alpha seed                              == the weight of a challenge: the first symbol of its stream, and
+--                                              1 in place of 0
+--   picked_row seed rows k                  == the row that pick k falls on, below rows
+--   sum_over c at k                         == the sum over the first k picks of alpha ^ (1 + pick) times
+--                                              what stands at the picked row
+--   combined c at                           == the same over all picks
+--   held_symbol size held row               == what stands in a row of the blocks held, by stripe; None where
+--                                              the block is absent or not size long
+--   all_held c held k                       == there is a symbol in the row of each of the first k picks
+--   honest_answer c held                    == the combined symbols held in the picked rows, and None where
+--                                              one is not there
+--   right_answer o bytes j c                == the honest answer of what provider j is to hold of a file
+--   mask_sum_of key c, mask_sum o j c       == the combined masks of the picked rows, under a key of masks
+--                                              and of provider j
+--   bare_answer o c j answer                == an answer of provider j with its mask sum taken off, which a
+--                                              primary one has none of
+--   bare_answers o c j answers              == the same for the answers of the providers from j on
 use Rattle.std.specs.Prelude.{ℕ, zero, suc, ◌+◌, ◌*◌, ◌/◌, ◌%◌, ◌^◌, ◌==◌, ◌&&◌, Bool, true, List, [], ◌∷◌, length, slice_get, is_some, unwrap_or, Option, None, Some, if◌then◌else◌}
 use Rattle.std.specs.Option.{option_map}
 use Rattle.hail_field.specs.Nim.{nim_add, nim_mul, nim_pow}

@@ -1,12 +1,18 @@
--- What each provider is to hold of a file, and which providers are wrong for it.
+-- What each provider is to hold of a file, and which providers are wrong for it. Rows are codewords of a
+-- dispersal code across the providers, columns are codewords of a server code within each (Bowers, Juels
+-- and Oprea, HAIL, 2009).
 --
--- primary_row o symbols place == the l symbols of the primary providers at a place of a stripe with these
--- symbols row_polynomial o symbols place == the polynomial of a row: of degree below l, it takes the
--- primary symbols at the points 0 to l - 1 column_of_symbols o symbols j stripe == the size symbols that
--- provider j is to hold of a stripe with these symbols columns o bytes j stripe == the same, of a stripe of
--- a file of these bytes is_wrong_block o bytes j stripe seen == a block is absent, is not size long, or
--- differs from the provider's own at more than fix places is_wrong o bytes j held == so is one of the
--- blocks that provider j holds, by stripe; never so for a file of no stripes
+--   primary_row o symbols place          == the l symbols of the primary providers at a place of a stripe
+--                                           with these symbols
+--   row_polynomial o symbols place       == the polynomial of a row: of degree below l, it takes the primary
+--                                           symbols at the points 0 to l - 1
+--   column_of_symbols o symbols j stripe == the size symbols that provider j is to hold of a stripe with
+--                                           these symbols
+--   columns o bytes j stripe             == the same, of a stripe of a file of these bytes
+--   is_wrong_block o bytes j stripe seen == a block is absent, is not size long, or differs from the
+--                                           provider's own at more than fix places
+--   is_wrong o bytes j held              == so is one of the blocks that provider j holds, by stripe; never
+--                                           so for a file of no stripes
 use Rattle.std.specs.Prelude.{ℕ, ◌==◌, ◌||◌, Bool, true, List, length, map, not, nat_lt, slice_index, Option, None, Some, if◌then◌else◌}
 use Rattle.std.specs.List.{list_any}
 use Rattle.hail_field.specs.Nim.{nim_add}

@@ -1,11 +1,15 @@
--- When seen blocks hold a forgery against a file.
+-- When seen blocks hold a forgery against a file: the event that the authentication codes make unlikely
+-- (Bowers, Juels and Oprea, HAIL, 2009).
 --
--- count_of passes numbers == how many of the numbers pass is_agreeing o opened place p j == the opened
--- symbol of provider j at a place is the value of p at its point IsForgedBy o bytes stripe place opened
--- wrong p == p is a forgery of a row: another polynomial, accepted, with enough tags and wrong providers
--- IsForgery o bytes seen stripe place == the blocks seen of all stripes hold a forgery against the file at
--- a row IsStripeForgery o bytes seen stripe place == the same where those providers are wrong in this very
--- stripe
+--   count_of passes numbers                        == how many of the numbers pass
+--   is_agreeing o opened place p j                 == the opened symbol of provider j at a place is the value
+--                                                     of p at its point
+--   IsForgedBy o bytes stripe place opened wrong p == p is a forgery of a row: another polynomial, accepted,
+--                                                     with enough tags and wrong providers
+--   IsForgery o bytes seen stripe place            == the blocks seen of all stripes hold a forgery against
+--                                                     the file at a row
+--   IsStripeForgery o bytes seen stripe place      == the same where those providers are wrong in this very
+--                                                     stripe
 use Rattle.std.specs.Prelude.{◌≢◌, ℕ, ◌+◌, ◌<◌, ◌≤◌, ◌&&◌, Bool, List, [], ◌∷◌, length, not, if◌then◌else◌}
 use Rattle.code_defs.specs.Polynomials.{value, is_seen}
 use Rattle.code_defs.specs.Points.{upto, values_at}

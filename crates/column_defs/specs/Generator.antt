@@ -1,4 +1,4 @@
--- A generator of ChaCha20 read symbol by symbol.
+-- A generator of ChaCha20 (RFC 8439) read symbol by symbol.
 use Rattle.std.specs.Prelude.{ℕ, ◌+◌, ◌*◌, ◌^◌}
 use Rattle.rand_chacha.specs.ChaCha.{ChaCha, word_at}
 

@@ -1,15 +1,21 @@
 -- Keys, seeds, masks and secret points, over SHA-256 (FIPS 180-4) and ChaCha20 (RFC 8439, with a 64-bit
--- block number and a 64-bit stream number).
+-- block number and a 64-bit stream number). A keyed pseudorandom mask on each parity symbol makes it a
+-- message authentication code of its row (Bowers, Juels and Oprea, HAIL, 2009); that points are secret, and
+-- how both are derived, is this project's own.
 --
--- file_key master label id j == 32 bytes: the key of object id at provider j under a label, which is M for
--- masks and P for points seed master number id round == 32 bytes: the key of the challenge of a round of
--- audit number to object id stream_word key place == a number below 2 ^ 32: the word at a place of stream 0
--- under a key of 32 bytes stream_symbol key place == a symbol: four words from a place on, the first one
--- lowest mask_of key row == a symbol: the mask of a row under the key of the masks masks_from key row n ==
--- n symbols: the masks of n rows from one on mask master id j row == a symbol: the mask of provider j in a
--- row of object id secret_point master id j == a symbol: the point of a secondary provider j for object id,
--- whose lowest byte is j point_of l master id j == a symbol: the point of provider j for object id, which
--- has l primary providers; j itself for these
+--   file_key master label id j  == 32 bytes: the key of object id at provider j under a label, which is M for
+--                                  masks and P for points
+--   seed master number id round == 32 bytes: the key of the challenge of a round of audit number to object id
+--   stream_word key place       == a number below 2 ^ 32: the word at a place of stream 0 under a key of 32
+--                                  bytes
+--   stream_symbol key place     == a symbol: four words from a place on, the first one lowest
+--   mask_of key row             == a symbol: the mask of a row under the key of the masks
+--   masks_from key row n        == n symbols: the masks of n rows from one on
+--   mask master id j row        == a symbol: the mask of provider j in a row of object id
+--   secret_point master id j    == a symbol: the point of a secondary provider j for object id, whose lowest
+--                                  byte is j
+--   point_of l master id j      == a symbol: the point of provider j for object id, which has l primary
+--                                  providers; j itself for these
 use Rattle.std.specs.Prelude.{ℕ, ◌+◌, ◌*◌, ◌^◌, List, ◌∷◌, ◌++◌, take, map, nat_lt, slice_set, if◌then◌else◌}
 use Rattle.std.specs.List.{range_with_len}
 use Rattle.std.specs.Int.{w32, w64, w128, to_le_bytes, from_le_bytes}

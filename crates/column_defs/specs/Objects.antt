@@ -1,17 +1,22 @@
 -- Objects: the numbers of a stored file, how its bytes lie in stripes of symbols, and the points of its
 -- providers.
 --
--- o.shape.n, .l, .b == how many providers the object has, how many of them are primary, how many may be
--- wrong o.profile.size, .keep, .fix == how many symbols a block has, how many of them are kept ones, how
--- many wrong ones are corrected o.master, o.id == the master key, 32 bytes, and the object's number
--- stripe_symbols o == how many symbols of the file a stripe has: keep for each primary provider stripes o
--- bytes == how many stripes a file of so many bytes has, 0 for the empty one row_number o stripe place ==
--- the number of a row, which is one place of one stripe over all providers symbol_of bytes number == a
--- symbol of a file: 16 bytes, those past the file's end being 0 symbols_in o bytes stripe == the
--- stripe_symbols o symbols of a stripe, in layout order: place k of primary provider j at j * keep + k
--- kept_by o symbols j == of the symbols of a stripe the keep that primary provider j keeps bytes_of_symbols
--- symbols == 16 bytes a symbol is_primary o j == provider j is one of the first l point o j, points o ==
--- the point of provider j in the dispersal code, j itself for a primary one; those of all n
+--   o.shape.n, .l, .b           == how many providers the object has, how many of them are primary, how many
+--                                  may be wrong
+--   o.profile.size, .keep, .fix == how many symbols a block has, how many of them are kept ones, how many
+--                                  wrong ones are corrected
+--   o.master, o.id              == the master key, 32 bytes, and the object's number
+--   stripe_symbols o            == how many symbols of the file a stripe has: keep for each primary provider
+--   stripes o bytes             == how many stripes a file of so many bytes has, 0 for the empty one
+--   row_number o stripe place   == the number of a row, which is one place of one stripe over all providers
+--   symbol_of bytes number      == a symbol of a file: 16 bytes, those past the file's end being 0
+--   symbols_in o bytes stripe   == the stripe_symbols o symbols of a stripe, in layout order: place k of
+--                                  primary provider j at j * keep + k
+--   kept_by o symbols j         == of the symbols of a stripe the keep that primary provider j keeps
+--   bytes_of_symbols symbols    == 16 bytes a symbol
+--   is_primary o j              == provider j is one of the first l
+--   point o j, points o         == the point of provider j in the dispersal code, j itself for a primary one;
+--                                  those of all n
 use Rattle.std.specs.Prelude.{ℕ, ◌+◌, ◌-◌, ◌*◌, ◌/◌, Bool, List, take, drop, map, nat_lt}
 use Rattle.std.specs.Int.{w128, to_le_bytes, from_le_bytes}
 use Rattle.std.specs.List.{flat_map}

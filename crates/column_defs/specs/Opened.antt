@@ -1,18 +1,24 @@
 -- What seen blocks open to: each block to a server codeword, each row to a polynomial, and all rows to the
 -- bytes of a file.
 --
--- SeenBlock == a list of symbols, or None where none was seen masked o j row block == the symbols of rows
--- from one on with the masks of provider j put on, which also takes them off bare o j stripe block == a
--- block of provider j without its masks, which a primary one has none of OpensTo o j stripe seen opened ==
--- a seen block opens to this codeword, or to None: it is absent, not size long, or near to no codeword
--- AllOpen o stripe j seen opened == so do the blocks of the providers from j on, one by one symbol_in place
--- block == the symbol at a place of a block, None where there is none block_at blocks j == the block of
--- provider j among those of all providers AcceptsRow o opened place p == the row at a place is accepted
--- with p: of degree below l, it agrees with all but b opened symbols GivesSymbols o stripe seen symbols ==
--- the seen blocks of a stripe open to these symbols, in layout order: each row at a kept place is accepted
--- LosesRow o stripe seen row == the lowest row, by its number, at a kept place of a stripe that is not
--- accepted OpensFile o size seen bytes == the seen blocks, by stripe and provider, open to these bytes of a
--- file of that size
+--   SeenBlock                          == a list of symbols, or None where none was seen
+--   masked o j row block               == the symbols of rows from one on with the masks of provider j put
+--                                         on, which also takes them off
+--   bare o j stripe block              == a block of provider j without its masks, which a primary one has
+--                                         none of
+--   OpensTo o j stripe seen opened     == a seen block opens to this codeword, or to None: it is absent, not
+--                                         size long, or near to no codeword
+--   AllOpen o stripe j seen opened     == so do the blocks of the providers from j on, one by one
+--   symbol_in place block              == the symbol at a place of a block, None where there is none
+--   block_at blocks j                  == the block of provider j among those of all providers
+--   AcceptsRow o opened place p        == the row at a place is accepted with p: of degree below l, it agrees
+--                                         with all but b opened symbols
+--   GivesSymbols o stripe seen symbols == the seen blocks of a stripe open to these symbols, in layout order:
+--                                         each row at a kept place is accepted
+--   LosesRow o stripe seen row         == the lowest row, by its number, at a kept place of a stripe that is
+--                                         not accepted
+--   OpensFile o size seen bytes        == the seen blocks, by stripe and provider, open to these bytes of a
+--                                         file of that size
 use Rattle.std.specs.Prelude.{◌≡◌, ℕ, ◌+◌, ◌*◌, ◌<◌, List, [], ◌∷◌, length, take, map, slice_get, Option, None, Some, option_and_then, if◌then◌else◌}
 use Rattle.std.specs.List.{flat_map}
 use Rattle.hail_field.specs.Nim.{nim_add}

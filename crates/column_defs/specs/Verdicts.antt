@@ -1,11 +1,15 @@
--- Verdicts on the rounds of an audit.
+-- Verdicts on the rounds of an audit. Providers whose count of damage passes a threshold are rebuilt from
+-- the others (Bowers, Juels and Oprea, HAIL, 2009); the rule of a verdict is this project's own.
 --
--- s.counts, .undecided == the sums of an audit so far: how often each provider was counted, and how many
--- rounds were undecided Decides o c heard p == p decides a round: of degree below l, it agrees with all but
--- b of the answers without their mask sums counts_after p points answers counts == the counts after a round
--- that p decides: one more where an answer is absent or does not agree Judges o c heard old new == a round
--- turns these sums into those is_flagged tolerance counts j == the count of provider j exceeds the
--- tolerance flags_some tolerance counts == some count does
+--   s.counts, .undecided                 == the sums of an audit so far: how often each provider was counted,
+--                                           and how many rounds were undecided
+--   Decides o c heard p                  == p decides a round: of degree below l, it agrees with all but b of
+--                                           the answers without their mask sums
+--   counts_after p points answers counts == the counts after a round that p decides: one more where an answer
+--                                           is absent or does not agree
+--   Judges o c heard old new             == a round turns these sums into those
+--   is_flagged tolerance counts j        == the count of provider j exceeds the tolerance
+--   flags_some tolerance counts          == some count does
 use Rattle.std.specs.Prelude.{◌≡◌, ◌⊎◌, ℕ, ◌+◌, Bool, List, ◌∷◌, Option, nat_lt, slice_index, if◌then◌else◌}
 use Rattle.std.specs.List.{list_any}
 use Rattle.code_defs.specs.Polynomials.{value, is_seen}

@@ -1,8 +1,10 @@
 -- A small object, and blocks of it, for which the premises of the laws hold.
 --
--- example master == object 1 under a master key: four providers, one of them primary, one that may be
--- wrong; 6 symbols of which 2 are kept three_seen o bytes == the blocks of stripe 0 of a file, as three
--- providers hold them; the fourth is absent three_opened o bytes == these without their masks
+--   example master       == object 1 under a master key: four providers, one of them primary, one that may be
+--                           wrong; 6 symbols of which 2 are kept
+--   three_seen o bytes   == the blocks of stripe 0 of a file, as three providers hold them; the fourth is
+--                           absent
+--   three_opened o bytes == these without their masks
 use Rattle.std.specs.Prelude.{ℕ, List, [], ◌∷◌, None, Some}
 use Rattle.code_defs.specs.Profiles.{profile_of}
 use Rattle.column_defs.specs.Objects.{Object}

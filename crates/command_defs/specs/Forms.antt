@@ -1,11 +1,12 @@
 -- The words of the commands, after the place of the devices.
 --
---   Numbers                    == the seven numbers of `init`, each below 2 ^ 128
---   IsInitForm words numbers   == the words are `init` and the seven numbers: n, l, b, profile, rounds,
---                                 picks, tolerance
---   IsPutForm words name, IsGetForm, IsDropForm   == the words are the command and a name, whatever it is
---   IsListForm words, IsAuditForm, IsRepairForm   == the one word is the command
---   Command                    == a command as plain data; IsForm words command == the words spell it
+--   Numbers                                     == the seven numbers of `init`, each below 2 ^ 128
+--   IsInitForm words numbers                    == the words are `init` and the seven numbers: n, l, b,
+--                                                  profile, rounds, picks, tolerance
+--   IsPutForm words name, IsGetForm, IsDropForm == the words are the command and a name, whatever it is
+--   IsListForm words, IsAuditForm, IsRepairForm == the one word is the command
+--   Command                                     == a command as plain data
+--   IsForm words command                        == the words spell the command
 use Rattle.std.specs.Prelude.{◌≡◌, ℕ, List, [], ◌∷◌, codes, Option, String}
 use Rattle.std.specs.String.{string_bytes}
 use Rattle.std.specs.declared.alloc.Global.{Global}

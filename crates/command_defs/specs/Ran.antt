@@ -1,25 +1,27 @@
 -- The run of the one job of a command: what it began with, and what it left. Records have the newest first.
 --
---   Ran                == the records in effect at its begin and at its end, the record in doubt, what is
---                         seen of each provider and counted of the disk before and after, and what the job
---                         heard
---   ran_from w new heard  == the same between two states of the machine
---   ran_alone records old new heard faults after doubt  == the same as it is seen of the devices
---   CountsRise x       == no count of faults fell
---   object_at_begin x file  == the object of a file
---   stripes_at_begin x file == how many stripes it has
+--   Ran                          == the records in effect at its begin and at its end, the record in doubt,
+--                                   what is seen of each provider and counted of the disk before and after,
+--                                   and what the job heard
+--   ran_from w new heard         == the same between two states of the machine
+--   ran_alone records old new heard faults after doubt
+--                                == the same as it is seen of the devices
+--   CountsRise x                 == no count of faults fell
+--   object_at_begin x file       == the object of a file
+--   stripes_at_begin x file      == how many stripes it has
 --   profile_among other files id == the profile of the file of a number among these; the other one where
---                         there is none
---   object_numbered x id == the object of a number among the files in effect
---   providers_of x     == the numbers of the providers of the setup
---   job_number         == 1, the number of the one job
---   EachHeldGoes x change   == so goes what each provider of the setup holds that tells it; one that
---                              doesn't still does not
---   SameHeld x         == each provider of the setup holds what it held
---   NoFetches x        == no provider of the setup was fetched from
---   IsWhole x records  == these records came into effect, given the oldest first, and none is in doubt
---   IsCut x records    == so did those of them before some record, and none is in doubt
---   IsCutInDoubt x records  == the same, but that very record may be in doubt
+--                                   there is none
+--   object_numbered x id         == the object of a number among the files in effect
+--   setup_at_begin x             == the setup in effect at its begin
+--   job_number                   == 1, the number of the one job
+--   EachHeldGoes x change        == so goes what each provider of the setup holds that tells it; one that
+--                                   doesn't still does not
+--   SameHeld x                   == each provider of the setup holds what it held
+--   NoFetches x                  == no provider of the setup was fetched from
+--   IsWhole x records            == these records came into effect, given the oldest first, and none is in
+--                                   doubt
+--   IsCut x records              == so did those of them before some record, and none is in doubt
+--   IsCutInDoubt x records       == the same, but that very record may be in doubt
 use Rattle.std.specs.Prelude.{◌≡◌, ◌⊎◌, ℕ, ◌<◌, ◌≤◌, ◌==◌, List, [], ◌∷◌, ◌++◌, reverse, Option, None, Some, if◌then◌else◌}
 use Rattle.std.specs.Option.{option_map}
 use Rattle.column_defs.specs.Objects.{Object}

@@ -1,15 +1,15 @@
 -- What a repair leaves whose job was the only one.
 --
---   Place                      == a file in effect and one of its stripes
---   places s files             == all of them, by number and stripe, in order
---   Gave                       == what a fetch of a place from a provider gave
---   blocks_at n gave place     == the same of all providers
---   IsTruth x gave asked       == each provider that tells gave, of these places, what it held, or nothing
---                                 where its count rose
---   GivesPlaces x gave symbols asked  == what was given opens to these symbols in each of these places
---   RewritesAll, RewritesPart  == the flagged providers hold the columns of these symbols in all places, or
---                                 in some of these; all else is as before
---   RepairLeaves x answer      == what a repair leaves where it ended with this answer
+--   Place                           == a file in effect and one of its stripes
+--   places s files                  == all of them, by number and stripe, in order
+--   Gave                            == what a fetch of a place from a provider gave
+--   blocks_at n gave place          == the same of all providers
+--   IsTruth x gave asked            == each provider that tells gave, of these places, what it held, or
+--                                      nothing where its count rose
+--   GivesPlace x gave symbols place == what was given opens to these symbols in this place
+--   RewritesAll, RewritesPart       == the flagged providers hold the columns of these symbols in all places,
+--                                      or in some of these; all else is as before
+--   RepairLeaves x answer           == what a repair leaves where it ended with this answer
 use Rattle.std.specs.Prelude.{◌≡◌, ◌⊎◌, ℕ, ◌<◌, Bool, true, false, List, [], ◌∷◌, ◌++◌, map, All, Contains, Some, IfSome}
 use Rattle.std.specs.List.{flat_map}
 use Rattle.code_defs.specs.Points.{upto}

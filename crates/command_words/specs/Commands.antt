@@ -1,8 +1,8 @@
 -- The plain data of a command that was read.
 --
---   numbers_of numbers   the seven numbers of the definitions
---   command_of command   the command of the definitions
---   BeginWithRow words   the first word is `row`
+--   numbers_of numbers == the seven numbers of the definitions
+--   command_of command == the command of the definitions
+--   BeginWithRow words == the first word is `row`
 use Rattle.std.specs.Prelude.{◌≡◌, List, [], ◌∷◌, codes, String}
 use Rattle.std.specs.String.{string_bytes}
 use Rattle.std.specs.declared.alloc.Global.{Global}

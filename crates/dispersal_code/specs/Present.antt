@@ -1,8 +1,10 @@
 -- The symbols of a row that are present, each with its point.
 --
--- Chosen == symbols, each with its point present_points points seen == the points at whose places a symbol
--- is present present_symbols seen == these symbols room_for n b m == how many of m present symbols may be
--- wrong, where all but b of n symbols are to agree
+--   Chosen                     == symbols, each with its point
+--   present_points points seen == the points at whose places a symbol is present
+--   present_symbols seen       == these symbols
+--   room_for n b m             == how many of m present symbols may be wrong, where all but b of n symbols
+--                                 are to agree
 use Rattle.std.specs.Prelude.{◌≡◌, ◌≤◌, ◌-◌, ℕ, List, [], ◌∷◌, Option, Some, None, length}
 
 -- symbols, each with its point

@@ -8,8 +8,9 @@ use hail_poly::{Work, agreements};
 use hail_syndrome::decode_syndromes;
 
 /// Looks for the polynomial of degree below `l` that agrees with all but `b` of a row's symbols, an absent
-/// one among those that don't agree. It is then the rest of `work`. The first look is at the polynomial
-/// through the first `l` present symbols.
+/// one among those that don't agree (the dispersal code of Bowers, Juels and Oprea, HAIL, 2009; the threshold
+/// is this project's own). It is then the rest of `work`. The first look is at the polynomial through the
+/// first `l` present symbols.
 pub fn open_row(
     points: &[Symbol],
     seen: &[Option<Symbol>],

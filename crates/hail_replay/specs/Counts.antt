@@ -1,19 +1,22 @@
 -- What a trial counts over its run, and the six lines that tell it. Commands and moments have the newest
 -- first.
 --
---   TrialCounts                     == how many events were done; how many gets ended with bytes, and with
---                                      the right ones; how many audits ended, and whom they flagged, in
---                                      order; how many repairs ended, and how many stops there were
---   is_got outcome, is_right expected outcome, is_audited outcome, is_repaired outcome, is_stopped outcome
---                                   == what an outcome is to the counts
---   flag_of j count                 == provider j, where its count is above the trial's tolerance
---   flagged_from j counts           == of the providers from j on those whose count is
---   flagged_by outcome              == whom an audit flagged that ended so; nobody at another outcome
+--   TrialCounts                       == how many events were done; how many gets ended with bytes, and with
+--                                        the right ones; how many audits ended, and whom they flagged, in
+--                                        order; how many repairs ended, and how many stops there were
+--   is_got outcome                    == a get ended with bytes
+--   is_expected expected outcome      == a get ended with the expected bytes
+--   is_audited outcome                == an audit ended
+--   is_repaired outcome               == a repair ended
+--   is_stopped outcome                == the client was stopped
+--   flag_of j count                   == provider j, where its count is above the trial's tolerance
+--   flagged_from j counts             == of the providers from j on those whose count is
+--   flagged_by outcome                == whom an audit flagged that ended so; nobody at another outcome
 --   how_many is_one ms, flagged_in ms == the same over moments; the oldest flags first
---   counts_of expected commands ms  == the counts, where moments carry out commands and gets are to give
---                                      the expected bytes
---   counts_on expected outcome old  == the counts after one more event that came to this outcome
---   trial_lines number counts       == the six lines of a trial
+--   counts_of expected commands ms    == the counts, where moments carry out commands and gets are to give
+--                                        the expected bytes
+--   counts_on expected outcome old    == the counts after one more event that came to this outcome
+--   trial_lines number counts         == the six lines of a trial
 use Rattle.std.specs.Prelude.{ℕ, ◌+◌, Bool, true, false, List, [], ◌∷◌, ◌++◌, length, codes, nat_lt, if◌then◌else◌}
 use Rattle.std.specs.List.{flat_map}
 use Rattle.std.specs.Str.{bytes_eq}

@@ -1,7 +1,7 @@
 -- The places that are not suspected: those at which a polynomial is not 0.
 --
--- sound_points F f xs    == the points of xs at which f is not 0
--- sound_values F f xs ys == the values at the places of these
+--   sound_points F f xs    == the points of xs at which f is not 0
+--   sound_values F f xs ys == the values at the places of these
 use Rattle.std.specs.Prelude.{cond, List, [], ◌∷◌}
 use Rattle.algebra_laws.specs.Field.{FieldOf}
 use Rattle.algebra_laws.specs.Poly.{value}

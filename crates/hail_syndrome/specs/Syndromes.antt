@@ -1,9 +1,10 @@
 -- The syndromes of a word: sums that are all 0 exactly where the word is the values of a polynomial of low
 -- degree.
 --
--- syndrome points values k == the sum over the places of multiplier times value times the point to the
--- power k syndromes_of points values m == the first m of these AreValues points values keep == the values
--- are those of a polynomial of degree below keep
+--   syndrome points values k     == the sum over the places of multiplier times value times the point to the
+--                                   power k
+--   syndromes_of points values m == the first m of these
+--   AreValues points values keep == the values are those of a polynomial of degree below keep
 use Rattle.std.specs.Prelude.{◌≡◌, ◌≤◌, ℕ, List, length, map}
 use Rattle.hail_field.specs.Nim.{nim_mul, nim_pow}
 use Rattle.code_defs.specs.Points.{upto, values_at, multiplier}

@@ -1,45 +1,37 @@
 -- The headline.
 --
--- For every schedule of job steps, replacements of provider symbols and stops, a get that ends Ok has
--- written exactly the bytes last put in effect under its name, unless a fetched row is a forgery; in a calm
--- run in which no audit missed damage each get of a stored name ends Ok, save for want of memory or a
--- counted fault; and acknowledged files survive every stop.
---
--- Where each phrase is defined, in machine_defs/specs unless another crate is named:
---
---   every schedule of .. == IsStart start, IsRun limit start ms (States, Runs): moments, the newest first, of
---                           events in any order, each of which may come to what Happens allows (Machine)
---   job steps            == the event Step (Events), and what it may come to: Steps (Steps)
---   replacements of ..   == the events Alter and Lose that came to Replaced: Alters, Loses (Replacements)
---   stops                == the event Stop: all jobs are given up, and a record in doubt is in effect or is
---                           not: Stops (Openings)
---   a get that ends Ok   == a step of its job that came to Ended (Got bytes) (Answers, Events)
---   has written ..       == `bytes` of Got, in IsRightGet (Halves)
---   last put in effect   == begin_state.bytes file.id of the file in effect under the name at the get's begin
---   under its name (Halves). They are the bytes of the put that drew the file's number: `bytes_are` of
---                           IsSafe below, and `stay` of laws::done_puts_are_whole of second_half_laws
---   unless a fetched row == HoldsForgery (Heard) of what the get's fetches gave: IsForgery (column_defs,
---   is a forgery            Forgeries)
---   a calm run           == IsCalm relies (since start) (Calm): while a get or a repair runs, at most b
---                           providers were replaced since the begin of the audit that was the last settled
---                           one at the job's begin; and the same while a scrub runs:
---                           AreScrubsCalm (since start) (Scrubs)
---   no audit missed      == NoneMissed (Missed): each audit whose last record came into effect flags each
---                           provider
---   damage                  that was wrong at its begin and was not replaced since
---   each get of a stored == SecondHalf (Halves): its begin is refused for three causes alone, and a step
---                           that ends
---   name ends Ok            it gives the bytes in effect at its begin
---   save for want of     == refusal.Memory of a begin, in IsGetRefusal (Halves); no step of a get finds none
+--   every schedule of ..  == IsStart start, IsRun limit start ms (States, Runs): moments, the newest first,
+--                            of events in any order, each of which may come to what Happens allows (Machine)
+--   job steps             == the event Step (Events), and what it may come to: Steps (Steps)
+--   replacements of ..    == the events Alter and Lose that came to Replaced: Alters, Loses (Replacements)
+--   stops                 == the event Stop: all jobs are given up, and a record in doubt is in effect or is
+--                            not: Stops (Openings)
+--   a get that ends Ok    == a step of its job that came to Ended (Got bytes) (Answers, Events)
+--   has written ..        == `bytes` of Got, in IsRightGet (Halves)
+--   last put in effect    == begin_state.bytes file.id of the file in effect under the name at the get's
+--   under its name           begin (Halves). They are the bytes of the put that drew the file's number:
+--                            `bytes_are` of IsSafe below, and `stay` of laws::done_puts_are_whole of
+--                            second_half_laws
+--   unless a fetched row  == HoldsForgery (Heard) of what the get's fetches gave: IsForgery (column_defs,
+--   is a forgery             Forgeries)
+--   a calm run            == IsCalm relies (since start) (Calm): while a get or a repair runs, at most b
+--                            providers were replaced since the begin of the audit that was the last settled
+--                            one at the job's begin; and the same while a scrub runs: AreScrubsCalm
+--                            (since start) (Scrubs)
+--   no audit missed       == NoneMissed (Missed): each audit whose last record came into effect flags each
+--   damage                   provider that was wrong at its begin and was not replaced since
+--   each get of a stored  == SecondHalf (Halves): its begin is refused for three causes alone, and a step
+--   name ends Ok             that ends it gives the bytes in effect at its begin
+--   save for want of      == refusal.Memory of a begin, in IsGetRefusal (Halves); no step of a get finds none
 --   memory
---   or a counted fault   == CountRose (Halves): a count of the disk or of a provider rose since the get's
---                           begin
---   acknowledged files   == EndsPut (Survival): a step of a put's job came to Ended Put
---   survive every stop   == IsKept (Survival), at every later moment, with any stops between, until a
---                           record that takes the file out has come to the third move of its append
---                           (NeverTakenOut)
---   numbers              == HasStored, HasAsked (Deeds): no two puts store under one number, no two audits
---                           make one challenge
+--   or a counted fault    == CountRose (Halves): a count of the disk or of a provider rose since the get's
+--                            begin
+--   acknowledged files    == EndsPut (Survival): a step of a put's job came to Ended Put
+--   survive every stop    == IsKept (Survival), at every later moment, with any stops between, until a
+--                            record that takes the file out has come to the third move of its append
+--                            (NeverTakenOut)
+--   numbers               == HasStored, HasAsked (Deeds): no two puts store under one number, no two audits
+--                            make one challenge
 use Rattle.std.specs.Prelude.{◌≡◌, ℕ, List, ◌∷◌, ◌++◌, length}
 use Rattle.record_defs.specs.Table.{File, file_as}
 use Rattle.machine_defs.specs.Jobs.{Job}

@@ -1,10 +1,10 @@
 -- An append, and the records that it goes behind. Lists of records have the newest first.
 --
---   gate_of a     the offset of the closed gate that the append opens
---   body_of a     what it writes behind the gate: a record and the next closed gate
---   moves_of a    how many of its four moves are made; 5 where one of them failed
---   Appends rs r a told the append brings the record r behind the records rs, and the disk is as after its
---       moves so far
+--   gate_of a           == the offset of the closed gate that the append opens
+--   body_of a           == what it writes behind the gate: a record and the next closed gate
+--   moves_of a          == how many of its four moves are made; 5 where one of them failed
+--   Appends rs r a told == the append brings the record r behind the records rs, and the disk is as after its
+--                          moves so far
 use Rattle.std.specs.Prelude.{◌≡◌, ℕ, IsTrue, IfSome, List, [], ◌∷◌, ◌++◌, length, take, Option}
 use Rattle.std.specs.List.{list_all}
 use Rattle.device_defs.specs.Cells.{Cells}

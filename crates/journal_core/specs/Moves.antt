@@ -1,17 +1,19 @@
 -- What a disk holds in the course of an append, and what its images stand for. Lists of records have the
 -- newest first.
 --
---   IsClosed front cells             a closed gate stands behind these bytes, and nothing up to it is loose
---   IsInDoubt front body cells       the gate behind these bytes is loose, and the body behind it is firm
---   IsAfterMoves n front body cells  after n moves: write the body, sync, write the open gate, sync
---   IsGivenUp n front body cells     after a fault of the move that came after n
---   AllStandFor rs told              each image of the disk stands for these records
---   MayStandFor rs r told            each image stands for these records, or for these with one more
---   SameFrom at old new what is read from an offset on is as before, also where it lies past an end
---   IsWrite moves                    the move that comes after so many is a write
---   cells_after n gate body cells the cells after the move that comes after n, at this gate, with this body
---   MayTear n gate body old new how the cells may go where that move failed: torn by a write, as before at
---       a sync
+--   IsClosed front cells            == a closed gate stands behind these bytes, and nothing up to it is loose
+--   IsInDoubt front body cells      == the gate behind these bytes is loose, and the body behind it is firm
+--   IsAfterMoves n front body cells == after n moves: write the body, sync, write the open gate, sync
+--   IsGivenUp n front body cells    == after a fault of the move that came after n
+--   AllStandFor rs told             == each image of the disk stands for these records
+--   MayStandFor rs r told           == each image stands for these records, or for these with one more
+--   SameFrom at old new             == what is read from an offset on is as before, also where it lies past
+--                                      an end
+--   IsWrite moves                   == the move that comes after so many is a write
+--   cells_after n gate body cells   == the cells after the move that comes after n, at this gate, with this
+--                                      body
+--   MayTear n gate body old new     == how the cells may go where that move failed: torn by a write, as
+--                                      before at a sync
 use Rattle.std.specs.Prelude.{◌≡◌, ◌≢◌, ◌⊎◌, ℕ, zero, suc, ◌+◌, true, false, List, [], ◌∷◌, ◌++◌, length, drop, Option}
 use Rattle.device_defs.specs.Cells.{Cells, reads, firm, loose}
 use Rattle.device_defs.specs.Disks.{written, Torn, synced}

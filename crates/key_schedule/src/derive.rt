@@ -38,8 +38,8 @@ pub fn point(master: &Master, l: u32, id: u64, provider: u32) -> Symbol
     }
 }
 
-/// The ChaCha20 key of the challenge to object `id` in a round of audit `number`: the SHA-256 of the master
-/// key, the letter `C` and the three numbers.
+/// The ChaCha20 key of the challenge to object `id` in a round of audit `number`: the SHA-256 (FIPS 180-4) of
+/// the master key, the letter `C` and the three numbers.
 #[tactic(auto, unfolding(column_defs::specs::Keys::seed))]
 pub fn seed(master: &Master, number: u64, id: u64, round: u32) -> [u8; 32]
     ensures { result ≡ spec.seed master.now.0 number id round }

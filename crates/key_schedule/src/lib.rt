@@ -1,4 +1,4 @@
-//! The master key, and what is derived from it by SHA-256: file keys, secret points and seeds.
+//! The master key, and what is derived from it by SHA-256 (FIPS 180-4): file keys, secret points and seeds.
 #![tactic(auto)]
 
 mod derive;

@@ -1,15 +1,16 @@
--- Settled audits, and calm runs.
+-- Settled audits, and calm runs: a mobile adversary changes at most b providers from one epoch to the next
+-- (Bowers, Juels and Oprea, HAIL, 2009). What ends an epoch here, a settled audit, is this project's own.
 --
---   Mark                   == a moment of a run, told from the moments so far as the number of events
---                             before it
---   settled_by tolerance r == the audit that a record settles as it comes into effect: an AuditDone that
---                             flags nobody its own, and a RepairDone that of its number
---   since start ms         == the begin of the last audit that was settled, or 0, the start of the run
---   relies kind            == a job relies on what providers hold: a get, a repair
---   replaced_count w from ms  == how many of the n providers were replaced by the event of number `from` or
---                                later ones
---   IsCalm reads mark ms   == at each moment, for each running job that relies on providers, at most b of
---                             these were replaced since the mark as it stood at the job's begin
+--   Mark                     == a moment of a run, told from the moments so far as the number of events
+--                               before it
+--   settled_by tolerance r   == the audit that a record settles as it comes into effect: an AuditDone that
+--                               flags nobody its own, and a RepairDone that of its number
+--   since start ms           == the begin of the last audit that was settled, or 0, the start of the run
+--   relies kind              == a job relies on what providers hold: a get, a repair
+--   replaced_count w from ms == how many of the n providers were replaced by the event of number `from` or
+--                               later ones
+--   IsCalm reads mark ms     == at each moment, for each running job that relies on providers, at most b of
+--                               these were replaced since the mark as it stood at the job's begin
 use Rattle.std.specs.Prelude.{◌≡◌, ℕ, ◌≤◌, Bool, true, false, IsTrue, List, [], ◌∷◌, Option, None, Some, if◌then◌else◌}
 use Rattle.code_defs.specs.Points.{upto}
 use Rattle.column_defs.specs.Forgeries.{count_of}

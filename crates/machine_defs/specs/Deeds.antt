@@ -1,15 +1,15 @@
 -- What the steps of a run did: which job made which action, and which numbers were used.
 --
---   Makes old m job action               == a moment after this state is a step in which the job made the
---                                          action, or failed at it; nothing ran alone
---   StoresFor old m begun object         == it is a store of a put with that begin, on that object
---   AsksFor old m begun number object round  == it is an ask of an audit with that begin and number, for an
---                                          object in a round
---   HasStored start ms begun object      == one of these moments is such a store
---   HasAsked start ms begun number object round  == one of these moments is such an ask
---   told_block w j object stripe         == the block that provider j holds, or none, where it tells what
---                                          it holds
---   has_stored s job j object stripe     == the job has made its store of that block
+--   Makes old m job action                      == a moment after this state is a step in which the job made
+--                                                  the action, or failed at it; nothing ran alone
+--   StoresFor old m begun object                == it is a store of a put with that begin, on that object
+--   AsksFor old m begun number object round     == it is an ask of an audit with that begin and number, for
+--                                                  an object in a round
+--   HasStored start ms begun object             == one of these moments is such a store
+--   HasAsked start ms begun number object round == one of these moments is such an ask
+--   told_block w j object stripe                == the block that provider j holds, or none, where it tells
+--                                                  what it holds
+--   HasMadeStore s job j object stripe          == the job has made its store of that block
 use Rattle.std.specs.Prelude.{◌≡◌, ◌⊎◌, ℕ, ◌<◌, true, false, List, [], ◌∷◌, Option, None, Some, slice_get}
 use Rattle.std.specs.Option.{option_map}
 use Rattle.record_defs.specs.Records.{Setup}

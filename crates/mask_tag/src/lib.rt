@@ -1,4 +1,5 @@
-//! The masks of secondary symbols, read from ChaCha20 by place.
+//! The masks of secondary symbols, read from ChaCha20 (RFC 8439) by place. They make a row's parity its
+//! message authentication code (Bowers, Juels and Oprea, HAIL, 2009).
 #![tactic(auto)]
 
 ghost use Rattle.std.specs.Prelude.{◌≡◌, ◌≤◌, ◌*◌, ◌+◌, ◌^◌, ◌<◌, length};
@@ -40,7 +41,7 @@ pub fn mask(key: &[u8; 32], row: u64) -> Symbol
 }
 
 /// Fills `out`, at most 128 symbols, with the masks of a stripe's rows, which are those from `stripe *
-/// out.len()` on.
+/// out.len()` on, read off stream 0 of ChaCha20 (RFC 8439).
 #[tactic(auto, unfolding(column_defs::specs::Keys::stream_symbol))]
 pub fn mask_block(key: &[u8; 32], stripe: u32, out: &mut [Symbol])
     requires { length out.old ≤ 128 }

@@ -1,11 +1,11 @@
 -- The plain data of the program's records.
 --
---   with_master setup key   the setup of the definitions, with its master key
---   counted counts          the numbers of the n providers
---   IsPadded counts         at most 16 numbers, and 0 at the places from n on
---   entry_of r              the record of the definitions
---   HasSpelling r           each field is within its limits, and the counts are padded
---   IsInGrammar r           so it is, and a journal may hold the record's kind
+--   with_master setup key == the setup of the definitions, with its master key
+--   counted counts        == the numbers of the n providers
+--   IsPadded counts       == at most 16 numbers, and 0 at the places from n on
+--   entry_of r            == the record of the definitions
+--   HasSpelling r         == each field is within its limits, and the counts are padded
+--   IsInGrammar r         == so it is, and a journal may hold the record's kind
 use Rattle.std.specs.Prelude.{◌≡◌, ◌≤◌, ◌-◌, ℕ, List, length, take, drop, replicate, IsTrue}
 use Rattle.record_defs.specs.Records.{SetUp, PutStart, PutDone, Drop, AuditStart, AuditDone, RepairDone, PutDoneIn, Version, Resume, InEffect, RepairDue, is_spelled, is_in_grammar}
 use Rattle.record_defs.specs.Records.{Setup as SetupData, Record as Entry}

@@ -1,16 +1,17 @@
 -- The two areas of a disk, of which one holds the journal. Offsets are bytes from the start of the disk.
 --
---   Area                     A, whose text begins at 8, or B, whose text begins at 8,388,608
---   area_of switch           B where byte 7 of the disk is the digit 2, and A for any other value
---   IsSwitched bytes area    the disk begins with HAILJRN and a byte that names this area
---   entries rs               each record after an open gate, without a closing one
---   entries_size rs          how many bytes these are
---   end_in area rs           the offset past the gate that closes the text of records in an area
---   text_length area rs the length of that text: in A counted from the start of the disk, in B from where
---       the area begins
---   HoldsIn bytes area rs    the area's text is that of records, with any closed gate, and then any bytes
---   StandsActive bytes area rs  bytes stand for records: this area is active, and holds them
---   IsBadActiveAt bytes at   the first place at which bytes fail to be a journal of two areas
+--   Area                       == A, whose text begins at 8, or B, whose text begins at 8,388,608
+--   area_of switch             == B where byte 7 of the disk is the digit 2, and A for any other value
+--   IsSwitched bytes area      == the disk begins with HAILJRN and a byte that names this area
+--   entries rs                 == each record after an open gate, without a closing one
+--   entries_size rs            == how many bytes these are
+--   end_in area rs             == the offset past the gate that closes the text of records in an area
+--   text_length area rs        == the length of that text: in A counted from the start of the disk, in B from
+--                                 where the area begins
+--   HoldsIn bytes area rs      == the area's text is that of records, with any closed gate, and then any
+--                                 bytes
+--   StandsActive bytes area rs == bytes stand for records: this area is active, and holds them
+--   IsBadActiveAt bytes at     == the first place at which bytes fail to be a journal of two areas
 use Rattle.std.specs.Prelude.{◌≡◌, ◌≢◌, ◌⊎◌, ℕ, ◌+◌, ◌==◌, ◌^◌, IsTrue, List, [], ◌∷◌, ◌++◌, length, take, drop, if◌then◌else◌}
 use Rattle.std.specs.List.{list_all}
 use Rattle.record_defs.specs.Records.{Record, record_size, is_in_grammar}

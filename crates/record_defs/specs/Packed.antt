@@ -1,10 +1,10 @@
 -- A packed journal: few records that fold to the same table. Lists of records have the newest first.
 --
---   AreAlike rs qs the tables of two lists of records are alike: running audits and started puts are left
---       out
---   with_files files rs records with these files in effect on top, the last of them first
---   packed rs the records of a packed journal, from its table: the setup, the version, the next numbers,
---                       each file in byte order of the names, and the due audit if there is one
+--   AreAlike rs qs      == the tables of two lists of records are alike: running audits and started puts are
+--                          left out
+--   with_files files rs == records with these files in effect on top, the last of them first
+--   packed rs           == the records of a packed journal, from its table: the setup, the version, the next
+--                          numbers, each file in byte order of the names, and the due audit if there is one
 use Rattle.std.specs.Prelude.{◌≡◌, List, [], ◌∷◌, Option, None, Some}
 use Rattle.record_defs.specs.Records.{Setup, Record, SetUp, Version, Resume, InEffect, RepairDue}
 use Rattle.record_defs.specs.Table.{File, Due, setup_of, version_of, next_id, next_audit, files_of, due_of}

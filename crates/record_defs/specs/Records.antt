@@ -1,15 +1,15 @@
 -- Records as plain data, with the limits of their fields.
 --
---   Setup, Record      the data; names, keys and counts are lists of numbers
---   is_name name 1 to 64 bytes, each a letter A to Z or a to z, a digit, a full stop, an underscore or a
---       dash
---   is_setup s         every number of a setup is within its limits; of the master key it says nothing
---   is_master key      32 bytes
---   is_spelled r       each field is within its limits, so that the record has a spelling
---   is_held r a journal may hold the record's kind; the second version's kinds are out while
---       holds_second_version is off
---   is_in_grammar r    the record has a spelling, and a journal may hold its kind
---   record_size r      how many bytes the record takes, its kind included
+--   Setup, Record   == the data; names, keys and counts are lists of numbers
+--   is_name name    == 1 to 64 bytes, each a letter A to Z or a to z, a digit, a full stop, an underscore or
+--                      a dash
+--   is_setup s      == every number of a setup is within its limits; of the master key it says nothing
+--   is_master key   == 32 bytes
+--   is_spelled r    == each field is within its limits, so that the record has a spelling
+--   is_held r       == a journal may hold the record's kind; the second version's kinds are out while
+--                      holds_second_version is off
+--   is_in_grammar r == the record has a spelling, and a journal may hold its kind
+--   record_size r   == how many bytes the record takes, its kind included
 --
 -- Limits: largest_file (bytes of a file), largest_journal (bytes of a journal), most_files (files in effect).
 use Rattle.std.specs.Prelude.{ℕ, ◌+◌, ◌*◌, ◌^◌, ◌==◌, ◌&&◌, ◌||◌, Bool, true, false, List, length, nat_lt, nat_le}

@@ -1,16 +1,17 @@
 -- What a list of records folds to. Each value is read off the list from its newest record, which is the
 -- first. Each kind of record is spelled out, so that a new kind has to be thought of.
 --
---   setup_of rs           the setup, if there is one
---   version_of rs         the version of the journal: 1 or 2
---   next_id rs the number that the next put takes: one past that of the last start, or what a Resume says
---   next_audit rs         the number that the next audit takes, in the same way
---   started_as rs id      the name under which a put was started and is not done
---   file_of rs name       the file in effect under a name
---   files_of rs           all files in effect, in byte order of their names
---   find_file files name  the file of a name among files; None where there is none
---   running_audit rs      the number of the audit that was started last and is not done
---   due_of rs             the audit whose repair is due, with its counts
+--   setup_of rs          == the setup, if there is one
+--   version_of rs        == the version of the journal: 1 or 2
+--   next_id rs           == the number that the next put takes: one past that of the last start, or what a
+--                           Resume says
+--   next_audit rs        == the number that the next audit takes, in the same way
+--   started_as rs id     == the name under which a put was started and is not done
+--   file_of rs name      == the file in effect under a name
+--   files_of rs          == all files in effect, in byte order of their names
+--   find_file files name == the file of a name among files; None where there is none
+--   running_audit rs     == the number of the audit that was started last and is not done
+--   due_of rs            == the audit whose repair is due, with its counts
 --
 -- A byte order of names: `is_name_before`, where a name comes before those that it begins. `are_ordered`
 -- asks it of each file and all behind it.

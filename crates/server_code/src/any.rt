@@ -9,7 +9,7 @@ use hail_field::{Memory, Symbol};
 use hail_poly::Work;
 use std::alloc::Global;
 
-/// The server code of any profile.
+/// The server code of any profile (Bowers, Juels and Oprea, HAIL, 2009: the code within a provider's column).
 #[derive(Drop)]
 pub enum AnyCode {
     /// Profile 0: 6 symbols a block, 2 of them kept.

@@ -1,12 +1,11 @@
 -- What a store does, and what it stores.
 --
---   StoresAs object stripe block result old new == a call of a provider's store that came to this
---   turned bench object     == the object of a bench that was turned to another number
---   stored_block task object j stripe == the block that a job stores: of a put's bytes, or of the symbols
---                                        at hand of a repair
---   KeepsTask old new object == what the job works with is as before, but for its keys and what it makes
---                               with them
---   IsStorer task j         == a job that stores, and provider j is one of those of its object
+--   turned bench object               == the object of a bench that was turned to another number
+--   stored_block task object j stripe == the block that a job stores: of a put's bytes, or of the symbols at
+--                                        hand of a repair
+--   KeepsTask old new object          == what the job works with is as before, but for its keys and what it
+--                                        makes with them
+--   IsStorer task j                   == a job that stores, and provider j is one of those of its object
 use Rattle.std.specs.Prelude.{◌≡◌, ℕ, ◌<◌, List, []}
 use Rattle.column_defs.specs.Columns.{column_of_symbols}
 use Rattle.column_defs.specs.Objects.{Object, symbols_in}

@@ -1,10 +1,10 @@
 -- Places of names among files in byte order of their names.
 --
---   order_of a b       how two names stand in byte order
---   comes_after name files   each file's name comes before the name
---   comes_before name files  the name comes before each file's name
---   IsHere files name i      the file at place i has the name
---   IsBetween files name i   the files up to place i come before the name, and those from there on after it
+--   order_of a b            == how two names stand in byte order
+--   comes_after name files  == each file's name comes before the name
+--   comes_before name files == the name comes before each file's name
+--   IsHere files name i     == the file at place i has the name
+--   IsBetween files name i  == the files up to place i come before the name, and those from there on after it
 use Rattle.std.specs.Prelude.{◌≡◌, ◌≤◌, ◌<◌, ℕ, true, Bool, nat_lt, ◌==◌, List, [], ◌∷◌, ◌++◌, length, take, drop, if◌then◌else◌}
 use Rattle.std.specs.List.{list_all}
 use Rattle.std.specs.declared.cmp.Ordering.{Ordering}
