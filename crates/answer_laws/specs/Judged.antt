@@ -1,8 +1,8 @@
 -- What bytes come to, whatever they are. Records have the newest first.
 --
---   Judged bytes           == what a start makes of them: no store, a first bad place, or records that it
---                             accepts
---   JudgedByInit bytes     == what an init makes of them: free, a store already, or a first bad place
+--   Judged bytes              == what a start makes of them: no store, a first bad place, or records that it
+--                                accepts
+--   JudgedByInit bytes        == what an init makes of them: free, a store already, or a first bad place
 --   AnsweredFor cells old end == how a command over a store ends whose disk tells these cells and does not
 --                                fail
 use Rattle.std.specs.Prelude.{◌≡◌, ◌≢◌, ◌⊎◌, ℕ, ◌<◌, ◌≤◌, List, [], length}

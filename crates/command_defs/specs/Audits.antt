@@ -1,17 +1,17 @@
 -- What an audit leaves and counts whose job was the only one. What it heard decides alone on its counts.
 --
---   files_by_number files        == files in ascending order of their object numbers
---   questions s files            == a question for each file that has a stripe and each round, in order
---   answer_heard x object round j  == the answer that the ask of provider j in a round gave, by what was
---                                     heard
---   answer_entries x             == an entry for each question and each provider of the setup, in order
---   HearsRounds x number         == these entries were heard, and each provider that tells gave its honest
---                                   answer to the challenge, or none where its count rose
---   JudgesAll x number asked old new  == the rounds of these questions, one after the other, turn these
---                                        sums into those
---   AuditIsCut x                 == an audit that a fault of the disk cut off, at its first record or at
---                                   its last one
---   AuditLeaves x answer         == what an audit leaves where it ended with this answer
+--   files_by_number files            == files in ascending order of their object numbers
+--   questions s files                == a question for each file that has a stripe and each round, in order
+--   answer_heard x object round j    == the answer that the ask of provider j in a round gave, by what was
+--                                       heard
+--   answer_entries x                 == an entry for each question and each provider of the setup, in order
+--   HearsRounds x number             == these entries were heard, and each provider that tells gave its
+--                                       honest answer to the challenge, or none where its count rose
+--   JudgesAll x number asked old new == the rounds of these questions, one after the other, turn these sums
+--                                       into those
+--   AuditIsCut x                     == an audit that a fault of the disk cut off, at its first record or at
+--                                       its last one
+--   AuditLeaves x answer             == what an audit leaves where it ended with this answer
 use Rattle.std.specs.Prelude.{◌≡◌, ◌⊎◌, ℕ, ◌<◌, List, [], ◌∷◌, map, replicate, nat_lt, Option, None, Some, IfSome, if◌then◌else◌}
 use Rattle.std.specs.List.{flat_map}
 use Rattle.code_defs.specs.Points.{upto}

@@ -1,11 +1,11 @@
 -- How what a provider holds goes in the commands.
 --
---   GoesAway object rose old new      == an object's blocks are gone; where the count of faults rose, some
---                                        may still be there
---   StoredOn o bytes older rose j old new  == provider j holds its column of a file in every stripe, the
---                                        older object's blocks are gone, and all else is as before
---   PartlyStored o bytes j old new    == some blocks of a file were stored, and all else is as before
---   DroppedFrom object rose old new   == an object's blocks are gone, and all else is as before
+--   GoesAway object rose old new          == an object's blocks are gone; where the count of faults rose,
+--                                            some may still be there
+--   StoredOn o bytes older rose j old new == provider j holds its column of a file in every stripe, the older
+--                                            object's blocks are gone, and all else is as before
+--   PartlyStored o bytes j old new        == some blocks of a file were stored, and all else is as before
+--   DroppedFrom object rose old new       == an object's blocks are gone, and all else is as before
 use Rattle.std.specs.Prelude.{◌≡◌, ◌≢◌, ◌⊎◌, ℕ, ◌<◌, ◌≤◌, List, length, Option, None, Some, IfSome}
 use Rattle.column_defs.specs.Objects.{Object, stripes}
 use Rattle.column_defs.specs.Columns.{columns}

@@ -1,7 +1,7 @@
 -- What `init` does.
 --
---   setup_with numbers key     == the setup of these numbers and this master key
---   AnswersInit numbers old new end  == how `init` ends
+--   setup_with numbers key          == the setup of these numbers and this master key
+--   AnswersInit numbers old new end == how `init` ends
 use Rattle.std.specs.Prelude.{◌≡◌, ℕ, ◌<◌, ◌≤◌, true, false, List, [], length, IfSome}
 use Rattle.device_defs.specs.Faults.{Rose}
 use Rattle.device_defs.specs.Images.{EachImage}

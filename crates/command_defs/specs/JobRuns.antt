@@ -1,10 +1,10 @@
 -- A job that runs alone, as a run of the machine: a begin, and its steps up to its end.
 --
---   AreSteps w moment job ms == steps of the job that all answered more, from this state on, after so many
---                               events; the newest first
---   RunsJob w moment kind answer heard new  == the job of this kind begins in the state, after so many
---                              events, and its steps come to this answer and leave the new state; it heard
---                              these entries
+--   AreSteps w moment job ms               == steps of the job that all answered more, from this state on,
+--                                             after so many events; the newest first
+--   RunsJob w moment kind answer heard new == the job of this kind begins in the state, after so many events,
+--                                             and its steps come to this answer and leave the new state; it
+--                                             heard these entries
 use Rattle.std.specs.Prelude.{◌≡◌, ℕ, ◌+◌, List, [], ◌∷◌, length}
 use Rattle.machine_defs.specs.Jobs.{Kind, job_of}
 use Rattle.machine_defs.specs.Answers.{Answer}

@@ -1,15 +1,16 @@
 -- What a command leaves and says that runs one job.
 --
---   Leaves x kind answer       == what a job of this kind leaves that ended with this answer
---   SamePast kind answer before after old new  == past the text of the records in effect, with the one that
---                                 was being appended where the job was cut short, the disk reads as before
---   RunsAlone records kind answer old new heard  == a job of this kind ran alone over these records and
---                                          devices, as a run of the machine
---   LeftAlone records kind answer old new heard  == the same without its run: the records then in effect,
---                                          what is left and heard
---   EndsByAnswer text answer old new end  == how the command ends: the answer is told by its text, or by
---                                          the status of its fault
---   AnswersJob kind records old new end  == the job is refused, or ends, over these records
+--   Leaves x kind answer                        == what a job of this kind leaves that ended with this answer
+--   SamePast kind answer before after old new   == past the text of the records in effect, with the one that
+--                                                  was being appended where the job was cut short, the disk
+--                                                  reads as before
+--   RunsAlone records kind answer old new heard == a job of this kind ran alone over these records and
+--                                                  devices, as a run of the machine
+--   LeftAlone records kind answer old new heard == the same without its run: the records then in effect, what
+--                                                  is left and heard
+--   EndsByAnswer text answer old new end        == how the command ends: the answer is told by its text, or
+--                                                  by the status of its fault
+--   AnswersJob kind records old new end         == the job is refused, or ends, over these records
 use Rattle.std.specs.Prelude.{◌≡◌, ◌⊎◌, ℕ, ◌≤◌, List, [], ◌∷◌, ◌++◌, length, reverse, drop, Option, None, Some, IfSome, IsSomeAnd}
 use Rattle.std.specs.Option.{option_map}
 use Rattle.device_defs.specs.Cells.{Cells, reads}

@@ -1,15 +1,15 @@
 -- What the commands write at status 0, each line with its newline.
 --
---   ready_line                            == `ready`
---   stored_line name size                 == `stored NAME SIZE`
---   dropped_line name                     == `dropped NAME`
---   list_lines files                      == `NAME SIZE` for each file, in their order
---   audit_lines tolerance number undecided counts == `audit NUMBER undecided U`, then `provider J count C
---                                          ok` or `.. flagged` for each provider: flagged where its count
---                                          exceeds the tolerance
---   repaired_line number                  == `repaired NUMBER`
---   text_of tolerance kind answer         == what a job of this kind writes that ended with this answer;
---                                          nothing at a fault
+--   ready_line                                    == `ready`
+--   stored_line name size                         == `stored NAME SIZE`
+--   dropped_line name                             == `dropped NAME`
+--   list_lines files                              == `NAME SIZE` for each file, in their order
+--   audit_lines tolerance number undecided counts == `audit NUMBER undecided U`, then `provider J count C ok`
+--                                                    or `.. flagged` for each provider: flagged where its
+--                                                    count exceeds the tolerance
+--   repaired_line number                          == `repaired NUMBER`
+--   text_of tolerance kind answer                 == what a job of this kind writes that ended with this
+--                                                    answer; nothing at a fault
 use Rattle.std.specs.Prelude.{ℕ, ◌+◌, List, [], ◌∷◌, ◌++◌, length, codes, nat_lt, if◌then◌else◌}
 use Rattle.std.specs.List.{flat_map}
 use Rattle.record_defs.specs.Table.{File}

@@ -1,10 +1,10 @@
 -- What stands before the begin of a command over a store that is set up. Records have the newest first.
 --
---   setup_in_effect records              == the setup in effect
---   object_in_effect records file        == the object of a file in effect
---   stripes_in_effect records file       == how many stripes it has
---   IsOpened old records          == they are read, and enough providers are handed in
---   Unstarted old new end         == the command ended before that, with its cause
+--   setup_in_effect records        == the setup in effect
+--   object_in_effect records file  == the object of a file in effect
+--   stripes_in_effect records file == how many stripes it has
+--   IsOpened old records           == they are read, and enough providers are handed in
+--   Unstarted old new end          == the command ended before that, with its cause
 --
 -- The causes exclude one another, and bytes that a start reads stand for one list of records: so each
 -- status comes exactly where its cause applies, unless a counted fault of the disk or want of memory comes

@@ -1,10 +1,10 @@
 -- Why a command is refused whose job would be the only one. Records have the newest first.
 --
---   takes_too_much records kind     == the records of such a job find no room in the journal
---   has_no_number records kind      == the numbers that such a job draws come to their end
---   causes_of records kind          == the causes for which the begin is refused, in order
---   refusal_over records kind         == the first one that applies; None where the job begins
---   status_of refusal               == the status that tells of it
+--   takes_too_much records kind == the records of such a job find no room in the journal
+--   has_no_number records kind  == the numbers that such a job draws come to their end
+--   causes_of records kind      == the causes for which the begin is refused, in order
+--   refusal_over records kind   == the first one that applies; None where the job begins
+--   status_of refusal           == the status that tells of it
 use Rattle.std.specs.Prelude.{ℕ, ◌+◌, ◌-◌, ◌^◌, ◌==◌, ◌&&◌, ◌||◌, Bool, false, not, List, [], ◌∷◌, length, sum, Option, is_some, nat_le, nat_lt}
 use Rattle.record_defs.specs.Records.{Record, is_name, largest_file, largest_journal, most_files}
 use Rattle.record_defs.specs.Journal.{text_size}

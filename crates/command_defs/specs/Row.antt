@@ -1,7 +1,7 @@
 -- The command `row`: its words, and what it answers.
 --
 --   IsRowForm words n l b seen        == the words are `row`, the three numbers, and n symbol words
---   OpensRow n l b seen values           == the values at the points 0 to l - 1 of an accepted polynomial
+--   OpensRow n l b seen values        == the values at the points 0 to l - 1 of an accepted polynomial
 --   AnswersRow n l b seen status sink == the status and the sink are those of an answer to this row
 use Rattle.std.specs.Prelude.{◌≡◌, ℕ, List, ◌∷◌, length, codes, Option, String}
 use Rattle.std.specs.String.{string_bytes}

@@ -1,21 +1,22 @@
 -- What is seen of the devices of a command, and how it ended.
 --
---   Seen                   == the devices as they are seen: what each holds, has left or has written, where
---                             it tells it, and its counts
---   provider_at ps j       == what is seen of provider j; of one that was not handed in nothing is known
---   sinking old new        == what the sink told and counted
---   NoCountFalls old new   == no device's count of faults fell, and no provider came or went
---   KeepsDisk old new      == the disk was synced, or was left as it was; so all its images were images
---                             before
---   IsSynced old new       == the disk was synced, and nothing else was done to it
---   SameSource old new     == the source was not read
---   ReadsAtMost most old new == some bytes were read of a source, at most so many
---   ReadsUpTo most old new bytes  == these bytes were read of a source, at most so many; where they are
---                                    fewer, it is at its end
---   Ending                 == how a command ended: its status, the place that the status speaks of, and
---                             what its job heard
---   IsRefused status at old new end  == the command ended so: nothing was heard or written, the disk was at
---                             most synced, and the providers are as before
+--   Seen                            == the devices as they are seen: what each holds, has left or has
+--                                      written, where it tells it, and its counts
+--   provider_at ps j                == what is seen of provider j; of one that was not handed in nothing is
+--                                      known
+--   sinking old new                 == what the sink told and counted
+--   NoCountFalls old new            == no device's count of faults fell, and no provider came or went
+--   KeepsDisk old new               == the disk was synced, or was left as it was; so all its images were
+--                                      images before
+--   IsSynced old new                == the disk was synced, and nothing else was done to it
+--   SameSource old new              == the source was not read
+--   ReadsAtMost most old new        == some bytes were read of a source, at most so many
+--   ReadsUpTo most old new bytes    == these bytes were read of a source, at most so many; where they are
+--                                      fewer, it is at its end
+--   Ending                          == how a command ended: its status, the place that the status speaks of,
+--                                      and what its job heard
+--   IsRefused status at old new end == the command ended so: nothing was heard or written, the disk was at
+--                                      most synced, and the providers are as before
 use Rattle.std.specs.Prelude.{◌≡◌, ℕ, ◌<◌, ◌≤◌, List, [], length, slice_get, unwrap_or, Option, None, IfSome}
 use Rattle.std.specs.Option.{option_map}
 use Rattle.device_defs.specs.Told.{Goes, then_told}

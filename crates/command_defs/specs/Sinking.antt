@@ -1,11 +1,12 @@
 -- How a command ended, with what it left in its sink. The statuses are those of the program.
 --
---   Sinking                    == what a sink told and counted, before and after
---   Refuses due status sink    == nothing was written, and the status is the one due, or that of no memory
---   WritesLine line status sink    == the line was written at status 0; a counted fault of the sink, where
---                                 it is not empty, or want of memory cut it off
---   TellsLine due line status sink == the line was written at the status due, unless a counted fault, or
---                                     want of memory, cut it off
+--   Sinking                        == what a sink told and counted, before and after
+--   Refuses due status sink        == nothing was written, and the status is the one due, or that of no
+--                                     memory
+--   WritesLine line status sink    == the line was written at status 0; a counted fault of the sink, where it
+--                                     is not empty, or want of memory cut it off
+--   TellsLine due line status sink == the line was written at the status due, unless a counted fault, or want
+--                                     of memory, cut it off
 use Rattle.std.specs.Prelude.{◌≡◌, ◌≢◌, ◌⊎◌, ℕ, List, [], Option}
 use Rattle.device_defs.specs.Faults.{Rose}
 use Rattle.device_defs.specs.Told.{told_then, TakesFront}

@@ -1,10 +1,10 @@
 -- What providers gave, beside what they hold.
 --
---   missing given held asked     == to how many of these questions nothing was given though something was
---                                   held
---   IsTruthful given held asked before now  == to each question what is held was given, or nothing; and
---                                  nothing, though something was held, at most as often as the count of
---                                  faults rose, where it ends below its last value
+--   missing given held asked               == to how many of these questions nothing was given though
+--                                             something was held
+--   IsTruthful given held asked before now == to each question what is held was given, or nothing; and
+--                                             nothing, though something was held, at most as often as the
+--                                             count of faults rose, where it ends below its last value
 use Rattle.std.specs.Prelude.{◌≡◌, ◌⊎◌, ℕ, ◌+◌, ◌<◌, ◌≤◌, ◌&&◌, List, [], ◌∷◌, All, Option, None, is_some, is_none, if◌then◌else◌}
 use Rattle.device_defs.specs.Faults.{last_count}
 

@@ -1,13 +1,13 @@
 -- How the one job of a command is refused or ends, as it is seen of the devices. Records have the newest
 -- first.
 --
---   IsSeenBefore seen d      == what was seen of disk and providers before a vault was opened, where they
---                               are these once it is
---   IsSeenAfter seen d       == what is seen of disk and providers once the job ended
---   IsRefusedOver records kind why  == the begin is refused with its cause, or found no memory
---   NoFaultUndone old new    == no count of faults of the disk or of a provider fell, and no provider came
---                               or went
---   EndsOver records kind ended old new  == the job was not refused, and ran to this end, as a run of the
+--   IsSeenBefore seen d                 == what was seen of disk and providers before a vault was opened,
+--                                          where they are these once it is
+--   IsSeenAfter seen d                  == what is seen of disk and providers once the job ended
+--   IsRefusedOver records kind why      == the begin is refused with its cause, or found no memory
+--   NoFaultUndone old new               == no count of faults of the disk or of a provider fell, and no
+--                                          provider came or went
+--   EndsOver records kind ended old new == the job was not refused, and ran to this end, as a run of the
 --                                          machine and by what it left
 use Rattle.std.specs.Prelude.{◌≡◌, ◌⊎◌, ℕ, ◌≤◌, List, length, None, Some}
 use Rattle.std.specs.Option.{option_map}

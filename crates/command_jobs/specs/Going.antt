@@ -1,12 +1,13 @@
 -- The only job of a vault on its way to the end.
 --
---   IsOnly start kind w            == the only job of a state is of this kind, and has gone on since it
---                                     began in `start`
---   IsUnderWay v d                 == vault and devices stand for such a state
---   GoesToEnd start kind w moment ended v old new  == the job goes on from a state, after so many events,
---                                     to this end, and vault and devices stand for the last state; past the
---                                     text, with the record that was being appended where the job was cut
---                                     short, the disk reads as before
+--   IsOnly start kind w                           == the only job of a state is of this kind, and has gone on
+--                                                    since it began in `start`
+--   IsUnderWay v d                                == vault and devices stand for such a state
+--   GoesToEnd start kind w moment ended v old new == the job goes on from a state, after so many events, to
+--                                                    this end, and vault and devices stand for the last
+--                                                    state; past the text, with the record that was being
+--                                                    appended where the job was cut short, the disk reads as
+--                                                    before
 use Rattle.std.specs.Prelude.{ℕ}
 use Rattle.machine_defs.specs.Jobs.{Kind, Job}
 use Rattle.machine_defs.specs.States.{State}

@@ -1,14 +1,14 @@
 -- What it means that a vault was just opened, and why none is. Records have the newest first.
 --
---   AreRecords records        == records that a start reads: there is one, the journal may hold them, and
---                                each may follow those before it
---   IsReadFor told records handed  == the disk, where it tells, reads these records, and enough providers
---                                     are handed in
+--   AreRecords records                 == records that a start reads: there is one, the journal may hold
+--                                         them, and each may follow those before it
+--   IsReadFor told records handed      == the disk, where it tells, reads these records, and enough providers
+--                                         are handed in
 --   IsFreshOver v records holds faults == a vault that was just opened over these records and this disk: it
---                                     stands for each state that was, whatever providers are handed in
---   IsFreshFor v holds faults handed  == the same over some records, with enough providers
---   unopened_of fault         == why no vault is opened, where a start gave this fault
---   IsUnopened told handed why     == the cause for which no vault is opened
+--                                         stands for each state that was, whatever providers are handed in
+--   IsFreshFor v holds faults handed   == the same over some records, with enough providers
+--   unopened_of fault                  == why no vault is opened, where a start gave this fault
+--   IsUnopened told handed why         == the cause for which no vault is opened
 use Rattle.std.specs.Prelude.{◌≡◌, ◌≢◌, ℕ, ◌<◌, ◌≤◌, IsTrue, IfSome, List, [], length, Option}
 use Rattle.std.specs.List.{list_all}
 use Rattle.device_defs.specs.Cells.{Cells}

@@ -1,24 +1,27 @@
 -- What stands between two commands: which records the store has, and which providers are right for a file.
 --
---   IsSure s records           == the store is known, and whatever a stop leaves of its disk stands for
---                                 these records
---   Follows new next           == the next command finds the disk as the last one left it, or as a stop
---                                 then left it, and as many providers
---   IsThen command records old new after == the records after a command: those before it, or these with the
---                                          first few of its job's
---   is_refusal status          == the status tells that a command was refused, or that its source failed
---   is_ending status          == the status is one with which a command ends whose words have a form
---   is_wrong_at records s file bytes j == provider j is wrong for a file of these bytes, or does not tell
---                                       what it holds
---   HasRightFile s records name bytes spoilt == a file of these bytes is in effect, and each provider that
---                                          is not spoilt is right for it
---   IsUntouched n spoilt new next == each of n providers that is not spoilt holds what it held
---   IsSteady n spoilt old new  == of none of n providers that is not spoilt the count of failed calls rose
---   spoilt_below n spoilt      == how many of n providers are spoilt
---   IsFaultless old new        == no count rose that could end a command: the disk's, of a provider's
---                                 stores, the source's, the sink's
---   keeps_blocks command       == a get, a list and an audit
---   IsOfAnother name command       == a put or a drop of another name
+--   IsSure s records                         == the store is known, and whatever a stop leaves of its disk
+--                                               stands for these records
+--   Follows new next                         == the next command finds the disk as the last one left it, or
+--                                               as a stop then left it, and as many providers
+--   IsThen command records old new after     == the records after a command: those before it, or these with
+--                                               the first few of its job's
+--   is_refusal status                        == the status tells that a command was refused, or that its
+--                                               source failed
+--   is_ending status                         == the status is one with which a command ends whose words have
+--                                               a form
+--   is_wrong_at records s file bytes j       == provider j is wrong for a file of these bytes, or does not
+--                                               tell what it holds
+--   HasRightFile s records name bytes spoilt == a file of these bytes is in effect, and each provider that is
+--                                               not spoilt is right for it
+--   IsUntouched n spoilt new next            == each of n providers that is not spoilt holds what it held
+--   IsSteady n spoilt old new                == of none of n providers that is not spoilt the count of failed
+--                                               calls rose
+--   spoilt_below n spoilt                    == how many of n providers are spoilt
+--   IsFaultless old new                      == no count rose that could end a command: the disk's, of a
+--                                               provider's stores, the source's, the sink's
+--   keeps_blocks command                     == a get, a list and an audit
+--   IsOfAnother name command                 == a put or a drop of another name
 use Rattle.std.specs.Prelude.{◌≡◌, ◌≢◌, ◌⊎◌, ℕ, ◌<◌, ◌==◌, ◌||◌, Bool, true, false, List, ◌++◌, length, reverse, take, Option, None, Some}
 use Rattle.code_defs.specs.Points.{upto}
 use Rattle.column_defs.specs.Objects.{Object}

@@ -1,23 +1,25 @@
 -- What a command says by its status, where no run of its job and no state stands in the statement.
 --
---   IsKnown old records        == the disk tells what it holds and reads these records, and enough
---                                 providers are handed in
---   IsDone end                 == status 0, or 15: it is done, and the sink took its text, or failed at it
---   GivesText text old new end     == status 0, with the text behind what the sink held
---   GivesUnlessMemory text old new end  == the same, or status 70, with a front of the text at most
---   SameHolds old new          == each provider that was handed in holds what it held, where it tells it
---   opens_store command        == the command looks at the records of a store
---   after_put records name size, after_drop, after_audit, after_repair  == the records that such a job that
---                                          is done leaves
---   ran_to after records old new heard  == what a job left that was done, as it is seen
---   RunsKind command old new kind  == the command runs a job of this kind: a put of what it read
---   EndsInOrder command old new end  == status 0, or 70, or the command is refused, with its cause
---   FaultsHaveCauses old new end  == a status of a fault comes only where the count of that device rose
---   AreSafe records old new bytes == for each file in effect at most b providers are wrong for its bytes,
---                                    or failed
+--   IsKnown old records                == the disk tells what it holds and reads these records, and enough
+--                                         providers are handed in
+--   IsDone end                         == status 0, or 15: it is done, and the sink took its text, or failed
+--                                         at it
+--   GivesText text old new end         == status 0, with the text behind what the sink held
+--   GivesUnlessMemory text old new end == the same, or status 70, with a front of the text at most
+--   SameHolds old new                  == each provider that was handed in holds what it held, where it tells
+--                                         it
+--   opens_store command                == the command looks at the records of a store
+--   after_put records name size, after_drop, after_audit, after_repair
+--                                      == the records that such a job that is done leaves
+--   ran_to after records old new heard == what a job left that was done, as it is seen
+--   RunsKind command old new kind      == the command runs a job of this kind: a put of what it read
+--   EndsInOrder command old new end    == status 0, or 70, or the command is refused, with its cause
+--   FaultsHaveCauses old new end       == a status of a fault comes only where the count of that device rose
+--   AreSafe records old new bytes      == for each file in effect at most b providers are wrong for its
+--                                         bytes, or failed
 --   HoldsFile records new bytes file j == what is told of provider j has each block of a file of these bytes
---   IsWholePut name old new end, IsDropped, IsAudited, IsRepaired  == what a command has done that is done;
---                                          its text is told, or cut off
+--   IsWholePut name old new end, IsDropped, IsAudited, IsRepaired
+--                                      == what a command has done that is done; its text is told, or cut off
 use Rattle.std.specs.Prelude.{◌≡◌, ◌⊎◌, ℕ, ◌+◌, ◌≤◌, ◌<◌, Bool, true, false, List, [], ◌∷◌, length, None, Some, IfSome, is_some}
 use Rattle.column_defs.specs.Columns.{columns}
 use Rattle.device_defs.specs.Faults.{Rose}

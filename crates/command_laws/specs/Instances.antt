@@ -1,18 +1,23 @@
 -- Concrete values that meet what the laws suppose: a store over four providers that tell what they hold,
 -- with one empty file.
 --
---   store records             == what is seen of devices whose disk reads these records, with nothing loose
---   held_name, held_file, other_name == the name of the file, the file, and another name
---   set_up_records, held_records == the records of a store that was set up, and of one with the file
+--   store records                                  == what is seen of devices whose disk reads these records,
+--                                                     with nothing loose
+--   held_name, held_file, other_name               == the name of the file, the file, and another name
+--   set_up_records, held_records                   == the records of a store that was set up, and of one with
+--                                                     the file
 --   audited_records, due_records, repaired_records == of a store with no file after an audit, with a repair
---                                          due, and after it
---   put_store, audited_store, repaired_store == what is seen after a put of the file, that audit, that repair
---   small_numbers, key_text, key_devices, ready_store == the numbers of an init, its key, devices before it
---                                          and after it
---   empty_devices             == devices whose disk reads nothing
---   with_sink s bytes         == what is seen, with these bytes in the sink
---   ends status               == an end that heard nothing
---   get_held, get_other       == two calls over the store: of its file, and of a name that has none
+--                                                     due, and after it
+--   put_store, audited_store, repaired_store       == what is seen after a put of the file, that audit, that
+--                                                     repair
+--   small_numbers, key_text, key_devices, ready_store
+--                                                  == the numbers of an init, its key, devices before it and
+--                                                     after it
+--   empty_devices                                  == devices whose disk reads nothing
+--   with_sink s bytes                              == what is seen, with these bytes in the sink
+--   ends status                                    == an end that heard nothing
+--   get_held, get_other                            == two calls over the store: of its file, and of a name
+--                                                     that has none
 use Rattle.std.specs.Prelude.{ℕ, List, [], ◌∷◌, replicate, Some, None}
 use Rattle.device_defs.specs.Cells.{firm}
 use Rattle.device_defs.specs.Providers.{Provider}

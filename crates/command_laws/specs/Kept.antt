@@ -1,18 +1,20 @@
 -- What commands leave, however they end.
 --
---   KeepsImages old new        == each image of the disk after a command is one that it had before
---   AreAppended records kind own  == these are the records that a job of this kind appends over these
---                                    records, the oldest first
---   IsAfter records kind image == an image stands for these records, with the first few of those of a job
---                                 of this kind
---   LeavesImages command old new  == the images are images as before, or a job was run over the records
---                                 that were read, and each image stands for these with some that it wrote
---   InitImages numbers old new == a store was set up with these numbers, or each image is one that a failed
---                                 init may leave
---   SameFetches old new        == no provider was fetched from
+--   KeepsImages old new                        == each image of the disk after a command is one that it had
+--                                                 before
+--   AreAppended records kind own               == these are the records that a job of this kind appends over
+--                                                 these records, the oldest first
+--   IsAfter records kind image                 == an image stands for these records, with the first few of
+--                                                 those of a job of this kind
+--   LeavesImages command old new               == the images are images as before, or a job was run over the
+--                                                 records that were read, and each image stands for these
+--                                                 with some that it wrote
+--   InitImages numbers old new                 == a store was set up with these numbers, or each image is one
+--                                                 that a failed init may leave
+--   SameFetches old new                        == no provider was fetched from
 --   stores_blocks command, opens_rows command  == a put and a repair; a get, a repair and a row
---   FailsToPut name old new end, FailsToRepair  == what a put and a repair leave of which a store failed
---   LosesFile name old new end, LosesRepair     == what a get and a repair leave that found a row lost
+--   FailsToPut name old new end, FailsToRepair == what a put and a repair leave of which a store failed
+--   LosesFile name old new end, LosesRepair    == what a get and a repair leave that found a row lost
 use Rattle.std.specs.Prelude.{◌≡◌, ◌⊎◌, ℕ, ◌+◌, ◌<◌, Bool, true, false, List, [], ◌∷◌, ◌++◌, length, reverse, take, Some, IfSome}
 use Rattle.column_defs.specs.Verdicts.{is_flagged}
 use Rattle.device_defs.specs.Faults.{Rose}

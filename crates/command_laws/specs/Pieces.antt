@@ -1,18 +1,20 @@
 -- Commands as pieces of one run of the machine. Moments and calls have the newest first.
 --
---   IsStore w s               == a sound state of a store that is set up stands for what is seen of disk
---                                and providers
---   IsSpelledCommand command  == the name in the command's words is of bytes
+--   IsStore w s                      == a sound state of a store that is set up stands for what is seen of
+--                                       disk and providers
+--   IsSpelledCommand command         == the name in the command's words is of bytes
 --   IsCall command old new end w own == these moments are what the machine makes of a command: a later call
---                                 of the program, a reopening, and where that opened, the begin of its job
---                                 with its steps, or a list of names; from this state on
---   AreReplaced events old new == these events replaced what providers hold
---   IsLater new next          == the next command finds the disk as the last one left it, or as a stop then
---                                 left it, and what providers hold as such events left it
---   AreBetween own            == these moments are stops and replacements
---   Call, IsChain first calls == commands one after the other, with stops and replacements between them
---   last_seen first calls     == what is seen after them
---   AreCalls w calls own      == the moments are those of the calls, with stops and replacements before each
+--                                       of the program, a reopening, and where that opened, the begin of its
+--                                       job with its steps, or a list of names; from this state on
+--   AreReplaced events old new       == these events replaced what providers hold
+--   IsLater new next                 == the next command finds the disk as the last one left it, or as a stop
+--                                       then left it, and what providers hold as such events left it
+--   AreBetween own                   == these moments are stops and replacements
+--   Call, IsChain first calls        == commands one after the other, with stops and replacements between
+--                                       them
+--   last_seen first calls            == what is seen after them
+--   AreCalls w calls own             == the moments are those of the calls, with stops and replacements
+--                                       before each
 use Rattle.std.specs.Prelude.{◌≡◌, ◌⊎◌, ℕ, ◌<◌, Bool, true, List, [], ◌∷◌, ◌++◌, length, slice_get, slice_set, Some, IsSome, is_some}
 use Rattle.device_defs.specs.Disks.{Stopped}
 use Rattle.device_defs.specs.Providers.{Provider, with_symbol, without_block, HasPlace}

@@ -1,15 +1,15 @@
 -- Devices before and after the commands: a store over four providers, one of them primary, of which one may
 -- be wrong.
 --
---   reading_devices records providers == what is seen of devices whose disk reads these records, with
---                                        nothing loose, and of these providers
---   named, byte               == the name and the bytes of the file that is put
---   four_records, byte_records, dropped_records, byte_audited_records, byte_repaired_records == of a store
---                                that was set up, with the file, after its drop, and after an audit that
---                                flags provider 2 and its repair
---   holds j                   == a provider that holds its own block of the file, and nothing else
---   with_source, with_sink    == what is seen, with these bytes in the source or in the sink
---   done                      == an end of status 0 that heard nothing
+--   reading_devices records providers == what is seen of devices whose disk reads these records, with nothing
+--                                        loose, and of these providers
+--   named, byte                       == the name and the bytes of the file that is put
+--   four_records, byte_records, dropped_records, byte_audited_records, byte_repaired_records
+--                                     == of a store that was set up, with the file, after its drop, and after
+--                                        an audit that flags provider 2 and its repair
+--   holds j                           == a provider that holds its own block of the file, and nothing else
+--   with_source, with_sink            == what is seen, with these bytes in the source or in the sink
+--   done                              == an end of status 0 that heard nothing
 use Rattle.std.specs.Prelude.{ℕ, true, ◌++◌, List, [], ◌∷◌, replicate, Option, Some, None}
 use Rattle.std.specs.Option.{option_map}
 use Rattle.column_defs.specs.Columns.{columns}

@@ -1,10 +1,10 @@
 -- The schedule of the run, and what it writes.
 --
---   name, byte      == the name and the bytes of the file that is put
---   schedule        == the commands, the newest first
---   written_lines         == all that they write
---   IsOutright ms   == these moments carry it out, from a start of four providers that tell, at limit 8;
---                      two jobs run at once; the run is calm, and no audit missed damage
+--   name, byte    == the name and the bytes of the file that is put
+--   schedule      == the commands, the newest first
+--   written_lines == all that they write
+--   IsOutright ms == these moments carry it out, from a start of four providers that tell, at limit 8; two
+--                    jobs run at once; the run is calm, and no audit missed damage
 use Rattle.std.specs.Prelude.{◌≡◌, ℕ, List, [], ◌∷◌, length, codes}
 use Rattle.std.specs.List.{flat_map}
 use Rattle.machine_defs.specs.Jobs.{PutJob, GetJob, AuditJob, RepairJob}

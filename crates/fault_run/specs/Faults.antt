@@ -2,7 +2,7 @@
 --
 --   other           == the name of the second file
 --   told ms         == the events of some moments, with what came of them, the newest first
---   faulty_schedule        == those of the run
+--   faulty_schedule == those of the run
 --   IsFaulty ms     == these moments are the run: from a start of four providers that tell, at limit 8, and
 --                      nothing is ever replaced
 use Rattle.std.specs.Prelude.{◌≡◌, ℕ, List, [], ◌∷◌, ◌++◌, replicate}

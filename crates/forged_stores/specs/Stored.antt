@@ -1,9 +1,9 @@
 -- The stores of which a forgery is shown: what their journals say. Records have the newest first.
 --
---   setup_numbers stored    == how the store was set up, under the master key 0 to 31
---   stored_bytes stored    == the bytes of its one file, whose name is `a` and whose number is 1
---   records_of stored  == its records: the setup, and the put of the file
---   name_of_file       == the name `a`
+--   setup_numbers stored == how the store was set up, under the master key 0 to 31
+--   stored_bytes stored  == the bytes of its one file, whose name is `a` and whose number is 1
+--   records_of stored    == its records: the setup, and the put of the file
+--   name_of_file         == the name `a`
 use Rattle.std.specs.Prelude.{ℕ, List, [], ◌∷◌, length, replicate}
 use Rattle.code_defs.specs.Points.{upto}
 use Rattle.record_defs.specs.Records.{Record, Setup, SetUp, PutStart, PutDone}

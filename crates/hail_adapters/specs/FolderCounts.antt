@@ -1,12 +1,12 @@
 -- What contracts see of a provider in a folder.
 --
---   FolderCounts             == how many stores failed, how many other calls failed, and how many fetches
---                               and calls there were
---   fresh_counts                == before the first call
---   with_store_fault counts  == one more store failed
---   with_other_fault counts  == one more of the other calls failed
---   with_fetch counts        == there was one more fetch
---   with_call counts         == there was one more call
+--   FolderCounts            == how many stores failed, how many other calls failed, and how many fetches and
+--                              calls there were
+--   fresh_counts            == before the first call
+--   with_store_fault counts == one more store failed
+--   with_other_fault counts == one more of the other calls failed
+--   with_fetch counts       == there was one more fetch
+--   with_call counts        == there was one more call
 use Rattle.std.specs.Prelude.{ℕ}
 use Rattle.device_defs.specs.Faults.{one_more}
 

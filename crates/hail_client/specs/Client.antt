@@ -1,15 +1,15 @@
 -- What a client tells of itself.
 --
---   client_next_job c  == the number of the next job
---   uses c         == how many providers a step uses; 0 where no vault is open
---   client_left c job  == how many steps of a job may remain at most; 0 where it does not run
---   is_open c      == a vault is open
---   names_of c     == the table that has the files in effect; None where no vault is open
---   client_coming c job == what comes next for a job; it is no job where no vault is open
---   client_entry c job == the record that its append writes, by the open vault
+--   client_next_job c    == the number of the next job
+--   uses c               == how many providers a step uses; 0 where no vault is open
+--   client_left c job    == how many steps of a job may remain at most; 0 where it does not run
+--   is_open c            == a vault is open
+--   names_of c           == the table that has the files in effect; None where no vault is open
+--   client_coming c job  == what comes next for a job; it is no job where no vault is open
+--   client_entry c job   == the record that its append writes, by the open vault
 --   client_closed_gate c == the offset of the closed gate behind the records in effect; 0 where no vault is
 --                           open
---   IsSame old new == nothing changed but spare room of the open vault
+--   IsSame old new       == nothing changed but spare room of the open vault
 use Rattle.std.specs.Prelude.{◌≡◌, ℕ, Bool, Option, Some, None, is_some}
 use Rattle.record_defs.specs.Records.{Record}
 use Rattle.vault_core.specs.Coming.{Coming, IsNoJob}

@@ -1,14 +1,14 @@
 -- What the answers of the calls are as outcomes of the machine. An answer is None where no vault is open.
 --
---   client_begin_outcome result   == of a begin
---   UnlessBegun result P   == P holds unless the begin was accepted
---   step_outcome result    == of a step
---   is_more result         == the job of a step goes on
---   reopen_outcome result  == of a reopening
---   UnlessBadJournal result P == P holds unless what the reopening read was no journal, which is no outcome
---                                of the machine
---   replace_outcome result == of an alteration or a loss
---   names_outcome files    == of a list of the files in effect, by the table that has them
+--   client_begin_outcome result == of a begin
+--   UnlessBegun result P        == P holds unless the begin was accepted
+--   step_outcome result         == of a step
+--   is_more result              == the job of a step goes on
+--   reopen_outcome result       == of a reopening
+--   UnlessBadJournal result P   == P holds unless what the reopening read was no journal, which is no outcome
+--                                  of the machine
+--   replace_outcome result      == of an alteration or a loss
+--   names_outcome files         == of a list of the files in effect, by the table that has them
 use Rattle.std.specs.Prelude.{ℕ, Bool, true, false, Option, Some, None, Result, Ok, Err}
 use Rattle.machine_defs.specs.Refusals as refusal
 use Rattle.machine_defs.specs.Refusals.{Refusal}

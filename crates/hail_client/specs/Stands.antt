@@ -1,23 +1,27 @@
 -- How a client and its devices stand for a state of the machine, and how a call is one event of it.
 --
---   ClientStands c d w   == client and devices stand for a state: a vault is open in both, and stands for
---                           it, or none is open; the state is sound
---   MakesEvent w moment event outcome c d == from a state, after so many events, an event has this outcome,
---                           and client and devices stand for the state after it
---   ClientMakesStep w moment job answer c old new == a step is an event of the machine, and past the text
---                                          of the records the disk reads as before
---   moment_of m          == this event as a moment of a run
---   IsStanding c d       == client and devices stand for some state
+--   ClientStands c d w                             == client and devices stand for a state: a vault is open
+--                                                     in both, and stands for it, or none is open; the state
+--                                                     is sound
+--   MakesEvent w moment event outcome c d          == from a state, after so many events, an event has this
+--                                                     outcome, and client and devices stand for the state
+--                                                     after it
+--   ClientMakesStep w moment job answer c old new  == a step is an event of the machine, and past the text of
+--                                                     the records the disk reads as before
+--   moment_of m                                    == this event as a moment of a run
+--   IsStanding c d                                 == client and devices stand for some state
 --   IsMadeAnew moment next event outcome c old new == from some closed state over the devices, the next job
---                           having this number, an event has this outcome: a run begins there
---   OpensOver read next handed c holds faults == a vault is open over some records that the disk, where it
---                           tells, reads: client and devices stand for each state that was just opened over
---                           them, and there is one
---   ImageHasFile name file image == an image stands for records that have this file under a name
---   IsReached start ms c d == the moments are a run from a state, and client and devices stand for the last
---                             state of it
---   RunsJobOn start ms job turn c d == behind these moments a job was stepped until this turn, at which it
---                                      did not go on
+--                                                     having this number, an event has this outcome: a run
+--                                                     begins there
+--   OpensOver read next handed c holds faults      == a vault is open over some records that the disk, where
+--                                                     it tells, reads: client and devices stand for each
+--                                                     state that was just opened over them, and there is one
+--   ImageHasFile name file image                   == an image stands for records that have this file under a
+--                                                     name
+--   IsReached start ms c d                         == the moments are a run from a state, and client and
+--                                                     devices stand for the last state of it
+--   RunsJobOn start ms job turn c d                == behind these moments a job was stepped until this turn,
+--                                                     at which it did not go on
 use Rattle.std.specs.Prelude.{◌≡◌, ◌≢◌, ℕ, false, List, ◌∷◌, ◌++◌, length, Option, Some, None, IfSome}
 use Rattle.device_defs.specs.Cells.{Cells}
 use Rattle.device_defs.specs.Providers.{Provider}

@@ -1,10 +1,10 @@
 -- The state at the start of a run over devices.
 --
---   provider_or_empty ps j  == what is seen of the provider of a number; one that tells that it holds
---                              nothing where none is handed in
---   start_of d rs     == the state before the first event over these devices, where the disk stands for
---                        these records
---   TellAll ps        == each provider handed in tells what it holds
+--   provider_or_empty ps j == what is seen of the provider of a number; one that tells that it holds nothing
+--                             where none is handed in
+--   start_of d rs          == the state before the first event over these devices, where the disk stands for
+--                             these records
+--   TellAll ps             == each provider handed in tells what it holds
 use Rattle.std.specs.Prelude.{◌≡◌, ℕ, zero, suc, false, List, [], ◌∷◌, length, slice_get, None, Some, IsSome}
 use Rattle.device_defs.specs.Providers.{Provider}
 use Rattle.record_defs.specs.Records.{Record}

@@ -1,13 +1,13 @@
 -- How `replay` and `trial` end.
 --
---   longest_schedule           == how many bytes a schedule has at most
---   devices_of_seen s             == disk and providers as they are seen
---   IsUndone status at old new end == the command ended so, and no event was done: no device but the source
---                                     was touched
---   CarriedOut status sink     == how the events and their lines end: with 0; with 15 where the sink's
---                                 count rose; or for want of memory
---   AnswersReplay old new end  == `replay`: it reads its source, and does the events of the schedule that
---                                 it reads
+--   longest_schedule                == how many bytes a schedule has at most
+--   devices_of_seen s               == disk and providers as they are seen
+--   IsUndone status at old new end  == the command ended so, and no event was done: no device but the source
+--                                      was touched
+--   CarriedOut status sink          == how the events and their lines end: with 0; with 15 where the sink's
+--                                      count rose; or for want of memory
+--   AnswersReplay old new end       == `replay`: it reads its source, and does the events of the schedule
+--                                      that it reads
 --   AnswersTrial number old new end == `trial`: it does the events of the trial of a number
 use Rattle.std.specs.Prelude.{◌≡◌, ◌⊎◌, ℕ, ◌+◌, ◌<◌, ◌≤◌, ◌^◌, List, [], length, IsSome}
 use Rattle.command_defs.specs.Seen.{Seen, Ending, SameSource, ReadsAtMost, ReadsUpTo, sinking}

@@ -1,7 +1,7 @@
 -- What several jobs heard.
 --
 --   joined lists    == the entries of some lists, one behind the other
---   entries_heard h    == all that was heard, in the order of the jobs' ends
+--   entries_heard h == all that was heard, in the order of the jobs' ends
 --   room_of h       == for how many more jobs there is room
 use Rattle.std.specs.Prelude.{ℕ, ◌-◌, List, [], ◌∷◌, ◌++◌, Option, Some, None, vec_len, vec_capacity}
 use Rattle.std.specs.declared.alloc.Global.{Global}

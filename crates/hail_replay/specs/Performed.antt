@@ -1,21 +1,21 @@
 -- One event performed, behind the run that client and devices have reached.
 --
---   outcome_in c came      == the outcome of what an event came to; a list is answered by the client's own
---                             table
---   heard_in_came came     == what the job heard that a step ended
---   AreMomentsOf command last steps == these are the moments of a command: one event, or steps of a job up
---                                      to one that did not go on
---   Performs start ms command came c d == behind these moments the command was performed: it came to this,
---                             and client and devices have reached the moment behind it; what all jobs heard
---                             grows by what this one heard
---   StandsWhereOpen c d    == where a vault is open, client and devices stand for some state
---   NoCountFell old new    == no count of faults of the disk or of a provider fell, and no provider came or
---                             went
---   KeepsStanding c next old new  == client and devices stand as before where a vault is open, at most one
---                             job number was used up, a disk that tells goes on to, and no count of faults
---                             fell
+--   outcome_in c came                       == the outcome of what an event came to; a list is answered by
+--                                              the client's own table
+--   heard_in_came came                      == what the job heard that a step ended
+--   AreMomentsOf command last steps         == these are the moments of a command: one event, or steps of a
+--                                              job up to one that did not go on
+--   Performs start ms command came c d      == behind these moments the command was performed: it came to
+--                                              this, and client and devices have reached the moment behind
+--                                              it; what all jobs heard grows by what this one heard
+--   StandsWhereOpen c d                     == where a vault is open, client and devices stand for some state
+--   NoCountFell old new                     == no count of faults of the disk or of a provider fell, and no
+--                                              provider came or went
+--   KeepsStanding c next old new            == client and devices stand as before where a vault is open, at
+--                                              most one job number was used up, a disk that tells goes on to,
+--                                              and no count of faults fell
 --   IsPerformed command came c next old new == one call performs a command, behind every run, and they are
---                                          kept
+--                                              kept
 use Rattle.std.specs.Prelude.{◌≡◌, ℕ, ◌+◌, ◌≤◌, true, List, [], ◌∷◌, ◌++◌, Option, Some, None, IsSome, is_some, length}
 use Rattle.command_defs.specs.Seen.{provider_at}
 use Rattle.machine_defs.specs.Events.{Outcome}

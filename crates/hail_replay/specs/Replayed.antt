@@ -1,12 +1,14 @@
 -- A schedule carried out.
 --
---   CarriesOn start before done later lines heard d == behind a later call of the program these moments
---       carry out these commands; the whole is a run, which keeps the headline; its last state is that of
---       the devices, the jobs of this call heard this, and in it at most as many calls of a device failed
---       as its count rose
---   Replays start before commands status sink heard d == such moments carry out the commands in order, up
---       to those left, of which there are none at status 0; their lines are written, or a front of them
---       where a counted fault of the sink or want of memory cut them off
+--   CarriesOn start before done later lines heard d
+--                            == behind a later call of the program these moments carry out these commands;
+--                               the whole is a run, which keeps the headline; its last state is that of the
+--                               devices, the jobs of this call heard this, and in it at most as many calls of
+--                               a device failed as its count rose
+--   Replays start before commands status sink heard d
+--                            == such moments carry out the commands in order, up to those left, of which
+--                               there are none at status 0; their lines are written, or a front of them where
+--                               a counted fault of the sink or want of memory cut them off
 use Rattle.std.specs.Prelude.{◌≡◌, ℕ, List, [], ◌++◌, reverse}
 use Rattle.command_defs.specs.Sinking.{Sinking, WritesLine}
 use Rattle.machine_defs.specs.Failures.{Count, count_in, HasFailures, RoseBy}

@@ -1,14 +1,14 @@
 -- Where a replay may start, and the devices that it is lent.
 --
---   devices_of D P disk providers == a disk and the providers handed in, by the members of their traits
+--   devices_of D P disk providers     == a disk and the providers handed in, by the members of their traits
 --   sinking_since K first before sink == what the sink told and counted, from these on
---   sinking_of K old new          == the same, of two moments of a sink
---   call_from w                   == the event of a later call of the program, from a state
---   called_behind start before    == a run with that event behind it
---   IsNewClient c                 == a client with no vault open, whose jobs are numbered from 1; it stands
---                                    for what a later call of the program finds
---   AreLeft start before d        == the devices are those that a run from a start has left; before the
---                                    first event the run is empty
+--   sinking_of K old new              == the same, of two moments of a sink
+--   call_from w                       == the event of a later call of the program, from a state
+--   called_behind start before        == a run with that event behind it
+--   IsNewClient c                     == a client with no vault open, whose jobs are numbered from 1; it
+--                                        stands for what a later call of the program finds
+--   AreLeft start before d            == the devices are those that a run from a start has left; before the
+--                                        first event the run is empty
 use Rattle.std.specs.Prelude.{◌≡◌, ℕ, List, ◌∷◌, Option, map, false}
 use Rattle.disk_model.specs.declared.disk.Disk.{Ghosts as DiskGhosts}
 use Rattle.provider_model.specs.declared.provider.Provider.{Ghosts as ProviderGhosts}

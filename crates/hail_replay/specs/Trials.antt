@@ -1,10 +1,12 @@
 -- A trial carried out.
 --
---   RunsTrial number start before status sink heard d == behind a later call of the program the events of a
---       trial are carried out; the six lines of its counts are written, or a front of them
+--   RunsTrial number start before status sink heard d
+--                                        == behind a later call of the program the events of a trial are
+--                                           carried out; the six lines of its counts are written, or a front
+--                                           of them
 --   RunsTo start before commands heard d == commands are carried out in order, up to those left
---   CountsTo expected start before commands counts heard d == all of these commands are carried out, and
---                                          come to these counts
+--   CountsTo expected start before commands counts heard d
+--                                        == all of these commands are carried out, and come to these counts
 use Rattle.std.specs.Prelude.{◌≡◌, ℕ, List, ◌++◌, reverse}
 use Rattle.command_defs.specs.Sinking.{Sinking, WritesLine}
 use Rattle.machine_defs.specs.Heard.{Entry}

@@ -1,13 +1,13 @@
 -- A replay and a trial under way, behind a run so far. Commands and moments have the newest first.
 --
---   HasCome start base done later lines heard c d == behind a run these moments carry out these commands
---                             and write these lines, client and devices have reached the last of them, and
---                             the jobs that ended heard this
---   HasDone start base done status sink heard c d == the same of some moments, whose lines were written, or
---                                          a front of them
---   HasRun start base done heard c d == the same of some moments
---   HasCounted expected start base done counts heard c d == the same of some moments, which come to these
---                                          counts
+--   HasCome start base done later lines heard c d == behind a run these moments carry out these commands and
+--                                                    write these lines, client and devices have reached the
+--                                                    last of them, and the jobs that ended heard this
+--   HasDone start base done status sink heard c d == the same of some moments, whose lines were written, or a
+--                                                    front of them
+--   HasRun start base done heard c d              == the same of some moments
+--   HasCounted expected start base done counts heard c d
+--                                                 == the same of some moments, which come to these counts
 use Rattle.std.specs.Prelude.{◌≡◌, ℕ, List, ◌++◌}
 use Rattle.command_defs.specs.Sinking.{Sinking, WritesLine}
 use Rattle.machine_defs.specs.Heard.{Entry, heard_in}

@@ -1,11 +1,11 @@
 -- How the two commands end that carry events out: `replay` and `trial`.
 --
---   AnswersForm form old new end  == how the command of a form ends
---   RunGoesOn start before heard d   == behind a later call of the program moments carry some commands out;
---                                    the whole is a run, which keeps the headline; its last state is that
---                                    of the devices, and the jobs of this call heard this
---   KeepsTheHeadline old new end  == no event was done, or whatever run from a start has left the devices,
---                                    the command goes on with it
+--   AnswersForm form old new end   == how the command of a form ends
+--   RunGoesOn start before heard d == behind a later call of the program moments carry some commands out; the
+--                                     whole is a run, which keeps the headline; its last state is that of the
+--                                     devices, and the jobs of this call heard this
+--   KeepsTheHeadline old new end   == no event was done, or whatever run from a start has left the devices,
+--                                     the command goes on with it
 use Rattle.std.specs.Prelude.{◌⊎◌, ℕ, List, IsSome}
 use Rattle.command_defs.specs.Seen.{Seen, Ending}
 use Rattle.machine_defs.specs.Heard.{Entry}

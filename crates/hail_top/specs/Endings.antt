@@ -1,14 +1,16 @@
 -- The devices of a command as they are seen, and how it ended.
 --
---   seen holds faults providers left read_faults written write_faults == what is seen of the devices, by
---                                          the members of their traits
---   seen_over D P K disk providers left read_faults sink == the same, of a disk, providers and a sink by
---                                          their traits' members taken whole
+--   seen holds faults providers left read_faults written write_faults
+--                                              == what is seen of the devices, by the members of their traits
+--   seen_over D P K disk providers left read_faults sink
+--                                              == the same, of a disk, providers and a sink by their traits'
+--                                                 members taken whole
 --   seen_of D P S K disk providers source sink == and of a source
---   seen_beside disk disk_faults P S K providers source sink == the same, whatever is seen of the disk
---   ending_of report        == how a command ended
---   ending_with status at          == it ended with this status, which speaks of this place, and nothing
---                                     was heard
+--   seen_beside disk disk_faults P S K providers source sink
+--                                              == the same, whatever is seen of the disk
+--   ending_of report                           == how a command ended
+--   ending_with status at                      == it ended with this status, which speaks of this place, and
+--                                                 nothing was heard
 use Rattle.std.specs.Prelude.{ℕ, List, [], Option, map}
 use Rattle.disk_model.specs.declared.disk.Disk.{Ghosts as DiskGhosts}
 use Rattle.provider_model.specs.declared.provider.Provider.{Ghosts as ProviderGhosts}

@@ -1,8 +1,8 @@
 -- What came of a command over a vault that was just opened, with what is seen of all devices.
 --
 --   AnswersOver kind records old new end == the command ends as one does whose begin comes over these
---                                          records, and no count of faults fell
---   PutsOver name old new end == the same of a put, which reads its source first
+--                                           records, and no count of faults fell
+--   PutsOver name old new end            == the same of a put, which reads its source first
 use Rattle.std.specs.Prelude.{ℕ, List}
 use Rattle.record_defs.specs.Records.{Record}
 use Rattle.machine_defs.specs.Jobs.{Kind}

@@ -2,7 +2,7 @@
 --
 --   IsSetupFor setup numbers handed == the numbers make this setup, whatever the key, and enough providers
 --                                      are handed in
---   init_ending fault      == how an init ends whose disk was not set up
+--   init_ending fault               == how an init ends whose disk was not set up
 use Rattle.std.specs.Prelude.{◌≡◌, ℕ, ◌≤◌, true, List, []}
 use Rattle.record_defs.specs.Records.{is_setup}
 use Rattle.command_defs.specs.Forms.{Numbers}

@@ -1,12 +1,12 @@
 -- How what came of a command is told.
 --
---   unread_ending fault      == how a command ends whose source was not read
---   unopened_ending why      == how a command ends for which no vault was opened
---   TellsOf s tolerance kind == what the lines of answers speak of, for a job of this kind
---   no_memory                == there was no memory for a text
---   IsTextOf s answer text   == the text of an answer; a fault has none
---   IsFaultEnd answer status at == the status of a fault and the place that it speaks of; any other answer
---                                  has want of memory
+--   unread_ending fault                 == how a command ends whose source was not read
+--   unopened_ending why                 == how a command ends for which no vault was opened
+--   TellsOf s tolerance kind            == what the lines of answers speak of, for a job of this kind
+--   no_memory                           == there was no memory for a text
+--   IsTextOf s answer text              == the text of an answer; a fault has none
+--   IsFaultEnd answer status at         == the status of a fault and the place that it speaks of; any other
+--                                          answer has want of memory
 --   TellsAnswer s answer status at sink == the text of the answer is written or cut off, or its fault is told
 use Rattle.std.specs.Prelude.{◌≡◌, ◌⊎◌, ℕ, List, length}
 use Rattle.machine_defs.specs.Jobs.{Kind, PutJob, GetJob, DropJob, AuditJob, RepairJob, UpgradeJob}

@@ -1,12 +1,12 @@
 -- Providers that do harm to a get.
 --
---   has_risen before now      == a count rose, or it stands at its last value
---   is_bad_for o bytes j old new  == provider j, seen so at the begin and at the end, held a wrong block of
---                                an object of these bytes at the begin, or its count of failed calls rose;
---                                so is one that does not tell what it holds
---   is_bad x file bytes j     == the same of a provider of a run, for a file of these bytes
---   bad_count x file bytes    == how many providers of the setup are so in a run
---   bad_seen records old new file bytes  == how many providers of the setup are so, as the devices are seen
+--   has_risen before now                == a count rose, or it stands at its last value
+--   is_bad_for o bytes j old new        == provider j, seen so at the begin and at the end, held a wrong
+--                                          block of an object of these bytes at the begin, or its count of
+--                                          failed calls rose; so is one that does not tell what it holds
+--   is_bad x file bytes j               == the same of a provider of a run, for a file of these bytes
+--   bad_count x file bytes              == how many providers of the setup are so in a run
+--   bad_seen records old new file bytes == how many providers of the setup are so, as the devices are seen
 use Rattle.std.specs.Prelude.{ℕ, ◌||◌, Bool, true, List, Option, None, Some, nat_lt, nat_le}
 use Rattle.code_defs.specs.Points.{upto}
 use Rattle.column_defs.specs.Objects.{Object}

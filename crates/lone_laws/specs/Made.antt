@@ -1,17 +1,17 @@
 -- What actions do to providers, and what they give the job that makes them, where no other job runs.
 --
---   With                     == what the actions of a job are made with: the setup, the job's kind, the
---                               profile of the file that a put stores, the number that its challenges are
---                               of, and the files that it works on
---   put_made x object        == the object under whose number a put stores
---   object_made x object     == the object of a number among those that a job works on
---   block_stored x given j object stripe  == the block that a job stores: of a put's bytes, or of the
---                                          symbols that its work gave
---   challenge_made x object round         == the challenge of an ask
---   CallsOne old j call new               == provider j was called so, and all others are as before
---   Did x action old new given now        == an action that went on: providers, and what was given by then,
---                                          before and after it
---   Made x actions old new given now      == these actions went on, one after the other, the first one first
+--   With                                 == what the actions of a job are made with: the setup, the job's
+--                                           kind, the profile of the file that a put stores, the number that
+--                                           its challenges are of, and the files that it works on
+--   put_made x object                    == the object under whose number a put stores
+--   object_made x object                 == the object of a number among those that a job works on
+--   block_stored x given j object stripe == the block that a job stores: of a put's bytes, or of the symbols
+--                                           that its work gave
+--   challenge_made x object round        == the challenge of an ask
+--   CallsOne old j call new              == provider j was called so, and all others are as before
+--   Did x action old new given now       == an action that went on: providers, and what was given by then,
+--                                           before and after it
+--   Made x actions old new given now     == these actions went on, one after the other, the first one first
 use Rattle.std.specs.Prelude.{◌≡◌, ℕ, List, [], ◌∷◌, Option}
 use Rattle.column_defs.specs.Objects.{Object}
 use Rattle.column_defs.specs.Challenges.{Challenge, challenge_of, honest_answer}

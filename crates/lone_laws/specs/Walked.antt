@@ -1,19 +1,20 @@
 -- A job that runs alone: where it stands after some of its steps.
 --
---   appends_of w kind        == how many records a job of this kind appends
---   first_record w kind      == the first one, over the records of this state
---   IsSecondRecord w job kind entry  == the second one: a put's end, or an audit's end with the sums of all
---                                       that it heard
---   HasSubject w kind job    == the number of the job: that of a put or an audit from its first move on,
---                               that of a repair
---   RecordsAre w kind job rs == of the job's records those are in effect whose appends are done
---   TakesAway w kind job     == the object that a put or a drop takes away, once its last append is done
---   with_job_at w kind profile job  == what the actions of a job of this kind are made with that began in
---                               this state, and whose file has this profile
---   with_job_of w kind job   == the same where it has the setup's
---   WalkedAt start kind profile w job == this is the state, and the job in it, after some steps that went
---                               on, since the job began in `start`, with this profile
---   Walked start kind w job  == the same of a job with the setup's profile
+--   appends_of w kind                 == how many records a job of this kind appends
+--   first_record w kind               == the first one, over the records of this state
+--   IsSecondRecord w job kind entry   == the second one: a put's end, or an audit's end with the sums of all
+--                                        that it heard
+--   HasSubject w kind job             == the number of the job: that of a put or an audit from its first move
+--                                        on, that of a repair
+--   RecordsAre w kind job rs          == of the job's records those are in effect whose appends are done
+--   TakesAway w kind job              == the object that a put or a drop takes away, once its last append is
+--                                        done
+--   with_job_at w kind profile job    == what the actions of a job of this kind are made with that began in
+--                                        this state, and whose file has this profile
+--   with_job_of w kind job            == the same where it has the setup's
+--   WalkedAt start kind profile w job == this is the state, and the job in it, after some steps that went on,
+--                                        since the job began in `start`, with this profile
+--   Walked start kind w job           == the same of a job with the setup's profile
 use Rattle.std.specs.Prelude.{◌≡◌, ℕ, ◌+◌, ◌≤◌, true, false, List, [], ◌∷◌, length, take}
 use Rattle.column_defs.specs.Verdicts.{Sums}
 use Rattle.record_defs.specs.Records.{Record, PutStart, Drop, AuditStart, AuditDone, RepairDone, Version}

@@ -1,16 +1,16 @@
 -- The actions of a job, in order.
 --
---   Action               == one action: a move of an append, one call of a provider, the work on a stripe,
---                           or the end
---   append_actions       == the four moves of an append
---   PinsOf P             == how a list of pinned files is read, whatever a pinned file is
---   Plan P               == all that the actions of a job hang on, with pinned files of any kind
---   plan_actions p s plan aim  == the actions of a plan
---   plan_of job          == the plan of a job of the machine
---   actions_of s job     == all actions of a job; its place is an index into them
---   actions_left s job   == those that it has not yet made
---   ends_append action   == the action is the fourth move of an append
---   appends_left s job   == how many appends the job has not yet finished
+--   Action                    == one action: a move of an append, one call of a provider, the work on a
+--                                stripe, or the end
+--   append_actions            == the four moves of an append
+--   PinsOf P                  == how a list of pinned files is read, whatever a pinned file is
+--   Plan P                    == all that the actions of a job hang on, with pinned files of any kind
+--   plan_actions p s plan aim == the actions of a plan
+--   plan_of job               == the plan of a job of the machine
+--   actions_of s job          == all actions of a job; its place is an index into them
+--   actions_left s job        == those that it has not yet made
+--   ends_append action        == the action is the fourth move of an append
+--   appends_left s job        == how many appends the job has not yet finished
 --
 -- Files go in ascending order of their object numbers, stripes from 0 on, and in each stripe or round
 -- providers from 0 to n - 1.

@@ -1,17 +1,18 @@
 -- What runs alone, with no job beside it: a scrub and a pack.
 --
---   number_alone alone       == the job number that it drew
---   alone_refusal w more     == why its begin is refused: MustReopen, Busy, and then what its kind adds
---   scrub_actions s files    == all fetches and openings of a scrub, file by file, stripe by stripe, and its
---                               end; the stores are decided at each opening
---   differs block right      == how many symbols of a block are not those that it should hold; all of them
---                               where there is none
---   opened_scrub ..          == a scrub that has opened a stripe: it has the differing blocks to store, and
---                               has counted them
---   Scrubs old scrub action rest outcome new  == what an action of a scrub may come to, with these behind it
---   Packs old pack moves outcome new          == what a move of a pack may come to, by how many are made
---   StepsAlone old alone outcome new          == a step of what runs alone
---   BeginsScrub, BeginsPack                   == what their begins may come to
+--   number_alone alone                       == the job number that it drew
+--   alone_refusal w more                     == why its begin is refused: MustReopen, Busy, and then what its
+--                                               kind adds
+--   scrub_actions s files                    == all fetches and openings of a scrub, file by file, stripe by
+--                                               stripe, and its end; the stores are decided at each opening
+--   differs block right                      == how many symbols of a block are not those that it should
+--                                               hold; all of them where there is none
+--   opened_scrub ..                          == a scrub that has opened a stripe: it has the differing blocks
+--                                               to store, and has counted them
+--   Scrubs old scrub action rest outcome new == what an action of a scrub may come to, with these behind it
+--   Packs old pack moves outcome new         == what a move of a pack may come to, by how many are made
+--   StepsAlone old alone outcome new         == a step of what runs alone
+--   BeginsScrub, BeginsPack                  == what their begins may come to
 use Rattle.std.specs.Prelude.{◌≡◌, ◌⊎◌, ℕ, zero, suc, ◌+◌, ◌^◌, ◌==◌, ◌||◌, Bool, true, false, List, [], ◌∷◌, ◌++◌, length, map, Option, None, Some, is_some, nat_lt, if◌then◌else◌}
 use Rattle.std.specs.List.{flat_map}
 use Rattle.code_defs.specs.Points.{upto}

@@ -1,16 +1,19 @@
 -- The four moves of an append, and what is in effect or in doubt after each.
 --
---   Writes w job kind entry   == the record that a job's append writes, by which of its appends it is at
---   done_record version id size profile  == the record that ends a put
---   subject_drawn, bytes_drawn, audits_drawn  == the number that the first append of a put or an audit
---                                draws at its first move, and what the state keeps of it
---   is_pinned w id            == a running get, audit or repair works on the object
---   taken_out w job kind      == the object that a job takes away once its append has taken it out of effect
---   IsAt a job moves          == the append in flight is this job's, with so many moves done
---   begun_append, moved, doubted, done_append, barred  == the states after a first, a second and a third
---                                move, after a fourth, and after a failed one
---   Moves old job action flight outcome new   == one move of an append may have this outcome and leave this
---                                          state
+--   Writes w job kind entry                  == the record that a job's append writes, by which of its
+--                                               appends it is at
+--   done_record version id size profile      == the record that ends a put
+--   subject_drawn, bytes_drawn, audits_drawn == the number that the first append of a put or an audit draws
+--                                               at its first move, and what the state keeps of it
+--   is_pinned w id                           == a running get, audit or repair works on the object
+--   taken_out w job kind                     == the object that a job takes away once its append has taken it
+--                                               out of effect
+--   IsAt a job moves                         == the append in flight is this job's, with so many moves done
+--   begun_append, moved, doubted, done_append, barred
+--                                            == the states after a first, a second and a third move, after a
+--                                               fourth, and after a failed one
+--   Moves old job action flight outcome new  == one move of an append may have this outcome and leave this
+--                                               state
 --
 -- A record is in doubt from the third move until the fourth is done, and after a fault in either. A third
 -- move that found no memory counts as not made. Numbers are drawn at the first move, so that they stand in

@@ -1,15 +1,18 @@
 -- Begins: what they are refused for, and the job that they add.
 --
---   begin_refusal limit w kind  == the first refusal in order whose cause applies; None where the job begins
---   refusal_of_begin limit w kind profile  == the same, of a put also with a profile of its own
---   pins_by p make found files aim  == the files that a job works on, each made a pin: a get's own, found by
---                                its name, and for an audit or a repair all in effect, by number
---   pinned_for w kind         == the same of the machine
---   new_job w moment kind     == a job as it begins, after so many events
---   beginning w moment kind profile  == the same, of a put also with a profile of its own
---   BeginsAt limit moment old kind profile outcome new  == a begin may have this outcome and leave this
---                                state; of a put also with a profile of its own
---   Begins limit moment old kind outcome new  == the same without a profile
+--   begin_refusal limit w kind               == the first refusal in order whose cause applies; None where
+--                                               the job begins
+--   refusal_of_begin limit w kind profile    == the same, of a put also with a profile of its own
+--   pins_by p make found files aim           == the files that a job works on, each made a pin: a get's own,
+--                                               found by its name, and for an audit or a repair all in
+--                                               effect, by number
+--   pinned_for w kind                        == the same of the machine
+--   new_job w moment kind                    == a job as it begins, after so many events
+--   beginning w moment kind profile          == the same, of a put also with a profile of its own
+--   BeginsAt limit moment old kind profile outcome new
+--                                            == a begin may have this outcome and leave this state; of a put
+--                                               also with a profile of its own
+--   Begins limit moment old kind outcome new == the same without a profile
 use Rattle.std.specs.Prelude.{◌≡◌, ◌⊎◌, ℕ, ◌+◌, Bool, true, false, List, [], ◌∷◌, ◌++◌, Option, None, Some, nat_lt, if◌then◌else◌}
 use Rattle.column_defs.specs.Verdicts.{is_flagged}
 use Rattle.record_defs.specs.Records.{Setup}

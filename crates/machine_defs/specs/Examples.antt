@@ -1,12 +1,12 @@
 -- Setups, records and states for the worked rows.
 --
---   six, four                  == a setup of six providers, three of them primary, and one of four, one of
---                                 them primary
---   opened records bytes       == an open vault over these records, where each object number stands for
---                                 these bytes
---   one_file, flagged_file     == a file of 100 bytes over six providers; then an audit that flags provider 0
---   beginning_job w kind              == a job of this kind that begins now
---   set_up                     == the start over a journal whose only record is the setup of four providers
+--   six, four              == a setup of six providers, three of them primary, and one of four, one of them
+--                             primary
+--   opened records bytes   == an open vault over these records, where each object number stands for these
+--                             bytes
+--   one_file, flagged_file == a file of 100 bytes over six providers; then an audit that flags provider 0
+--   beginning_job w kind   == a job of this kind that begins now
+--   set_up                 == the start over a journal whose only record is the setup of four providers
 use Rattle.std.specs.Prelude.{ℕ, true, false, List, [], ◌∷◌, replicate, codes, None, Some}
 use Rattle.record_defs.specs.Records.{Setup, Record, SetUp, PutStart, PutDone, AuditStart, AuditDone}
 use Rattle.record_defs.specs.Areas.{A}

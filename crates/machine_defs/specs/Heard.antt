@@ -1,17 +1,17 @@
 -- What a report has: what the fetches of gets and the asks of audits gave, job by job in the order of their
 -- ends.
 --
---   Entry                   == an entry of a report: which job heard it, and what its step gave
---   heard_by job            == what a job heard, the oldest first: a get its fetches, an audit its asks,
---                              others nothing
---   reported_after event entries == what stays in a report after an event: a later call of the program
---                                   begins it anew
---   heard_in start ms       == what all jobs heard that ended by a step since the last call of the program
---                              began
---   NoneContinues ms        == in none of these moments a later call of the program began
---   EndsJob start m ms job  == a step ended this job
---   given_to job entries    == of the entries of a report those of a job, the newest first
---   HoldsForgery o bytes job entries  == the fetched entries of a job hold a forgery against a file
+--   Entry                            == an entry of a report: which job heard it, and what its step gave
+--   heard_by job                     == what a job heard, the oldest first: a get its fetches, an audit its
+--                                       asks, others nothing
+--   reported_after event entries     == what stays in a report after an event: a later call of the program
+--                                       begins it anew
+--   heard_in start ms                == what all jobs heard that ended by a step since the last call of the
+--                                       program began
+--   NoneContinues ms                 == in none of these moments a later call of the program began
+--   EndsJob start m ms job           == a step ended this job
+--   given_to job entries             == of the entries of a report those of a job, the newest first
+--   HoldsForgery o bytes job entries == the fetched entries of a job hold a forgery against a file
 use Rattle.std.specs.Prelude.{◌≡◌, ◌≢◌, ℕ, ◌==◌, List, [], ◌∷◌, ◌++◌, Option, None, Some, if◌then◌else◌}
 use Rattle.column_defs.specs.Objects.{Object}
 use Rattle.column_defs.specs.Forgeries.{IsForgery}

@@ -1,11 +1,11 @@
 -- Damage that an audit missed.
 --
---   is_wrong_now w f j          == provider j, if it tells what it holds, is wrong for a file
---   Misses start ms counts begun j  == an audit of this begin with these counts, whose AuditDone comes into
---                                  effect after these moments, missed provider j: it does not flag j, j was
---                                  not replaced since its begin, and j was wrong at its begin for a file
---                                  then in effect
---   NoneMissed start ms         == no audit whose AuditDone came into effect missed a provider
+--   is_wrong_now w f j             == provider j, if it tells what it holds, is wrong for a file
+--   Misses start ms counts begun j == an audit of this begin with these counts, whose AuditDone comes into
+--                                     effect after these moments, missed provider j: it does not flag j, j
+--                                     was not replaced since its begin, and j was wrong at its begin for a
+--                                     file then in effect
+--   NoneMissed start ms            == no audit whose AuditDone came into effect missed a provider
 use Rattle.std.specs.Prelude.{◌≡◌, ℕ, ◌<◌, Bool, true, false, List, [], ◌∷◌, Option, None, Some}
 use Rattle.column_defs.specs.Columns.{is_wrong}
 use Rattle.column_defs.specs.Verdicts.{is_flagged}

@@ -1,13 +1,13 @@
 -- Stops, reopenings, inits, and later calls of the program.
 --
---   IsSetUp w, IsNotSetUp w        == a setup is in effect, or none is
---   MayHold old journal area       == what a disk may hold that is read again
---   Rereads old mid                == the disk is read again, and a record in doubt is settled
---   Stops old outcome new          == what a stop may come to
---   Reopens old outcome new        == what a reopening may come to
---   LeavesDoubt old s doubt        == what may be in doubt after an init that failed
---   Inits old s is_open outcome new  == what an init may come to
---   Continues old outcome new      == what a later call of the program comes to
+--   IsSetUp w, IsNotSetUp w         == a setup is in effect, or none is
+--   MayHold old journal area        == what a disk may hold that is read again
+--   Rereads old mid                 == the disk is read again, and a record in doubt is settled
+--   Stops old outcome new           == what a stop may come to
+--   Reopens old outcome new         == what a reopening may come to
+--   LeavesDoubt old s doubt         == what may be in doubt after an init that failed
+--   Inits old s is_open outcome new == what an init may come to
+--   Continues old outcome new       == what a later call of the program comes to
 use Rattle.std.specs.Prelude.{◌≡◌, ◌⊎◌, ◌<◌, ◌≤◌, Bool, true, false, List, Option, None, Some, is_some}
 use Rattle.record_defs.specs.Records.{Setup, Record, SetUp, is_setup}
 use Rattle.record_defs.specs.Table.{setup_of}

@@ -1,12 +1,12 @@
 -- Runs, with the newest moment first. A place in time is told as the number of events before it.
 --
---   Moment                     == an event, what came of it, and the state after it
---   now start ms               == the state after these moments
---   IsRun limit start ms       == these moments are a run of the machine, with this limit of running jobs
---   first_moments k ms         == the first k moments
---   is_replacement event outcome j   == the event replaced a symbol or a block of provider j
---   is_replaced_since from j ms      == so did the event of number `from` or a later one
---   came old new               == the record that came into effect between two states, if one did
+--   Moment                         == an event, what came of it, and the state after it
+--   now start ms                   == the state after these moments
+--   IsRun limit start ms           == these moments are a run of the machine, with this limit of running jobs
+--   first_moments k ms             == the first k moments
+--   is_replacement event outcome j == the event replaced a symbol or a block of provider j
+--   is_replaced_since from j ms    == so did the event of number `from` or a later one
+--   came old new                   == the record that came into effect between two states, if one did
 use Rattle.std.specs.Prelude.{ℕ, suc, ◌==◌, ◌&&◌, ◌||◌, Bool, false, List, [], ◌∷◌, length, Option, None, Some, nat_le, if◌then◌else◌}
 use Rattle.record_defs.specs.Records.{Record}
 use Rattle.machine_defs.specs.Events.{Event, Alter, Lose, IsSpelled, Outcome, Replaced}

@@ -1,12 +1,12 @@
 -- What a setup says of the codes of objects.
 --
---   no_setup            == the setup of no provider, in place of one that is not there
---   setup_or_none told  == the setup, and no_setup where there is none
---   profiled s profile  == the setup with the profile of a file
---   object_of s id      == the object of a number: its codes, its master key, its number
---   stripes_of s size   == how many stripes a file of so many bytes has
---   pinned_stripes s f  == how many a file has that a job works on
---   put_stripes s job bytes  == how many a file of these bytes has that a put stores
+--   no_setup                == the setup of no provider, in place of one that is not there
+--   setup_or_none told      == the setup, and no_setup where there is none
+--   profiled s profile      == the setup with the profile of a file
+--   object_of s id          == the object of a number: its codes, its master key, its number
+--   stripes_of s size       == how many stripes a file of so many bytes has
+--   pinned_stripes s f      == how many a file has that a job works on
+--   put_stripes s job bytes == how many a file of these bytes has that a put stores
 use Rattle.std.specs.Prelude.{ℕ, List, [], length, Option, None, Some}
 use Rattle.code_defs.specs.Profiles.{profile_of}
 use Rattle.column_defs.specs.Objects.{Object, stripes}

@@ -1,13 +1,13 @@
 -- What the refusals of a begin look at, and these refusals in order.
 --
---   Sight                     == all that they look at
---   sight_of w                == what they see of a state
---   is_shut x                 == a scrub, a pack or an upgrade runs, beside which no job begins
---   is_busy limit x aim       == what runs leaves no place for a job of this aim
---   names_taken x             == the names in effect and those of running puts, each once
---   is_crowded_for x name     == these are as many as can be, and this name is not among them
---   is_full x aim             == no job of this aim can have its records: they find no room, or its number
---                                would come too near the last one
+--   Sight                      == all that they look at
+--   sight_of w                 == what they see of a state
+--   is_shut x                  == a scrub, a pack or an upgrade runs, beside which no job begins
+--   is_busy limit x aim        == what runs leaves no place for a job of this aim
+--   names_taken x              == the names in effect and those of running puts, each once
+--   is_crowded_for x name      == these are as many as can be, and this name is not among them
+--   is_full x aim              == no job of this aim can have its records: they find no room, or its number
+--                                 would come too near the last one
 --   causes limit x aim profile == the causes for which a begin is refused, in order; a put may name a profile
 use Rattle.std.specs.Prelude.{ℕ, ◌+◌, ◌-◌, ◌^◌, ◌==◌, ◌&&◌, ◌||◌, Bool, true, false, not, List, [], ◌∷◌, ◌++◌, length, map, sum, sum_by, Option, None, Some, is_some, nat_lt, nat_le, if◌then◌else◌}
 use Rattle.std.specs.List.{list_any}

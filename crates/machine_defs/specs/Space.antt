@@ -1,10 +1,10 @@
 -- The room that records take in the journal.
 --
---   append_sizes version s aim  == in a version of the journal, the sizes of the records that a job appends,
---                            in order, each with its gate
+--   append_sizes version s aim      == in a version of the journal, the sizes of the records that a job
+--                                      appends, in order, each with its gate
 --   room_left version s aim appends == the room that the records of a job still need of which so many appends
---                            have not ended: a record counts until its append ends
---   reserved version s job == the same of a running job
+--                                      have not ended: a record counts until its append ends
+--   reserved version s job          == the same of a running job
 use Rattle.std.specs.Prelude.{ℕ, ◌+◌, ◌-◌, ◌*◌, ◌==◌, List, [], ◌∷◌, drop, length, sum, if◌then◌else◌}
 use Rattle.record_defs.specs.Records.{Setup}
 use Rattle.machine_defs.specs.Jobs.{Aim, ToPut, ToGet, ToDrop, ToAudit, ToRepair, ToUpgrade, aim_of, Job}

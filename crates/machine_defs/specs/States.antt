@@ -1,30 +1,31 @@
 -- The states of the machine.
 --
---   Append                  == an append in flight: its job, its record, and how many of its four moves are
---                              done
---   Doubt                   == a record in doubt, with the job that wrote it, if one did
---   State                   == a state
---   Found, Scrub, Pack, Alone  == what a scrub has found, a scrub, a pack, and either of them
---   setup_in, object_in, file_in  == the setup in effect, the object of a profile and a number, the file in
---                                    effect under a name
---   file_object w f         == the object of a file in effect
---   pinned_object w f       == that of a file that a job works on
---   put_object w job id     == the object under whose number a put stores
---   object_among w files id == the object of a number among these files
---   worked_object w job id  == the object of a number among those that a job works on
---   going_on w job          == the state with this job in place of that of its number
---   ended w job             == the state in which the job has ended
---   given_up w              == the state in which all jobs are given up and the vault is closed
---   continued w             == the state in which a later call of the program goes on
---   with_doubt w d          == the records in effect with one in doubt added
---   brought w r             == the state in which a record has come into effect
---   journal_end w           == the offset past the gate that closes the journal
---   DiskCall old left new   == a disk call that leaves this state, with a count of faults that did not fall
---   DiskFails old left new  == a disk call that failed and leaves this state, with a count of faults that
---                              rose
---   ProviderCall old j call left new  == a call of provider j that leaves this state but for that provider
---   Settles old new         == a record in doubt is now in effect, or is not; none is in doubt
---   IsStart w               == a state before the first event
+--   Append                           == an append in flight: its job, its record, and how many of its four
+--                                       moves are done
+--   Doubt                            == a record in doubt, with the job that wrote it, if one did
+--   State                            == a state
+--   Found, Scrub, Pack, Alone        == what a scrub has found, a scrub, a pack, and either of them
+--   setup_in, object_in, file_in     == the setup in effect, the object of a profile and a number, the file
+--                                       in effect under a name
+--   file_object w f                  == the object of a file in effect
+--   pinned_object w f                == that of a file that a job works on
+--   put_object w job id              == the object under whose number a put stores
+--   object_among w files id          == the object of a number among these files
+--   worked_object w job id           == the object of a number among those that a job works on
+--   going_on w job                   == the state with this job in place of that of its number
+--   ended w job                      == the state in which the job has ended
+--   given_up w                       == the state in which all jobs are given up and the vault is closed
+--   continued w                      == the state in which a later call of the program goes on
+--   with_doubt w d                   == the records in effect with one in doubt added
+--   brought w r                      == the state in which a record has come into effect
+--   journal_end w                    == the offset past the gate that closes the journal
+--   DiskCall old left new            == a disk call that leaves this state, with a count of faults that did
+--                                       not fall
+--   DiskFails old left new           == a disk call that failed and leaves this state, with a count of faults
+--                                       that rose
+--   ProviderCall old j call left new == a call of provider j that leaves this state but for that provider
+--   Settles old new                  == a record in doubt is now in effect, or is not; none is in doubt
+--   IsStart w                        == a state before the first event
 --
 -- The setup, the files in effect, the started puts, the next numbers and the audits that run or are due are
 -- what the records in effect fold to. Beside these a state keeps whose bytes an object number stands for,

@@ -1,14 +1,15 @@
 -- One step of a job.
 --
---   block_to_store w job kind j object stripe  == the block that a job stores: of a put's bytes, or of what
---                                          a repair's work gave
---   Ends w job kind answer             == the answer at the end of a job
---   Acts old job action outcome new    == what an action may come to
---   next_action w job                  == the next action of a job; a drop that has not begun its append
---                                         and whose name is no longer in effect has only its end left
---   holder_of append action            == the job for which a step has to wait: that of the append in
---                                         flight, if the action begins one
---   Steps old number is_open outcome new  == what a step may come to
+--   block_to_store w job kind j object stripe == the block that a job stores: of a put's bytes, or of what a
+--                                                repair's work gave
+--   Ends w job kind answer                    == the answer at the end of a job
+--   Acts old job action outcome new           == what an action may come to
+--   next_action w job                         == the next action of a job; a drop that has not begun its
+--                                                append and whose name is no longer in effect has only its
+--                                                end left
+--   holder_of append action                   == the job for which a step has to wait: that of the append in
+--                                                flight, if the action begins one
+--   Steps old number is_open outcome new      == what a step may come to
 use Rattle.std.specs.Prelude.{◌≡◌, ℕ, ◌==◌, ◌&&◌, Bool, true, false, not, List, [], ◌∷◌, Option, None, Some, is_some, slice_get, if◌then◌else◌}
 use Rattle.column_defs.specs.Challenges.{honest_answer}
 use Rattle.column_defs.specs.Columns.{columns, column_of_symbols}

@@ -1,8 +1,8 @@
 -- Schedules as commands, and the lines of the runs that carry them out. Commands and moments have the
 -- newest first.
 --
---   Instruction                      == one event, or as many steps of a job as it takes until the answer
---                                       is not `more`
+--   Instruction                  == one event, or as many steps of a job as it takes until the answer is not
+--                                   `more`
 --   CarriesOut commands ms bytes == the moments carry out the commands, and write these bytes
 use Rattle.std.specs.Prelude.{◌≡◌, ◌≢◌, ℕ, List, [], ◌∷◌, ◌++◌}
 use Rattle.machine_defs.specs.Events.{Event, Step, More}

@@ -1,12 +1,12 @@
 -- States whose vault was just opened. Records have the newest first.
 --
---   AreHanded ps w            == the providers handed in are those of a state
---   IsOpenAtRest w first      == a vault is open in a state at rest, and the next job has this number
+--   AreHanded ps w                    == the providers handed in are those of a state
+--   IsOpenAtRest w first              == a vault is open in a state at rest, and the next job has this number
 --   IsJustOpened w rs first faults ps == the same over these records, this count of faults of the disk and
 --                                        these providers
---   IsOpenedOver w rs faults ps == a state whose vault was just opened over these records, told by its
---                              parts; the files in effect have some bytes of the recorded lengths, and the
---                              next job has the number 1
+--   IsOpenedOver w rs faults ps       == a state whose vault was just opened over these records, told by its
+--                                        parts; the files in effect have some bytes of the recorded lengths,
+--                                        and the next job has the number 1
 use Rattle.std.specs.Prelude.{◌≡◌, ℕ, ◌<◌, true, false, List, [], length, slice_get, None, Some}
 use Rattle.device_defs.specs.Providers.{Provider}
 use Rattle.record_defs.specs.Records.{Record}

@@ -1,7 +1,7 @@
 -- A provider as it is seen, by the members of its trait, and what a store comes to.
 --
---   provider_seen P provider == what is seen of a provider: what it holds, where it tells it, and its three
---                               counts
+--   provider_seen P provider                    == what is seen of a provider: what it holds, where it tells
+--                                                  it, and its three counts
 --   StoresAs object stripe block result old new == a call of a provider's store that came to this
 use Rattle.std.specs.Prelude.{ℕ, List, Result, Ok, Err}
 use Rattle.device_defs.specs.Providers.{Provider}

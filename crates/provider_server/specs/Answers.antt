@@ -1,10 +1,10 @@
 -- How `serve` ends.
 --
---   served_status end, place_of end == the status of a server's end, and the offset that it speaks of
---   OnlyServes number old new == no device was touched but the source, the sink and this provider
+--   served_status end, place_of end   == the status of a server's end, and the offset that it speaks of
+--   OnlyServes number old new         == no device was touched but the source, the sink and this provider
 --   ServesRequests number old new end == the requests that the source gives were served with this provider
---   AnswersServe number old new end == `serve`: 22 exactly where the provider was not handed in, unless
---                                      there was no memory for the words
+--   AnswersServe number old new end   == `serve`: 22 exactly where the provider was not handed in, unless
+--                                        there was no memory for the words
 use Rattle.std.specs.Prelude.{◌≡◌, ◌≢◌, ℕ, ◌<◌, ◌≤◌, List, [], length}
 use Rattle.device_defs.specs.Faults.{HasCause}
 use Rattle.command_defs.specs.Seen.{Seen, Ending, provider_at}

@@ -1,11 +1,13 @@
 -- What an answer over a link tells, where the link tells what is behind it.
 --
---   answer_size r    == how many bytes of symbols stand in an answer to a request that gives some
---   first_byte_of a        == the first byte of an answer
---   tail_of a        == the bytes behind it
---   AskedFor r result tail b now == the answer that came, as a change of what is behind the link
+--   answer_size r                            == how many bytes of symbols stand in an answer to a request
+--                                               that gives some
+--   first_byte_of a                          == the first byte of an answer
+--   tail_of a                                == the bytes behind it
+--   AskedFor r result tail b now             == the answer that came, as a change of what is behind the link
 --   seen_behind behind stores others fetches == what is seen of a provider over a link: the one behind it
---                       where the link tells it, and else the counts that are kept here
+--                                               where the link tells it, and else the counts that are kept
+--                                               here
 use Rattle.std.specs.Prelude.{◌≡◌, ℕ, ◌*◌, Bool, true, false, List, [], ◌∷◌, length, Option, Some, None, Result, Ok, Err, if◌then◌else◌}
 use Rattle.column_defs.specs.Objects.{bytes_of_symbols}
 use Rattle.device_defs.specs.Providers.{Held, Provider}

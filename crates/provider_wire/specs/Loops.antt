@@ -1,6 +1,6 @@
 -- A link to a provider in the same program.
 --
---   behind_loop held .. link == what such a link tells: nothing where its provider tells nothing
+--   behind_loop held .. link        == what such a link tells: nothing where its provider tells nothing
 --   idle stores others fetches held == a provider that holds this, with nothing due
 use Rattle.std.specs.Prelude.{ℕ, [], drop, Option}
 use Rattle.std.specs.Option.{option_map}

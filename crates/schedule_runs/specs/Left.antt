@@ -1,11 +1,11 @@
 -- The devices that a run has left, and what a replay or a trial over them goes on to.
 --
---   devices_left w                  == devices of a state: the disk reads the text of the records in
---                                      effect, and no byte of it is loose
---   DidNothing old new end     == no event was done
---   GoesOnWith start ms old new end == no event was done, or moments go on with this very run
+--   devices_left w                              == devices of a state: the disk reads the text of the records
+--                                                  in effect, and no byte of it is loose
+--   DidNothing old new end                      == no event was done
+--   GoesOnWith start ms old new end             == no event was done, or moments go on with this very run
 --   KeepsItsFile start ms name file old new end == the same, and the file is kept for as long as no record
---                                          takes it out
+--                                                  takes it out
 use Rattle.std.specs.Prelude.{ℕ, List, ◌++◌, map, Some, ◌⊎◌}
 use Rattle.code_defs.specs.Points.{upto}
 use Rattle.device_defs.specs.Cells.{firm}

@@ -1,12 +1,12 @@
 -- A schedule as text, with damage, an audit, a repair, a stop and gets, and what carries it out.
 --
---   stopped_schedule    == the commands of the run with damage, and then a stop, a reopening and a get, the
---                          newest first
---   stopped_written     == all that they write
---   stopped_text        == the text that spells them
---   bad_text            == a text whose second line has too many words
---   IsStoppedRun ms        == these moments carry it out, from a start of four providers; the last of them
---                             gives the file
+--   stopped_schedule == the commands of the run with damage, and then a stop, a reopening and a get, the
+--                       newest first
+--   stopped_written  == all that they write
+--   stopped_text     == the text that spells them
+--   bad_text         == a text whose second line has too many words
+--   IsStoppedRun ms  == these moments carry it out, from a start of four providers; the last of them gives
+--                       the file
 use Rattle.std.specs.Prelude.{ℕ, List, [], ◌∷◌, ◌++◌, codes}
 use Rattle.std.specs.List.{flat_map}
 use Rattle.machine_defs.specs.Answers.{Got}

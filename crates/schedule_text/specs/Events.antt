@@ -1,7 +1,7 @@
 -- The plain data of events.
 --
---   event_command event    == the event as a command of the machine: `Run` is as many steps as it takes,
---                             `List` asks for the names
+--   event_command event == the event as a command of the machine: `Run` is as many steps as it takes, `List`
+--                          asks for the names
 --   commands_of events  == the same of each
 use Rattle.std.specs.Prelude.{List, map}
 use Rattle.record_codec.specs.Entries.{with_master}

@@ -1,14 +1,14 @@
 -- What a line of a schedule spells.
 --
---   pieces c text              == what stands between the places of the byte c in a text; one piece more
---                                 than there are places
---   words line                 == the pieces between spaces, without those that are empty
---   IsNumber bits word number  == a number word of a number below 2 ^ bits
---   IsHex word bytes           == the hexadecimal digits of the bytes, two for each, of either case; or `-`
---                                 for no bytes
---   IsKey word key             == 64 hexadecimal digits of either case, of the 32 bytes of a master key
---   SpellsCommand words command       == the words of a line are those of the command
---   IsSkipped words            == there are no words, or the first begins with `#`
+--   pieces c text               == what stands between the places of the byte c in a text; one piece more
+--                                  than there are places
+--   words line                  == the pieces between spaces, without those that are empty
+--   IsNumber bits word number   == a number word of a number below 2 ^ bits
+--   IsHex word bytes            == the hexadecimal digits of the bytes, two for each, of either case; or `-`
+--                                  for no bytes
+--   IsKey word key              == 64 hexadecimal digits of either case, of the 32 bytes of a master key
+--   SpellsCommand words command == the words of a line are those of the command
+--   IsSkipped words             == there are no words, or the first begins with `#`
 --
 -- A name is any word, whether or not a file can have it. A tab and a carriage return are bytes of a word as
 -- others are.

@@ -1,10 +1,9 @@
 -- A spelling of each schedule that has one.
 --
---   IsName name            == the bytes of a word: some bytes, and none of them a space or a newline
---   CanBeSpelled command   == its numbers fit their fields, its bytes are bytes, and its name is a word
---   words_of command       == the words of its line
---   schedule_bytes commands      == the lines of the commands: each word with a space behind it, and a
---                                   newline
+--   IsName name             == the bytes of a word: some bytes, and none of them a space or a newline
+--   CanBeSpelled command    == its numbers fit their fields, its bytes are bytes, and its name is a word
+--   words_of command        == the words of its line
+--   schedule_bytes commands == the lines of the commands: each word with a space behind it, and a newline
 use Rattle.std.specs.Prelude.{◌≢◌, ℕ, ◌^◌, ◌<◌, List, [], ◌∷◌, ◌++◌, length, codes}
 use Rattle.std.specs.List.{AllByRecursion, flat_map}
 use Rattle.std.specs.Fmt.{decimal}

@@ -1,9 +1,9 @@
 -- Which blocks count as wrong of those that a job was given.
 --
---   is_wrong_given begin_state file job stripe j  == provider j gave the job a wrong block of a stripe of
---                                          the file, or none
---   is_wrong_seen o bytes j stripe seen         == a block is there and is wrong
---   IsFewWrong begin_state file job stripe      == at most b of the n providers did
+--   is_wrong_given begin_state file job stripe j == provider j gave the job a wrong block of a stripe of the
+--                                                   file, or none
+--   is_wrong_seen o bytes j stripe seen          == a block is there and is wrong
+--   IsFewWrong begin_state file job stripe       == at most b of the n providers did
 use Rattle.std.specs.Prelude.{ℕ, ◌≤◌, ◌&&◌, Bool, List, is_some}
 use Rattle.column_defs.specs.Objects.{Object}
 use Rattle.column_defs.specs.Opened.{SeenBlock}

@@ -1,19 +1,20 @@
 -- Moments since which all damage of files in effect is new.
 --
---   WasWrong w j id               == provider j was wrong for a file that was in effect in this state under
---                                    the object number
---   WrongAt start ms from j id stripe  == so it was in the state after so many events
---   IsFlaggedBy w counts j id stripe   == the counts flag provider j
---   Remains w job j id stripe     == a repair that flags provider j has still to make its store of this block
---   Never j id stripe             == nothing is exempt
---   IsEndOfPut rs entry id size profile  == over these records, a record ends the put of a file of this
---                                    number, length and profile
---   PrecedesPuts start ms from    == a moment not after now: no put that runs, or whose record is in doubt,
---                                    began before it
---   IsClear start ms from IsExempt  == each provider with a bad block of a file in effect was replaced
---                                      since, or the block is exempt
---   IsMark start ms from          == both, and nothing is exempt: all damage of files in effect is new
---                                    since then
+--   WasWrong w j id                     == provider j was wrong for a file that was in effect in this state
+--                                          under the object number
+--   WrongAt start ms from j id stripe   == so it was in the state after so many events
+--   IsFlaggedBy w counts j id stripe    == the counts flag provider j
+--   Remains w job j id stripe           == a repair that flags provider j has still to make its store of this
+--                                          block
+--   Never j id stripe                   == nothing is exempt
+--   IsEndOfPut rs entry id size profile == over these records, a record ends the put of a file of this
+--                                          number, length and profile
+--   PrecedesPuts start ms from          == a moment not after now: no put that runs, or whose record is in
+--                                          doubt, began before it
+--   IsClear start ms from IsExempt      == each provider with a bad block of a file in effect was replaced
+--                                          since, or the block is exempt
+--   IsMark start ms from                == both, and nothing is exempt: all damage of files in effect is new
+--                                          since then
 use Rattle.std.specs.Prelude.{◌≡◌, ◌⊎◌, ℕ, ◌==◌, ◌<◌, ◌≤◌, true, false, List, length, Some, slice_get}
 use Rattle.column_defs.specs.Objects.{stripes}
 use Rattle.column_defs.specs.Verdicts.{is_flagged}

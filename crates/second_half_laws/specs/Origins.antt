@@ -1,10 +1,11 @@
 -- Where a block that a job was given came from.
 --
---   IsHeldThen old new files j object stripe block  == between these two states provider j gave a fetch for
---                                          these files what it held then, if it was of the size, or none,
---                                          and its count of failed calls rose
---   CameOf start ms begun files j object stripe block  == so it was at a moment of the run with at least so
---                                          many events before it
+--   IsHeldThen old new files j object stripe block == between these two states provider j gave a fetch for
+--                                                     these files what it held then, if it was of the size,
+--                                                     or none, and its count of failed calls rose
+--   CameOf start ms begun files j object stripe block
+--                                                  == so it was at a moment of the run with at least so many
+--                                                     events before it
 use Rattle.std.specs.Prelude.{◌≡◌, ◌⊎◌, ℕ, ◌≤◌, List, ◌∷◌, ◌++◌, length, Option}
 use Rattle.device_defs.specs.ProviderCalls.{FetchGives, FailsToGive}
 use Rattle.machine_defs.specs.Jobs.{Pinned}

@@ -1,13 +1,15 @@
 -- What a put, a repair or an audit has done by the time of its last record.
 --
---   PutIsWhole start ms job id size profile  == a put of that number, length and profile made its store of
---                                        each stripe on each provider, and its number stands for its bytes
---   Rewrote start ms job object j stripe  == a repair made its store of a stripe on a provider, after its
---                                          work on the stripe
---   RepairIsWhole start ms job number == a repair of that number rewrote each stripe of each of its files
---                                        on each flagged provider
---   AuditIsWhole start ms job number undecided counts  == an audit of that number made each of its asks,
---                                        and these are its sums over what it was given
+--   PutIsWhole start ms job id size profile == a put of that number, length and profile made its store of
+--                                              each stripe on each provider, and its number stands for its
+--                                              bytes
+--   Rewrote start ms job object j stripe    == a repair made its store of a stripe on a provider, after its
+--                                              work on the stripe
+--   RepairIsWhole start ms job number       == a repair of that number rewrote each stripe of each of its
+--                                              files on each flagged provider
+--   AuditIsWhole start ms job number undecided counts
+--                                           == an audit of that number made each of its asks, and these are
+--                                              its sums over what it was given
 use Rattle.std.specs.Prelude.{◌≡◌, ℕ, ◌<◌, true, List, length}
 use Rattle.std.specs.List.{Contains}
 use Rattle.record_defs.specs.Table.{next_id}

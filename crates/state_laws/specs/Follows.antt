@@ -1,13 +1,13 @@
 -- Records that may come into effect next.
 --
---   IsHeld bytes id size       == an object number stands for bytes, and for so many
---   BringsHeld bytes entry     == so does the number that a record brings in as a file
---   AreHeld bytes rs           == so does the number of each file in effect
---   MayFollow rs journal end bytes entry   == a record may come into effect on top of a history and of the
---                                 journal that the disk holds, which has this end: it has a spelling, the
---                                 folds accept it, the journal has room for it, and a file that it brings
---                                 in has its bytes
---   MayFollowIn w entry        == so it may in a state
+--   IsHeld bytes id size                 == an object number stands for bytes, and for so many
+--   BringsHeld bytes entry               == so does the number that a record brings in as a file
+--   AreHeld bytes rs                     == so does the number of each file in effect
+--   MayFollow rs journal end bytes entry == a record may come into effect on top of a history and of the
+--                                           journal that the disk holds, which has this end: it has a
+--                                           spelling, the folds accept it, the journal has room for it, and a
+--                                           file that it brings in has its bytes
+--   MayFollowIn w entry                  == so it may in a state
 use Rattle.std.specs.Prelude.{◌≡◌, ℕ, ◌+◌, ◌≤◌, IsTrue, List, length, None, Some}
 use Rattle.record_defs.specs.Records.{Record, SetUp, PutStart, PutDone, Drop, AuditStart, AuditDone, RepairDone, PutDoneIn, Version, Resume, InEffect, RepairDue, is_spelled, record_size, largest_journal}
 use Rattle.record_defs.specs.Table.{File, file_of}

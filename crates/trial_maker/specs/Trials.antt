@@ -2,18 +2,21 @@
 -- got, an audit and a repair follow, and it is got again. In the first two epochs a repair is first cut off
 -- by a stop.
 --
---   trial_key seed, trial_bytes seed == the master key, of the 32 draws behind the first, and the file, of
---                                       the 65,536 behind these
---   losing_provider seed epoch           == the provider that loses its blocks: the first draw chooses it
---                                          in epoch 0, then the next
---   trial_tolerance                  == how many wrong rounds the store tolerates of a provider
---   trial_setup seed                 == the setup
---   opening seed                     == init, reopening, and the put, which is job 1 and makes object 1
---   losses provider n                == the provider loses the blocks of the first n stripes of the object
---   whole kind job                   == a begin, and its job up to its end
---   cut job                          == the begin of a repair, ten steps of it, a stop and a reopening
+--   trial_key seed, trial_bytes seed            == the master key, of the 32 draws behind the first, and the
+--                                                  file, of the 65,536 behind these
+--   losing_provider seed epoch                  == the provider that loses its blocks: the first draw chooses
+--                                                  it in epoch 0, then the next
+--   trial_tolerance                             == how many wrong rounds the store tolerates of a provider
+--   trial_setup seed                            == the setup
+--   opening seed                                == init, reopening, and the put, which is job 1 and makes
+--                                                  object 1
+--   losses provider n                           == the provider loses the blocks of the first n stripes of
+--                                                  the object
+--   whole kind job                              == a begin, and its job up to its end
+--   cut job                                     == the begin of a repair, ten steps of it, a stop and a
+--                                                  reopening
 --   epoch provider job, last_epoch provider job == an epoch whose first job has this number
---   trial_commands seed              == all of these, in order
+--   trial_commands seed                         == all of these, in order
 use Rattle.std.specs.Prelude.{ℕ, ◌+◌, ◌/◌, ◌%◌, ◌^◌, List, [], ◌∷◌, ◌++◌, map, replicate, codes}
 use Rattle.code_defs.specs.Points.{upto}
 use Rattle.record_defs.specs.Records.{Setup}

@@ -1,23 +1,26 @@
 -- What an ask does to what an audit works with.
 --
---   length_among pinned object  == the length of the file of an object number among those that a job works
---                                  on; None where there is none
---   length_in c job object      == the same of those of a running job
---   IsQuestion v job object round q == the file, the audit's number, the round and the picks of an ask
---   challenge_put master q      == the challenge of it
---   GrowsAnswers old new ask symbol == one answer more was heard
---   last_answers n symbols      == the last n answers
---   HasJudged master q old new  == the round of the last answers turned the sums of the audit into those
---   TakesAsk master q k old new symbol == provider k was asked, and the round was judged where it is the last
+--   length_among pinned object                  == the length of the file of an object number among those
+--                                                  that a job works on; None where there is none
+--   length_in c job object                      == the same of those of a running job
+--   IsQuestion v job object round q             == the file, the audit's number, the round and the picks of
+--                                                  an ask
+--   challenge_put master q                      == the challenge of it
+--   GrowsAnswers old new ask symbol             == one answer more was heard
+--   last_answers n symbols                      == the last n answers
+--   HasJudged master q old new                  == the round of the last answers turned the sums of the audit
+--                                                  into those
+--   TakesAsk master q k old new symbol          == provider k was asked, and the round was judged where it is
+--                                                  the last
 --   HasRoomForAsk a, CanJudge q t, CanAsk q k t == there is room for an answer; the round can be judged;
---                                          both, where there has to be
---   Asked, MayAsk               == the same of what a job works with
---   sums_on t                   == the sums of an audit so far
---   TellsAsk is_last t reply    == the reply to an ask: a verdict to the last, with the sums of what the
---                                  audit works with
---   IsAuditing t                == an audit works with it
---   MayTell n t                 == its counts are padded, and those of so many providers
---   MayPut v job object         == there is such a file, which has rows
+--                                                  both, where there has to be
+--   Asked, MayAsk                               == the same of what a job works with
+--   sums_on t                                   == the sums of an audit so far
+--   TellsAsk is_last t reply                    == the reply to an ask: a verdict to the last, with the sums
+--                                                  of what the audit works with
+--   IsAuditing t                                == an audit works with it
+--   MayTell n t                                 == its counts are padded, and those of so many providers
+--   MayPut v job object                         == there is such a file, which has rows
 use Rattle.std.specs.Prelude.{◌≡◌, ℕ, ◌+◌, ◌-◌, ◌*◌, ◌≤◌, ◌<◌, ◌^◌, ◌==◌, Bool, true, false, List, [], ◌∷◌, ◌++◌, length, drop, Option, None, Some, IfSome, vec_len, vec_capacity, nat_lt, position, slice_get}
 use Rattle.std.specs.List.{list_all}
 use Rattle.std.specs.Option.{option_map}

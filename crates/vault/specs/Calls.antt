@@ -1,8 +1,8 @@
 -- Which device a step calls, and what it does to the cells of the disk.
 --
---   CalledOnce calls j old new == of a list of devices the one at place j was called once, by their counts
---                                 of calls
---   moves_before_next coming        == how many moves of its append are made before the next action
+--   CalledOnce calls j old new          == of a list of devices the one at place j was called once, by their
+--                                          counts of calls
+--   moves_before_next coming            == how many moves of its append are made before the next action
 --   MovesCells n gate body turn old new == the cells after a step that makes the move after n, by what came
 --                                          of it
 use Rattle.std.specs.Prelude.{◌≡◌, ℕ, List, Option, slice_get}

@@ -1,15 +1,16 @@
 -- How the desk of a vault and its devices stand for a state of the machine.
 --
---   IsShaped v            == the shape and the profile are those of the setup
---   IsFlight f flight rs told == no append is in flight, and the disk has the text with a closed gate; or
---                            that of the machine is, and the disk is as after its moves so far
---   DeskStands v d w      == the desk and the devices stand for a state in which a vault is open
---   IsAtWork v            == the desk stands for some state, over some devices of which the disk tells
---                            nothing: what its parts owe each other, whatever devices it was lent
---   DeskCarries v told    == the disk carries the desk: the text, of the core's length, of records that
---                            fold to its table, but for what the moves of an append in flight have done; a
---                            disk that tells nothing carries every desk
---   Comes c job action    == what comes next for a job, by its core
+--   IsShaped v                    == the shape and the profile are those of the setup
+--   IsFlight f flight rs told     == no append is in flight, and the disk has the text with a closed gate; or
+--                                    that of the machine is, and the disk is as after its moves so far
+--   DeskStands v d w              == the desk and the devices stand for a state in which a vault is open
+--   IsAtWork v                    == the desk stands for some state, over some devices of which the disk
+--                                    tells nothing: what its parts owe each other, whatever devices it was
+--                                    lent
+--   DeskCarries v told            == the disk carries the desk: the text, of the core's length, of records
+--                                    that fold to its table, but for what the moves of an append in flight
+--                                    have done; a disk that tells nothing carries every desk
+--   Comes c job action            == what comes next for a job, by its core
 --   DeskMakesStep, DeskMakesBegin == a step and a begin are events of the machine
 use Rattle.std.specs.Prelude.{◌≡◌, ◌≢◌, ℕ, false, List, Option, Some, None, Result, IfSome}
 use Rattle.code_defs.specs.Profiles.{profile_of}

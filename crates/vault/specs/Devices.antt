@@ -2,11 +2,13 @@
 --
 --   devices_seen D P disk providers == the devices, of a disk and providers by the members of their traits
 --                                      taken whole
---   IsSameBeyond w d e == what the disk reads past the text with the record in flight is as before
---   IsSamePast w job d e == past the text with the record that a job's append writes the disk reads as
---                           before
---   cells_by is_told told, sight is_told P p, devices_by is_told D P disk providers == what is seen of a
---                           disk's cells, a provider and the devices, or the same with no content told
+--   IsSameBeyond w d e              == what the disk reads past the text with the record in flight is as
+--                                      before
+--   IsSamePast w job d e            == past the text with the record that a job's append writes the disk
+--                                      reads as before
+--   cells_by is_told told, sight is_told P p, devices_by is_told D P disk providers
+--                                   == what is seen of a disk's cells, a provider and the devices, or the
+--                                      same with no content told
 use Rattle.std.specs.Prelude.{◌≡◌, ℕ, Bool, true, false, List, ◌∷◌, Option, Some, None, map}
 use Rattle.device_defs.specs.Cells.{Cells}
 use Rattle.device_defs.specs.Providers.{Provider}

@@ -1,9 +1,9 @@
 -- What a fetch does to what a job works with.
 --
 --   GrowsFetches old new fetch found block == one fetch more was made, which gave the block where it was
---                                          found
+--                                             found
 --   TakesFetch old new fetch found block   == the same of what a job works with
---   HasRoomForFetch f, HasRoomFor task                        == a job can make one more fetch without memory
+--   HasRoomForFetch f, HasRoomFor task     == a job can make one more fetch without memory
 use Rattle.std.specs.Prelude.{◌≡◌, ℕ, ◌+◌, ◌≤◌, Bool, List, [], ◌∷◌, ◌++◌, vec_len, vec_capacity}
 use Rattle.vault.specs.declared.heard.Fetch.{Fetch}
 use Rattle.vault.specs.declared.heard.Fetches.{Fetches}

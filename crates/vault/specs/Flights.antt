@@ -1,10 +1,10 @@
 -- What a move of an append does.
 --
---   HasFailed moved               == the disk failed
---   GoesOn, EndsAppend, GivesUp         == the disk after a move behind which others are left, after the
---                                          last one, after one that failed
---   MakesMove a old moved new     == by what came of it
---   ChangesCells a old moved new  == the cells after a move, by what came of it
+--   HasFailed moved              == the disk failed
+--   GoesOn, EndsAppend, GivesUp  == the disk after a move behind which others are left, after the last one,
+--                                   after one that failed
+--   MakesMove a old moved new    == by what came of it
+--   ChangesCells a old moved new == the cells after a move, by what came of it
 use Rattle.std.specs.Prelude.{◌≡◌, ◌+◌, ◌<◌, List, ◌∷◌, Option, IfSome}
 use Rattle.std.specs.Option.{option_map}
 use Rattle.device_defs.specs.Cells.{Cells}

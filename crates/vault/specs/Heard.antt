@@ -3,7 +3,7 @@
 --   fetched_entries job fetches blocks == an entry for each fetch, with what it gave
 --   answered_entries job asks symbols  == an entry for each ask
 --   entries_in parts                   == all that a job heard, in order
---   entry_heard heard                     == one of them
+--   entry_heard heard                  == one of them
 use Rattle.std.specs.Prelude.{ℕ, List, [], ◌∷◌, Option}
 use Rattle.std.specs.Option.{option_map}
 use Rattle.column_codec.specs.PresentBlocks.{present_blocks}

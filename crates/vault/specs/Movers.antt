@@ -1,9 +1,9 @@
 -- Moves of a job's append.
 --
---   ComesMove c job       == a move of the job's append comes next
---   IsUnbegun c job f       == an append, no move of which is made, of the record that the job writes
+--   ComesMove c job               == a move of the job's append comes next
+--   IsUnbegun c job f             == an append, no move of which is made, of the record that the job writes
 --   IsMover v w told job action f == an append that is at this move of the job: it brings the record that the
---                            job writes, which is that of the append in flight, if there is one
+--                                    job writes, which is that of the append in flight, if there is one
 use Rattle.std.specs.Prelude.{◌≡◌, ℕ, ◌+◌, true, Option, Some, [], ◌∷◌, ◌++◌, IsTrue}
 use Rattle.device_defs.specs.Cells.{Cells}
 use Rattle.record_defs.specs.Records.{Record, is_in_grammar}

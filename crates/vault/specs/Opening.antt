@@ -1,16 +1,16 @@
 -- What the work on a stripe does to what a job works with.
 --
---   OpensAs o stripe seen result rows == seen blocks opened to these rows, or lost one
---   last_blocks n b         == the last n blocks
---   HasLast bench b         == there are a block for each provider of an object, of its size
---   HasEmptied b b'         == the blocks are gone, and their room is left
---   work_blocks task        == the blocks that a job opens
---   OpensRows, LosesWork          == they open to the rows that are at hand then; a row of them is not
---                                    accepted
---   TakesWork old new object == a job has opened a stripe: a get has its bytes, and a repair has room for
---                               the next blocks
+--   OpensAs o stripe seen result rows    == seen blocks opened to these rows, or lost one
+--   last_blocks n b                      == the last n blocks
+--   HasLast bench b                      == there are a block for each provider of an object, of its size
+--   HasEmptied b b'                      == the blocks are gone, and their room is left
+--   work_blocks task                     == the blocks that a job opens
+--   OpensRows, LosesWork                 == they open to the rows that are at hand then; a row of them is not
+--                                           accepted
+--   TakesWork old new object             == a job has opened a stripe: a get has its bytes, and a repair has
+--                                           room for the next blocks
 --   WorksAs old new object stripe result == what the work on a stripe came to
---   CanWork task            == a job has the blocks of a stripe, and room for its bytes
+--   CanWork task                         == a job has the blocks of a stripe, and room for its bytes
 use Rattle.std.specs.Prelude.{◌≡◌, ℕ, ◌+◌, ◌-◌, ◌*◌, ◌≤◌, List, [], ◌++◌, length, drop, Result, Ok, Err, vec_len, vec_capacity}
 use Rattle.column_defs.specs.Objects.{Object, bytes_of_symbols, stripe_symbols}
 use Rattle.column_defs.specs.Opened.{SeenBlock, GivesSymbols, LosesRow}

@@ -1,11 +1,12 @@
 -- In which order the actions on stripes come, read along the list of actions that a job has not yet made.
 --
---   Phase               == no stripe is in work; or so many blocks of it are fetched; or it is opened
---   GoesOn n phase rest == from this phase on, each stripe has a fetch from each of the n providers in
---                          order, its work, and then stores of it
+--   Phase                     == no stripe is in work; or so many blocks of it are fetched; or it is opened
+--   GoesOn n phase rest       == from this phase on, each stripe has a fetch from each of the n providers in
+--                                order, its work, and then stores of it
 --   OpensFrom id total k rest == the stripes of an object that are still worked on are those from k on, in
 --                                order, up to the total
---   fetches_left rest, works_left rest, asks_left rest == how many such actions are left
+--   fetches_left rest, works_left rest, asks_left rest
+--                             == how many such actions are left
 use Rattle.std.specs.Prelude.{◌≡◌, ℕ, ◌+◌, ◌<◌, Bool, true, false, List, [], ◌∷◌, count_by}
 use Rattle.machine_defs.specs.Actions.{Action, Store, Fetch, Ask, Work, End}
 

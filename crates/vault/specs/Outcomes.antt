@@ -1,10 +1,10 @@
 -- What the answers of the calls are as outcomes of the machine.
 --
---   begin_outcome result  == of a begin
---   machine_answer answer      == how a job ended
---   outcome_of turn       == of a step
---   IfEnded turn P        == P holds of the job's end, where the step was its last
---   IsNoAction turn           == a step that made no action
+--   begin_outcome result   == of a begin
+--   machine_answer answer  == how a job ended
+--   outcome_of turn        == of a step
+--   IfEnded turn P         == P holds of the job's end, where the step was its last
+--   IsNoAction turn        == a step that made no action
 --   HasPaddedCounts answer == the counts of an audit are padded
 use Rattle.std.specs.Prelude.{ℕ, Result, Ok, Err}
 use Rattle.machine_defs.specs.Refusals as refusal

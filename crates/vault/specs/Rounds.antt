@@ -1,10 +1,10 @@
 -- The rounds of an audit, one after the other.
 --
---   Round                     == a round of a file
---   rounds_in s fs            == the rounds of these files, in order
+--   Round                           == a round of a file
+--   rounds_in s fs                  == the rounds of these files, in order
 --   JudgesEach s job rounds old new == these rounds turn these sums into those
---   AsksOn n rounds c rest    == the asks that are left are those of these rounds, from provider c on in
---                                the first of them
+--   AsksOn n rounds c rest          == the asks that are left are those of these rounds, from provider c on
+--                                      in the first of them
 use Rattle.std.specs.Prelude.{◌≡◌, ℕ, ◌+◌, ◌==◌, List, [], ◌∷◌, length, map, if◌then◌else◌}
 use Rattle.std.specs.List.{flat_map}
 use Rattle.column_defs.specs.Verdicts.{Sums}

@@ -1,13 +1,13 @@
 -- The running jobs of a desk, and the end of one of them.
 --
---   place_in jobs number    == the place of the job of a number; None where there is none
---   RunsIn c job              == a job of this number runs
---   heard_of task           == what a job heard, by what it works with
---   IsFed old job reply new == the core was given a reply
---   KeepsAll old new        == nothing but the core, the running jobs and the append in flight may have
---                              changed
---   IsSameDesk old new      == the same jobs with what they work with, the same core, the same append;
---                              spare room does not count
+--   place_in jobs number                 == the place of the job of a number; None where there is none
+--   RunsIn c job                         == a job of this number runs
+--   heard_of task                        == what a job heard, by what it works with
+--   IsFed old job reply new              == the core was given a reply
+--   KeepsAll old new                     == nothing but the core, the running jobs and the append in flight
+--                                           may have changed
+--   IsSameDesk old new                   == the same jobs with what they work with, the same core, the same
+--                                           append; spare room does not count
 --   IsStopped old job reply answer t new == a job was ended with an answer
 use Rattle.std.specs.Prelude.{◌≡◌, ℕ, ◌==◌, true, List, [], Option, Some, is_some, slice_get, position}
 use Rattle.std.specs.List.{remove}

@@ -1,13 +1,14 @@
 -- What a vault tells of itself.
 --
---   vault_setup, master_of, table_of, next_job_of, provider_count v == its setup, its master key, the fold
---                          of the records in effect, the number of the next job, how many providers it uses
---   coming_of, vault_entry v job == what comes next for a job, and the record that its append writes, by
---                                   the core
---   closed_gate_of v    == the offset of the closed gate behind the records in effect
---   left_of v job       == how many steps of a job may remain at most; 0 where it does not run
---   IsUnchanged old new == the same jobs with what they work with, the same core, the same append; spare
---                          room does not count
+--   vault_setup, master_of, table_of, next_job_of, provider_count v
+--                                == its setup, its master key, the fold of the records in effect, the number
+--                                   of the next job, how many providers it uses
+--   coming_of, vault_entry v job == what comes next for a job, and the record that its append writes, by the
+--                                   core
+--   closed_gate_of v             == the offset of the closed gate behind the records in effect
+--   left_of v job                == how many steps of a job may remain at most; 0 where it does not run
+--   IsUnchanged old new          == the same jobs with what they work with, the same core, the same append;
+--                                   spare room does not count
 use Rattle.std.specs.Prelude.{ℕ, ◌-◌, List, Option}
 use Rattle.record_defs.specs.Records.{Record}
 use Rattle.vault_core.specs.Coming.{Coming, next_in, entry_in, core_left}

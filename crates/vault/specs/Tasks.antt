@@ -1,15 +1,16 @@
 -- What a running job works with, and how it matches the job of the machine.
 --
---   IsBench s bench                 == the bench is that of an object of the setup
---   fetched_gifts o s c blocks older == what was given, after what is older, once fetches from provider c
---                                       on gave these blocks of a stripe
+--   IsBench s bench                    == the bench is that of an object of the setup
+--   fetched_gifts o s c blocks older   == what was given, after what is older, once fetches from provider c
+--                                         on gave these blocks of a stripe
 --   answered_gifts o r c answers older == the same of asks in a round
---   HasFetched o s c blocks given   == the last c blocks are what the fetches of the stripe in work gave
---   IsInWork phase blocks rows given == the same where a stripe is fetched; where it is opened the rows are
---                                       its symbols
---   IsPutTask, IsGet, IsDrop, IsAudit, IsRepair s task job rest == what a job of this kind works with
---   IsTask s job rest task          == one of these
---   AreRunning s running jobs       == the running jobs, in order, with what they work with
+--   HasFetched o s c blocks given      == the last c blocks are what the fetches of the stripe in work gave
+--   IsInWork phase blocks rows given   == the same where a stripe is fetched; where it is opened the rows are
+--                                         its symbols
+--   IsPutTask, IsGet, IsDrop, IsAudit, IsRepair s task job rest
+--                                      == what a job of this kind works with
+--   IsTask s job rest task             == one of these
+--   AreRunning s running jobs          == the running jobs, in order, with what they work with
 use Rattle.std.specs.Prelude.{◌≡◌, ℕ, ◌+◌, ◌*◌, ◌<◌, ◌≤◌, Bool, List, [], ◌∷◌, ◌++◌, length, replicate, Option, vec_len, vec_capacity}
 use Rattle.std.specs.List.{flat_map}
 use Rattle.code_defs.specs.Points.{upto}

@@ -4,8 +4,8 @@
 --   pin_of f               == a pinned file, without its bytes
 --   has_asked c            == an audit that has asked all that it asks
 --   IsJobOf s c j          == a job of a core stands for a job of the machine
---   IsCoreFlight c append      == the append in flight is that of the same job, and its record is the one
---                                 that this job writes
+--   IsCoreFlight c append  == the append in flight is that of the same job, and its record is the one that
+--                             this job writes
 --   CoreIs c w             == a core stands for a state of the machine: its vault is open, the journal has
 --                             its first version, and nothing runs alone
 --   refusal_of fault       == the machine's refusal

@@ -1,17 +1,19 @@
 -- What comes next for a job, by what a contract sees of a core.
 --
---   seen_action a       == the action of the machine
---   Coming, seen_next   == what comes next: an action, the job to wait for, or why none does; the same of
---                          an answer
---   next_in c number    == what comes next for the job of a number
---   most_of n j         == how many steps a job may still make at most
---   left_in c number    == the same of the job of a number; None where there is none
---   core_left c number    == the same; 0 where there is none
---   entry_in c number   == the record that the job's append writes; None outside an append
---   called_provider coming == the provider that the next action calls: of a store, a fetch, an ask, a removal
---   calls_disk coming      == what comes next is a move of an append, the only action that calls the disk
---   HasReply c number coming reply  == the reply is one that this action has
---   TakesReply c number reply  == the reply is one that the next action has
+--   seen_action a                  == the action of the machine
+--   Coming, seen_next              == what comes next: an action, the job to wait for, or why none does; the
+--                                     same of an answer
+--   next_in c number               == what comes next for the job of a number
+--   most_of n j                    == how many steps a job may still make at most
+--   left_in c number               == the same of the job of a number; None where there is none
+--   core_left c number             == the same; 0 where there is none
+--   entry_in c number              == the record that the job's append writes; None outside an append
+--   called_provider coming         == the provider that the next action calls: of a store, a fetch, an ask, a
+--                                     removal
+--   calls_disk coming              == what comes next is a move of an append, the only action that calls the
+--                                     disk
+--   HasReply c number coming reply == the reply is one that this action has
+--   TakesReply c number reply      == the reply is one that the next action has
 use Rattle.std.specs.Prelude.{◌≡◌, ℕ, ◌&&◌, Bool, true, false, not, List, Option, None, Some, is_some, unwrap_or, slice_get, if◌then◌else◌}
 use Rattle.std.specs.Option.{option_map}
 use Rattle.record_defs.specs.Records.{Record, PutStart, PutDone, Drop, AuditStart, AuditDone, RepairDone}

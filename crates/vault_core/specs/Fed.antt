@@ -5,15 +5,15 @@
 --   stopped c place      == the core in which the job has ended
 --   barred_at c place    == the core in which the job has ended by a disk call that failed
 --   goes_plainly action  == the action neither begins an append nor ends one, and is not the end
---   stepped j              == a job that has made its next action
+--   stepped j            == a job that has made its next action
 --   with_at c place j    == the core with this job at that place
 --   judged j sums        == an audit that has made its last ask, with these sums
 --   number_drawn t j     == the number that the job's append draws, or has drawn
 --   drawn t j            == a job that has begun its append
 --   older_of t jobs j    == the object that a job takes out of effect, unless there is none or it is pinned
 --   gated n t jobs j     == a job whose append is done
---   HasGated c place new == the append of the job is done: its record is in effect, if the records before
---                           let it follow
+--   HasGated c place new == the append of the job is done: its record is in effect, if the records before let
+--                           it follow
 use Rattle.std.specs.Prelude.{◌≡◌, ℕ, ◌+◌, ◌==◌, ◌&&◌, Bool, true, false, not, List, ◌∷◌, map, drop, slice_get, slice_set, Option, None, Some, remove, if◌then◌else◌}
 use Rattle.std.specs.List.{list_any}
 use Rattle.column_defs.specs.Verdicts.{Sums}

@@ -1,9 +1,9 @@
 -- How jobs as they are kept go on.
 --
---   aimed object task  == a task of this object
---   decides job        == the next action decides on the removal of an older object
---   drawn_tasks k w ts == the tasks of a job that has taken this number
---   removals_of n object  == the removals of an object that a job takes away, if there is one, and the end
+--   aimed object task    == a task of this object
+--   decides job          == the next action decides on the removal of an older object
+--   drawn_tasks k w ts   == the tasks of a job that has taken this number
+--   removals_of n object == the removals of an object that a job takes away, if there is one, and the end
 use Rattle.std.specs.Prelude.{ℕ, Bool, true, false, not, List, [], ◌∷◌, ◌++◌, map, Option, None, Some}
 use Rattle.machine_defs.specs.Actions.{Action, Remove, End}
 use Rattle.vault_core.specs.Rest.{numbers}

@@ -1,13 +1,14 @@
 -- How a core is kept.
 --
---   core_job n job       == what a contract sees of a job
---   view_of a        == what a contract sees of a core
---   IsWithin n flagged cursor == the cursor is at a provider, and at a stripe or round that there is, and
---                                is one that a job of this wish comes to
---   IsSet n job      == what stays of a job as it is kept while it goes on
---   MayBeAt n job c xs  == a job may be at a cursor, and then these are the actions that it has not yet made
---   IsJobKept n job     == a job as it is kept
---   IsCore a         == a core as it is kept
+--   core_job n job            == what a contract sees of a job
+--   view_of a                 == what a contract sees of a core
+--   IsWithin n flagged cursor == the cursor is at a provider, and at a stripe or round that there is, and is
+--                                one that a job of this wish comes to
+--   IsSet n job               == what stays of a job as it is kept while it goes on
+--   MayBeAt n job c xs        == a job may be at a cursor, and then these are the actions that it has not yet
+--                                made
+--   IsJobKept n job           == a job as it is kept
+--   IsCore a                  == a core as it is kept
 use Rattle.std.specs.Prelude.{◌≡◌, ℕ, ◌<◌, ◌≤◌, Bool, true, false, IsTrue, List, [], length, map}
 use Rattle.std.specs.List.{All}
 use Rattle.record_defs.specs.Records.{Setup, is_setup}

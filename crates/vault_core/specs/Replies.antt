@@ -1,11 +1,11 @@
 -- Replies to the actions of a job, and what came of them in the machine.
 --
---   IsEndAnswer answer                == a job that ended by its End has this answer
---   Tells number reply outcome new == a reply tells what came of a step of this job: Done that it goes on
---                                     or came to its end; the others why it ended; a verdict has the sums
---                                     of all that the audit heard
---   IsReplyTo c number reply outcome new  == the same, and a record that the step put in flight is the one
---                                          that the core gave
+--   IsEndAnswer answer                   == a job that ended by its End has this answer
+--   Tells number reply outcome new       == a reply tells what came of a step of this job: Done that it goes
+--                                           on or came to its end; the others why it ended; a verdict has the
+--                                           sums of all that the audit heard
+--   IsReplyTo c number reply outcome new == the same, and a record that the step put in flight is the one
+--                                           that the core gave
 use Rattle.std.specs.Prelude.{◌≡◌, ℕ, Some}
 use Rattle.machine_defs.specs.Jobs.{Job, job_of}
 use Rattle.machine_defs.specs.Answers.{Answer, Put, Got, Dropped, Audited, Repaired, Lost, ProviderFault, DiskFault, Memory}

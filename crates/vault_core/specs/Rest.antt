@@ -6,11 +6,11 @@
 --   calls_from j ..                == the calls from provider j on
 --   rewrites_from j ..             == the stores of a repair on the flagged providers from j on
 --   work_of ..                     == the work on a stripe that was fetched, and the stores of a repair
---   turn_of, turns_from, tasks_of  == all actions at one stripe or round, at those of an object from one
---                                     on, at those of all objects
+--   turn_of, turns_from, tasks_of  == all actions at one stripe or round, at those of an object from one on,
+--                                     at those of all objects
 --   closing_of wish                == the actions behind those on files: the last append, and the end
 --   moves_from at                  == the moves of an append from this one on
---   actions_after at, move_actions    == those behind it; those from one on, if there is one
+--   actions_after at, move_actions == those behind it; those from one on, if there is one
 --   tasks_on n job tasks           == the actions from the first of these tasks on
 --   beyond n job spot              == the actions behind those at a stripe or round
 --   rest_at n job cursor           == the actions from a cursor on

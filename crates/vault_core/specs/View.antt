@@ -1,16 +1,17 @@
 -- What a contract sees of a core, as plain data.
 --
---   CoreJob            == a running job: its wish, the files that it works on, the providers that a repair
---                         rewrites, its number as a put, an audit or a repair, whether it is at its first
---                         append, the actions that it has not yet made, and the sums of an audit
---   CoreView           == the table, the setup, the length of the journal's text, the running jobs in the
---                         order of their begins, the next job number, the job whose append is in flight,
---                         and whether a disk call failed
---   job_in jobs number == the job of that number; None where there is none
+--   CoreJob                 == a running job: its wish, the files that it works on, the providers that a
+--                              repair rewrites, its number as a put, an audit or a repair, whether it is at
+--                              its first append, the actions that it has not yet made, and the sums of an
+--                              audit
+--   CoreView                == the table, the setup, the length of the journal's text, the running jobs in
+--                              the order of their begins, the next job number, the job whose append is in
+--                              flight, and whether a disk call failed
+--   job_in jobs number      == the job of that number; None where there is none
 --   AreRising low jobs next == the numbers of jobs ascend, from `low` on, and are below `next`
---   flag_at flags j    == the flag of provider j; false past the end
---   of_providers n     == a setup of so many providers, all else 0: the room of records and the steps left
---                         hang on no more of it
+--   flag_at flags j         == the flag of provider j; false past the end
+--   of_providers n          == a setup of so many providers, all else 0: the room of records and the steps
+--                              left hang on no more of it
 use Rattle.std.specs.Prelude.{ℕ, ◌+◌, ◌≤◌, ◌==◌, Bool, false, List, [], ◌∷◌, Option, None, Some, slice_index_or, if◌then◌else◌}
 use Rattle.column_defs.specs.Verdicts.{Sums}
 use Rattle.record_defs.specs.Records.{Setup}

@@ -1,9 +1,9 @@
 -- Why no vault is opened, and why no store is set up.
 --
---   IsStartFault bytes fault  == the causes for which no vault is opened
---   LiesInJournal fault       == a cause that lies in what the disk reads
+--   IsStartFault bytes fault      == the causes for which no vault is opened
+--   LiesInJournal fault           == a cause that lies in what the disk reads
 --   IsInitFault bytes setup fault == the causes for which a store is not set up
---   IsNoWrite fault           == an answer of init for which nothing is written
+--   IsNoWrite fault               == an answer of init for which nothing is written
 use Rattle.std.specs.Prelude.{◌≡◌, ℕ, ◌<◌, false, List, length}
 use Rattle.record_defs.specs.Records.{Setup, is_setup}
 use Rattle.record_defs.specs.Reading.{HasNoSetup}

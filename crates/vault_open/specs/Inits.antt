@@ -1,7 +1,7 @@
 -- An init as an event of the machine.
 --
---   init_outcome result       == the outcome of an init
---   MayInit w told            == no vault is open over a disk that tells what it holds
+--   init_outcome result           == the outcome of an init
+--   MayInit w told                == no vault is open over a disk that tells what it holds
 --   MakesInit w moment s result d == an init is one of the machine
 use Rattle.std.specs.Prelude.{◌≡◌, ℕ, false, Option, Result, Ok, Err, IsSome}
 use Rattle.device_defs.specs.Cells.{Cells}

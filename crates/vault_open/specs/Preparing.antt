@@ -1,13 +1,14 @@
 -- How a disk is made ready for its first record and gets it, and what a fault leaves of it.
 --
---   IsBlank cells           == a disk reads a journal with no record, and no byte is loose
---   emptied cells           == the disk after the text of no record was written to its front, and a sync
---   IsReadied old new       == a disk that has no record was made blank, and reads past nine bytes as before
---   IsHalfReady old new     == what a fault on the way leaves
---   with_first_record s cells      == the disk after the four moves that bring its first record, a setup
---   first_answer r          == the answer to a journal whose first record is this
---   IsFirstAnswer rs answer == the answer to records, by the first one
---   IsTextFault bytes fault == why bytes are no journal with no record
+--   IsBlank cells             == a disk reads a journal with no record, and no byte is loose
+--   emptied cells             == the disk after the text of no record was written to its front, and a sync
+--   IsReadied old new         == a disk that has no record was made blank, and reads past nine bytes as
+--                                before
+--   IsHalfReady old new       == what a fault on the way leaves
+--   with_first_record s cells == the disk after the four moves that bring its first record, a setup
+--   first_answer r            == the answer to a journal whose first record is this
+--   IsFirstAnswer rs answer   == the answer to records, by the first one
+--   IsTextFault bytes fault   == why bytes are no journal with no record
 use Rattle.std.specs.Prelude.{◌≡◌, ◌⊎◌, ℕ, ◌≤◌, List, [], ◌∷◌, ◌++◌, length, drop, Option, Result, Ok, Err}
 use Rattle.device_defs.specs.Cells.{Cells, reads, firm}
 use Rattle.device_defs.specs.Disks.{written, synced}

@@ -3,8 +3,8 @@
 --   Starts                   == what is kept of started puts: in the order of their ids the name of each,
 --                               None once it is done; and for how many more there is room
 --   begins_at sizes k        == where among the letters the name of a place begins
---   kept_names sizes letters   == the names; a size of 128 or more is that of a put that is done
---   started_puts, IsStarts      == how it is kept: of each 64th name a mark tells where it begins
+--   kept_names sizes letters == the names; a size of 128 or more is that of a put that is done
+--   started_puts, IsStarts   == how it is kept: of each 64th name a mark tells where it begins
 use Rattle.std.specs.Prelude.{◌≡◌, ℕ, zero, suc, ◌+◌, ◌*◌, ◌/◌, ◌%◌, ◌==◌, ◌<◌, ◌≤◌, Bool, true, IsTrue, List, [], ◌∷◌, ◌++◌, length, take, drop, slice_index, Option, None, Some, nat_le, vec_capacity, if◌then◌else◌}
 use Rattle.std.specs.List.{list_all}
 use Rattle.record_defs.specs.Records.{is_name}

@@ -1,11 +1,11 @@
 -- A link to a provider, where it tells what is behind it.
 --
---   Behind                  == what the provider behind a link holds, its three counts, and the bytes of
---                              its answers that are due
---   provider_behind b           == what is seen of that provider
---   Sends bytes old new     == a send: one whole request, while nothing is due, is answered, and its answer
---                              is due
---   Receives n out old new  == a receive of so many bytes into out
+--   Behind                 == what the provider behind a link holds, its three counts, and the bytes of its
+--                             answers that are due
+--   provider_behind b      == what is seen of that provider
+--   Sends bytes old new    == a send: one whole request, while nothing is due, is answered, and its answer is
+--                             due
+--   Receives n out old new == a receive of so many bytes into out
 use Rattle.std.specs.Prelude.{◌≡◌, ◌≢◌, ℕ, ◌<◌, List, [], ◌++◌, length, take, Option, Some}
 use Rattle.device_defs.specs.Providers.{Held, Provider}
 use Rattle.wire_defs.specs.Requests.{Request, SpellsRequest}

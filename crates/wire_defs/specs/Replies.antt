@@ -1,17 +1,17 @@
 -- What a provider answers to requests, and what these leave. Lists have the newest request first.
 --
---   Reply                 == what came of a request
---   reply_bytes a         == its bytes
---   AnswersRequest r old a new   == the provider answers the request so, and this is what is seen of it
---                                   afterwards
---   AnswersIn r old bs new == the same with the bytes of the answer
---   Serves rs old as new  == the provider answers each request in its turn
---   replies_text as       == the bytes of the answers, one after the other
---   reply_to r held       == what a provider that holds this and does not fail answers
---   held_after r held        == what it holds then
---   failed_count as       == how many of the answers say that the call failed
---   AreClean as           == none says that it failed, or found no memory
---   served held rs        == the bytes of the answers to all requests, and the blocks held after them
+--   Reply                      == what came of a request
+--   reply_bytes a              == its bytes
+--   AnswersRequest r old a new == the provider answers the request so, and this is what is seen of it
+--                                 afterwards
+--   AnswersIn r old bs new     == the same with the bytes of the answer
+--   Serves rs old as new       == the provider answers each request in its turn
+--   replies_text as            == the bytes of the answers, one after the other
+--   reply_to r held            == what a provider that holds this and does not fail answers
+--   held_after r held          == what it holds then
+--   failed_count as            == how many of the answers say that the call failed
+--   AreClean as                == none says that it failed, or found no memory
+--   served held rs             == the bytes of the answers to all requests, and the blocks held after them
 use Rattle.std.specs.Prelude.{◌≡◌, ℕ, ◌+◌, ◌^◌, ◌<◌, Bool, true, false, if◌then◌else◌, List, [], ◌∷◌, ◌++◌, All, Option, None, Some, IfSome}
 use Rattle.std.specs.Option.{option_map}
 use Rattle.column_defs.specs.Challenges.{honest_answer}

@@ -1,16 +1,15 @@
 -- Requests to a provider as plain data, and their bytes. All numbers are little-endian. Lists of requests
 -- have the newest first; their text stands in the order of sending.
 --
---   Request            == a store, a fetch, an ask or a removal, with its fields
---   is_request r       == every field is within its limits
---   request_bytes r         == the bytes of a request: its kind, and then its fields
---   SpellsRequest bytes r     == the bytes are the spelling of this request, whose fields are within their
---                                limits
---   SpellsNoRequest bytes   == no request is spelled at the front of the bytes
---   is_bad_request bytes       == the bytes begin with no kind of request, or with one that has a field out
---                                 of its limits
---   requests_text rs            == the bytes of requests, one after the other
---   AreFrames bytes rs == the requests that the bytes spell
+--   Request               == a store, a fetch, an ask or a removal, with its fields
+--   is_request r          == every field is within its limits
+--   request_bytes r       == the bytes of a request: its kind, and then its fields
+--   SpellsRequest bytes r == the bytes are the spelling of this request, whose fields are within their limits
+--   SpellsNoRequest bytes == no request is spelled at the front of the bytes
+--   is_bad_request bytes  == the bytes begin with no kind of request, or with one that has a field out of its
+--                            limits
+--   requests_text rs      == the bytes of requests, one after the other
+--   AreFrames bytes rs    == the requests that the bytes spell
 use Rattle.std.specs.Prelude.{◌≡◌, ℕ, ◌+◌, ◌^◌, ◌==◌, ◌&&◌, ◌||◌, Bool, false, not, List, [], ◌∷◌, ◌++◌, length, take, drop, slice_index, IsTrue, nat_lt, nat_le, if◌then◌else◌}
 use Rattle.std.specs.Int.{w32, w64, to_le_bytes, from_le_bytes}
 use Rattle.std.specs.List.{list_all}

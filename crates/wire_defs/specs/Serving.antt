@@ -1,15 +1,16 @@
 -- How a server of the requests in a source ends.
 --
---   most_bytes               == how many bytes of requests are served at most
---   End                      == what it says at its end
+--   most_bytes                     == how many bytes of requests are served at most
+--   End                            == what it says at its end
 --   EndsWith end rs read rest left == the requests were answered, of the bytes read the rest was not, and
---                               this is left: when each end comes
---   WritesReplies end was now as    == what the sink has then: all answers, and at a fault of the sink a
---                                      part of the last
---   HasServed end ..         == all of this, with what is seen of the provider before and after
---   IsOfBytes end            == an end that the bytes alone decide: no fault of source or sink, and no want
---                               of memory
---   EndsOf bytes end rs      == such an end of a server of all these bytes, and the requests that it answers
+--                                     this is left: when each end comes
+--   WritesReplies end was now as   == what the sink has then: all answers, and at a fault of the sink a part
+--                                     of the last
+--   HasServed end ..               == all of this, with what is seen of the provider before and after
+--   IsOfBytes end                  == an end that the bytes alone decide: no fault of source or sink, and no
+--                                     want of memory
+--   EndsOf bytes end rs            == such an end of a server of all these bytes, and the requests that it
+--                                     answers
 use Rattle.std.specs.Prelude.{◌≡◌, ◌≢◌, ◌⊎◌, ℕ, ◌+◌, ◌-◌, ◌^◌, ◌<◌, ◌≤◌, true, false, List, [], ◌∷◌, ◌++◌, length, take, IfSome, IsTrue, Option}
 use Rattle.std.specs.List.{list_all}
 use Rattle.device_defs.specs.Told.{told_then, then_told, TakesFront}
