@@ -1,6 +1,6 @@
 #!/bin/sh
-# A tour: three files are stored over six folders; one folder is lost and another altered, the files come back, the loss is found and
-# mended; another folder lies, and is found and mended too. It shows each command with its answer, ends with 0 exactly where each answer
+# A tour: three files are stored over six folders; one folder is lost, the loss is found and mended; it is lost again and another is
+# altered, and the files come back; another folder lies, and is found and mended too. It shows each command with its answer, ends with 0 exactly where each answer
 # was the one due, and leaves nothing behind. HAIL names another program than the one of this repository.
 set -eu
 
@@ -59,7 +59,7 @@ provider $place count 0 ok"
 echo '# A store over six providers: three hold the file, three hold parity, and one of the six may be wrong.'
 mkdir home
 head -c 32 /dev/urandom | od -An -v -tx1 | tr -d ' \n' >key
-answers 0 ready key init 6 3 1 4 4 8 0
+answers 0 ready key init 6 3 1 4 16 64 0
 
 echo '# Three files: an empty one, a text, and 1 MiB.'
 : >empty
@@ -72,29 +72,36 @@ answers 0 'empty 0
 notes.txt 111
 numbers 1048576' /dev/null list
 
-echo '# The folder of provider 2 is lost, and a block of provider 5 is altered in four places.'
+echo '# The folder of provider 2 is lost. Everything comes back.'
 cp -r home/provider-2 kept
 rm -r home/provider-2
+comes_back empty
+comes_back notes.txt
+comes_back numbers
+
+echo '# An audit asks each provider for one symbol a round and file, and finds the loss. Until it is mended no other audit begins.'
+audits 1 2 32
+answers 6 'hail: repair due' /dev/null audit
+answers 0 'repaired 1' /dev/null repair
+diff -r kept home/provider-2 || fail 'the blocks of provider 2 are other ones'
+audits 2
+
+echo '# Provider 2 is lost again, and a block of provider 5 is altered in four places: it bears sixteen. Everything comes back.'
+mv home/provider-2 kept-2
 cp home/provider-5/3-0 before
 alter home/provider-5/3-0
 ! cmp -s before home/provider-5/3-0 || fail 'nothing was altered'
 comes_back empty
 comes_back notes.txt
 comes_back numbers
+mv before home/provider-5/3-0
+mv kept-2 home/provider-2
 
-echo '# An audit asks each provider for one symbol a round and file, and finds the loss. Until it is mended no other audit begins.'
-echo '# It does not see the four altered symbols, and need not: a block of this profile bears sixteen.'
-audits 1 2 8
-answers 6 'hail: repair due' /dev/null audit
-answers 0 'repaired 1' /dev/null repair
-diff -r kept home/provider-2 || fail 'the blocks of provider 2 are other ones'
-audits 2
-
-echo '# Provider 4 lies: it gives the blocks of provider 3 for its own. The file comes back, and the audit finds who lies.'
+echo '# Both are as before. Provider 4 lies: it gives the blocks of provider 3 for its own. The file comes back, and the audit finds who lies.'
 cp -r home/provider-4 kept-4
 for block in home/provider-3/*; do cp "$block" home/provider-4/; done
 comes_back numbers
-audits 3 4 8
+audits 3 4 32
 answers 0 'repaired 3' /dev/null repair
 diff -r kept-4 home/provider-4 || fail 'the blocks of provider 4 are other ones'
 
@@ -109,7 +116,7 @@ echo '# With two folders lost, nothing is given that could be wrong. An audit ca
 cp -r home/provider-0 kept-0
 rm -r home/provider-0 home/provider-1
 answers 4 'hail: lost row 0' /dev/null get numbers
-answers 0 'audit 4 undecided 4
+answers 0 'audit 4 undecided 16
 provider 0 count 0 ok
 provider 1 count 0 ok
 provider 2 count 0 ok
@@ -120,7 +127,7 @@ provider 5 count 0 ok' /dev/null audit
 echo '# One of the two comes back, and the store is made whole.'
 mv kept-0 home/provider-0
 comes_back numbers
-audits 5 1 4
+audits 5 1 16
 answers 0 'repaired 5' /dev/null repair
 comes_back numbers
 audits 6
