@@ -1,14 +1,20 @@
--- The run of the second version is calm, counted from its finished scrub.
-use Rattle.std.proofs.Common.{◌≡◌, ℕ, Bool, true, false, ◌&&◌, List, [], ◌∷◌, Option, Some, None, refl, ap, sym, subst, ◌∙◌}
+-- The run of the second version is calm, counted from its finished scrub, and who was altered before that
+-- scrub holds its own column after it.
+use Rattle.std.proofs.Common.{◌≡◌, Bool, true, false, ◌&&◌, List, [], ◌∷◌, Option, Some, None, refl, subst, arith}
 use Rattle.std.specs.Prelude.{nat_le}
 use Rattle.std.proofs.lemmas.Bool.{and_parts, leb-true}
-use Rattle.machine_defs.specs.States.{State, Scrub, Alone, Scrubbing, Packing, setup_in}
-use Rattle.machine_defs.specs.Runs.{Moment, first_moments}
+use Rattle.machine_defs.specs.States.{State, Alone, Scrubbing, Packing, setup_in}
+use Rattle.column_defs.specs.Columns.{columns}
+use Rattle.machine_defs.specs.Runs.{Moment, now, first_moments, is_replaced_since}
+use Rattle.machine_defs.specs.Deeds.{told_block}
 use Rattle.machine_defs.specs.Calm.{Mark, replaced_count}
 use Rattle.machine_defs.specs.Scrubs.{scrubbed, AreScrubsCalm, IsScrubCalm}
 use Rattle.machine_defs.specs.Examples.{set_up}
 use Rattle.damage_run.proofs.CalmRun.{calm_by_test}
+use Rattle.damage_run.specs.Schedule.{name, byte}
+use Rattle.upgrade_run.specs.Schedule.{thing}
 use Rattle.upgrade_run.proofs.Run.{moments}
+use Rattle.second_half_laws.specs.Own.{IsExact}
 
 -- calm scrubs, as a test
 abbrev is_scrub_calm_for : Mark → List Moment → State → Option Alone → Bool
@@ -43,3 +49,18 @@ scrub_calm = record {
 pub mark_is : scrubbed set_up moments ≡ 22
 unfolding setup_in
 mark_is = refl
+
+-- provider 0 was altered just before, and not since
+pub was_altered : is_replaced_since 21 0 moments ≡ true
+was_altered = refl
+
+pub unaltered : is_replaced_since (scrubbed set_up moments) 0 moments ≡ false
+unfolding setup_in
+unaltered = refl
+
+-- so it holds its own column, where the law says so of the run
+pub own_again : IsExact set_up moments (scrubbed set_up moments) →
+    told_block (now set_up moments) 0 1 0 ≡ Some (Some (columns thing byte 0 0))
+unfolding setup_in
+own_again exact = exact name (record { name = name; id = 1; size = 1; profile = 1 }) 0 0 refl (omega arith)
+    (omega arith) unaltered

@@ -1,26 +1,28 @@
 //! What laws about faults say of the run given outright: each premise is met, and the law is called.
-ghost use Rattle.std.specs.Prelude.{◌≡◌, ◌⊎◌, ◌<◌, ℕ, List, Some};
+ghost use Rattle.std.specs.Prelude.{◌≡◌, ◌⊎◌, ◌<◌, ℕ, List, Some, true, false};
 ghost use Rattle.record_defs.specs.Table.{next_id, next_audit};
-ghost use Rattle.machine_defs.specs.Deeds.{HasStored, HasAsked};
+ghost use Rattle.column_defs.specs.Columns.{columns};
+ghost use Rattle.machine_defs.specs.Deeds.{HasStored, HasAsked, told_block};
 ghost use Rattle.machine_defs.specs.Answers.{Lost};
 ghost use Rattle.machine_defs.specs.Halves.{FirstHalf, SecondHalf};
 ghost use Rattle.machine_defs.specs.Heard.{heard_in, heard_by, given_to};
 ghost use Rattle.machine_defs.specs.States.{State};
 ghost use Rattle.machine_defs.specs.Survival.{IsKept};
-ghost use Rattle.machine_defs.specs.Runs.{Moment, first_moments};
+ghost use Rattle.machine_defs.specs.Runs.{Moment, first_moments, now, is_replaced_since};
 ghost use Rattle.machine_defs.specs.Jobs.{Job};
 ghost use Rattle.machine_defs.specs.Failures.{OfDisk, OfStores, OfOthers, count_in, RoseBy};
 ghost use Rattle.machine_defs.specs.Scrubs.{scrubbed, AreScrubsCalm, IsScrubCalm};
-ghost use Rattle.upgrade_run.specs.Schedule.{HasAll};
+ghost use Rattle.upgrade_run.specs.Schedule.{HasAll, thing};
 ghost use Rattle.machine_defs.specs.Refusals as refusal;
 ghost use Rattle.machine_defs.specs.Halves.{IsGetRefusal};
 ghost use Rattle.machine_defs.specs.Examples.{set_up};
 ghost use Rattle.headline.specs.Headline.{Headline};
 ghost use Rattle.second_half_laws.specs.Whole.{PutIsWhole, AuditIsWhole};
 ghost use Rattle.second_half_laws.specs.Damage.{IsReplaced, RoseSince};
+ghost use Rattle.second_half_laws.specs.Own.{IsExact};
 ghost use Rattle.second_half_laws.specs.MarkedRuns.{IsMarkedRun};
 ghost use Rattle.second_half_laws.specs.Sharp.{IsLostByFaults};
-ghost use Rattle.damage_run.specs.Schedule.{name};
+ghost use Rattle.damage_run.specs.Schedule.{name, byte};
 ghost use Rattle.damage_run.specs.Points.{at, counts};
 ghost use Rattle.fault_run.specs.Faults.{IsFaulty};
 ghost use Rattle.fault_run.specs.Met.{HasFaults};
@@ -112,10 +114,14 @@ pub fn headline_of_it()
 }
 
 /// The mark of a finished scrub, of the run of the second version: its scrub mends a block that was altered
-/// before, and the get that comes after counts from the scrub's begin, at event 22.
+/// before, and the get that comes after counts from the scrub's begin, at event 22. Provider 0 was altered in
+/// one symbol, which no mark counts as damage; not replaced since that begin, it holds its own column again.
 pub fn a_finished_scrub_is_a_mark()
     ensures { (ms : List Moment) × HasAll ms × IsScrubCalm set_up ms × (scrubbed set_up ms ≡ 22)
-        × IsMarkedRun 8 (scrubbed set_up) set_up ms × SecondHalf set_up ms }
+        × IsMarkedRun 8 (scrubbed set_up) set_up ms × SecondHalf set_up ms
+        × IsExact set_up ms (scrubbed set_up ms) × (is_replaced_since 21 0 ms ≡ true)
+        × (is_replaced_since (scrubbed set_up ms) 0 ms ≡ false)
+        × (told_block (now set_up ms) 0 1 0 ≡ Some (Some (columns thing byte 0 0))) }
 {
     finished_scrubs_are_marks();
 }

@@ -1,11 +1,13 @@
 -- A finished scrub is a mark, and so the second half holds of runs that are calm counted from finished
--- scrubs; where no scrub begins, scrubs
--- are calm.
-use Rattle.std.proofs.Common.{◌≡◌, ℕ, ◌<◌, ◌==◌, Bool, true, false, ◌⊎◌, List, [], ◌∷◌, length, Option, Some, None, refl, ap, sym, subst, ◌∙◌, inl, inr, arith}
+-- scrubs; who was not replaced since its begin holds the own columns; where no scrub begins, scrubs are calm.
+use Rattle.std.proofs.Common.{◌≡◌, ℕ, ◌<◌, ◌==◌, Bool, true, false, ◌⊎◌, List, [], ◌∷◌, ◌++◌, length, Option, Some, None, refl, ap, sym, subst, ◌∙◌, inl, inr, arith}
 use Rattle.std.specs.Prelude.{IsSome, nat_lt}
+use Rattle.std.specs.Option.{option_map}
+use Rattle.std.proofs.lemmas.Bool.{false≢true}
 use Rattle.algebra_laws.specs.Lists.{In}
 use Rattle.algebra_laws.proofs.Options.{some-not-none}
 use Rattle.column_defs.specs.Objects.{stripes}
+use Rattle.column_defs.specs.Columns.{columns, is_wrong_block}
 use Rattle.record_defs.specs.Records.{Setup, is_setup}
 use Rattle.record_defs.specs.Table.{File}
 use Rattle.device_defs.specs.Providers.{Held, with_symbol, without_block, HasPlace}
@@ -25,6 +27,7 @@ use Rattle.machine_defs.specs.Runs.{Moment, now, IsRun}
 use Rattle.machine_defs.specs.Calm.{Mark, relies, IsCalm}
 use Rattle.machine_defs.specs.Scrubs.{scrub_begun, mark_scrubbed, scrubbed, AreScrubsCalm, IsScrubCalm}
 use Rattle.machine_defs.specs.Halves.{AllTell, SecondHalf}
+use Rattle.machine_defs.specs.Deeds.{told_block}
 use Rattle.machine_defs.proofs.JobLists.{found_none}
 use Rattle.machine_defs.proofs.Changes.{IsLone}
 use Rattle.machine_defs.proofs.Events.{changes}
@@ -32,15 +35,17 @@ use Rattle.machine_defs.proofs.Held.{all}
 use Rattle.run_laws.proofs.InEffect as eff
 use Rattle.second_half_laws.proofs.Onward.{all_tell}
 use Rattle.second_half_laws.specs.Damage.{IsBad, IsReplaced}
-use Rattle.second_half_laws.specs.Marks.{IsMark}
+use Rattle.second_half_laws.specs.Marks.{PrecedesPuts, IsMark}
+use Rattle.second_half_laws.specs.Own.{IsExact}
 use Rattle.second_half_laws.specs.MarkedRuns.{AreMarks, IsMarkedRun, BeginsNoScrub}
 use Rattle.second_half_laws.proofs.Scrubbing.{Scrub_is}
-use Rattle.second_half_laws.proofs.Blocks.{since_more}
+use Rattle.second_half_laws.proofs.Blocks.{since_more, right_block, no_first_file}
 use Rattle.second_half_laws.proofs.EveryRun.{always}
 use Rattle.second_half_laws.proofs.ScrubFacts.{Scrubbed}
 use Rattle.second_half_laws.proofs.Swept.{IsEnded, Swept, swept_step}
 use Rattle.second_half_laws.proofs.SecondHalf.{start_moment, mark_now, calm_scrub, scrub_was, scrub_on, half_by_mark}
-use Rattle.second_half_laws.proofs.InRuns.{mark_stays}
+use Rattle.second_half_laws.proofs.Exact.{Owns}
+use Rattle.second_half_laws.proofs.InRuns.{mark_stays, owns_stay, before_stays}
 
 -- ---- how a scrub ends Ok
 
@@ -139,12 +144,23 @@ stripe_same : (w : State) (f : File) (s : ℕ) →
 unfolding setup_in
 stripe_same w f s h = h
 
+own_same : (w : State) (f : File) (i s : ℕ) (block : Option (List ℕ)) →
+    block ≡ Some (columns (file_object w f) (w.bytes f.id) i s) →
+    block ≡ Some (columns (file_object (unalone w) f) ((unalone w).bytes f.id) i s)
+unfolding setup_in
+own_same w f i s block h = h
+
+-- a moment is a mark, and who was not replaced since then holds the own columns
+abbrev pub Since : State → List Moment → ℕ → Type 0
+Since start ms from = IsMark start ms from × Owns start ms from
+
 -- what holds of marks and of the scrub that runs
 pub record Sweep (start : State) (ms : List Moment) : Type 0 where
   pub marks : AreMarks (scrubbed start) start ms
   pub scrubs : (scrub : Scrub) → (now start ms).alone ≡ Some (Scrubbing scrub) →
       Scrubbed (scrubbed start) start ms scrub
   pub swept : (scrub : Scrub) → (now start ms).alone ≡ Some (Scrubbing scrub) → Swept start ms scrub
+  pub owns : Owns start ms (scrubbed start ms)
 
 module _ (limit : ℕ) (start : State) (m : Moment) (ms : List Moment) (clean : IsStart start)
     (tell : AllTell start) (run : IsRun limit start (m ∷ ms)) (calm : IsCalm relies (scrubbed start) ms)
@@ -153,35 +169,53 @@ module _ (limit : ℕ) (start : State) (m : Moment) (ms : List Moment) (clean : 
   marked : IsMarkedRun limit (scrubbed start) start ms
   marked = record { clean = clean; tell = tell; run = run.2; calm = calm; marks = W.marks }
 
-  stays : IsMark start (m ∷ ms) (scrubbed start ms)
-  stays = mark_stays limit (scrubbed start) start m ms marked calm_scrubs run (scrubbed start ms)
-      (mark_now (scrubbed start) start ms W.marks)
+  stays : Since start (m ∷ ms) (scrubbed start ms)
+  stays = (let moment = mark_now (scrubbed start) start ms W.marks in (
+    mark_stays limit (scrubbed start) start m ms marked calm_scrubs run (scrubbed start ms) moment,
+    owns_stay limit (scrubbed start) start m ms marked calm_scrubs run (scrubbed start ms) moment.before W.owns,
+  ))
 
   lone : IsLone (now start ms)
   lone = (all limit start clean ms run.2).numbers.idle.lone
 
   finished : (scrub : Scrub) → (now start ms).alone ≡ Some (Scrubbing scrub) →
-      HasEnded (now start ms) m.state scrub → IsMark start (m ∷ ms) scrub.begun
-  finished scrub at H = record {
-    before = record {
-      early = (let l = (W.scrubs scrub at).begun in omega arith);
-      puts = λ number job name bytes runs kind. absurd
-          (found_none m.state.jobs number job (ap (λ (w : State). w.jobs) H.is
-          ∙ lone (Scrubbing scrub) at) runs);
-      doubts = λ d version id size profile in_doubt e. absurd
-          ((always limit start clean ms run.2).lone_sure scrub d at (sym (ap (λ (w : State). w.doubt) H.is)
-          ∙ in_doubt));
-    };
-    clear = λ q f i s h l k bad. clear q f i s (sym (ap (λ (w : State). file_in w q) H.is) ∙ h)
-        (below_same (now start ms) i (subst (λ (w : State). i < (setup_in w).n) H.is l))
-        (stripe_same (now start ms) f s
-        (subst (λ (w : State). s < stripes (file_object w f) (length (w.bytes f.id))) H.is k))
-        (bad_same (now start ms) f.profile f.id i s
-        (subst (λ (w : State). IsBad w f.profile f.id i s) H.is bad));
-  }
+      HasEnded (now start ms) m.state scrub → Since start (m ∷ ms) scrub.begun
+  finished scrub at H = (
+    record {
+      before = record {
+        early = (let l = (W.scrubs scrub at).begun in omega arith);
+        puts = λ number job name bytes runs kind. absurd
+            (found_none m.state.jobs number job (ap (λ (w : State). w.jobs) H.is
+            ∙ lone (Scrubbing scrub) at) runs);
+        doubts = λ d version id size profile in_doubt e. absurd
+            ((always limit start clean ms run.2).lone_sure scrub d at (sym (ap (λ (w : State). w.doubt) H.is)
+            ∙ in_doubt));
+      };
+      clear = λ q f i s h l k bad. clear q f i s (stood q f h) (within i l) (below f s k)
+          (bad_same (now start ms) f.profile f.id i s
+          (subst (λ (w : State). IsBad w f.profile f.id i s) H.is bad));
+    },
+    λ q f i s block h l k unreplaced told. elim (swept q f i s block (stood q f h) (within i l) (below f s k)
+        (subst (λ (w : State). told_block w i f.id s ≡ Some block) H.is told)) [
+          | inl own ↦ subst (λ (w : State). block ≡ Some (columns (file_object w f) (w.bytes f.id) i s))
+              (sym H.is) (own_same (now start ms) f i s block own)
+          | inr r ↦ absurd (false≢true (sym unreplaced ∙ since_more scrub.begun i m ms r))
+        ],
+  )
     where
       C : Swept start ms scrub
       C = W.swept scrub at
+
+      stood : (q : List ℕ) (f : File) → file_in m.state q ≡ Some f → file_in (now start ms) q ≡ Some f
+      stood q f h = sym (ap (λ (w : State). file_in w q) H.is) ∙ h
+
+      within : (i : ℕ) → i < (setup_in m.state).n → i < (setup_in (now start ms)).n
+      within i l = below_same (now start ms) i (subst (λ (w : State). i < (setup_in w).n) H.is l)
+
+      below : (f : File) (s : ℕ) → s < stripes (file_object m.state f) (length (m.state.bytes f.id)) →
+          s < pinned_stripes (setup_in (now start ms)) (pinned_file (now start ms) f)
+      below f s k = stripe_same (now start ms) f s
+          (subst (λ (w : State). s < stripes (file_object w f) (length (w.bytes f.id))) H.is k)
 
       none_left : (x : Action) → (x ≡ End → ⊥) → In x scrub.todo → ⊥
       none_left x other h = elim (subst (In x) H.todo h) [
@@ -189,20 +223,37 @@ module _ (limit : ℕ) (start : State) (m : Moment) (ms : List Moment) (clean : 
         | inr r ↦ (let none : H.rest ≡ [] = subst IsEnded H.todo C.ended in subst (In x) none r)
       ]
 
+      -- nothing is left to do: each block is the provider's own column, or its provider was replaced
+      swept : (q : List ℕ) (f : File) (i s : ℕ) (block : Option (List ℕ)) →
+          file_in (now start ms) q ≡ Some f → i < (setup_in (now start ms)).n →
+          s < pinned_stripes (setup_in (now start ms)) (pinned_file (now start ms) f) →
+          told_block (now start ms) i f.id s ≡ Some block →
+          (block ≡ Some (columns (file_object (now start ms) f) ((now start ms).bytes f.id) i s)) ⊎
+          IsReplaced scrub.begun i ms
+      swept q f i s block h l k told =
+          elim (C.left (pinned_file (now start ms) f) i s block (C.all q f h) l k told) [
+            | inl own ↦ inl own
+            | inr (inl r) ↦ inr r
+            | inr (inr (inl w)) ↦
+                absurd (none_left (Work f.id s) (λ e. (let z : Work f.id s ≡ End = e in cc)) w)
+            | inr (inr (inr st)) ↦ absurd
+                (none_left (Store i f.id s) (λ e. (let z : Store i f.id s ≡ End = e in cc)) st)
+          ]
+
       clear : (q : List ℕ) (f : File) (i s : ℕ) → file_in (now start ms) q ≡ Some f →
           i < (setup_in (now start ms)).n →
           s < pinned_stripes (setup_in (now start ms)) (pinned_file (now start ms) f) →
           IsBad (now start ms) f.profile f.id i s →
           IsReplaced scrub.begun i (m ∷ ms) ⊎ ⊥
-      clear q f i s h l k bad = elim (C.left (pinned_file (now start ms) f) i s (C.all q f h) l k bad) [
-        | inl r ↦ inl (since_more scrub.begun i m ms r)
-        | inr (inl w) ↦ absurd (none_left (Work f.id s) (λ e. (let z : Work f.id s ≡ End = e in cc)) w)
-        | inr (inr st) ↦ absurd
-            (none_left (Store i f.id s) (λ e. (let z : Store i f.id s ≡ End = e in cc)) st)
+      clear q f i s h l k (block, told, wrong) = elim (swept q f i s block h l k told) [
+        | inl own ↦ absurd (right_block (file_object (now start ms) f) ((now start ms).bytes f.id) i s
+            (subst (λ y. is_wrong_block (file_object (now start ms) f) ((now start ms).bytes f.id) i s y
+            ≡ true) own wrong))
+        | inr r ↦ inl (since_more scrub.begun i m ms r)
       ]
 
   by_alone : (x : Option Alone) → (now start ms).alone ≡ x → (a : ℕ) (xs ys : List ℕ) →
-      m.outcome ≡ Ended (answer.Scrubbed a xs ys) → IsMark start (m ∷ ms) (scrub_begun x (scrubbed start ms))
+      m.outcome ≡ Ended (answer.Scrubbed a xs ys) → Since start (m ∷ ms) (scrub_begun x (scrubbed start ms))
   by_alone None at a xs ys is = stays
   by_alone (Some (Packing pack)) at a xs ys is = stays
   by_alone (Some (Scrubbing scrub)) at a xs ys is = finished scrub at
@@ -210,13 +261,14 @@ module _ (limit : ℕ) (start : State) (m : Moment) (ms : List Moment) (clean : 
       (subst (λ r. Happens limit (length ms) (now start ms) m.event r m.state) is run.1))
 
   by_outcome : (r : Outcome) → m.outcome ≡ r →
-      IsMark start (m ∷ ms) (mark_scrubbed (now start ms).alone r (scrubbed start ms))
+      Since start (m ∷ ms) (mark_scrubbed (now start ms).alone r (scrubbed start ms))
   by_outcome (Ended (answer.Scrubbed a xs ys)) is = by_alone (now start ms).alone refl a xs ys is
   by_outcome r is = stays
 
   sweep_step : Sweep start (m ∷ ms)
-  sweep_step = (let A = all limit start clean ms run.2 in record {
-    marks = (by_outcome m.outcome refl, W.marks);
+  sweep_step = (let A = all limit start clean ms run.2 in let since = by_outcome m.outcome refl in record {
+    marks = (since.0, W.marks);
+    owns = since.1;
     scrubs = scrub_on limit (scrubbed start) start m ms clean tell run calm_scrubs
         (mark_now (scrubbed start) start ms W.marks) W.scrubs;
     swept = swept_step limit (scrubbed start) start m ms A (eff.facts limit start ms clean run.2)
@@ -233,6 +285,7 @@ sweep limit start clean tell [] run calm scrubs = record {
   marks = start_moment start clean;
   scrubs = λ scrub h. absurd (some-not-none start.alone (Scrubbing scrub) h clean.none_alone);
   swept = λ scrub h. absurd (some-not-none start.alone (Scrubbing scrub) h clean.none_alone);
+  owns = λ q f i s block h l k unreplaced told. absurd (no_first_file start.records q f clean.records h);
 }
 sweep limit start clean tell (m ∷ ms) run calm scrubs =
     sweep_step limit start m ms clean tell run calm.1 scrubs.1
@@ -256,6 +309,43 @@ pub half_by_scrubs : (limit : ℕ) (start : State) (ms : List Moment) → IsStar
 half_by_scrubs limit start ms clean tell run h = half_by_mark limit
     (scrubbed start) start clean tell ms run h.jobs
     (sweep limit start clean tell ms run h.jobs h.scrubs).marks
+
+-- own columns stay so at each later moment
+owns_later : (limit : ℕ) (start : State) → IsStart start → AllTell start → (before later : List Moment) →
+    IsRun limit start (later ++ before) → IsCalm relies (scrubbed start) (later ++ before) →
+    AreScrubsCalm (scrubbed start) (later ++ before) →
+    PrecedesPuts start (later ++ before) (scrubbed start before) ×
+    Owns start (later ++ before) (scrubbed start before)
+owns_later limit start clean tell before [] run calm scrubs =
+    (let S = sweep limit start clean tell before run calm scrubs in
+    ((mark_now (scrubbed start) start before S.marks).before, S.owns))
+owns_later limit start clean tell before (m ∷ later) run calm scrubs =
+    (let P = owns_later limit start clean tell before later run.2 calm.1 scrubs.1 in
+    let h : IsScrubCalm start (later ++ before) = record { jobs = calm.1; scrubs = scrubs.1 } in (
+      before_stays limit start m (later ++ before) (scrubbed start before) clean run P.0,
+      owns_stay limit (scrubbed start) start m (later ++ before)
+          (scrub_marked limit start (later ++ before) clean tell run.2 h) scrubs.1 run
+          (scrubbed start before) P.0 P.1,
+    ))
+
+-- each provider that was not replaced since the begin of a finished scrub holds its own columns
+pub exact_by_scrubs : (limit : ℕ) (start : State) (later before : List Moment) → IsStart start →
+    AllTell start → IsRun limit start (later ++ before) → IsScrubCalm start (later ++ before) →
+    IsExact start (later ++ before) (scrubbed start before)
+exact_by_scrubs limit start later before clean tell run h q f i s in_effect l k unreplaced =
+    by_told ((now start (later ++ before)).providers i).held refl
+    (all_tell limit start (later ++ before) tell run i)
+  where
+    by_told : (x : Option Held) → ((now start (later ++ before)).providers i).held ≡ x → IsSome x →
+        told_block (now start (later ++ before)) i f.id s
+        ≡ Some (Some (columns (file_object (now start (later ++ before)) f)
+        ((now start (later ++ before)).bytes f.id) i s))
+    by_told None is some = absurd (false≢true some)
+    by_told (Some held) is some =
+        (let told : told_block (now start (later ++ before)) i f.id s ≡ Some (held f.id s) =
+        ap (option_map (λ (y : Held). y f.id s)) is in
+        told ∙ ap Some ((owns_later limit start clean tell before later run h.jobs h.scrubs).1 q f i s
+        (held f.id s) in_effect l k unreplaced told))
 
 -- ---- where no scrub begins
 

@@ -30,6 +30,7 @@ use Rattle.second_half_laws.proofs.EveryRun as ev
 use Rattle.second_half_laws.proofs.EveryRun.{always}
 use Rattle.second_half_laws.proofs.Points.{Facts, rows_right}
 use Rattle.second_half_laws.proofs.ScrubFacts.{scrubs_right}
+use Rattle.second_half_laws.proofs.Exact.{Owns, owns_on}
 use Rattle.second_half_laws.proofs.SecondHalf.{start_moment, Both, both, marked_facts, marked_scrubs, are_marks}
 
 -- in a run that is calm by a mark all that hangs on the mark holds
@@ -111,6 +112,19 @@ mark_stays limit mark start m ms h scrubs run from P = (let A = all limit start 
     (rows_right mark start ms (in_run limit mark start ms h))
     (scrubs_right mark start ms A (marked_scrubs limit mark start h.clean h.tell ms run.2 scrubs h.marks))
     from P)
+
+-- own columns stay so, since a moment before which no put began that works
+pub owns_stay : (limit : ℕ) (mark : Mark) (start : State) (m : Moment) (ms : List Moment) →
+    IsMarkedRun limit mark start ms → AreScrubsCalm mark ms → IsRun limit start (m ∷ ms) → (from : ℕ) →
+    PrecedesPuts start ms from → Owns start ms from → Owns start (m ∷ ms) from
+owns_stay limit mark start m ms h scrubs run from P owns = (let A = all limit start h.clean ms run.2 in
+    owns_on limit start m ms h.clean run.2 A (num.facts audits limit start h.clean ms run.2)
+    (eff.facts limit start ms h.clean run.2) (always limit start h.clean ms run.2)
+    (changes limit (length ms) (now start ms) m.event m.outcome m.state A.numbers.idle run.1)
+    (turns (now start ms) limit (length ms) m.event m.outcome m.state run.1)
+    (rows_right mark start ms (in_run limit mark start ms h))
+    (scrubs_right mark start ms A (marked_scrubs limit mark start h.clean h.tell ms run.2 scrubs h.marks))
+    from P owns)
 
 -- where a put's end comes into effect
 pub came_columns : (limit : ℕ) (start : State) (m : Moment) (ms : List Moment) (r : Record)

@@ -27,6 +27,7 @@ pub mod MovePlaces
 pub mod Files
 pub mod EveryRun
 pub mod Points
+pub mod Exact
 pub mod Audits
 pub mod Readers
 pub mod ScrubFacts

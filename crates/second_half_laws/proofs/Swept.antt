@@ -1,5 +1,5 @@
--- What a scrub has swept: of a stripe that it has opened and rewritten, each provider with a bad block was
--- replaced since the scrub's begin.
+-- What a scrub has swept: of a stripe that it has opened and rewritten, each provider holds its own column, or
+-- was replaced since the scrub's begin.
 use Rattle.std.proofs.Common.{◌≡◌, ℕ, zero, suc, ◌≤◌, ◌<◌, ◌==◌, Bool, true, false, cond, ◌⊎◌, List, [], ◌∷◌, ◌++◌, length, Option, Some, None, refl, ap, sym, subst, ◌∙◌, inl, inr, arith}
 use Rattle.std.specs.List.{flat_map}
 use Rattle.std.proofs.lemmas.Bool.{cases_Bool, eqb-true, false≢true}
@@ -10,7 +10,7 @@ use Rattle.code_defs.specs.Profiles.{profile_of}
 use Rattle.code_defs.specs.ServerCode.{differences}
 use Rattle.column_defs.specs.Objects.{Object}
 use Rattle.column_defs.specs.Opened.{GivesSymbols}
-use Rattle.column_defs.specs.Columns.{columns, column_of_symbols, is_wrong_block}
+use Rattle.column_defs.specs.Columns.{columns, column_of_symbols}
 use Rattle.column_defs.proofs.ColumnLaws.{length-column_of_symbols}
 use Rattle.record_defs.specs.Records.{Setup}
 use Rattle.record_defs.specs.Table.{File, setup_of, file_of}
@@ -34,12 +34,12 @@ use Rattle.machine_defs.proofs.PinFacts.{setup_same}
 use Rattle.machine_defs.proofs.Held.{All, replaced_before}
 use Rattle.run_laws.proofs.InEffect as eff
 use Rattle.second_half_laws.proofs.Lists.{in_upto}
-use Rattle.second_half_laws.specs.Damage.{IsBad, IsReplaced}
+use Rattle.second_half_laws.specs.Damage.{IsReplaced}
 use Rattle.second_half_laws.proofs.Scrubbing.{Beside, Scrub_goes, Scrub_is}
-use Rattle.second_half_laws.proofs.Blocks.{since_more, since_now, right_block, telling}
+use Rattle.second_half_laws.proofs.Blocks.{since_more, since_now, telling}
 use Rattle.second_half_laws.proofs.Files.{all_pinned}
 use Rattle.second_half_laws.proofs.Readers.{block_in}
-use Rattle.second_half_laws.proofs.ScrubFacts.{scrub_mark, Scrubbed, same_scrub, object_is, right, bad_was, opened_right}
+use Rattle.second_half_laws.proofs.ScrubFacts.{scrub_mark, Scrubbed, same_scrub, object_is, right, opened_right}
 
 -- ---- lists of actions
 
@@ -142,9 +142,11 @@ pub record Swept (start : State) (ms : List Moment) (scrub : Scrub) : Type 0 whe
       told_block (now start ms) i f.id s ≡ Some b →
       (sized (pinned_object (now start ms) f).profile.size b ≡ Some block) ⊎
       (b ≡ Some (columns (pinned_object (now start ms) f) ((now start ms).bytes f.id) i s))
-  pub left : (f : Pinned) (i s : ℕ) → In f scrub.files → i < (setup_in (now start ms)).n →
-      s < pinned_stripes (setup_in (now start ms)) f → IsBad (now start ms) f.profile f.id i s →
-      IsReplaced scrub.begun i ms ⊎ (In (Work f.id s) scrub.todo ⊎ In (Store i f.id s) scrub.todo)
+  pub left : (f : Pinned) (i s : ℕ) (block : Option (List ℕ)) → In f scrub.files →
+      i < (setup_in (now start ms)).n → s < pinned_stripes (setup_in (now start ms)) f →
+      told_block (now start ms) i f.id s ≡ Some block →
+      (block ≡ Some (columns (pinned_object (now start ms) f) ((now start ms).bytes f.id) i s)) ⊎
+      (IsReplaced scrub.begun i ms ⊎ (In (Work f.id s) scrub.todo ⊎ In (Store i f.id s) scrub.todo))
   pub ended : IsEnded scrub.todo
 
 module _ (limit : ℕ) (mark : Mark) (start : State) (m : Moment) (ms : List Moment) (A : All start ms)
@@ -187,26 +189,39 @@ module _ (limit : ℕ) (mark : Mark) (start : State) (m : Moment) (ms : List Mom
     Seen f i s block c = (sized (pinned_object (now start ms) f).profile.size c ≡ Some block) ⊎
         (c ≡ Some (columns (pinned_object (now start ms) f) ((now start ms).bytes f.id) i s))
 
+    -- the block is the provider's own column after the event
+    abbrev Own : Pinned → ℕ → ℕ → Option (List ℕ) → Type 0
+    Own f i s block = block ≡ Some (columns (pinned_object m.state f) (m.state.bytes f.id) i s)
+
+    -- so it is, or its provider was replaced, or the stripe is still to do
+    abbrev Left : List Action → Pinned → ℕ → ℕ → Option (List ℕ) → Type 0
+    Left todo f i s block = Own f i s block ⊎
+        (IsReplaced scrub.begun i (m ∷ ms) ⊎ (In (Work f.id s) todo ⊎ In (Store i f.id s) todo))
+
+    -- of each block that the event leaves as it was
+    abbrev Leaves : List Action → Type 0
+    Leaves todo = (f : Pinned) (i s : ℕ) (block : Option (List ℕ)) → In f scrub.files →
+        i < (setup_in (now start ms)).n → s < pinned_stripes (setup_in (now start ms)) f →
+        told_block m.state i f.id s ≡ Some block → told_block (now start ms) i f.id s ≡ Some block →
+        Left todo f i s block
+
     sweeps : (next : Scrub) → next.files ≡ scrub.files → next.begun ≡ scrub.begun →
         ((f : Pinned) (i s : ℕ) (block : List ℕ) (c : Option (List ℕ)) → In f scrub.files →
         In (Fetched i f.id s (Some block)) next.given → is_replaced_since scrub.begun i ms ≡ false →
         told_block (now start ms) i f.id s ≡ Some c → Seen f i s block c) →
-        ((f : Pinned) (i s : ℕ) → In f scrub.files → i < (setup_in (now start ms)).n →
-        s < pinned_stripes (setup_in (now start ms)) f → IsBad m.state f.profile f.id i s →
-        IsBad (now start ms) f.profile f.id i s →
-        IsReplaced scrub.begun i (m ∷ ms) ⊎ (In (Work f.id s) next.todo ⊎ In (Store i f.id s) next.todo)) →
-        IsEnded next.todo → Swept start (m ∷ ms) next
+        Leaves next.todo → IsEnded next.todo → Swept start (m ∷ ms) next
     sweeps next files begun seen left ended = record {
       all = λ q f h. subst (In (pinned_file m.state f)) (sym files)
           (subst (λ (x : Pinned). In x scrub.files) (file_is f)
           (C.all q f (ap (λ rs. file_of rs q) (sym b.records) ∙ h)));
       seen = λ f i s block c in_f given unreplaced told. see f i s block c (subst (In f) files in_f) given
           (subst (λ n. is_replaced_since n i (m ∷ ms) ≡ false) begun unreplaced) told;
-      left = λ f i s in_f l k bad. subst
-          (λ n. IsReplaced n i (m ∷ ms) ⊎ (In (Work f.id s) next.todo ⊎ In (Store i f.id s) next.todo))
+      left = λ f i s block in_f l k told. subst
+          (λ n. Own f i s block ⊎
+          (IsReplaced n i (m ∷ ms) ⊎ (In (Work f.id s) next.todo ⊎ In (Store i f.id s) next.todo)))
           (sym begun)
-          (leave f i s (subst (In f) files in_f) (subst (λ (t : Setup). i < t.n) setup l)
-          (subst (λ (t : Setup). s < pinned_stripes t f) setup k) bad);
+          (leave f i s block (subst (In f) files in_f) (subst (λ (t : Setup). i < t.n) setup l)
+          (subst (λ (t : Setup). s < pinned_stripes t f) setup k) told);
       ended = ended;
     }
       where
@@ -231,34 +246,38 @@ module _ (limit : ℕ) (mark : Mark) (start : State) (m : Moment) (ms : List Mom
           | Block_is.removed x runs next_is ↦ absurd (no_job x runs)
         ]
 
-        leave : (f : Pinned) (i s : ℕ) → In f scrub.files → i < (setup_in (now start ms)).n →
-            s < pinned_stripes (setup_in (now start ms)) f → IsBad m.state f.profile f.id i s →
-            IsReplaced scrub.begun i (m ∷ ms) ⊎ (In (Work f.id s) next.todo ⊎ In (Store i f.id s) next.todo)
-        leave f i s in_f l k bad =
-            elim (bad_was limit mark start m ms A I X tell none b f i s (mine f i s in_f) bad) [
-              | inl old ↦ left f i s in_f l k bad old
-              | inr r ↦ inl (since_now scrub.begun i m ms r K.begun)
-            ]
+        leave : (f : Pinned) (i s : ℕ) (block : Option (List ℕ)) → In f scrub.files →
+            i < (setup_in (now start ms)).n → s < pinned_stripes (setup_in (now start ms)) f →
+            told_block m.state i f.id s ≡ Some block → Left next.todo f i s block
+        leave f i s block in_f l k told = elim (X.block i f.id s) [
+          | Block_is.same e ↦ left f i s block in_f l k told (sym e ∙ told)
+          | Block_is.replaced r ↦ inr (inl (since_now scrub.begun i m ms r K.begun))
+          | Block_is.stored x runs next_is is ↦ absurd (no_job x runs)
+          | Block_is.scrubbed other rest at_other next_is is ↦
+              inl (some_told (block_to_scrub (now start ms) other i f.id s)
+              ((now start ms).providers i).held block (sym is ∙ told)
+              ∙ ap Some (mine f i s in_f other rest at_other next_is ∙ columns_are f i s))
+          | Block_is.removed x runs next_is ↦ absurd (no_job x runs)
+        ]
 
     -- where it was left before, with what is still to do
-    left_by : (f : Pinned) (i s : ℕ) (todo : List Action) → In f scrub.files →
-        i < (setup_in (now start ms)).n → s < pinned_stripes (setup_in (now start ms)) f →
-        IsBad (now start ms) f.profile f.id i s → scrub.todo ≡ todo →
-        (R : Type 0) → (IsReplaced scrub.begun i (m ∷ ms) → R) → (In (Work f.id s) todo → R) →
-        (In (Store i f.id s) todo → R) → R
-    left_by f i s todo in_f l k old is R replaced work store = elim (C.left f i s in_f l k old) [
-      | inl r ↦ replaced (since_more scrub.begun i m ms r)
-      | inr (inl w) ↦ work (subst (In (Work f.id s)) is w)
-      | inr (inr st) ↦ store (subst (In (Store i f.id s)) is st)
+    left_by : (f : Pinned) (i s : ℕ) (block : Option (List ℕ)) (todo rest : List Action) →
+        In f scrub.files → i < (setup_in (now start ms)).n →
+        s < pinned_stripes (setup_in (now start ms)) f → told_block (now start ms) i f.id s ≡ Some block →
+        scrub.todo ≡ todo → (In (Work f.id s) todo → Left rest f i s block) →
+        (In (Store i f.id s) todo → Left rest f i s block) → Left rest f i s block
+    left_by f i s block todo rest in_f l k old is work store = elim (C.left f i s block in_f l k old) [
+      | inl own ↦ inl (own ∙ ap Some (columns_are f i s))
+      | inr (inl r) ↦ inr (inl (since_more scrub.begun i m ms r))
+      | inr (inr (inl w)) ↦ work (subst (In (Work f.id s)) is w)
+      | inr (inr (inr st)) ↦ store (subst (In (Store i f.id s)) is st)
     ]
 
     -- nothing of the scrub changes
     swept_kept : Swept start (m ∷ ms) scrub
     swept_kept = sweeps scrub refl refl C.seen
-        (λ f i s in_f l k bad old. left_by f i s scrub.todo in_f l k old refl
-        (IsReplaced scrub.begun i (m ∷ ms) ⊎
-        (In (Work f.id s) scrub.todo ⊎ In (Store i f.id s) scrub.todo)) (λ r. inl r)
-        (λ w. inr (inl w)) (λ st. inr (inr st)))
+        (λ f i s block in_f l k told old. left_by f i s block scrub.todo scrub.todo in_f l k old refl
+        (λ w. inr (inr (inl w))) (λ st. inr (inr (inr st))))
         C.ended
 
     swept_stored : (i o s : ℕ) (rest : List Action) → scrub.todo ≡ Store i o s ∷ rest →
@@ -272,35 +291,28 @@ module _ (limit : ℕ) (mark : Mark) (start : State) (m : Moment) (ms : List Mom
         Told a p q = (c : Option (List ℕ)) → told_block m.state a p q ≡ Some c →
             c ≡ Some (block_to_scrub (now start ms) scrub a p q)
 
-        stored_now : (f : Pinned) (j t : ℕ) → In f scrub.files → j ≡ i → f.id ≡ o → t ≡ s →
-            scrub.todo ≡ Store j f.id t ∷ rest → IsBad m.state f.profile f.id j t → ⊥
-        stored_now f j t in_f ji fo ts next_is (block, told_b, wrong) =
+        stored_now : (f : Pinned) (j t : ℕ) (block : Option (List ℕ)) → In f scrub.files → j ≡ i →
+            f.id ≡ o → t ≡ s → scrub.todo ≡ Store j f.id t ∷ rest →
+            told_block m.state j f.id t ≡ Some block → Own f j t block
+        stored_now f j t block in_f ji fo ts next_is told_b =
             (let own : Told j f.id t = subst (λ a. Told a f.id t) (sym ji)
             (subst (λ p. Told i p t) (sym fo) (subst (λ q. Told i o q) (sym ts) told)) in
-            right_block (pinned_object m.state f) (m.state.bytes f.id) j t
-            (subst (λ y. is_wrong_block (pinned_object m.state f) (m.state.bytes f.id) j t y ≡ true)
-            (own block told_b ∙ ap Some (right mark start ms A scrub K f rest j t in_f next_is
-            ∙ columns_are f j t)) wrong))
+            own block told_b ∙ ap Some (right mark start ms A scrub K f rest j t in_f next_is
+            ∙ columns_are f j t))
 
-        leave : (f : Pinned) (j t : ℕ) → In f scrub.files → j < (setup_in (now start ms)).n →
-            t < pinned_stripes (setup_in (now start ms)) f → IsBad m.state f.profile f.id j t →
-            IsBad (now start ms) f.profile f.id j t →
-            IsReplaced scrub.begun j (m ∷ ms) ⊎ (In (Work f.id t) rest ⊎ In (Store j f.id t) rest)
-        leave f j t in_f l k bad old = left_by f j t (Store i o s ∷ rest) in_f l k old todo
-            (IsReplaced scrub.begun j (m ∷ ms) ⊎ (In (Work f.id t) rest ⊎ In (Store j f.id t) rest))
-            (λ r. inl r) by_work by_store
+        leave : Leaves rest
+        leave f j t block in_f l k new old = left_by f j t block (Store i o s ∷ rest) rest in_f l k old todo
+            by_work by_store
           where
-            by_work : In (Work f.id t) (Store i o s ∷ rest) →
-                IsReplaced scrub.begun j (m ∷ ms) ⊎ (In (Work f.id t) rest ⊎ In (Store j f.id t) rest)
+            by_work : In (Work f.id t) (Store i o s ∷ rest) → Left rest f j t block
             by_work (inl e) = absurd (let z : Work f.id t ≡ Store i o s = e in cc)
-            by_work (inr h) = inr (inl h)
+            by_work (inr h) = inr (inr (inl h))
 
-            by_store : In (Store j f.id t) (Store i o s ∷ rest) →
-                IsReplaced scrub.begun j (m ∷ ms) ⊎ (In (Work f.id t) rest ⊎ In (Store j f.id t) rest)
-            by_store (inl e) = absurd (let z : Store j f.id t ≡ Store i o s = e in let ji : j ≡ i = cc in
+            by_store : In (Store j f.id t) (Store i o s ∷ rest) → Left rest f j t block
+            by_store (inl e) = (let z : Store j f.id t ≡ Store i o s = e in let ji : j ≡ i = cc in
                 let fo : f.id ≡ o = cc in let ts : t ≡ s = cc in
-                stored_now f j t in_f ji fo ts (todo ∙ ap (λ a. a ∷ rest) (sym z)) bad)
-            by_store (inr h) = inr (inr h)
+                inl (stored_now f j t block in_f ji fo ts (todo ∙ ap (λ a. a ∷ rest) (sym z)) new))
+            by_store (inr h) = inr (inr (inr h))
 
     swept_fetched : (i o s : ℕ) (rest : List Action) (block : Option (List ℕ)) →
         scrub.todo ≡ Fetch i o s ∷ rest →
@@ -343,23 +355,17 @@ module _ (limit : ℕ) (mark : Mark) (start : State) (m : Moment) (ms : List Mom
             (Some c)) (object_is mark start ms A scrub K f in_f) (newest f j t c ji fo ts cb got)) in
             inl (ap (sized (pinned_object (now start ms) f).profile.size) (sym h.2) ∙ sym gives))
 
-        leave : (f : Pinned) (j t : ℕ) → In f scrub.files → j < (setup_in (now start ms)).n →
-            t < pinned_stripes (setup_in (now start ms)) f → IsBad m.state f.profile f.id j t →
-            IsBad (now start ms) f.profile f.id j t →
-            IsReplaced scrub.begun j (m ∷ ms) ⊎ (In (Work f.id t) rest ⊎ In (Store j f.id t) rest)
-        leave f j t in_f l k bad old = left_by f j t (Fetch i o s ∷ rest) in_f l k old todo
-            (IsReplaced scrub.begun j (m ∷ ms) ⊎ (In (Work f.id t) rest ⊎ In (Store j f.id t) rest))
-            (λ r. inl r) by_work by_store
+        leave : Leaves rest
+        leave f j t block in_f l k new old = left_by f j t block (Fetch i o s ∷ rest) rest in_f l k old todo
+            by_work by_store
           where
-            by_work : In (Work f.id t) (Fetch i o s ∷ rest) →
-                IsReplaced scrub.begun j (m ∷ ms) ⊎ (In (Work f.id t) rest ⊎ In (Store j f.id t) rest)
+            by_work : In (Work f.id t) (Fetch i o s ∷ rest) → Left rest f j t block
             by_work (inl e) = absurd (let z : Work f.id t ≡ Fetch i o s = e in cc)
-            by_work (inr h) = inr (inl h)
+            by_work (inr h) = inr (inr (inl h))
 
-            by_store : In (Store j f.id t) (Fetch i o s ∷ rest) →
-                IsReplaced scrub.begun j (m ∷ ms) ⊎ (In (Work f.id t) rest ⊎ In (Store j f.id t) rest)
+            by_store : In (Store j f.id t) (Fetch i o s ∷ rest) → Left rest f j t block
             by_store (inl e) = absurd (let z : Store j f.id t ≡ Fetch i o s = e in cc)
-            by_store (inr h) = inr (inr h)
+            by_store (inr h) = inr (inr (inr h))
 
     -- a stripe that the scrub opened just now
     module _ (calm : replaced_count (now start ms) (scrub_mark mark ms scrub)
@@ -375,13 +381,14 @@ module _ (limit : ℕ) (mark : Mark) (start : State) (m : Moment) (ms : List Mom
           absurd (let z : Fetched j f.id t (Some c) ≡ Worked o s symbols = e in cc)
       seen f j t c d in_f (inr old) unreplaced told = C.seen f j t c d in_f old unreplaced told
 
-      -- a block that does not differ is right
-      same_block : (f : Pinned) (j t : ℕ) → In f scrub.files →
+      -- a block that does not differ is the provider's own column
+      same_block : (f : Pinned) (j t : ℕ) (block : Option (List ℕ)) → In f scrub.files →
           t < pinned_stripes (setup_in (now start ms)) f → f.id ≡ o → t ≡ s →
           (off_by (now start ms) scrub f.id t symbols j == 0) ≡ true →
           is_replaced_since scrub.begun j ms ≡ false →
-          IsBad (now start ms) f.profile f.id j t → ⊥
-      same_block f j t in_f k fo ts off unreplaced (block, told, wrong) =
+          told_block (now start ms) j f.id t ≡ Some block →
+          block ≡ Some (columns (pinned_object (now start ms) f) ((now start ms).bytes f.id) j t)
+      same_block f j t block in_f k fo ts off unreplaced told =
           by_given (block_given scrub.given f.id t j) refl
           (eqb-true (off_by (now start ms) scrub f.id t symbols j) 0 off)
         where
@@ -406,16 +413,11 @@ module _ (limit : ℕ) (mark : Mark) (start : State) (m : Moment) (ms : List Mom
               (object_is mark start ms A scrub K f in_f)
               ∙ length-column_of_symbols (pinned_object (now start ms) f) symbols j t
 
-          as_column : block ≡ Some
-              (columns (pinned_object (now start ms) f) ((now start ms).bytes f.id) j t) → ⊥
-          as_column e = right_block (pinned_object (now start ms) f) ((now start ms).bytes f.id) j t
-              (subst (λ y. is_wrong_block (pinned_object (now start ms) f) ((now start ms).bytes f.id) j t y
-              ≡ true) e wrong)
-
           by_given : (g : Option (List ℕ)) → block_given scrub.given f.id t j ≡ g →
               differs (block_given scrub.given f.id t j)
-              (column_of_symbols (scrubbed_object (now start ms) scrub f.id) symbols j t) ≡ 0 → ⊥
-          by_given None is h = (let z : differs None
+              (column_of_symbols (scrubbed_object (now start ms) scrub f.id) symbols j t) ≡ 0 →
+              block ≡ Some (columns (pinned_object (now start ms) f) ((now start ms).bytes f.id) j t)
+          by_given None is h = absurd (let z : differs None
               (column_of_symbols (scrubbed_object (now start ms) scrub f.id) symbols j t) ≡ 0 =
               subst (λ g. differs g
               (column_of_symbols (scrubbed_object (now start ms) scrub f.id) symbols j t) ≡ 0) is h in
@@ -429,55 +431,42 @@ module _ (limit : ℕ) (mark : Mark) (start : State) (m : Moment) (ms : List Mom
               elim (C.seen f j t c block in_f (block_in scrub.given f.id t j c is) unreplaced told) [
                 | inl whole ↦ (let p =
                     sized_is (pinned_object (now start ms) f).profile.size block c whole in
-                    as_column (p.0 ∙ ap Some
+                    p.0 ∙ ap Some
                     (places_same c (column_of_symbols (scrubbed_object (now start ms) scrub f.id)
-                    symbols j t) (p.1 ∙ sym size_is) z ∙ column_is)))
-                | inr e ↦ as_column e
+                    symbols j t) (p.1 ∙ sym size_is) z ∙ column_is))
+                | inr e ↦ e
               ])
 
-      leave : (f : Pinned) (j t : ℕ) → In f scrub.files → j < (setup_in (now start ms)).n →
-          t < pinned_stripes (setup_in (now start ms)) f → IsBad m.state f.profile f.id j t →
-          IsBad (now start ms) f.profile f.id j t →
-          IsReplaced scrub.begun j (m ∷ ms) ⊎
-          (In (Work f.id t) (scrub_stores (now start ms) scrub o s symbols ++ rest) ⊎
-          In (Store j f.id t) (scrub_stores (now start ms) scrub o s symbols ++ rest))
-      leave f j t in_f l k bad old = left_by f j t (Work o s ∷ rest) in_f l k old todo
-          (IsReplaced scrub.begun j (m ∷ ms) ⊎
-          (In (Work f.id t) (scrub_stores (now start ms) scrub o s symbols ++ rest) ⊎
-          In (Store j f.id t) (scrub_stores (now start ms) scrub o s symbols ++ rest)))
-          (λ r. inl r) by_work by_store
+      leave : Leaves (scrub_stores (now start ms) scrub o s symbols ++ rest)
+      leave f j t block in_f l k new old = left_by f j t block (Work o s ∷ rest)
+          (scrub_stores (now start ms) scrub o s symbols ++ rest) in_f l k old todo by_work by_store
         where
-          now_open : f.id ≡ o → t ≡ s → IsReplaced scrub.begun j (m ∷ ms) ⊎
-              (In (Work f.id t) (scrub_stores (now start ms) scrub o s symbols ++ rest) ⊎
-              In (Store j f.id t) (scrub_stores (now start ms) scrub o s symbols ++ rest))
+          now_open : f.id ≡ o → t ≡ s → Left (scrub_stores (now start ms) scrub o s symbols ++ rest) f j t block
           now_open fo ts = elim (cases_Bool (off_by (now start ms) scrub f.id t symbols j == 0)) [
             | inl off ↦ elim (cases_Bool (is_replaced_since scrub.begun j ms)) [
-              | inl r ↦ inl (since_more scrub.begun j m ms r)
-              | inr unreplaced ↦ absurd (same_block f j t in_f k fo ts off unreplaced old)
+              | inl r ↦ inr (inl (since_more scrub.begun j m ms r))
+              | inr unreplaced ↦ inl (same_block f j t block in_f k fo ts off unreplaced old
+                  ∙ ap Some (columns_are f j t))
             ]
-            | inr off ↦ inr (inr (in_left (scrub_stores (now start ms) scrub o s symbols) rest
+            | inr off ↦ inr (inr (inr (in_left (scrub_stores (now start ms) scrub o s symbols) rest
                 (Store j f.id t)
                 (subst (λ q. In (Store j f.id t) (scrub_stores (now start ms) scrub o q symbols)) ts
                 (subst (λ p. In (Store j f.id t) (scrub_stores (now start ms) scrub p t symbols)) fo
-                (in_stores (now start ms) scrub f.id t symbols j l off)))))
+                (in_stores (now start ms) scrub f.id t symbols j l off))))))
           ]
 
           by_work : In (Work f.id t) (Work o s ∷ rest) →
-              IsReplaced scrub.begun j (m ∷ ms) ⊎
-              (In (Work f.id t) (scrub_stores (now start ms) scrub o s symbols ++ rest) ⊎
-              In (Store j f.id t) (scrub_stores (now start ms) scrub o s symbols ++ rest))
+              Left (scrub_stores (now start ms) scrub o s symbols ++ rest) f j t block
           by_work (inl e) = (let z : Work f.id t ≡ Work o s = e in let fo : f.id ≡ o = cc in
               let ts : t ≡ s = cc in now_open fo ts)
-          by_work (inr h) = inr
-              (inl (in_right (scrub_stores (now start ms) scrub o s symbols) rest (Work f.id t) h))
+          by_work (inr h) = inr (inr
+              (inl (in_right (scrub_stores (now start ms) scrub o s symbols) rest (Work f.id t) h)))
 
           by_store : In (Store j f.id t) (Work o s ∷ rest) →
-              IsReplaced scrub.begun j (m ∷ ms) ⊎
-              (In (Work f.id t) (scrub_stores (now start ms) scrub o s symbols ++ rest) ⊎
-              In (Store j f.id t) (scrub_stores (now start ms) scrub o s symbols ++ rest))
+              Left (scrub_stores (now start ms) scrub o s symbols ++ rest) f j t block
           by_store (inl e) = absurd (let z : Store j f.id t ≡ Work o s = e in cc)
-          by_store (inr h) = inr
-              (inr (in_right (scrub_stores (now start ms) scrub o s symbols) rest (Store j f.id t) h))
+          by_store (inr h) = inr (inr
+              (inr (in_right (scrub_stores (now start ms) scrub o s symbols) rest (Store j f.id t) h)))
 
       swept_worked : Swept start (m ∷ ms) (opened_scrub (now start ms) scrub o s rest symbols)
       swept_worked =
@@ -500,9 +489,9 @@ module _ (limit : ℕ) (mark : Mark) (start : State) (m : Moment) (ms : List Mom
     all = λ q f h. subst (λ (x : Pinned). In x (new_scrub (now start ms) (length ms)).files) (file_is f)
         (all_pinned (now start ms) q f (ap (λ rs. file_of rs q) (sym b.records) ∙ h));
     seen = λ f i s block c in_f given unreplaced told. absurd given;
-    left = λ f i s in_f l k bad. inr
+    left = λ f i s block in_f l k told. inr (inr
         (inl (first_work (setup_in (now start ms)) (new_scrub (now start ms) (length ms)).files f s in_f
-        (subst (λ (t : Setup). s < pinned_stripes t f) setup k)));
+        (subst (λ (t : Setup). s < pinned_stripes t f) setup k))));
     ended = first_ended (setup_in (now start ms)) (new_scrub (now start ms) (length ms)).files;
   })
 

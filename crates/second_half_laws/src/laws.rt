@@ -36,7 +36,7 @@ ghost use Rattle.second_half_laws.specs.Stays.{IsScrubbed, Stays};
 ghost use Rattle.second_half_laws.specs.Fetching.{GaveFetched};
 ghost use Rattle.second_half_laws.specs.Origins.{CameOf};
 ghost use Rattle.second_half_laws.specs.Made.{WasMade};
-ghost use Rattle.second_half_laws.specs.Own.{own_blocks};
+ghost use Rattle.second_half_laws.specs.Own.{own_blocks, IsExact};
 ghost use Rattle.second_half_laws.specs.Gave.{WasFetched, WasAsked, WasOpened};
 ghost use Rattle.second_half_laws.specs.Skips.{SkipsRemovals};
 ghost use Rattle.second_half_laws.specs.Whole.{PutIsWhole, RepairIsWhole, AuditIsWhole};
@@ -603,12 +603,17 @@ pub fn audited_files_stay_in_doubt()
 
 /// A finished scrub is a mark as well: in a run of providers that tell what they hold, calm counted from
 /// finished scrubs for gets, repairs and scrubs, the begin of the last scrub that ended Ok is at each moment
-/// a mark, and the second half holds, whatever audits missed.
+/// a mark, and the second half holds, whatever audits missed; and at each moment from the scrub's end on, each
+/// provider that was not replaced since that begin holds its own column exactly, of each stripe of each file
+/// in effect.
 pub fn finished_scrubs_are_marks()
     ensures marks { (limit : ℕ) (start : State) (ms : List Moment) → IsStart start → AllTell start
         → IsRun limit start ms → IsScrubCalm start ms → IsMarkedRun limit (scrubbed start) start ms }
     ensures half { (limit : ℕ) (start : State) (ms : List Moment) → IsStart start → AllTell start
         → IsRun limit start ms → IsScrubCalm start ms → SecondHalf start ms }
+    ensures exact { (limit : ℕ) (start : State) (later ms : List Moment) → IsStart start → AllTell start
+        → IsRun limit start (later ++ ms) → IsScrubCalm start (later ++ ms)
+        → IsExact start (later ++ ms) (scrubbed start ms) }
 {}
 
 /// Where no scrub begins, calm scrubs ask nothing.
