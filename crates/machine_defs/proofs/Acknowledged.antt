@@ -25,7 +25,7 @@ use Rattle.machine_defs.proofs.PutProfiles as prof
 use Rattle.machine_defs.proofs.Held.{all}
 
 -- the action of a put behind its stores and three moves is the fourth move
-gate_at : (w : State) (job : Job) (name bytes : List ℕ) (action : Action) → job.kind ≡ PutJob name bytes →
+pub gate_at : (w : State) (job : Job) (name bytes : List ℕ) (action : Action) → job.kind ≡ PutJob name bytes →
     job.place ≡ 7 + stores_count w job bytes → next_action w job ≡ Some action → action ≡ SyncGate
 gate_at w job name bytes action kind place h = elim (put_next w job name bytes action kind h) [
   | PutAt.first l e ↦ absurd (omega arith)
@@ -37,7 +37,7 @@ gate_at w job name bytes action kind place h = elim (put_next w job name bytes a
 ]
 
 -- its end stands behind its second append
-end_place : (w : State) (job : Job) (name bytes : List ℕ) → job.kind ≡ PutJob name bytes →
+pub end_place : (w : State) (job : Job) (name bytes : List ℕ) → job.kind ≡ PutJob name bytes →
     next_action w job ≡ Some End → 8 + stores_count w job bytes ≤ job.place
 end_place w job name bytes kind h = elim (put_next w job name bytes End kind h) [
   | PutAt.first l e ↦ absurd (no_end job.place e)

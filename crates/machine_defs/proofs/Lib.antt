@@ -30,3 +30,5 @@ pub mod Acknowledged
 pub mod Stripes
 pub mod Gets
 pub mod Reports
+pub mod Began
+pub mod Untouched

@@ -19,7 +19,8 @@ begun = record {
   state = state_2;
 } ∷ record { event = Reopen; outcome = Opened; state = state_1 } ∷ []
 
-abbrev steps : List Moment
+-- the steps of the put, but for its end
+abbrev pub steps : List Moment
 steps = stepped 1 state_14 ∷ stepped 1 state_13 ∷ stepped 1 state_12 ∷ stepped 1 state_11 ∷ stepped 1
     state_10 ∷ stepped 1 state_9 ∷ stepped 1 state_8 ∷ stepped 1 state_7 ∷ stepped 1 state_6 ∷ stepped 1
     state_5 ∷ stepped 1 state_4 ∷ stepped 1 state_3 ∷ []

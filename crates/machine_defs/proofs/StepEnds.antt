@@ -67,7 +67,7 @@ module _ (old : State) (job : Job) (new : State) where
   packs_fail pack (suc (suc (suc (suc zero)))) (answer.Packed before after) h = tt
   packs_fail pack moves how h = absurd h
 
-  alone_fails : (x : Alone) (how : Answer) → StepsAlone old x (Ended how) new → HasFailed how
+  pub alone_fails : (x : Alone) (how : Answer) → StepsAlone old x (Ended how) new → HasFailed how
   alone_fails (Scrubbing scrub) how h = todo_fails scrub scrub.todo how h
   alone_fails (Packing pack) how h = packs_fail pack pack.moves how h
 

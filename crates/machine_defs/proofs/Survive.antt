@@ -15,7 +15,7 @@ use Rattle.machine_defs.proofs.Done.{put_ended, profile_done, done-ended, done-f
 use Rattle.record_defs.proofs.FilesLaws.{same-refl}
 use Rattle.machine_defs.proofs.Numbers as num
 
-gated : (limit : ℕ) (start : State) → IsStart start → (ms : List Moment) → IsRun limit start ms →
+pub gated : (limit : ℕ) (start : State) → IsStart start → (ms : List Moment) → IsRun limit start ms →
     IsGated (now start ms)
 gated limit start clean [] run = λ a h three. absurd (let e : None ≡ Some a = sym clean.append ∙ h in cc)
 gated limit start clean (m ∷ ms) run =
@@ -41,7 +41,7 @@ file_kept rs (InEffect id size profile kept) name h =
     cond_false (is_same_name kept name) (Some (file_as name id size profile)) (file_of rs name) h
 file_kept rs (RepairDue number counts) name h = refl
 
-shorter : (r : Record) (rs : List Record) → rs ≡ r ∷ rs → ⊥
+pub shorter : (r : Record) (rs : List Record) → rs ≡ r ∷ rs → ⊥
 shorter r rs e = (let l : length rs ≡ suc (length rs) = ap length e in omega arith)
 
 came_none : (old new : State) (r : Record) → came old new ≡ Some r → new.records ≡ old.records → ⊥
@@ -65,7 +65,7 @@ came_one old new r s rs h rec = elim (cases_Bool (length new.records == suc (len
 module _ (limit : ℕ) (start : State) (m : Moment) (ms : List Moment) (G : IsGated (now start ms))
     (X : Changes limit (length ms) (now start ms) m.event m.outcome m.state) where
   -- at the moment at which it comes in
-  comes : (name : List ℕ) (file : File) → ComesIn (now start ms) m.state name file → IsKept m.state name file
+  pub comes : (name : List ℕ) (file : File) → ComesIn (now start ms) m.state name file → IsKept m.state name file
   comes name file c = record { in_effect = at; with_doubt = λ d h. doubt d h }
     where
       ended : Record
@@ -119,7 +119,7 @@ module _ (limit : ℕ) (start : State) (m : Moment) (ms : List Moment) (G : IsGa
       ]
 
   -- at each later one
-  stays : (name : List ℕ) (file : File) → IsKept (now start ms) name file → NoneTakesOut name m.state →
+  pub stays : (name : List ℕ) (file : File) → IsKept (now start ms) name file → NoneTakesOut name m.state →
       IsKept m.state name file
   stays name file k none = record { in_effect = at; with_doubt = λ d h. doubt d h }
     where

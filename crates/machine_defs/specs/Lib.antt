@@ -18,6 +18,7 @@ pub mod Openings
 pub mod Replacements
 pub mod Machine
 pub mod Runs
+pub mod Began
 pub mod Calm
 pub mod Missed
 pub mod Scrubs
@@ -29,4 +30,5 @@ pub mod Halves
 pub mod Deeds
 pub mod Failures
 pub mod Survival
+pub mod Untouched
 pub mod Examples

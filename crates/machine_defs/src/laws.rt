@@ -1,17 +1,22 @@
 //! Worked values of the definitions, and laws that follow from them alone.
-ghost use Rattle.std.specs.Prelude.{◌≡◌, ◌↔◌, ℕ, ◌≤◌, ◌<◌, false, List, ◌∷◌, ◌++◌, Option, Some};
+ghost use Rattle.std.specs.Prelude.{◌≡◌, ◌↔◌, ℕ, ◌≤◌, ◌<◌, false, List, ◌∷◌, ◌++◌, length, Option, Some};
 ghost use Rattle.std.specs.List.{Contains};
 ghost use Rattle.column_defs.specs.Objects.{Object};
 ghost use Rattle.column_defs.specs.Columns.{columns};
-ghost use Rattle.record_defs.specs.Table.{next_id, next_audit, started_as};
+ghost use Rattle.record_defs.specs.Table.{file_as, next_id, next_audit, started_as};
 ghost use Rattle.machine_defs.specs.Jobs.{PutJob, AuditJob, Pinned, Job, job_of};
 ghost use Rattle.machine_defs.specs.States.{State, IsStart, setup_in, put_object};
 ghost use Rattle.machine_defs.specs.Runs.{Moment, IsRun, now, first_moments, is_replaced_since};
+ghost use Rattle.machine_defs.specs.Began.{IsBeginOf, NoneBegan, WasBegun, GivesUp, IsOfJob};
+ghost use Rattle.machine_defs.specs.Answers.{Answer};
+ghost use Rattle.machine_defs.specs.Events.{Step, Begun, Ended};
 ghost use Rattle.machine_defs.specs.Calm.{IsCalm, since, relies};
 ghost use Rattle.machine_defs.specs.Missed.{NoneMissed};
 ghost use Rattle.machine_defs.specs.Heard.{EndsJob, NoneContinues, heard_by, heard_in, given_to, HoldsForgery};
 ghost use Rattle.machine_defs.specs.Halves.{GotIsOpened};
-ghost use Rattle.machine_defs.specs.Survival.{IsAcknowledged, Survives};
+ghost use Rattle.machine_defs.specs.Survival.{IsAcknowledged, Survives, NeverTakenOut, IsKept, EndsPut};
+ghost use Rattle.machine_defs.specs.Transcripts.{Instruction, GoOn, CarriesOut};
+ghost use Rattle.machine_defs.specs.Untouched.{NoneBeganOn, NoneAsksOn, NoneOn, IsFree, IsUntouched};
 ghost use Rattle.machine_defs.specs.Deeds.{HasStored, HasAsked, HasMadeStore, told_block};
 
 /// What holds of a run held before its newest event.
@@ -117,4 +122,70 @@ pub fn reports_have_what_jobs_heard()
         IsStart start → IsRun limit start (later ++ m ∷ ms) → EndsJob start m ms job → NoneContinues later →
         HoldsForgery o bytes job.number (heard_by (Some job)) ↔ HoldsForgery o bytes job.number
         (heard_in start (later ++ m ∷ ms)) }
+{}
+
+/// A running job is the one that the last begin of its number began: of its kind, and of a put that names a
+/// profile with this one; and the job that runs with the number of a begin, behind which no begin came to
+/// that number, is the one begun there.
+pub fn running_jobs_were_begun()
+    ensures job { (limit : ℕ) (start : State) (ms : List Moment) (number : ℕ) (job : Job) → IsStart start
+        → IsRun limit start ms → job_of (now start ms).jobs number ≡ Some job → WasBegun ms number job }
+    ensures begin { (limit : ℕ) (start : State) (later before : List Moment) (m : Moment) (number : ℕ)
+        (job : Job) → IsStart start → IsRun limit start (later ++ m ∷ before) → m.outcome ≡ Begun number
+        → NoneBegan number later → job_of (now start (later ++ m ∷ before)).jobs number ≡ Some job
+        → (job.begun ≡ length before) × IsBeginOf m.event job }
+{}
+
+/// A step that ended as a job ends that did what it was for is one of a running job.
+pub fn ended_steps_are_of_jobs()
+    ensures { (limit : ℕ) (start : State) (m : Moment) (ms : List Moment) (number : ℕ) (answer : Answer)
+        → IsRun limit start (m ∷ ms) → m.event ≡ Step number → m.outcome ≡ Ended answer → IsOfJob answer
+        → (job : Job) × (job_of (now start ms).jobs number ≡ Some job) × (job.number ≡ number) }
+{}
+
+/// While no job that puts or drops a name begins, none on it runs where none did, and no record in doubt takes
+/// its file out.
+pub fn names_stay_untouched()
+    ensures none_ran { (limit : ℕ) (start : State) (ms : List Moment) (name : List ℕ) → IsStart start
+        → IsRun limit start ms → NoneBeganOn name ms → NoneOn name (now start ms) }
+    ensures none_runs { (limit : ℕ) (start : State) (later ms : List Moment) (name : List ℕ) → IsStart start
+        → IsRun limit start (later ++ ms) → NoneOn name (now start ms) → NoneBeganOn name later
+        → NoneOn name (now start (later ++ ms)) }
+    ensures none_takes { (limit : ℕ) (start : State) (later ms : List Moment) (name : List ℕ) → IsStart start
+        → IsRun limit start (later ++ ms) → IsUntouched name (now start ms) → NoneBeganOn name later
+        → NeverTakenOut name later }
+{}
+
+/// The steps of a command that runs a job begin no job, and commands of which none is the begin of a put or a
+/// drop of a name begin none.
+pub fn commands_begin_none()
+    ensures commands { (name : List ℕ) (commands : List Instruction) (ms : List Moment) (lines : List ℕ)
+        → CarriesOut commands ms lines → NoneAsksOn name commands → NoneBeganOn name ms }
+    ensures steps { (job number : ℕ) (name : List ℕ) (ms : List Moment) → GoOn job ms
+        → NoneBegan number ms × NoneBeganOn name ms }
+{}
+
+/// No job that puts or drops a name runs behind the end of the one that did, however it ended, nor behind an
+/// event that gives up all jobs; so none does where the events and outcomes tell that the name is free.
+pub fn names_come_free()
+    ensures ended { (limit : ℕ) (start : State) (between older : List Moment) (m b : Moment) (number : ℕ)
+        (answer : Answer) (name : List ℕ) → IsStart start → IsRun limit start (m ∷ (between ++ b ∷ older))
+        → NoneOn name (now start older) → NoneBeganOn name between → b.outcome ≡ Begun number
+        → m.event ≡ Step number → m.outcome ≡ Ended answer → NoneOn name m.state }
+    ensures given_up { (limit : ℕ) (start : State) (m : Moment) (ms : List Moment) (name : List ℕ)
+        → IsRun limit start (m ∷ ms) → GivesUp m.event → NoneOn name m.state }
+    ensures told { (limit : ℕ) (start : State) (ms : List Moment) (name : List ℕ) → IsStart start
+        → IsRun limit start ms → IsFree name ms → NoneOn name (now start ms) }
+{}
+
+/// The file of a put that ended well is in effect, also with the record in doubt added, while no put or drop
+/// of its name begins but for its own: where none ran at its begin, none began between that and its end, and
+/// none since.
+pub fn put_files_are_kept()
+    ensures { (limit : ℕ) (start : State) (later between older : List Moment) (m b : Moment) (job : Job)
+        (name bytes : List ℕ) → IsStart start → IsRun limit start (later ++ m ∷ (between ++ b ∷ older))
+        → NoneOn name (now start older) → NoneBeganOn name between
+        → EndsPut start m (between ++ b ∷ older) job name bytes → NoneBeganOn name later
+        → (b.outcome ≡ Begun job.number) × IsKept (now start (later ++ m ∷ (between ++ b ∷ older))) name
+        (file_as name job.subject (length bytes) job.profile) }
 {}

@@ -4,3 +4,4 @@ pub mod InEffect
 pub mod Files
 pub mod FirstHalf
 pub mod PutBytes
+pub mod ByEvents

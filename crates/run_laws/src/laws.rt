@@ -11,11 +11,13 @@ ghost use Rattle.column_defs.specs.Opened.{SeenBlock, OpensFile};
 ghost use Rattle.column_defs.specs.Forgeries.{IsForgery};
 ghost use Rattle.machine_defs.specs.Events.{AreBytes};
 ghost use Rattle.machine_defs.specs.Jobs.{Job};
+ghost use Rattle.machine_defs.specs.Answers.{Got};
 ghost use Rattle.machine_defs.specs.Halves.{IsRightGet, EndsGet, FirstHalfHolds};
 ghost use Rattle.machine_defs.specs.Heard.{heard_by, HoldsForgery};
 ghost use Rattle.machine_defs.specs.States.{State, IsStart, file_object, file_in};
 ghost use Rattle.machine_defs.specs.Survival.{EndsPut};
 ghost use Rattle.machine_defs.specs.Runs.{Moment, IsRun, now, first_moments};
+ghost use Rattle.run_laws.specs.Stories.{Stored, IsKeptAs, GetEnds, GotRight};
 
 /// The bytes of the symbols of all stripes of a file, cut to its length, are the file.
 pub fn symbols_give_bytes_back()
@@ -87,4 +89,22 @@ pub fn put_bytes_are_got()
         file_in (now start (first_moments get.begun ms)) name ≡ Some file → file.id ≡ put.subject →
         (got ≡ bytes) ⊎ HoldsForgery (file_object (now start (first_moments get.begun ms)) file) bytes
         get.number (heard_by (Some get)) }
+{}
+
+/// The file of a put that ended well is kept, told by events and outcomes alone: where no other put or drop of
+/// its name began since its begin, it is in effect, also with the record in doubt added, and its number stands
+/// for the bytes that were put.
+pub fn stored_files_are_kept()
+    ensures { (limit : ℕ) (start : State) (ms : List Moment) (name bytes : List ℕ) → IsStart start
+        → IsRun limit start ms → Stored ms name bytes → IsKeptAs (now start ms) name bytes }
+{}
+
+/// What was put is got, told by events and outcomes alone: where a put ended well and no other put or drop of
+/// its name began since its begin, a get that begins now and ends with bytes gave those of the put, or the
+/// report holds a forgery against them.
+pub fn what_was_put_is_got()
+    ensures { (limit : ℕ) (start : State) (ms gaps : List Moment) (c g : Moment) (get : ℕ)
+        (name bytes got : List ℕ) → IsStart start → IsRun limit start (g ∷ (gaps ++ c ∷ ms))
+        → Stored ms name bytes → GetEnds c gaps g get name (Got got)
+        → GotRight start ms (g ∷ (gaps ++ c ∷ ms)) get name bytes got }
 {}

@@ -13,7 +13,7 @@ use Rattle.machine_defs.proofs.PutRun.{moments as stored, is_run as is_stored, t
 use Rattle.second_half_laws.proofs.ByteSteps.{state_16, state_17, state_18, state_19, state_20, state_21, state_22, happens_15, happens_16, happens_17, happens_18, happens_19, happens_20, happens_21}
 
 -- the moments, the newest first
-abbrev steps : List Moment
+abbrev pub steps : List Moment
 steps = stepped 2 state_21 ∷ stepped 2 state_20 ∷ stepped 2 state_19 ∷ stepped 2 state_18 ∷ stepped 2
     state_17 ∷ []
 

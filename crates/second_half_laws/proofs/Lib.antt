@@ -19,6 +19,7 @@ pub mod Fall
 pub mod GivesRight
 pub mod ByteSteps
 pub mod ByteRun
+pub mod ByteTold
 pub mod Turns
 pub mod Quiet
 pub mod Scrubbing

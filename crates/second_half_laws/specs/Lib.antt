@@ -12,3 +12,4 @@ pub mod Damage
 pub mod Marks
 pub mod MarkedRuns
 pub mod Sharp
+pub mod Told
