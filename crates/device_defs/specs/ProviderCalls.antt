@@ -38,10 +38,11 @@ pub record Stores (object stripe : ℕ) (block : List ℕ) (old new : Provider) 
   pub held : new.held ≡ option_map (with_block object stripe block) old.held
   pub counts : StoreCounts old new
 
--- a store that found no memory; the count of failed stores may rise even so
+-- a store that found no memory, which is no fault
 pub record FindsNoMemory (old new : Provider) : Type 0 where
   pub held : new.held ≡ old.held
   pub counts : StoreCounts old new
+  pub no_fault : new.store_faults ≡ old.store_faults
 
 -- a store that failed
 pub record FailsToStore (old new : Provider) : Type 0 where

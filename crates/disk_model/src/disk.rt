@@ -43,6 +43,7 @@ pub trait Disk {
         ensures failed { IsErrOf result write_fault.Failed
             → Goes (Torn at (length bytes.now)) (holds self.old) (holds self.new) }
         ensures memory { IsErrOf result write_fault.Memory → holds self.new ≡ holds self.old }
+        ensures no_fault { IsErrOf result write_fault.Memory → faults self.new ≡ faults self.old }
         ensures cause { HasCause (faults self.old) (faults self.new) (IsErrOf result write_fault.Failed) }
         ensures called { calls self.new ≡ one_more (calls self.old) };
 

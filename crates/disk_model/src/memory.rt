@@ -93,6 +93,8 @@ impl Disk for MemDisk {
         ensures torn { IsErrOf result write_fault.Failed
             → Torn at (length bytes.now) self.old.cells self.new.cells }
         ensures memory { IsErrOf result write_fault.Memory → self.new.cells ≡ self.old.cells }
+        ensures no_fault { IsErrOf result write_fault.Memory
+            → self.new.calls.failed ≡ self.old.calls.failed }
         ensures cause { HasCause self.old.calls.failed self.new.calls.failed
             (IsErrOf result write_fault.Failed) }
         ensures fails { IsErrOf result write_fault.Failed ↔ IsTrue (fails_next self.old.calls) }

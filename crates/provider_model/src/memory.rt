@@ -76,6 +76,8 @@ impl Provider for MemProvider {
         ensures err { OnErr result (held_of self.new ≡ held_of self.old) }
         ensures cause { HasCause (store_faults_of self.old) (store_faults_of self.new)
             (IsErrOf result store_fault.Failed) }
+        ensures no_fault { IsErrOf result store_fault.Memory
+            → store_faults_of self.new ≡ store_faults_of self.old }
         ensures no_other_fault { other_faults_of self.new ≡ other_faults_of self.old }
         ensures no_fetch { fetches_of self.new ≡ fetches_of self.old }
 

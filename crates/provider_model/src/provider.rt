@@ -38,6 +38,8 @@ pub trait Provider {
         ensures err { OnErr result (held self.new ≡ held self.old) }
         ensures cause { HasCause (store_faults self.old) (store_faults self.new)
             (IsErrOf result store_fault.Failed) }
+        ensures no_fault { IsErrOf result store_fault.Memory
+            → store_faults self.new ≡ store_faults self.old }
         ensures no_other_fault { other_faults self.new ≡ other_faults self.old }
         ensures no_fetch { fetches self.new ≡ fetches self.old }
         ensures called { calls self.new ≡ one_more (calls self.old) };

@@ -48,6 +48,8 @@ impl<P: Tamper + Drop> Provider for Untold<P> {
         ensures err { OnErr result (P.held self.new.inner ≡ P.held self.old.inner) }
         ensures cause { HasCause (P.store_faults self.old.inner) (P.store_faults self.new.inner)
             (IsErrOf result store_fault.Failed) }
+        ensures no_fault { IsErrOf result store_fault.Memory
+            → P.store_faults self.new.inner ≡ P.store_faults self.old.inner }
         ensures no_other_fault { P.other_faults self.new.inner ≡ P.other_faults self.old.inner }
         ensures no_fetch { P.fetches self.new.inner ≡ P.fetches self.old.inner }
         ensures called { P.calls self.new.inner ≡ one_more (P.calls self.old.inner) }

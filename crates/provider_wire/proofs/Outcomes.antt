@@ -195,6 +195,7 @@ module _ (r : Request) (old now : Option Behind) (result : Option ℕ) (tail : L
       (record {
         held = refl;
         counts = record { store_faults = omega (arith, s_is); other_faults = o_is; fetches = f_is };
+        no_fault = s_is;
       })
 
   -- a store that was answered otherwise failed, and was counted
