@@ -5,7 +5,7 @@ use Rattle.std.specs.Option.{option_eq}
 use Rattle.std.proofs.Common.{eqb}
 use Rattle.std.proofs.lemmas.Bool.Decides.{nat_tests}
 use Rattle.device_defs.specs.Faults.{last_count, one_more}
-use Rattle.provider_wire.specs.LinkProviders.{CountsFaults}
+use Rattle.provider_wire.specs.LinkProviders.{CountsFaults, TellsLinkFault}
 
 -- a count goes up by one and stays at its last value, written either way
 pub one_more_is : (n : ℕ) → n < 2 ^ 64 → min (n + 1) last_count ≡ one_more n
@@ -34,3 +34,17 @@ lost result was now F before after is out failed more fits = record {
   raised = λ _. more ∙ one_more_is before fits;
   same = λ f. absurd (f failed);
 }
+
+-- an answer came, so no call of the link failed
+pub answer_came : (result : Option ℕ) (k before after : ℕ) (broken : Bool) (F : Type 0) →
+    option_eq eqb result (Some k) ≡ true → (before < after → result ≡ None)
+    → TellsLinkFault before after broken F
+answer_came None k before after broken F is none = absurd cc
+answer_came (Some x) k before after broken F is none = λ rose. absurd (let h = none rose in cc h)
+
+-- none of the wanted answers came
+pub call_failed : (result : Option ℕ) (before after : ℕ) (broken : Bool) (F : Type 0) → F →
+    broken ≡ not (option_eq eqb result (Some 2)) → (before < after → result ≡ None)
+    → TellsLinkFault before after broken F
+call_failed result before after broken F failed is none =
+    λ rose. (failed, is ∙ ap (λ (o : Option ℕ). not (option_eq eqb o (Some 2))) (none rose))

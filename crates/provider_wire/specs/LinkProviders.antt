@@ -1,5 +1,5 @@
 -- A provider over a link: the link, whether it is out of step, and the counts that are kept here.
-use Rattle.std.specs.Prelude.{◌≡◌, ℕ, Bool, true}
+use Rattle.std.specs.Prelude.{◌≡◌, ℕ, ◌<◌, Bool, true}
 use Rattle.device_defs.specs.Faults.{one_more}
 use Rattle.provider_wire.specs.declared.link.Link.{Ghosts}
 use Rattle.provider_wire.specs.declared.link_provider.LinkProvider.{LinkProvider}
@@ -35,3 +35,8 @@ pub record CountsFaults (was broken : Bool) (failed : Type 0) (before now : ℕ)
   pub fails : broken ≡ true → failed
   pub raised : failed → now ≡ one_more before
   pub same : (failed → ⊥) → now ≡ before
+
+-- A call in which the link's count rose, since a call of the link failed: it is answered as failed, and the
+-- link is out of step then.
+abbrev pub TellsLinkFault : ℕ → ℕ → Bool → Type 0 → Type 0
+TellsLinkFault before now broken failed = before < now → failed × (broken ≡ true)

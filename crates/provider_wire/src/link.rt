@@ -10,7 +10,7 @@ pub trait Link {
     /// What is seen of the provider behind the link, and the bytes that are due, where the link tells them.
     ghost behind: { Self → Option Behind };
 
-    /// How often the link has failed.
+    /// How often the link has failed. The count rises at each call that fails, and at no other.
     ghost faults: { Self → ℕ };
 
     /// Sends bytes. A request that is sent whole, while nothing is due, is answered by the provider.
@@ -18,7 +18,8 @@ pub trait Link {
         ensures sent { OnOk result (Goes (Sends bytes.now) (behind self.old) (behind self.new)) }
         ensures sure { IsSome (behind self.old) → IsOk result }
         ensures untold { behind self.old ≡ None → behind self.new ≡ None }
-        ensures cause { HasCause (faults self.old) (faults self.new) (IsErr result) };
+        ensures cause { HasCause (faults self.old) (faults self.new) (IsErr result) }
+        ensures no_fault { OnOk result (faults self.new ≡ faults self.old) };
 
     /// Gives some first bytes that are due, and says how many: none only at the end of the answers, or for a
     /// buffer without room.
@@ -27,5 +28,6 @@ pub trait Link {
         ensures given { IfOk result (λ n. Goes (Receives n out.new) (behind self.old) (behind self.new)) }
         ensures sure { IsSome (behind self.old) → IsOk result }
         ensures untold { behind self.old ≡ None → behind self.new ≡ None }
-        ensures cause { HasCause (faults self.old) (faults self.new) (IsErr result) };
+        ensures cause { HasCause (faults self.old) (faults self.new) (IsErr result) }
+        ensures no_fault { OnOk result (faults self.new ≡ faults self.old) };
 }

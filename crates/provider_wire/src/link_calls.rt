@@ -6,7 +6,7 @@ ghost use Rattle.column_defs.specs.Challenges.{honest_answer};
 ghost use Rattle.challenge.specs.Asked.{asked};
 ghost use Rattle.provider_wire.specs.Linked.{seen_behind, FetchedAs, AskedAs, RemovedAs};
 ghost use Rattle.provider_model.specs.Seen.{StoresAs};
-ghost use Rattle.provider_wire.specs.LinkProviders.{CountsFaults, link_of, broken_of, link_store_faults, link_other_faults, link_fetches, link_calls};
+ghost use Rattle.provider_wire.specs.LinkProviders.{CountsFaults, TellsLinkFault, link_of, broken_of, link_store_faults, link_other_faults, link_fetches, link_calls};
 
 use crate::frame::{ask_frame, fetch_frame, remove_frame, store_frame};
 use crate::link::Link;
@@ -43,6 +43,8 @@ impl<L: Link> LinkProvider<L> {
             (link_other_faults self.new) (link_fetches self.new)) }
         ensures counts { CountsFaults (broken_of self.old) (broken_of self.new)
             (IsErrOf result store_fault.Failed) (link_store_faults self.old) (link_store_faults self.new) }
+        ensures link_fault { TellsLinkFault (L.faults (link_of self.old)) (L.faults (link_of self.new))
+            (broken_of self.new) (IsErrOf result store_fault.Failed) }
         ensures other_faults { link_other_faults self.new ≡ link_other_faults self.old }
         ensures fetches { link_fetches self.new ≡ link_fetches self.old }
         ensures calls { link_calls self.new ≡ link_calls self.old }
@@ -69,6 +71,8 @@ impl<L: Link> LinkProvider<L> {
             (link_other_faults self.new) (link_fetches self.new)) }
         ensures counts { CountsFaults (broken_of self.old) (broken_of self.new) (IsErr result)
             (link_other_faults self.old) (link_other_faults self.new) }
+        ensures link_fault { TellsLinkFault (L.faults (link_of self.old)) (L.faults (link_of self.new))
+            (broken_of self.new) (IsErr result) }
         ensures store_faults { link_store_faults self.new ≡ link_store_faults self.old }
         ensures fetches { link_fetches self.new ≡ link_fetches self.old }
         ensures calls { link_calls self.new ≡ link_calls self.old }
@@ -96,6 +100,8 @@ impl<L: Link> LinkProvider<L> {
             (link_other_faults self.new) (link_fetches self.new)) }
         ensures counts { CountsFaults (broken_of self.old) (broken_of self.new) (IsErr result)
             (link_other_faults self.old) (link_other_faults self.new) }
+        ensures link_fault { TellsLinkFault (L.faults (link_of self.old)) (L.faults (link_of self.new))
+            (broken_of self.new) (IsErr result) }
         ensures store_faults { link_store_faults self.new ≡ link_store_faults self.old }
         ensures fetches { link_fetches self.new ≡ link_fetches self.old }
         ensures calls { link_calls self.new ≡ link_calls self.old }
@@ -134,6 +140,8 @@ impl<L: Link> LinkProvider<L> {
             (link_other_faults self.new) (link_fetches self.new)) }
         ensures counts { CountsFaults (broken_of self.old) (broken_of self.new) (IsErr result)
             (link_other_faults self.old) (link_other_faults self.new) }
+        ensures link_fault { TellsLinkFault (L.faults (link_of self.old)) (L.faults (link_of self.new))
+            (broken_of self.new) (IsErr result) }
         ensures store_faults { link_store_faults self.new ≡ link_store_faults self.old }
         ensures fetches { link_fetches self.new ≡ one_more (link_fetches self.old) }
         ensures calls { link_calls self.new ≡ link_calls self.old }
@@ -170,6 +178,8 @@ impl<L: Link> LinkProvider<L> {
             (link_other_faults self.new) (link_fetches self.new)) }
         ensures counts { CountsFaults (broken_of self.old) (broken_of self.new) (IsErr result)
             (link_other_faults self.old) (link_other_faults self.new) }
+        ensures link_fault { TellsLinkFault (L.faults (link_of self.old)) (L.faults (link_of self.new))
+            (broken_of self.new) (IsErr result) }
         ensures store_faults { link_store_faults self.new ≡ link_store_faults self.old }
         ensures fetches { link_fetches self.new ≡ one_more (link_fetches self.old) }
         ensures calls { link_calls self.new ≡ link_calls self.old }

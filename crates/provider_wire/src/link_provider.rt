@@ -19,7 +19,7 @@ pub struct LinkProvider<L: Link> {
 }
 
 impl<L: Link> LinkProvider<L> {
-    ghost use Rattle.std.specs.Prelude.{◌≡◌, ◌^◌, ℕ, List, Some, None, [], false, true, length, IfOk, IfSome, IsSome};
+    ghost use Rattle.std.specs.Prelude.{◌≡◌, ◌<◌, ◌^◌, ℕ, List, Some, None, [], false, true, length, IfOk, IfSome, IsSome};
     ghost use Rattle.wire_defs.specs.Requests.{Request, SpellsRequest};
     ghost use Rattle.wire_defs.specs.Links.{Behind};
     ghost use Rattle.provider_wire.specs.Linked.{AskedFor, answer_size};
@@ -66,6 +66,7 @@ impl<L: Link> LinkProvider<L> {
         ensures ok { IsSome result → broken_of self.new ≡ broken_of self.old }
         ensures was { broken_of self.old ≡ true → result ≡ None }
         ensures broke { result ≡ None → broken_of self.new ≡ true }
+        ensures link_fault { L.faults (link_of self.old) < L.faults (link_of self.new) → result ≡ None }
         ensures store_faults { link_store_faults self.new ≡ link_store_faults self.old }
         ensures other_faults { link_other_faults self.new ≡ link_other_faults self.old }
         ensures fetches { link_fetches self.new ≡ link_fetches self.old }

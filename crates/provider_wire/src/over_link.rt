@@ -7,7 +7,7 @@ ghost use Rattle.device_defs.specs.Faults.{one_more};
 ghost use Rattle.challenge.specs.Asked.{asked};
 ghost use Rattle.provider_wire.specs.Linked.{seen_behind, FetchedAs, AskedAs, RemovedAs, held_over, store_faults_over, other_faults_over, fetches_over};
 ghost use Rattle.provider_model.specs.Seen.{StoresAs};
-ghost use Rattle.provider_wire.specs.LinkProviders.{CountsFaults, link_of, broken_of, link_store_faults, link_other_faults, link_fetches, link_calls};
+ghost use Rattle.provider_wire.specs.LinkProviders.{CountsFaults, TellsLinkFault, link_of, broken_of, link_store_faults, link_other_faults, link_fetches, link_calls};
 
 use crate::link::Link;
 use crate::link_provider::LinkProvider;
@@ -38,6 +38,8 @@ impl<L: Link> Provider for LinkProvider<L> {
             (link_other_faults self.new) (link_fetches self.new)) }
         ensures counts { CountsFaults (broken_of self.old) (broken_of self.new)
             (IsErrOf result store_fault.Failed) (link_store_faults self.old) (link_store_faults self.new) }
+        ensures link_fault { TellsLinkFault (L.faults (link_of self.old)) (L.faults (link_of self.new))
+            (broken_of self.new) (IsErrOf result store_fault.Failed) }
         ensures other_faults { link_other_faults self.new ≡ link_other_faults self.old }
         ensures fetches { link_fetches self.new ≡ link_fetches self.old }
         ensures called { link_calls self.new ≡ one_more (link_calls self.old) }
@@ -56,6 +58,8 @@ impl<L: Link> Provider for LinkProvider<L> {
             (link_other_faults self.new) (link_fetches self.new)) }
         ensures counts { CountsFaults (broken_of self.old) (broken_of self.new) (IsErr result)
             (link_other_faults self.old) (link_other_faults self.new) }
+        ensures link_fault { TellsLinkFault (L.faults (link_of self.old)) (L.faults (link_of self.new))
+            (broken_of self.new) (IsErr result) }
         ensures store_faults { link_store_faults self.new ≡ link_store_faults self.old }
         ensures fetches { link_fetches self.new ≡ one_more (link_fetches self.old) }
         ensures called { link_calls self.new ≡ one_more (link_calls self.old) }
@@ -72,6 +76,8 @@ impl<L: Link> Provider for LinkProvider<L> {
             (link_other_faults self.new) (link_fetches self.new)) }
         ensures counts { CountsFaults (broken_of self.old) (broken_of self.new) (IsErr result)
             (link_other_faults self.old) (link_other_faults self.new) }
+        ensures link_fault { TellsLinkFault (L.faults (link_of self.old)) (L.faults (link_of self.new))
+            (broken_of self.new) (IsErr result) }
         ensures store_faults { link_store_faults self.new ≡ link_store_faults self.old }
         ensures fetches { link_fetches self.new ≡ link_fetches self.old }
         ensures called { link_calls self.new ≡ one_more (link_calls self.old) }
@@ -88,6 +94,8 @@ impl<L: Link> Provider for LinkProvider<L> {
             (link_other_faults self.new) (link_fetches self.new)) }
         ensures counts { CountsFaults (broken_of self.old) (broken_of self.new) (IsErr result)
             (link_other_faults self.old) (link_other_faults self.new) }
+        ensures link_fault { TellsLinkFault (L.faults (link_of self.old)) (L.faults (link_of self.new))
+            (broken_of self.new) (IsErr result) }
         ensures store_faults { link_store_faults self.new ≡ link_store_faults self.old }
         ensures fetches { link_fetches self.new ≡ link_fetches self.old }
         ensures called { link_calls self.new ≡ one_more (link_calls self.old) }

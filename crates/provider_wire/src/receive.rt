@@ -1,5 +1,5 @@
 // Sends a request over a link, and receives its answer.
-ghost use Rattle.std.specs.Prelude.{◌≡◌, ◌≢◌, ◌≤◌, ◌++◌, ◌∷◌, ℕ, List, true, Some, None, [], length};
+ghost use Rattle.std.specs.Prelude.{◌≡◌, ◌≢◌, ◌<◌, ◌≤◌, ◌++◌, ◌∷◌, ℕ, List, true, false, Some, None, [], length};
 ghost use Rattle.wire_defs.specs.Requests.{Request, SpellsRequest};
 ghost use Rattle.wire_defs.specs.Links.{Behind};
 ghost use Rattle.provider_wire.specs.Linked.{AskedFor, answer_size};
@@ -15,6 +15,7 @@ fn receive_all<L: Link>(link: &mut L, out: &mut [u8]) -> bool
         × ((rest : List ℕ) × (b.due ≡ out.new ++ rest)
         × (L.behind link.new ≡ Some (record b { due = rest }))) }
     ensures untold { L.behind link.old ≡ None → L.behind link.new ≡ None }
+    ensures link_fault { L.faults link.old < L.faults link.new → result ≡ false }
 {
     let mut at = 0;
     while at < out.len() {
@@ -32,6 +33,7 @@ fn receive_kind<L: Link>(link: &mut L) -> Option<u8>
     ensures told { (b : Behind) (kind : ℕ) (tail : List ℕ) → L.behind link.old ≡ Some b → b.due ≡ kind ∷ tail
         → (result ≡ Some kind) × (L.behind link.new ≡ Some (record b { due = tail })) }
     ensures untold { L.behind link.old ≡ None → L.behind link.new ≡ None }
+    ensures link_fault { L.faults link.old < L.faults link.new → result ≡ None }
 {
     let mut kind = [0u8];
     if receive_all(link, &mut kind) {
@@ -48,6 +50,7 @@ fn receive_answer<L: Link>(link: &mut L, symbols: &mut [u8]) -> Option<u8>
         → (result ≡ Some kind) × (L.behind link.new ≡ Some (record b { due = [] }))
         × (kind ≡ 1 → symbols.new ≡ tail) }
     ensures untold { L.behind link.old ≡ None → L.behind link.new ≡ None }
+    ensures link_fault { L.faults link.old < L.faults link.new → result ≡ None }
 {
     let kind = receive_kind(link)?;
     if kind != DONE {
@@ -67,6 +70,7 @@ pub fn ask_link<L: Link>(link: &mut L, request: &[u8], symbols: &mut [u8]) -> Op
         → SpellsRequest request.now r
         → length symbols.old ≡ answer_size r → AskedFor r result symbols.new b (L.behind link.new) }
     ensures untold { L.behind link.old ≡ None → L.behind link.new ≡ None }
+    ensures link_fault { L.faults link.old < L.faults link.new → result ≡ None }
 {
     match link.send(request) {
         Ok(()) => receive_answer(link, symbols),

@@ -1,4 +1,4 @@
-use Rattle.std.proofs.Common.{◌≡◌, ◌-◌, ◌≤◌, length, arith, length-drop}
+use Rattle.std.proofs.Common.{◌≡◌, ◌∙◌, ◌-◌, ◌≤◌, length, arith, length-drop}
 use Rattle.algebra_laws.proofs.Lists.{take-put_mid_behind}
 use Rattle.provider_wire.proofs.Windows.{part_length}
 use Rattle.provider_wire.proofs.Received.{advance}
@@ -20,4 +20,5 @@ loop-at-preserved g c =
       so_far = advance _ _ _ out (put_mid at k out part) part at n c.loop-at.invariant.so_far
           c.in-Ok.ensures.given same (take-put_mid_behind out part at k n (omega arith) few);
       untold = λ e. c.receive.ensures.untold (c.loop-at.invariant.untold e);
+      no_fault = c.in-Ok.ensures.no_fault ∙ c.loop-at.invariant.no_fault;
     }

@@ -7,6 +7,7 @@ invariant-loop-at g l = record {
   within : l.at ≤ length l.out;
   so_far : SoFar (g.L.Link.behind l.initial.link) (g.L.Link.behind l.link) l.out l.at;
   untold : g.L.Link.behind l.initial.link ≡ None → g.L.Link.behind l.link ≡ None;
+  no_fault : g.L.Link.faults l.link ≡ g.L.Link.faults l.initial.link;
 }
 
 abbrev pub decreases-loop-at : goal.decreases-loop-at

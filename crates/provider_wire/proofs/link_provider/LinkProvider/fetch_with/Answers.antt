@@ -2,7 +2,7 @@ use Rattle.std.proofs.Common.{refl, sym, ap, ◌∙◌, subst, arith, List}
 use Rattle.wire_defs.specs.Requests.{Fetch, SpellsRequest}
 use Rattle.provider_wire.specs.Linked.{out_of_step}
 use Rattle.provider_wire.proofs.Outcomes.{fetch_done, fetch_missing, fetch_failed, fetch_steps}
-use Rattle.provider_wire.proofs.Counting.{went, lost, one_more_is}
+use Rattle.provider_wire.proofs.Counting.{went, lost, answer_came, call_failed, one_more_is}
 use Rattle.provider_wire.proofs.link_provider.LinkProvider.fetch_with.Goals as goal
 use Rattle.std.proofs.Common.{length}
 
@@ -103,3 +103,15 @@ returns-then-eq-2-clause-fetches g c = c.request-answer.ensures.fetches ∙ c.sa
 pub returns-clause-fetches : goal.returns-clause-fetches
 returns-clause-fetches g c = c.request-answer.ensures.fetches ∙ c.saturating_add-self.ensures
     ∙ one_more_is c.args.self.now.fetches (omega arith)
+
+pub returns-then-eq-clause-link_fault : goal.returns-then-eq-clause-link_fault
+returns-then-eq-clause-link_fault g c = answer_came c.request-answer.result 1 _ _ _ _ (sym c.eq.ensures ∙ c.if-eq.true)
+    c.request-answer.ensures.link_fault
+
+pub returns-then-eq-2-clause-link_fault : goal.returns-then-eq-2-clause-link_fault
+returns-then-eq-2-clause-link_fault g c = answer_came c.request-answer.result 0 _ _ _ _ (sym c.eq-2.ensures ∙ c.if-eq-2.true)
+    c.request-answer.ensures.link_fault
+
+pub returns-clause-link_fault : goal.returns-clause-link_fault
+returns-clause-link_fault g c = call_failed c.request-answer.result _ _ _ _ refl c.ne-self.ensures
+    c.request-answer.ensures.link_fault

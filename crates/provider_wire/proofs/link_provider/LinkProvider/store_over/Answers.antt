@@ -2,7 +2,7 @@ use Rattle.std.proofs.Common.{refl, sym, ap, ◌∙◌, subst, arith, List}
 use Rattle.wire_defs.specs.Requests.{Store, SpellsRequest}
 use Rattle.provider_wire.specs.Linked.{out_of_step}
 use Rattle.provider_wire.proofs.Outcomes.{store_done, store_no_room, store_failed, store_steps}
-use Rattle.provider_wire.proofs.Counting.{went, lost}
+use Rattle.provider_wire.proofs.Counting.{went, lost, answer_came, call_failed}
 use Rattle.provider_wire.proofs.link_provider.LinkProvider.store_over.Goals as goal
 
 pub returns-then-eq-clause-answered : goal.returns-then-eq-clause-answered
@@ -76,3 +76,15 @@ returns-clause-counts g c =
     let e = c.request-answer.ensures in
     lost c.request-answer.result _ _ _ c.args.self.now.store_faults _ c.ne-self.ensures e.was refl
     (omega (arith, c.saturating_add-self.ensures, e.store_faults)) (omega (arith, e.store_faults))
+
+pub returns-then-eq-clause-link_fault : goal.returns-then-eq-clause-link_fault
+returns-then-eq-clause-link_fault g c = answer_came c.request-answer.result 1 _ _ _ _ (sym c.eq.ensures ∙ c.if-eq.true)
+    c.request-answer.ensures.link_fault
+
+pub returns-then-eq-2-clause-link_fault : goal.returns-then-eq-2-clause-link_fault
+returns-then-eq-2-clause-link_fault g c = answer_came c.request-answer.result 3 _ _ _ _ (sym c.eq-2.ensures ∙ c.if-eq-2.true)
+    c.request-answer.ensures.link_fault
+
+pub returns-clause-link_fault : goal.returns-clause-link_fault
+returns-clause-link_fault g c = call_failed c.request-answer.result _ _ _ _ refl c.ne-self.ensures
+    c.request-answer.ensures.link_fault
