@@ -83,7 +83,7 @@ module _ (at : ℕ) (bytes : List ℕ) (cells : Cells) (within : at ≤ length c
       (omega (arith, long bytes))
       ∙ all_loose bytes (k - at) (omega arith)
 
-  loose_outside : (k : ℕ) → (k < at) ⊎ (at + length bytes ≤ k) →
+  pub loose_outside : (k : ℕ) → (k < at) ⊎ (at + length bytes ≤ k) →
       is_loose_at (spliced at (loose bytes) cells) k ≡ is_loose_at cells k
   loose_outside k (inl lt) =
       loose_before (take at cells) (loose bytes ++ drop (at + length (loose bytes)) cells) k

@@ -2,3 +2,4 @@ pub mod Zips
 pub mod FrontLemmas
 pub mod PickLemmas
 pub mod Tears
+pub mod Ranges

@@ -5,6 +5,7 @@ mod disk;
 pub mod laws;
 mod memory;
 mod parts;
+mod range;
 mod sure;
 mod whole;
 

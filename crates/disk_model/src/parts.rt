@@ -3,7 +3,9 @@ ghost use Rattle.std.specs.Prelude.{◌≡◌, ◌⊎◌, ◌+◌, ◌-◌, ◌^
 ghost use Rattle.std.specs.List.{zip};
 ghost use Rattle.device_defs.specs.Disks.{spliced, written, halved, marked};
 ghost use Rattle.device_defs.specs.Picks.{picked};
+ghost use Rattle.disk_model.specs.Ranges.{IsUnmarkedOutside};
 
+use crate::range::LooseRange;
 use std::alloc::AllocError;
 
 /// Makes room up to a length, with the value in each new place.
@@ -27,13 +29,23 @@ fn copy_into(held: &mut [u8], at: usize, bytes: &[u8])
     held[at..end].copy_from_slice(bytes);
 }
 
-/// Marks places as loose.
-fn mark(marks: &mut [bool], at: usize, len: usize)
+/// Marks places as loose, or takes their marks away.
+fn mark(marks: &mut [bool], at: usize, len: usize, is_loose: bool)
     requires { at + len ≤ length marks.old }
-    ensures { marks.new ≡ spliced at (replicate len true) marks.old }
+    ensures { marks.new ≡ spliced at (replicate len is_loose) marks.old }
 {
     let end = at + len;
-    marks[at..end].fill(true);
+    marks[at..end].fill(is_loose);
+}
+
+/// Takes all marks away, where each stands in the range.
+pub fn unmark(marks: &mut [bool], loose: LooseRange)
+    requires { IsUnmarkedOutside loose.from loose.to marks.old }
+    ensures { marks.new ≡ replicate (length marks.old) false }
+{
+    let end = loose.to.min(marks.len());
+    let start = loose.from.min(end);
+    mark(marks, start, end - start, false);
 }
 
 /// Writes bytes and marks, or neither.
@@ -57,7 +69,7 @@ pub fn put(
     match grow(held, end, 0) {
         Ok(()) => {
             copy_into(held, at, bytes);
-            mark(marks, at, bytes.len());
+            mark(marks, at, bytes.len(), true);
             Ok(())
         }
         Err(error) => {
@@ -80,7 +92,7 @@ pub fn tear(held: &mut Vec<u8>, marks: &mut Vec<bool>, at: usize, bytes: &[u8])
     let len = held.len();
     let from = at.min(len);
     let to = (at + bytes.len()).min(len);
-    mark(marks, from, to - from);
+    mark(marks, from, to - from, true);
     let _ = put(held, marks, at, &bytes[..bytes.len() / 2]);
 }
 

@@ -6,7 +6,8 @@ ghost use Rattle.device_defs.specs.Faults.{one_more};
 ghost use Rattle.device_defs.specs.Picks.{picked};
 
 use crate::disk::Disk;
-use crate::parts::{pick, put, tear};
+use crate::parts::{pick, put, tear, unmark};
+use crate::range::LooseRange;
 use std::alloc::Global;
 use std::marker::Model;
 use stream_model::{Failed, Memory, WriteFault};
@@ -16,6 +17,7 @@ use stream_model::{Failed, Memory, WriteFault};
 pub struct SureDisk {
     held: Vec<u8>,
     marks: Vec<bool>,
+    loose: LooseRange,
     calls: u64,
 }
 
@@ -23,12 +25,14 @@ impl Model for SureDisk {
     ghost use Rattle.std.specs.Prelude.{◌≡◌, vec_len};
     ghost use Rattle.std.specs.List.{zip};
     ghost use Rattle.disk_model.specs.InMemory.{SureInMemory};
+    ghost use Rattle.disk_model.specs.Ranges.{IsFirmOutside};
 
     ghost Value = { SureInMemory };
 
     ghost view = { λ disk. record { cells = zip disk.held.items disk.marks.items; made = disk.calls } };
 
-    ghost invariant = { λ disk. vec_len disk.marks ≡ vec_len disk.held };
+    ghost invariant = { λ disk. (vec_len disk.marks ≡ vec_len disk.held)
+        × IsFirmOutside disk.loose.from disk.loose.to (zip disk.held.items disk.marks.items) };
 }
 
 impl SureDisk {
@@ -46,6 +50,7 @@ impl SureDisk {
         Ok(SureDisk {
             held,
             marks,
+            loose: LooseRange::none(),
             calls: 0,
         })
     }
@@ -65,7 +70,9 @@ impl SureDisk {
             ⊎ (self.new.cells ≡ marked at (length bytes.now) self.old.cells) }
         ensures calls { self.new.made ≡ self.old.made }
     {
-        tear(&mut self.held, &mut self.marks, at as usize, bytes);
+        let at = at as usize;
+        self.loose = self.loose.with(at.min(self.held.len()), at + bytes.len());
+        tear(&mut self.held, &mut self.marks, at, bytes);
     }
 }
 
@@ -113,7 +120,9 @@ impl Disk for SureDisk {
         ensures counted { self.new.made ≡ one_more self.old.made }
     {
         self.calls = self.calls.saturating_add(1);
-        Ok(put(&mut self.held, &mut self.marks, at as usize, bytes)?)
+        let at = at as usize;
+        self.loose = self.loose.with(at.min(self.held.len()), at + bytes.len());
+        Ok(put(&mut self.held, &mut self.marks, at, bytes)?)
     }
 
     fn sync(&mut self) -> Result<(), Failed>
@@ -122,7 +131,8 @@ impl Disk for SureDisk {
         ensures counted { self.new.made ≡ one_more self.old.made }
     {
         self.calls = self.calls.saturating_add(1);
-        self.marks.fill(false);
+        unmark(&mut self.marks, self.loose);
+        self.loose = LooseRange::none();
         Ok(())
     }
 
@@ -133,5 +143,6 @@ impl Disk for SureDisk {
         ensures calls { self.new.made ≡ self.old.made }
     {
         pick(&mut self.held, &mut self.marks, picks);
+        self.loose = LooseRange::none();
     }
 }

@@ -1,9 +1,11 @@
-use Rattle.std.proofs.Common.{◌∙◌, ap, arith}
+use Rattle.std.proofs.Common.{◌∙◌, ap, sym, subst, arith}
 use Rattle.std.proofs.lemmas.List.{take_at}
-use Rattle.device_defs.specs.Cells.{firm}
+use Rattle.device_defs.specs.Cells.{Cells, firm}
 use Rattle.device_defs.specs.Picks.{picked}
 use Rattle.device_defs.proofs.PickLaws.{IsImage-picked}
+use Rattle.disk_model.specs.Ranges.{IsFirmOutside}
 use Rattle.disk_model.proofs.PickLemmas.{zip_stopped}
+use Rattle.disk_model.proofs.Ranges.{none_loose}
 use Rattle.disk_model.specs.InMemory.{SureInMemory}
 use Rattle.disk_model.proofs.sure.SureDiskDisk.stop.Goals as goal
 
@@ -11,7 +13,7 @@ pub returns-clause-picked : goal.returns-clause-picked
 returns-clause-picked c =
     let d = c.self.inside in
     zip_stopped d.held.items d.marks.items c.args.picks.now c.deref_mut.result.now c.deref_mut-2.result.now _
-    _ (omega (arith, d.held.ok.0, d.marks.ok.0, c.self.invariant)) c.deref_mut.ensures.value
+    _ (omega (arith, d.held.ok.0, d.marks.ok.0, c.self.invariant.0)) c.deref_mut.ensures.value
     c.deref_mut-2.ensures.value
     (take_at c.pick.new.held _ d.held.len (omega (arith, c.pick.auto.held, c.deref_mut.ensures.len))
     ∙ c.pick.ensures.held)
@@ -25,3 +27,12 @@ returns-clause-image c = (
   IsImage-picked c.args.self.now.cells c.args.picks.now,
   returns-clause-picked c,
 )
+
+pub invariant_of-self : goal.invariant_of-self
+invariant_of-self c =
+    let e = returns-clause-picked c in (
+      c.self.invariant.0,
+      subst
+          (λ (cells : Cells). IsFirmOutside c.none-self-inside.result.from c.none-self-inside.result.to cells)
+          (sym e) (none_loose c.none-self-inside.result.from c.none-self-inside.result.to _),
+    )
