@@ -2,7 +2,7 @@
 # pages.sh PAGE ..: does what each page tells, in one shell a page, in a folder of its own that goes at the end.
 # A block of a page is lines behind four spaces. A line behind `$ ` is a command, and the lines up to the next one are what it writes, of
 # which `..` stands for any. A block without such a line is commands that end with 0, whatever they write. A block below a line
-# `<!-- not run: .. -->` is passed over. HAIL names another program than the one of this repository, and TOOLS another folder of companions.
+# `<!-- not run: .. -->` is passed over, and what stands in `<!-- run: .. -->` is done too, and ends with 0. HAIL names another program than the one of this repository, and TOOLS another folder of companions.
 # Ends with 0 exactly where each command went as the page tells.
 set -u
 
@@ -19,6 +19,7 @@ part() {
         function begin() { number++; does = sprintf("%s/%04d.does", folder, number); printf "" > does }
         function finish() { if (in_block) close(does); if (tells) close(tells); in_block = 0; tells = "" }
         /^<!-- not run/ { skipped = 1; next }
+        /^<!-- run: / { finish(); begin(); sub(/^<!-- run: /, ""); sub(/ -->$/, ""); print > does; close(does); next }
         /^    / && skipped { passing = 1; next }
         /^    / {
             line = substr($0, 5)
@@ -49,13 +50,30 @@ reads_as() {
     ' "$1"
 }
 
+# Whether these lines are whole commands.
+is_whole() {
+    [ -z "$(bash -n <<<"$1" 2>&1)" ]
+}
+
+# Does the lines of a block, command by command, and ends with the status of the first that does not end with 0.
+do_block() {
+    local line command=''
+    while IFS= read -r line <&8; do
+        command+=$line$'\n'
+        is_whole "$command" || continue
+        eval "$command" || return
+        command=''
+    done 8<"$1"
+    [ -z "$command" ]
+}
+
 # Does the commands of a page, in the folder that it stands in.
 follow() {
     local does tells status
     for does in "$1"/*.does; do
         [ -e "$does" ] || continue
         tells=${does%does}tells
-        . "$does" >"$scratch/out" 2>&1 </dev/null
+        do_block "$does" >"$scratch/out" 2>&1 </dev/null
         status=$?
         if [ -e "$tells" ]; then
             reads_as "$scratch/out" "$tells" && continue
