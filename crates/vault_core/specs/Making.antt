@@ -10,12 +10,13 @@
 --   tasks_made f ps         == the tasks of files: those with something to do
 --   size_of_turn n w flags  == how many actions it has at each stripe or round
 --   other_actions n w       == how many it may have at most besides those on its files
+--   most_at n w flags ts    == how many it may have at most, with these tasks
 --   subject_for t w         == its number: that of the due audit for a repair, and none yet for any other
 --   cursor_first w tasks    == where it begins
 --   IsMade t s k w job      == a job as it is made
 --   starts_for w            == 1 for a put, which has a PutStart
 --   admitted c w job        == the core in which the job runs
-use Rattle.std.specs.Prelude.{◌≡◌, ℕ, ◌+◌, ◌<◌, ◌==◌, Bool, List, [], ◌∷◌, ◌++◌, length, replicate, nat_lt, if◌then◌else◌}
+use Rattle.std.specs.Prelude.{◌≡◌, ℕ, ◌+◌, ◌<◌, ◌*◌, ◌==◌, Bool, List, [], ◌∷◌, ◌++◌, length, replicate, sum_by, nat_lt, if◌then◌else◌}
 use Rattle.record_defs.specs.Records.{Setup}
 use Rattle.record_defs.specs.Table.{File, find_file}
 use Rattle.machine_defs.specs.Setups.{stripes_of}
@@ -77,6 +78,10 @@ other_actions n (wish.Get name) = 1
 other_actions n (wish.Drop name) = 5 + n
 other_actions n wish.Audit = 9
 other_actions n wish.Repair = 5
+
+-- how many it may have at most, with these tasks
+abbrev pub most_at : ℕ → Wish → List Bool → List Task → ℕ
+most_at n w flags tasks = sum_by (λ (t : Task). t.turns * size_of_turn n w flags) tasks + other_actions n w
 
 -- its number, if it has one from its begin on
 abbrev pub subject_for : Kept → Wish → ℕ

@@ -1,5 +1,5 @@
 //! How a job is made.
-ghost use Rattle.std.specs.Prelude.{◌≡◌, ◌<◌, ◌≤◌, ◌+◌, ◌*◌, ◌++◌, ℕ, List, [], ◌∷◌, true, false, length, sum_by, Option, Some, None, IfOk, IfSome, OnOk};
+ghost use Rattle.std.specs.Prelude.{◌≡◌, ◌<◌, ◌≤◌, ◌+◌, ◌*◌, ◌^◌, ◌++◌, ℕ, List, [], ◌∷◌, true, false, length, sum_by, Option, Some, None, IfOk, IfSome, IfNone, OnOk};
 ghost use Rattle.std.specs.Option.{option_map};
 ghost use Rattle.std.specs.List.{insert};
 ghost use Rattle.record_codec.specs.Entries.{with_master, IsPadded};
@@ -12,7 +12,7 @@ ghost use Rattle.vault_core.specs.View.{flag_at};
 ghost use Rattle.vault_core.specs.Rest.{rewrites_from};
 ghost use Rattle.vault_core.specs.Parts.{IsJobKept, is_rewriter};
 ghost use Rattle.vault_core.specs.Wished.{HasName, IsShort};
-ghost use Rattle.vault_core.specs.Making.{pin_of_file, core_pins, pins_for, targets_of, turns_for, tasks_made, size_of_turn, other_actions, cursor_on, cursor_first, IsMade};
+ghost use Rattle.vault_core.specs.Making.{pin_of_file, core_pins, pins_for, targets_of, turns_for, tasks_made, size_of_turn, other_actions, most_at, cursor_on, cursor_first, IsMade};
 
 use crate::cursor::{Cursor, Move, Spot};
 use crate::job::{Job, Task};
@@ -241,10 +241,11 @@ fn turn_size(wish: &Wish, flagged: &[bool; 16], providers: u8) -> u64
     }
 }
 
-/// How many actions a job has on its files; none where a number can't hold it.
+/// How many actions a job has on its files; none exactly where a number can't hold it.
 fn count_turns(tasks: &[Task], size: u64) -> Option<u64>
     requires { size ≤ 33 }
-    ensures { IfSome result (λ count. count ≡ sum_by (λ (t : TaskData). t.turns * size) tasks.now) }
+    ensures count { IfSome result (λ count. count ≡ sum_by (λ (t : TaskData). t.turns * size) tasks.now) }
+    ensures none { IfNone result (2 ^ 64 ≤ sum_by (λ (t : TaskData). t.turns * size) tasks.now) }
 {
     let mut count = 0u64;
     for task in tasks {
@@ -266,18 +267,19 @@ fn other_size(wish: &Wish, providers: u8) -> u64
     }
 }
 
-/// A sum; none where a number can't hold it.
+/// A sum; none exactly where a number can't hold it.
 fn add_other(on_files: u64, others: u64) -> Option<u64>
-    ensures { IfSome result (λ most. most ≡ on_files + others) }
+    ensures sum { IfSome result (λ most. most ≡ on_files + others) }
+    ensures none { IfNone result (2 ^ 64 ≤ on_files + others) }
 {
     on_files.checked_add(others)
 }
 
-/// How many actions a job may have at most; none where a number can't hold it.
+/// How many actions a job may have at most; none exactly where a number can't hold it.
 fn most_actions(wish: &Wish, tasks: &[Task], flagged: &[bool; 16], providers: u8) -> Option<u64>
     requires { providers ≤ 16 }
-    ensures { IfSome result (λ most. most ≡ sum_by (λ (t : TaskData). t.turns * size_of_turn providers
-        wish.now flagged.now) tasks.now + other_actions providers wish.now) }
+    ensures most { IfSome result (λ most. most ≡ most_at providers wish.now flagged.now tasks.now) }
+    ensures none { IfNone result (2 ^ 64 ≤ most_at providers wish.now flagged.now tasks.now) }
 {
     let size = turn_size(wish, flagged, providers);
     match count_turns(tasks, size) {

@@ -1,11 +1,10 @@
-use Rattle.std.proofs.Common.{◌∙◌, List, [], ◌+◌, ◌*◌, ap, refl}
-use Rattle.std.specs.Prelude.{Option, sum_by}
+use Rattle.std.proofs.Common.{◌∙◌, List, [], ap, refl}
+use Rattle.std.specs.Prelude.{Option}
 use Rattle.record_defs.specs.Table.{Due}
 use Rattle.machine_defs.specs.Begins.{due_number, due_flags}
 use Rattle.record_codec.specs.Entries.{with_master}
 use Rattle.vault_core.specs.declared.pinned.Pinned.{Pinned}
-use Rattle.vault_core.specs.declared.job.Task.{Task}
-use Rattle.vault_core.specs.Making.{turns_for, tasks_made, targets_of, cursor_first, size_of_turn, other_actions}
+use Rattle.vault_core.specs.Making.{turns_for, tasks_made, targets_of, cursor_first, most_at}
 use Rattle.vault_core.proofs.Pins.{subject_is}
 use Rattle.vault_core.proofs.Begun.{made-kept}
 use Rattle.vault_core.proofs.made.make_job.Goals as goal
@@ -32,7 +31,5 @@ returns-clause-kept c = made-kept c.args.table.now
     (with_master c.args.setup.now []) c.args.number c.args.wish _
     (returns-clause-made c []) c.requires.some c.requires.few c.requires.named c.requires.short
     c.flags-flagged.ensures.long
-    (c.in-Some.ensures ∙ ap
-    (λ (ts : List Task). sum_by
-    (λ (x : Task). x.turns * size_of_turn c.args.setup.now.n c.args.wish c.flags-flagged.result)
-    ts + other_actions c.args.setup.now.n c.args.wish) c.deref-2.ensures.value)
+    (c.in-Some.ensures.most ∙ ap
+    (most_at c.args.setup.now.n c.args.wish c.flags-flagged.result) c.deref-2.ensures.value)

@@ -1,14 +1,23 @@
-use Rattle.std.proofs.Common.{◌≡◌, ◌∙◌, ℕ, ◌+◌, ◌*◌, ap, subst}
-use Rattle.std.specs.Prelude.{IfSome, sum_by}
+use Rattle.std.proofs.Common.{◌≡◌, ◌∙◌, ℕ, ◌+◌, ◌*◌, ◌^◌, ◌≤◌, ap, subst}
+use Rattle.std.specs.Prelude.{IfSome, IfNone, sum_by}
 use Rattle.vault_core.specs.declared.job.Task.{Task}
-use Rattle.vault_core.specs.Making.{size_of_turn}
+use Rattle.vault_core.specs.Making.{size_of_turn, most_at}
 use Rattle.vault_core.proofs.made.most_actions.Goals as goal
+use Rattle.vault_core.proofs.made.most_actions.Goals.{After-add_other}
 
-pub returns-in-Some : goal.returns-in-Some
-returns-in-Some c = subst (λ (k : ℕ). IfSome c.add_other.result (λ most. most ≡ k))
-    (ap (λ (k : ℕ). k + c.other_size.result) (c.in-Some.ensures
+-- the sum that is made is of all actions
+sum_is : (c : After-add_other) → c.in-Some.on_files + c.other_size.result
+    ≡ most_at c.args.providers c.args.wish.now c.args.flagged.now c.args.tasks.now
+sum_is c = ap (λ (k : ℕ). k + c.other_size.result) (c.in-Some.ensures.count
     ∙ ap (λ (k : ℕ). sum_by (λ (t : Task). t.turns * k) c.args.tasks.now) c.turn_size-size.ensures.size)
     ∙ ap (λ (k : ℕ). sum_by
     (λ (t : Task). t.turns * size_of_turn c.args.providers c.args.wish.now c.args.flagged.now)
-    c.args.tasks.now + k) c.other_size.ensures)
-    c.add_other.ensures
+    c.args.tasks.now + k) c.other_size.ensures
+
+pub returns-in-Some-clause-most : goal.returns-in-Some-clause-most
+returns-in-Some-clause-most c = subst (λ (k : ℕ). IfSome c.add_other.result (λ most. most ≡ k)) (sum_is c)
+    c.add_other.ensures.sum
+
+pub returns-in-Some-clause-none : goal.returns-in-Some-clause-none
+returns-in-Some-clause-none c = subst (λ (k : ℕ). IfNone c.add_other.result (2 ^ 64 ≤ k)) (sum_is c)
+    c.add_other.ensures.none
