@@ -6,6 +6,8 @@ mod decoders;
 #[cfg(test)]
 mod dispersal;
 #[cfg(test)]
+mod encoded;
+#[cfg(test)]
 mod field;
 #[cfg(test)]
 mod given;

@@ -9,3 +9,7 @@ pub mod BehindSteps
 pub mod KeyRows
 pub mod Nearness
 pub mod Clean
+pub mod Halves
+pub mod TransformSteps
+pub mod Basis
+pub mod QuarterSums

@@ -2,3 +2,4 @@ pub mod Generator
 pub mod Any
 pub mod Products
 pub mod Behind
+pub mod Transform

@@ -10,8 +10,10 @@ mod locator;
 mod make;
 mod open;
 mod products;
+mod quarters;
 mod rows;
 mod tables;
+mod transform;
 
 pub use any::AnyCode;
 pub use code::ServerCode;

@@ -1,4 +1,4 @@
-ghost use Rattle.std.specs.Prelude.{◌≡◌, ◌<◌, ◌++◌, IfOk, OnOk, EachIndex, length, slice_index};
+ghost use Rattle.std.specs.Prelude.{◌≡◌, ◌≤◌, ◌<◌, ◌++◌, IfOk, OnOk, EachIndex, length, slice_index};
 ghost use Rattle.code_defs.specs.Points.{upto};
 ghost use Rattle.code_points.specs.Profile.{plain_profile, AreKeptMultipliers};
 ghost use Rattle.server_code.specs.Generator.{IsGenerator};
@@ -59,4 +59,15 @@ pub fn rows(alloc: Global, profile: Profile) -> Result<Vec<u8>, AllocError>
     let mut row = vec![in alloc; zero; profile.keep as usize]?;
     kept_multipliers(profile, &mut multipliers);
     rows_by(alloc, profile, &multipliers, &mut row)
+}
+
+/// The same at the profiles 0 and 1, which work by them; no rows at another profile.
+pub fn first_rows(alloc: Global, profile: Profile) -> Result<Vec<u8>, AllocError>
+    ensures { IfOk result (λ rows. profile.number ≤ 1 → IsGenerator (plain_profile profile) rows.items) }
+{
+    if profile.number <= 1 {
+        rows(alloc, profile)
+    } else {
+        Ok(Vec::new(alloc))
+    }
 }

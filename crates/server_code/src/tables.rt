@@ -1,4 +1,4 @@
-ghost use Rattle.std.specs.Prelude.{◌≡◌};
+ghost use Rattle.std.specs.Prelude.{◌≡◌, ◌≤◌};
 ghost use Rattle.code_defs.specs.Points.{upto};
 ghost use Rattle.code_points.specs.Profile.{plain_profile};
 ghost use Rattle.server_code.specs.Generator.{IsGenerator};
@@ -6,12 +6,14 @@ ghost use Rattle.server_code.specs.Products.{AreProducts};
 
 use crate::make;
 use crate::products::{Multiples, products};
+use crate::quarters::{self, find_quarters};
 use crate::rows::{extend, is_extended};
 use code_points::Profile;
 use hail_field::{Memory, Symbol};
 use std::alloc::Global;
 
-/// What the code of a profile works with: its points, its coefficients row by row, and the products of bytes.
+/// What the code of a profile works with: its points, the products of bytes, and at the profiles 0 and 1 its
+/// coefficients row by row. The other profiles work by the additive transform.
 #[derive(Drop)]
 pub struct Tables {
     pub profile: Profile,
@@ -19,7 +21,7 @@ pub struct Tables {
     pub rows: Vec<u8>,
     pub products: Vec<Multiples>,
     pub ghost points_are: { points.items ≡ upto profile.size },
-    pub ghost rows_are: { IsGenerator (plain_profile profile) rows.items },
+    pub ghost rows_are: { profile.number ≤ 1 → IsGenerator (plain_profile profile) rows.items },
     pub ghost products_are: { AreProducts products.items },
 }
 
@@ -34,7 +36,7 @@ impl Tables {
         ensures { IfOk result (λ tables. tables.profile ≡ profile) }
     {
         let points = make::points(alloc, profile.size)?;
-        let rows = make::rows(alloc, profile)?;
+        let rows = make::first_rows(alloc, profile)?;
         let products = products(alloc)?;
         Ok(Tables {
             profile,
@@ -58,7 +60,12 @@ impl Tables {
         requires out { length out.old ≡ self.now.profile.size }
         ensures { out.new ≡ codeword (plain_profile self.now.profile) kept.now }
     {
-        extend(&self.products, &self.rows, kept, out);
+        let number = self.profile.number;
+        if number <= 1 {
+            extend(&self.products, &self.rows, kept, out);
+        } else {
+            quarters::extend(&self.products, find_quarters(number), kept, out);
+        }
     }
 
     /// Whether a block is a codeword.
@@ -66,12 +73,13 @@ impl Tables {
         requires { length block.now ≡ self.now.profile.size }
         ensures { IsTrue result ↔ IsCodeword (plain_profile self.now.profile) block.now }
     {
-        is_extended(
-            &self.products,
-            &self.rows,
-            self.profile.keep as usize,
-            block,
-        )
+        let number = self.profile.number;
+        let keep = self.profile.keep as usize;
+        if number <= 1 {
+            is_extended(&self.products, &self.rows, keep, block)
+        } else {
+            quarters::is_extended(&self.products, find_quarters(number), block)
+        }
     }
 
     /// Whether a block is a codeword, and so opens to itself.

@@ -1,0 +1,187 @@
+-- Lists of two halves, which a loop makes pair by pair, and sums and multiples of lists.
+use Rattle.std.proofs.Common.{◌≡◌, ◌≤◌, ◌<◌, ◌+◌, ◌-◌, ◌++◌, ◌⊎◌, inl, inr, ℕ, zero, suc, sym, ap, ap₂, ◌∙◌, refl, arith, List, [], ◌∷◌, length, take, drop, set, get_or, length-append}
+use Rattle.std.proofs.lemmas.List.{ext_get_or, get_or-take, get_or-drop, get_or_append_left, get_or-append_right, length-take-le, length-drop, length-set, get_or-set_same, get_or-set_other}
+use Rattle.std.proofs.lemmas.Bool.{cases_lt}
+use Rattle.algebra_laws.specs.Poly.{plus as plus_over, scale as scale_over}
+use Rattle.algebra_laws.proofs.Ring.{zero_add}
+use Rattle.algebra_laws.proofs.Roots.{length-plus}
+use Rattle.algebra_laws.proofs.Interpolate.{length-scale}
+use Rattle.hail_field.specs.Nim.{nim, nim_add, nim_mul}
+use Rattle.hail_field.proofs.AllNumbers.{nim_laws, nim_ring}
+use Rattle.code_defs.specs.Polynomials.{plus, scale}
+use Rattle.server_code.specs.Transform.{joined, parted}
+use Rattle.server_code.proofs.MakeSteps.{last_or_before}
+
+-- the sum at a place
+pub get_or-plus : (p q : List ℕ) (k : ℕ) → get_or (plus p q) k 0 ≡ nim_add (get_or p k 0) (get_or q k 0)
+unfolding plus_over
+get_or-plus [] q k = sym (zero_add nim_ring (get_or q k 0))
+get_or-plus (a ∷ p) [] zero = sym (nim_ring.add_zero a)
+get_or-plus (a ∷ p) [] (suc k) = sym (nim_ring.add_zero (get_or p k 0))
+get_or-plus (a ∷ p) (b ∷ q) zero = refl
+get_or-plus (a ∷ p) (b ∷ q) (suc k) = get_or-plus p q k
+
+-- the multiple at a place
+pub get_or-scale : (c : ℕ) (p : List ℕ) (k : ℕ) → get_or (scale c p) k 0 ≡ nim_mul c (get_or p k 0)
+unfolding scale_over
+get_or-scale c [] k = sym (nim_ring.mul_zero c)
+get_or-scale c (a ∷ p) zero = refl
+get_or-scale c (a ∷ p) (suc k) = get_or-scale c p k
+
+-- the sum of lists of one length
+pub length-even : (p q : List ℕ) (n : ℕ) → length p ≡ n → length q ≡ n → length (plus p q) ≡ n
+length-even p q n a b = omega (arith, a, b, length-plus nim nim_laws p q)
+
+-- the first half
+pub length-front : (n : ℕ) (v : List ℕ) → length v ≡ n + n → length (take n v) ≡ n
+length-front n v long = length-take-le n v (omega (arith, long))
+
+-- the second half
+pub length-back : (n : ℕ) (v : List ℕ) → length v ≡ n + n → length (drop n v) ≡ n
+length-back n v long = omega (arith, long, length-drop n v)
+
+-- a list is two halves
+by_halves : (n : ℕ) (v xs ys : List ℕ) → length v ≡ n + n → length xs ≡ n → length ys ≡ n →
+    ((k : ℕ) → k < n → get_or v k 0 ≡ get_or xs k 0) →
+    ((k : ℕ) → k < n → get_or v (n + k) 0 ≡ get_or ys k 0) → v ≡ xs ++ ys
+by_halves n v xs ys long long_x long_y low high =
+    ext_get_or 0 v (xs ++ ys) (omega (arith, long, long_x, long_y, length-append xs ys))
+    (λ i h. at i (omega (arith, h, long)) (cases_lt i n))
+  where
+    at : (i : ℕ) → i < n + n → (i < n) ⊎ (n ≤ i) → get_or v i 0 ≡ get_or (xs ++ ys) i 0
+    at i h (inl l) = low i l ∙ sym (get_or_append_left xs ys 0 i (omega (arith, l, long_x)))
+    at i h (inr m) =
+        let same : i ≡ n + (i - n) = omega (arith, m) in
+        ap (λ j. get_or v j 0) same ∙ high (i - n) (omega (arith, h, m))
+        ∙ sym (get_or-append_right xs ys n i 0 long_x m)
+
+-- the first pairs of a list of two halves are done: f of a pair is at its first place, g at its second
+pub record AreDone (f g : ℕ → ℕ → ℕ) (n count : ℕ) (old v : List ℕ) : Type 0 where
+  pub long : length v ≡ n + n
+  pub low : (j : ℕ) → j < count → get_or v j 0 ≡ f (get_or old j 0) (get_or old (n + j) 0)
+  pub high : (j : ℕ) → j < count → get_or v (n + j) 0 ≡ g (get_or old j 0) (get_or old (n + j) 0)
+  pub low_left : (j : ℕ) → count ≤ j → j < n → get_or v j 0 ≡ get_or old j 0
+  pub high_left : (j : ℕ) → count ≤ j → j < n → get_or v (n + j) 0 ≡ get_or old (n + j) 0
+
+-- none is done
+pub none_done : (f g : ℕ → ℕ → ℕ) (n : ℕ) (v : List ℕ) → length v ≡ n + n → AreDone f g n 0 v v
+none_done f g n v long = record {
+  long = long;
+  low = λ j h. absurd (omega (arith, h));
+  high = λ j h. absurd (omega (arith, h));
+  low_left = λ j h l. refl;
+  high_left = λ j h l. refl;
+}
+
+-- one pair more
+pub one_more_done : (f g : ℕ → ℕ → ℕ) (n k : ℕ) (old v : List ℕ) (x y : ℕ) → AreDone f g n k old v → k < n →
+    x ≡ f (get_or v k 0) (get_or v (n + k) 0) → y ≡ g (get_or v k 0) (get_or v (n + k) 0) →
+    AreDone f g n (k + 1) old (set (set v (n + k) y) k x)
+one_more_done f g n k old v x y done below is_x is_y = record {
+  long = length-set (set v (n + k) y) k x ∙ length-set v (n + k) y ∙ done.long;
+  low = λ j h. low j (last_or_before j k h);
+  high = λ j h. high j (last_or_before j k h);
+  low_left = λ j h l.
+      get_or-set_other (set v (n + k) y) k j x 0 (omega (arith, h))
+      ∙ get_or-set_other v (n + k) j y 0 (omega (arith, l)) ∙ done.low_left j (omega (arith, h)) l;
+  high_left = λ j h l.
+      get_or-set_other (set v (n + k) y) k (n + j) x 0 (omega (arith, below))
+      ∙ get_or-set_other v (n + k) (n + j) y 0 (omega (arith, h)) ∙ done.high_left j (omega (arith, h)) l;
+}
+  where
+    here : get_or v k 0 ≡ get_or old k 0
+    here = done.low_left k (omega arith) below
+
+    there : get_or v (n + k) 0 ≡ get_or old (n + k) 0
+    there = done.high_left k (omega arith) below
+
+    low : (j : ℕ) → (j ≡ k) ⊎ (j < k) →
+        get_or (set (set v (n + k) y) k x) j 0 ≡ f (get_or old j 0) (get_or old (n + j) 0)
+    low j (inl e) = rw e (get_or-set_same (set v (n + k) y) k x 0
+        (omega (arith, below, done.long, length-set v (n + k) y)) ∙ is_x ∙ ap₂ f here there)
+    low j (inr l) =
+        get_or-set_other (set v (n + k) y) k j x 0 (omega (arith, l))
+        ∙ get_or-set_other v (n + k) j y 0 (omega (arith, l, below)) ∙ done.low j l
+
+    high : (j : ℕ) → (j ≡ k) ⊎ (j < k) →
+        get_or (set (set v (n + k) y) k x) (n + j) 0 ≡ g (get_or old j 0) (get_or old (n + j) 0)
+    high j (inl e) = rw e (get_or-set_other (set v (n + k) y) k (n + k) x 0 (omega (arith, below))
+        ∙ get_or-set_same v (n + k) y 0 (omega (arith, below, done.long)) ∙ is_y ∙ ap₂ g here there)
+    high j (inr l) =
+        get_or-set_other (set v (n + k) y) k (n + j) x 0 (omega (arith, below))
+        ∙ get_or-set_other v (n + k) (n + j) y 0 (omega (arith, l)) ∙ done.high j l
+
+-- what is made of a pair by the inverse transform
+abbrev pub join_low : ℕ → ℕ → ℕ → ℕ
+join_low c a b = nim_add a (nim_mul c (nim_add a b))
+
+abbrev pub join_high : ℕ → ℕ → ℕ
+join_high a b = nim_add a b
+
+-- and by the transform
+abbrev pub part_low : ℕ → ℕ → ℕ → ℕ
+part_low c a b = nim_add a (nim_mul c b)
+
+abbrev pub part_high : ℕ → ℕ → ℕ → ℕ
+part_high c a b = nim_add (part_low c a b) b
+
+module _ (n c : ℕ) (old : List ℕ) (long : length old ≡ n + n) where
+  abbrev front : List ℕ
+  front = take n old
+
+  abbrev back : List ℕ
+  back = drop n old
+
+  long_front : length front ≡ n
+  long_front = length-front n old long
+
+  long_back : length back ≡ n
+  long_back = length-back n old long
+
+  front_at : (k : ℕ) → k < n → get_or front k 0 ≡ get_or old k 0
+  front_at k h = get_or-take n old k 0 h
+
+  back_at : (k : ℕ) → get_or back k 0 ≡ get_or old (n + k) 0
+  back_at k = get_or-drop n old k 0
+
+  -- all pairs are joined
+  pub all_joined : (v : List ℕ) → AreDone (join_low c) join_high n n old v → v ≡ joined n c old
+  unfolding joined
+  all_joined v done = by_halves n v (plus front (scale c (plus front back))) (plus front back) done.long
+      (length-even front (scale c (plus front back)) n long_front
+      (length-scale nim nim_laws c (plus front back) ∙ even))
+      even
+      (λ k h. done.low k h ∙ sym (get_or-plus front (scale c (plus front back)) k
+      ∙ ap₂ nim_add (front_at k h) (get_or-scale c (plus front back) k
+      ∙ ap (nim_mul c) (sum k h))))
+      (λ k h. done.high k h ∙ sym (sum k h))
+    where
+      even : length (plus front back) ≡ n
+      even = length-even front back n long_front long_back
+
+      sum : (k : ℕ) → k < n → get_or (plus front back) k 0 ≡ nim_add (get_or old k 0) (get_or old (n + k) 0)
+      sum k h = get_or-plus front back k ∙ ap₂ nim_add (front_at k h) (back_at k)
+
+  -- all pairs are parted
+  pub all_parted : (v : List ℕ) → AreDone (part_low c) (part_high c) n n old v → v ≡ parted n c old
+  unfolding parted
+  all_parted v done = by_halves n v low (plus low back) done.long even (length-even low back n even long_back)
+      (λ k h. done.low k h ∙ sym (low_at k h))
+      (λ k h. done.high k h ∙ sym (get_or-plus low back k ∙ ap₂ nim_add (low_at k h) (back_at k)))
+    where
+      low : List ℕ
+      low = plus front (scale c back)
+
+      even : length low ≡ n
+      even = length-even front (scale c back) n long_front (length-scale nim nim_laws c back ∙ long_back)
+
+      low_at : (k : ℕ) → k < n → get_or low k 0 ≡ part_low c (get_or old k 0) (get_or old (n + k) 0)
+      low_at k h = get_or-plus front (scale c back) k
+          ∙ ap₂ nim_add (front_at k h) (get_or-scale c back k ∙ ap (nim_mul c) (back_at k))
+
+-- a sum by its places
+pub plus_by_each : (p q sum : List ℕ) → length q ≡ length p → length sum ≡ length p →
+    ((k : ℕ) → k < length p → get_or sum k 0 ≡ nim_add (get_or p k 0) (get_or q k 0)) → sum ≡ plus p q
+plus_by_each p q sum even long each =
+    ext_get_or 0 sum (plus p q) (long ∙ sym (length-even p q (length p) refl even))
+    (λ k h. each k (omega (arith, h, long)) ∙ sym (get_or-plus p q k))

@@ -1,0 +1,12 @@
+use Rattle.std.proofs.Common.{◌*◌, ◌+◌, ◌∙◌, ap}
+use Rattle.server_code.specs.Transform.{forward}
+use Rattle.server_code.proofs.TransformSteps.{forward_made}
+use Rattle.server_code.proofs.transform.forward_32.Goals as goal
+
+pub returns : goal.returns
+returns c =
+    let halves = c.split_at_mut-left.ensures in
+    forward_made 4 c.args.h c.args.v.now c.part.new.v c.forward_16.new.v c.forward_16-2.new.v
+    c.part.ensures
+    (c.forward_16.ensures ∙ ap (forward 4 (2 * c.args.h)) halves.front)
+    (c.forward_16-2.ensures ∙ ap (forward 4 (2 * c.args.h + 1)) halves.back)

@@ -1,0 +1,11 @@
+use Rattle.std.proofs.Common.{◌*◌, ◌+◌, ◌∙◌, ap}
+use Rattle.server_code.specs.Transform.{inverse}
+use Rattle.server_code.proofs.TransformSteps.{inverse_made}
+use Rattle.server_code.proofs.transform.inverse_16.Goals as goal
+
+pub returns : goal.returns
+returns c =
+    let halves = c.split_at_mut-left.ensures in
+    inverse_made 3 c.args.h c.args.v.now c.inverse_8.new.v c.inverse_8-2.new.v c.join.new.v
+    (c.inverse_8.ensures ∙ ap (inverse 3 (2 * c.args.h)) halves.front)
+    (c.inverse_8-2.ensures ∙ ap (inverse 3 (2 * c.args.h + 1)) halves.back) c.join.ensures
