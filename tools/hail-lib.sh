@@ -1,30 +1,128 @@
-# What the companions share. Sourced with `tools` set to its folder.
+# What the companions share. Sourced by bash, with `tools` set to its folder.
 
-# The records of a journal and what follows from them, as journal.awk tells them.
-records() {
-    od -An -v -tu1 -w1 "$1" | awk -f "$tools/journal.awk"
+# The program: what HAIL names, or that of the repository which this folder lies in, or the one on the path.
+if [ -z "${HAIL-}" ]; then
+    HAIL=hail
+    [ ! -f "$tools/../hail" ] || HAIL=$tools/../hail
+fi
+
+# Tells why on standard error, and ends with a status.
+stop() {
+    echo "${0##*/}: $2" >&2
+    exit "$1"
 }
 
-# For each provider's folder that holds a block: its number, and the highest object number of its blocks.
-newest_blocks() {
-    for place in 0 1 2 3 4 5 6 7 8 9 10 11 12 13 14 15; do
-        [ -d "$1/provider-$place" ] || continue
-        blocks "$1/provider-$place" | awk -F- -v place="$place" '$1 > most { most = $1 } END { if (NR) print place, most }'
-    done
+# The places of the providers' folders.
+places() {
+    seq 0 15
 }
 
-# The names of the blocks in a provider's folder, a line each.
-blocks() {
-    find -H "$1" -maxdepth 1 -type f -printf '%f\n' | grep -E '^(0|[1-9][0-9]*)-(0|[1-9][0-9]*)$'
-    return 0
+# Sets `home` to the path of the folder of a store.
+enter_home() {
+    home=$(CDPATH='' cd -P -- "$1" 2>/dev/null && pwd -P) && [ -f "$home/journal" ] || stop 2 "no store in $1"
 }
 
 # Waits for the home's lock, which each command of hail takes too, and holds it until this program ends: -x alone, -s beside readers.
+# It waits with the journal locked, as each command does, so that it waits only for those that came before.
 hold_home() {
-    exec 9<"$1/" && flock "$2" 9
+    [ -L "$1/journal" ] || [ ! -f "$1/journal" ] || { exec 8<"$1/journal" && flock 8; }
+    exec 9<"$1/" && flock "$2" 9 || exit 2
+    exec 8<&-
 }
 
 # Lets go of it.
 let_go() {
     exec 9<&-
+}
+
+# A folder for this user alone that goes at the end. No key gets there.
+make_scratch() {
+    scratch=$(mktemp -d) || exit 4
+    trap 'rm -rf "$scratch"' EXIT
+    mkdir "$scratch/home"
+}
+
+# The records of a journal and what follows from them, as journal.awk tells them.
+records() {
+    head -c 16777216 -- "$1" | od -An -v -tu1 -w32 | LC_ALL=C awk -f "$tools/journal.awk"
+}
+
+# Of a journal what a companion needs, kept in the scratch folder: no single record, but of a file out of effect or a put cut off.
+read_journal() {
+    set -o pipefail
+    records "$1" | awk '!/^(start|done|drop|audit-start|audit-done|repair-done) /' >"$scratch/standing" || return 1
+    read -r n l b profile _ < <(sed -n 's/^setup //p' "$scratch/standing")
+    read -r next_id _ < <(sed -n 's/^next //p' "$scratch/standing")
+    [ -n "$n" ]
+}
+
+# hail takes this journal, and its files have the names and lengths that were read: the scratch home has a link to it.
+hail_agrees() {
+    ln -sfn -- "$1" "$scratch/home/journal"
+    "$HAIL" "$scratch/home" list </dev/null >"$scratch/list" 2>"$scratch/err" || return 1
+    awk '$1 == "file" { print $4, $3 }' "$scratch/standing" | LC_ALL=C sort | cmp -s - "$scratch/list" || {
+        echo 'its files are others than hail lists' >"$scratch/err"
+        return 1
+    }
+}
+
+# The symbols of a block, and those of them that are a file's own, at a profile.
+symbols_of() {
+    echo 6 16 32 64 128 | cut -d ' ' -f $(($1 + 1))
+}
+kept_of() {
+    echo 2 8 24 48 96 | cut -d ' ' -f $(($1 + 1))
+}
+
+# The names of the blocks in a provider's folder, a line each.
+blocks() {
+    [ ! -d "$1/" ] || find -H "$1/" -maxdepth 1 -type f -printf '%f\n' | grep -E '^(0|[1-9][0-9]{0,19})-(0|[1-9][0-9]{0,9})$'
+    return 0
+}
+
+# Of all blocks of a home a line PLACE NUMBER STRIPE.
+all_blocks() {
+    local place
+    for place in $(places); do
+        blocks "$1/provider-$place" | sed "s/^/$place /; s/-/ /"
+    done
+}
+
+# Of blocks so told: for each place that has one under a number not given yet, PLACE and the highest number.
+newer_than() {
+    awk -v next_id="$1" '$2 >= next_id && $2 > most[$1] + 0 { most[$1] = $2 } END { for (place in most) print place, most[place] }' | sort -n
+}
+
+# Each place that has a folder, with the identity of the folder and of all those that it lies in, from itself upwards.
+chains_of() {
+    local place path above
+    for place in $(places); do
+        path=$(CDPATH='' cd -P -- "$1/provider-$place" 2>/dev/null && pwd -P) || continue
+        above=("$path")
+        while [ "$path" != / ]; do
+            path=${path%/*}
+            path=${path:-/}
+            above+=("$path")
+        done
+        echo "$place $(stat -c '%d:%i' -- "${above[@]}" | tr '\n' ' ')"
+    done
+}
+
+# Tells which folders of providers are one, and which lies in another's.
+shared_folders() {
+    chains_of "$1" | awk '
+        { place[NR] = $1; own[NR] = $2; chain[NR] = " " substr($0, length($1 " " $2) + 2) " " }
+        END {
+            for (i = 1; i <= NR; i++) for (j = 1; j <= NR; j++) {
+                if (i < j && own[i] == own[j]) print "providers " place[i] " and " place[j] " are one folder"
+                if (i != j && own[i] != own[j] && index(chain[i], " " own[j] " ")) print "provider " place[i] " lies in the folder of provider " place[j]
+            }
+        }'
+}
+
+# Tells where others than its owner have a right to a journal, as on file systems that keep no rights.
+open_journal() {
+    local rights
+    rights=$(stat -L -c %a -- "$1/journal") || return 0
+    [ $((0$rights & 077)) -eq 0 ] || echo "others may read $1/journal, which has the key: its rights are $rights"
 }

@@ -1,17 +1,37 @@
-# Reads a journal as decimal byte values, one a line, and tells its records, oldest first, and then what stands after them:
+# Reads a journal as decimal byte values, however many a line, and tells its records as they come. It keeps one line of bytes, the files
+# in effect, and of the last 100,000 puts those that are not done.
 #
 #   setup N L B PROFILE ROUNDS PICKS TOLERANCE
 #   start ID NAME, done ID LENGTH, drop NAME, audit-start NUMBER, audit-done NUMBER UNDECIDED COUNT .., repair-done NUMBER
+#   past ID LENGTH NAME     behind the record that took a file out of effect: its number, length and name
+#   cut ID                  behind a start stands another record than its end: a command never writes the end later
+#
+# After the closed gate:
+#
 #   file ID LENGTH NAME     a file in effect, in no order
+#   cut ID                  the last record is a start
 #   next ID NUMBER          the number of the next put and of the next audit
 #   end BYTES               the length of the text: magic, records and the closed gate
+#   beyond ID               behind the end stands the end of this put, as a stop leaves it, or a gate that was altered
+#   odd                     some end does not stand right behind its start, or behind the text stands what is no record: which puts were
+#                           cut off can't be told
 #
 # Ends with 1 where the bytes are no journal. It judges spellings alone; whether a record may follow those before it, the program says.
 # Numbers of 8 bytes are told exactly below 2^53.
 
+# There is one more byte.
+function more() {
+    while (place >= NF) {
+        if (getline <= 0) return 0
+        place = 0
+    }
+    return 1
+}
+
 function byte() {
-    if (at >= count) bad("it ends early")
-    return bytes[at++]
+    if (!more()) bad("it ends early")
+    at++
+    return $(++place)
 }
 
 function number(size,    i, sum, weight) {
@@ -26,78 +46,115 @@ function number(size,    i, sum, weight) {
 function name(    i, text, size) {
     size = byte()
     if (size < 1 || size > 64) bad("a name has a wrong length")
-    for (i = 0; i < size; i++) text = text sprintf("%c", byte())
+    for (i = 0; i < size; i++) text = text letters[byte() + 0]
     return text
 }
 
+# Behind the end of the text nothing is wrong: it may be anything.
 function bad(why) {
-    printf "no journal: %s at byte %d\n", why, at > "/dev/stderr"
     failed = 1
-    exit 1
+    if (beyond) print "odd"
+    else printf "no journal: %s at byte %d\n", why, at > "/dev/stderr"
+    exit !beyond
+}
+
+function tell(line) {
+    if (!beyond) print line
 }
 
 function setup(    i, line) {
     line = "setup"
     for (i = 0; i < 6; i++) line = line " " byte()
-    print line " " number(2)
-    at += 32
-    if (at > count) bad("it ends early")
+    line = line " " number(2)
+    for (i = 0; i < 32; i++) byte()
+    tell(line)
 }
 
-function started(    id, text) {
-    id = number(8)
+# A file goes out of effect, if the name has one.
+function forget(text) {
+    if (text in of_name) tell("past " of_name[text] " " length_of[text] " " text)
+    delete of_name[text]
+    delete length_of[text]
+}
+
+function started(    text) {
+    last = number(8)
     text = name()
-    begun[id] = text
-    next_id = id + 1
-    print "start " id " " text
+    begun[last] = text
+    delete begun[last - 100000]
+    next_id = last + 1
+    tell("start " last " " text)
 }
 
-function done(    id, size) {
+function done(before,    id, size, text) {
     id = number(8)
     size = number(4)
-    if (id in begun) {
-        of_name[begun[id]] = id
-        length_of[id] = size
-        delete begun[id]
-    }
-    print "done " id " " size
+    tell("done " id " " size)
+    if (id != before || !(id in begun)) odd = 1
+    if (beyond) print "beyond " id
+    if (!(id in begun)) return
+    text = begun[id]
+    delete begun[id]
+    forget(text)
+    of_name[text] = id
+    length_of[text] = size
 }
 
 function dropped(    text) {
     text = name()
-    delete of_name[text]
-    print "drop " text
+    tell("drop " text)
+    forget(text)
+}
+
+# An audit that begins under the number of the put before it may be that put's end, altered.
+function audit_started(before,    number_of) {
+    number_of = number(8)
+    if (number_of == before) odd = 1
+    next_audit = number_of + 1
+    tell("audit-start " number_of)
 }
 
 function audited(    i, n, line) {
     line = "audit-done " number(8) " " number(4)
     n = byte()
     for (i = 0; i < n; i++) line = line " " number(4)
-    print line
+    tell(line)
 }
 
-function one_record(    kind) {
+# The put whose start was the record before, or 0, is told as cut off where another record follows than its end.
+function one_record(    kind, before) {
     kind = byte()
+    before = last
+    last = 0
+    if (kind == 3) { done(before); return }
+    if (before) tell("cut " before)
     if (kind == 1) setup()
     else if (kind == 2) started()
-    else if (kind == 3) done()
     else if (kind == 4) dropped()
-    else if (kind == 5) { next_audit = number(8); print "audit-start " next_audit++ }
+    else if (kind == 5) audit_started(before)
     else if (kind == 6) audited()
-    else if (kind == 7) print "repair-done " number(8)
+    else if (kind == 7) tell("repair-done " number(8))
     else { at--; bad("a kind of record is unknown") }
 }
 
-BEGIN { split("72 65 73 76 74 82 78 49", magic, " "); next_id = 1; next_audit = 1 }
-
-{ bytes[count++] = $1 }
-
-END {
-    if (failed) exit 1
-    if (count <= 9) bad("no store is set up")
-    for (at = 0; at < 8; at++) if (bytes[at] != magic[at + 1]) bad("it does not begin as one")
-    while (byte() == 1) one_record()
-    for (text in of_name) print "file " of_name[text] " " length_of[of_name[text]] " " text
+# Tells what follows from the records. The gate behind them is read.
+function tell_end(    text) {
+    for (text in of_name) print "file " of_name[text] " " length_of[text] " " text
+    if (last) print "cut " last
     print "next " next_id " " next_audit
     print "end " at
+}
+
+BEGIN {
+    for (at = 0; at < 256; at++) letters[at] = sprintf("%c", at)
+    split("72 65 73 76 74 82 78 49", magic, " ")
+    next_id = next_audit = 1
+    for (at = 0; at < 8;) if (byte() != magic[at]) { at = 0; bad("it does not begin as one") }
+    gate = byte()
+    if (!more()) bad("no store is set up")
+    for (; gate == 1; gate = byte()) one_record()
+    tell_end()
+    beyond = 1
+    while (more()) { one_record(); byte() }
+    if (odd) print "odd"
 }
