@@ -4,7 +4,8 @@
 #   setup N L B PROFILE ROUNDS PICKS TOLERANCE
 #   start ID NAME, done ID LENGTH, drop NAME, audit-start NUMBER, audit-done NUMBER UNDECIDED COUNT .., repair-done NUMBER
 #   past ID LENGTH NAME     behind the record that took a file out of effect: its number, length and name
-#   cut ID                  behind a start stands another record than its end: a command never writes the end later
+#   cut ID                  behind a start stands another record than its end: a command never writes the end later. It is not told where
+#                           that record is the start of an audit with the same number, which may be the end, altered
 #
 # After the closed gate:
 #
@@ -14,7 +15,7 @@
 #   end BYTES               the length of the text: magic, records and the closed gate
 #   beyond ID               behind the end stands the end of this put, as a stop leaves it, or a gate that was altered
 #   odd                     some end does not stand right behind its start, or behind the text stands what is no record: which puts were
-#                           cut off can't be told
+#                           cut off is not sure
 #
 # Ends with 1 where the bytes are no journal. It judges spellings alone; whether a record may follow those before it, the program says.
 # Numbers of 8 bytes are told exactly below 2^53.
@@ -106,10 +107,9 @@ function dropped(    text) {
     forget(text)
 }
 
-# An audit that begins under the number of the put before it may be that put's end, altered.
 function audit_started(before,    number_of) {
     number_of = number(8)
-    if (number_of == before) odd = 1
+    if (before && before != number_of) tell("cut " before)
     next_audit = number_of + 1
     tell("audit-start " number_of)
 }
@@ -127,11 +127,11 @@ function one_record(    kind, before) {
     before = last
     last = 0
     if (kind == 3) { done(before); return }
+    if (kind == 5) { audit_started(before); return }
     if (before) tell("cut " before)
     if (kind == 1) setup()
     else if (kind == 2) started()
     else if (kind == 4) dropped()
-    else if (kind == 5) audit_started(before)
     else if (kind == 6) audited()
     else if (kind == 7) tell("repair-done " number(8))
     else { at--; bad("a kind of record is unknown") }
