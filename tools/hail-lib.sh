@@ -74,17 +74,13 @@ kept_of() {
     echo 2 8 24 48 96 | cut -d ' ' -f $(($1 + 1))
 }
 
-# The names of the blocks in a provider's folder, a line each.
-blocks() {
-    [ ! -d "$1/" ] || find -H "$1/" -maxdepth 1 -type f -printf '%f\n' | grep -E '^(0|[1-9][0-9]{0,19})-(0|[1-9][0-9]{0,9})$'
-    return 0
-}
-
-# Of all blocks of a home a line PLACE NUMBER STRIPE.
+# Of all blocks of a home that find takes a line PLACE NUMBER STRIPE SIZE, in bytes.
 all_blocks() {
-    local place
+    local place home=$1
+    shift
     for place in $(places); do
-        blocks "$1/provider-$place" | sed "s/^/$place /; s/-/ /"
+        [ ! -d "$home/provider-$place/" ] || find -H "$home/provider-$place/" -maxdepth 1 -type f "$@" -printf '%f %s\n' |
+            sed -nE "s/^(0|[1-9][0-9]{0,19})-(0|[1-9][0-9]{0,9}) /$place \\1 \\2 /p"
     done
 }
 
