@@ -1,5 +1,6 @@
 #!/bin/bash
-# Tests of the companions over a real home: each answer that goes otherwise is told, and it ends with 0 exactly where none does.
+# Tests of the companions over real homes, at B = 1, 2 and 3: each answer that goes otherwise is told, and it ends with 0 exactly where
+# none does. What is due was worked out by hand.
 set -u
 
 root=$(CDPATH='' cd -P -- "$(dirname "$0")/.." && pwd -P)
@@ -8,7 +9,14 @@ tools=${TOOLS:-$root/tools}
 scratch=$(mktemp -d) || exit 1
 trap 'rm -rf "$scratch"' EXIT
 cd "$scratch" || exit 1
+mkdir tmp
+export TMPDIR=$scratch/tmp
 failed=0
+
+wrong() {
+    echo "tools: $*" >&2
+    failed=1
+}
 
 # The companion ends with this status and writes this text.
 says() {
@@ -16,62 +24,376 @@ says() {
     shift 2
     "$tools/$1" "${@:2}" >out 2>err </dev/null
     local status=$?
-    [ "$status" -eq "$wanted" ] || { echo "tools: $* ends with $status, not $wanted: $(cat out err)" >&2; failed=1; }
-    [ "$(cat out)" = "$text" ] || { echo "tools: $* writes $(cat out), not $text" >&2; failed=1; }
+    [ "$status" -eq "$wanted" ] || wrong "$* ends with $status, not $wanted: $(cat out err)"
+    [ "$(cat out)" = "$text" ] || wrong "$* writes $(cat out), not $text"
 }
 
-mkdir home
-head -c 32 /dev/urandom | od -An -v -tx1 | tr -d ' \n' >key
-"$HAIL" home init 6 3 1 1 4 8 0 <key >/dev/null
-says 2 '' hail-watch nowhere
-says 2 '' hail-gc home all
-seq 1 400 >notes
-"$HAIL" home put notes <notes >/dev/null
-seq 1 200 | "$HAIL" home put other >/dev/null
-cp home/journal old
-seq 1 300 | "$HAIL" home put third >/dev/null
-says 0 '' hail-watch home
-says 0 '' hail-verify home
-says 0 '' hail-gc home
+# What the companion before told on standard error has this text.
+told() {
+    grep -qF -- "$1" err || wrong "$1 is not told, but $(cat err)"
+}
 
-# A block of provider 2 is spoilt beyond what it bears: no audit of this size need see it, but reading everything does.
-cp home/provider-2/1-0 block
-head -c 256 /dev/urandom >home/provider-2/1-0
-says 1 'notes: spoilt by provider 2' hail-verify home
-cp home/provider-4/1-0 other
-head -c 256 /dev/urandom >home/provider-4/1-0
-says 1 'notes: more than one provider is wrong' hail-verify home
-cp block home/provider-2/1-0
-cp other home/provider-4/1-0
-says 0 '' hail-verify home
+# A new home with these numbers, a key of its own, and the files of 1492, 692 and 1092 bytes: numbers 1 to 3.
+new_home() {
+    rm -rf home
+    head -c 32 /dev/urandom | od -An -v -tx1 | tr -d ' \n' >key
+    "$tools/hail-init" home "$@" <key >out || wrong "hail-init $*: $(cat out)"
+    seq 1 400 | "$HAIL" home put notes >out
+    seq 1 200 | "$HAIL" home put other >out
+    seq 1 300 | "$HAIL" home put third >out
+}
 
-# A provider is gone, and comes back whole by a repair.
-rm -r home/provider-5
-says 1 'provider 5 is flagged' hail-watch home
-says 1 'hail-watch: a repair is due' hail-watch home
-"$HAIL" home repair >/dev/null
-says 0 '' hail-watch home
-rm -r home/provider-5 home/provider-4
-says 1 'undecided rounds: 12' hail-watch home
-says 1 'notes: more than one provider is wrong
-other: more than one provider is wrong
-third: more than one provider is wrong' hail-verify home
+# Puts random bytes in the place of a block.
+spoil() {
+    head -c "$(stat -c %s "home/$1")" /dev/urandom >random && mv random "home/$1"
+}
 
-# What a put left that was never done is told and removed, and nothing else is.
-mkdir -p home/provider-3
-"$HAIL" home drop third >/dev/null
-cp home/provider-0/1-0 home/provider-0/3-7
-cp home/provider-0/1-0 home/provider-3/3-0
-says 0 'provider-0/3-7
+# A put of so many bytes under a name fails at this provider, for which a file stands in the place of its folder.
+put_fails() {
+    mv "home/provider-$1" away && : >"home/provider-$1"
+    head -c "$3" /dev/zero | "$HAIL" home put "$2" >out 2>err
+    [ "$(cat err)" = "hail: provider fault $1" ] || wrong "a put of $2 says $(cat out err)"
+    rm "home/provider-$1" && mv away "home/provider-$1"
+}
+
+words() {
+    says 2 '' hail-watch nowhere
+    says 2 '' hail-gc home all
+    says 2 '' hail-gc home remove 1a
+    says 2 '' hail-verify
+    says 2 '' hail-restore home
+    says 2 '' hail-restore home key many
+    says 2 '' hail-salvage home 0
+    says 2 '' hail-init home 6 3 1
+}
+
+# A new store over blocks is refused, and watched; so are folders that are one.
+setting_up() {
+    new_home 6 3 1 1 4 8 0
+    mv home/journal journal
+    says 3 'provider 0 holds blocks, and there is no journal
+provider 1 holds blocks, and there is no journal
+provider 2 holds blocks, and there is no journal
+provider 3 holds blocks, and there is no journal
+provider 4 holds blocks, and there is no journal
+provider 5 holds blocks, and there is no journal
+hail-watch: set up nothing here: the first put would destroy them (see hail-restore)' hail-watch home
+    says 3 '' hail-init home 6 3 1 1 4 8 0
+    told 'blocks are held by provider-0 provider-1 provider-2 provider-3 provider-4 provider-5'
+    [ ! -e home/journal ] || wrong 'hail-init set up a store over blocks'
+    "$HAIL" home init 6 3 1 1 4 8 0 <key >out
+    "$tools/hail-watch" home >out
+    [ $? -eq 3 ] && grep -q 'a new one over old blocks; put nothing' out || wrong "a new journal over blocks is watched with $(cat out)"
+    mv journal home/journal
+    chmod 644 home/journal
+    says 1 "others may read home/journal, which has the key: its rights are 644" hail-watch home
+    chmod 600 home/journal
+    mkdir -p two/store
+    ln -s store two/provider-0
+    ln -s store two/provider-1
+    ln -s store/inner two/provider-2
+    mkdir two/store/inner
+    says 5 '' hail-init two 6 3 1 1 4 8 0
+    told 'providers 0 and 1 are one folder'
+    told 'provider 2 lies in the folder of provider 0'
+    mv home/provider-4 home/provider-3/ && ln -s provider-3/provider-4 home/provider-4
+    says 5 'provider 4 lies in the folder of provider 3
+hail-watch: put nothing: what is stored there is lost' hail-watch home
+}
+
+# A provider that is lost is flagged, and mended. One liar stops no audit; more than B are an older journal.
+watching() {
+    new_home 6 3 1 1 4 8 0
+    says 0 '' hail-watch home
+    rm -r home/provider-5
+    says 1 'provider 5 is flagged' hail-watch home
+    says 1 'hail-watch: a repair is due' hail-watch home
+    "$HAIL" home repair >out
+    says 0 '' hail-watch home
+    : >home/provider-3/999-0
+    says 1 'provider 3 holds blocks of number 999, and the next number is 4' hail-watch home
+    says 0 '' hail-gc home
+    told 'provider 3 has blocks of number 999, which was not given yet'
+    rm -r home/provider-5
+    says 1 'provider 3 holds blocks of number 999, and the next number is 4
+provider 5 is flagged' hail-watch home
+    "$HAIL" home repair >out
+    : >home/provider-0/4-0
+    says 3 'provider 0 holds blocks of number 4, and the next number is 4
+provider 3 holds blocks of number 999, and the next number is 4
+hail-watch: the journal is an older copy, or a new one over old blocks; put nothing (see hail-restore)' hail-watch home
+    says 3 '' hail-gc home remove
+    [ -e home/provider-3/999-0 ] || wrong 'hail-gc removed a block of a number not given yet'
+    rm home/provider-0/4-0 home/provider-3/999-0
+    rm -r home/provider-5 home/provider-4
+    says 1 'undecided rounds: 12' hail-watch home
+}
+
+# At B = 2 two may lie, and three are an older journal.
+watching_two() {
+    : >home/provider-3/999-0
+    : >home/provider-4/7-0
+    says 1 'provider 3 holds blocks of number 999, and the next number is 4
+provider 4 holds blocks of number 7, and the next number is 4' hail-watch home
+    : >home/provider-8/5-0
+    "$tools/hail-watch" home >out
+    [ $? -eq 3 ] || wrong "three folders with newer blocks are watched with $(cat out)"
+    rm home/provider-3/999-0 home/provider-4/7-0 home/provider-8/5-0
+}
+
+# Whoever spoils a file is named, at B = 1.
+verifying_one() {
+    new_home 6 3 1 1 4 8 0
+    says 0 '' hail-verify home
+    spoil provider-2/1-1
+    says 1 'notes: comes back; wrong blocks at provider 2' hail-verify home
+    spoil provider-4/1-0
+    says 1 'notes: comes back; wrong blocks at provider 2 4' hail-verify home
+    "$HAIL" home get notes >notes.new && "$HAIL" home put notes <notes.new >out || wrong 'notes is not stored anew'
+    says 0 '' hail-verify home
+    spoil provider-0/2-0
+    spoil provider-4/2-0
+    says 1 'other: lost from stripe 0 on; blocks are missing at provider none' hail-verify home
+    "$HAIL" home drop other >out
+    spoil provider-1/3-0
+    rm -r home/provider-1
+    "$HAIL" home audit >out
+    "$HAIL" home repair >out || wrong 'provider 1 is not repaired'
+    says 0 '' hail-verify home
+    mv home/provider-2 away && mv home/provider-5 home/provider-2 && mv away home/provider-5
+    says 1 "third: lost from stripe 0 on; blocks are missing at provider none
+providers 2 and 5 hold each other's blocks
+notes: lost from stripe 0 on; blocks are missing at provider none" hail-verify home
+}
+
+# A repair that a second loss keeps from its end, behind the first file: the file that is named as lost goes, and it ends.
+stuck_repair() {
+    new_home 4 1 1 0 1 1 0
+    rm -r home/provider-0
+    "$HAIL" home audit >out
+    rm home/provider-3/2-*
+    "$HAIL" home repair >out 2>err
+    [ "$(cat err)" = 'hail: lost row 0' ] || wrong "a repair over a second loss says $(cat out err)"
+    says 1 'other: lost from stripe 0 on; blocks are missing at provider 0 3
+third: comes back; wrong blocks at provider 0' hail-verify home
+    "$HAIL" home drop other >out
+    [ "$("$HAIL" home repair 2>&1)" = 'repaired 1' ] || wrong 'a repair does not end once the lost file is dropped'
+    says 0 '' hail-verify home
+}
+
+# At B = 2: nine providers, of which two neighbours, two others, and three are gone, and three spoil other stripes.
+verifying_two() {
+    new_home 9 4 2 1 1 1 0
+    watching_two
+    says 0 '' hail-verify home
+    mkdir kept
+    mv home/provider-3 home/provider-4 kept/
+    says 1 'notes: comes back; wrong blocks at provider 3 4
+other: comes back; wrong blocks at provider 3 4
+third: comes back; wrong blocks at provider 3 4' hail-verify home
+    mv kept/provider-3 home/
+    mv home/provider-7 kept/
+    says 1 'notes: comes back; wrong blocks at provider 4 7
+other: comes back; wrong blocks at provider 4 7
+third: comes back; wrong blocks at provider 4 7' hail-verify home
+    mv home/provider-0 kept/
+    says 1 'notes: lost from stripe 0 on; blocks are missing at provider 0 4 7
+other: lost from stripe 0 on; blocks are missing at provider 0 4 7
+third: lost from stripe 0 on; blocks are missing at provider 0 4 7' hail-verify home
+    mv kept/* home/
+    spoil provider-0/1-0
+    spoil provider-5/1-1
+    spoil provider-8/1-1
+    says 1 'notes: comes back; wrong blocks at provider 0 5 8' hail-verify home
+}
+
+# At B = 3: five providers lost a block each, of other stripes, and three spoilt one of the same.
+verifying_three() {
+    local place
+    new_home 10 3 3 0 1 1 0
+    says 0 '' hail-verify home
+    for place in 0 2 5 6 7; do rm "home/provider-$place/2-$place"; done
+    spoil provider-9/1-0
+    spoil provider-4/1-0
+    spoil provider-1/1-0
+    says 1 'notes: comes back; wrong blocks at provider 1 4 9
+other: comes back; wrong blocks at provider 0 2 5 6 7' hail-verify home
+}
+
+# While the store is verified, no file below TMPDIR has the key, and afterwards nothing is left there.
+no_key_is_left() {
+    new_home 6 3 1 1 4 8 0
+    master=$(od -An -v -tx1 -j 18 -N 32 home/journal | tr -d ' \n')
+    [ "$master" = "$(cat key)" ] || wrong 'the key does not stand where it should in the journal'
+    cat >spy <<SPY
+#!/bin/bash
+find "$TMPDIR" -type f -exec od -An -v -tx1 {} \; | tr -d ' \n' | grep -q "$master" && echo found >"$scratch/spied"
+exec "$HAIL" "\$@"
+SPY
+    chmod +x spy
+    HAIL=$scratch/spy "$tools/hail-verify" home >out || wrong "hail-verify over a spy says $(cat out)"
+    [ ! -e spied ] || wrong 'hail-verify wrote the key below TMPDIR'
+    [ -z "$(ls -A tmp)" ] || wrong "below TMPDIR is left $(ls -A tmp)"
+}
+
+# What puts left that were never done is told and removed. What could be a whole file is not, until it is named.
+collecting() {
+    new_home 6 3 1 1 4 8 0
+    says 0 '' hail-gc home
+    put_fails 5 fourth 600
+    says 0 'provider-0/4-0
+provider-1/4-0
+provider-2/4-0
+provider-3/4-0
+provider-4/4-0' hail-gc home
+    put_fails 0 fourth 600
+    says 0 '' hail-gc home remove
+    says 0 '' hail-gc home
+    mkdir kept
+    cp home/provider-0/3-0 kept/
+    "$HAIL" home drop third >out
+    cp kept/3-0 home/provider-0/3-7
+    cp kept/3-0 home/provider-3/3-0
+    says 0 'provider-0/3-7
 provider-3/3-0' hail-gc home
-says 0 '' hail-gc home remove
-says 0 '' hail-gc home
-[ -f home/provider-0/1-0 ] && [ ! -e home/provider-0/3-7 ] || { echo 'tools: hail-gc removed other blocks' >&2; failed=1; }
+    says 0 '' hail-gc home remove
+    says 0 '' hail-gc home
+    for place in 0 1 2 3 4 5; do for stripe in 0 1 2; do : >"home/provider-$place/3-$stripe"; done; done
+    rm home/provider-4/3-1
+    says 0 '' hail-gc home remove
+    told "number 3 has no name, but may be a whole file; 'hail-gc HOME remove 3' removes it"
+    [ -e home/provider-5/3-2 ] || wrong 'hail-gc removed what may be a whole file'
+    rm home/provider-5/3-1
+    mv home/provider-5 away
+    says 0 '' hail-gc home
+    told 'number 3 has no name'
+    mv away home/provider-5
+    says 0 '' hail-gc home remove 3
+    says 0 '' hail-gc home
+    [ "$(cat home/provider-0/* | wc -c)" -eq $((6 * 256)) ] || wrong 'hail-gc removed blocks of a file in effect'
+    says 0 '' hail-verify home
+}
 
-# An older journal is put back: nothing is audited, nothing removed.
-cp home/provider-0/1-0 home/provider-0/3-0
-cp old home/journal
-says 3 'provider 0 holds blocks of number 3, and the next number is 3
-hail-watch: the journal is an older copy; put nothing' hail-watch home
-says 3 '' hail-gc home remove
+# The byte at this place of a worker's journal gets its lowest bit changed; no block of a number in effect may be listed.
+flip_one() {
+    local old=${bytes[$2]}
+    cp journal "$1/journal"
+    printf "\\$(printf %o $((old ^ 1)))" | dd of="$1/journal" bs=1 seek="$2" conv=notrunc 2>/dev/null
+    "$tools/hail-gc" "$1" 2>/dev/null | grep -E '/(2|4|5|6|7|8|9|10|11)-' && echo "at byte $2"
+}
+
+# A worker has a home with the same folders, and flips every fourth byte.
+flip_some() {
+    local at
+    mkdir "worker-$1"
+    for place in 0 1 2 3 4 5; do ln -s "../home/provider-$place" "worker-$1/provider-$place"; done
+    for ((at = $1; at < ${#bytes[@]}; at += 4)); do flip_one "worker-$1" "$at"; done >"flipped-$1"
+}
+
+# A journal of ten files, 1 to 10; the first is dropped, 3 replaced by 11, and two puts failed. Whichever byte of it is altered, what the
+# intact one has in effect stays.
+flipping() {
+    local name worker
+    rm -rf home
+    head -c 32 /dev/urandom | od -An -v -tx1 | tr -d ' \n' | "$tools/hail-init" home 6 3 1 0 1 1 0 >out
+    for name in 0 1 2 3 4 5 6 7 8 9; do echo "$name" | "$HAIL" home put "$name" >out; done
+    "$HAIL" home drop 0 >out
+    echo new | "$HAIL" home put 2 >out
+    put_fails 5 3 10
+    put_fails 3 8 100
+    says 0 'provider-0/12-0
+provider-0/13-0
+provider-1/12-0
+provider-1/13-0
+provider-2/12-0
+provider-2/13-0
+provider-3/12-0
+provider-4/12-0' hail-gc home
+    cp home/journal journal
+    mapfile -t bytes < <(od -An -v -tu1 -w1 journal | tr -d ' ')
+    [ "${#bytes[@]}" -eq 365 ] || wrong "the journal has ${#bytes[@]} bytes"
+    for worker in 0 1 2 3; do flip_some "$worker" & done
+    wait
+    [ -z "$(cat flipped-*)" ] || wrong "with an altered journal hail-gc lists $(cat flipped-* | head -n 5)"
+    says 0 '' hail-gc home remove
+    says 0 '' hail-verify home
+    printf '\377' | dd of=home/journal bs=1 seek=100 conv=notrunc 2>/dev/null
+    says 4 '' hail-gc home remove
+}
+
+# A copy is restored only where it is whole, shorter than no sound journal, and not further behind than was said; no number comes again.
+restoring() {
+    new_home 6 3 1 1 4 8 0
+    cp home/journal copy
+    says 3 '' hail-restore home copy
+    sha256sum copy >copy.sum
+    "$HAIL" home drop other >out
+    echo four | "$HAIL" home put fourth >out
+    echo five | "$HAIL" home put fifth >out
+    "$HAIL" home drop fifth >out
+    says 3 '' hail-restore home copy
+    told 'the journal in its place is sound and longer than the copy'
+    mv home/journal newest
+    says 5 '' hail-restore home copy 0
+    told 'at least 1 commands behind'
+    rm -f home/journal
+    says 1 'restored: the next put has number 14
+number 4: a file that was put since the copy, whose name is lost; hail-salvage may join its bytes
+other: too few blocks: it was dropped or replaced since the copy, or providers are away' hail-restore home copy 10
+    echo six | "$HAIL" home put sixth >out
+    [ -e home/provider-0/14-0 ] && [ ! -e home/provider-0/5-0 ] || wrong 'after hail-restore a put has another number'
+    "$HAIL" home audit >out
+    [ "$(head -n 1 out)" = 'audit 11 undecided 4' ] || wrong "after hail-restore an audit says $(head -n 1 out)"
+    says 1 'other: lost from stripe 0 on; blocks are missing at provider 0 1 2 3 4 5' hail-verify home
+    printf x >>copy
+    says 3 '' hail-restore home copy
+    sha256sum copy >copy.sum
+    : >home/journal
+    : >home/provider-2/77777-0
+    says 1 'provider 2 has blocks of number 77777, which no put can have had
+restored: the next put has number 15
+number 14: a file that was put since the copy, whose name is lost; hail-salvage may join its bytes
+number 4: a file that was put since the copy, whose name is lost; hail-salvage may join its bytes
+other: too few blocks: it was dropped or replaced since the copy, or providers are away' hail-restore home copy 11
+    [ -e home/journal.before ] && [ ! -e home/journal.new ] || wrong "hail-restore leaves $(ls home)"
+}
+
+# Without a journal the files' own bytes are joined, and what is missing is told.
+salvaging() {
+    new_home 6 3 1 1 4 8 0
+    says 0 '1 4 1536 notes 1492
+2 2 768 other 692
+3 3 1152 third 1092' hail-salvage home 3
+    rm -r home/journal home/provider-3 home/provider-4 home/provider-5
+    says 0 '1 4 1536
+2 2 768
+3 3 1152' hail-salvage home 3
+    { seq 1 300; head -c 60 /dev/zero; } >wanted
+    "$tools/hail-salvage" home 3 3 2>err | cmp -s - wanted || wrong 'hail-salvage joins other bytes'
+    told 'nothing vouches for these bytes'
+    rm home/provider-1/3-2
+    "$tools/hail-salvage" home 3 3 >out 2>err
+    [ $? -eq 1 ] || wrong 'hail-salvage tells no missing part'
+    told 'bytes 896 to 1023 are missing, and zero here'
+    { head -c 896 wanted; head -c 128 /dev/zero; tail -c 128 wanted; } | cmp -s - out || wrong 'hail-salvage joins other bytes over a hole'
+    says 2 '' hail-salvage home 3 9
+}
+
+# A journal of 16 MiB is read in 50 MB.
+long_journal() {
+    new_home 6 3 1 1 4 8 0
+    head -c 50 home/journal >long
+    printf '\1\2\7\0\0\0\0\0\0\0\1a\1\3\7\0\0\0\0\0\0\0\5\0\0\0' >record
+    while [ "$(stat -c %s record)" -lt 16700000 ]; do cat record record >twice && mv twice record; done
+    head -c $((645276 * 26)) record >>long
+    printf '\0' >>long
+    (ulimit -v 50000 && od -An -v -tu1 -w32 long | LC_ALL=C awk -f "$(dirname "$(readlink -f "$tools/hail-gc")")/journal.awk" | tail -n 1) >out 2>err
+    [ "$(cat out)" = 'end 16777227' ] || wrong "of a long journal is told $(tail -n 1 out) $(tail -n 1 err)"
+}
+
+for test in setting_up words watching verifying_one stuck_repair verifying_two verifying_three no_key_is_left collecting flipping restoring \
+    salvaging long_journal; do
+    [ $# -eq 0 ] || [[ " $* " == *" $test "* ]] || continue
+    "$test"
+done
 exit $failed
