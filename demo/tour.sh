@@ -1,7 +1,8 @@
 #!/bin/sh
 # A tour: three files are stored over six folders; one folder is lost, the loss is found and mended; it is lost again and another is
 # altered, and the files come back; another folder lies, and is found and mended too. It shows each command with its answer, ends with 0 exactly where each answer
-# was the one due, and leaves nothing behind. HAIL names another program than the one of this repository.
+# was the one due, and leaves nothing behind. docs/tour.txt is a recording
+# of it. HAIL names another program than the one of this repository.
 set -eu
 
 root=$(CDPATH='' cd -P -- "$(dirname "$0")/.." && pwd -P)
