@@ -5,3 +5,5 @@ pub mod CalmRun
 pub mod Points
 pub mod InRepair
 pub mod LostGet
+pub mod ReadOver
+pub mod SecondLoss

@@ -121,7 +121,7 @@ is_until_20 = (small_2, happens_19, is_until_19)
 abbrev pub until_21 : List Moment
 until_21 = record { event = Lose 2 1 0; outcome = Replaced; state = state_21 } ∷ until_20
 
-is_until_21 : IsRun 8 set_up until_21
+pub is_until_21 : IsRun 8 set_up until_21
 unfolding setup_in
 is_until_21 = ((omega arith, omega arith, omega arith), happens_20, is_until_20)
 
@@ -147,7 +147,7 @@ steps_24 = stepped 2 state_24 ∷ []
 abbrev pub until_25 : List Moment
 until_25 = record { event = Step 2; outcome = Ended (Got byte); state = state_25 } ∷ (steps_24 ++ until_23)
 
-is_until_25 : IsRun 8 set_up until_25
+pub is_until_25 : IsRun 8 set_up until_25
 unfolding setup_in
 is_until_25 = (small_2, happens_24, (small_2, happens_23, is_until_23))
 
@@ -279,7 +279,7 @@ steps_56 = stepped 5 state_56 ∷ stepped 5 state_55 ∷ stepped 5 state_54 ∷ 
 abbrev pub until_57 : List Moment
 until_57 = record { event = Step 5; outcome = Ended (Got byte); state = state_57 } ∷ (steps_56 ++ until_51)
 
-is_until_57 : IsRun 8 set_up until_57
+pub is_until_57 : IsRun 8 set_up until_57
 unfolding setup_in
 is_until_57 = (
   small_5,

@@ -1,2 +1,4 @@
 pub mod Schedule
 pub mod Points
+pub mod ReadOver
+pub mod SecondLoss

@@ -1,5 +1,5 @@
 //! A run, given outright.
-ghost use Rattle.std.specs.Prelude.{◌≡◌, ℕ, ◌≤◌, List};
+ghost use Rattle.std.specs.Prelude.{◌≡◌, ℕ, ◌≤◌, List, [], ◌∷◌};
 ghost use Rattle.hail_field.specs.Shape.{IsShape};
 ghost use Rattle.code_defs.specs.Points.{upto};
 ghost use Rattle.code_defs.specs.Profiles.{profile_of};
@@ -9,11 +9,14 @@ ghost use Rattle.machine_defs.specs.Events.{AreBytes};
 ghost use Rattle.machine_defs.specs.Setups.{object_of};
 ghost use Rattle.machine_defs.specs.Runs.{Moment, IsRun, now};
 ghost use Rattle.machine_defs.specs.Answers.{Lost};
+ghost use Rattle.machine_defs.specs.Damaged.{AsksDamageOf};
 ghost use Rattle.machine_defs.specs.Halves.{FirstHalf, SecondHalf};
 ghost use Rattle.machine_defs.specs.Examples.{set_up};
 ghost use Rattle.record_defs.specs.Examples.{four};
 ghost use Rattle.headline.specs.Headline.{Headline};
-ghost use Rattle.damage_run.specs.Schedule.{byte, IsOutright};
+ghost use Rattle.damage_run.specs.Schedule.{byte, schedule, IsOutright};
+ghost use Rattle.damage_run.specs.ReadOver.{IsReadOver};
+ghost use Rattle.damage_run.specs.SecondLoss.{MovesMark};
 ghost use Rattle.damage_run.specs.Points.{without_two, EndsBy, InDoubt, IsDamaged, HasPoints};
 ghost use Rattle.second_half_laws.specs.MarkedRuns.{IsCalmRun};
 ghost use Rattle.record_defs.specs.Records.{RepairDone};
@@ -57,4 +60,19 @@ pub fn a_block_is_lost_while_a_repair_ends()
 /// the two that are left ends lost.
 pub fn a_get_is_lost()
     ensures { (ms : List Moment) × IsRun 8 set_up ms × EndsBy ms 63 6 (Lost 0 0) }
+{}
+
+/// And so are those of the laws on events: up to the end of the first get, one provider alone was damaged; and
+/// the whole schedule names two for damage.
+pub fn a_damaged_store_is_read()
+    ensures read { (ms : List Moment) × (gaps : List Moment) × (c : Moment) × (g : Moment)
+        × IsReadOver ms gaps c g }
+    ensures asks { AsksDamageOf (0 ∷ 2 ∷ []) schedule }
+{}
+
+/// And so are those of the law on marks that move: at the repair's end the audit's begin is one, and then
+/// another provider is damaged.
+pub fn another_provider_is_damaged()
+    ensures { (later : List Moment) × (recent : List Moment) × (older : List Moment)
+        × MovesMark later recent older }
 {}

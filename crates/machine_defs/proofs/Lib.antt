@@ -31,4 +31,6 @@ pub mod Stripes
 pub mod Gets
 pub mod Reports
 pub mod Began
+pub mod Lone
 pub mod Untouched
+pub mod Damaged

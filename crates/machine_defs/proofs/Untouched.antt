@@ -60,6 +60,24 @@ none_on Meant limit start (m ∷ later) ms run none began = λ k j h t.
     (let x = ran_on Meant limit start m (later ++ ms) run began.0 k j h t in
     none_on Meant limit start later ms run.2 none began.1 k x.job x.runs (subst Meant x.kind t))
 
+no_fewer : (later ms : List Moment) → length ms ≤ length (later ++ ms)
+no_fewer [] ms = omega arith
+no_fewer (m ∷ later) ms = (let l = no_fewer later ms in omega arith)
+
+-- one that runs behind a moment at which none did began there or later
+pub begun_later : (Meant : Kind → Type 0) (limit : ℕ) (start : State) (later ms : List Moment) →
+    IsRun limit start (later ++ ms) → NoneRuns Meant (now start ms) → (k : ℕ) (j : Job) →
+    job_of (now start (later ++ ms)).jobs k ≡ Some j → Meant j.kind → length ms ≤ j.begun
+begun_later Meant limit start [] ms run none k j h t = absurd (none k j h t)
+begun_later Meant limit start (m ∷ later) ms run none k j h t =
+    elim (came_all (now start (later ++ ms)) limit (length (later ++ ms)) m.event m.outcome m.state run.1 k j
+    h) [
+      | Came.had x numbered ↦
+          (let l = begun_later Meant limit start later ms run.2 none k x.job x.runs (subst Meant x.kind t) in
+          let e = x.begun in omega arith)
+      | Came.fresh event outcome begun ↦ (let l = no_fewer later ms in omega arith)
+    ]
+
 -- none runs at a start
 none_at_start : (Meant : Kind → Type 0) (start : State) → IsStart start → NoneRuns Meant start
 none_at_start Meant start clean = λ k j h t. found_none start.jobs k j clean.jobs h

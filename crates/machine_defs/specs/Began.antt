@@ -1,6 +1,7 @@
 -- What the events of a run tell of its jobs: which event began a job that runs.
 --
 --   IsBeginOf event job      == the event is the begin of this job: of its kind, or, of a put, with its profile
+--   IsBeginOfKind event kind == the event is the begin of a job of this kind, of a put also with a profile
 --   NoneBegan number ms      == none of these moments came to the begin of a job of the number
 --   WasBegun ms number job   == one of these moments began this job, as the last one that began one of the
 --                               number
@@ -8,7 +9,7 @@
 --   GivesUp event            == the event gives up all jobs
 --   IsOfJob answer           == a job alone ends so, and not what runs alone; nor is it a failure
 use Rattle.std.specs.Prelude.{◌≡◌, ◌≢◌, ◌⊎◌, ℕ, List, [], ◌∷◌, ◌++◌, length}
-use Rattle.machine_defs.specs.Jobs.{PutJob, Job}
+use Rattle.machine_defs.specs.Jobs.{Kind, PutJob, Job}
 use Rattle.machine_defs.specs.Answers.{Answer, Put, Got, Dropped, Audited, Repaired, Upgraded}
 use Rattle.machine_defs.specs.Events.{Event, Begin, BeginAt, Stop, Reopen, Continue, Begun}
 use Rattle.machine_defs.specs.Runs.{Moment}
@@ -18,6 +19,12 @@ abbrev pub IsBeginOf : Event → Job → Type 0
 IsBeginOf event job = (event ≡ Begin job.kind)
     ⊎ ((name : List ℕ) × (bytes : List ℕ) × (job.kind ≡ PutJob name bytes)
     × (event ≡ BeginAt job.profile name bytes))
+
+-- an event is the begin of a job of this kind
+abbrev pub IsBeginOfKind : Event → Kind → Type 0
+IsBeginOfKind event kind = (event ≡ Begin kind)
+    ⊎ ((profile : ℕ) × (name : List ℕ) × (bytes : List ℕ) × (kind ≡ PutJob name bytes)
+    × (event ≡ BeginAt profile name bytes))
 
 -- none of these moments came to the begin of a job, or of what runs alone, with the number
 abbrev pub NoneBegan : ℕ → List Moment → Type 0

@@ -32,3 +32,4 @@ pub mod Failures
 pub mod Survival
 pub mod Untouched
 pub mod Examples
+pub mod Damaged

@@ -4,14 +4,16 @@ ghost use Rattle.std.specs.List.{Contains};
 ghost use Rattle.column_defs.specs.Objects.{Object};
 ghost use Rattle.column_defs.specs.Columns.{columns};
 ghost use Rattle.record_defs.specs.Table.{file_as, next_id, next_audit, started_as};
-ghost use Rattle.machine_defs.specs.Jobs.{PutJob, AuditJob, Pinned, Job, job_of};
+ghost use Rattle.machine_defs.specs.Jobs.{Kind, PutJob, AuditJob, Pinned, Job, job_of};
 ghost use Rattle.machine_defs.specs.States.{State, IsStart, setup_in, put_object};
 ghost use Rattle.machine_defs.specs.Runs.{Moment, IsRun, now, first_moments, is_replaced_since};
-ghost use Rattle.machine_defs.specs.Began.{IsBeginOf, NoneBegan, WasBegun, GivesUp, IsOfJob};
+ghost use Rattle.machine_defs.specs.Began.{IsBeginOf, IsBeginOfKind, NoneBegan, WasBegun, GivesUp, IsOfJob};
 ghost use Rattle.machine_defs.specs.Answers.{Answer};
 ghost use Rattle.machine_defs.specs.Events.{Step, Begun, Ended};
-ghost use Rattle.machine_defs.specs.Calm.{IsCalm, since, relies};
+ghost use Rattle.machine_defs.specs.Calm.{Mark, IsCalm, since, relies};
 ghost use Rattle.machine_defs.specs.Missed.{NoneMissed};
+ghost use Rattle.machine_defs.specs.Scrubs.{AreScrubsCalm};
+ghost use Rattle.machine_defs.specs.Damaged.{DamagesOnly, AsksDamageOf};
 ghost use Rattle.machine_defs.specs.Heard.{EndsJob, NoneContinues, heard_by, heard_in, given_to, HoldsForgery};
 ghost use Rattle.machine_defs.specs.Halves.{GotIsOpened};
 ghost use Rattle.machine_defs.specs.Survival.{IsAcknowledged, Survives, NeverTakenOut, IsKept, EndsPut};
@@ -27,6 +29,20 @@ pub fn run_before()
         IsCalm relies (since start) (m ∷ ms) → IsCalm relies (since start) ms }
     ensures missed { (start : State) (m : Moment) (ms : List Moment) → NoneMissed start (m ∷ ms)
         → NoneMissed start ms }
+{}
+
+/// The first moments of a run are a run, calm and with nothing missed where the whole is; and they are as many
+/// as they are.
+pub fn first_moments_are_a_run()
+    ensures run { (limit : ℕ) (start : State) (later ms : List Moment) → IsRun limit start (later ++ ms)
+        → IsRun limit start ms }
+    ensures calm { (mark : Mark) (later ms : List Moment) → IsCalm relies mark (later ++ ms)
+        → IsCalm relies mark ms }
+    ensures scrubs { (mark : Mark) (later ms : List Moment) → AreScrubsCalm mark (later ++ ms)
+        → AreScrubsCalm mark ms }
+    ensures missed { (start : State) (later ms : List Moment) → NoneMissed start (later ++ ms)
+        → NoneMissed start ms }
+    ensures first { (later ms : List Moment) → first_moments (length ms) (later ++ ms) ≡ ms }
 {}
 
 /// The next object number and the next audit number never fall.
@@ -136,11 +152,18 @@ pub fn running_jobs_were_begun()
         → (job.begun ≡ length before) × IsBeginOf m.event job }
 {}
 
-/// A step that ended as a job ends that did what it was for is one of a running job.
+/// A step that ended as a job ends that did what it was for is one of a running job; and so is each that ended,
+/// whatever the answer, of the number that the begin of a job came to last.
 pub fn ended_steps_are_of_jobs()
-    ensures { (limit : ℕ) (start : State) (m : Moment) (ms : List Moment) (number : ℕ) (answer : Answer)
+    ensures well { (limit : ℕ) (start : State) (m : Moment) (ms : List Moment) (number : ℕ) (answer : Answer)
         → IsRun limit start (m ∷ ms) → m.event ≡ Step number → m.outcome ≡ Ended answer → IsOfJob answer
         → (job : Job) × (job_of (now start ms).jobs number ≡ Some job) × (job.number ≡ number) }
+    ensures begun { (limit : ℕ) (start : State) (between older : List Moment) (m b : Moment) (kind : Kind)
+        (number : ℕ) (answer : Answer) → IsStart start → IsRun limit start (m ∷ (between ++ b ∷ older))
+        → IsBeginOfKind b.event kind → b.outcome ≡ Begun number → NoneBegan number between
+        → m.event ≡ Step number → m.outcome ≡ Ended answer
+        → (job : Job) × (job_of (now start (between ++ b ∷ older)).jobs number ≡ Some job)
+        × (job.number ≡ number) × (job.kind ≡ kind) × (job.begun ≡ length older) }
 {}
 
 /// While no job that puts or drops a name begins, none on it runs where none did, and no record in doubt takes
@@ -163,6 +186,15 @@ pub fn commands_begin_none()
         → CarriesOut commands ms lines → NoneAsksOn name commands → NoneBeganOn name ms }
     ensures steps { (job number : ℕ) (name : List ℕ) (ms : List Moment) → GoOn job ms
         → NoneBegan number ms × NoneBeganOn name ms }
+{}
+
+/// The steps of a command that runs a job damage no provider, and commands only those that they name.
+pub fn commands_damage_only()
+    ensures commands { (ps : List ℕ) (commands : List Instruction) (ms : List Moment) (lines : List ℕ)
+        → CarriesOut commands ms lines → AsksDamageOf ps commands → DamagesOnly ps ms }
+    ensures steps { (ps : List ℕ) (job : ℕ) (ms : List Moment) → GoOn job ms → DamagesOnly ps ms }
+    ensures both { (ps : List ℕ) (later ms : List Moment) → DamagesOnly ps later → DamagesOnly ps ms
+        → DamagesOnly ps (later ++ ms) }
 {}
 
 /// No job that puts or drops a name runs behind the end of the one that did, however it ended, nor behind an

@@ -9,7 +9,7 @@ use Rattle.machine_defs.specs.Runs.{Moment}
 use Rattle.machine_defs.specs.Transcripts.{Once, RunJob, GoOn}
 use Rattle.machine_defs.specs.Examples.{set_up}
 use Rattle.record_defs.specs.Examples.{four}
-use Rattle.machine_defs.proofs.PutRun.{moments as stored, steps as put_steps}
+use Rattle.machine_defs.proofs.PutRun.{moments as stored, is_run as is_stored, steps as put_steps}
 use Rattle.machine_defs.proofs.PutSteps.{state_1, state_2, state_14, state_15}
 use Rattle.machine_defs.proofs.RunParts.{stepped, job_at}
 use Rattle.machine_defs.specs.Untouched.{given_up, ended, NoneAsksOn, NoneOn, IsUntouched}
@@ -20,13 +20,13 @@ use Rattle.second_half_laws.proofs.ByteSteps.{state_16, state_21, state_22}
 use Rattle.second_half_laws.proofs.ByteRun.{steps, is_run}
 
 -- the reopening, the begin of the put and its end, and those of the get
-abbrev reopening : Moment
+abbrev pub reopening : Moment
 reopening = record { event = Reopen; outcome = Opened; state = state_1 }
 
-abbrev put_begin : Moment
+abbrev pub put_begin : Moment
 put_begin = record { event = Begin (PutJob (97 ∷ []) (111 ∷ [])); outcome = Begun 1; state = state_2 }
 
-abbrev put_end : Moment
+abbrev pub put_end : Moment
 put_end = record { event = Step 1; outcome = Ended Put; state = state_15 }
 
 abbrev pub get_begin : Moment
@@ -35,7 +35,7 @@ get_begin = record { event = Begin (GetJob (97 ∷ [])); outcome = Begun 2; stat
 abbrev pub get_end : Moment
 get_end = record { event = Step 2; outcome = Ended (Got (111 ∷ [])); state = state_22 }
 
-put_goes_on : GoOn 1 put_steps
+pub put_goes_on : GoOn 1 put_steps
 put_goes_on = (
   refl,
   refl,
@@ -149,6 +149,7 @@ all_told = record {
   free = ended put_end put_begin put_steps (reopening ∷ []) 1 Put refl refl is_told.none_between refl
       (given_up reopening [] tt);
   untouched = untouched;
+  refused = (refl, (refl, inr refl, refl), is_stored);
 }
 
 other_name : ◌≡◌ {A = List ℕ} (97 ∷ []) (98 ∷ []) → ⊥

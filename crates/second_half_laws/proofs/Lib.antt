@@ -38,3 +38,6 @@ pub mod SecondHalf
 pub mod InRuns
 pub mod InDoubt
 pub mod Finished
+pub mod FewDamaged
+pub mod GetsByEvents
+pub mod Epochs

@@ -13,3 +13,4 @@ pub mod Marks
 pub mod MarkedRuns
 pub mod Sharp
 pub mod Told
+pub mod Epochs

@@ -4,6 +4,8 @@
 use Rattle.std.specs.Prelude.{◌≡◌, ℕ, List, [], ◌∷◌, ◌++◌, Some, codes}
 use Rattle.machine_defs.specs.Jobs.{PutJob, GetJob, Job, job_of}
 use Rattle.machine_defs.specs.Answers.{Got}
+use Rattle.machine_defs.specs.Refusals.{Memory}
+use Rattle.machine_defs.specs.Events.{Begin, Refused}
 use Rattle.machine_defs.specs.States.{IsStart}
 use Rattle.machine_defs.specs.Runs.{Moment, IsRun, now}
 use Rattle.machine_defs.specs.Survival.{EndsPut}
@@ -31,3 +33,6 @@ pub record IsTold (ms gaps : List Moment) (c g : Moment) : Type 0 where
   pub none_later : NoneBeganOn (codes "a") (g ∷ (gaps ++ c ∷ []))
   pub free : IsFree (codes "a") ms
   pub untouched : IsUntouched (codes "a") (now set_up ms)
+  -- a get of it may find no memory at its begin
+  pub refused : IsRun 1 set_up
+      (record { event = Begin (GetJob (codes "a")); outcome = Refused Memory; state = now set_up ms } ∷ ms)

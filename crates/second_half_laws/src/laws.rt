@@ -43,7 +43,11 @@ ghost use Rattle.second_half_laws.specs.Whole.{PutIsWhole, RepairIsWhole, AuditI
 ghost use Rattle.second_half_laws.specs.Damage.{IsBad, IsReplaced, RoseSince};
 ghost use Rattle.second_half_laws.specs.Marks.{WasWrong, Remains, IsEndOfPut, PrecedesPuts, IsMark};
 ghost use Rattle.second_half_laws.specs.MarkedRuns.{BeginsNoScrub, IsMarkedRun, IsCalmRun};
-ghost use Rattle.second_half_laws.specs.Sharp.{GivesOrIsLost};
+ghost use Rattle.second_half_laws.specs.Sharp.{IsLostByFaults, GivesOrIsLost};
+ghost use Rattle.machine_defs.specs.Damaged.{DamagesOnly};
+ghost use Rattle.machine_defs.specs.Untouched.{Relies, NoneUnderWay};
+ghost use Rattle.second_half_laws.specs.Epochs.{moved_mark};
+ghost use Rattle.run_laws.specs.Stories.{Stored, GetEnds};
 
 /// In every run a name in effect is a name of the grammar.
 pub fn stored_names_are_names()
@@ -620,4 +624,45 @@ pub fn finished_scrubs_are_marks()
 pub fn unscrubbed_runs_are_scrub_calm()
     ensures { (limit : ℕ) (mark : Mark) (start : State) (ms : List Moment) → IsStart start
         → IsRun limit start ms → BeginsNoScrub ms → AreScrubsCalm mark ms }
+{}
+
+/// Few damaged providers leave a run calm, told by events: where its alter and lose events name at most b
+/// different providers, of the setup in effect, it is calm by every mark, for scrubs too, whatever came of
+/// these events; and of providers that tell what they hold, its start is a mark.
+pub fn few_damaged_providers_leave_runs_calm()
+    ensures jobs { (limit : ℕ) (mark : Mark) (start : State) (ms : List Moment) (ps : List ℕ) → IsStart start
+        → IsRun limit start ms → DamagesOnly ps ms → length ps ≤ (setup_in (now start ms)).b
+        → IsCalm relies mark ms }
+    ensures scrubs { (limit : ℕ) (mark : Mark) (start : State) (ms : List Moment) (ps : List ℕ)
+        → IsStart start → IsRun limit start ms → DamagesOnly ps ms
+        → length ps ≤ (setup_in (now start ms)).b → AreScrubsCalm mark ms }
+    ensures marked { (limit : ℕ) (start : State) (ms : List Moment) (ps : List ℕ) → IsStart start
+        → AllTell start → IsRun limit start ms → DamagesOnly ps ms
+        → length ps ≤ (setup_in (now start ms)).b → IsMarkedRun limit (λ moments. 0) start ms }
+{}
+
+/// A mark may move: to a moment since which all damage of files in effect is new, while no get and no repair
+/// is under way. The run goes on calm by it, where the alter and lose events since that moment name at most b
+/// providers, whoever was damaged before; no scrub begins in it.
+pub fn marks_may_move()
+    ensures { (limit : ℕ) (mark : Mark) (start : State) (later recent older : List Moment) (ps : List ℕ)
+        → IsMarkedRun limit mark start (recent ++ older) → IsMark start (recent ++ older) (length older)
+        → NoneUnderWay Relies (recent ++ older) → IsRun limit start (later ++ (recent ++ older))
+        → BeginsNoScrub (later ++ (recent ++ older)) → DamagesOnly ps (later ++ recent)
+        → length ps ≤ (setup_in (now start (later ++ (recent ++ older)))).b
+        → IsMarkedRun limit (moved_mark (length (recent ++ older)) (length older) mark) start
+        (later ++ (recent ++ older)) }
+{}
+
+/// What was put is got in a run that is calm by a mark, told by events and outcomes: a get of a stored file
+/// that begins now and that a step ends gives the bytes that were put, or is lost, and then the count of
+/// failed calls of a provider rose since; its begin is refused for MustReopen, Busy or Memory alone.
+pub fn stored_files_are_got()
+    ensures ends { (limit : ℕ) (mark : Mark) (start : State) (ms gaps : List Moment) (c g : Moment) (get : ℕ)
+        (name bytes : List ℕ) (how : Answer) → IsMarkedRun limit mark start (g ∷ (gaps ++ c ∷ ms))
+        → Stored ms name bytes → GetEnds c gaps g get name how
+        → (how ≡ Got bytes) ⊎ IsLostByFaults (now start ms) g.state how }
+    ensures begins { (limit : ℕ) (start : State) (ms : List Moment) (c : Moment) (name bytes : List ℕ)
+        (why : Refusal) → IsStart start → IsRun limit start (c ∷ ms) → Stored ms name bytes
+        → c.event ≡ Begin (GetJob name) → c.outcome ≡ Refused why → IsGetRefusal why }
 {}

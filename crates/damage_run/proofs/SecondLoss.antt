@@ -1,0 +1,174 @@
+-- At the repair's end the audit's begin is a mark, and the run goes on.
+use Rattle.std.specs.Prelude.{◌≡◌, ℕ, ◌==◌, Bool, true, false, not, ◌&&◌, IsTrue, List, [], ◌∷◌, ◌++◌, length}
+use Rattle.std.specs.List.{list_all}
+use Rattle.std.proofs.Common.{refl, ap, sym, subst, ◌∙◌, inl, arith}
+use Rattle.std.proofs.lemmas.Bool.{and_parts, eqb-true, false≢true}
+use Rattle.machine_defs.specs.Jobs.{GetJob, AuditJob, RepairJob}
+use Rattle.machine_defs.specs.Answers.{Got, Audited, Repaired}
+use Rattle.machine_defs.specs.Events.{Event, Init, Begin, BeginAt, BeginScrub, BeginPack, Step, Alter, Lose, Stop, Reopen, Names, Continue, Begun, More, Ended, Replaced}
+use Rattle.machine_defs.specs.States.{setup_in}
+use Rattle.machine_defs.specs.Runs.{Moment, IsRun}
+use Rattle.machine_defs.specs.Calm.{since, relies}
+use Rattle.machine_defs.specs.Untouched.{Relies, IsBeginFor, BeginsNone, NoneBeganFor, NoneUnderWay, given_up, unbegun, ended}
+use Rattle.machine_defs.specs.Damaged.{IsAmong, DamagesOnly}
+use Rattle.machine_defs.specs.Examples.{set_up}
+use Rattle.machine_defs.proofs.Damaged.{calm_back, scrubs_back, missed_back}
+use Rattle.machine_defs.proofs.Untouched.{run_back}
+use Rattle.machine_defs.proofs.RunParts.{stepped}
+use Rattle.machine_defs.proofs.PutRun.{moments as stored, steps as put_steps}
+use Rattle.second_half_laws.proofs.ByteTold.{put_begin, put_end, reopening}
+use Rattle.second_half_laws.specs.Marks.{IsMark}
+use Rattle.second_half_laws.specs.MarkedRuns.{BeginsNoScrub, IsMarkedRun, IsCalmRun}
+use Rattle.second_half_laws.proofs.InRuns.{calm_marked}
+use Rattle.damage_run.specs.Schedule.{name, byte}
+use Rattle.damage_run.specs.SecondLoss.{damaged_later, MovesMark}
+use Rattle.damage_run.proofs.Steps.{counts, state_22, state_23, state_25, state_37, state_38, state_49, state_50, state_51, state_57}
+use Rattle.damage_run.proofs.Run.{steps_24, steps_36, steps_48, steps_56, until_21, until_25, until_37, until_49, until_57, is_until_57}
+use Rattle.damage_run.proofs.CalmRun.{outright}
+use Rattle.damage_run.proofs.ReadOver.{begin, end, gaps}
+
+-- the audit's begin up to the repair's end, and what comes after it
+abbrev repair_end : Moment
+repair_end = record { event = Step 4; outcome = Ended (Repaired 1); state = state_49 }
+
+abbrev repair_begin : Moment
+repair_begin = record { event = Begin RepairJob; outcome = Begun 4; state = state_38 }
+
+abbrev before_repair : List Moment
+before_repair = record { event = Step 3; outcome = Ended (Audited 1 0 counts); state = state_37 } ∷ (steps_36
+    ++ record { event = Step 2; outcome = Ended (Got byte); state = state_25 } ∷ (steps_24
+    ++ stepped 3 state_23 ∷ record { event = Begin AuditJob; outcome = Begun 3; state = state_22 } ∷ []))
+
+abbrev pub recent : List Moment
+recent = repair_end ∷ (steps_48 ++ repair_begin ∷ before_repair)
+
+abbrev pub later : List Moment
+later = record { event = Step 5; outcome = Ended (Got byte); state = state_57 } ∷ (steps_56
+    ++ record { event = Begin (GetJob name); outcome = Begun 5; state = state_51 }
+    ∷ record { event = Lose 0 1 0; outcome = Replaced; state = state_50 } ∷ [])
+
+-- no scrub begins, as a test
+is_scrub : Event → Bool
+is_scrub BeginScrub = true
+is_scrub e = false
+
+no_scrub : (ms : List Moment) → list_all (λ (m : Moment). not (is_scrub m.event)) ms ≡ true → BeginsNoScrub ms
+unfolding is_scrub
+no_scrub [] h = tt
+no_scrub (m ∷ ms) h =
+    (let p = and_parts (not (is_scrub m.event)) (list_all (λ (m : Moment). not (is_scrub m.event)) ms) h in (
+      (λ e. false≢true (sym (ap (λ (x : Event). not (is_scrub x)) e) ∙ p.0)),
+      no_scrub ms p.1,
+    ))
+
+-- no other provider is damaged, as a test
+spares : Event → Bool
+spares (Alter provider object stripe place symbol) = provider == 0
+spares (Lose provider object stripe) = provider == 0
+spares e = true
+
+no_damage : (ms : List Moment) → list_all (λ (m : Moment). spares m.event) ms ≡ true →
+    DamagesOnly damaged_later ms
+unfolding spares
+no_damage [] h = tt
+no_damage (m ∷ ms) h =
+    (let p = and_parts (spares m.event) (list_all (λ (m : Moment). spares m.event) ms) h in
+    (among m.event p.0, no_damage ms p.1))
+  where
+    among : (e : Event) → spares e ≡ true → IsAmong damaged_later e
+    among (Alter p o s k x) h = inl (eqb-true p 0 h)
+    among (Lose p o s) h = inl (eqb-true p 0 h)
+    among (Init s) h = tt
+    among (Begin kind) h = tt
+    among (BeginAt profile n bytes) h = tt
+    among BeginScrub h = tt
+    among BeginPack h = tt
+    among (Step job) h = tt
+    among (Stop picks) h = tt
+    among Reopen h = tt
+    among Names h = tt
+    among Continue h = tt
+
+-- no job begins, as a test
+is_begin : Event → Bool
+is_begin (Begin kind) = true
+is_begin (BeginAt profile n bytes) = true
+is_begin e = false
+
+no_begin : (ms : List Moment) → list_all (λ (m : Moment). not (is_begin m.event)) ms ≡ true →
+    NoneBeganFor Relies ms
+unfolding is_begin
+no_begin [] h = tt
+no_begin (m ∷ ms) h =
+    (let p = and_parts (not (is_begin m.event)) (list_all (λ (m : Moment). not (is_begin m.event)) ms) h in (
+      none m.event p.0,
+      no_begin ms p.1,
+    ))
+  where
+    none : (e : Event) → not (is_begin e) ≡ true → IsBeginFor Relies e → (n : ℕ) → m.outcome ≡ Begun n → ⊥
+    none (Begin kind) h on n is = false≢true h
+    none (BeginAt profile word bytes) h on n is = false≢true h
+    none e h on n is = on
+
+-- behind moments of which none began one
+unbegun_all : (xs ms : List Moment) → NoneBeganFor Relies xs → NoneUnderWay Relies ms →
+    NoneUnderWay Relies (xs ++ ms)
+unbegun_all [] ms none free = free
+unbegun_all (x ∷ xs) ms none free = unbegun x (xs ++ ms) none.0 (unbegun_all xs ms none.1 free)
+
+under_put : NoneUnderWay Relies stored
+unfolding is_begin
+under_put = unbegun_all (put_end ∷ put_steps) (put_begin ∷ reopening ∷ [])
+    (no_begin (put_end ∷ put_steps) refl)
+    (unbegun put_begin (reopening ∷ []) (λ on n is. false≢true on) (given_up reopening [] tt))
+
+gaps_none : NoneBeganFor Relies gaps
+gaps_none = (
+  λ on n is. on,
+  (
+    λ on n is. on,
+    (
+      λ on n is. false≢true on,
+      (
+        λ on n is. on,
+        (λ on n is. on, (λ on n is. on, (λ on n is. on, (λ on n is. on, tt)))),
+      ),
+    ),
+  ),
+)
+
+audit_end : Moment
+audit_end = record { event = Step 3; outcome = Ended (Audited 1 0 counts); state = state_37 }
+
+under_repair : NoneUnderWay Relies until_49
+unfolding is_begin audit_end
+under_repair = ended repair_end repair_begin steps_48 until_37 4 (Repaired 1) refl refl
+    (no_begin steps_48 refl) refl
+    (unbegun_all (audit_end ∷ steps_36) until_25 (no_begin (audit_end ∷ steps_36) refl)
+    (ended end begin gaps stored 2 (Got byte) refl refl gaps_none refl under_put))
+
+calm_run : IsCalmRun 8 set_up until_49
+calm_run = record {
+  clean = outright.clean;
+  tell = outright.tell;
+  run = run_back 8 set_up later until_49 is_until_57;
+  calm = calm_back relies (since set_up) later until_49 outright.calm;
+  scrubs = scrubs_back (since set_up) later until_49 outright.scrubs;
+  found = missed_back set_up later until_49 outright.found;
+}
+
+mark_is : since set_up until_49 ≡ 21
+unfolding setup_in
+mark_is = refl
+
+pub moves : MovesMark later recent until_21
+unfolding setup_in is_scrub spares
+moves = (let h = calm_marked 8 set_up until_49 calm_run in record {
+  marked = h;
+  moment = subst (IsMark set_up until_49) mark_is h.marks.0;
+  none = under_repair;
+  run = is_until_57;
+  scrubs = no_scrub until_57 refl;
+  damages = no_damage (later ++ recent) refl;
+  few = omega arith;
+})

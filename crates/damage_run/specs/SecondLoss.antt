@@ -1,0 +1,27 @@
+-- After the repair another provider may be damaged, told by events.
+--
+--   damaged_later            == the provider that is damaged after the audit's begin
+--   MovesMark later recent older  == at the repair's end the audit's begin is a mark, and the run goes on
+use Rattle.std.specs.Prelude.{ℕ, ◌≤◌, List, [], ◌∷◌, ◌++◌, length}
+use Rattle.machine_defs.specs.States.{setup_in}
+use Rattle.machine_defs.specs.Runs.{Moment, IsRun, now}
+use Rattle.machine_defs.specs.Calm.{since}
+use Rattle.machine_defs.specs.Untouched.{Relies, NoneUnderWay}
+use Rattle.machine_defs.specs.Damaged.{DamagesOnly}
+use Rattle.machine_defs.specs.Examples.{set_up}
+use Rattle.second_half_laws.specs.Marks.{IsMark}
+use Rattle.second_half_laws.specs.MarkedRuns.{BeginsNoScrub, IsMarkedRun}
+
+-- the provider that is damaged after the audit's begin
+abbrev pub damaged_later : List ℕ
+damaged_later = 0 ∷ []
+
+-- at the repair's end the audit's begin is a mark; then a block of provider 0 is lost, and a get ends
+pub record MovesMark (later recent older : List Moment) : Type 0 where
+  pub marked : IsMarkedRun 8 (since set_up) set_up (recent ++ older)
+  pub moment : IsMark set_up (recent ++ older) (length older)
+  pub none : NoneUnderWay Relies (recent ++ older)
+  pub run : IsRun 8 set_up (later ++ (recent ++ older))
+  pub scrubs : BeginsNoScrub (later ++ (recent ++ older))
+  pub damages : DamagesOnly damaged_later (later ++ recent)
+  pub few : length damaged_later ≤ (setup_in (now set_up (later ++ (recent ++ older)))).b

@@ -1,0 +1,138 @@
+-- A mark may move to a later moment since which all damage is new, while no get and no repair runs.
+use Rattle.std.proofs.Common.{◌≡◌, ℕ, suc, ◌≤◌, ◌<◌, Bool, true, false, List, [], ◌∷◌, ◌++◌, length, Some, refl, ap, sym, subst, ◌∙◌, inl, inr, arith, append_assoc}
+use Rattle.std.specs.Prelude.{nat_le, IsTrue}
+use Rattle.std.proofs.lemmas.Bool.{le-leb, lt-leb}
+use Rattle.algebra_laws.specs.Lists.{In}
+use Rattle.machine_defs.specs.Jobs.{Job, job_of}
+use Rattle.machine_defs.specs.States.{State, IsStart, setup_in}
+use Rattle.machine_defs.specs.Runs.{Moment, now, first_moments, IsRun, is_replaced_since}
+use Rattle.machine_defs.specs.Calm.{Mark, relies, replaced_count, IsCalm}
+use Rattle.machine_defs.specs.Damaged.{DamagesOnly}
+use Rattle.machine_defs.specs.Untouched.{Relies, NoneRuns}
+use Rattle.machine_defs.proofs.JobLists.{cond_true, cond_false}
+use Rattle.machine_defs.proofs.Untouched.{begun_later}
+use Rattle.machine_defs.proofs.Damaged.{first_enough, first_fewer, among_since}
+use Rattle.second_half_laws.specs.Marks.{IsMark}
+use Rattle.second_half_laws.specs.MarkedRuns.{BeginsNoScrub, AreMarks, IsMarkedRun}
+use Rattle.second_half_laws.specs.Epochs.{moved_mark}
+use Rattle.second_half_laws.proofs.FewDamaged.{AreFew, few_now, few_before}
+use Rattle.second_half_laws.proofs.Finished.{unscrubbed}
+use Rattle.second_half_laws.proofs.InRuns.{mark_stays}
+
+module _ (k from : ℕ) (mark : Mark) where
+  moved : (ms : List Moment) → k ≤ length ms → moved_mark k from mark ms ≡ from
+  moved ms l = cond_true (nat_le k (length ms)) from (mark ms) (le-leb k (length ms) l)
+
+  unmoved : (ms : List Moment) → length ms < k → moved_mark k from mark ms ≡ mark ms
+  unmoved ms l = cond_false (nat_le k (length ms)) from (mark ms) (lt-leb k (length ms) l)
+
+  -- before, calm by the mark is calm by the moved one, and marks are marks
+  calm_same : (ms : List Moment) → length ms < k → IsCalm relies mark ms →
+      IsCalm relies (moved_mark k from mark) ms
+  calm_same [] l calm = tt
+  calm_same (m ∷ ms) l calm = (
+    λ number job runs reads. subst (λ n. replaced_count m.state n (m ∷ ms) ≤ (setup_in m.state).b)
+        (sym (unmoved (first_moments job.begun (m ∷ ms))
+        (let s = first_fewer job.begun (m ∷ ms) in omega arith))) (calm.0 number job runs reads),
+    calm_same ms (omega arith) calm.1,
+  )
+
+  marks_same : (start : State) (ms : List Moment) → length ms < k → AreMarks mark start ms →
+      AreMarks (moved_mark k from mark) start ms
+  marks_same start [] l marks = subst (IsMark start []) (sym (unmoved [] l)) marks
+  marks_same start (m ∷ ms) l marks =
+      (subst (IsMark start (m ∷ ms)) (sym (unmoved (m ∷ ms) l)) marks.0, marks_same start ms (omega arith) marks.1)
+
+module _ (limit : ℕ) (mark : Mark) (start : State) (recent older : List Moment) (qs : List ℕ)
+    (h : IsMarkedRun limit mark start (recent ++ older))
+    (new : IsMark start (recent ++ older) (length older))
+    (none : NoneRuns Relies (now start (recent ++ older))) where
+  ms : List Moment
+  ms = recent ++ older
+
+  next : Mark
+  next = moved_mark (length (recent ++ older)) (length older) mark
+
+  -- at the moment itself
+  calm_first : (xs : List Moment) → xs ≡ recent ++ older → NoneRuns Relies (now start xs) →
+      IsCalm relies mark xs → IsCalm relies next xs
+  unfolding next
+  calm_first [] is free calm = tt
+  calm_first (m ∷ xs) is free calm = (
+    λ number job runs reads. absurd (free number job runs reads),
+    calm_same (length (recent ++ older)) (length older) mark xs
+        (subst (λ hs. length xs < length hs) is (omega arith)) calm.1,
+  )
+
+  marks_first : (xs : List Moment) → xs ≡ recent ++ older → IsMark start xs (length older) →
+      AreMarks mark start xs → AreMarks next start xs
+  unfolding next
+  marks_first [] is moment marks =
+      subst (IsMark start []) (sym (moved (length (recent ++ older)) (length older) mark []
+      (subst (λ hs. length (recent ++ older) ≤ length hs) (sym is) (omega arith)))) moment
+  marks_first (m ∷ xs) is moment marks = (
+    subst (IsMark start (m ∷ xs)) (sym (moved (length (recent ++ older)) (length older) mark (m ∷ xs)
+        (subst (λ hs. length (recent ++ older) ≤ length hs) (sym is) (omega arith)))) moment,
+    marks_same (length (recent ++ older)) (length older) mark start xs
+        (subst (λ hs. length xs < length hs) is (omega arith)) marks.1,
+  )
+
+  first : IsMarkedRun limit next start (recent ++ older)
+  first = record {
+    clean = h.clean;
+    tell = h.tell;
+    run = h.run;
+    calm = calm_first (recent ++ older) refl none h.calm;
+    marks = marks_first (recent ++ older) refl new h.marks;
+  }
+
+  no_fewer : (later : List Moment) → length (recent ++ older) ≤ length (later ++ (recent ++ older))
+  no_fewer [] = omega arith
+  no_fewer (m ∷ later) = (let l = no_fewer later in omega arith)
+
+  -- one event more
+  calm_now : (m : Moment) (later : List Moment) → IsRun limit start (m ∷ (later ++ (recent ++ older))) →
+      DamagesOnly qs ((m ∷ later) ++ recent) → AreFew qs m.state → (number : ℕ) (job : Job) →
+      job_of m.state.jobs number ≡ Some job → IsTrue (relies job.kind) →
+      replaced_count m.state (next (first_moments job.begun (m ∷ (later ++ (recent ++ older)))))
+      (m ∷ (later ++ (recent ++ older))) ≤ (setup_in m.state).b
+  unfolding next
+  calm_now m later run only few number job runs reads =
+      (let all = m ∷ (later ++ (recent ++ older)) in
+      let late = begun_later Relies limit start (m ∷ later) (recent ++ older) run none number job runs reads in
+      let n = no_fewer later in
+      let is = moved (length (recent ++ older)) (length older) mark (first_moments job.begun all)
+      (first_enough (length (recent ++ older)) job.begun all late (omega arith)) in
+      subst (λ from. replaced_count m.state from all ≤ (setup_in m.state).b) (sym is)
+      (few_now m.state qs (length older) all few
+      (λ j r. among_since qs ((m ∷ later) ++ recent) older (length older) j (omega arith) only
+      (subst (λ hs. is_replaced_since (length older) j hs ≡ true)
+      (sym (append_assoc (m ∷ later) recent older)) r))))
+
+  -- each later moment
+  pub goes_on : (later : List Moment) → IsRun limit start (later ++ (recent ++ older)) →
+      BeginsNoScrub (later ++ (recent ++ older)) → DamagesOnly qs (later ++ recent) →
+      AreFew qs (now start (later ++ (recent ++ older))) →
+      IsMarkedRun limit (moved_mark (length (recent ++ older)) (length older) mark) start
+      (later ++ (recent ++ older)) × IsMark start (later ++ (recent ++ older)) (length older)
+  unfolding next
+  goes_on [] run scrubs only few = (first, new)
+  goes_on (m ∷ later) run scrubs only few =
+      (let all = later ++ (recent ++ older) in
+      let p = goes_on later run.2 scrubs.1 only.1 (few_before limit start m all qs h.clean run few) in
+      let moment = mark_stays limit next start m all p.0 (unscrubbed limit next start all h.clean run.2 scrubs.1)
+      run (length older) p.1 in
+      let n = no_fewer later in (
+        record {
+          clean = h.clean;
+          tell = h.tell;
+          run = run;
+          calm = (calm_now m later run only few, p.0.calm);
+          marks = (
+            subst (IsMark start (m ∷ all)) (sym (moved (length (recent ++ older)) (length older) mark
+                (m ∷ all) (omega arith))) moment,
+            p.0.marks,
+          );
+        },
+        moment,
+      ))
