@@ -5,10 +5,12 @@ use Rattle.std.proofs.Common.{refl, ap, sym, subst, ◌∙◌, inl, arith}
 use Rattle.std.proofs.lemmas.Bool.{and_parts, eqb-true, false≢true}
 use Rattle.machine_defs.specs.Jobs.{GetJob, AuditJob, RepairJob}
 use Rattle.machine_defs.specs.Answers.{Got, Audited, Repaired}
-use Rattle.machine_defs.specs.Events.{Event, Init, Begin, BeginAt, BeginScrub, BeginPack, Step, Alter, Lose, Stop, Reopen, Names, Continue, Begun, More, Ended, Replaced}
+use Rattle.machine_defs.specs.Events.{Event, Init, Begin, BeginAt, BeginScrub, BeginPack, Step, Alter, Lose, Stop, Reopen, Names, Continue, Begun, More, Ended, Outcome, Replaced}
 use Rattle.machine_defs.specs.States.{setup_in}
 use Rattle.machine_defs.specs.Runs.{Moment, IsRun}
 use Rattle.machine_defs.specs.Calm.{since, relies}
+use Rattle.machine_defs.specs.Began.{NoneBegan}
+use Rattle.second_half_laws.specs.Mended.{IsMended}
 use Rattle.machine_defs.specs.Untouched.{Relies, IsBeginFor, BeginsNone, NoneBeganFor, NoneUnderWay, given_up, unbegun, ended}
 use Rattle.machine_defs.specs.Damaged.{IsAmong, DamagesOnly}
 use Rattle.machine_defs.specs.Examples.{set_up}
@@ -34,13 +36,18 @@ repair_end = record { event = Step 4; outcome = Ended (Repaired 1); state = stat
 abbrev repair_begin : Moment
 repair_begin = record { event = Begin RepairJob; outcome = Begun 4; state = state_38 }
 
-abbrev before_repair : List Moment
-before_repair = record { event = Step 3; outcome = Ended (Audited 1 0 counts); state = state_37 } ∷ (steps_36
-    ++ record { event = Step 2; outcome = Ended (Got byte); state = state_25 } ∷ (steps_24
-    ++ stepped 3 state_23 ∷ record { event = Begin AuditJob; outcome = Begun 3; state = state_22 } ∷ []))
+abbrev audit_end : Moment
+audit_end = record { event = Step 3; outcome = Ended (Audited 1 0 counts); state = state_37 }
+
+abbrev audit_begin : Moment
+audit_begin = record { event = Begin AuditJob; outcome = Begun 3; state = state_22 }
+
+abbrev auditing : List Moment
+auditing = steps_36 ++ record { event = Step 2; outcome = Ended (Got byte); state = state_25 } ∷ (steps_24
+    ++ stepped 3 state_23 ∷ [])
 
 abbrev pub recent : List Moment
-recent = repair_end ∷ (steps_48 ++ repair_begin ∷ before_repair)
+recent = repair_end ∷ (steps_48 ++ repair_begin ∷ audit_end ∷ (auditing ++ audit_begin ∷ []))
 
 abbrev pub later : List Moment
 later = record { event = Step 5; outcome = Ended (Got byte); state = state_57 } ∷ (steps_56
@@ -137,11 +144,51 @@ gaps_none = (
   ),
 )
 
-audit_end : Moment
-audit_end = record { event = Step 3; outcome = Ended (Audited 1 0 counts); state = state_37 }
+-- no job begins by what came of events, as a test
+is_begun : Outcome → Bool
+is_begun (Begun job) = true
+is_begun r = false
+
+no_begun : (number : ℕ) (ms : List Moment) →
+    list_all (λ (m : Moment). not (is_begun m.outcome)) ms ≡ true → NoneBegan number ms
+unfolding is_begun
+no_begun number [] h = tt
+no_begun number (m ∷ ms) h =
+    (let p = and_parts (not (is_begun m.outcome)) (list_all (λ (m : Moment). not (is_begun m.outcome)) ms) h in (
+      (λ e. false≢true (sym (ap (λ (x : Outcome). not (is_begun x)) e) ∙ p.0)),
+      no_begun number ms p.1,
+    ))
+
+is_mended : IsMended until_21 until_49
+unfolding is_begun
+is_mended = record {
+  repair_end = repair_end;
+  repairing = steps_48;
+  repair_begin = repair_begin;
+  between = [];
+  audit_end = audit_end;
+  auditing = auditing;
+  audit_begin = audit_begin;
+  split = refl;
+  number = 1;
+  undecided = 0;
+  counts = counts;
+  audit = 3;
+  audit_event = refl;
+  audit_begun = refl;
+  none_audit = no_begun 3 auditing refl;
+  audit_step = refl;
+  audited = refl;
+  repair = 4;
+  repair_event = refl;
+  repair_begun = refl;
+  none_repair = no_begun 4 steps_48 refl;
+  repair_step = refl;
+  repaired = refl;
+}
 
 under_repair : NoneUnderWay Relies until_49
-unfolding is_begin audit_end
+unfolding is_begin
 under_repair = ended repair_end repair_begin steps_48 until_37 4 (Repaired 1) refl refl
     (no_begin steps_48 refl) refl
     (unbegun_all (audit_end ∷ steps_36) until_25 (no_begin (audit_end ∷ steps_36) refl)
@@ -164,6 +211,8 @@ mark_is = refl
 pub moves : MovesMark later recent until_21
 unfolding setup_in is_scrub spares
 moves = (let h = calm_marked 8 set_up until_49 calm_run in record {
+  calm = calm_run;
+  mended = is_mended;
   marked = h;
   moment = subst (IsMark set_up until_49) mark_is h.marks.0;
   none = under_repair;

@@ -1,7 +1,8 @@
 -- After the repair another provider may be damaged, told by events.
 --
 --   damaged_later            == the provider that is damaged after the audit's begin
---   MovesMark later recent older  == at the repair's end the audit's begin is a mark, and the run goes on
+--   MovesMark later recent older  == behind the older moments an audit and its repair, at whose end the
+--                               audit's begin is a mark; and the run goes on
 use Rattle.std.specs.Prelude.{ℕ, ◌≤◌, List, [], ◌∷◌, ◌++◌, length}
 use Rattle.machine_defs.specs.States.{setup_in}
 use Rattle.machine_defs.specs.Runs.{Moment, IsRun, now}
@@ -10,7 +11,8 @@ use Rattle.machine_defs.specs.Untouched.{Relies, NoneUnderWay}
 use Rattle.machine_defs.specs.Damaged.{DamagesOnly}
 use Rattle.machine_defs.specs.Examples.{set_up}
 use Rattle.second_half_laws.specs.Marks.{IsMark}
-use Rattle.second_half_laws.specs.MarkedRuns.{BeginsNoScrub, IsMarkedRun}
+use Rattle.second_half_laws.specs.MarkedRuns.{BeginsNoScrub, IsMarkedRun, IsCalmRun}
+use Rattle.second_half_laws.specs.Mended.{IsMended}
 
 -- the provider that is damaged after the audit's begin
 abbrev pub damaged_later : List ℕ
@@ -18,6 +20,8 @@ damaged_later = 0 ∷ []
 
 -- at the repair's end the audit's begin is a mark; then a block of provider 0 is lost, and a get ends
 pub record MovesMark (later recent older : List Moment) : Type 0 where
+  pub calm : IsCalmRun 8 set_up (recent ++ older)
+  pub mended : IsMended older (recent ++ older)
   pub marked : IsMarkedRun 8 (since set_up) set_up (recent ++ older)
   pub moment : IsMark set_up (recent ++ older) (length older)
   pub none : NoneUnderWay Relies (recent ++ older)

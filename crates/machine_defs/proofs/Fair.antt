@@ -23,12 +23,19 @@ pub record HasPin (job : Job) (o : ℕ) : Type 0 where
   pub id_is : file.id ≡ o
 
 -- a put stores under its own number, a repair under those of its files, and others not at all; a job removes
--- only the object that it takes away
+-- only the object that it takes away; gets and repairs alone work on stripes, and a get appends nothing
 abbrev pub IsFair : Job → Kind → Action → Type 0
 IsFair job (PutJob name bytes) (Store j o s) = o ≡ job.subject
 IsFair job RepairJob (Store j o s) = HasPin job o
 IsFair job kind (Store j o s) = ⊥
 IsFair job kind (Remove j o) = In o job.older
+IsFair job (GetJob name) (Work o s) = Unit {0}
+IsFair job RepairJob (Work o s) = Unit {0}
+IsFair job kind (Work o s) = ⊥
+IsFair job (GetJob name) WriteBody = ⊥
+IsFair job (GetJob name) SyncBody = ⊥
+IsFair job (GetJob name) WriteGate = ⊥
+IsFair job (GetJob name) SyncGate = ⊥
 IsFair job kind action = Unit {0}
 
 fair_removals : (s : Setup) (job : Job) (kind : Kind) →

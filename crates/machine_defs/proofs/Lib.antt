@@ -34,3 +34,4 @@ pub mod Began
 pub mod Lone
 pub mod Untouched
 pub mod Damaged
+pub mod JobEnds

@@ -33,3 +33,4 @@ pub mod Survival
 pub mod Untouched
 pub mod Examples
 pub mod Damaged
+pub mod JobEnds

@@ -14,6 +14,7 @@ ghost use Rattle.machine_defs.specs.Calm.{Mark, IsCalm, since, relies};
 ghost use Rattle.machine_defs.specs.Missed.{NoneMissed};
 ghost use Rattle.machine_defs.specs.Scrubs.{AreScrubsCalm};
 ghost use Rattle.machine_defs.specs.Damaged.{DamagesOnly, AsksDamageOf};
+ghost use Rattle.machine_defs.specs.JobEnds.{EndsSo};
 ghost use Rattle.machine_defs.specs.Heard.{EndsJob, NoneContinues, heard_by, heard_in, given_to, HoldsForgery};
 ghost use Rattle.machine_defs.specs.Halves.{GotIsOpened};
 ghost use Rattle.machine_defs.specs.Survival.{IsAcknowledged, Survives, NeverTakenOut, IsKept, EndsPut};
@@ -164,6 +165,18 @@ pub fn ended_steps_are_of_jobs()
         → m.event ≡ Step number → m.outcome ≡ Ended answer
         → (job : Job) × (job_of (now start (between ++ b ∷ older)).jobs number ≡ Some job)
         × (job.number ≡ number) × (job.kind ≡ kind) × (job.begun ≡ length older) }
+{}
+
+/// A step that ends a job does so as its kind may: with what it was for, or lost at a row, of a get or a repair,
+/// or by a failed store, of a put or a repair, or by a failed disk or want of memory, of all but a get; and a
+/// fault has its cause, a count that rose in this step. So a put ends well where no count rose and memory was
+/// there, and so does a drop.
+pub fn jobs_end_so()
+    ensures { (limit : ℕ) (start : State) (between older : List Moment) (m b : Moment) (kind : Kind)
+        (number : ℕ) (answer : Answer) → IsStart start → IsRun limit start (m ∷ (between ++ b ∷ older))
+        → IsBeginOfKind b.event kind → b.outcome ≡ Begun number → NoneBegan number between
+        → m.event ≡ Step number → m.outcome ≡ Ended answer
+        → EndsSo (now start (between ++ b ∷ older)) m.state kind answer }
 {}
 
 /// While no job that puts or drops a name begins, none on it runs where none did, and no record in doubt takes

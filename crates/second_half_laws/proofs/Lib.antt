@@ -41,3 +41,4 @@ pub mod Finished
 pub mod FewDamaged
 pub mod GetsByEvents
 pub mod Epochs
+pub mod Mended

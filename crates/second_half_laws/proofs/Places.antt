@@ -375,7 +375,7 @@ move_behind t job p action kind h bad =
       | inr x ↦ x.0
     ]
 
-store_within : (t : Setup) (job : Job) (p i o s : ℕ) → job.kind ≡ RepairJob →
+pub store_within : (t : Setup) (job : Job) (p i o s : ℕ) → job.kind ≡ RepairJob →
     slice_get (actions_of t job) p ≡ Some (Store i o s) → p < length (repair_actions t job)
 store_within t job p i o s kind h =
     elim (split_get (repair_actions t job) (append_actions ++ End ∷ []) p (Store i o s)

@@ -14,3 +14,4 @@ pub mod MarkedRuns
 pub mod Sharp
 pub mod Told
 pub mod Epochs
+pub mod Mended

@@ -47,6 +47,7 @@ ghost use Rattle.second_half_laws.specs.Sharp.{IsLostByFaults, GivesOrIsLost};
 ghost use Rattle.machine_defs.specs.Damaged.{DamagesOnly};
 ghost use Rattle.machine_defs.specs.Untouched.{Relies, NoneUnderWay};
 ghost use Rattle.second_half_laws.specs.Epochs.{moved_mark};
+ghost use Rattle.second_half_laws.specs.Mended.{IsMended};
 ghost use Rattle.run_laws.specs.Stories.{Stored, GetEnds};
 
 /// In every run a name in effect is a name of the grammar.
@@ -639,6 +640,13 @@ pub fn few_damaged_providers_leave_runs_calm()
     ensures marked { (limit : ℕ) (start : State) (ms : List Moment) (ps : List ℕ) → IsStart start
         → AllTell start → IsRun limit start ms → DamagesOnly ps ms
         → length ps ≤ (setup_in (now start ms)).b → IsMarkedRun limit (λ moments. 0) start ms }
+{}
+
+/// In a calm run in which no audit missed damage, told by events and outcomes: where an audit ended well and
+/// the repair of its number ended well, the audit's begin is a mark at the end of the repair.
+pub fn mended_stores_have_a_mark()
+    ensures { (limit : ℕ) (start : State) (older ms : List Moment) → IsCalmRun limit start ms
+        → IsMended older ms → IsMark start ms (length older) }
 {}
 
 /// A mark may move: to a moment since which all damage of files in effect is new, while no get and no repair
