@@ -1,4 +1,5 @@
-ghost use Rattle.std.specs.Prelude.{◌≡◌, ◌≤◌, ◌↔◌, length, string_bytes, IfOk, OnErr, IsErr, IsTrue};
+ghost use Rattle.std.specs.Prelude.{◌≡◌, ◌≤◌, ◌↔◌, length, string_bytes, IfOk, OnOk, OnErr, IsErr, IsTrue};
+ghost use Rattle.std.specs.Option.{is_some};
 
 use crate::found::found;
 use crate::plain::{folder_of, is_there, sync_folder, to_write_or_make};
@@ -127,7 +128,8 @@ impl<R: Files + Clone + Drop> KeptFile<R> {
     }
 
     fn try_sync(&mut self) -> io::Result<()>
-        ensures { IsTrue self.old.has_failed → IsErr result }
+        ensures given_up { IsTrue self.old.has_failed → IsErr result }
+        ensures named { OnOk result (IsTrue (is_some self.new.reading) → IsTrue self.new.has_synced_name) }
     {
         self.is_sure()?;
         if let Some(file) = &self.writing {
@@ -145,7 +147,9 @@ impl<R: Files + Clone + Drop> KeptFile<R> {
     }
 
     /// Brings the file's name to the medium, once.
-    fn sync_name(&mut self) -> io::Result<()> {
+    fn sync_name(&mut self) -> io::Result<()>
+        ensures { OnOk result (IsTrue self.new.has_synced_name) }
+    {
         if !self.has_synced_name {
             sync_folder(&self.rt, folder_of(&self.path))?;
             self.has_synced_name = true;
