@@ -89,13 +89,13 @@ fn a_file_is_a_disk(rt: HostRuntime) {
 
 /// A call of a provider, or a look at the files.
 #[derive(Clone, Copy)]
-enum OfProvider {
+pub enum OfProvider {
     Calls(Call),
     Looks(Look),
 }
 
 /// The place of the first of these that comes to something else, or none.
-fn first_wrong_of_provider<R: Files + Alloc + Clone + Drop, P: Tamper>(
+pub fn first_wrong_of_provider<R: Files + Alloc + Clone + Drop, P: Tamper>(
     rt: &R,
     provider: &mut P,
     deeds: &[OfProvider],
@@ -113,7 +113,7 @@ fn first_wrong_of_provider<R: Files + Alloc + Clone + Drop, P: Tamper>(
 }
 
 /// The same over the folder at a path; want of memory is told behind the last.
-fn over_folder<R: Files + Alloc + Clone + Drop>(
+pub fn over_folder<R: Files + Alloc + Clone + Drop>(
     rt: &R,
     alloc: Global,
     path: &str,
@@ -196,12 +196,11 @@ fn blocks_are_altered_and_lost(rt: HostRuntime) {
     no_other(&rt, over_folder(&rt, rt.alloc(), "altered", &ALTERED));
 }
 
-// A hole of 4,095 stripes hides nothing; an entry that is no file is a fault, behind which the removal goes
-// on.
+// A hole of 15 stripes hides nothing; an entry that is no file is a fault, behind which the removal goes on.
 static REMOVED: [OfProvider; 12] = [
     OfProvider::Calls(Remove(7, Ok(()))),
     OfProvider::Calls(Store(7, 0, ONE, Ok(()))),
-    OfProvider::Calls(Store(7, 4096, ONE, Ok(()))),
+    OfProvider::Calls(Store(7, 16, ONE, Ok(()))),
     OfProvider::Calls(Store(u64::MAX, 0, ONE, Ok(()))),
     OfProvider::Looks(Look::Folder("removed/7-9")),
     OfProvider::Looks(Look::Write("removed/7-00", b"")),
@@ -218,9 +217,9 @@ fn only_blocks_of_the_object_are_removed(rt: HostRuntime) {
     no_other(&rt, over_folder(&rt, rt.alloc(), "removed", &REMOVED));
 }
 
-// A link is not followed, and a store puts a block in its place, and in that of what a cut store left. A
-// folder that is a file holds nothing.
-static LINKED: [OfProvider; 11] = [
+// A link is not followed, and a store puts a block in its place, and in that of what a cut store left, but
+// not in that of a folder with something in it. A folder that is a file holds nothing.
+static LINKED: [OfProvider; 12] = [
     OfProvider::Calls(Store(1, 0, ONE, Ok(()))),
     OfProvider::Looks(Look::Link("1-0", "linked/2-0")),
     OfProvider::Looks(Look::Link("1-0", "linked/new")),
@@ -231,6 +230,7 @@ static LINKED: [OfProvider; 11] = [
     OfProvider::Looks(Look::IsFile("linked/2-0", true)),
     OfProvider::Calls(Fetch(1, 0, ROOM, Ok(true), ONE)),
     OfProvider::Looks(Look::Folder("linked/3-0")),
+    OfProvider::Looks(Look::Write("linked/3-0/kept", b"")),
     OfProvider::Calls(Store(3, 0, THREE, Err(StoreFault::Failed))),
 ];
 

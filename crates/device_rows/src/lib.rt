@@ -13,6 +13,10 @@ mod disk_calls;
 #[cfg(test)]
 mod files;
 #[cfg(test)]
+mod folders;
+#[cfg(test)]
+mod forgetful;
+#[cfg(test)]
 mod given;
 #[cfg(test)]
 mod providers;

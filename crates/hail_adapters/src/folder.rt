@@ -1,14 +1,14 @@
 // A folder of blocks, each a file.
-ghost use Rattle.std.specs.Prelude.{◌≡◌, ◌≤◌, ◌<◌, ◌++◌, false, length, string_bytes, IfOk, OnErr};
+ghost use Rattle.std.specs.Prelude.{◌≡◌, ◌≢◌, ◌≤◌, ◌<◌, ◌+◌, ◌++◌, Ok, true, false, length, string_bytes, IfOk, OnErr};
 ghost use Rattle.hail_adapters.specs.BlockNames.{new_block};
 
 use crate::block_bytes::{BLOCK_BYTES, SYMBOL_BYTES, put_symbols, take_symbols};
 use crate::block_name::{NAME_BYTES, put_path};
 use crate::found::{found, is_missing};
-use crate::plain::{folder_of, open_plain, open_sized, sync_folder, to_make, to_write};
+use crate::plain::{folder_of, open_plain, open_sized, sync_folder, to_make, to_read, to_write};
 use crate::provider_folders::Mark;
 use crate::seen_rows::answer_of;
-use crate::transfer::fill;
+use crate::transfer::{fill, gives};
 use challenge::Challenge;
 use hail_field::{Memory, Symbol};
 use std::alloc::Global;
@@ -17,10 +17,25 @@ use std::io::{self, ErrorKind, Seek, SeekFrom, Write};
 use std::os::unix::fs::DirBuilderExt;
 
 /// So many stripes in a row that are not there end a removal.
-const MISSES: u32 = 4096;
+const MISSES: u32 = 16;
+
+/// The stripes of the longest file, where one provider has its bytes and a block keeps two symbols.
+const MOST_STRIPES: u32 = 131_072;
 
 /// Only the owner of a folder that is made enters it.
 const OWN_FOLDER: u32 = 0o700;
+
+/// How many stripes in a row a removal did not find, behind one more.
+fn misses_behind(misses: u32, removed: &io::Result<bool>) -> u32
+    requires { misses < 16 }
+    ensures there { removed.now ≡ Ok true → result ≡ 0 }
+    ensures missing { removed.now ≢ Ok true → result ≡ misses + 1 }
+{
+    match removed {
+        Ok(true) => 0,
+        _ => misses + 1,
+    }
+}
 
 /// A folder with a file for each block. It is made at the first store; one that isn't there holds nothing.
 #[derive(Drop)]
@@ -86,28 +101,58 @@ impl<R: Files + Clone + Drop> Folder<R> {
         sync_folder(&self.rt, folder_of(&self.path))
     }
 
+    /// Takes away what stands in the new file's place: a file, a link or an empty folder.
+    fn clear_new(&self) -> io::Result<()> {
+        let removed = fs::remove_file(&self.rt, &self.new_path);
+        if removed.is_err() && fs::remove_dir(&self.rt, &self.new_path).is_ok() {
+            return Ok(());
+        }
+        removed
+    }
+
     /// Makes the new file, which is not there: what stands in its place goes, and a missing folder is made.
     fn make_new(&self) -> io::Result<R::File> {
         match to_make().open(&self.rt, &self.new_path) {
-            Err(error) if error.kind() == ErrorKind::AlreadyExists => {
-                fs::remove_file(&self.rt, &self.new_path)?;
-            }
+            Err(error) if error.kind() == ErrorKind::AlreadyExists => self.clear_new()?,
             Err(error) if is_missing(error.kind()) => self.make()?,
             answer => return answer,
         }
         to_make().open(&self.rt, &self.new_path)
     }
 
+    /// The folder, which is there, is that of no other provider of the home. It is looked at once.
+    fn is_own(&self) -> io::Result<()> {
+        match &self.unsynced {
+            Some(mark) if !mark.is_known() => mark.know(&fs::metadata(&self.rt, &self.path)?),
+            _ => Ok(()),
+        }
+    }
+
     /// Writes the new file and brings it to the medium.
     fn write_new(&self, bytes: &[u8]) -> io::Result<()> {
         let mut file = self.make_new()?;
+        self.is_own()?;
         file.write_all(bytes)?;
         file.sync_all()
     }
 
-    /// Gives the new file the name of a block, which another file may have had.
-    fn name_new(&self) -> io::Result<()> {
-        fs::rename(&self.rt, &self.new_path, &self.block_path)?;
+    /// Gives the new file the name of a block. A file that had it goes, and so does an empty folder.
+    fn rename_new(&self) -> io::Result<()> {
+        let renamed = fs::rename(&self.rt, &self.new_path, &self.block_path);
+        if renamed.is_err() && fs::remove_dir(&self.rt, &self.block_path).is_ok() {
+            return fs::rename(&self.rt, &self.new_path, &self.block_path);
+        }
+        renamed
+    }
+
+    /// Writes the new file, and gives it the block's name.
+    fn put_new(&self, bytes: &[u8]) -> io::Result<()> {
+        self.write_new(bytes)?;
+        self.rename_new()
+    }
+
+    /// Brings the block's name to the medium, or marks the folder.
+    fn sync_name(&self) -> io::Result<()> {
         match &self.unsynced {
             Some(mark) => {
                 mark.set();
@@ -117,7 +162,21 @@ impl<R: Files + Clone + Drop> Folder<R> {
         }
     }
 
-    /// Writes the file of a block. Where that fails, the block is as it was.
+    /// The block's file, opened anew, has these bytes and no more: a file system may have said yes to all, and
+    /// have kept nothing.
+    fn reads_back(&self, bytes: &[u8]) -> io::Result<()>
+        requires { length bytes.now ≤ 2048 }
+    {
+        let mut file = to_read().open(&self.rt, &self.block_path)?;
+        if gives(&mut file, bytes)? {
+            Ok(())
+        } else {
+            Err(ErrorKind::InvalidData.into())
+        }
+    }
+
+    /// Writes the file of a block, and reads it back. Where that fails before the new file has the block's
+    /// name, the block is as it was.
     pub fn store(&mut self, object: u64, stripe: u32, block: &[Symbol]) -> io::Result<()>
         requires { length block.now ≤ 128 }
     {
@@ -125,8 +184,11 @@ impl<R: Files + Clone + Drop> Folder<R> {
         let bytes = &mut buffer[..SYMBOL_BYTES * block.len()];
         put_symbols(block, bytes);
         put_path(&mut self.block_path, &self.path, object, stripe)?;
-        match self.write_new(bytes) {
-            Ok(()) => self.name_new(),
+        match self.put_new(bytes) {
+            Ok(()) => {
+                self.sync_name()?;
+                self.reads_back(bytes)
+            }
             Err(error) => {
                 let _ = fs::remove_file(&self.rt, &self.new_path);
                 Err(error)
@@ -199,19 +261,17 @@ impl<R: Files + Clone + Drop> Folder<R> {
     }
 
     /// Removes the files of an object's blocks, and no other file, by their numbers, and goes on past one
-    /// that cannot be removed. It ends behind 4,096 stripes in a row of which none was removed: a longer hole
-    /// hides what is behind it. The answer is the last error.
+    /// that cannot be removed. It ends behind 16 stripes in a row of which none was removed: a longer hole
+    /// hides what is behind it. It ends at the longest file's stripes at the latest. The answer is the last
+    /// error.
     pub fn remove(&mut self, object: u64) -> io::Result<()> {
         let mut misses = 0;
         let mut answer = Ok(());
-        for stripe in 0..u32::MAX {
-            match self.remove_one(object, stripe) {
-                Ok(true) => misses = 0,
-                Ok(false) => misses += 1,
-                Err(error) => {
-                    misses += 1;
-                    answer = Err(error);
-                }
+        for stripe in 0..MOST_STRIPES {
+            let removed = self.remove_one(object, stripe);
+            misses = misses_behind(misses, &removed);
+            if let Err(error) = removed {
+                answer = Err(error);
             }
             if misses >= MISSES {
                 return answer;

@@ -1,7 +1,8 @@
 // Reads and writes that begin anew where a signal cut them off.
-ghost use Rattle.std.specs.Prelude.{◌≤◌, ◌<◌, length, take, IfOk};
+ghost use Rattle.std.specs.Prelude.{◌≤◌, ◌<◌, length, take, IfOk, IsTrue};
 ghost use Rattle.std.specs.Io.KnownBytes.{Consumes, IsAtEnd, ReadConsumes};
 
+use crate::block_bytes::BLOCK_BYTES;
 use std::io;
 use std::io::{ErrorKind, Print, Read};
 
@@ -35,6 +36,19 @@ pub fn fill<F: Read>(reader: &mut F, out: &mut [u8]) -> io::Result<usize>
         done += n;
     }
     Ok(done)
+}
+
+/// Whether a reader gives these bytes, at most those of the longest block, and no more.
+pub fn gives<F: Read>(reader: &mut F, bytes: &[u8]) -> io::Result<bool>
+    requires { length bytes.now ≤ 2048 }
+    ensures bytes { IfOk result (λ same. IsTrue same
+        → Consumes (F.remaining reader.old) (F.remaining reader.new) bytes.now) }
+    ensures no_more { IfOk result (λ same. IsTrue same → IsAtEnd (F.remaining reader.new)) }
+{
+    let mut buffer = [0; BLOCK_BYTES + 1];
+    let room = &mut buffer[..bytes.len() + 1];
+    let n = fill(reader, room)?;
+    Ok(&room[..n] == bytes)
 }
 
 /// One write, which takes something of a piece that is not empty.

@@ -1,0 +1,206 @@
+// Rows of folders that fail, lose or hold something else, and of two that are one.
+use crate::adapters::OfProvider::{self, Calls, Looks};
+use crate::adapters::{first_wrong_of_provider, over_folder};
+use crate::calls::Call::{Ask, Fetch, Lacks, Lose, Remove, Store};
+use crate::files::Look;
+use crate::forgetful::Forgetful;
+use crate::given::{WEIGHT, no_other};
+use disk_model::Disk;
+use hail_adapters::{FolderProvider, Unsynced, folder_providers, journal_disk};
+use hail_field::Symbol;
+use provider_model::{Provider, StoreFault};
+use std::alloc::{Alloc, Global};
+use std::cell::Cell;
+use std::fs::{self, Files};
+use std::os::unix::fs::symlink;
+use std::rc::Rc;
+use stream_model::Failed;
+
+const ONE: &[u128] = &[1];
+
+const ROOM: &[u128] = &[0];
+
+// The challenge picks the rows 19, 70, 6 and 24 of stripes of six; the first symbol of its weight is that of
+// row 19.
+const SIX: &[u128] = &[0, 1, 0, 0, 0, 0];
+
+// An answer is of the blocks that are there: without one of those picked there is none.
+static ASKED: [OfProvider; 9] = [
+    Calls(Ask(1, Ok(None))),
+    Calls(Store(1, 1, SIX, Ok(()))),
+    Calls(Store(1, 3, SIX, Ok(()))),
+    Calls(Store(1, 4, SIX, Ok(()))),
+    Calls(Store(1, 11, SIX, Ok(()))),
+    Calls(Ask(1, Ok(Some(WEIGHT)))),
+    Calls(Lose(1, 11, true)),
+    Calls(Ask(1, Ok(None))),
+    Looks(Look::RemoveAll("asked")),
+];
+
+#[test]
+fn a_missing_block_has_no_answer(rt: HostRuntime) {
+    no_other(&rt, over_folder(&rt, rt.alloc(), "asked", &ASKED));
+}
+
+// A hole of 16 stripes hides what is behind it.
+static HOLES: [OfProvider; 5] = [
+    Calls(Store(7, 0, ONE, Ok(()))),
+    Calls(Store(7, 17, ONE, Ok(()))),
+    Calls(Remove(7, Ok(()))),
+    Looks(Look::Names("holes", 1)),
+    Looks(Look::RemoveAll("holes")),
+];
+
+#[test]
+fn a_long_hole_ends_a_removal(rt: HostRuntime) {
+    no_other(&rt, over_folder(&rt, rt.alloc(), "holes", &HOLES));
+}
+
+const FAILS: OfProvider = Calls(Store(3, 0, ONE, Err(StoreFault::Failed)));
+
+// Seven failures in a row and then an answer, that nothing is there too, count for nothing. Behind eight in
+// a row nothing is done any more.
+static GIVEN_UP: [OfProvider; 33] = [
+    Calls(Store(1, 0, ONE, Ok(()))),
+    Looks(Look::Folder("failing/3-0")),
+    Looks(Look::Write("failing/3-0/kept", b"")),
+    FAILS,
+    FAILS,
+    FAILS,
+    FAILS,
+    FAILS,
+    FAILS,
+    FAILS,
+    Calls(Fetch(2, 0, ROOM, Ok(false), ROOM)),
+    FAILS,
+    FAILS,
+    FAILS,
+    FAILS,
+    FAILS,
+    FAILS,
+    FAILS,
+    Calls(Fetch(1, 0, ROOM, Ok(true), ONE)),
+    FAILS,
+    FAILS,
+    FAILS,
+    FAILS,
+    FAILS,
+    FAILS,
+    FAILS,
+    FAILS,
+    Calls(Fetch(1, 0, ROOM, Err(Failed), ROOM)),
+    Calls(Ask(1, Err(Failed))),
+    Calls(Remove(1, Err(Failed))),
+    Calls(Store(2, 0, ONE, Err(StoreFault::Failed))),
+    Looks(Look::Names("failing", 2)),
+    Looks(Look::RemoveAll("failing")),
+];
+
+#[test]
+fn a_folder_that_fails_on_and_on_is_given_up(rt: HostRuntime) {
+    no_other(&rt, over_folder(&rt, rt.alloc(), "failing", &GIVEN_UP));
+}
+
+// An empty folder in a block's place, or in that of a new file, gives way to a block.
+static EMPTY_FOLDERS: [OfProvider; 7] = [
+    Calls(Store(1, 0, ONE, Ok(()))),
+    Looks(Look::Folder("empty/2-0")),
+    Looks(Look::Folder("empty/new")),
+    Calls(Lacks(2, 0, 1)),
+    Calls(Store(2, 0, ONE, Ok(()))),
+    Looks(Look::IsFile("empty/2-0", true)),
+    Looks(Look::RemoveAll("empty")),
+];
+
+#[test]
+fn an_empty_folder_gives_way_to_a_block(rt: HostRuntime) {
+    no_other(&rt, over_folder(&rt, rt.alloc(), "empty", &EMPTY_FOLDERS));
+}
+
+// A file system that says yes to all and keeps zeros: a store of other symbols is a fault.
+static FORGOTTEN: [OfProvider; 3] = [
+    Calls(Store(1, 0, ONE, Err(StoreFault::Failed))),
+    Calls(Store(1, 0, ROOM, Ok(()))),
+    Looks(Look::RemoveAll("forgotten")),
+];
+
+// A removal of one block looks at seventeen names.
+static ONE_STRIPE: [OfProvider; 3] = [
+    Calls(Store(1, 0, ROOM, Ok(()))),
+    Calls(Remove(1, Ok(()))),
+    Looks(Look::RemoveFolder("removals")),
+];
+
+/// The place of the first row that goes otherwise over files that forget, and how many removals there were.
+/// Want of memory is the one refusal.
+fn over_forgetful<R: Files + Alloc + Clone + Drop>(
+    rt: &R,
+    alloc: Global,
+    path: &str,
+    deeds: &[OfProvider],
+) -> Option<(Option<usize>, u32)> {
+    let removals = Rc::new(alloc, Cell::new(0)).ok()?;
+    let files = Forgetful::new(rt.clone().ok()?, removals.clone().ok()?);
+    let mut provider = FolderProvider::new(&files, alloc, path).ok()?;
+    let place = first_wrong_of_provider(rt, &mut provider, deeds);
+    Some((place, removals.get()))
+}
+
+#[test]
+fn a_store_reads_back_what_it_stored(rt: HostRuntime) {
+    let forgotten = over_forgetful(&rt, rt.alloc(), "forgotten", &FORGOTTEN);
+    assert_eq!(rt; forgotten, Some((None, 0)));
+}
+
+#[test]
+fn a_removal_of_one_block_makes_few_calls(rt: HostRuntime) {
+    let removed = over_forgetful(&rt, rt.alloc(), "removals", &ONE_STRIPE);
+    assert_eq!(rt; removed, Some((None, 17)));
+}
+
+/// Stores a block of one symbol.
+fn stores<P: Provider>(provider: &mut P) -> Result<(), StoreFault> {
+    provider.store(1, 0, &[Symbol(1)])
+}
+
+/// Writes a byte.
+fn writes<D: Disk>(disk: &mut D) -> bool {
+    disk.write_at(0, b"a").is_ok()
+}
+
+/// What the first two providers of a home answer to a store each, and whether its journal is written then.
+/// Before that the home's folder of the first goes where that is asked for.
+fn stores_and_writes<R: Files + Alloc + Clone + Drop>(
+    rt: &R,
+    alloc: Global,
+    home: &str,
+    gone: Option<&str>,
+) -> Option<([Result<(), StoreFault>; 2], bool)> {
+    let unsynced = Unsynced::new(alloc).ok()?;
+    let mut disk = journal_disk(rt, alloc, home, &unsynced).ok()?;
+    let mut providers = folder_providers(rt, alloc, home, &unsynced).ok()?;
+    let first = stores(providers.get_mut(0)?);
+    let second = stores(providers.get_mut(1)?);
+    if let Some(folder) = gone {
+        fs::remove_dir_all(rt, folder).ok()?;
+    }
+    Some(([first, second], writes(&mut disk)))
+}
+
+#[test]
+fn a_folder_that_is_gone_is_a_fault_of_the_disk(rt: HostRuntime) {
+    let made = fs::create_dir(&rt, "whole").is_ok() && fs::create_dir(&rt, "parted").is_ok();
+    let whole = stores_and_writes(&rt, rt.alloc(), "whole", None);
+    let parted = stores_and_writes(&rt, rt.alloc(), "parted", Some("parted/provider-0"));
+    assert_eq!(rt; made && whole == Some(([Ok(()), Ok(())], true)), true);
+    assert_eq!(rt; parted, Some(([Ok(()), Ok(())], false)));
+}
+
+#[test]
+fn two_folders_that_are_one_are_a_fault_of_the_second(rt: HostRuntime) {
+    let made = fs::create_dir_all(&rt, "twins/provider-0").is_ok();
+    let linked = symlink(&rt, "provider-0", "twins/provider-1").is_ok();
+    let stored = stores_and_writes(&rt, rt.alloc(), "twins", None);
+    let wanted = [Ok(()), Err(StoreFault::Failed)];
+    assert_eq!(rt; made && linked && stored == Some((wanted, true)), true);
+}

@@ -1,0 +1,120 @@
+// The system's files, of which those that are written keep nothing, and of which the removals are counted.
+use std::alloc::Allocator;
+use std::cell::Cell;
+use std::fs::{Files, Metadata, OpenFile, OpenOptions};
+use std::io::{self, Read, Seek, SeekFrom, Write};
+use std::rc::Rc;
+
+/// The system's files, where a write says yes to all and puts zeros in place of what it was given, which a
+/// file system over a network may do whose other end has no room.
+#[derive(Clone, Drop)]
+pub struct Forgetful<R: Files + Clone + Drop> {
+    files: R,
+    removals: Rc<Cell<u32>>,
+}
+
+/// A file that was opened.
+#[derive(Drop)]
+pub struct Opened<F: Drop> {
+    file: F,
+}
+
+impl<R: Files + Clone + Drop> Forgetful<R> {
+    /// Stands over these files, and counts removals here.
+    pub fn new(files: R, removals: Rc<Cell<u32>>) -> Forgetful<R> {
+        Forgetful { files, removals }
+    }
+}
+
+impl<R: Files + Clone + Drop> Files for Forgetful<R> {
+    type File = Opened<R::File>;
+
+    type Dir = R::Dir;
+
+    fn open_file(&self, how: &OpenOptions, path: &str) -> io::Result<Opened<R::File>> {
+        let file = self.files.open_file(how, path)?;
+        Ok(Opened { file })
+    }
+
+    fn open_dir(&self, path: &str) -> io::Result<R::Dir> {
+        self.files.open_dir(path)
+    }
+
+    fn metadata(&self, path: &str) -> io::Result<Metadata> {
+        self.files.metadata(path)
+    }
+
+    fn symlink_metadata(&self, path: &str) -> io::Result<Metadata> {
+        self.files.symlink_metadata(path)
+    }
+
+    fn copy(&self, from: &str, to: &str) -> io::Result<u64> {
+        self.files.copy(from, to)
+    }
+
+    fn rename(&self, from: &str, to: &str) -> io::Result<()> {
+        self.files.rename(from, to)
+    }
+
+    fn remove_file(&self, path: &str) -> io::Result<()> {
+        self.removals.set(self.removals.get().saturating_add(1));
+        self.files.remove_file(path)
+    }
+
+    fn create_dir(&self, path: &str) -> io::Result<()> {
+        self.files.create_dir(path)
+    }
+
+    fn create_dir_with_mode(&self, path: &str, mode: u32) -> io::Result<()> {
+        self.files.create_dir_with_mode(path, mode)
+    }
+
+    fn remove_dir(&self, path: &str) -> io::Result<()> {
+        self.files.remove_dir(path)
+    }
+
+    fn remove_dir_all<B: Allocator>(&self, alloc: B, path: &str) -> io::Result<()> {
+        self.files.remove_dir_all(alloc, path)
+    }
+}
+
+impl<F: Read + Drop> Read for Opened<F> {
+    fn read(&mut self, buf: &mut [u8]) -> io::Result<usize> {
+        self.file.read(buf)
+    }
+}
+
+impl<F: Write + Drop> Write for Opened<F> {
+    fn write(&mut self, buf: &[u8]) -> io::Result<usize> {
+        let zeros = [0; 2048];
+        self.file.write(&zeros[..buf.len().min(zeros.len())])
+    }
+
+    fn flush(&mut self) -> io::Result<()> {
+        self.file.flush()
+    }
+}
+
+impl<F: Seek + Drop> Seek for Opened<F> {
+    fn seek(&mut self, to: SeekFrom) -> io::Result<u64> {
+        self.file.seek(to)
+    }
+}
+
+impl<F: OpenFile + Drop> OpenFile for Opened<F> {
+    fn metadata(&self) -> io::Result<Metadata> {
+        self.file.metadata()
+    }
+
+    fn set_len(&self, size: u64) -> io::Result<()> {
+        self.file.set_len(size)
+    }
+
+    fn sync_all(&self) -> io::Result<()> {
+        self.file.sync_all()
+    }
+
+    fn sync_data(&self) -> io::Result<()> {
+        self.file.sync_data()
+    }
+}
