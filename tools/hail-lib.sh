@@ -39,7 +39,7 @@ let_go() {
 make_scratch() {
     scratch=$(mktemp -d) || exit 4
     trap 'rm -rf "$scratch"' EXIT
-    mkdir "$scratch/home"
+    mkdir "$scratch/lent"
 }
 
 # The records of a journal and what follows from them, as journal.awk tells them.
@@ -58,8 +58,8 @@ read_journal() {
 
 # hail takes this journal, and its files have the names and lengths that were read: the scratch home has a link to it.
 hail_agrees() {
-    ln -sfn -- "$1" "$scratch/home/journal"
-    "$HAIL" "$scratch/home" list </dev/null >"$scratch/list" 2>"$scratch/err" || return 1
+    ln -sfn -- "$1" "$scratch/lent/journal"
+    "$HAIL" "$scratch/lent" list </dev/null >"$scratch/list" 2>"$scratch/err" || return 1
     awk '$1 == "file" { print $4, $3 }' "$scratch/standing" | LC_ALL=C sort | cmp -s - "$scratch/list" || {
         echo 'its files are others than hail lists' >"$scratch/err"
         return 1

@@ -186,7 +186,7 @@ verifying_two() {
     new_home 9 4 2 1 1 1 0
     watching_two
     says 0 '' hail-verify home
-    mkdir kept
+    rm -rf kept && mkdir kept
     mv home/provider-3 home/provider-4 kept/
     says 1 'notes: comes back; wrong blocks at provider 3 4
 other: comes back; wrong blocks at provider 3 4
@@ -249,7 +249,7 @@ provider-4/4-0' hail-gc home
     put_fails 0 fourth 600
     says 0 '' hail-gc home remove
     says 0 '' hail-gc home
-    mkdir kept
+    rm -rf kept && mkdir kept
     cp home/provider-0/3-0 kept/
     "$HAIL" home drop third >out
     cp kept/3-0 home/provider-0/3-7
@@ -263,6 +263,12 @@ provider-3/3-0' hail-gc home
     says 0 '' hail-gc home remove
     told "number 3 has no name, but may be a whole file; 'hail-gc HOME remove 3' removes it"
     [ -e home/provider-5/3-2 ] || wrong 'hail-gc removed what may be a whole file'
+    (sleep 1; echo slow) | "$HAIL" home put slow >slow &
+    sleep 0.3
+    says 0 '' hail-gc home remove
+    wait
+    [ "$("$HAIL" home get slow)" = slow ] || wrong 'hail-gc removed what a put was storing'
+    "$HAIL" home drop slow >out
     rm home/provider-5/3-1
     mv home/provider-5 away
     says 0 '' hail-gc home
