@@ -74,13 +74,13 @@ kept_of() {
     echo 2 8 24 48 96 | cut -d ' ' -f $(($1 + 1))
 }
 
-# Of all blocks of a home that find takes a line PLACE NUMBER STRIPE SIZE, in bytes.
+# Of all blocks of a home that find takes a line PLACE NUMBER STRIPE, and the size in bytes where the format `%f %s` asks for it.
 all_blocks() {
-    local place home=$1
-    shift
+    local place home=$1 format=$2
+    shift 2
     for place in $(places); do
-        [ ! -d "$home/provider-$place/" ] || find -H "$home/provider-$place/" -maxdepth 1 -type f "$@" -printf '%f %s\n' |
-            sed -nE "s/^(0|[1-9][0-9]{0,19})-(0|[1-9][0-9]{0,9}) /$place \\1 \\2 /p"
+        [ ! -d "$home/provider-$place/" ] || find -H "$home/provider-$place/" -maxdepth 1 -type f "$@" -printf "$format\n" |
+            sed -nE "s/^(0|[1-9][0-9]{0,19})-(0|[1-9][0-9]{0,9})( [0-9]+)?$/$place \\1 \\2\\3/p"
     done
 }
 

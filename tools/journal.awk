@@ -4,13 +4,13 @@
 #   setup N L B PROFILE ROUNDS PICKS TOLERANCE
 #   start ID NAME, done ID LENGTH, drop NAME, audit-start NUMBER, audit-done NUMBER UNDECIDED COUNT .., repair-done NUMBER
 #   past ID LENGTH NAME     behind the record that took a file out of effect: its number, length and name
-#   cut ID                  behind a start stands another record than its end: a command never writes the end later. It is not told where
+#   cut ID NAME             behind a start stands another record than its end: a command never writes the end later. It is not told where
 #                           that record is the start of an audit with the same number, which may be the end, altered
 #
 # After the closed gate:
 #
 #   file ID LENGTH NAME     a file in effect, in no order
-#   cut ID                  the last record is a start
+#   cut ID NAME             the last record is a start
 #   next ID NUMBER          the number of the next put and of the next audit
 #   end BYTES               the length of the text: magic, records and the closed gate
 #   beyond ID               behind the end stands the end of this put, as a stop leaves it, or a gate that was altered
@@ -109,7 +109,7 @@ function dropped(    text) {
 
 function audit_started(before,    number_of) {
     number_of = number(8)
-    if (before && before != number_of) tell("cut " before)
+    if (before && before != number_of) tell("cut " before " " begun[before])
     next_audit = number_of + 1
     tell("audit-start " number_of)
 }
@@ -128,7 +128,7 @@ function one_record(    kind, before) {
     last = 0
     if (kind == 3) { done(before); return }
     if (kind == 5) { audit_started(before); return }
-    if (before) tell("cut " before)
+    if (before) tell("cut " before " " begun[before])
     if (kind == 1) setup()
     else if (kind == 2) started()
     else if (kind == 4) dropped()
@@ -140,7 +140,7 @@ function one_record(    kind, before) {
 # Tells what follows from the records. The gate behind them is read.
 function tell_end(    text) {
     for (text in of_name) print "file " of_name[text] " " length_of[text] " " text
-    if (last) print "cut " last
+    if (last) print "cut " last " " begun[last]
     print "next " next_id " " next_audit
     print "end " at
 }

@@ -1,6 +1,6 @@
 #!/bin/bash
-# Tests of the companions over real homes, at B = 1, 2 and 3: each answer that goes otherwise is told, and it ends with 0 exactly where
-# none does. What is due was worked out by hand.
+# Tests of the companions over real homes, at B = 1, 2 and 3, all at once: each answer that goes otherwise is told, and it ends with 0 exactly
+# where none does. What is due was worked out by hand. test.sh NAME .. runs these tests alone.
 set -u
 
 root=$(CDPATH='' cd -P -- "$(dirname "$0")/.." && pwd -P)
@@ -8,9 +8,6 @@ export HAIL=${HAIL:-$root/hail}
 tools=${TOOLS:-$root/tools}
 scratch=$(mktemp -d) || exit 1
 trap 'rm -rf "$scratch"' EXIT
-cd "$scratch" || exit 1
-mkdir tmp
-export TMPDIR=$scratch/tmp
 failed=0
 
 wrong() {
@@ -227,11 +224,11 @@ no_key_is_left() {
     [ "$master" = "$(cat key)" ] || wrong 'the key does not stand where it should in the journal'
     cat >spy <<SPY
 #!/bin/bash
-find "$TMPDIR" -type f -exec od -An -v -tx1 {} \; | tr -d ' \n' | grep -q "$master" && echo found >"$scratch/spied"
+find "$PWD/tmp" -type f -exec od -An -v -tx1 {} \; | tr -d ' \n' | grep -q "$master" && echo found >"$PWD/spied"
 exec "$HAIL" "\$@"
 SPY
     chmod +x spy
-    HAIL=$scratch/spy "$tools/hail-verify" home >out || wrong "hail-verify over a spy says $(cat out)"
+    HAIL=$PWD/spy "$tools/hail-verify" home >out || wrong "hail-verify over a spy says $(cat out)"
     [ ! -e spied ] || wrong 'hail-verify wrote the key below TMPDIR'
     [ -z "$(ls -A tmp)" ] || wrong "below TMPDIR is left $(ls -A tmp)"
 }
@@ -346,6 +343,8 @@ restoring() {
     says 1 'restored: the next put has number 14
 number 4: a file that was put since the copy, whose name is lost; hail-salvage may join its bytes
 other: too few blocks: it was dropped or replaced since the copy, or providers are away' hail-restore home copy 10
+    says 0 '' hail-gc home remove
+    told "number 4 has no name, but may be a whole file; 'hail-gc HOME remove 4' removes it"
     echo six | "$HAIL" home put sixth >out
     [ -e home/provider-0/14-0 ] && [ ! -e home/provider-0/5-0 ] || wrong 'after hail-restore a put has another number'
     "$HAIL" home audit >out
@@ -397,9 +396,22 @@ long_journal() {
     [ "$(cat out)" = 'end 16777227' ] || wrong "of a long journal is told $(tail -n 1 out) $(tail -n 1 err)"
 }
 
-for test in setting_up words watching verifying_one stuck_repair verifying_two verifying_three no_key_is_left collecting flipping restoring \
-    salvaging long_journal; do
-    [ $# -eq 0 ] || [[ " $* " == *" $test "* ]] || continue
-    "$test"
+# A test in a folder of its own, with one for what the companions write for a while.
+run() {
+    mkdir -p "$scratch/$1/tmp" && cd "$scratch/$1" || exit 1
+    export TMPDIR=$PWD/tmp
+    "$1"
+    exit $failed
+}
+
+all='setting_up words watching verifying_one stuck_repair verifying_two verifying_three no_key_is_left collecting flipping restoring salvaging
+    long_journal'
+running=()
+for test in ${*:-$all}; do
+    run "$test" &
+    running+=($!)
+done
+for test in "${running[@]}"; do
+    wait "$test" || failed=1
 done
 exit $failed
