@@ -1,4 +1,7 @@
-use folder_fixtures::{Deed, done_about_a_failed_sync, first_wrong_deed};
+use command_fixtures::KEY;
+use folder_fixtures::{
+    Deed, Row, done_about_a_failed_sync, first_wrong_deed, goes_over_forgetful_files,
+};
 
 // A store over a block makes a file, writes and syncs it, gives it the block's name, and syncs the folder.
 #[test]
@@ -17,4 +20,40 @@ fn a_disk_whose_sync_failed_does_nothing_more(rt: HostRuntime) {
 #[test]
 fn a_block_is_firm_before_the_journal_is_written(rt: HostRuntime) {
     assert_eq!(rt; first_wrong_deed(rt.alloc(), Deed::StoreAndWrite, 14), None);
+}
+
+const STORED: &[Row] = &[
+    Row {
+        line: "init 4 1 1 0 1 1 0",
+        input: KEY,
+        status: 0,
+        text: b"ready\n",
+    },
+    Row {
+        line: "put a",
+        input: b"abc",
+        status: 0,
+        text: b"stored a 3\n",
+    },
+];
+
+// A put over a name, whose first store is read back.
+const PUT_OVER: &Row = &Row {
+    line: "put a",
+    input: b"other",
+    status: 13,
+    text: b"",
+};
+
+const GIVEN: &[Row] = &[Row {
+    line: "get a",
+    input: b"",
+    status: 0,
+    text: b"abc",
+}];
+
+#[test]
+fn a_put_over_files_that_keep_nothing_is_told_and_leaves_the_file(rt: HostRuntime) {
+    let went = goes_over_forgetful_files(rt.alloc(), STORED, PUT_OVER, GIVEN);
+    assert_eq!(rt; went, true);
 }

@@ -43,3 +43,16 @@ pub fn all_go(files: &StandIn, alloc: Global, rows: &[Row]) -> bool {
     }
     true
 }
+
+/// Whether commands end as their rows say, then one over files that keep nothing of what is written to them,
+/// and then others over files that keep it again.
+pub fn goes_over_forgetful_files(alloc: Global, before: &[Row], row: &Row, after: &[Row]) -> bool {
+    let Ok(files) = StandIn::new(alloc) else {
+        return false;
+    };
+    let began = all_go(&files, alloc, before);
+    files.set_keeping(false);
+    let went = goes(&files, alloc, row);
+    files.set_keeping(true);
+    began && went && all_go(&files, alloc, after)
+}

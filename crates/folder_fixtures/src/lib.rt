@@ -9,5 +9,5 @@ mod stand_in;
 mod stores;
 
 pub use case::{Case, Cut, Shown, first_wrong_cut};
-pub use command::Row;
+pub use command::{Row, goes_over_forgetful_files};
 pub use stores::{Deed, Done, done_about_a_failed_sync, first_wrong_deed};

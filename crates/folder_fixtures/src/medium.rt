@@ -7,10 +7,12 @@ use std::io::{self, ErrorKind};
 /// The number of the home's folder, which is always there.
 const HOME: usize = 0;
 
-/// A file or a folder: its bytes as they were written, and as the medium has them.
+/// A file or a folder: its bytes as they were written, and as the medium has them. One that keeps nothing says
+/// yes to each write, and has zeros then.
 #[derive(Drop)]
 struct Node {
     is_folder: bool,
+    is_kept: bool,
     written: Vec<u8>,
     firm: Vec<u8>,
 }
@@ -69,13 +71,14 @@ pub const CUTS: [Stays; 5] = [
 
 /// A file system in memory that keeps what was written apart from what was synced. A name is on the medium
 /// once its folder is synced, a file's bytes once the file is. Its power is cut behind so many calls that
-/// change something: each call after them fails.
+/// change something: each call after them fails. Files that are made while it keeps nothing keep nothing.
 #[derive(Drop)]
 pub struct Medium {
     alloc: Global,
     nodes: Vec<Node>,
     names: Vec<Name>,
     calls_left: u64,
+    keeps: bool,
 }
 
 /// A call that changes something and gives nothing.
@@ -152,9 +155,10 @@ fn torn(alloc: Global, firm: &[u8], written: &[u8]) -> io::Result<Vec<u8>> {
 }
 
 impl Node {
-    fn new(alloc: Global, is_folder: bool) -> Node {
+    fn new(alloc: Global, is_folder: bool, is_kept: bool) -> Node {
         Node {
             is_folder,
+            is_kept,
             written: Vec::new(alloc),
             firm: Vec::new(alloc),
         }
@@ -162,7 +166,11 @@ impl Node {
 
     /// Writes from an offset on.
     fn write(&mut self, alloc: Global, at: usize, bytes: &[u8]) -> io::Result<()> {
-        self.written = overwritten(alloc, &self.written, at, bytes)?;
+        let mut written = overwritten(alloc, &self.written, at, bytes)?;
+        if !self.is_kept {
+            written.fill(0);
+        }
+        self.written = written;
         Ok(())
     }
 
@@ -185,6 +193,7 @@ impl Node {
     fn after_cut(&self, alloc: Global, stays: Stays) -> io::Result<Node> {
         Ok(Node {
             is_folder: self.is_folder,
+            is_kept: self.is_kept,
             written: self.left(alloc, stays.bytes)?,
             firm: self.left(alloc, stays.bytes)?,
         })
@@ -225,7 +234,7 @@ impl Medium {
     /// A medium on which a folder `home` is. Its power is not cut.
     pub fn new(alloc: Global) -> io::Result<Medium> {
         let mut nodes = Vec::new(alloc);
-        kept(nodes.push(Node::new(alloc, true)))?;
+        kept(nodes.push(Node::new(alloc, true, true)))?;
         let mut names = Vec::new(alloc);
         let home = Name::new(alloc, "home", HOME, Some(HOME), Some(HOME))?;
         kept(names.push(home))?;
@@ -234,7 +243,13 @@ impl Medium {
             nodes,
             names,
             calls_left: u64::MAX,
+            keeps: true,
         })
+    }
+
+    /// From now on files that are made keep what is written to them, or nothing.
+    pub fn set_keeping(&mut self, keeps: bool) {
+        self.keeps = keeps;
     }
 
     /// From now on the power is cut behind so many calls that change something.
@@ -318,7 +333,10 @@ impl Medium {
         self.find(folder_of(path)).ok_or(missing())?;
         self.turn()?;
         let node = self.nodes.len();
-        kept(self.nodes.push(Node::new(self.alloc, is_folder)))?;
+        kept(
+            self.nodes
+                .push(Node::new(self.alloc, is_folder, self.keeps)),
+        )?;
         self.point(path, Some(node))?;
         Ok(node)
     }
@@ -484,6 +502,7 @@ impl Medium {
             nodes,
             names,
             calls_left: u64::MAX,
+            keeps: self.keeps,
         })
     }
 }

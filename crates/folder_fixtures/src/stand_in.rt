@@ -58,6 +58,13 @@ impl StandIn {
         StandIn::over(alloc, Medium::new(alloc)?)
     }
 
+    /// From now on files that are made keep what is written to them, or nothing, and say yes to all.
+    pub fn set_keeping(&self, keeps: bool) {
+        if let Ok(mut medium) = lend(&self.medium) {
+            medium.set_keeping(keeps);
+        }
+    }
+
     /// From now on the power is cut behind so many calls that change something.
     pub fn cut_after(&self, calls: u64) {
         if let Ok(mut medium) = lend(&self.medium) {
