@@ -1,16 +1,17 @@
 #!/bin/bash
-# What the program keeps out of a home: a second program at the same time, standard streams that came closed, and what a hostile
-# provider puts in the place of a block. It tells each case that goes otherwise, ends with 0 exactly where none does, and leaves
+# What the program keeps out of a home: a second program at the same time, standard streams that came closed, what a hostile provider
+# puts in the place of a block, and two providers in one folder. It tells each case that goes otherwise, ends with 0 exactly where none does, and leaves
 # nothing behind.
 set -u
 
 . "$(dirname "$0")/common.sh"
 
-# A new home with one file, `notes`, and the key that no other home has.
+# A new home of this profile, or 1, with one file, `notes`, and the key that no other home has.
 new_home() {
+    local profile=${1:-1}
     rm -rf home
     mkdir home
-    head -c 32 /dev/urandom | od -An -v -tx1 | tr -d ' \n' | "$hail" home init 6 3 1 1 4 8 0 >out || wrong 'init'
+    head -c 32 /dev/urandom | od -An -v -tx1 | tr -d ' \n' | "$hail" home init 6 3 1 "$profile" 4 8 0 >out || wrong 'init'
     "$hail" home put notes <notes >out || wrong 'put notes'
 }
 
@@ -47,6 +48,32 @@ stored quick 6' ] || wrong "a slow and a quick put say $(cat slow quick)"
     [ "$("$hail" home list </dev/null)" = 'notes 10
 quick 6
 slow 5' ] || wrong "after both there is $("$hail" home list </dev/null)"
+}
+
+# Gets whose output is taken half a second later, one after the other while the file `reading` is there.
+slow_gets() {
+    while [ -e reading ]; do
+        "$hail" home get large </dev/null 2>>refused | { sleep 0.5; cmp -s - large || echo 'other bytes' >>refused; }
+    done
+}
+
+# A put among four such loops, of which one is always at work, waits for the gets before it, and not for those that come later.
+put_among_gets() {
+    local k
+    new_home 4
+    head -c 100000 /dev/urandom >large
+    "$hail" home put large <large >out || wrong 'put large'
+    : >reading
+    for k in 1 2 3 4; do
+        slow_gets &
+        sleep 0.1
+    done
+    sleep 1
+    timeout 20 "$hail" home put written <notes >out 2>err || wrong "a put among gets ends with $?"
+    rm reading
+    wait
+    [ ! -s refused ] || wrong "a get beside a put says $(head -n 1 refused)"
+    intact 'a put among gets'
 }
 
 # The command ends with this status where it was started with these streams closed, and the home is whole.
@@ -110,6 +137,31 @@ hostile_blocks() {
     [ $? -eq 12 ] || wrong 'a pipe as journal is no fault'
 }
 
+# An empty folder in a block's place gives way; one with something in it is a fault of its provider, until it is emptied.
+hostile_folders() {
+    new_home
+    mkdir home/provider-2/2-0 home/provider-3/new
+    "$hail" home put other <notes >out 2>err || wrong "a put over empty folders ends with $?"
+    mkdir home/provider-4/3-0
+    : >home/provider-4/3-0/kept
+    "$hail" home put more <notes >out 2>err
+    [ "$? $(cat err)" = '13 hail: provider fault 4' ] || wrong "a put over a folder that is not empty says $(cat err)"
+    rm home/provider-4/3-0/kept
+    "$hail" home put more <notes >out 2>err || wrong "a put over a folder that was emptied ends with $?"
+    intact 'puts over folders'
+}
+
+# Two providers in one folder: a put is a fault of the second, and nothing is stored.
+one_folder() {
+    new_home
+    rm -r home/provider-4
+    ln -s provider-1 home/provider-4
+    "$hail" home put other <notes >out 2>err
+    [ "$? $(cat err)" = '13 hail: provider fault 4' ] || wrong "a put into one folder twice says $(cat err)"
+    [ "$("$hail" home list </dev/null)" = 'notes 10' ] || wrong 'a put into one folder twice has an effect'
+    intact 'a put into one folder twice'
+}
+
 # Nobody else can read what was made.
 own_files() {
     new_home
@@ -120,7 +172,10 @@ own_files() {
 seq 1 5 >notes
 eight_at_once
 slow_and_quick
+put_among_gets
 closed_streams
 hostile_blocks
+hostile_folders
+one_folder
 own_files
 exit $failed

@@ -32,13 +32,28 @@ pub fn hold_streams(rt: &HostRuntime) -> io::Result<HeldStreams> {
     })
 }
 
+/// Takes the turn among those that wait for the home, until the file is dropped: an exclusive lock on its
+/// journal, which nothing else locks. None where no plain file is there, such as a link, or it can't be
+/// locked: the turn says who waits first, and keeps nobody out.
+fn take_turn(rt: &HostRuntime, home: &str) -> Option<File> {
+    let path = format!(in rt.alloc(); "{home}/journal").ok()?;
+    if !fs::symlink_metadata(rt, &path).ok()?.is_file() {
+        return None;
+    }
+    let file = fs::open(rt, &path).ok()?;
+    file.lock().ok()?;
+    Some(file)
+}
+
 /// Waits until no other program is at work in the home, and keeps others out until the file is dropped: a
-/// command that only reads keeps out those that write. A home that is no folder needs no lock, since nothing
-/// can be stored in it.
+/// command that only reads keeps out those that write. Who waits has the turn, so that commands that come
+/// later, and only read, don't go before one that writes. A home that is no folder needs no lock, since
+/// nothing can be stored in it.
 pub fn lock_home(rt: &HostRuntime, home: &str, words: &[String]) -> io::Result<Option<File>> {
     let folder = format!(in rt.alloc(); "{home}/")?;
     match fs::open(rt, &folder) {
         Ok(file) => {
+            let _turn = take_turn(rt, home);
             if only_reads(words) {
                 file.lock_shared()?;
             } else {
