@@ -1,0 +1,143 @@
+#!/bin/bash
+# A store whose providers are mounts, by sshfs (a server of this user alone, behind a pipe) and by rclone (without a cache): storage.sh
+# Each provider is a link to a folder inside its mount. A file is put, given and audited. Then a mount ends: a put and a repair are told as
+# its fault, the file comes back, the audit flags it, and nothing lands in the folder below. Mounted again it is repaired. With sshfs the
+# server also dies in the midst of a put: the old file or the new one is there, and the new one where it was told as stored.
+# It tells each case that goes otherwise, ends with 0 exactly where none does, and leaves nothing behind. A kind of mount that can't be had
+# here is named, and not tried: on Debian the packages sshfs, openssh-server (its sftp-server) and rclone, with /dev/fuse.
+set -u
+
+. "$(dirname "$0")/common.sh"
+trap 'leave' EXIT
+program=${HAIL:-$(dirname "$hail")/out/hail}
+"$hail" - row 4 1 1 7 7 7 9 >/dev/null || { echo 'storage: there is no program' >&2; exit 1; }
+
+# Ends a mount, if it is one.
+end_mount() {
+    local try
+    for try in 1 2 3 4 5 6 7 8 9 10; do
+        mountpoint -q "$scratch/near/$1" || return 0
+        fusermount3 -u "$scratch/near/$1" 2>/dev/null || sleep 0.2
+    done
+    fusermount3 -u -z "$scratch/near/$1" 2>/dev/null
+}
+
+leave() {
+    local place
+    for place in 0 1 2 3 4 5; do end_mount $place; done
+    wait
+    cd / && rm -rf "$scratch"
+}
+
+# Waits until a mount is there.
+is_mounted() {
+    local try
+    for try in $(seq 50); do
+        mountpoint -q "$scratch/near/$1" && return 0
+        sleep 0.1
+    done
+    return 1
+}
+
+# Mounts the far folder of this number; its server's process is in `server-N`.
+mount_by_sshfs() {
+    printf '#!/bin/sh\necho $$ >"%s"\nexec /usr/lib/openssh/sftp-server\n' "$scratch/server-$1" >connect-$1
+    chmod +x connect-$1
+    sshfs -o ssh_command="$scratch/connect-$1" "here:$scratch/far/$1" "$scratch/near/$1" && is_mounted "$1"
+}
+
+mount_by_rclone() {
+    rclone mount "$scratch/far/$1" "$scratch/near/$1" --vfs-cache-mode off --config /dev/null >>rclone.log 2>&1 &
+    is_mounted "$1"
+}
+
+# The command ends so, and writes these lines: ends STATUS LINES WORDS, with the input of `source`.
+ends() {
+    local status=$1 lines=$2
+    shift 2
+    timeout 60 "$program" home "$@" <"$source" >out 2>err
+    [ "$? $(cat out err)" = "$status $lines" ] || wrong "$kind: $* says $(cat out err)"
+    source=/dev/null
+}
+
+# The file comes back as it was put.
+given() {
+    timeout 60 "$program" home get file </dev/null >back 2>err && cmp -s back "$1" || wrong "$kind: the file is not given $2: $(cat err)"
+}
+
+# The audit flags just these.
+flags() {
+    timeout 60 "$program" home audit </dev/null >out 2>err || wrong "$kind: an audit says $(cat err)"
+    [ "$(awk '$NF == "flagged" { print $2 }' out)" = "$1" ] || wrong "$kind: an audit says $(cat out)"
+}
+
+# Six mounts, and a store on them with one file.
+begin() {
+    local place
+    rm -rf home far near
+    mkdir home far near
+    for place in 0 1 2 3 4 5; do
+        mkdir far/$place near/$place
+        "mount_by_$kind" $place || return 1
+        mkdir near/$place/hail
+        ln -s "$scratch/near/$place/hail" home/provider-$place
+    done
+    head -c 32 /dev/urandom | od -An -v -tx1 | tr -d ' \n' >key
+    source=key && ends 0 ready init 6 3 1 4 4 8 0
+    source=first && ends 0 'stored file 40000' put file
+}
+
+# The mount of provider 2 ends, and comes back.
+mount_ends() {
+    given first 'over mounts'
+    flags ''
+    [ "$(ls far/2/hail | wc -l)" -eq "$(ls far/3/hail | wc -l)" ] || wrong "$kind: a mount misses blocks"
+    end_mount 2
+    source=second && ends 13 'hail: provider fault 2' put file
+    given first 'without a mount'
+    flags 2
+    ends 13 'hail: provider fault 2' repair
+    [ -z "$(ls -A near/2)" ] || wrong "$kind: blocks land below a mount that is gone"
+    "mount_by_$kind" 2 || wrong "$kind: no second mount"
+    ends 0 'repaired 2' repair
+    flags ''
+    source=second && ends 0 'stored file 50000' put file
+    given second 'after the mount is back'
+}
+
+# The server of provider 2 dies in a put.
+server_dies() {
+    timeout 60 "$program" home put file <third >out 2>err &
+    sleep 0.3
+    kill -9 "$(cat server-2)" 2>/dev/null
+    wait $!
+    case $? in
+        0) given third 'after a put whose server died behind it' ;;
+        12 | 13) given second 'after a put whose server died' ;;
+        *) wrong "$kind: a put whose server dies says $(cat err)" ;;
+    esac
+    [ -z "$(ls -A near/2 2>/dev/null)" ] || wrong "$kind: blocks land below a mount whose server died"
+}
+
+# The story of one kind of mount, where its tools are there.
+try_kind() {
+    local tool place
+    kind=$1
+    shift
+    for tool in fusermount3 "$@"; do
+        command -v "$tool" >/dev/null 2>&1 || { echo "storage: $kind is not tried, there is no $tool"; return 0; }
+    done
+    [ -w /dev/fuse ] || { echo "storage: $kind is not tried, there is no /dev/fuse"; return 0; }
+    begin || { echo "storage: $kind is not tried, nothing can be mounted"; return 0; }
+    mount_ends
+    [ "$kind" = rclone ] || server_dies
+    for place in 0 1 2 3 4 5; do end_mount $place; done
+    wait
+}
+
+head -c 40000 /dev/urandom >first
+head -c 50000 /dev/urandom >second
+head -c 300000 /dev/urandom >third
+try_kind sshfs sshfs /usr/lib/openssh/sftp-server
+try_kind rclone rclone
+exit $failed
