@@ -169,7 +169,7 @@ fn writes<D: Disk>(disk: &mut D) -> bool {
 }
 
 /// What the first two providers of a home answer to a store each, and whether its journal is written then.
-/// Before that the home's folder of the first goes where that is asked for.
+/// Before that a folder goes, if one is named, and behind it the home.
 fn stores_and_writes<R: Files + Alloc + Clone + Drop>(
     rt: &R,
     alloc: Global,
@@ -184,7 +184,9 @@ fn stores_and_writes<R: Files + Alloc + Clone + Drop>(
     if let Some(folder) = gone {
         fs::remove_dir_all(rt, folder).ok()?;
     }
-    Some(([first, second], writes(&mut disk)))
+    let written = writes(&mut disk);
+    fs::remove_dir_all(rt, home).ok()?;
+    Some(([first, second], written))
 }
 
 #[test]
