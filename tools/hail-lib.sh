@@ -1,4 +1,6 @@
-# What the companions share. Sourced by bash, with `tools` set to its folder.
+# What the companions share. Sourced by bash, with `tools` set to its folder. A pipe fails where one of its programs does: what is written
+# below TMPDIR and found no room must not be taken for the whole.
+set -o pipefail
 
 # The program: what HAIL names, or that of the repository which this folder lies in, or the one on the path.
 if [ -z "${HAIL-}" ]; then
@@ -17,10 +19,16 @@ places() {
     seq 0 15
 }
 
-# Sets `home` to the path of the folder of a store.
+# Sets `home` to the path of the folder of a store: its journal has more than nine bytes.
 enter_home() {
-    home=$(CDPATH='' cd -P -- "$1" 2>/dev/null && pwd -P) && [ -f "$home/journal" ] || stop 2 "no store in $1"
+    home=$(CDPATH='' cd -P -- "$1" 2>/dev/null && pwd -P) && is_set_up "$home" || stop 2 "no store in $1"
 }
+is_set_up() {
+    [ -f "$1/journal" ] && [ "$(stat -L -c %s -- "$1/journal")" -gt 9 ]
+}
+
+# What found no room below TMPDIR is no answer.
+no_room='there is no room below TMPDIR'
 
 # Waits for the home's lock, which each command of hail takes too, and holds it until this program ends: -x alone, -s beside readers.
 # It waits with the journal locked, as each command does, so that it waits only for those that came before.
@@ -49,7 +57,6 @@ records() {
 
 # Of a journal what a companion needs, kept in the scratch folder: no single record, but of a file out of effect or a put cut off.
 read_journal() {
-    set -o pipefail
     records "$1" | awk '!/^(start|done|drop|audit-start|audit-done|repair-done) /' >"$scratch/standing" || return 1
     read -r n l b profile _ < <(sed -n 's/^setup //p' "$scratch/standing")
     read -r next_id _ < <(sed -n 's/^next //p' "$scratch/standing")
@@ -60,7 +67,8 @@ read_journal() {
 hail_agrees() {
     ln -sfn -- "$1" "$scratch/lent/journal"
     "$HAIL" "$scratch/lent" list </dev/null >"$scratch/list" 2>"$scratch/err" || return 1
-    awk '$1 == "file" { print $4, $3 }' "$scratch/standing" | LC_ALL=C sort | cmp -s - "$scratch/list" || {
+    awk '$1 == "file" { print $4, $3 } END { print "end" }' "$scratch/standing" | LC_ALL=C sort >"$scratch/read" || stop 4 "$no_room"
+    { cat "$scratch/list" && echo end; } | LC_ALL=C sort | cmp -s - "$scratch/read" || {
         echo 'its files are others than hail lists' >"$scratch/err"
         return 1
     }
@@ -74,13 +82,14 @@ kept_of() {
     echo 2 8 24 48 96 | cut -d ' ' -f $(($1 + 1))
 }
 
-# Of all blocks of a home that find takes a line PLACE NUMBER STRIPE, and the size in bytes where the format `%f %s` asks for it.
+# Of all blocks of a home that find takes a line PLACE NUMBER STRIPE, and the size in bytes where the format `%f %s` asks for it. A folder
+# that can't be read has none.
 all_blocks() {
     local place home=$1 format=$2
     shift 2
     for place in $(places); do
-        [ ! -d "$home/provider-$place/" ] || find -H "$home/provider-$place/" -maxdepth 1 -type f "$@" -printf "$format\n" |
-            sed -nE "s/^(0|[1-9][0-9]{0,19})-(0|[1-9][0-9]{0,9})( [0-9]+)?$/$place \\1 \\2\\3/p"
+        { [ ! -d "$home/provider-$place/" ] || find -H "$home/provider-$place/" -maxdepth 1 -type f "$@" -printf "$format\n" || true; } |
+            sed -nE "s/^(0|[1-9][0-9]{0,19})-(0|[1-9][0-9]{0,9})( [0-9]+)?$/$place \\1 \\2\\3/p" || return 1
     done
 }
 

@@ -51,12 +51,15 @@ function name(    i, text, size) {
     return text
 }
 
-# Behind the end of the text nothing is wrong: it may be anything.
+# Behind the end of the text nothing is wrong: it may be anything. The rest is read all the same, since who writes it must end well.
 function bad(why) {
-    failed = 1
-    if (beyond) print "odd"
-    else printf "no journal: %s at byte %d\n", why, at > "/dev/stderr"
-    exit !beyond
+    if (!beyond) {
+        printf "no journal: %s at byte %d\n", why, at > "/dev/stderr"
+        exit 1
+    }
+    print "odd"
+    while (getline > 0) { }
+    exit 0
 }
 
 function tell(line) {

@@ -78,6 +78,9 @@ hail-watch: set up nothing here: the first put would destroy them (see hail-rest
     says 3 '' hail-init home 6 3 1 1 4 8 0
     told 'blocks are held by provider-0 provider-1 provider-2 provider-3 provider-4 provider-5'
     [ ! -e home/journal ] || wrong 'hail-init set up a store over blocks'
+    : >home/journal
+    "$tools/hail-watch" home >out
+    [ $? -eq 3 ] || wrong 'blocks and an empty journal are not told'
     "$HAIL" home init 6 3 1 1 4 8 0 <key >out
     "$tools/hail-watch" home >out
     [ $? -eq 3 ] && grep -q 'a new one over old blocks; put nothing' out || wrong "a new journal over blocks is watched with $(cat out)"
@@ -266,6 +269,8 @@ provider-3/3-0' hail-gc home
     wait
     [ "$("$HAIL" home get slow)" = slow ] || wrong 'hail-gc removed what a put was storing'
     "$HAIL" home drop slow >out
+    (ulimit -f 0; "$tools/hail-gc" home remove >/dev/null 2>&1)
+    [ $? -eq 4 ] && [ -e home/provider-5/3-2 ] || wrong 'hail-gc goes on where nothing can be written below TMPDIR'
     rm home/provider-5/3-1
     mv home/provider-5 away
     says 0 '' hail-gc home
@@ -382,9 +387,11 @@ salvaging() {
     told 'bytes 896 to 1023 are missing, and zero here'
     { head -c 896 wanted; head -c 128 /dev/zero; tail -c 128 wanted; } | cmp -s - out || wrong 'hail-salvage joins other bytes over a hole'
     says 2 '' hail-salvage home 3 9
+    "$tools/hail-salvage" home 3 2 >/dev/full 2>err
+    [ $? -eq 4 ] || wrong 'hail-salvage does not tell that its output is full'
 }
 
-# A journal of 16 MiB is read in 50 MB.
+# A journal of 16 MiB is read in 50 MB, and what stands behind its end to the last byte.
 long_journal() {
     new_home 6 3 1 1 4 8 0
     head -c 50 home/journal >long
@@ -392,8 +399,10 @@ long_journal() {
     while [ "$(stat -c %s record)" -lt 16700000 ]; do cat record record >twice && mv twice record; done
     head -c $((645276 * 26)) record >>long
     printf '\0' >>long
-    (ulimit -v 50000 && od -An -v -tu1 -w32 long | LC_ALL=C awk -f "$(dirname "$(readlink -f "$tools/hail-gc")")/journal.awk" | tail -n 1) >out 2>err
-    [ "$(cat out)" = 'end 16777227' ] || wrong "of a long journal is told $(tail -n 1 out) $(tail -n 1 err)"
+    { printf '\0'; tail -c 1000000 long; } >>long
+    (set -o pipefail && ulimit -v 50000 && od -An -v -tu1 -w32 long | LC_ALL=C awk -f "$(dirname "$(readlink -f "$tools/hail-gc")")/journal.awk" | tail -n 2) >out 2>err
+    [ "$? $(cat out)" = '0 end 16777227
+odd' ] || wrong "of a long journal is told $(tail -n 1 out) $(tail -n 1 err)"
 }
 
 # A test in a folder of its own, with one for what the companions write for a while.
