@@ -1,7 +1,7 @@
 -- At the repair's end the audit's begin is a mark, and the run goes on.
 use Rattle.std.specs.Prelude.{◌≡◌, ℕ, ◌==◌, Bool, true, false, not, ◌&&◌, IsTrue, List, [], ◌∷◌, ◌++◌, length}
 use Rattle.std.specs.List.{list_all}
-use Rattle.std.proofs.Common.{refl, ap, sym, subst, ◌∙◌, inl, arith}
+use Rattle.std.proofs.Common.{refl, ap, sym, subst, ◌∙◌, inl, inr, arith}
 use Rattle.std.proofs.lemmas.Bool.{and_parts, eqb-true, false≢true}
 use Rattle.machine_defs.specs.Jobs.{GetJob, AuditJob, RepairJob}
 use Rattle.machine_defs.specs.Answers.{Got, Audited, Repaired}
@@ -11,6 +11,8 @@ use Rattle.machine_defs.specs.Runs.{Moment, IsRun}
 use Rattle.machine_defs.specs.Calm.{since, relies}
 use Rattle.machine_defs.specs.Began.{NoneBegan}
 use Rattle.second_half_laws.specs.Mended.{IsMended}
+use Rattle.second_half_laws.specs.Flagging.{IsAudit, FindsAll}
+use Rattle.column_defs.specs.Verdicts.{is_flagged}
 use Rattle.machine_defs.specs.Untouched.{Relies, IsBeginFor, BeginsNone, NoneBeganFor, NoneUnderWay, given_up, unbegun, ended}
 use Rattle.machine_defs.specs.Damaged.{IsAmong, DamagesOnly}
 use Rattle.machine_defs.specs.Examples.{set_up}
@@ -23,6 +25,7 @@ use Rattle.second_half_laws.specs.Marks.{IsMark}
 use Rattle.second_half_laws.specs.MarkedRuns.{BeginsNoScrub, IsMarkedRun, IsCalmRun}
 use Rattle.second_half_laws.proofs.InRuns.{calm_marked}
 use Rattle.damage_run.specs.Schedule.{name, byte}
+use Rattle.damage_run.specs.ReadOver.{damaged}
 use Rattle.damage_run.specs.SecondLoss.{damaged_later, MovesMark}
 use Rattle.damage_run.proofs.Steps.{counts, state_22, state_23, state_25, state_37, state_38, state_49, state_50, state_51, state_57}
 use Rattle.damage_run.proofs.Run.{steps_24, steps_36, steps_48, steps_56, until_21, until_25, until_37, until_49, until_57, is_until_57}
@@ -69,28 +72,28 @@ no_scrub (m ∷ ms) h =
     ))
 
 -- no other provider is damaged, as a test
-spares : Event → Bool
-spares (Alter provider object stripe place symbol) = provider == 0
-spares (Lose provider object stripe) = provider == 0
-spares e = true
+spares : ℕ → Event → Bool
+spares j (Alter provider object stripe place symbol) = provider == j
+spares j (Lose provider object stripe) = provider == j
+spares j e = true
 
-no_damage : (ms : List Moment) → list_all (λ (m : Moment). spares m.event) ms ≡ true →
-    DamagesOnly damaged_later ms
+no_damage : (j : ℕ) (ms : List Moment) → list_all (λ (m : Moment). spares j m.event) ms ≡ true →
+    DamagesOnly (j ∷ []) ms
 unfolding spares
-no_damage [] h = tt
-no_damage (m ∷ ms) h =
-    (let p = and_parts (spares m.event) (list_all (λ (m : Moment). spares m.event) ms) h in
-    (among m.event p.0, no_damage ms p.1))
+no_damage j [] h = tt
+no_damage j (m ∷ ms) h =
+    (let p = and_parts (spares j m.event) (list_all (λ (m : Moment). spares j m.event) ms) h in
+    (among m.event p.0, no_damage j ms p.1))
   where
-    among : (e : Event) → spares e ≡ true → IsAmong damaged_later e
-    among (Alter p o s k x) h = inl (eqb-true p 0 h)
-    among (Lose p o s) h = inl (eqb-true p 0 h)
+    among : (e : Event) → spares j e ≡ true → IsAmong (j ∷ []) e
+    among (Alter p o s k x) h = inl (eqb-true p j h)
+    among (Lose p o s) h = inl (eqb-true p j h)
     among (Init s) h = tt
     among (Begin kind) h = tt
     among (BeginAt profile n bytes) h = tt
     among BeginScrub h = tt
     among BeginPack h = tt
-    among (Step job) h = tt
+    among (Step number) h = tt
     among (Stop picks) h = tt
     among Reopen h = tt
     among Names h = tt
@@ -187,6 +190,53 @@ is_mended = record {
   repaired = refl;
 }
 
+-- no audit begins, as a test
+begins_audit : Event → Bool
+begins_audit (Begin AuditJob) = true
+begins_audit e = false
+
+no_audit : (ms : List Moment) → list_all (λ (m : Moment). not (begins_audit m.event)) ms ≡ true →
+    NoneBeganFor IsAudit ms
+unfolding begins_audit
+no_audit [] h = tt
+no_audit (m ∷ ms) h =
+    (let p = and_parts (not (begins_audit m.event)) (list_all (λ (m : Moment). not (begins_audit m.event)) ms) h in (
+      none m.event p.0,
+      no_audit ms p.1,
+    ))
+  where
+    none : (e : Event) → not (begins_audit e) ≡ true → IsBeginFor IsAudit e → (n : ℕ) → m.outcome ≡ Begun n → ⊥
+    none (Begin AuditJob) h on n is = false≢true h
+    none (Begin kind) h on n is = on
+    none e h on n is = on
+
+finds_all : FindsAll (setup_in state_49).tolerance damaged until_49
+unfolding setup_in is_begun begins_audit
+finds_all = record {
+  later = repair_end ∷ (steps_48 ++ repair_begin ∷ []);
+  end = audit_end;
+  auditing = auditing;
+  begin = audit_begin;
+  older = until_21;
+  split = refl;
+  audit = 3;
+  number = 1;
+  undecided = 0;
+  counts = counts;
+  begin_event = refl;
+  begun = refl;
+  end_event = refl;
+  ended = refl;
+  none_numbered = no_begun 3 auditing refl;
+  none_before = no_audit until_21 refl;
+  none_beside = no_audit auditing refl;
+  none_later = no_audit (repair_end ∷ (steps_48 ++ repair_begin ∷ [])) refl;
+  flags = λ j h. elim h [
+    | inl e ↦ subst (λ i. is_flagged (setup_in state_49).tolerance counts i ≡ true) (sym e) refl
+    | inr none ↦ absurd none
+  ];
+}
+
 under_repair : NoneUnderWay Relies until_49
 unfolding is_begin
 under_repair = ended repair_end repair_begin steps_48 until_37 4 (Repaired 1) refl refl
@@ -209,8 +259,12 @@ unfolding setup_in
 mark_is = refl
 
 pub moves : MovesMark later recent until_21
-unfolding setup_in is_scrub spares
+unfolding setup_in is_scrub spares begins_audit
 moves = (let h = calm_marked 8 set_up until_49 calm_run in record {
+  tell = outright.tell;
+  few_damaged = (no_damage 2 until_49 refl, omega arith);
+  finds = finds_all;
+  unaudited = no_audit until_21 refl;
   calm = calm_run;
   mended = is_mended;
   marked = h;
@@ -218,6 +272,6 @@ moves = (let h = calm_marked 8 set_up until_49 calm_run in record {
   none = under_repair;
   run = is_until_57;
   scrubs = no_scrub until_57 refl;
-  damages = no_damage (later ++ recent) refl;
+  damages = no_damage 0 (later ++ recent) refl;
   few = omega arith;
 })

@@ -44,7 +44,7 @@ file_kept rs (RepairDue number counts) name h = refl
 pub shorter : (r : Record) (rs : List Record) → rs ≡ r ∷ rs → ⊥
 shorter r rs e = (let l : length rs ≡ suc (length rs) = ap length e in omega arith)
 
-came_none : (old new : State) (r : Record) → came old new ≡ Some r → new.records ≡ old.records → ⊥
+pub came_none : (old new : State) (r : Record) → came old new ≡ Some r → new.records ≡ old.records → ⊥
 came_none old new r h rec =
     (let e : None ≡ Some r =
     sym (cond_false (nat_same (length new.records) (suc (length old.records))) (newest new.records) None
@@ -54,7 +54,7 @@ came_none old new r h rec =
     nat_same : ℕ → ℕ → Bool
     nat_same a b = a == b
 
-came_one : (old new : State) (r s : Record) (rs : List Record) → came old new ≡ Some r →
+pub came_one : (old new : State) (r s : Record) (rs : List Record) → came old new ≡ Some r →
     new.records ≡ s ∷ rs → s ≡ r
 came_one old new r s rs h rec = elim (cases_Bool (length new.records == suc (length old.records))) [
   | inl t ↦ (let e : Some s ≡ Some r = sym (ap newest rec)

@@ -91,7 +91,7 @@ none_ran Meant limit start clean (m ∷ ms) run began = λ k j h t.
     none_ran Meant limit start clean ms run.2 began.1 k x.job x.runs (subst Meant x.kind t))
 
 -- behind a begin before which none ran, and since which none began, only a job of its number does
-only_its : (Meant : Kind → Type 0) (limit : ℕ) (start : State) (between older : List Moment) (b : Moment) →
+pub only_its : (Meant : Kind → Type 0) (limit : ℕ) (start : State) (between older : List Moment) (b : Moment) →
     IsRun limit start (between ++ b ∷ older) → NoneRuns Meant (now start older) →
     NoneBeganFor Meant between → (k : ℕ) (j : Job) →
     job_of (now start (between ++ b ∷ older)).jobs k ≡ Some j → Meant j.kind → b.outcome ≡ Begun k

@@ -5,3 +5,4 @@ pub mod Files
 pub mod FirstHalf
 pub mod PutBytes
 pub mod ByEvents
+pub mod Sums

@@ -42,3 +42,5 @@ pub mod FewDamaged
 pub mod GetsByEvents
 pub mod Epochs
 pub mod Mended
+pub mod Lates
+pub mod Flagging

@@ -15,3 +15,4 @@ pub mod Sharp
 pub mod Told
 pub mod Epochs
 pub mod Mended
+pub mod Flagging

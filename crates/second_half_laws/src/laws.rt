@@ -29,7 +29,7 @@ ghost use Rattle.machine_defs.specs.Steps.{next_action};
 ghost use Rattle.machine_defs.specs.Left.{most_left};
 ghost use Rattle.machine_defs.specs.Heard.{heard_by, HoldsForgery};
 ghost use Rattle.machine_defs.specs.Calm.{Mark, since, relies, IsCalm};
-ghost use Rattle.machine_defs.specs.Missed.{is_wrong_now};
+ghost use Rattle.machine_defs.specs.Missed.{is_wrong_now, NoneMissed};
 ghost use Rattle.machine_defs.specs.Scrubs.{scrubbed, AreScrubsCalm, IsScrubCalm};
 ghost use Rattle.second_half_laws.specs.FewWrong.{is_wrong_seen, IsFewWrong};
 ghost use Rattle.second_half_laws.specs.Stays.{IsScrubbed, Stays};
@@ -45,9 +45,10 @@ ghost use Rattle.second_half_laws.specs.Marks.{WasWrong, Remains, IsEndOfPut, Pr
 ghost use Rattle.second_half_laws.specs.MarkedRuns.{BeginsNoScrub, IsMarkedRun, IsCalmRun};
 ghost use Rattle.second_half_laws.specs.Sharp.{IsLostByFaults, GivesOrIsLost};
 ghost use Rattle.machine_defs.specs.Damaged.{DamagesOnly};
-ghost use Rattle.machine_defs.specs.Untouched.{Relies, NoneUnderWay};
+ghost use Rattle.machine_defs.specs.Untouched.{Relies, NoneBeganFor, NoneUnderWay};
 ghost use Rattle.second_half_laws.specs.Epochs.{moved_mark};
 ghost use Rattle.second_half_laws.specs.Mended.{IsMended};
+ghost use Rattle.second_half_laws.specs.Flagging.{IsAudit, FindsAll};
 ghost use Rattle.run_laws.specs.Stories.{Stored, GetEnds};
 
 /// In every run a name in effect is a name of the grammar.
@@ -640,6 +641,18 @@ pub fn few_damaged_providers_leave_runs_calm()
     ensures marked { (limit : ℕ) (start : State) (ms : List Moment) (ps : List ℕ) → IsStart start
         → AllTell start → IsRun limit start ms → DamagesOnly ps ms
         → length ps ≤ (setup_in (now start ms)).b → IsMarkedRun limit (λ moments. 0) start ms }
+{}
+
+/// No audit missed damage, told by events and outcomes: where at most b providers are named for damage, and one
+/// audit alone began, which ended with counts that flag each of them; and where no audit began, whoever is
+/// damaged.
+pub fn flagging_audits_miss_none()
+    ensures flagged { (limit : ℕ) (start : State) (ms : List Moment) (ps : List ℕ) → IsStart start
+        → AllTell start → IsRun limit start ms → DamagesOnly ps ms
+        → length ps ≤ (setup_in (now start ms)).b → FindsAll (setup_in (now start ms)).tolerance ps ms
+        → NoneMissed start ms }
+    ensures unaudited { (limit : ℕ) (start : State) (ms : List Moment) → IsStart start
+        → IsRun limit start ms → NoneBeganFor IsAudit ms → NoneMissed start ms }
 {}
 
 /// In a calm run in which no audit missed damage, told by events and outcomes: where an audit ended well and

@@ -1,0 +1,121 @@
+-- Behind its asks an audit hears nothing more: its verdict is the same at each later moment.
+use Rattle.std.proofs.Common.{◌≡◌, ℕ, ◌+◌, ◌≤◌, ◌<◌, List, [], ◌∷◌, ◌++◌, length, Option, Some, None, refl, ap, sym, subst, ◌∙◌, inl, inr, arith}
+use Rattle.std.specs.Prelude.{slice_get}
+use Rattle.record_defs.specs.Records.{Setup}
+use Rattle.record_defs.specs.Table.{setup_of}
+use Rattle.machine_defs.specs.Jobs.{Kind, AuditJob, Pinned, Given, Job, job_of}
+use Rattle.machine_defs.specs.Actions.{Action, Fetch, Ask, Work, ask_actions, actions_by, actions_of}
+use Rattle.machine_defs.specs.Events.{Begun}
+use Rattle.machine_defs.specs.States.{State, IsStart, setup_in}
+use Rattle.machine_defs.specs.Steps.{next_action}
+use Rattle.machine_defs.specs.Runs.{Moment, now, IsRun}
+use Rattle.machine_defs.specs.Began.{NoneBegan}
+use Rattle.machine_defs.proofs.JobLists.{same_value}
+use Rattle.machine_defs.proofs.Changes.{Gave, Job_is, Changes}
+use Rattle.machine_defs.proofs.Events.{changes}
+use Rattle.machine_defs.proofs.Held.{all}
+use Rattle.machine_defs.proofs.Began.{Came, came_all}
+use Rattle.machine_defs.proofs.Numbers.{objects, next_by, next_is_by, first_above, drawn_later}
+use Rattle.machine_defs.proofs.Numbers as num
+use Rattle.machine_defs.proofs.PinFacts.{setup_same}
+use Rattle.machine_defs.proofs.Untouched.{run_back}
+use Rattle.second_half_laws.proofs.Places.{of_kind, audit_mute, IsMute}
+use Rattle.second_half_laws.proofs.Doubts.{setups_stay}
+
+-- a later state of an audit that hears nothing more
+pub record Later (j x : Job) : Type 0 where
+  pub given : x.given ≡ j.given
+  pub pinned : x.pinned ≡ j.pinned
+  pub subject : x.subject ≡ j.subject
+  pub kind : x.kind ≡ j.kind
+  pub place : j.place ≤ x.place
+
+-- what a mute action gave
+mute_gave : (old : State) (before : Job) (action : Action) (job : Job) → IsMute action →
+    Gave old before action job → job.given ≡ before.given
+mute_gave old before action job mute (Gave.nothing quiet e) = e
+mute_gave old before action job mute (Gave.fetched i o s block is e) = absurd (subst IsMute is mute)
+mute_gave old before action job mute (Gave.answered i o r symbol is e) = absurd (subst IsMute is mute)
+mute_gave old before action job mute (Gave.worked o s symbols is gives e) = absurd (subst IsMute is mute)
+
+module _ (limit : ℕ) (start : State) (clean : IsStart start) (ms : List Moment) (s : Setup)
+    (up : setup_of (now start ms).records ≡ Some s) (k : ℕ) (j : Job)
+    (runs : job_of (now start ms).jobs k ≡ Some j) (kind : j.kind ≡ AuditJob)
+    (late : 4 + length (ask_actions (setup_in (now start ms)) j) ≤ j.place) where
+  setup_later : (l : List Moment) → IsRun limit start (l ++ ms) →
+      setup_in (now start (l ++ ms)) ≡ setup_in (now start ms)
+  setup_later l run = setup_same (now start (l ++ ms)) (now start ms)
+      (setups_stay limit start l ms s clean run up ∙ sym up)
+
+  -- the next action of a later state is mute
+  next_mute : (l : List Moment) → IsRun limit start (l ++ ms) → (x : Job) (action : Action) → Later j x →
+      next_action (now start (l ++ ms)) x ≡ Some action → IsMute action
+  next_mute l run x action L next_is =
+      (let w = now start (l ++ ms) in
+      let x_kind : x.kind ≡ AuditJob = L.kind ∙ kind in
+      let listed : slice_get (actions_by (setup_in w) x AuditJob) x.place ≡ Some action =
+      subst (λ kd. next_by w x kd x.place ≡ Some action) x_kind (sym (next_is_by w x) ∙ next_is) in
+      let asks : length (ask_actions (setup_in w) x) ≡ length (ask_actions (setup_in (now start ms)) j) =
+      asks_same (setup_in w) (setup_in (now start ms)) x j (setup_later l run) L.pinned in
+      let place = L.place in
+      audit_mute (setup_in w) x x.place action x_kind
+      (of_kind (setup_in w) x AuditJob x.place action x_kind listed) (omega arith))
+    where
+      asks_same : (t u : Setup) (x y : Job) → t ≡ u → x.pinned ≡ y.pinned →
+          length (ask_actions t x) ≡ length (ask_actions u y)
+      asks_same t u x y setup pinned =
+          ap (λ z. length (ask_actions z x)) setup
+          ∙ ap (λ fs. length (ask_actions u (record x { pinned = fs }))) pinned
+
+  -- at each later moment at which it runs it is such
+  pub same_late : (l : List Moment) → IsRun limit start (l ++ ms) → NoneBegan k l → (x : Job) →
+      job_of (now start (l ++ ms)).jobs k ≡ Some x → Later j x
+  same_late [] run none x h = (let e = same_value (job_of (now start ms).jobs k) x j h runs in record {
+    given = ap (λ (y : Job). y.given) e;
+    pinned = ap (λ (y : Job). y.pinned) e;
+    subject = ap (λ (y : Job). y.subject) e;
+    kind = ap (λ (y : Job). y.kind) e;
+    place = (let p = ap (λ (y : Job). y.place) e in omega arith);
+  })
+  same_late (m ∷ l) run none x h =
+      elim (came_all (now start (l ++ ms)) limit (length (l ++ ms)) m.event m.outcome m.state run.1 k x h) [
+        | Came.fresh event outcome begun ↦ absurd (none.0 outcome)
+        | Came.had y numbered ↦ by_change (same_late l run.2 none.1) y.job y.runs
+            ((changes limit (length (l ++ ms)) (now start (l ++ ms)) m.event m.outcome m.state
+            (all limit start clean (l ++ ms) run.2).numbers.idle run.1).job k x h)
+      ]
+    where
+      by_change : ((z : Job) → job_of (now start (l ++ ms)).jobs k ≡ Some z → Later j z) → (y : Job) → job_of (now start (l ++ ms)).jobs k ≡ Some y →
+          Job_is limit (length (l ++ ms)) (now start (l ++ ms)) m.state k x → Later j x
+      by_change so y at (Job_is.kept r g) = so x r
+      by_change so y at (Job_is.begun kd profile is k_is allowed rec) =
+          absurd (let b = (num.facts objects limit start clean (l ++ ms) run.2).jobs_below k y at in omega arith)
+      by_change so y at (Job_is.plain before action was next_is is_plain goes rec stores_it) =
+          (let L = so before was in
+          let mute = next_mute l run.2 before action L next_is in record {
+            given = mute_gave (now start (l ++ ms)) before action x mute goes.gave ∙ L.given;
+            pinned = goes.pinned ∙ L.pinned;
+            subject = goes.subject ∙ L.subject;
+            kind = goes.kind ∙ L.kind;
+            place = (let p = goes.place in let q = L.place in omega arith);
+          })
+      by_change so y at (Job_is.drew before was next_is none_ is rec) =
+          (let L = so before was in
+          let p = L.place in record {
+            given = ap (λ (z : Job). z.given) is ∙ L.given;
+            pinned = ap (λ (z : Job). z.pinned) is ∙ L.pinned;
+            subject = ap (λ (z : Job). z.subject) is
+                ∙ (drawn_later (now start (l ++ ms)) before before.kind (first_above before (omega arith))
+                ∙ L.subject);
+            kind = ap (λ (z : Job). z.kind) is ∙ L.kind;
+            place = (let q = ap (λ (z : Job). z.place) is in omega arith);
+          })
+      by_change so y at (Job_is.finished before a was next_is flies mine is rec landed) =
+          (let L = so before was in
+          let p = L.place in record {
+            given = ap (λ (z : Job). z.given) is ∙ L.given;
+            pinned = ap (λ (z : Job). z.pinned) is ∙ L.pinned;
+            subject = ap (λ (z : Job). z.subject) is ∙ L.subject;
+            kind = ap (λ (z : Job). z.kind) is ∙ L.kind;
+            place = (let q = ap (λ (z : Job). z.place) is in omega arith);
+          })
