@@ -1,19 +1,19 @@
 -- At the repair's end the audit's begin is a mark, and the run goes on.
-use Rattle.std.specs.Prelude.{◌≡◌, ℕ, ◌==◌, Bool, true, false, not, ◌&&◌, IsTrue, List, [], ◌∷◌, ◌++◌, length}
+use Rattle.std.specs.Prelude.{◌≡◌, ℕ, ◌==◌, Bool, true, false, not, List, [], ◌∷◌, ◌++◌}
 use Rattle.std.specs.List.{list_all}
 use Rattle.std.proofs.Common.{refl, ap, sym, subst, ◌∙◌, inl, inr, arith}
 use Rattle.std.proofs.lemmas.Bool.{and_parts, eqb-true, false≢true}
 use Rattle.machine_defs.specs.Jobs.{GetJob, AuditJob, RepairJob}
 use Rattle.machine_defs.specs.Answers.{Got, Audited, Repaired}
-use Rattle.machine_defs.specs.Events.{Event, Init, Begin, BeginAt, BeginScrub, BeginPack, Step, Alter, Lose, Stop, Reopen, Names, Continue, Begun, More, Ended, Outcome, Replaced}
+use Rattle.machine_defs.specs.Events.{Event, Init, Begin, BeginAt, BeginScrub, BeginPack, Step, Alter, Lose, Stop, Reopen, Names, Continue, Begun, Ended, Outcome, Replaced}
 use Rattle.machine_defs.specs.States.{setup_in}
-use Rattle.machine_defs.specs.Runs.{Moment, IsRun}
+use Rattle.machine_defs.specs.Runs.{Moment}
 use Rattle.machine_defs.specs.Calm.{since, relies}
 use Rattle.machine_defs.specs.Began.{NoneBegan}
 use Rattle.second_half_laws.specs.Mended.{IsMended}
 use Rattle.second_half_laws.specs.Flagging.{IsAudit, FindsAll}
 use Rattle.column_defs.specs.Verdicts.{is_flagged}
-use Rattle.machine_defs.specs.Untouched.{Relies, IsBeginFor, BeginsNone, NoneBeganFor, NoneUnderWay, given_up, unbegun, ended}
+use Rattle.machine_defs.specs.Untouched.{Relies, IsBeginFor, NoneBeganFor, NoneUnderWay, given_up, unbegun, ended}
 use Rattle.machine_defs.specs.Damaged.{IsAmong, DamagesOnly}
 use Rattle.machine_defs.specs.Examples.{set_up}
 use Rattle.machine_defs.proofs.Damaged.{calm_back, scrubs_back, missed_back}
@@ -22,11 +22,11 @@ use Rattle.machine_defs.proofs.RunParts.{stepped}
 use Rattle.machine_defs.proofs.PutRun.{moments as stored, steps as put_steps}
 use Rattle.second_half_laws.proofs.ByteTold.{put_begin, put_end, reopening}
 use Rattle.second_half_laws.specs.Marks.{IsMark}
-use Rattle.second_half_laws.specs.MarkedRuns.{BeginsNoScrub, IsMarkedRun, IsCalmRun}
+use Rattle.second_half_laws.specs.MarkedRuns.{BeginsNoScrub, IsCalmRun}
 use Rattle.second_half_laws.proofs.InRuns.{calm_marked}
 use Rattle.damage_run.specs.Schedule.{name, byte}
 use Rattle.damage_run.specs.ReadOver.{damaged}
-use Rattle.damage_run.specs.SecondLoss.{damaged_later, MovesMark}
+use Rattle.damage_run.specs.SecondLoss.{MovesMark}
 use Rattle.damage_run.proofs.Steps.{counts, state_22, state_23, state_25, state_37, state_38, state_49, state_50, state_51, state_57}
 use Rattle.damage_run.proofs.Run.{steps_24, steps_36, steps_48, steps_56, until_21, until_25, until_37, until_49, until_57, is_until_57}
 use Rattle.damage_run.proofs.CalmRun.{outright}

@@ -1,12 +1,12 @@
 -- Which providers a run replaced, by the events that name them; and the first moments of a run.
-use Rattle.std.proofs.Common.{◌≡◌, ℕ, ◌≤◌, ◌<◌, ◌⊎◌, ◌&&◌, Bool, true, false, List, [], ◌∷◌, ◌++◌, length, refl, ap, sym, subst, ◌∙◌, inl, inr, arith}
-use Rattle.std.specs.Prelude.{◌==◌, nat_le}
+use Rattle.std.proofs.Common.{◌≡◌, ℕ, ◌≤◌, ◌&&◌, Bool, true, List, [], ◌∷◌, ◌++◌, length, ap, sym, subst, ◌∙◌, inl, inr, arith, append_assoc}
+use Rattle.std.specs.Prelude.{nat_le}
 use Rattle.std.proofs.lemmas.Bool.{cases_Bool, and_parts, or_cases, eqb-true, leb-true, leb-false, false≢true}
 use Rattle.algebra_laws.specs.Lists.{In}
 use Rattle.machine_defs.specs.Jobs.{Kind}
-use Rattle.machine_defs.specs.Events.{Event, Init, Begin, BeginAt, BeginScrub, BeginPack, Step, Alter, Lose, Stop, Reopen, Names, Continue, Outcome, Replaced}
+use Rattle.machine_defs.specs.Events.{Event, Alter, Lose, Outcome, Replaced}
 use Rattle.machine_defs.specs.States.{State}
-use Rattle.machine_defs.specs.Runs.{Moment, now, first_moments, IsRun, is_replacement, is_replaced_since}
+use Rattle.machine_defs.specs.Runs.{Moment, first_moments, is_replacement, is_replaced_since}
 use Rattle.machine_defs.specs.Calm.{Mark, IsCalm}
 use Rattle.machine_defs.specs.Missed.{NoneMissed}
 use Rattle.machine_defs.specs.Scrubs.{AreScrubsCalm}
@@ -26,6 +26,12 @@ pub first_before : (gaps ms : List Moment) → first_moments (length ms) (gaps +
 first_before [] ms = first_all ms
 first_before (x ∷ gaps) ms =
     first_more (length ms) x (gaps ++ ms) (no_fewer gaps ms) ∙ first_before gaps ms
+
+-- so it is with a moment between
+pub first_behind : (gaps : List Moment) (b : Moment) (ms : List Moment) →
+    first_moments (length ms) (gaps ++ b ∷ ms) ≡ ms
+first_behind gaps b ms =
+    ap (first_moments (length ms)) (sym (append_assoc gaps (b ∷ []) ms)) ∙ first_before (gaps ++ b ∷ []) ms
 
 -- so many of the first moments, where there are as many
 pub first_enough : (least k : ℕ) (ms : List Moment) → least ≤ k → least ≤ length ms →

@@ -2,7 +2,7 @@
 --
 --   EndsSo old new kind answer  == a job of this kind may end with this answer, by a step from the old state to
 --                                  the new one; a fault has its cause, a count that rose in it
-use Rattle.std.specs.Prelude.{ℕ, List}
+use Rattle.std.specs.Prelude.{ℕ}
 use Rattle.device_defs.specs.Faults.{Rose}
 use Rattle.machine_defs.specs.Jobs.{Kind, PutJob, GetJob, DropJob, AuditJob, RepairJob, UpgradeJob}
 use Rattle.machine_defs.specs.Answers.{Answer, Put, Got, Dropped, Audited, Repaired, Upgraded, Lost, ProviderFault, DiskFault, Memory}

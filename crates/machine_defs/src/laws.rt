@@ -169,8 +169,8 @@ pub fn ended_steps_are_of_jobs()
 
 /// A step that ends a job does so as its kind may: with what it was for, or lost at a row, of a get or a repair,
 /// or by a failed store, of a put or a repair, or by a failed disk or want of memory, of all but a get; and a
-/// fault has its cause, a count that rose in this step. So a put ends well where no count rose and memory was
-/// there, and so does a drop.
+/// fault has its cause, a count that rose in this step or stands at its last value. So a put or a drop ends well
+/// where no count did and memory was there.
 pub fn jobs_end_so()
     ensures { (limit : ℕ) (start : State) (between older : List Moment) (m b : Moment) (kind : Kind)
         (number : ℕ) (answer : Answer) → IsStart start → IsRun limit start (m ∷ (between ++ b ∷ older))

@@ -1,5 +1,5 @@
 -- What was put is kept and got, told by events and outcomes alone.
-use Rattle.std.proofs.Common.{◌≡◌, ℕ, ◌≤◌, List, [], ◌∷◌, ◌++◌, length, Some, refl, ap, sym, subst, ◌∙◌, inl, inr, arith}
+use Rattle.std.proofs.Common.{◌≡◌, ℕ, List, [], ◌∷◌, ◌++◌, length, Some, refl, ap, sym, subst, ◌∙◌, inl, inr}
 use Rattle.record_defs.specs.Table.{File, file_as}
 use Rattle.machine_defs.specs.Jobs.{Given, Job, job_of}
 use Rattle.machine_defs.specs.Answers.{Put, Got}
@@ -11,24 +11,13 @@ use Rattle.machine_defs.specs.Heard.{heard_by, heard_in, given_to, HoldsForgery}
 use Rattle.machine_defs.specs.Halves.{EndsGet}
 use Rattle.machine_defs.specs.Survival.{EndsPut, IsKept}
 use Rattle.column_defs.specs.Forgeries.{IsForgery}
-use Rattle.machine_defs.proofs.Held.{first_more, first_all}
+use Rattle.machine_defs.proofs.Damaged.{first_behind}
 use Rattle.machine_defs.proofs.Reports.{stays}
 use Rattle.machine_defs.proofs.Began.{is_begun, put_of, kind_of, ended_job}
 use Rattle.machine_defs.specs.Untouched.{Touches}
 use Rattle.machine_defs.proofs.Untouched.{run_back, none_under_way, put_is_kept}
 use Rattle.run_laws.specs.Stories.{Stored, IsKeptAs, GetEnds, GotRight}
 use Rattle.run_laws.proofs.PutBytes.{put_bytes_stay, put_is_got}
-
-no_fewer : (gaps : List Moment) (c : Moment) (ms : List Moment) → length ms ≤ length (gaps ++ c ∷ ms)
-no_fewer [] c ms = omega arith
-no_fewer (x ∷ gaps) c ms = (let l = no_fewer gaps c ms in omega arith)
-
--- the first moments, as many as there are before a moment, are those before it
-first_before : (gaps : List Moment) (c : Moment) (ms : List Moment) →
-    first_moments (length ms) (gaps ++ c ∷ ms) ≡ ms
-first_before [] c ms = first_more (length ms) c ms (omega arith) ∙ first_all ms
-first_before (x ∷ gaps) c ms =
-    first_more (length ms) x (gaps ++ c ∷ ms) (no_fewer gaps c ms) ∙ first_before gaps c ms
 
 same_forgery : (start : State) (file : File) (w : State) (bytes : List ℕ) (k : ℕ) (g : Moment)
     (ms : List Moment) (job : Job) → job.number ≡ k →
@@ -113,7 +102,7 @@ put_is_got_later limit start ms gaps c g get name bytes got clean run S G =
     let ends_get : EndsGet start g all job name got =
     record { event = event; outcome = G.ended; runs = runs; kind = get_kind } in
     let first : first_moments job.begun all ≡ ms =
-    ap (λ n. first_moments n all) get_begun.0 ∙ first_before gaps c ms in
+    ap (λ n. first_moments n all) get_begun.0 ∙ first_behind gaps c ms in
     let same = (stays limit start clean job [] g all run
     (record { answer = Got got; event = event; outcome = G.ended; runs = runs }) tt).1 in
     elim (put_is_got limit start g S.end all S.later (S.between ++ S.begin ∷ S.older) put job name bytes got

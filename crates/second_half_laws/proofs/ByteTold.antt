@@ -1,17 +1,17 @@
 -- The put of one byte and the get of it, told by events and outcomes alone.
 use Rattle.std.specs.Prelude.{◌≡◌, ℕ, List, [], ◌∷◌, None, Some}
 use Rattle.std.proofs.Common.{refl, inl, inr, arith}
-use Rattle.machine_defs.specs.Jobs.{PutJob, GetJob, Job}
+use Rattle.machine_defs.specs.Jobs.{PutJob, GetJob}
 use Rattle.machine_defs.specs.Answers.{Put, Got}
 use Rattle.machine_defs.specs.Events.{Begin, Step, Reopen, Opened, Begun, Ended}
-use Rattle.machine_defs.specs.States.{IsStart, Append, Doubt}
+use Rattle.machine_defs.specs.States.{IsStart}
 use Rattle.machine_defs.specs.Runs.{Moment}
 use Rattle.machine_defs.specs.Transcripts.{Once, RunJob, GoOn}
 use Rattle.machine_defs.specs.Examples.{set_up}
 use Rattle.record_defs.specs.Examples.{four}
 use Rattle.machine_defs.proofs.PutRun.{moments as stored, is_run as is_stored, steps as put_steps}
 use Rattle.machine_defs.proofs.PutSteps.{state_1, state_2, state_14, state_15}
-use Rattle.machine_defs.proofs.RunParts.{stepped, job_at}
+use Rattle.machine_defs.proofs.RunParts.{job_at}
 use Rattle.machine_defs.specs.Untouched.{given_up, ended, NoneAsksOn, NoneOn, IsUntouched}
 use Rattle.machine_defs.proofs.Untouched.{both_none, steps_begin_none}
 use Rattle.run_laws.specs.Stories.{Stored, GetEnds}

@@ -1,10 +1,9 @@
 -- A mark may move to a later moment since which all damage is new, while no get and no repair runs.
-use Rattle.std.proofs.Common.{◌≡◌, ℕ, suc, ◌≤◌, ◌<◌, Bool, true, false, List, [], ◌∷◌, ◌++◌, length, Some, refl, ap, sym, subst, ◌∙◌, inl, inr, arith, append_assoc}
+use Rattle.std.proofs.Common.{◌≡◌, ℕ, ◌≤◌, ◌<◌, true, List, [], ◌∷◌, ◌++◌, length, Some, refl, sym, subst, arith, append_assoc}
 use Rattle.std.specs.Prelude.{nat_le, IsTrue}
 use Rattle.std.proofs.lemmas.Bool.{le-leb, lt-leb}
-use Rattle.algebra_laws.specs.Lists.{In}
 use Rattle.machine_defs.specs.Jobs.{Job, job_of}
-use Rattle.machine_defs.specs.States.{State, IsStart, setup_in}
+use Rattle.machine_defs.specs.States.{State, setup_in}
 use Rattle.machine_defs.specs.Runs.{Moment, now, first_moments, IsRun, is_replaced_since}
 use Rattle.machine_defs.specs.Calm.{Mark, relies, replaced_count, IsCalm}
 use Rattle.machine_defs.specs.Damaged.{DamagesOnly}

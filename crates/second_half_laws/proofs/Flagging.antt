@@ -1,20 +1,20 @@
 -- Where the one audit of a run flags who was damaged, it missed nobody.
-use Rattle.std.proofs.Common.{◌≡◌, ℕ, suc, ◌+◌, ◌≤◌, ◌<◌, ◌==◌, ◌⊎◌, Bool, true, false, cond, List, [], ◌∷◌, ◌++◌, length, Option, Some, None, refl, ap, sym, subst, ◌∙◌, inl, inr, arith, append_assoc}
+use Rattle.std.proofs.Common.{◌≡◌, ℕ, ◌≤◌, ◌<◌, ◌⊎◌, true, List, [], ◌∷◌, ◌++◌, length, Option, Some, None, refl, ap, sym, subst, ◌∙◌, inl, inr, append_assoc}
 use Rattle.std.specs.Prelude.{is_some, nat_le}
-use Rattle.std.proofs.lemmas.Bool.{cases_Bool, eq-eqb, false≢true}
+use Rattle.std.proofs.lemmas.Bool.{cases_Bool, false≢true}
 use Rattle.algebra_laws.specs.Lists.{In}
 use Rattle.algebra_laws.proofs.Options.{some-not-none}
 use Rattle.column_defs.specs.Verdicts.{Sums, is_flagged}
-use Rattle.record_defs.specs.Records.{Record, Setup, SetUp, PutStart, PutDone, Drop, AuditStart, AuditDone, RepairDone, PutDoneIn, Version, Resume, InEffect, RepairDue}
+use Rattle.record_defs.specs.Records.{Record, Setup, SetUp, AuditDone}
 use Rattle.record_defs.specs.Table.{File, setup_of}
 use Rattle.machine_defs.specs.Jobs.{Kind, AuditJob, Job, job_of}
-use Rattle.machine_defs.specs.Actions.{WriteGate, End, ask_actions}
+use Rattle.machine_defs.specs.Actions.{WriteGate, End}
 use Rattle.machine_defs.specs.Answers.{Audited}
 use Rattle.machine_defs.specs.Events.{Begin, Step, Begun, Ended}
 use Rattle.machine_defs.specs.Audits.{HasSums}
 use Rattle.machine_defs.specs.States.{State, Append, Doubt, IsStart, setup_in, file_in}
 use Rattle.machine_defs.specs.Steps.{Ends, next_action}
-use Rattle.machine_defs.specs.Runs.{Moment, now, first_moments, newest, came, IsRun}
+use Rattle.machine_defs.specs.Runs.{Moment, now, first_moments, came, IsRun}
 use Rattle.machine_defs.specs.Missed.{Misses, MissesNone, NoneMissed, is_wrong_now}
 use Rattle.machine_defs.proofs.Survive.{came_none, came_one}
 use Rattle.machine_defs.specs.Halves.{AllTell}
@@ -46,7 +46,7 @@ use Rattle.second_half_laws.proofs.EveryRun.{always}
 use Rattle.second_half_laws.proofs.InRuns.{in_run, clears_all}
 use Rattle.second_half_laws.proofs.Doubts.{setups_stay}
 use Rattle.second_half_laws.proofs.FewDamaged.{few_marked}
-use Rattle.second_half_laws.proofs.Lates.{Later, same_late}
+use Rattle.second_half_laws.proofs.Lates.{same_late}
 
 -- counts that flag each of these providers
 abbrev Flags : ℕ → List ℕ → List ℕ → Type 0

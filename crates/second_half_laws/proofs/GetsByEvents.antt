@@ -1,7 +1,7 @@
 -- What a get of a stored file gives, told by events.
-use Rattle.std.proofs.Common.{◌≡◌, ℕ, ◌⊎◌, List, [], ◌∷◌, ◌++◌, length, Some, refl, ap, sym, subst, ◌∙◌, inl, inr, append_assoc}
+use Rattle.std.proofs.Common.{◌≡◌, ℕ, ◌⊎◌, List, ◌∷◌, ◌++◌, Some, ap, sym, subst, ◌∙◌, inl, inr}
 use Rattle.record_defs.specs.Table.{File}
-use Rattle.machine_defs.specs.Jobs.{GetJob, Job, job_of}
+use Rattle.machine_defs.specs.Jobs.{GetJob, job_of}
 use Rattle.machine_defs.specs.Answers.{Answer, Got}
 use Rattle.machine_defs.specs.Refusals.{Refusal}
 use Rattle.machine_defs.specs.Events.{Begin, Step, Refused}
@@ -10,7 +10,7 @@ use Rattle.machine_defs.specs.Runs.{Moment, now, first_moments, IsRun}
 use Rattle.machine_defs.specs.Calm.{Mark}
 use Rattle.machine_defs.specs.Halves.{IsGetRefusal}
 use Rattle.machine_defs.proofs.JobLists.{same_value}
-use Rattle.machine_defs.proofs.Damaged.{first_before}
+use Rattle.machine_defs.proofs.Damaged.{first_behind}
 use Rattle.machine_defs.proofs.Untouched.{run_back}
 use Rattle.machine_defs.proofs.Lone.{ended_of_kind}
 use Rattle.run_laws.specs.Stories.{Stored, GetEnds}
@@ -33,7 +33,7 @@ stored_got limit mark start ms gaps c g get name bytes how h S G =
     let runs : job_of (now start all).jobs job.number ≡ Some job =
     ap (job_of (now start all).jobs) q.2 ∙ q.1 in
     let first : first_moments job.begun all ≡ ms =
-    ap (λ n. first_moments n all) q.4 ∙ first_before_begin gaps c ms in
+    ap (λ n. first_moments n all) q.4 ∙ first_behind gaps c ms in
     let k = stored_is_kept limit start ms name bytes h.clean
     (run_back limit start (g ∷ gaps) (c ∷ ms) h.run).2 S in
     let ends : GivesOrIsLost (now start (first_moments job.begun all)) g.state name how =
@@ -43,11 +43,6 @@ stored_got limit mark start ms gaps c g get name bytes how h S G =
     gives (subst (λ hs. GivesOrIsLost (now start hs) g.state name how) first ends) k.file k.kept.in_effect
     k.bytes_are)
   where
-    first_before_begin : (gaps : List Moment) (c : Moment) (ms : List Moment) →
-        first_moments (length ms) (gaps ++ c ∷ ms) ≡ ms
-    first_before_begin gaps c ms =
-        ap (first_moments (length ms)) (sym (append_assoc gaps (c ∷ []) ms)) ∙ first_before (gaps ++ c ∷ []) ms
-
     gives : GivesOrIsLost (now start ms) g.state name how → (file : File) →
         file_in (now start ms) name ≡ Some file → (now start ms).bytes file.id ≡ bytes →
         (how ≡ Got bytes) ⊎ IsLostByFaults (now start ms) g.state how

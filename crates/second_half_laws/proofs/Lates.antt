@@ -1,24 +1,22 @@
 -- Behind its asks an audit hears nothing more: its verdict is the same at each later moment.
-use Rattle.std.proofs.Common.{◌≡◌, ℕ, ◌+◌, ◌≤◌, ◌<◌, List, [], ◌∷◌, ◌++◌, length, Option, Some, None, refl, ap, sym, subst, ◌∙◌, inl, inr, arith}
+use Rattle.std.proofs.Common.{◌≡◌, ℕ, ◌+◌, ◌≤◌, List, [], ◌∷◌, ◌++◌, length, Some, ap, sym, subst, ◌∙◌, arith}
 use Rattle.std.specs.Prelude.{slice_get}
 use Rattle.record_defs.specs.Records.{Setup}
 use Rattle.record_defs.specs.Table.{setup_of}
-use Rattle.machine_defs.specs.Jobs.{Kind, AuditJob, Pinned, Given, Job, job_of}
-use Rattle.machine_defs.specs.Actions.{Action, Fetch, Ask, Work, ask_actions, actions_by, actions_of}
-use Rattle.machine_defs.specs.Events.{Begun}
+use Rattle.machine_defs.specs.Jobs.{AuditJob, Job, job_of}
+use Rattle.machine_defs.specs.Actions.{Action, ask_actions, actions_by}
 use Rattle.machine_defs.specs.States.{State, IsStart, setup_in}
 use Rattle.machine_defs.specs.Steps.{next_action}
 use Rattle.machine_defs.specs.Runs.{Moment, now, IsRun}
 use Rattle.machine_defs.specs.Began.{NoneBegan}
 use Rattle.machine_defs.proofs.JobLists.{same_value}
-use Rattle.machine_defs.proofs.Changes.{Gave, Job_is, Changes}
+use Rattle.machine_defs.proofs.Changes.{Gave, Job_is}
 use Rattle.machine_defs.proofs.Events.{changes}
 use Rattle.machine_defs.proofs.Held.{all}
 use Rattle.machine_defs.proofs.Began.{Came, came_all}
 use Rattle.machine_defs.proofs.Numbers.{objects, next_by, next_is_by, first_above, drawn_later}
 use Rattle.machine_defs.proofs.Numbers as num
 use Rattle.machine_defs.proofs.PinFacts.{setup_same}
-use Rattle.machine_defs.proofs.Untouched.{run_back}
 use Rattle.second_half_laws.proofs.Places.{of_kind, audit_mute, IsMute}
 use Rattle.second_half_laws.proofs.Doubts.{setups_stay}
 

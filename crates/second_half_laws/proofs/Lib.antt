@@ -44,3 +44,5 @@ pub mod Epochs
 pub mod Mended
 pub mod Lates
 pub mod Flagging
+pub mod Inits
+pub mod InitRun

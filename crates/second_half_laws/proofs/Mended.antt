@@ -1,11 +1,10 @@
 -- The begin of an audit is a mark at the end of its repair.
-use Rattle.std.proofs.Common.{◌≡◌, ℕ, ◌+◌, ◌≤◌, ◌<◌, List, [], ◌∷◌, ◌++◌, length, Some, refl, ap, sym, subst, ◌∙◌, inl, inr, arith}
+use Rattle.std.proofs.Common.{◌≡◌, ℕ, ◌≤◌, ◌<◌, List, [], ◌∷◌, ◌++◌, length, Some, refl, ap, sym, subst, ◌∙◌, inl, inr, arith}
 use Rattle.std.specs.Prelude.{slice_get}
-use Rattle.algebra_laws.specs.Lists.{Each}
 use Rattle.algebra_laws.proofs.Each.{each_get}
 use Rattle.record_defs.specs.Table.{next_audit}
 use Rattle.machine_defs.specs.Jobs.{AuditJob, RepairJob, Job, job_of}
-use Rattle.machine_defs.specs.Actions.{Action, Store, End, append_actions, ask_actions, repair_actions, actions_by, actions_of}
+use Rattle.machine_defs.specs.Actions.{Action, Store, End, append_actions, ask_actions, actions_by, actions_of}
 use Rattle.machine_defs.specs.Answers.{Answer, Audited, Repaired}
 use Rattle.machine_defs.specs.Events.{Begin, Step, Begun, Ended}
 use Rattle.machine_defs.specs.Began.{NoneBegan}
@@ -22,7 +21,7 @@ use Rattle.machine_defs.proofs.Untouched.{run_back}
 use Rattle.machine_defs.proofs.Numbers.{audits, Draws, next_of_records, next_by, next_is_by}
 use Rattle.machine_defs.proofs.Numbers as num
 use Rattle.run_laws.proofs.InEffect as eff
-use Rattle.second_half_laws.specs.Marks.{Remains, IsClear, IsMark, Never}
+use Rattle.second_half_laws.specs.Marks.{IsMark}
 use Rattle.second_half_laws.specs.MarkedRuns.{IsCalmRun}
 use Rattle.second_half_laws.specs.Mended.{IsMended}
 use Rattle.second_half_laws.proofs.Turns.{turns}

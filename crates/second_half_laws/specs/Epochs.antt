@@ -1,8 +1,7 @@
 -- Marks that move.
 --
 --   moved_mark k from mark  == the mark that was one up to so many moments, and from then on is this moment
-use Rattle.std.specs.Prelude.{ℕ, List, length, nat_le, if◌then◌else◌}
-use Rattle.machine_defs.specs.Runs.{Moment}
+use Rattle.std.specs.Prelude.{ℕ, length, nat_le, if◌then◌else◌}
 use Rattle.machine_defs.specs.Calm.{Mark}
 
 -- a mark up to so many moments, and from then on this moment

@@ -1,8 +1,8 @@
 -- What the laws on events suppose, met by the put of one byte and the get of it.
 --
 --   IsTold ms gaps c g  == behind the put, c is the begin of the get and g its end, with the steps between
-use Rattle.std.specs.Prelude.{◌≡◌, ℕ, List, [], ◌∷◌, ◌++◌, Some, codes}
-use Rattle.machine_defs.specs.Jobs.{PutJob, GetJob, Job, job_of}
+use Rattle.std.specs.Prelude.{◌≡◌, List, [], ◌∷◌, ◌++◌, Some, codes}
+use Rattle.machine_defs.specs.Jobs.{GetJob, Job, job_of}
 use Rattle.machine_defs.specs.Answers.{Got}
 use Rattle.machine_defs.specs.Refusals.{Memory}
 use Rattle.machine_defs.specs.Events.{Begin, Refused}

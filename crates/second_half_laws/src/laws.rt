@@ -16,7 +16,7 @@ ghost use Rattle.record_defs.specs.Table.{File, setup_of, Due, due_of};
 ghost use Rattle.machine_defs.specs.Jobs.{GetJob, Pinned, Fetched, Job, job_of, PutJob, RepairJob, Answered, AuditJob, Worked};
 ghost use Rattle.machine_defs.specs.Refusals.{Refusal};
 ghost use Rattle.machine_defs.specs.Answers.{Answer, Got, Lost};
-ghost use Rattle.machine_defs.specs.Events.{Begin, Step, Refused, Ended, More};
+ghost use Rattle.machine_defs.specs.Events.{Init, Begin, Step, Ready, Refused, Ended, More};
 ghost use Rattle.machine_defs.specs.States.{State, IsStart, file_object, file_in, Append, Doubt, setup_in, object_in, pinned_object, worked_object};
 ghost use Rattle.machine_defs.specs.Runs.{Moment, IsRun, now, first_moments, came, is_replaced_since};
 ghost use Rattle.machine_defs.specs.Failures.{Count, count_in, HasFailures, RoseBy};
@@ -626,6 +626,14 @@ pub fn finished_scrubs_are_marks()
 pub fn unscrubbed_runs_are_scrub_calm()
     ensures { (limit : ℕ) (mark : Mark) (start : State) (ms : List Moment) → IsStart start
         → IsRun limit start ms → BeginsNoScrub ms → AreScrubsCalm mark ms }
+{}
+
+/// From an init that came to ready on its setup is the one in effect, and with it how many providers may be
+/// wrong.
+pub fn inits_set_up()
+    ensures { (limit : ℕ) (start : State) (later ms : List Moment) (m : Moment) (s : Setup) → IsStart start
+        → IsRun limit start (later ++ m ∷ ms) → m.event ≡ Init s → m.outcome ≡ Ready
+        → setup_in (now start (later ++ m ∷ ms)) ≡ s }
 {}
 
 /// Few damaged providers leave a run calm, told by events: where its alter and lose events name at most b

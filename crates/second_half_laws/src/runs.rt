@@ -1,7 +1,9 @@
 //! A whole run, given outright, with fetches and work.
 ghost use Rattle.std.specs.Prelude.{◌≡◌, ℕ, ◌<◌, List, [], ◌∷◌, ◌++◌, length, codes};
 ghost use Rattle.machine_defs.specs.Jobs.{PutJob, GetJob};
-ghost use Rattle.machine_defs.specs.Events.{Begin, Reopen};
+ghost use Rattle.machine_defs.specs.Events.{Init, Begin, Reopen, Ready};
+ghost use Rattle.machine_defs.specs.States.{State, IsStart};
+ghost use Rattle.record_defs.specs.Examples.{four};
 ghost use Rattle.machine_defs.specs.Runs.{Moment, IsRun, now};
 ghost use Rattle.machine_defs.specs.Transcripts.{Once, RunJob, CarriesOut};
 ghost use Rattle.machine_defs.specs.Examples.{set_up};
@@ -28,4 +30,10 @@ pub fn stored_byte_is_told()
         × IsTold ms gaps c g }
     ensures others { NoneAsksOn (codes "b") (RunJob 2 ∷ Once (Begin (GetJob (codes "a"))) ∷ RunJob 1
         ∷ Once (Begin (PutJob (codes "a") (111 ∷ []))) ∷ Once Reopen ∷ []) }
+{}
+
+/// A store of four providers is set up.
+pub fn a_store_is_set_up()
+    ensures { (start : State) × (m : Moment) × IsStart start × IsRun 1 start (m ∷ [])
+        × (m.event ≡ Init four) × (m.outcome ≡ Ready) }
 {}
