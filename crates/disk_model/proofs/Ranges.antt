@@ -2,7 +2,7 @@
 use Rattle.std.proofs.Common.{◌≡◌, ◌≢◌, ◌⊎◌, inl, inr, ℕ, zero, suc, ◌+◌, ◌-◌, ◌≤◌, ◌<◌, min, Bool, true, false, List, [], ◌∷◌, ◌++◌, length, take, drop, replicate, Some, refl, sym, ap, ◌∙◌, subst, arith, length-append, length-take, length-drop}
 use Rattle.std.proofs.lemmas.List.{length-replicate, replicate-append-replicate}
 use Rattle.std.specs.List.{zip, slice_get}
-use Rattle.device_defs.specs.Cells.{Cells, firm, loose, is_loose_at}
+use Rattle.device_defs.specs.Cells.{Cells, firm, is_loose_at}
 use Rattle.device_defs.specs.Disks.{spliced, written, Torn}
 use Rattle.device_defs.proofs.WriteLaws.{loose_outside}
 use Rattle.disk_model.specs.Ranges.{IsFirmOutside, IsUnmarkedOutside}

@@ -1,4 +1,4 @@
-use Rattle.std.proofs.Common.{◌≡◌, length, min, arith}
+use Rattle.std.proofs.Common.{◌≡◌, length, arith}
 use Rattle.std.specs.List.{zip}
 use Rattle.std.proofs.lemmas.Slice.Zip.{length-zip}
 use Rattle.device_defs.proofs.TearLaws.{Torn-either}
