@@ -40,7 +40,7 @@ stores_by false o s block p q h = record { held = refl; counts = store_counts p 
 pub no_memory_by : (is_told : Bool) (p q : Provider) → FindsNoMemory p q
     → FindsNoMemory (provider_by is_told p) (provider_by is_told q)
 no_memory_by true p q h = h
-no_memory_by false p q h = record { held = refl; counts = store_counts p q h.counts }
+no_memory_by false p q h = record { held = refl; counts = store_counts p q h.counts; no_fault = h.no_fault }
 
 -- a store that failed
 pub fails_by : (is_told : Bool) (p q : Provider) → FailsToStore p q
