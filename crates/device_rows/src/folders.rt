@@ -3,14 +3,14 @@ use crate::adapters::OfProvider::{self, Calls, Looks};
 use crate::adapters::{first_wrong_of_provider, over_folder};
 use crate::calls::Call::{Ask, Fetch, Lacks, Lose, Remove, Store};
 use crate::files::Look;
-use crate::forgetful::Forgetful;
-use crate::given::{WEIGHT, no_other};
+use crate::forgetful::{Counts, Forgetful};
+use crate::given::{CHALLENGE, WEIGHT, no_other};
+use challenge::Challenge;
 use disk_model::Disk;
 use hail_adapters::{FolderProvider, Unsynced, folder_providers, journal_disk};
 use hail_field::Symbol;
 use provider_model::{Provider, StoreFault};
 use std::alloc::{Alloc, Global};
-use std::cell::Cell;
 use std::fs::{self, Files};
 use std::os::unix::fs::symlink;
 use std::rc::Rc;
@@ -139,11 +139,11 @@ fn over_forgetful<R: Files + Alloc + Clone + Drop>(
     path: &str,
     deeds: &[OfProvider],
 ) -> Option<(Option<usize>, u32)> {
-    let removals = Rc::new(alloc, Cell::new(0)).ok()?;
-    let files = Forgetful::new(rt.clone().ok()?, removals.clone().ok()?);
+    let counts = Rc::new(alloc, Counts::new()).ok()?;
+    let files = Forgetful::new(rt.clone().ok()?, counts.clone().ok()?);
     let mut provider = FolderProvider::new(&files, alloc, path).ok()?;
     let place = first_wrong_of_provider(rt, &mut provider, deeds);
-    Some((place, removals.get()))
+    Some((place, counts.removals.get()))
 }
 
 #[test]
@@ -156,6 +156,51 @@ fn a_store_reads_back_what_it_stored(rt: HostRuntime) {
 fn a_removal_of_one_block_makes_few_calls(rt: HostRuntime) {
     let removed = over_forgetful(&rt, rt.alloc(), "removals", &ONE_STRIPE);
     assert_eq!(rt; removed, Some((None, 17)));
+}
+
+// Two blocks of zeros.
+static TWO_BLOCKS: [OfProvider; 2] = [
+    Calls(Store(1, 0, &[0; 6], Ok(()))),
+    Calls(Store(1, 1, &[0; 6], Ok(()))),
+];
+
+/// Asks for the sum over 64 picks in the twelve rows of two blocks.
+fn asks<P: Provider>(provider: &mut P) -> Option<Symbol> {
+    let seed = CHALLENGE.seed;
+    let challenge = Challenge {
+        seed,
+        rows: 12,
+        size: 6,
+        picks: 64,
+    };
+    provider.ask(1, &challenge).ok()?
+}
+
+/// What two blocks of zeros answer, and how many files that opened. Want of memory is the one refusal.
+fn opened_by_an_answer<R: Files + Alloc + Clone + Drop>(
+    rt: &R,
+    alloc: Global,
+    path: &str,
+) -> Option<(Symbol, u32)> {
+    let counts = Rc::new(alloc, Counts::new()).ok()?;
+    let files = Forgetful::new(rt.clone().ok()?, counts.clone().ok()?);
+    let mut provider = FolderProvider::new(&files, alloc, path).ok()?;
+    let wrong = first_wrong_of_provider(rt, &mut provider, &TWO_BLOCKS);
+    let before = counts.openings.get();
+    let symbol = asks(&mut provider)?;
+    let openings = counts.openings.get().checked_sub(before)?;
+    fs::remove_dir_all(rt, path).ok()?;
+    if wrong.is_none() {
+        Some((symbol, openings))
+    } else {
+        None
+    }
+}
+
+#[test]
+fn an_answer_reads_each_block_once(rt: HostRuntime) {
+    let opened = opened_by_an_answer(&rt, rt.alloc(), "two");
+    assert_eq!(rt; opened, Some((Symbol(0), 2)));
 }
 
 /// Stores a block of one symbol.

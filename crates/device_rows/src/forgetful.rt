@@ -1,4 +1,4 @@
-// The system's files, of which those that are written keep nothing, and of which the removals are counted.
+// The system's files, of which those that are written keep nothing, and whose calls are counted.
 use std::alloc::Allocator;
 use std::cell::Cell;
 use std::fs::{Files, Metadata, OpenFile, OpenOptions};
@@ -10,7 +10,29 @@ use std::rc::Rc;
 #[derive(Clone, Drop)]
 pub struct Forgetful<R: Files + Clone + Drop> {
     files: R,
-    removals: Rc<Cell<u32>>,
+    counts: Rc<Counts>,
+}
+
+/// How many calls there were that opened a file to read it, and that removed a file.
+#[derive(Drop)]
+pub struct Counts {
+    pub openings: Cell<u32>,
+    pub removals: Cell<u32>,
+}
+
+impl Counts {
+    /// No call was made.
+    pub fn new() -> Counts {
+        Counts {
+            openings: Cell::new(0),
+            removals: Cell::new(0),
+        }
+    }
+}
+
+/// One more.
+fn raise(count: &Cell<u32>) {
+    count.set(count.get().saturating_add(1));
 }
 
 /// A file that was opened.
@@ -20,9 +42,9 @@ pub struct Opened<F: Drop> {
 }
 
 impl<R: Files + Clone + Drop> Forgetful<R> {
-    /// Stands over these files, and counts removals here.
-    pub fn new(files: R, removals: Rc<Cell<u32>>) -> Forgetful<R> {
-        Forgetful { files, removals }
+    /// Stands over these files, and counts here.
+    pub fn new(files: R, counts: Rc<Counts>) -> Forgetful<R> {
+        Forgetful { files, counts }
     }
 }
 
@@ -32,6 +54,9 @@ impl<R: Files + Clone + Drop> Files for Forgetful<R> {
     type Dir = R::Dir;
 
     fn open_file(&self, how: &OpenOptions, path: &str) -> io::Result<Opened<R::File>> {
+        if how.asks_read() {
+            raise(&self.counts.openings);
+        }
         let file = self.files.open_file(how, path)?;
         Ok(Opened { file })
     }
@@ -57,7 +82,7 @@ impl<R: Files + Clone + Drop> Files for Forgetful<R> {
     }
 
     fn remove_file(&self, path: &str) -> io::Result<()> {
-        self.removals.set(self.removals.get().saturating_add(1));
+        raise(&self.counts.removals);
         self.files.remove_file(path)
     }
 

@@ -1,5 +1,8 @@
 // A folder of blocks, each a file.
-ghost use Rattle.std.specs.Prelude.{◌≡◌, ◌≢◌, ◌≤◌, ◌<◌, ◌+◌, ◌++◌, Ok, true, false, length, string_bytes, IfOk, OnErr};
+ghost use Rattle.std.specs.Prelude.{◌≡◌, ◌≢◌, ◌≤◌, ◌<◌, ◌+◌, ◌++◌, ℕ, Ok, true, false, length, string_bytes, IfOk, OnErr};
+ghost use Rattle.std.specs.List.{All};
+ghost use Rattle.std.specs.List.Sorted.{IsSorted};
+ghost use Rattle.std.specs.Ordering.{nat_cmp};
 ghost use Rattle.hail_adapters.specs.BlockNames.{new_block};
 
 use crate::block_bytes::{BLOCK_BYTES, SYMBOL_BYTES, put_symbols, take_symbols};
@@ -35,6 +38,15 @@ fn misses_behind(misses: u32, removed: &io::Result<bool>) -> u32
         Ok(true) => 0,
         _ => misses + 1,
     }
+}
+
+/// Puts picked rows in ascending order, so that those of a block stand one behind the other.
+fn ascend(rows: &mut [u64])
+    ensures within { (n : ℕ) → All (λ row. row < n) rows.old → All (λ row. row < n) rows.new }
+    ensures as_many { length rows.new ≡ length rows.old }
+    ensures ascending { IsSorted nat_cmp rows.new }
+{
+    rows.sort_unstable();
 }
 
 /// A folder with a file for each block. It is made at the first store; one that isn't there holds nothing.
@@ -237,14 +249,18 @@ impl<R: Files + Clone + Drop> Folder<R> {
         Ok(Some(last.symbols[(row % size) as usize]))
     }
 
-    /// Answers a challenge by what stands in the picked rows; none where one of them has no symbol.
+    /// Answers a challenge by what stands in the picked rows; none where one of them has no symbol. Each block
+    /// is read once.
     pub fn answer(&mut self, object: u64, challenge: &Challenge) -> io::Result<Option<Symbol>> {
         let drawn = challenge.draw();
         let picks = challenge.picks as usize;
+        let mut drawn_rows = drawn.rows;
+        let picked = &mut drawn_rows[..picks];
+        ascend(picked);
         let mut rows = [(0, Symbol::ZERO); 64];
         let mut last = LastBlock::new();
         for k in 0..picks {
-            let row = drawn.rows[k];
+            let row = picked[k];
             let Some(symbol) = self.symbol_in(object, challenge, row, &mut last)? else {
                 return Ok(None);
             };
