@@ -5,7 +5,8 @@
 set -u
 
 [ $# -eq 2 ] && [ -f "$1" ] || { echo 'usage: packaging/check.sh PACKAGE FOLDER' >&2; exit 2; }
-package=$1 fresh=$2
+package=$1
+mkdir -p "$2" && fresh=$(CDPATH='' cd -P -- "$2" && pwd -P) || exit 1
 failed=0
 
 wrong() {

@@ -51,10 +51,9 @@ drop_dead_links() {
 
 put_documents() {
     (cd "$root" && for document in *.md docs/*.md docs/*.svg docs/*.tsv docs/*.txt; do
-        [ ! -f "$document" ] || install -D -m 644 "$document" "$docs/$document"
+        [ ! -f "$document" ] || [ "$document" = CHANGELOG.md ] || install -D -m 644 "$document" "$docs/$document"
     done)
     for document in "$docs"/*.md "$docs"/docs/*.md; do drop_dead_links "$document"; done
-    rm -f "$docs/CHANGELOG.md"
     gzip -9n <"$root/CHANGELOG.md" >"$docs/changelog.gz"
     install -m 644 "$root/packaging/copyright" "$docs/copyright"
 }
