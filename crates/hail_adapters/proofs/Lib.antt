@@ -1,3 +1,4 @@
 pub mod ByteLemmas
+pub mod LeftLemmas
 pub mod ReadLemmas
 pub mod SeenLemmas

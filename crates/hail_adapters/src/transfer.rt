@@ -1,5 +1,5 @@
 // Reads and writes that begin anew where a signal cut them off.
-ghost use Rattle.std.specs.Prelude.{◌≤◌, ◌<◌, length, take, IfOk, IsTrue};
+ghost use Rattle.std.specs.Prelude.{◌≡◌, ◌≤◌, ◌<◌, ◌+◌, ◌↔◌, length, take, IfOk, IfSome, IsTrue};
 ghost use Rattle.std.specs.Io.KnownBytes.{Consumes, IsAtEnd, ReadConsumes};
 
 use crate::block_bytes::BLOCK_BYTES;
@@ -38,17 +38,29 @@ pub fn fill<F: Read>(reader: &mut F, out: &mut [u8]) -> io::Result<usize>
     Ok(done)
 }
 
-/// Whether a reader gives these bytes, at most those of the longest block, and no more.
+/// Whether two are the same bytes.
+fn are_same(given: &[u8], bytes: &[u8]) -> bool
+    ensures { IsTrue result ↔ given.now ≡ bytes.now }
+{
+    given == bytes
+}
+
+/// Whether the bytes that a reader has left are these, by what it gives into room for one more.
+fn given_into<F: Read>(reader: &mut F, bytes: &[u8], room: &mut [u8]) -> io::Result<bool>
+    requires { length room.old ≡ length bytes.now + 1 }
+    ensures { IfOk result (λ same. IfSome (F.remaining reader.old) (λ left. IsTrue same ↔ left ≡ bytes.now)) }
+{
+    let n = fill(reader, room)?;
+    Ok(are_same(&room[..n], bytes))
+}
+
+/// Whether the bytes that a reader has left are these, which are at most those of the longest block.
 pub fn gives<F: Read>(reader: &mut F, bytes: &[u8]) -> io::Result<bool>
     requires { length bytes.now ≤ 2048 }
-    ensures bytes { IfOk result (λ same. IsTrue same
-        → Consumes (F.remaining reader.old) (F.remaining reader.new) bytes.now) }
-    ensures no_more { IfOk result (λ same. IsTrue same → IsAtEnd (F.remaining reader.new)) }
+    ensures { IfOk result (λ same. IfSome (F.remaining reader.old) (λ left. IsTrue same ↔ left ≡ bytes.now)) }
 {
     let mut buffer = [0; BLOCK_BYTES + 1];
-    let room = &mut buffer[..bytes.len() + 1];
-    let n = fill(reader, room)?;
-    Ok(&room[..n] == bytes)
+    given_into(reader, bytes, &mut buffer[..bytes.len() + 1])
 }
 
 /// One write, which takes something of a piece that is not empty.
