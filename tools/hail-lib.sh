@@ -2,10 +2,11 @@
 # below TMPDIR and found no room must not be taken for the whole.
 set -o pipefail
 
-# The program: what HAIL names, or that of the repository which this folder lies in, or the one on the path.
+# The program: what HAIL names, or that of the repository which this folder lies in, or the one on the path. That of a repository is called
+# once, so that it is built before a home is locked.
 if [ -z "${HAIL-}" ]; then
     HAIL=hail
-    [ ! -f "$tools/../hail" ] || HAIL=$tools/../hail
+    [ ! -f "$tools/../hail" ] || { HAIL=$tools/../hail && "$HAIL" - row 4 1 1 7 7 7 9 >/dev/null </dev/null || exit 4; }
 fi
 
 # Tells why on standard error, and ends with a status.
@@ -57,7 +58,10 @@ records() {
 
 # Of a journal what a companion needs, kept in the scratch folder: no single record, but of a file out of effect or a put cut off.
 read_journal() {
-    records "$1" | awk '!/^(start|done|drop|audit-start|audit-done|repair-done) /' >"$scratch/standing" || return 1
+    records "$1" | awk '!/^(start|done|drop|audit-start|audit-done|repair-done) /' >"$scratch/standing"
+    local ended=("${PIPESTATUS[@]}")
+    [ "${ended[1]}" -eq 0 ] || stop 4 "$no_room"
+    [ "${ended[0]}" -eq 0 ] || return 1
     read -r n l b profile _ < <(sed -n 's/^setup //p' "$scratch/standing")
     read -r next_id _ < <(sed -n 's/^next //p' "$scratch/standing")
     [ -n "$n" ]

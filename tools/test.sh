@@ -238,6 +238,7 @@ SPY
 
 # What puts left that were never done is told and removed. What could be a whole file is not, until it is named.
 collecting() {
+    local name place stripe
     new_home 6 3 1 1 4 8 0
     says 0 '' hail-gc home
     put_fails 5 fourth 600
@@ -269,8 +270,10 @@ provider-3/3-0' hail-gc home
     wait
     [ "$("$HAIL" home get slow)" = slow ] || wrong 'hail-gc removed what a put was storing'
     "$HAIL" home drop slow >out
-    (ulimit -f 0; "$tools/hail-gc" home remove >/dev/null 2>&1)
-    [ $? -eq 4 ] && [ -e home/provider-5/3-2 ] || wrong 'hail-gc goes on where nothing can be written below TMPDIR'
+    for name in gc verify watch; do
+        (ulimit -f 0; "$tools/hail-$name" home >/dev/null 2>&1)
+        [ $? -eq 4 ] || wrong "hail-$name goes on where nothing can be written below TMPDIR"
+    done
     rm home/provider-5/3-1
     mv home/provider-5 away
     says 0 '' hail-gc home
