@@ -1,6 +1,6 @@
 -- How a table takes a record.
 use Rattle.std.specs.Prelude.{◌≡◌, ℕ, Bool, true, false, IsTrue, Option, Some, None, Result, Ok, Err}
-use Rattle.record_defs.specs.Records.{Record, PutStart}
+use Rattle.record_defs.specs.Records.{Record, PutStart, Version}
 use Rattle.record_defs.specs.Acceptance.{Refused as Reason, NoSetup, SecondSetup, BadId, NotStarted, TooMany, NoName, BadAudit, NoRepair, OldKind, OldVersion, NewVersion, BadResume, NameTwice}
 use Rattle.vault_table.specs.declared.entry.Refused.{Refused}
 use Rattle.vault_table.specs.declared.entry.Refused.TheVariants as fault
@@ -27,6 +27,11 @@ IsCause fault.Memory why = why ≡ None
 abbrev pub is_put_start : Record → Bool
 is_put_start (PutStart id name) = true
 is_put_start r = false
+
+-- the record raises the version
+abbrev pub is_version : Record → Bool
+is_version Version = true
+is_version r = false
 
 -- memory may be wanted for a record
 abbrev pub MayWant : Refused → Record → ℕ → Type 0

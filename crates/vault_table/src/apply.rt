@@ -5,7 +5,7 @@ ghost use Rattle.std.specs.List.{list_any};
 ghost use Rattle.record_codec.specs.Entries.{entry_of, with_master, counted, IsPadded, HasPadding};
 ghost use Rattle.vault_table.specs.declared.entry.Refused.TheVariants as fault;
 ghost use Rattle.vault_table.specs.Values.{Kept, IsFoldOf, started_at, refusal, refusal_after, with_record};
-ghost use Rattle.vault_table.specs.Causes.{Applies, EndsStartedPut, IsCause, is_put_start};
+ghost use Rattle.vault_table.specs.Causes.{Applies, EndsStartedPut, IsCause, is_put_start, is_version};
 
 use crate::entry::{Entry, Refused};
 use crate::files::{drop_file, has_id, put_file};
@@ -30,6 +30,8 @@ impl Table {
         ensures reserved { IsErrOf result fault.Memory → self.old.spare ≡ 0 }
         ensures spare { OnOk result (self.new.spare ≡ (if is_put_start (entry_of entry.now) then
             self.old.spare - 1 else self.old.spare)) }
+        ensures version { OnOk result (self.new.version
+            ≡ (if is_version (entry_of entry.now) then 2 else self.old.version)) }
     {
         match entry {
             Record::Setup { setup, master } => self.set_up(setup, master),
