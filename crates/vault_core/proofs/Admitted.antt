@@ -1,40 +1,40 @@
 -- A core with one more job: it is kept, and stands for the state after the begin.
-use Rattle.std.proofs.Common.{◌≡◌, ℕ, zero, suc, ◌+◌, ◌-◌, ◌<◌, ◌≤◌, Bool, true, false, List, [], ◌∷◌, ◌++◌, Option, Some, None, Vec, Global, length, map, drop, inl, inr, refl, ap, sym, subst, ◌∙◌, length-append, arith}
-use Rattle.std.specs.Prelude.{nat_lt, ◌==◌, ◌||◌, sum, sum_by, if◌then◌else◌, nat_le}
+use Rattle.std.proofs.Common.{rules, ◌≡◌, ℕ, ◌+◌, ◌<◌, ◌≤◌, Bool, true, false, List, [], ◌∷◌, ◌++◌, Option, Some, None, Vec, Global, length, map, inl, inr, refl, ap, sym, subst, ◌∙◌, length-append, arith}
+use Rattle.std.specs.Prelude.{IsTrue, nat_lt, ◌==◌, ◌||◌, sum, sum_by, if◌then◌else◌, nat_le}
 use Rattle.std.specs.List.{All, AllZip}
 use Rattle.std.specs.Prelude.{Result, Ok, Err, OnOk}
-use Rattle.std.proofs.lemmas.Bool.{cases_Bool, leb-false}
+use Rattle.std.proofs.lemmas.Bool.{cases_Bool, leb-false, lt-ltb}
 use Rattle.std.proofs.lemmas.Bool.Decides.{nat_tests}
 use Rattle.std.proofs.lemmas.List.Elements.{All-push}
 use Rattle.std.proofs.lemmas.List.Sums.{sum_by_push}
 use Rattle.std.proofs.lemmas.List.{length-map}
-use Rattle.record_defs.specs.Records.{Setup, Record, largest_journal}
-use Rattle.machine_defs.specs.Jobs.{Kind, ToPut, ToAudit}
-use Rattle.machine_defs.specs.Events.{Begin, Begun, IsSpelledKind}
+use Rattle.record_defs.specs.Records.{Setup, Record, is_setup, largest_journal, all_profiles}
+use Rattle.machine_defs.specs.Jobs.{Kind, PutJob, GetJob, DropJob, AuditJob, RepairJob, UpgradeJob, Aim, ToPut, ToGet, ToDrop, ToAudit, ToRepair, ToUpgrade, aim_of}
+use Rattle.machine_defs.specs.Space.{room_left}
+use Rattle.machine_defs.specs.Events.{Begin, BeginAt, Begun, IsSpelledKind}
 use Rattle.machine_defs.specs.States.{State, Append, setup_in}
-use Rattle.machine_defs.specs.Begins.{begin_refusal, new_job}
+use Rattle.machine_defs.specs.Begins.{refusal_of_begin, beginning, chosen}
+use Rattle.state_laws.specs.Sound.{IsSound}
 use Rattle.state_laws.proofs.Events.{events-sound}
 use Rattle.vault_table.specs.Values.{Kept}
 use Rattle.vault_core.specs.declared.wish.Wish.{Wish}
 use Rattle.vault_core.specs.declared.wish.Wish.TheVariants as wish
 use Rattle.vault_core.specs.declared.wish.BeginFault.{BeginFault}
 use Rattle.vault_core.specs.declared.wish.BeginFault.TheVariants as fault
-use Rattle.vault_core.specs.declared.job.Task.{Task}
 use Rattle.vault_core.specs.declared.job.Job.{Job}
 use Rattle.vault_core.specs.declared.own.Core.TheInside.{Inside}
-use Rattle.vault_core.specs.View.{CoreJob, CoreView, AreRising, job_in}
-use Rattle.vault_core.specs.Reserves.{sizes_of, reserved_of, starts_of, Reserves}
-use Rattle.vault_core.specs.Coming.{entry_of_found}
+use Rattle.vault_core.specs.View.{CoreJob, CoreView, appends_in, HasLoneUpgrade, AreRising, job_in}
+use Rattle.vault_core.proofs.Lone.{lone_more}
+use Rattle.vault_core.proofs.Places.{any-map}
+use Rattle.vault_core.specs.Reserves.{sizes_of, reserved_of, starts_by, starts_of, Reserves}
+use Rattle.vault_core.specs.Coming.{written_as, written_of}
 use Rattle.vault_core.specs.Carried.{IsKindOf, IsJobOf, IsCoreFlight, CoreIs, begun}
-use Rattle.vault_core.specs.Parts.{core_job, view_of, IsJobKept, IsCore}
-use Rattle.machine_defs.specs.Sights.{is_busy, is_shut, is_full, are_numbers_used_up, are_jobs_in_the_way}
+use Rattle.vault_core.specs.Parts.{setup_kept, core_job, view_of, IsJobKept, IsCore}
+use Rattle.machine_defs.specs.Sights.{is_upgrade, is_busy, is_crowded_for, is_shut, is_full, are_numbers_used_up, are_jobs_in_the_way}
 use Rattle.machine_defs.proofs.Refused.{left_false, right_false}
-use Rattle.vault_core.specs.Wished.{aim_of_wish}
+use Rattle.vault_core.specs.Wished.{aim_of_wish, profile_named}
 use Rattle.vault_core.specs.Refusing.{aims_in, sight_in, word_refusal_in, or_full, refusal_in}
-use Rattle.vault_core.specs.Making.{cursor_first, starts_for, admitted, IsMade}
-use Rattle.vault_core.proofs.Counts.{gates_at, reserved_is, reserved_at}
-use Rattle.state_laws.proofs.Written.{file-first}
-use Rattle.vault_core.proofs.Plain.{pins-plain}
+use Rattle.vault_core.specs.Making.{starts_for, appends_for, admitted, IsMade}
 use Rattle.vault_core.proofs.Joins.{made-is}
 use Rattle.vault_core.proofs.Refusals.{way}
 use Rattle.vault_core.proofs.Kept.{rising_push}
@@ -48,28 +48,24 @@ zip-push R [] (b ∷ ys) x y h r = absurd h
 zip-push R (a ∷ xs) [] x y h r = absurd h
 zip-push R (a ∷ xs) (b ∷ ys) x y h r = (h.0, zip-push R xs ys x y h.1 r)
 
-seen-push : (n : ℕ) (js : List Job) (j : Job) → map (core_job n) (js ++ j ∷ [])
-    ≡ map (core_job n) js ++ core_job n j ∷ []
-seen-push n [] j = refl
-seen-push n (i ∷ js) j = ap (λ (xs : List CoreJob). core_job n i ∷ xs) (seen-push n js j)
+seen-push : (js : List Job) (j : Job) → map core_job (js ++ j ∷ []) ≡ map core_job js ++ core_job j ∷ []
+seen-push [] j = refl
+seen-push (i ∷ js) j = ap (λ (xs : List CoreJob). core_job i ∷ xs) (seen-push js j)
 
 -- ---- the room of a new job
 
-cursor-room : (n : ℕ) (v : Wish) (ts : List Task) → reserved_at n v (cursor_first v ts) ≡ sum (sizes_of n v)
-cursor-room n (wish.Get name) ts = none (0 - gates_at (wish.Get name) (cursor_first (wish.Get name) ts))
-  where
-    none : (k : ℕ) → sum (drop {A = ℕ} k []) ≡ 0
-    none zero = refl
-    none (suc k) = refl
-cursor-room n wish.Repair [] = refl
-cursor-room n v ts = refl
+whole-room : (i : ℕ) (s : Setup) (v : Wish) →
+    room_left i s (aim_of_wish v) (appends_for v) ≡ sum (sizes_of i s.n v)
+whole-room i s (wish.Put name size own) = refl
+whole-room i s v = refl
 
 -- a job as it is made needs room for all records of its wish
-pub made-room : (t : Kept) (s : Setup) (k : ℕ) (v : Wish) (job : Job) → IsMade t s k v job →
-    reserved_of s.n (core_job s.n job) ≡ sum (sizes_of s.n v)
-made-room t s k v job made = reserved_is s.n job
-    ∙ (ap (λ (x : Wish). reserved_at s.n x job.cursor) made.wish
-    ∙ (ap (reserved_at s.n v) made.cursor ∙ cursor-room s.n v job.tasks.items))
+pub made-room : (t : Kept) (s : Setup) (k : ℕ) (v : Wish) (job : Job) → IsMade t s k v job → IsJobKept s job →
+    reserved_of t.version s (core_job job) ≡ sum (sizes_of t.version s.n v)
+made-room t s k v job made kept =
+    ap (room_left t.version s (aim_of_wish job.wish)) (sym kept.appends ∙ made.appends)
+    ∙ (ap (λ (x : Wish). room_left t.version s (aim_of_wish x) (appends_for v)) made.wish
+    ∙ whole-room t.version s v)
 
 none-by : (b u f : Bool) (o : Option BeginFault) →
     None ≡ (if b then Some fault.MustReopen else (if u then Some fault.Busy else or_full o f)) →
@@ -82,7 +78,8 @@ none-by false false f (Some x) h = cc
 
 -- a begin that is not refused finds a place and room
 pub room-left : (c : CoreView) (v : Wish) → Reserves c → None ≡ refusal_in c v →
-    c.end + sum_by (reserved_of c.setup.n) c.jobs + sum (sizes_of c.setup.n v) ≤ largest_journal
+    c.end + sum_by (reserved_of c.table.version c.setup) c.jobs + sum (sizes_of c.table.version c.setup.n v) ≤
+    largest_journal
 room-left c v res h =
     by v (none-by c.barred (is_busy 8 (sight_in c) (aim_of_wish v)) (is_full (sight_in c) (aim_of_wish v))
     (word_refusal_in (sight_in c) v) h).1
@@ -91,13 +88,56 @@ room-left c v res h =
     within k u e = grind (arith, nat_tests, e)
 
     by : (x : Wish) → is_full (sight_in c) (aim_of_wish x) ≡ false →
-        c.end + sum_by (reserved_of c.setup.n) c.jobs + sum (sizes_of c.setup.n x) ≤ largest_journal
-    by (wish.Put name size) e = within _ (are_numbers_used_up (sight_in c) (ToPut name size)) e
+        c.end + sum_by (reserved_of c.table.version c.setup) c.jobs +
+        sum (sizes_of c.table.version c.setup.n x) ≤ largest_journal
+    by (wish.Put name size own) e = within _ (are_numbers_used_up (sight_in c) (ToPut name size)) e
     by (wish.Get name) e =
-        let r = res.room in let z : sum (sizes_of c.setup.n (wish.Get name)) ≡ 0 = refl in omega (arith, r, z)
+        let r = res.room in let z : sum (sizes_of c.table.version c.setup.n (wish.Get name)) ≡ 0 = refl in
+        omega (arith, r, z)
     by (wish.Drop name) e = within _ false e
     by wish.Audit e = within _ (are_numbers_used_up (sight_in c) ToAudit) e
     by wish.Repair e = within _ false e
+    by wish.Upgrade e = within _ false e
+
+word-none : (b u f : Bool) (o : Option BeginFault) →
+    None ≡ (if b then Some fault.MustReopen else (if u then Some fault.Busy else or_full o f)) → o ≡ None
+word-none true u f o h = cc
+word-none false true f o h = cc
+word-none false false f None h = refl
+word-none false false f (Some x) h = cc
+
+setup_known : (s : Setup) → IsTrue (is_setup s) → IsTrue (nat_lt s.profile all_profiles)
+setup_known s h = search rules
+
+-- a begin that is not refused names no profile but one that there is
+pub own-left : (c : CoreView) (v : Wish) → None ≡ refusal_in c v → (p : ℕ) → profile_named v ≡ Some p → p < 5
+own-left c v h = by v (word-none c.barred (is_busy 8 (sight_in c) (aim_of_wish v))
+    (is_full (sight_in c) (aim_of_wish v)) (word_refusal_in (sight_in c) v) h)
+  where
+    within : (p : ℕ) (r : Option BeginFault) → (if nat_le 5 p then Some fault.BadProfile else r) ≡ None →
+        p < 5
+    within p r e = elim (cases_Bool (nat_le 5 p)) [
+      | inl t ↦ (let f : Some fault.BadProfile ≡ None =
+          sym (ap (λ (b : Bool). if b then Some fault.BadProfile else r) t) ∙ e in cc)
+      | inr f ↦ leb-false 5 p f
+    ]
+
+    by : (x : Wish) → word_refusal_in (sight_in c) x ≡ None → (p : ℕ) → profile_named x ≡ Some p → p < 5
+    by (wish.Put name size (Some own)) e p f =
+        let l = within own (if c.table.version == 1 then Some fault.OldVersion
+        else (if is_crowded_for (sight_in c) name then Some fault.TooManyFiles else None)) e in
+        let g : own ≡ p = cc in omega (arith, l, g)
+    by (wish.Put name size None) e p f = (let g : None ≡ Some p = f in cc)
+    by x e p f = (let g : None ≡ Some p = f in cc)
+
+-- so the profile of its job is one that there is
+pub own-known : (c : CoreView) (s : Setup) (v : Wish) → None ≡ refusal_in c v → IsTrue (is_setup s) →
+    IsTrue (nat_lt (chosen s (profile_named v)) all_profiles)
+own-known c s v h ok = by (profile_named v) refl
+  where
+    by : (o : Option ℕ) → profile_named v ≡ o → IsTrue (nat_lt (chosen s o) all_profiles)
+    by None e = setup_known s ok
+    by (Some p) e = lt-ltb p 5 (own-left c v h p e)
 
 -- where no refusal applies, fewer than eight jobs run
 pub few-left : (c : CoreView) (v : Wish) → None ≡ refusal_in c v → length c.jobs < 8
@@ -108,29 +148,36 @@ few-left c v h =
     (sym (way (aims_in c.jobs) v)
     ∙ right_false (is_shut (sight_in c)) (are_jobs_in_the_way 8 (aims_in c.jobs) (aim_of_wish v)) b) in
     let l = leb-false 8 (length (aims_in c.jobs)) w in
-    let m = length-map c.jobs (λ (j : CoreJob). aim_of_wish j.wish) in
+    let m = length-map c.jobs (λ (j : CoreJob). j.plan.aim) in
     omega (arith, l, m)
+
+-- where no refusal applies, an upgrade begins alone, and nothing begins beside it
+pub lone-left : (c : CoreView) (v : Wish) (y : CoreJob) → y.plan.aim ≡ aim_of_wish v → None ≡ refusal_in c v →
+    HasLoneUpgrade (c.jobs ++ y ∷ [])
+lone-left c v y aim h =
+    let b = (none-by c.barred (is_busy 8 (sight_in c) (aim_of_wish v)) (is_full (sight_in c) (aim_of_wish v))
+    (word_refusal_in (sight_in c) v) h).0 in
+    let s = left_false (is_shut (sight_in c)) (are_jobs_in_the_way 8 (aims_in c.jobs) (aim_of_wish v)) b in
+    let w = right_false (is_shut (sight_in c)) (are_jobs_in_the_way 8 (aims_in c.jobs) (aim_of_wish v)) b in
+    lone_more c.jobs y (any-map (λ (j : CoreJob). j.plan.aim) is_upgrade c.jobs ∙ s)
+    (ap (are_jobs_in_the_way 8 (aims_in c.jobs)) aim ∙ w)
 
 -- ---- the core is kept
 
-starts-le : (j : CoreJob) (v : Wish) → j.wish ≡ v → starts_of j ≤ starts_for v
-starts-le j v e = subst (λ (k : ℕ). k ≤ starts_for v)
-    (sym (ap (λ (x : Wish). starts_of (record j { wish = x })) e)) (by v)
+starts-le : (v : Wish) (k : ℕ) → starts_by (aim_of_wish v) k ≤ starts_for v
+starts-le (wish.Put name size own) k = one (k == 2)
   where
-    by : (x : Wish) → starts_of (record j { wish = x }) ≤ starts_for x
-    by (wish.Put name size) = one j.opening
-      where
-        one : (b : Bool) → ◌≤◌ (if b then 1 else 0) 1
-        one true = omega arith
-        one false = omega arith
-    by x = omega arith
+    one : (b : Bool) → ◌≤◌ (if b then 1 else 0) 1
+    one true = omega arith
+    one false = omega arith
+starts-le v k = omega arith
 
 module _ (a : Inside) (job : Job) (t : Kept) (js : Vec Job Global) (k : ℕ)
     (table : t ≡ record a.table { spare = a.table.spare + starts_for job.wish })
     (jobs : js.items ≡ a.jobs.items ++ job ∷ []) where
-  jobs-seen : map (core_job a.setup.n) js.items ≡ map
-      (core_job a.setup.n) a.jobs.items ++ core_job a.setup.n job ∷ []
-  jobs-seen = ap (map (core_job a.setup.n)) jobs ∙ seen-push a.setup.n a.jobs.items job
+  jobs-seen : map (core_job) js.items ≡ map
+      (core_job) a.jobs.items ++ core_job job ∷ []
+  jobs-seen = ap (map (core_job)) jobs ∙ seen-push a.jobs.items job
 
   -- what a contract sees of a core with one more job is what a begin promises
   pub admitted-view : (v : CoreView) → view_of a ≡ v →
@@ -140,7 +187,7 @@ module _ (a : Inside) (job : Job) (t : Kept) (js : Vec Job Global) (k : ℕ)
       ≡ admitted c job.wish job) e
       (ap (λ (x : Kept). record (view_of a) {
         table = x;
-        jobs = map (core_job a.setup.n) js.items;
+        jobs = map (core_job) js.items;
         next_job = a.next_job + 1;
       }) table
       ∙ ap (λ (xs : List CoreJob). record (view_of a) {
@@ -150,45 +197,59 @@ module _ (a : Inside) (job : Job) (t : Kept) (js : Vec Job Global) (k : ℕ)
       }) jobs-seen)
 
   -- a core that has room for the records of one more job stays one as it is kept with that job
-  pub admitted-core : IsCore a → job.number ≡ a.next_job → IsJobKept a.setup.n job → length a.jobs.items < 8 →
-      a.end + sum_by (reserved_of a.setup.n) (map (core_job a.setup.n) a.jobs.items) + reserved_of a.setup.n
-      (core_job a.setup.n job) ≤ largest_journal →
+  pub admitted-core : IsCore a → job.number ≡ a.next_job → IsJobKept (setup_kept a) job →
+      length a.jobs.items < 8 →
+      a.end + sum_by (reserved_of a.table.version (setup_kept a)) (map (core_job) a.jobs.items) + reserved_of
+      a.table.version (setup_kept a)
+      (core_job job) ≤ largest_journal → HasLoneUpgrade ((view_of a).jobs ++ core_job job ∷ []) →
       IsCore (record a { table = t; jobs = js; next_job = a.next_job + 1 })
-  admitted-core core number kept few room = record {
+  admitted-core core number kept few room lone = record {
     set_up = core.set_up;
-    kept = subst (All (IsJobKept a.setup.n)) (sym jobs)
-        (All-push (IsJobKept a.setup.n) a.jobs.items job core.kept kept);
+    kept = subst (All (IsJobKept (setup_kept a))) (sym jobs)
+        (All-push (IsJobKept (setup_kept a)) a.jobs.items job core.kept kept);
     few = (let e = ap (λ (xs : List Job). length xs) jobs in let l = length-append a.jobs.items (job ∷ []) in
         let o : length (job ∷ []) ≡ 1 = refl in omega (arith, e, l, o, few));
     begun = core.begun;
     numbered = subst (λ (xs : List CoreJob). AreRising 0 xs (a.next_job + 1)) (sym jobs-seen)
-        (rising_push 0 (map (core_job a.setup.n) a.jobs.items) a.next_job
-        (core_job a.setup.n job) number core.numbered);
+        (rising_push 0 (map (core_job) a.jobs.items) a.next_job
+        (core_job job) number core.numbered);
+    lone = subst HasLoneUpgrade (sym jobs-seen) lone;
     reserves = record {
-      room = (let e = ap (λ (xs : List CoreJob). sum_by (reserved_of a.setup.n) xs) jobs-seen in
-          let p = sum_by_push (reserved_of a.setup.n) (map (core_job a.setup.n) a.jobs.items)
-          (core_job a.setup.n job) in omega (arith, e, p, room));
-      spare = (let e = ap (λ (xs : List CoreJob). sum_by starts_of xs) jobs-seen in
-          let p = sum_by_push starts_of (map (core_job a.setup.n) a.jobs.items) (core_job a.setup.n job) in
-          let q = starts-le (core_job a.setup.n job) job.wish refl in let r = core.reserves.spare in
+      room = (let e = ap (λ (xs : List CoreJob). sum_by (reserved_of a.table.version (setup_kept a)) xs)
+          jobs-seen in
+          let p = sum_by_push (reserved_of a.table.version (setup_kept a)) (map (core_job) a.jobs.items)
+          (core_job job) in
+          let v = ap (λ (x : Kept). sum_by (reserved_of x.version (setup_kept a)) (map core_job js.items))
+          table in
+          omega (arith, e, p, v, room));
+      spare = (let e = ap (λ (xs : List CoreJob). sum_by (starts_of (setup_kept a)) xs) jobs-seen in
+          let p = sum_by_push (starts_of (setup_kept a)) (map (core_job) a.jobs.items) (core_job job) in
+          let q = starts-le job.wish (appends_in (setup_kept a) (core_job job)) in let
+          r = core.reserves.spare in
           let z = ap (λ (x : Kept). x.spare) table in omega (arith, e, p, q, r, z));
     };
   }
 
 -- ---- the core stands for the state after the begin
 
-same-entry : (t : Kept) (m : ℕ) (o : Option CoreJob) →
-    entry_of_found (record t { spare = m }) o ≡ entry_of_found t o
-same-entry t m None = refl
-same-entry t m (Some j) = refl
+same-entry : (s : Setup) (t : Kept) (m : ℕ) (o : Option CoreJob) →
+    written_of s (record t { spare = m }) o ≡ written_of s t o
+same-entry s t m None = refl
+same-entry s t m (Some j) = by j.plan.aim
+  where
+    by : (aim : Aim) → written_as (record t { spare = m }) (appends_in s j) j.plan.profile
+        j.plan.subject j.sums aim
+        ≡ written_as t (appends_in s j) j.plan.profile j.plan.subject j.sums aim
+    by (ToPut name size) = refl
+    by aim = refl
 
-found-more : (js : List CoreJob) (x : CoreJob) (k : ℕ) (t : Kept) (e : Record) →
-    entry_of_found t (job_in js k) ≡ Some e → job_in (js ++ x ∷ []) k ≡ job_in js k
-found-more [] x k t e h = let f : None ≡ Some e = h in cc
-found-more (j ∷ js) x k t e h = elim (cases_Bool (j.number == k)) [
+found-more : (s : Setup) (js : List CoreJob) (x : CoreJob) (k : ℕ) (t : Kept) (e : Record) →
+    written_of s t (job_in js k) ≡ Some e → job_in (js ++ x ∷ []) k ≡ job_in js k
+found-more s [] x k t e h = let f : None ≡ Some e = h in cc
+found-more s (j ∷ js) x k t e h = elim (cases_Bool (j.number == k)) [
   | inl y ↦ rw y refl
-  | inr n ↦ rw n (found-more js x k t e
-      (subst (λ (b : Bool). entry_of_found t (if b then Some j else job_in js k) ≡ Some e) n h))
+  | inr n ↦ rw n (found-more s js x k t e
+      (subst (λ (b : Bool). written_of s t (if b then Some j else job_in js k) ≡ Some e) n h))
 ]
 
 flight-more : (c : CoreView) (v : Wish) (job : Job) (o : Option Append) → IsCoreFlight c o →
@@ -196,22 +257,46 @@ flight-more : (c : CoreView) (v : Wish) (job : Job) (o : Option Append) → IsCo
 flight-more c v job None h = h
 flight-more c v job (Some a) h = (
   h.0,
-  same-entry c.table (c.table.spare + starts_for v) (job_in (c.jobs ++ core_job c.setup.n job ∷ []) a.job)
-      ∙ (ap (entry_of_found c.table) (found-more c.jobs (core_job c.setup.n job) a.job c.table a.entry h.1)
-      ∙ h.1),
+  same-entry c.setup c.table (c.table.spare + starts_for v) (job_in (c.jobs ++ core_job job ∷ []) a.job)
+      ∙ (ap (written_of c.setup c.table)
+      (found-more c.setup c.jobs (core_job job) a.job c.table a.entry h.1) ∙ h.1),
 )
+
+-- a begin leaves a sound state, of a put also with a profile of its own
+begin-sound : (w : State) (kind : Kind) (moment : ℕ) (v : Wish) → IsSound 8 w → w.is_open ≡ true →
+    IsKindOf v kind → IsSpelledKind kind → ((p : ℕ) → profile_named v ≡ Some p → p < 256) →
+    refusal_of_begin 8 w kind (profile_named v) ≡ None → IsSound 8 (begun w moment kind (profile_named v))
+begin-sound w kind moment (wish.Put name size (Some own)) sound opened of spelled few allowed =
+    by kind of spelled allowed
+  where
+    by : (k : Kind) → ToPut name size ≡ aim_of k → IsSpelledKind k →
+        refusal_of_begin 8 w k (Some own) ≡ None →
+        IsSound 8 (begun w moment k (Some own))
+    by (PutJob word bytes) e spelt entered = events-sound 8 moment w sound (omega arith, omega arith)
+        (BeginAt own word bytes) (Begun w.next_job) (begun w moment (PutJob word bytes) (Some own))
+        (few own refl, spelt) (opened, entered, refl, refl)
+    by (GetJob word) e spelt entered = (let f : ToPut name size ≡ ToGet word = e in cc)
+    by (DropJob word) e spelt entered = (let f : ToPut name size ≡ ToDrop word = e in cc)
+    by AuditJob e spelt entered = (let f : ToPut name size ≡ ToAudit = e in cc)
+    by RepairJob e spelt entered = (let f : ToPut name size ≡ ToRepair = e in cc)
+    by UpgradeJob e spelt entered = (let f : ToPut name size ≡ ToUpgrade = e in cc)
+begin-sound w kind moment (wish.Put name size None) sound opened of spelled few allowed =
+    events-sound 8 moment w sound (omega arith, omega arith) (Begin kind) (Begun w.next_job)
+    (begun w moment kind None) spelled (opened, allowed, refl, refl)
+begin-sound w kind moment v sound opened of spelled few allowed =
+    events-sound 8 moment w sound (omega arith, omega arith) (Begin kind) (Begun w.next_job)
+    (begun w moment kind None) spelled (opened, allowed, refl, refl)
 
 -- with a new job, a core stands for the machine's state after the begin
 pub core-begun : (c : CoreView) (w : State) (kind : Kind) (moment : ℕ) (v : Wish) (job : Job) → CoreIs c w →
-    IsKindOf v kind → IsSpelledKind kind → begin_refusal 8 w kind ≡ None →
-    4 ≤ c.setup.n → c.setup.n ≤ 16 → IsMade c.table c.setup c.next_job v job →
-    CoreIs (admitted c v job) (begun w moment kind)
+    IsKindOf v kind → IsSpelledKind kind → ((p : ℕ) → profile_named v ≡ Some p → p < 256) →
+    refusal_of_begin 8 w kind (profile_named v) ≡ None →
+    c.setup.n ≤ 16 → IsMade c.table c.setup c.next_job v job →
+    CoreIs (admitted c v job) (begun w moment kind (profile_named v))
 unfolding setup_in
-core-begun c w kind moment v job is of spelled allowed least most made = record {
-  sound = events-sound 8 moment w is.sound (omega arith, omega arith) (Begin kind) (Begun w.next_job)
-      (begun w moment kind) spelled (is.is_open, allowed, refl, refl);
+core-begun c w kind moment v job is of spelled own allowed most made = record {
+  sound = begin-sound w kind moment v is.sound is.is_open of spelled own allowed;
   is_open = is.is_open;
-  first = is.first;
   none_alone = is.none_alone;
   table = record {
     setup = is.table.setup;
@@ -225,10 +310,11 @@ core-begun c w kind moment v job is of spelled allowed least most made = record 
   };
   setup = is.setup;
   end = is.end;
-  jobs = zip-push (IsJobOf c.setup) c.jobs w.jobs (core_job c.setup.n job) (new_job w moment kind) is.jobs
+  jobs = zip-push (IsJobOf c.setup) c.jobs w.jobs (core_job job)
+      (beginning w moment kind (profile_named v)) is.jobs
       (made-is c.table c.setup w moment v kind job
-      (subst (λ (k : ℕ). IsMade c.table c.setup k v job) is.next_job made) least most is.table is.setup
-      is.sound.files (pins-plain w kind (file-first 8 w is.sound is.first)) of);
+      (subst (λ (k : ℕ). IsMade c.table c.setup k v job) is.next_job made) most is.table is.setup
+      is.sound.files of);
   next_job = ap (λ (k : ℕ). k + 1) is.next_job;
   append = flight-more c v job w.append is.append;
   barred = is.barred;
@@ -242,5 +328,5 @@ on_ok_then (Ok x) P Q f h = f h
 on_ok_then (Err x) P Q f h = h
 
 -- fewer than eight jobs as a contract sees them are fewer than eight as they are kept
-pub fewer-than : (n : ℕ) (js : List Job) → length (map (core_job n) js) < 8 → length js < 8
-fewer-than n js h = let e = length-map js (core_job n) in omega (arith, e, h)
+pub fewer-than : (js : List Job) → length (map core_job js) < 8 → length js < 8
+fewer-than js h = let e = length-map js core_job in omega (arith, e, h)

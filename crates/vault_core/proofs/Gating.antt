@@ -1,439 +1,581 @@
 -- A job whose append is done.
-use Rattle.std.proofs.Common.{◌≡◌, ℕ, ◌+◌, ◌-◌, ◌<◌, ◌≤◌, Bool, true, false, cond, List, [], ◌∷◌, Some, None, length, map, drop, set, get_or, inl, inr, refl, ap, sym, subst, ◌∙◌, arith, Global}
-use Rattle.std.specs.Prelude.{Option, Result, Ok, Err, is_err, IfErr, OnOk, IsErrOf, IsTrue, sum_by, ◌⊎◌, ◌*◌, ◌&&◌, not, slice_get, if◌then◌else◌}
-use Rattle.std.proofs.lemmas.Bool.{cases_Bool, false≢true}
-use Rattle.machine_defs.specs.Actions.{Action, SyncGate, Remove, End, ends_append}
-use Rattle.record_defs.specs.Records.{Setup, Record, is_setup, PutStart, PutDone, Drop, AuditStart, AuditDone, RepairDone, record_size}
-use Rattle.vault_table.specs.Values.{Kept, id_after, IsFoldOf}
-use Rattle.record_codec.specs.Entries.{counted}
+use Rattle.std.proofs.Common.{◌≡◌, ℕ, ◌+◌, ◌-◌, ◌<◌, ◌≤◌, Bool, true, false, List, [], ◌∷◌, Some, None, length, map, set, get_or, inl, inr, refl, ap, sym, subst, ◌∙◌, arith, Global}
+use Rattle.std.specs.Prelude.{Option, Result, Ok, Err, is_err, IfErr, OnOk, IsErrOf, IsTrue, sum, sum_by, drop, ◌==◌, ◌*◌, slice_get, if◌then◌else◌}
+use Rattle.std.proofs.lemmas.Bool.{cases_Bool, false≢true, eqb-true, ne_eqb}
+use Rattle.std.proofs.Common.{rules}
 use Rattle.std.specs.List.{All}
 use Rattle.std.proofs.lemmas.List.{length-map, length-take-le, map-set, length-set}
 use Rattle.std.proofs.lemmas.List.Elements.{All-set}
 use Rattle.std.proofs.lemmas.List.Sums.{sum_by-set, sum_by-remove}
 use Rattle.std.proofs.lemmas.Option.{slice_get_within, get_or_from_slice_get}
-use Rattle.std.proofs.Common.{rules}
-use Rattle.vault_table.specs.Causes.{is_put_start, IsCause}
+use Rattle.std.specs.declared.vec.Vec.{Vec}
+use Rattle.column_defs.specs.Verdicts.{Sums}
+use Rattle.machine_defs.specs.Jobs.{Aim, ToPut, ToGet, ToDrop, ToAudit, ToRepair, ToUpgrade}
+use Rattle.machine_defs.specs.Actions.{Action, SyncGate}
+use Rattle.machine_defs.specs.Space.{room_left}
+use Rattle.record_defs.specs.Records.{Setup, Record, is_setup, PutStart, PutDone, PutDoneIn, Drop, AuditStart, AuditDone, RepairDone, Version, record_size}
+use Rattle.machine_defs.specs.Appends.{done_record}
+use Rattle.record_defs.specs.Acceptance.{refused, NoSetup, SecondSetup, BadId, NotStarted, TooMany, NoName, BadAudit, NoRepair, OldKind, OldVersion, NewVersion, BadResume, NameTwice}
+use Rattle.vault_table.specs.Values.{Kept, id_after, IsFoldOf}
+use Rattle.vault_table.specs.Causes.{is_put_start, is_version, IsCause}
 use Rattle.vault_table.specs.declared.entry.Refused.{Refused}
 use Rattle.vault_table.specs.declared.entry.Refused.TheVariants as fault
-use Rattle.record_defs.specs.Acceptance.{refused, NoSetup, SecondSetup, BadId, NotStarted, TooMany, NoName, BadAudit, NoRepair, OldKind, OldVersion, NewVersion, BadResume, NameTwice}
+use Rattle.record_codec.specs.Entries.{counted}
 use Rattle.vault_core.specs.declared.wish.Wish.{Wish}
 use Rattle.vault_core.specs.declared.wish.Wish.TheVariants as wish
-use Rattle.vault_core.specs.declared.cursor.Move.TheVariants as move
-use Rattle.vault_core.specs.declared.cursor.Cursor.{Cursor}
-use Rattle.vault_core.specs.declared.cursor.Cursor.TheVariants as at
 use Rattle.vault_core.specs.declared.job.Job.{Job}
-use Rattle.std.specs.declared.vec.Vec.{Vec}
-use Rattle.std.proofs.Math.Bool.{and-false}
 use Rattle.vault_core.specs.declared.own.Core.TheInside.{Inside}
-use Rattle.vault_core.specs.View.{CoreJob, CoreView, AreRising}
-use Rattle.vault_core.specs.Rest.{numbers, rest_of}
-use Rattle.vault_core.specs.Coming.{written_by}
-use Rattle.vault_core.specs.Going.{decides, decides_at, goes_opening, removals_of, is_taker}
-use Rattle.vault_core.specs.Parts.{core_job, view_of, IsCore, is_opening, is_over, comes_to, IsJobKept}
-use Rattle.vault_core.specs.Fed.{first_of, first_at, older_of, gated, HasGated, is_gate, stepped, decides_now, gated_by}
-use Rattle.vault_core.specs.Reserves.{room_behind, reserved_of, starts_by, starts_of}
-use Rattle.vault_core.proofs.Counts.{gates, gates-append, gates-cons, removes_none, gates_at, gates_is, reserved_at, reserved_is, one, two}
-use Rattle.vault_core.proofs.Gates.{action_at, first_is, decides_rest}
-use Rattle.vault_core.proofs.Moving.{within, kept_at, seen_by, seen_moved}
+use Rattle.machine_defs.specs.Sights.{is_upgrade}
+use Rattle.vault_core.specs.View.{CoreJob, CoreView, appends_in, is_upgrading, HasLoneUpgrade, AreRising}
+use Rattle.vault_core.proofs.Lone.{lone_set, lone_sum, any_here}
+use Rattle.vault_core.specs.Rest.{rest_of}
+use Rattle.vault_core.specs.Coming.{is_move, written_as, written_by}
+use Rattle.vault_core.specs.Going.{decides_on, listed_older, removals_of, LeavesBehind}
+use Rattle.vault_core.specs.Parts.{setup_kept, sums_kept, core_job, view_of, IsCore, IsSteady, MayFinish, IsJobKept}
+use Rattle.vault_core.specs.Fed.{first_of, first_at, taken_as, taken_by, gated_by, gated, HasGated}
+use Rattle.vault_core.specs.Reserves.{sizes_of, room_behind, reserved_of, starts_by, starts_of}
+use Rattle.vault_core.specs.Wished.{aim_of_wish, is_opener, is_closer}
+use Rattle.vault_core.proofs.Counts.{MayHave, last_appends, one, two}
+use Rattle.vault_core.proofs.Gates.{not_over, removals_length}
+use Rattle.vault_core.proofs.Goes.{may_have, gate_some, left_some, decides_left, undecided_none, finished_kept}
+use Rattle.vault_core.proofs.Moving.{within, kept_at}
 use Rattle.vault_core.proofs.Kept.{seen_at, rising_set}
-use Rattle.vault_core.proofs.Rests.{by_call}
-
--- a job at the fourth move of an append is at that of its first append or of its last one
-at_gate : (w : Wish) (c : Cursor) → action_at w c ≡ SyncGate → (X : Type 0) →
-    (c ≡ at.Opening move.GateSync → X) → (c ≡ at.Closing move.GateSync → X) → X
-at_gate w (at.Opening move.GateSync) h X a b = a refl
-at_gate w (at.Calling spot j) h X a b =
-    by_call (λ x. x ≡ SyncGate → X) w spot.object spot.turn j (λ e. cc) (λ e. cc) (λ e. cc) h
-at_gate w (at.Closing move.GateSync) h X a b = b refl
-at_gate w c h X a b = cc
-
--- a kept job whose next action is a gate has its cursor there
-pub gate_at : (n : ℕ) (job : Job) → IsJobKept n job → slice_get (rest_of n job) 0 ≡ Some SyncGate →
-    action_at job.wish job.cursor ≡ SyncGate
-gate_at n job kept h = let s : Some (action_at job.wish job.cursor) ≡ Some SyncGate =
-    sym (first_is n job kept) ∙ h in let r : action_at job.wish job.cursor ≡ SyncGate = cc in r
-
--- a kept job whose next action is a gate is not over
-pub gate_going : (n : ℕ) (job : Job) → IsJobKept n job → slice_get (rest_of n job) 0 ≡ Some SyncGate →
-    is_over job.cursor ≡ false
-gate_going n job kept h =
-    at_gate job.wish job.cursor (gate_at n job kept h) _ (λ c. ap is_over c) (λ c. ap is_over c)
-
--- whether it decides, seen from its actions
-pub decides_is : (n : ℕ) (job : Job) → IsJobKept n job → slice_get (rest_of n job) 0 ≡ Some SyncGate →
-    decides job ≡ decides_now (core_job n job)
-decides_is n job kept h = at_gate job.wish job.cursor (gate_at n job kept h) _
-    (λ c. ap (decides_at job.wish) c
-    ∙ (ap (λ (x : Cursor). is_taker job.wish (is_opening x)) (sym c)
-    ∙ ap (λ (o : Option Action). is_gate o && is_taker job.wish (is_opening job.cursor)) (sym h)))
-    (λ c. ap (decides_at job.wish) c
-    ∙ (ap (λ (x : Cursor). is_taker job.wish (is_opening x)) (sym c)
-    ∙ ap (λ (o : Option Action). is_gate o && is_taker job.wish (is_opening job.cursor)) (sym h)))
-
--- a job behind a gate that decides on a removal has the removals of that object before it
-pub seen_decided : (n : ℕ) (old new : Job) (older : Option ℕ) → IsJobKept n old →
-    slice_get (rest_of n old) 0 ≡ Some SyncGate → decides old ≡ true → rest_of n new ≡ removals_of n older →
-    is_opening new.cursor ≡ false → new ≡ record old { cursor = new.cursor; left = new.left } →
-    core_job n new ≡ gated_by n older (core_job n old)
-seen_decided n old new older kept h d r o e =
-    seen_by n old new old.subject (removals_of n older) false (core_job n old).sums
-    (ap (λ (x : Job). x.number) e) (ap (λ (x : Job). x.wish) e) (ap (λ (x : Job). x.pinned.items) e)
-    (ap (λ (x : Job). x.flagged) e) (ap (λ (x : Job). x.subject) e)
-    r o (ap (λ (x : Job). (core_job n x).sums) e)
-    ∙ ap (λ (b : Bool). if b then record (core_job n old) { rest = removals_of n older; opening = false }
-    else stepped (core_job n old)) (sym (sym (decides_is n old kept h) ∙ d))
-
--- a job behind a gate that decides nothing has what was before it, without the gate
-pub seen_undecided : (n : ℕ) (old new : Job) (older : Option ℕ) → IsJobKept n old →
-    slice_get (rest_of n old) 0 ≡ Some SyncGate → decides old ≡ false →
-    rest_of n new ≡ drop 1 (rest_of n old) →
-    is_opening new.cursor ≡ goes_opening old.cursor →
-    new ≡ record old { cursor = new.cursor; left = new.left } →
-    core_job n new ≡ gated_by n older (core_job n old)
-seen_undecided n old new older kept h d r o e =
-    seen_moved n old new kept r o e
-    ∙ ap (λ (b : Bool). if b then record (core_job n old) { rest = removals_of n older; opening = false }
-    else stepped (core_job n old)) (sym (sym (decides_is n old kept h) ∙ d))
 
 -- ---- room and starts
 
--- a fourth move leaves one gate less
-gated_gates : (n : ℕ) (job : Job) (older : Option ℕ) → IsJobKept n job →
-    slice_get (rest_of n job) 0 ≡ Some SyncGate → gates (gated_by n older (core_job n job)).rest
-    ≡ gates (rest_of n job) - 1
-gated_gates n job older kept h = elim (cases_Bool (decides_now (core_job n job))) [
-  | inl d ↦ (let r = decides_rest n job kept (decides_is n job kept h ∙ d) in
-      ap (λ (b : Bool). gates
-      (if b then record (core_job n job) { rest = removals_of n older; opening = false }
-      else stepped (core_job n job)).rest) d
-      ∙ (no_gates older ∙ ap (λ (xs : List Action). gates xs - 1) (sym r)))
-  | inr d ↦ ap (λ (b : Bool). gates
-      (if b then record (core_job n job) { rest = removals_of n older; opening = false }
-      else stepped (core_job n job)).rest) d ∙ one_less (rest_of n job) h
-]
+-- the size of a record that a job writes of which so many appends have not ended
+abbrev pub entry_size : ℕ → ℕ → Wish → ℕ → ℕ
+entry_size v n (wish.Put name size own) k = if k == 2 then 10 + length name else (if v == 2 then 14 else 13)
+entry_size v n (wish.Get name) k = 0
+entry_size v n (wish.Drop name) k = 2 + length name
+entry_size v n wish.Audit k = if k == 2 then 9 else 14 + 4 * n
+entry_size v n wish.Repair k = 9
+entry_size v n wish.Upgrade k = 2
+
+-- the size of a put's last record, and of its gate too
+done_entry : (v id size profile : ℕ) → ◌≡◌ {A = ℕ} (if v == 2 then 14 else 13)
+    (record_size (done_record v id size profile))
+done_entry v id size profile = by (v == 2)
   where
-    no_gates : (o : Option ℕ) → gates (removals_of n o) ≡ 0
-    no_gates None = refl
-    no_gates (Some object) =
-        (let a = gates-append (map (λ j. Remove j object) (numbers 0 n)) (End ∷ []) in
-        let b = removes_none object (numbers 0 n) in omega (arith, a, b))
+    by : (b : Bool) → ◌≡◌ {A = ℕ} (if b then 14 else 13)
+        (record_size (if b then PutDoneIn id size profile else PutDone id size))
+    by true = refl
+    by false = refl
 
-    one_less : (xs : List Action) → slice_get xs 0 ≡ Some SyncGate → gates (drop 1 xs) ≡ gates xs - 1
-    one_less [] e = refl
-    one_less (x ∷ xs) e =
-        (let s : Some x ≡ Some SyncGate = e in let r : x ≡ SyncGate = cc in let a = gates-cons x xs in
-        let b = ap (λ (y : Action). cond {A = ℕ} (ends_append y) 1 0) r in omega (arith, a, b))
+done_gate : (v : ℕ) → ◌≡◌ {A = ℕ} (1 + (if v == 2 then 14 else 13)) (if v == 2 then 15 else 14)
+done_gate v = by (v == 2)
+  where
+    by : (b : Bool) → ◌≡◌ {A = ℕ} (1 + (if b then 14 else 13)) (if b then 15 else 14)
+    by true = refl
+    by false = refl
 
-gated_wish : (n : ℕ) (older : Option ℕ) (j : CoreJob) → (gated_by n older j).wish ≡ j.wish
-gated_wish n older j = elim (cases_Bool (decides_now j)) [
-  | inl d ↦ ap (λ (b : Bool). (if b then record j { rest = removals_of n older; opening = false }
-      else stepped j).wish) d
-  | inr d ↦ ap (λ (b : Bool). (if b then record j { rest = removals_of n older; opening = false }
-      else stepped j).wish) d
-]
-
--- a job keeps its number as its append ends
-pub gated_number : (n : ℕ) (older : Option ℕ) (j : CoreJob) → (gated_by n older j).number ≡ j.number
-gated_number n older j = elim (cases_Bool (decides_now j)) [
-  | inl d ↦ ap (λ (b : Bool). (if b then record j { rest = removals_of n older; opening = false }
-      else stepped j).number) d
-  | inr d ↦ ap (λ (b : Bool). (if b then record j { rest = removals_of n older; opening = false }
-      else stepped j).number) d
-]
-
-gated_opening : (n : ℕ) (older : Option ℕ) (j : CoreJob) → slice_get j.rest 0 ≡ Some SyncGate →
-    (gated_by n older j).opening ≡ false
-gated_opening n older j h = elim (cases_Bool (decides_now j)) [
-  | inl d ↦ ap (λ (b : Bool). (if b then record j { rest = removals_of n older; opening = false }
-      else stepped j).opening) d
-  | inr d ↦ ap (λ (b : Bool). (if b then record j { rest = removals_of n older; opening = false }
-      else stepped j).opening) d
-      ∙ (ap (λ (o : Option Action). j.opening && not (is_gate o)) h ∙ and-false j.opening)
-]
-
--- the room that is reserved with one gate less
-abbrev pub reserved_less : ℕ → Wish → ℕ → ℕ
-reserved_less n w g = room_behind n w (g - 1)
-
--- the size of a job's record, by whether it is the first
-abbrev pub entry_size : ℕ → Wish → Bool → ℕ
-entry_size n (wish.Put name size) true = 10 + length name
-entry_size n (wish.Put name size) false = 13
-entry_size n (wish.Get name) b = 0
-entry_size n (wish.Drop name) b = 2 + length name
-entry_size n wish.Audit true = 9
-entry_size n wish.Audit false = 14 + 4 * n
-entry_size n wish.Repair b = 9
+-- an upgrade's record alone raises the version
+raises : (t : Kept) (profile subject : ℕ) (sums : Sums) (w : Wish) (k : ℕ) (entry : Record) →
+    written_as t k profile subject sums (aim_of_wish w) ≡ Some entry →
+    is_version entry ≡ is_upgrade (aim_of_wish w)
+raises t profile subject sums (wish.Put name size own) k entry h = by (k == 2) (t.version == 2) h
+  where
+    by : (a b : Bool) → Some (if a then PutStart (id_after t) name
+        else (if b then PutDoneIn subject size profile else PutDone subject size)) ≡ Some entry →
+        is_version entry ≡ false
+    by true b e = (let r : PutStart (id_after t) name ≡ entry = cc in ap is_version (sym r))
+    by false true e = (let r : PutDoneIn subject size profile ≡ entry = cc in ap is_version (sym r))
+    by false false e = (let r : PutDone subject size ≡ entry = cc in ap is_version (sym r))
+raises t profile subject sums (wish.Get name) k entry h = let s : None ≡ Some entry = h in cc
+raises t profile subject sums (wish.Drop name) k entry h =
+    let s : Some (Drop name) ≡ Some entry = h in let r : Drop name ≡ entry = cc in ap is_version (sym r)
+raises t profile subject sums wish.Audit k entry h = by (k == 2) h
+  where
+    by : (a : Bool) → Some (if a then AuditStart t.next_audit
+        else AuditDone subject sums.undecided sums.counts) ≡ Some entry → is_version entry ≡ false
+    by true e = (let r : AuditStart t.next_audit ≡ entry = cc in ap is_version (sym r))
+    by false e = (let r : AuditDone subject sums.undecided sums.counts ≡ entry = cc in ap is_version (sym r))
+raises t profile subject sums wish.Repair k entry h =
+    let s : Some (RepairDone subject) ≡ Some entry = h in let r : RepairDone subject ≡ entry = cc in
+    ap is_version (sym r)
+raises t profile subject sums wish.Upgrade k entry h =
+    let s : Some Version ≡ Some entry = h in let r : Version ≡ entry = cc in ap is_version (sym r)
 
 -- a kept job counts once for each provider
-pub length_counted : (n : ℕ) (job : Job) → IsJobKept n job → length (counted job.counts) ≡ n
+pub length_counted : (n : ℕ) (job : Job) → IsSteady n job → length (counted job.counts) ≡ n
 length_counted n job kept = length-take-le job.counts.n job.counts.by
     (subst (λ (k : ℕ). job.counts.n ≤ k) (sym kept.stays.padded.room) kept.stays.padded.at_most)
     ∙ kept.stays.counts
 
+same_some : (x y : Record) → Some x ≡ Some y → x ≡ y
+same_some x y e = cc
+
 -- the record of an append has the size that was reserved for it
-pub size_of_entry : (n : ℕ) (t : Kept) (j : CoreJob) (w : Wish) (entry : Record) → length j.sums.counts ≡ n →
-    written_by t j w ≡ Some entry →
-    (b : Bool) → b ≡ j.opening → entry_size n w b ≡ record_size entry
-size_of_entry n t j (wish.Put name size) entry l h true e =
-    ap record_size (let s : Some (PutStart (id_after t) name) ≡ Some entry =
-    ap (λ (o : Bool). Some (if o then PutStart (id_after t) name else PutDone j.subject size)) e ∙ h in
-    let r : PutStart (id_after t) name ≡ entry = cc in r)
-size_of_entry n t j (wish.Put name size) entry l h false e =
-    ap record_size (let s : Some (PutDone j.subject size) ≡ Some entry =
-    ap (λ (o : Bool). Some (if o then PutStart (id_after t) name else PutDone j.subject size)) e ∙ h in
-    let r : PutDone j.subject size ≡ entry = cc in r)
-size_of_entry n t j (wish.Get name) entry l h b e = let s : None ≡ Some entry = h in cc
-size_of_entry n t j (wish.Drop name) entry l h b e =
+size_of_entry : (n : ℕ) (t : Kept) (profile subject : ℕ) (sums : Sums) (w : Wish) (k : ℕ) (entry : Record) →
+    length sums.counts ≡ n → written_as t k profile subject sums (aim_of_wish w) ≡ Some entry →
+    entry_size t.version n w k ≡ record_size entry
+size_of_entry n t profile subject sums (wish.Put name size own) k entry l h = elim (cases_Bool (k == 2)) [
+  | inl b ↦ (let s : Some (PutStart (id_after t) name) ≡ Some entry =
+      ap (λ (o : Bool). Some (if o then PutStart (id_after t) name
+      else done_record t.version subject size profile)) (sym b)
+      ∙ h in let r : PutStart (id_after t) name ≡ entry = cc in
+      ap (λ (o : Bool). if o then 10 + length name else (if t.version == 2 then 14 else 13)) b
+      ∙ ap record_size r)
+  | inr b ↦ (let s : Some (done_record t.version subject size profile) ≡ Some entry =
+      ap (λ (o : Bool). Some (if o then PutStart (id_after t) name
+      else done_record t.version subject size profile)) (sym b)
+      ∙ h in let r : done_record t.version subject size profile ≡ entry =
+      same_some (done_record t.version subject size profile) entry s in
+      ap (λ (o : Bool). if o then 10 + length name else (if t.version == 2 then 14 else 13)) b
+      ∙ (done_entry t.version subject size profile ∙ ap record_size r))
+]
+size_of_entry n t profile subject sums (wish.Get name) k entry l h = let s : None ≡ Some entry = h in cc
+size_of_entry n t profile subject sums (wish.Drop name) k entry l h =
     ap record_size (let s : Some (Drop name) ≡ Some entry = h in let r : Drop name ≡ entry = cc in r)
-size_of_entry n t j wish.Audit entry l h true e =
-    ap record_size (let s : Some (AuditStart t.next_audit) ≡ Some entry =
-    ap (λ (o : Bool). Some
-    (if o then AuditStart t.next_audit else AuditDone j.subject j.sums.undecided j.sums.counts)) e
-    ∙ h in let r : AuditStart t.next_audit ≡ entry = cc in r)
-size_of_entry n t j wish.Audit entry l h false e =
-    ap (λ (k : ℕ). 14 + 4 * k) (sym l)
-    ∙ ap record_size (let s : Some (AuditDone j.subject j.sums.undecided j.sums.counts) ≡ Some entry =
-    ap (λ (o : Bool). Some
-    (if o then AuditStart t.next_audit else AuditDone j.subject j.sums.undecided j.sums.counts)) e
-    ∙ h in let r : AuditDone j.subject j.sums.undecided j.sums.counts ≡ entry = cc in r)
-size_of_entry n t j wish.Repair entry l h b e = ap record_size
-    (let s : Some (RepairDone j.subject) ≡ Some entry = h in let r : RepairDone j.subject ≡ entry = cc in r)
+size_of_entry n t profile subject sums wish.Audit k entry l h = elim (cases_Bool (k == 2)) [
+  | inl b ↦ (let s : Some (AuditStart t.next_audit) ≡ Some entry =
+      ap (λ (o : Bool). Some (if o then AuditStart t.next_audit
+      else AuditDone subject sums.undecided sums.counts)) (sym b) ∙ h in
+      let r : AuditStart t.next_audit ≡ entry = cc in
+      ap (λ (o : Bool). if o then 9 else 14 + 4 * n) b ∙ ap record_size r)
+  | inr b ↦ (let s : Some (AuditDone subject sums.undecided sums.counts) ≡ Some entry =
+      ap (λ (o : Bool). Some (if o then AuditStart t.next_audit
+      else AuditDone subject sums.undecided sums.counts)) (sym b) ∙ h in
+      let r : AuditDone subject sums.undecided sums.counts ≡ entry = cc in
+      ap (λ (o : Bool). if o then 9 else 14 + 4 * n) b
+      ∙ (ap (λ (m : ℕ). 14 + 4 * m) (sym l) ∙ ap record_size r))
+]
+size_of_entry n t profile subject sums wish.Repair k entry l h = ap record_size
+    (let s : Some (RepairDone subject) ≡ Some entry = h in
+    let r : RepairDone subject ≡ entry = cc in r)
+size_of_entry n t profile subject sums wish.Upgrade k entry l h = ap record_size
+    (let s : Some Version ≡ Some entry = h in let r : Version ≡ entry = cc in r)
 
--- the room that a job needs before a gate is that behind it, and the record that the gate ends
-pub room_at : (n : ℕ) (w : Wish) (c : Cursor) (b : Bool) (z : ℕ) → comes_to w c ≡ true →
-    (c ≡ at.Opening move.GateSync) ⊎ (c ≡ at.Closing move.GateSync) → is_opening c ≡ b →
-    entry_size n w b ≡ z →
-    reserved_less n w (gates_at w c) + (1 + z) ≡ reserved_at n w c
-room_at n w c b z h (inl g) o e =
-    subst (λ (x : Cursor). reserved_less n w (gates_at w x) + (1 + z) ≡ reserved_at n w x) (sym g)
-    (opening w (subst (λ (x : Cursor). comes_to w x ≡ true) g h)
-    (ap (entry_size n w) (ap is_opening (sym g) ∙ o) ∙ e))
+-- with two, it needs the room of all its records
+pub room_all : (i n : ℕ) (w : Wish) (k : ℕ) → 2 ≤ k → sum (sizes_of i n w) ≡ room_behind i n w k
+room_all i n w k l = ap (λ (m : ℕ). sum (drop m (sizes_of i n w))) (none w)
   where
-    opening : (v : Wish) → comes_to v (at.Opening move.GateSync) ≡ true → entry_size n v true ≡ z →
-        reserved_less n v (gates_at v (at.Opening move.GateSync)) + (1 + z)
-        ≡ reserved_at n v (at.Opening move.GateSync)
-    opening (wish.Put name size) k f =
-        (let a = one 14 in let d = two (11 + length name) 14 in omega (arith, a, d, f))
-    opening (wish.Get name) k f = absurd (false≢true k)
-    opening (wish.Drop name) k f = (let a = one (3 + length name) in omega (arith, a, f))
-    opening wish.Audit k f =
-        (let a = one (15 + 4 * n) in let d = two 10 (15 + 4 * n) in omega (arith, a, d, f))
-    opening wish.Repair k f = absurd (false≢true k)
-room_at n w c b z h (inr g) o e =
-    subst (λ (x : Cursor). reserved_less n w (gates_at w x) + (1 + z) ≡ reserved_at n w x) (sym g)
-    (closing w (subst (λ (x : Cursor). comes_to w x ≡ true) g h)
-    (ap (entry_size n w) (ap is_opening (sym g) ∙ o) ∙ e))
-  where
-    closing : (v : Wish) → comes_to v (at.Closing move.GateSync) ≡ true → entry_size n v false ≡ z →
-        reserved_less n v (gates_at v (at.Closing move.GateSync)) + (1 + z)
-        ≡ reserved_at n v (at.Closing move.GateSync)
-    closing (wish.Put name size) k f = (let a = one 14 in omega (arith, a, f))
-    closing (wish.Get name) k f = absurd (false≢true k)
-    closing (wish.Drop name) k f = absurd (false≢true k)
-    closing wish.Audit k f = (let a = one (15 + 4 * n) in omega (arith, a, f))
-    closing wish.Repair k f = (let a = one 10 in omega (arith, a, f))
+    none : (v : Wish) → 0 ≡ length (sizes_of i n v) - k
+    none (wish.Put name size own) = omega arith
+    none (wish.Get name) = omega arith
+    none (wish.Drop name) = omega arith
+    none wish.Audit = omega arith
+    none wish.Repair = omega arith
+    none wish.Upgrade = omega arith
 
--- the room of a record is no longer reserved once it is in effect
-gated_room : (n : ℕ) (job : Job) (older : Option ℕ) (t : Kept) (entry : Record) → IsJobKept n job →
-    slice_get (rest_of n job) 0 ≡ Some SyncGate →
-    written_by t (core_job n job) job.wish ≡ Some entry →
-    reserved_of n (gated_by n older (core_job n job)) + (1 + record_size entry)
-    ≡ reserved_of n (core_job n job)
-gated_room n job older t entry kept h w =
-    ap (λ (k : ℕ). k + (1 + record_size entry)) (after (gated_wish n older (core_job n job)))
-    ∙ (at_gate job.wish job.cursor (gate_at n job kept h) _
-    (λ c. room_at n job.wish job.cursor (is_opening job.cursor) (record_size entry) kept.comes (inl c) refl
-    (sizes (is_opening job.cursor) refl))
-    (λ c. room_at n job.wish job.cursor (is_opening job.cursor) (record_size entry) kept.comes (inr c) refl
-    (sizes (is_opening job.cursor) refl))
-    ∙ sym (reserved_is n job))
+-- the room that a job needs before its append ends is that behind it, and the record that the append writes
+room_at : (i : ℕ) (s : Setup) (w : Wish) (k : ℕ) → MayHave w k →
+    room_left i s (aim_of_wish w) (k - 1) + (1 + entry_size i s.n w k) ≡ room_left i s (aim_of_wish w) k
+room_at i s w k (inl p) = subst (λ (m : ℕ). room_left i s (aim_of_wish w) (m - 1) + (1 + entry_size i s.n w m)
+    ≡ room_left i s (aim_of_wish w) m) (sym p.0) (opening w p.1)
   where
-    after : (gated_by n older (core_job n job)).wish ≡ job.wish →
-        reserved_of n (gated_by n older (core_job n job))
-        ≡ reserved_less n job.wish (gates_at job.wish job.cursor)
-    after e = ap (λ (v : Wish). room_behind n v (gates (gated_by n older (core_job n job)).rest)) e
-        ∙ ap (room_behind n job.wish) (gated_gates n job older kept h
-        ∙ ap (λ (k : ℕ). k - 1) (gates_is n job))
-
-    sizes : (b : Bool) → b ≡ is_opening job.cursor → entry_size n job.wish b ≡ record_size entry
-    sizes b e = size_of_entry n t (core_job n job) job.wish entry (length_counted n job kept) w b e
-
-gated_starts : (n : ℕ) (job : Job) (older : Option ℕ) (t : Kept) (entry : Record) →
-    slice_get (rest_of n job) 0 ≡ Some SyncGate →
-    written_by t (core_job n job) job.wish ≡ Some entry →
-    starts_of (gated_by n older (core_job n job)) + (if is_put_start entry then 1 else 0) ≤ starts_of
-    (core_job n job)
-gated_starts n job older t entry h w =
-    subst (λ (k : ℕ). k + (if is_put_start entry then 1 else 0) ≤ starts_of (core_job n job))
-    (sym (ap (λ (v : Wish). starts_by v (gated_by n older (core_job n job)).opening)
-    (gated_wish n older (core_job n job))
-    ∙ ap (starts_by job.wish) (gated_opening n older (core_job n job) h)))
-    (by job.wish (is_opening job.cursor) refl w)
+    opening : (v : Wish) → is_opener v ≡ true →
+        room_left i s (aim_of_wish v) (1 + last_appends v - 1) + (1 + entry_size i s.n v (1 + last_appends v))
+        ≡ room_left i s (aim_of_wish v) (1 + last_appends v)
+    opening (wish.Put name size own) h =
+        (let a = one (if i == 2 then 15 else 14) in
+        let d = two (11 + length name) (if i == 2 then 15 else 14) in omega (arith, a, d))
+    opening (wish.Drop name) h = (let a = one (3 + length name) in omega (arith, a))
+    opening wish.Audit h = (let a = one (15 + 4 * s.n) in let d = two 10 (15 + 4 * s.n) in
+        omega (arith, a, d))
+    opening v h = absurd (false≢true h)
+room_at i s w k (inr p) = subst (λ (m : ℕ). room_left i s (aim_of_wish w) (m - 1) + (1 + entry_size i s.n w m)
+    ≡ room_left i s (aim_of_wish w) m) (sym p.0) (closing w p.1)
   where
-    by : (v : Wish) (b : Bool) → is_opening job.cursor ≡ b → written_by t (core_job n job) v ≡ Some entry →
-        starts_by v false + (if is_put_start entry then 1 else 0) ≤ starts_by v (is_opening job.cursor)
-    by (wish.Put name size) true o g =
-        (let s : Some (PutStart (id_after t) name) ≡ Some entry =
-        ap (λ (x : Bool). Some (if x then PutStart (id_after t) name else PutDone job.subject size))
-        (sym o) ∙ g in
-        let r : PutStart (id_after t) name ≡ entry = cc in
-        let p = ap {B = ℕ} (λ (x : Record). if is_put_start x then 1 else 0) r in
-        let q = ap (starts_by (wish.Put name size)) o in omega (arith, p, q))
-    by (wish.Put name size) false o g =
-        (let s : Some (PutDone job.subject size) ≡ Some entry =
-        ap (λ (x : Bool). Some (if x then PutStart (id_after t) name else PutDone job.subject size))
-        (sym o) ∙ g in
-        let r : PutDone job.subject size ≡ entry = cc in
-        let p = ap {B = ℕ} (λ (x : Record). if is_put_start x then 1 else 0) r in omega (arith, p))
-    by (wish.Get name) b o g = (let s : None ≡ Some entry = g in cc)
-    by (wish.Drop name) b o g =
-        (let s : Some (Drop name) ≡ Some entry = g in let r : Drop name ≡ entry = cc in
-        let p = ap {B = ℕ} (λ (x : Record). if is_put_start x then 1 else 0) r in omega (arith, p))
-    by wish.Audit true o g =
-        (let s : Some (AuditStart t.next_audit) ≡ Some entry =
-        ap (λ (x : Bool). Some
-        (if x then AuditStart t.next_audit else AuditDone job.subject (core_job n job).sums.undecided
-        (core_job n job).sums.counts)) (sym o) ∙ g in
-        let r : AuditStart t.next_audit ≡ entry = cc in
-        let p = ap {B = ℕ} (λ (x : Record). if is_put_start x then 1 else 0) r in omega (arith, p))
-    by wish.Audit false o g =
-        (let s : Some (AuditDone job.subject (core_job n job).sums.undecided (core_job n job).sums.counts)
-        ≡ Some entry = ap (λ (x : Bool). Some
-        (if x then AuditStart t.next_audit else AuditDone job.subject (core_job n job).sums.undecided
-        (core_job n job).sums.counts)) (sym o) ∙ g in
-        let r : AuditDone job.subject (core_job n job).sums.undecided (core_job n job).sums.counts ≡ entry =
-        cc in let p = ap {B = ℕ} (λ (x : Record). if is_put_start x then 1 else 0) r in omega (arith, p))
-    by wish.Repair b o g =
-        (let s : Some (RepairDone job.subject) ≡ Some entry = g in
-        let r : RepairDone job.subject ≡ entry = cc in
-        let p = ap {B = ℕ} (λ (x : Record). if is_put_start x then 1 else 0) r in omega (arith, p))
+    closing : (v : Wish) → is_closer v ≡ true → room_left i s (aim_of_wish v) 0 + (1 + entry_size i s.n v 1)
+        ≡ room_left i s (aim_of_wish v) 1
+    closing (wish.Put name size own) h =
+        (let a = one (if i == 2 then 15 else 14) in let g = done_gate i in omega (arith, a, g))
+    closing wish.Audit h = (let a = one (15 + 4 * s.n) in omega (arith, a))
+    closing wish.Repair h = (let a = one 10 in omega (arith, a))
+    closing wish.Upgrade h = (let a = one 3 in omega (arith, a))
+    closing v h = absurd (false≢true h)
+
+-- at a move of an append, a job's room is that behind the append, and its record
+pub room_of_entry : (s : Setup) (job : Job) (t : Kept) (a : Action) (entry : Record) → IsJobKept s job →
+    slice_get (rest_of s.n job) 0 ≡ Some a → is_move (Some a) ≡ true →
+    written_as t job.appends job.profile job.subject (sums_kept job) (aim_of_wish job.wish) ≡ Some entry →
+    room_left t.version s (aim_of_wish job.wish) (job.appends - 1) + (1 + record_size entry)
+    ≡ reserved_of t.version s (core_job job)
+room_of_entry s job t a entry kept h m w =
+    ap (λ (k : ℕ). room_left t.version s (aim_of_wish job.wish) (job.appends - 1) + (1 + k))
+    (sym (size_of_entry s.n t job.profile job.subject (sums_kept job) job.wish job.appends entry
+    (length_counted s.n job kept.steady) w))
+    ∙ (room_at t.version s job.wish job.appends (may_have s job kept a h m)
+    ∙ ap (room_left t.version s (aim_of_wish job.wish)) kept.appends)
+
+done_start : (v id size profile : ℕ) →
+    ◌≡◌ {A = ℕ} 0 (if is_put_start (done_record v id size profile) then 1 else 0)
+done_start v id size profile = by (v == 2)
+  where
+    by : (b : Bool) → ◌≡◌ {A = ℕ} 0
+        (if is_put_start (if b then PutDoneIn id size profile else PutDone id size) then 1 else 0)
+    by true = refl
+    by false = refl
+
+-- whoever wrote a PutStart had to write one, and no longer has
+starts_ended : (t : Kept) (profile subject : ℕ) (sums : Sums) (aim : Aim) (k : ℕ) (entry : Record) → k ≤ 2 →
+    written_as t k profile subject sums aim ≡ Some entry →
+    starts_by aim (k - 1) + (if is_put_start entry then 1 else 0) ≤ starts_by aim k
+starts_ended t profile subject sums (ToPut name size) k entry few h = elim (cases_Bool (k == 2)) [
+  | inl b ↦ (let s : Some (PutStart (id_after t) name) ≡ Some entry =
+      ap (λ (o : Bool). Some (if o then PutStart (id_after t) name
+      else done_record t.version subject size profile)) (sym b)
+      ∙ h in let r : PutStart (id_after t) name ≡ entry = cc in
+      let p = ap {B = ℕ} (λ (x : Record). if is_put_start x then 1 else 0) r in
+      let two_ = eqb-true k 2 b in
+      let q = ap (starts_by (ToPut name size)) two_ in
+      let z = ap (λ (m : ℕ). starts_by (ToPut name size) (m - 1)) two_ in
+      omega (arith, p, q, z))
+  | inr b ↦ (let s : Some (done_record t.version subject size profile) ≡ Some entry =
+      ap (λ (o : Bool). Some (if o then PutStart (id_after t) name
+      else done_record t.version subject size profile)) (sym b)
+      ∙ h in let r : done_record t.version subject size profile ≡ entry =
+      same_some (done_record t.version subject size profile) entry s in
+      let p = done_start t.version subject size profile
+      ∙ ap {B = ℕ} (λ (x : Record). if is_put_start x then 1 else 0) r in
+      let q = ap {B = ℕ} (λ (o : Bool). if o then 1 else 0)
+      (ne_eqb (k - 1) 2 (λ e. absurd (omega (arith, e, few)))) in
+      omega (arith, p, q))
+]
+starts_ended t profile subject sums (ToGet name) k entry few h = let s : None ≡ Some entry = h in cc
+starts_ended t profile subject sums (ToDrop name) k entry few h =
+    let s : Some (Drop name) ≡ Some entry = h in let r : Drop name ≡ entry = cc in
+    let p = ap {B = ℕ} (λ (x : Record). if is_put_start x then 1 else 0) r in omega (arith, p)
+starts_ended t profile subject sums ToAudit k entry few h = elim (cases_Bool (k == 2)) [
+  | inl b ↦ (let s : Some (AuditStart t.next_audit) ≡ Some entry =
+      ap (λ (o : Bool). Some (if o then AuditStart t.next_audit
+      else AuditDone subject sums.undecided sums.counts)) (sym b) ∙ h in
+      let r : AuditStart t.next_audit ≡ entry = cc in
+      let p = ap {B = ℕ} (λ (x : Record). if is_put_start x then 1 else 0) r in omega (arith, p))
+  | inr b ↦ (let s : Some (AuditDone subject sums.undecided sums.counts) ≡ Some entry =
+      ap (λ (o : Bool). Some (if o then AuditStart t.next_audit
+      else AuditDone subject sums.undecided sums.counts)) (sym b) ∙ h in
+      let r : AuditDone subject sums.undecided sums.counts ≡ entry = cc in
+      let p = ap {B = ℕ} (λ (x : Record). if is_put_start x then 1 else 0) r in omega (arith, p))
+]
+starts_ended t profile subject sums ToRepair k entry few h =
+    let s : Some (RepairDone subject) ≡ Some entry = h in
+    let r : RepairDone subject ≡ entry = cc in
+    let p = ap {B = ℕ} (λ (x : Record). if is_put_start x then 1 else 0) r in omega (arith, p)
+starts_ended t profile subject sums ToUpgrade k entry few h =
+    let s : Some Version ≡ Some entry = h in let r : Version ≡ entry = cc in
+    let p = ap {B = ℕ} (λ (x : Record). if is_put_start x then 1 else 0) r in omega (arith, p)
+
+few_have : (w : Wish) (k : ℕ) → MayHave w k → k ≤ 2
+few_have w k (inl p) = let e = p.0 in let l = last w in omega (arith, e, l)
+  where
+    last : (v : Wish) → last_appends v ≤ 1
+    last (wish.Put name size own) = omega arith
+    last (wish.Get name) = omega arith
+    last (wish.Drop name) = omega arith
+    last wish.Audit = omega arith
+    last wish.Repair = omega arith
+    last wish.Upgrade = omega arith
+few_have w k (inr p) = let e = p.0 in omega (arith, e)
+
+-- ---- the job at a place
 
 -- the job at a place, whose next action is the fourth move of an append
 pub record GateHere (a : Inside) (place : ℕ) (job : Job) : Type 0 where
   pub within : place < length (view_of a).jobs
-  pub here : slice_get (view_of a).jobs place ≡ Some (core_job a.setup.n job)
-  pub kept : IsJobKept a.setup.n job
+  pub here : slice_get (view_of a).jobs place ≡ Some (core_job job)
+  pub kept : IsJobKept (setup_kept a) job
   pub gate : slice_get (rest_of a.setup.n job) 0 ≡ Some SyncGate
 
--- a core's job whose next action is a gate is at a place, is kept, and is at such a gate
+-- a core's job whose next action is this one is at a place, is kept, and is at it
+pub action_here : (a : Inside) (c : CoreView) (place : ℕ) (job : Job) (x : Action) →
+    view_of a ≡ c → IsCore a →
+    job ≡ get_or a.jobs.items place job → first_at c place ≡ Some x →
+    (place < length (view_of a).jobs) × (slice_get (view_of a).jobs place ≡ Some (core_job job))
+    × IsJobKept (setup_kept a) job × (slice_get (rest_of a.setup.n job) 0 ≡ Some x)
+action_here a c place job x v h e f =
+    let p : first_at (view_of a) place ≡ Some x =
+    subst (λ (y : CoreView). first_at y place ≡ Some x) (sym v) f in
+    let l = within (setup_kept a) (view_of a).jobs place x p in
+    let here = seen_at a place job l e in
+    let kept = kept_at a place job h l e in (
+      l,
+      here,
+      kept,
+      ap (λ (xs : List Action). slice_get xs 0) kept.listed
+          ∙ (sym (ap (first_of (setup_kept a)) here) ∙ p),
+    )
+
+-- so for a gate
 pub gate_here : (a : Inside) (c : CoreView) (place : ℕ) (job : Job) → view_of a ≡ c → IsCore a →
     job ≡ get_or a.jobs.items place job → first_at c place ≡ Some SyncGate → GateHere a place job
 gate_here a c place job v h e f =
-    let p : first_at (view_of a) place ≡ Some SyncGate =
-    subst (λ (x : CoreView). first_at x place ≡ Some SyncGate) (sym v) f in
-    let l = within (view_of a).jobs place SyncGate p in
-    let here = seen_at a place job l e in
-    record { within = l; here = here; kept = kept_at a place job h l e; gate = ap first_of (sym here) ∙ p }
+    let r = action_here a c place job SyncGate v h e f in
+    record { within = r.0; here = r.1; kept = r.2; gate = r.3 }
+
+-- it may make this move
+pub may_finish : (s : Setup) (job : Job) → IsJobKept s job → slice_get (rest_of s.n job) 0 ≡ Some SyncGate →
+    MayFinish s.n job
+may_finish s job kept gate = record {
+  steady = kept.steady;
+  going = not_over s.n job SyncGate kept.steady gate (λ e. cc);
+  appends = gate_some s job kept gate;
+  left = left_some s job kept;
+  decided = decides_left s job kept gate;
+  fits = kept.fits;
+}
+
+-- an object to take away, or none
+pub older_none : (o : Option ℕ) → listed_older o ≡ [] → o ≡ None
+older_none None h = refl
+older_none (Some object) h = cc
+
+-- the job behind it is kept
+pub gated_kept : (s : Setup) (job new : Job) (older : Option ℕ) (t : Kept) (jobs : List CoreJob) →
+    IsJobKept s job → slice_get (rest_of s.n job) 0 ≡ Some SyncGate → IsSteady s.n new →
+    LeavesBehind s.n older (decides_on job) job new →
+    new ≡ record job {
+      older = older;
+      cursor = new.cursor;
+      appends = job.appends - 1;
+      place = job.place + 1;
+      left = new.left;
+    } → listed_older older ≡ taken_as t jobs job.appends (aim_of_wish job.wish) → IsJobKept s new
+gated_kept s job new older t jobs kept gate steady behind same takes =
+    subst (IsJobKept s) (sym same)
+    (finished_kept s job kept gate older new.cursor new.left (subst (IsSteady s.n) same steady)
+    (subst (LeavesBehind s.n older (decides_on job) job) same behind)
+    (λ d. older_none older (takes ∙ undecided_none s job kept gate t jobs d)))
+
+-- two jobs that are seen alike take the same away
+taken_alike : (s : Setup) (t : Kept) (jobs : List CoreJob) (i j : Job) → IsJobKept s i → IsJobKept s j →
+    core_job i ≡ core_job j →
+    taken_as t jobs i.appends (aim_of_wish i.wish) ≡ taken_as t jobs j.appends (aim_of_wish j.wish)
+taken_alike s t jobs i j a b e =
+    ap (λ (n : ℕ). taken_as t jobs n (aim_of_wish i.wish)) a.appends
+    ∙ (ap (taken_by s t jobs) e ∙ ap (λ (n : ℕ). taken_as t jobs n (aim_of_wish j.wish)) (sym b.appends))
+
+-- the job at a place behind the last move of its append is kept
+pub finished_here : (a : Inside) (c : CoreView) (place : ℕ) (old index new : Job) (older : Option ℕ) →
+    view_of a ≡ c → IsCore a → old ≡ get_or a.jobs.items place old → index ≡ get_or a.jobs.items place index →
+    first_at c place ≡ Some SyncGate → IsSteady a.setup.n new →
+    LeavesBehind a.setup.n older (decides_on old) old new →
+    new ≡ record old {
+      older = older;
+      cursor = new.cursor;
+      appends = old.appends - 1;
+      place = old.place + 1;
+      left = new.left;
+    } → listed_older older ≡ taken_as c.table c.jobs index.appends (aim_of_wish index.wish) →
+    IsJobKept (setup_kept a) new
+finished_here a c place old index new older v h e f first steady behind same takes =
+    let here = gate_here a c place old v h e first in
+    let other = gate_here a c place index v h f first in
+    let g : Some (core_job index) ≡ Some (core_job old) = sym other.here ∙ here.here in
+    let alike : core_job index ≡ core_job old = cc in
+    gated_kept (setup_kept a) old new older c.table c.jobs here.kept here.gate steady behind same
+    (takes ∙ taken_alike (setup_kept a) c.table c.jobs index old other.kept here.kept alike)
+
+-- it may make fewer steps than before
+pub finished_left : (s : Setup) (old new : Job) (older : Option ℕ) → IsJobKept s old →
+    slice_get (rest_of s.n old) 0 ≡ Some SyncGate → LeavesBehind s.n older (decides_on old) old new →
+    new.left < old.left
+finished_left s old new older kept gate behind = elim (cases_Bool (decides_on old)) [
+  | inl d ↦ (let h = subst (λ (b : Bool). LeavesBehind s.n older b old new) d behind in
+      let l = decides_left s old kept gate d in let e = h.1 in let f = few older in omega (arith, l, e, f))
+  | inr d ↦ (let h = subst (λ (b : Bool). LeavesBehind s.n older b old new) d behind in
+      let l = left_some s old kept in let e = h.1 in omega (arith, l, e))
+]
+  where
+    few : (o : Option ℕ) → length (removals_of s.n o) ≤ 1 + s.n
+    few None = omega arith
+    few (Some object) = (let a = removals_length s.n object in omega (arith, a))
 
 gated_jobs : (a : Inside) (v : Vec Job Global) (place : ℕ) (new : Job) (k : CoreJob) →
-    v.items ≡ set a.jobs.items place new → core_job a.setup.n new ≡ k →
-    map (core_job a.setup.n) v.items ≡ set (view_of a).jobs place k
-gated_jobs a v place new k e s = ap (map (core_job a.setup.n)) e
-    ∙ (map-set (core_job a.setup.n) a.jobs.items place new
-    ∙ ap (set (map (core_job a.setup.n) a.jobs.items) place) s)
+    v.items ≡ set a.jobs.items place new → core_job new ≡ k →
+    map (core_job) v.items ≡ set (view_of a).jobs place k
+gated_jobs a v place new k e s = ap (map (core_job)) e
+    ∙ (map-set (core_job) a.jobs.items place new
+    ∙ ap (set (map (core_job) a.jobs.items) place) s)
+
+-- the record that a core writes for a job is the one that a contract sees
+pub same_entry : (a : Inside) (c : CoreView) (place : ℕ) (job : Job) (wrote : Record) → view_of a ≡ c →
+    slice_get (view_of a).jobs place ≡ Some (core_job job) → IsJobKept (setup_kept a) job →
+    Some wrote ≡ written_as a.table job.appends job.profile job.subject (sums_kept job)
+    (aim_of_wish job.wish) →
+    (j : CoreJob) (entry : Record) →
+    slice_get c.jobs place ≡ Some j → written_by c.setup c.table j ≡ Some entry → wrote ≡ entry
+same_entry a c place job wrote view here kept w j entry g k =
+    let f1 : Some (core_job job) ≡ Some j = sym here
+    ∙ (ap (λ (x : CoreView). slice_get x.jobs place) view ∙ g) in
+    let e1 : core_job job ≡ j = cc in
+    let same : Some wrote ≡ Some entry = w
+    ∙ (ap (λ (n : ℕ). written_as a.table n job.profile job.subject (sums_kept job) (aim_of_wish job.wish))
+    kept.appends
+    ∙ (ap (written_by (setup_kept a) a.table) e1
+    ∙ (ap (λ (x : CoreView). written_by x.setup x.table j) view ∙ k))) in
+    let r : wrote ≡ entry = cc in r
 
 -- a core whose job made its gate looks as the contract of that step says: the record is in effect
 pub has_gated : (a : Inside) (c : CoreView) (t : Kept) (v : Vec Job Global) (place z : ℕ)
     (old new one_ two_ : Job) (older : Option ℕ) (wrote : Record) (rs : List Record) →
     view_of a ≡ c → v.items ≡ set a.jobs.items place new →
-    slice_get (view_of a).jobs place ≡ Some (core_job a.setup.n old) →
-    slice_get (view_of a).jobs place ≡ Some (core_job a.setup.n one_) →
-    slice_get (view_of a).jobs place ≡ Some (core_job a.setup.n two_) →
-    core_job a.setup.n new ≡ gated_by a.setup.n older (core_job a.setup.n old) →
-    older ≡ older_of c.table c.jobs two_.wish → z ≡ record_size wrote →
-    Some wrote ≡ written_by a.table (core_job a.setup.n one_) one_.wish → IsFoldOf (wrote ∷ rs) t →
+    slice_get (view_of a).jobs place ≡ Some (core_job old) →
+    slice_get (view_of a).jobs place ≡ Some (core_job one_) →
+    slice_get (view_of a).jobs place ≡ Some (core_job two_) → IsJobKept (setup_kept a) one_ →
+    IsJobKept (setup_kept a) two_ →
+    core_job new ≡ gated_by (listed_older older) (core_job old) →
+    listed_older older ≡ taken_as c.table c.jobs two_.appends (aim_of_wish two_.wish) →
+    z ≡ record_size wrote →
+    Some wrote ≡ written_as a.table one_.appends one_.profile one_.subject (sums_kept one_)
+    (aim_of_wish one_.wish) →
+    IsFoldOf (wrote ∷ rs) t →
     (j : CoreJob) (entry : Record) → slice_get c.jobs place ≡ Some j →
-    written_by c.table j j.wish ≡ Some entry →
+    written_by c.setup c.table j ≡ Some entry →
     HasGated c place j entry rs
     (view_of (record a { table = t; end = a.end + (1 + z); jobs = v; append = None }))
-has_gated a c t v place z old new one_ two_ older wrote rs view items here here1 here2 s o size w fold j entry g k =
+has_gated a c t v place z old new one_ two_ older wrote rs view items here here1 here2 kept1 kept2 s o size w fold j entry g k =
     let at : slice_get (view_of a).jobs place ≡ Some j = ap (λ (x : CoreView). slice_get x.jobs place) view
     ∙ g in
-    let f0 : Some (core_job a.setup.n old) ≡ Some j = sym here ∙ at in
-    let f1 : Some (core_job a.setup.n one_) ≡ Some j = sym here1 ∙ at in
-    let f2 : Some (core_job a.setup.n two_) ≡ Some j = sym here2 ∙ at in
-    let e0 : core_job a.setup.n old ≡ j = cc in
-    let e1 : core_job a.setup.n one_ ≡ j = cc in
-    let e2 : core_job a.setup.n two_ ≡ j = cc in
-    let same : Some wrote ≡ Some entry = w
-    ∙ (ap (λ (x : CoreJob). written_by a.table x x.wish) e1
-    ∙ (ap (λ (x : CoreView). written_by x.table j j.wish) view ∙ k)) in
-    let is_entry : wrote ≡ entry = cc in
-    let is_older : older ≡ older_of c.table c.jobs j.wish = o
-    ∙ ap (λ (x : CoreJob). older_of c.table c.jobs x.wish) e2 in
-    let job : core_job a.setup.n new ≡ gated c.setup.n c.table c.jobs j =
-    s ∙ (ap (λ (x : Option ℕ). gated_by a.setup.n x (core_job a.setup.n old)) is_older
-    ∙ (ap (λ (x : CoreJob). gated_by a.setup.n (older_of c.table c.jobs j.wish) x) e0
-    ∙ ap (λ (x : CoreView). gated_by x.setup.n (older_of c.table c.jobs j.wish) j) view)) in
+    let f0 : Some (core_job old) ≡ Some j = sym here ∙ at in
+    let f2 : Some (core_job two_) ≡ Some j = sym here2 ∙ at in
+    let e0 : core_job old ≡ j = cc in
+    let e2 : core_job two_ ≡ j = cc in
+    let is_entry = same_entry a c place one_ wrote view here1 kept1 w j entry g k in
+    let is_older : listed_older older ≡ taken_by c.setup c.table c.jobs j = o
+    ∙ (ap (λ (n : ℕ). taken_as c.table c.jobs n (aim_of_wish two_.wish)) kept2.appends
+    ∙ (ap (λ (x : CoreView). taken_by x.setup c.table c.jobs (core_job two_)) view
+    ∙ ap (taken_by c.setup c.table c.jobs) e2)) in
+    let job : core_job new ≡ gated c.setup c.table c.jobs j =
+    s ∙ (λ i. gated_by (is_older i) (e0 i)) in
     record {
       table = subst (λ (x : Record). IsFoldOf (x ∷ rs) t) is_entry fold;
       others =
           ap (λ (js : List CoreJob). record (view_of a)
           { table = t; end = a.end + (1 + z); jobs = js; append = None })
-          (gated_jobs a v place new (gated c.setup.n c.table c.jobs j) items job)
+          (gated_jobs a v place new (gated c.setup c.table c.jobs j) items job)
           ∙ (ap (λ (x : CoreView). record x {
             table = t;
             end = x.end + (1 + z);
-            jobs = set x.jobs place (gated c.setup.n c.table c.jobs j);
+            jobs = set x.jobs place (gated c.setup c.table c.jobs j);
             append = None;
           }) view
           ∙ ap (λ (m : ℕ). record c {
             table = t;
             end = c.end + (1 + m);
-            jobs = set c.jobs place (gated c.setup.n c.table c.jobs j);
+            jobs = set c.jobs place (gated c.setup c.table c.jobs j);
             append = None;
           })
           (size ∙ ap record_size is_entry));
     }
 
+-- what two jobs that are seen alike write is the same
+written_alike : (s : Setup) (t : Kept) (i j : Job) → IsJobKept s i → IsJobKept s j → core_job i ≡ core_job j →
+    written_as t i.appends i.profile i.subject (sums_kept i) (aim_of_wish i.wish)
+    ≡ written_as t j.appends j.profile j.subject (sums_kept j) (aim_of_wish j.wish)
+written_alike s t i j a b e =
+    ap (λ (k : ℕ). written_as t k i.profile i.subject (sums_kept i) (aim_of_wish i.wish)) a.appends
+    ∙ (ap (written_by s t) e
+    ∙ ap (λ (k : ℕ). written_as t k j.profile j.subject (sums_kept j) (aim_of_wish j.wish)) (sym b.appends))
+
+-- where an upgrade's append ends no room is reserved in the version that it raised the journal to
+raised_room : (i : ℕ) (s : Setup) (js : List CoreJob) (place : ℕ) (old new : Job) →
+    MayHave old.wish old.appends →
+    slice_get js place ≡ Some (core_job old) → new.wish ≡ old.wish →
+    appends_in s (core_job new) ≡ old.appends - 1 → HasLoneUpgrade js →
+    sum_by (reserved_of (if is_upgrade (aim_of_wish old.wish) then 2 else i) s) (set js place (core_job new))
+    ≤ sum_by (reserved_of i s) (set js place (core_job new))
+raised_room i s js place old new have here same count lone = by old.wish refl
+  where
+    none : old.wish ≡ wish.Upgrade → reserved_of 2 s (core_job new) ≡ 0
+    none e = ap (λ (w : Wish). room_left 2 s (aim_of_wish w) (appends_in s (core_job new))) (same ∙ e)
+        ∙ ap (room_left 2 s ToUpgrade) (count ∙ last have)
+      where
+        last : MayHave old.wish old.appends → old.appends - 1 ≡ 0
+        last (inl p) = (let f : false ≡ true = sym (ap is_opener e) ∙ p.1 in cc)
+        last (inr p) = (let q = p.0 in omega (arith, q))
+
+    by : (w : Wish) → old.wish ≡ w →
+        sum_by (reserved_of (if is_upgrade (aim_of_wish old.wish) then 2 else i) s)
+        (set js place (core_job new))
+        ≤ sum_by (reserved_of i s) (set js place (core_job new))
+    by wish.Upgrade e = (let z = lone_sum (reserved_of 2 s) js place (core_job old) (core_job new) here
+        (lone (any_here is_upgrading js place (core_job old) here
+        (ap (λ (w : Wish). is_upgrade (aim_of_wish w)) e)))
+        (none e) in
+        let f = ap (λ (w : Wish). sum_by (reserved_of (if is_upgrade (aim_of_wish w) then 2 else i) s)
+        (set js place (core_job new))) e in omega (arith, z, f))
+    by w e = (let f = ap (λ (v : Wish). sum_by (reserved_of (if is_upgrade (aim_of_wish v) then 2 else i) s)
+        (set js place (core_job new))) e in omega (arith, f))
+
 -- a core stays one as it is kept as the append of a job ends
 pub gated_core : (a : Inside) (t : Kept) (v : Vec Job Global) (place z : ℕ) (old new one_ : Job)
-    (older : Option ℕ) (wrote : Record) → v.items ≡ set a.jobs.items place new →
-    slice_get (view_of a).jobs place ≡ Some (core_job a.setup.n old) →
-    slice_get (view_of a).jobs place ≡ Some (core_job a.setup.n one_) → IsJobKept a.setup.n old →
+    (wrote : Record) → v.items ≡ set a.jobs.items place new →
+    slice_get (view_of a).jobs place ≡ Some (core_job old) →
+    slice_get (view_of a).jobs place ≡ Some (core_job one_) → IsJobKept (setup_kept a) old →
+    IsJobKept (setup_kept a) one_ →
     slice_get (rest_of a.setup.n old) 0 ≡ Some SyncGate →
-    core_job a.setup.n new ≡ gated_by a.setup.n older (core_job a.setup.n old) → IsJobKept a.setup.n new →
-    z ≡ record_size wrote →
-    Some wrote ≡ written_by a.table (core_job a.setup.n one_) one_.wish →
-    t.spare ≡ (if is_put_start wrote then a.table.spare - 1 else a.table.spare) → IsCore a →
+    new.number ≡ old.number → new.wish ≡ old.wish → new.appends ≡ old.appends - 1 →
+    IsJobKept (setup_kept a) new → z ≡ record_size wrote →
+    Some wrote ≡ written_as a.table one_.appends one_.profile one_.subject (sums_kept one_)
+    (aim_of_wish one_.wish) →
+    t.spare ≡ (if is_put_start wrote then a.table.spare - 1 else a.table.spare) →
+    t.version ≡ (if is_version wrote then 2 else a.table.version) → IsCore a →
     IsCore (record a { table = t; end = a.end + (1 + z); jobs = v; append = None })
-gated_core a t v place z old new one_ older wrote items here here1 kept gate s next size w spare h =
-    let f0 : Some (core_job a.setup.n one_) ≡ Some (core_job a.setup.n old) = sym here1 ∙ here in
-    let e0 : core_job a.setup.n one_ ≡ core_job a.setup.n old = cc in
-    let wr : written_by a.table (core_job a.setup.n old) old.wish ≡ Some wrote =
-    sym (w ∙ ap (λ (x : CoreJob). written_by a.table x x.wish) e0) in
-    let k = gated_by a.setup.n older (core_job a.setup.n old) in
-    let js : map (core_job a.setup.n) v.items ≡ set (view_of a).jobs place k =
-    gated_jobs a v place new k items s in
-    let l = slice_get_within (view_of a).jobs place (core_job a.setup.n old) here in
-    let g : get_or (view_of a).jobs place (core_job a.setup.n old) ≡ core_job a.setup.n old =
-    get_or_from_slice_get (view_of a).jobs place (core_job a.setup.n old) (core_job a.setup.n old) here in
+gated_core a t v place z old new one_ wrote items here here1 kept kept1 gate number same_wish fewer next size w spare version h =
+    let s = setup_kept a in
+    let f0 : Some (core_job one_) ≡ Some (core_job old) = sym here1 ∙ here in
+    let e0 : core_job one_ ≡ core_job old = cc in
+    let wr : written_as a.table old.appends old.profile old.subject (sums_kept old)
+    (aim_of_wish old.wish) ≡ Some wrote =
+    sym (w ∙ written_alike s a.table one_ old kept1 kept e0) in
+    let js : map core_job v.items ≡ set (view_of a).jobs place (core_job new) =
+    gated_jobs a v place new (core_job new) items refl in
+    let l = slice_get_within (view_of a).jobs place (core_job old) here in
+    let g : get_or (view_of a).jobs place (core_job old) ≡ core_job old =
+    get_or_from_slice_get (view_of a).jobs place (core_job old) (core_job old) here in
+    let count : appends_in s (core_job new) ≡ old.appends - 1 = sym next.appends ∙ fewer in
+    let versions : t.version ≡ (if is_upgrade (aim_of_wish old.wish) then 2 else a.table.version) = version
+    ∙ ap (λ (b : Bool). if b then 2 else a.table.version)
+    (raises a.table old.profile old.subject (sums_kept old) old.wish old.appends wrote wr) in
+    let have = may_have s old kept SyncGate gate refl in
+    let room_new : reserved_of a.table.version s (core_job new)
+    ≡ room_left a.table.version s (aim_of_wish old.wish) (old.appends - 1) =
+    ap (room_left a.table.version s (aim_of_wish new.wish)) count
+    ∙ ap (λ (x : Wish). room_left a.table.version s (aim_of_wish x) (old.appends - 1)) same_wish in
+    let starts_new : starts_of s (core_job new) ≡ starts_by (aim_of_wish old.wish) (old.appends - 1) =
+    ap (starts_by (aim_of_wish new.wish)) count
+    ∙ ap (λ (x : Wish). starts_by (aim_of_wish x) (old.appends - 1)) same_wish in
+    let starts_old : starts_of s (core_job old) ≡ starts_by (aim_of_wish old.wish) old.appends =
+    ap (starts_by (aim_of_wish old.wish)) (sym kept.appends) in
     record {
       set_up = h.set_up;
-      kept = subst (All (IsJobKept a.setup.n)) (sym items)
-          (All-set (IsJobKept a.setup.n) a.jobs.items place new next h.kept);
+      kept = subst (All (IsJobKept s)) (sym items) (All-set (IsJobKept s) a.jobs.items place new next h.kept);
       few = (let r = length-set a.jobs.items place new in let q = ap length items in let f = h.few in
           omega (arith, r, q, f));
       begun = (let b = h.begun in omega (arith, b));
       numbered = subst (λ (x : List CoreJob). AreRising 0 x a.next_job) (sym js)
-          (rising_set 0 (view_of a).jobs a.next_job place (core_job a.setup.n old) k here
-          (gated_number a.setup.n older (core_job a.setup.n old)) h.numbered);
+          (rising_set 0 (view_of a).jobs a.next_job place (core_job old) (core_job new) here
+          number h.numbered);
+      lone = subst HasLoneUpgrade (sym js)
+          (lone_set (view_of a).jobs place (core_job old) (core_job new) here
+          (ap aim_of_wish same_wish) h.lone);
       reserves = record {
         room =
-            (let p = ap (sum_by (reserved_of a.setup.n)) js in
-            let q = sum_by-set (reserved_of a.setup.n) (view_of a).jobs place k
-            (core_job a.setup.n old) l in let r = ap (reserved_of a.setup.n) g in
-            let u = gated_room a.setup.n old older a.table wrote kept gate wr in let x = h.reserves.room in
-            omega (arith, p, q, r, u, x, size));
+            (let p = ap (λ (i : ℕ). sum_by (reserved_of i s) (map core_job v.items)) versions
+            ∙ ap (sum_by (reserved_of (if is_upgrade (aim_of_wish old.wish) then 2 else a.table.version) s))
+            js in
+            let y = raised_room a.table.version s (view_of a).jobs place old new have here same_wish
+            count h.lone in
+            let q = sum_by-set (reserved_of a.table.version s) (view_of a).jobs place (core_job new)
+            (core_job old) l in
+            let r = ap (reserved_of a.table.version s) g in
+            let u = room_of_entry s old a.table SyncGate wrote kept gate refl wr in
+            let x = h.reserves.room in
+            omega (arith, p, y, q, r, u, x, size, room_new));
         spare =
-            (let p = ap (sum_by starts_of) js in let q =
-            sum_by-set starts_of (view_of a).jobs place k (core_job a.setup.n old) l in
-            let r = ap starts_of g in
-            let u = gated_starts a.setup.n old older a.table wrote gate wr in let x = h.reserves.spare in
-            spares (sum_by starts_of (map (core_job a.setup.n) v.items)) (sum_by starts_of (view_of a).jobs)
-            (starts_of k) (starts_of (core_job a.setup.n old)) a.table.spare t.spare (is_put_start wrote)
-            (omega (arith, p, q, r)) u x spare);
+            (let p = ap (sum_by (starts_of s)) js in
+            let q = sum_by-set (starts_of s) (view_of a).jobs place (core_job new) (core_job old) l in
+            let r = ap (starts_of s) g in
+            let u = starts_ended a.table old.profile old.subject (sums_kept old) (aim_of_wish old.wish)
+            old.appends wrote
+            (few_have old.wish old.appends have) wr in
+            let x = h.reserves.spare in
+            spares (sum_by (starts_of s) (map core_job v.items)) (sum_by (starts_of s) (view_of a).jobs)
+            (starts_of s (core_job new)) (starts_of s (core_job old)) a.table.spare t.spare
+            (is_put_start wrote)
+            (omega (arith, p, q, r)) (omega (arith, u, starts_new, starts_old)) x spare);
       };
     }
   where
@@ -477,20 +619,26 @@ providers s h = search rules
 
 -- a PutStart that is in flight has its room
 pub start_spare : (a : Inside) (place : ℕ) (job : Job) (wrote : Record) → IsCore a →
-    slice_get (view_of a).jobs place ≡ Some (core_job a.setup.n job) →
+    slice_get (view_of a).jobs place ≡ Some (core_job job) → IsJobKept (setup_kept a) job →
     slice_get (rest_of a.setup.n job) 0 ≡ Some SyncGate →
-    written_by a.table (core_job a.setup.n job) job.wish ≡ Some wrote → IsTrue (is_put_start wrote) →
-    0 < a.table.spare
-start_spare a place job wrote h here gate w p =
-    let l = slice_get_within (view_of a).jobs place (core_job a.setup.n job) here in
-    let g : get_or (view_of a).jobs place (core_job a.setup.n job) ≡ core_job a.setup.n job =
-    get_or_from_slice_get (view_of a).jobs place (core_job a.setup.n job) (core_job a.setup.n job) here in
-    let q = sum_by-remove starts_of (view_of a).jobs place (core_job a.setup.n job) l in
-    let r = ap starts_of g in
-    let u = gated_starts a.setup.n job None a.table wrote gate w in
+    written_as a.table job.appends job.profile job.subject (sums_kept job)
+    (aim_of_wish job.wish) ≡ Some wrote →
+    IsTrue (is_put_start wrote) → 0 < a.table.spare
+start_spare a place job wrote h here kept gate w p =
+    let s = setup_kept a in
+    let l = slice_get_within (view_of a).jobs place (core_job job) here in
+    let g : get_or (view_of a).jobs place (core_job job) ≡ core_job job =
+    get_or_from_slice_get (view_of a).jobs place (core_job job) (core_job job) here in
+    let q = sum_by-remove (starts_of s) (view_of a).jobs place (core_job job) l in
+    let r = ap (starts_of s) g in
+    let u = starts_ended a.table job.profile job.subject (sums_kept job) (aim_of_wish job.wish)
+    job.appends wrote
+    (few_have job.wish job.appends (may_have s job kept SyncGate gate refl)) w in
+    let v : starts_of s (core_job job) ≡ starts_by (aim_of_wish job.wish) job.appends =
+    ap (starts_by (aim_of_wish job.wish)) (sym kept.appends) in
     let x = h.reserves.spare in
     let y = ap {B = ℕ} (λ (b : Bool). if b then 1 else 0) p in
-    omega (arith, q, r, u, x, y)
+    omega (arith, q, r, u, v, x, y)
 
 -- what holds on an Ok holds of an answer that is no error
 pub on_ok : {X Y : Type 0} (r : Result X Y) (P : Type 0) → is_err r ≡ false → OnOk r P → P
@@ -499,19 +647,5 @@ on_ok (Err y) P e h = absurd (false≢true (sym e))
 
 -- a place among the jobs that a contract sees is one among the jobs as they are kept
 pub place_len : (a : Inside) (place : ℕ) → place < length (view_of a).jobs → place < length a.jobs.items
-place_len a place l = let m : length (map (core_job a.setup.n) a.jobs.items) ≡ length a.jobs.items =
+place_len a place l = let m : length (map (core_job) a.jobs.items) ≡ length a.jobs.items =
     simp length-map in omega (arith, l, m)
-
--- the record that a core writes for a job is the one that a contract sees
-pub same_entry : (a : Inside) (c : CoreView) (place : ℕ) (job : Job) (wrote : Record) → view_of a ≡ c →
-    slice_get (view_of a).jobs place ≡ Some (core_job a.setup.n job) →
-    Some wrote ≡ written_by a.table (core_job a.setup.n job) job.wish → (j : CoreJob) (entry : Record) →
-    slice_get c.jobs place ≡ Some j → written_by c.table j j.wish ≡ Some entry → wrote ≡ entry
-same_entry a c place job wrote view here w j entry g k =
-    let f1 : Some (core_job a.setup.n job) ≡ Some j = sym here
-    ∙ (ap (λ (x : CoreView). slice_get x.jobs place) view ∙ g) in
-    let e1 : core_job a.setup.n job ≡ j = cc in
-    let same : Some wrote ≡ Some entry = w
-    ∙ (ap (λ (x : CoreJob). written_by a.table x x.wish) e1
-    ∙ (ap (λ (x : CoreView). written_by x.table j j.wish) view ∙ k)) in
-    let r : wrote ≡ entry = cc in r

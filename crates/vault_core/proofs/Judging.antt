@@ -1,109 +1,124 @@
--- The sums of an audit, before an action and after it.
-use Rattle.std.proofs.Common.{◌≡◌, ℕ, ◌+◌, Bool, true, false, List, Some, drop, inl, inr, refl, ap, sym, ◌∙◌}
-use Rattle.std.specs.Prelude.{Option, ◌⊎◌, ◌&&◌, not, slice_get, IsTrue, nat_lt}
-use Rattle.std.proofs.lemmas.Bool.{false≢true, not-true, and_parts}
-use Rattle.std.proofs.Math.Bool.{and-true}
+-- A job of a core stands for a job of the machine after an action: most of all, the sums of an audit.
+use Rattle.std.proofs.Common.{◌≡◌, ℕ, ◌+◌, ◌<◌, ◌≤◌, Bool, true, false, List, Some, drop, inl, inr, refl, ap, sym, subst, ◌∙◌, arith}
+use Rattle.std.specs.Prelude.{Option, ◌⊎◌, ◌&&◌, not, slice_get, IsTrue, if◌then◌else◌}
+use Rattle.std.specs.List.{AllZip}
+use Rattle.std.proofs.lemmas.Bool.{cases_lt, false≢true, not-true, and_parts, le-ltb, ltb-false}
 use Rattle.column_defs.specs.Verdicts.{Sums}
+use Rattle.record_defs.specs.Records.{Setup}
+use Rattle.record_defs.specs.Table.{next_audit}
 use Rattle.machine_defs.specs.Jobs.{Kind, AuditJob, Given, Job}
-use Rattle.machine_defs.specs.Actions.{Action, SyncGate, Ask, End, actions_of}
+use Rattle.machine_defs.specs.Actions.{Action, WriteBody, SyncGate, Ask, End, actions_of}
 use Rattle.machine_defs.specs.States.{State, setup_in}
+use Rattle.machine_defs.specs.Appends.{is_first_append, subject_drawn, taken_out}
 use Rattle.machine_defs.specs.Audits.{HasSums}
 use Rattle.machine_defs.specs.Steps.{next_action}
 use Rattle.machine_defs.proofs.NextActions.{next_stands}
-use Rattle.state_laws.proofs.Orders.{get-drop}
-use Rattle.state_laws.proofs.Going.{onward}
-use Rattle.vault_core.proofs.Alike.{IsAlike, alike}
-use Rattle.vault_core.specs.declared.wish.Wish.{Wish}
-use Rattle.vault_core.specs.declared.wish.Wish.TheVariants as wish
-use Rattle.vault_core.specs.View.{CoreJob}
+use Rattle.state_laws.proofs.Orders.{get-drop, audit-list, audit_rest}
+use Rattle.state_laws.proofs.Gates.{decided, audit-same}
+use Rattle.state_laws.proofs.Done.{gate-within}
+use Rattle.state_laws.proofs.Going.{onward, actions-onward}
+use Rattle.vault_table.specs.Values.{Kept, IsFoldOf}
+use Rattle.vault_core.specs.View.{CoreJob, rest_in}
 use Rattle.vault_core.specs.Coming.{asks_next, begins_append, is_last_ask}
-use Rattle.vault_core.specs.Carried.{is_audit_wish, has_asked, IsJobOf}
-use Rattle.vault_core.specs.Fed.{goes_plainly, is_gate, stepped, judged}
-use Rattle.vault_core.proofs.Kept.{and_left}
-use Rattle.vault_core.proofs.Onward.{opens-list, ask_behind, sums-same, ask-then, head-here, left-here, rest-on, opening-on}
+use Rattle.vault_core.specs.Carried.{is_audit, has_asked, IsJobOf}
+use Rattle.vault_core.specs.Fed.{goes_plainly, stepped, judged, number_drawn, drawn, gated}
+use Rattle.vault_core.proofs.Onward.{sums-same, no-sums, asks-none, ask-then, past-first, no-ask-first}
+use Rattle.vault_core.proofs.Links.{left-here, head-here, number_same, taken_same}
 use Rattle.vault_core.proofs.Gates.{second_of}
-use Rattle.vault_core.specs.Wished.{is_opener}
 
-audit_is : (v : Wish) → is_audit_wish v ≡ true → v ≡ wish.Audit
-audit_is wish.Audit h = refl
-audit_is v h = absurd (false≢true h)
-
--- only the machine's audit is alike to an audit
-pub audit_kind : (v : Wish) (k : Kind) → v ≡ wish.Audit → IsAlike v k → k ≡ AuditJob
-audit_kind wish.Audit AuditJob e h = refl
-audit_kind wish.Audit k e h = absurd h
-audit_kind v k e h = cc
+audit_is : (k : Kind) → is_audit k ≡ true → k ≡ AuditJob
+audit_is AuditJob h = refl
+audit_is k h = absurd (false≢true h)
 
 -- what it says that an audit has asked all
-pub record Asked (c : CoreJob) : Type 0 where
-  pub audit : c.wish ≡ wish.Audit
-  pub opened : c.opening ≡ false
-  pub head : asks_next (slice_get c.rest 0) ≡ false
+pub record Asked (s : Setup) (m : Job) : Type 0 where
+  pub audit : m.kind ≡ AuditJob
+  pub past : 4 ≤ m.place
+  pub head : asks_next (slice_get (actions_of s m) m.place) ≡ false
 
 -- an audit that has asked all is behind its first append, with no ask next
-pub asked_parts : (c : CoreJob) → has_asked c ≡ true → Asked c
-asked_parts c h =
-    let a = and_parts (is_audit_wish c.wish) (not c.opening && not (asks_next (slice_get c.rest 0))) h in
-    let b = and_parts (not c.opening) (not (asks_next (slice_get c.rest 0))) a.1 in
+asked_parts : (s : Setup) (m : Job) → has_asked s m ≡ true → Asked s m
+asked_parts s m h =
+    let a = and_parts (is_audit m.kind)
+    (not (is_first_append m) && not (asks_next (slice_get (actions_of s m) m.place))) h in
+    let b = and_parts (not (is_first_append m)) (not (asks_next (slice_get (actions_of s m) m.place))) a.1 in
     record {
-      audit = audit_is c.wish a.0;
-      opened = not-true c.opening b.0;
-      head = not-true (asks_next (slice_get c.rest 0)) b.1;
+      audit = audit_is m.kind a.0;
+      past = ltb-false m.place 4 (not-true (is_first_append m) b.0);
+      head = not-true (asks_next (slice_get (actions_of s m) m.place)) b.1;
     }
 
 -- an audit behind its first append, with no ask next, has asked all
-pub asked_whole : (c : CoreJob) → c.wish ≡ wish.Audit → c.opening ≡ false →
-    asks_next (slice_get c.rest 0) ≡ false → has_asked c ≡ true
-asked_whole c a o h =
-    ap (λ (v : Wish). is_audit_wish v && (not c.opening && not (asks_next (slice_get c.rest 0)))) a
-    ∙ (ap (λ (b : Bool). not b && not (asks_next (slice_get c.rest 0))) o ∙ ap not h)
+pub asked_whole : (s : Setup) (m : Job) → m.kind ≡ AuditJob → 4 ≤ m.place →
+    asks_next (slice_get (actions_of s m) m.place) ≡ false → has_asked s m ≡ true
+asked_whole s m a l h =
+    ap (λ (k : Kind). is_audit k && (not (is_first_append m)
+    && not (asks_next (slice_get (actions_of s m) m.place)))) a
+    ∙ (ap (λ (b : Bool). not b && not (asks_next (slice_get (actions_of s m) m.place))) (le-ltb m.place 4 l)
+    ∙ ap not h)
 
-no_gate : (a : Action) → goes_plainly (Some a) ≡ true → is_gate (Some a) ≡ false
-no_gate SyncGate h = absurd (false≢true h)
-no_gate a h = refl
+no_gate : (a : Action) → goes_plainly (Some a) ≡ true → a ≡ SyncGate → ⊥
+no_gate a h e = false≢true (ap (λ (x : Action). goes_plainly (Some x)) (sym e) ∙ h)
 
 module _ (w : State) (c : CoreJob) (m : Job) (a : Action) (is : IsJobOf (setup_in w) c m)
     (next : next_action w m ≡ Some a) (on : a ≡ End → ⊥) where
+  listed : slice_get (actions_of (setup_in w) m) m.place ≡ Some a
+  listed = next_stands w m a next on
+
+  -- both one action on, a job of a core still stands for the machine's
+  pub on-moved : (given : List Given) →
+      (IsTrue (has_asked (setup_in w) (onward m m.subject given)) →
+      HasSums (setup_in w) (onward m m.subject given) c.sums) →
+      IsJobOf (setup_in w) (stepped c) (onward m m.subject given)
+  on-moved given sums = record {
+    number = is.number;
+    plan = is.plan;
+    place = ap (λ (p : ℕ). p + 1) is.place;
+    unjudged = λ k l. is.unjudged k (omega (arith, l));
+    judged = sums;
+  }
+
   -- an action that is not the last ask of an audit changes nothing of what is judged
-  pub sums-on : (given : List Given) → goes_plainly (Some a) ≡ true → is_last_ask c.rest ≡ false →
+  pub sums-on : (given : List Given) → goes_plainly (Some a) ≡ true →
+      is_last_ask (rest_in (setup_in w) c) ≡ false →
       (given ≡ m.given) ⊎ (m.kind ≡ AuditJob → asks_next (Some a) ≡ true) →
-      IsTrue (has_asked (stepped c)) → HasSums (setup_in w) (onward m m.subject given) c.sums
+      IsTrue (has_asked (setup_in w) (onward m m.subject given)) →
+      HasSums (setup_in w) (onward m m.subject given) c.sums
   sums-on given plain last gave has = by (asks_next (Some a)) refl
     where
-      parts : Asked (stepped c)
-      parts = asked_parts (stepped c) has
+      parts : Asked (setup_in w) (onward m m.subject given)
+      parts = asked_parts (setup_in w) (onward m m.subject given) has
 
-      kind : m.kind ≡ AuditJob
-      kind = audit_kind c.wish m.kind parts.audit (alike c.wish m.kind is.kind)
+      past : 4 ≤ m.place
+      past = past-first (setup_in w) m a parts.audit listed (no_gate a plain) parts.past
 
-      opened : c.opening ≡ false
-      opened = sym (and-true c.opening)
-          ∙ (ap (λ (b : Bool). c.opening && not b)
-          (sym (ap is_gate (head-here w c m a is next on) ∙ no_gate a plain)) ∙ parts.opened)
-
-      head : slice_get (stepped c).rest 0 ≡ slice_get (actions_of (setup_in w) m) (m.place + 1)
-      head = ap (λ (xs : List Action). slice_get (drop 1 xs) 0) (left-here w c m a is next on)
-          ∙ get-drop (actions_of (setup_in w) m) (m.place + 1)
+      following : slice_get (actions_of (setup_in w) (onward m m.subject given)) (m.place + 1)
+          ≡ slice_get (actions_of (setup_in w) m) (m.place + 1)
+      following = ap (λ (xs : List Action). slice_get xs (m.place + 1)) (actions-onward (setup_in w) m given)
 
       by : (b : Bool) → asks_next (Some a) ≡ b → HasSums (setup_in w) (onward m m.subject given) c.sums
       by false e = elim gave [
         | inl g ↦ sums-same (setup_in w) m (onward m m.subject given) (sym g) refl c.sums refl
-            (is.sums (asked_whole c parts.audit opened (ap asks_next (head-here w c m a is next on) ∙ e)))
-        | inr h ↦ absurd (false≢true (sym e ∙ h kind))
+            (is.judged (asked_whole (setup_in w) m parts.audit past (ap asks_next listed ∙ e)))
+        | inr h ↦ absurd (false≢true (sym e ∙ h parts.audit))
       ]
-      by true e = absurd (not_ask a e (next_stands w m a next on))
+      by true e = absurd (not_ask a e listed)
         where
           not_ask : (x : Action) → asks_next (Some x) ≡ true →
               slice_get (actions_of (setup_in w) m) m.place ≡ Some x → ⊥
-          not_ask (Ask j o t) f listed = elim (ask-then (setup_in w) m j o t kind listed) [
-            | inl asks ↦ false≢true (sym parts.head ∙ (ap asks_next head ∙ asks))
+          not_ask (Ask j o t) f stands = elim (ask-then (setup_in w) m j o t parts.audit stands) [
+            | inl asks ↦ false≢true (sym parts.head ∙ (ap asks_next following ∙ asks))
             | inr starts ↦ false≢true
-                (sym last ∙ (ap (λ (o : Option Action). asks_next o && begins_append (slice_get c.rest 1))
+                (sym last
+                ∙ (ap (λ (y : Option Action). asks_next y && begins_append
+                (slice_get (rest_in (setup_in w) c) 1))
                 (head-here w c m a is next on)
-                ∙ (ap (λ (b : Bool). b && begins_append (slice_get c.rest 1)) e
-                ∙ (ap begins_append (second_of c.rest ∙ head) ∙ starts))))
+                ∙ (ap (λ (b : Bool). b && begins_append (slice_get (rest_in (setup_in w) c) 1)) e
+                ∙ (ap begins_append (second_of (rest_in (setup_in w) c)
+                ∙ (ap (λ (xs : List Action). slice_get (drop 1 xs) 0) (left-here w c m a is next on)
+                ∙ get-drop (actions_of (setup_in w) m) (m.place + 1))) ∙ starts))))
           ]
-          not_ask x f listed = false≢true f
+          not_ask x f stands = false≢true f
 
   -- an audit that is judged
   pub on-judged : (j o t : ℕ) → a ≡ Ask j o t → (given : List Given) (sums : Sums) →
@@ -111,23 +126,76 @@ module _ (w : State) (c : CoreJob) (m : Job) (a : Action) (is : IsJobOf (setup_i
       IsJobOf (setup_in w) (judged c sums) (onward m m.subject given)
   on-judged j o t e given sums h = record {
     number = is.number;
-    kind = is.kind;
-    pinned = is.pinned;
-    flagged = is.flagged;
-    subject = is.subject;
-    opening = opening-on w c m a is next on;
-    rest = rest-on w c m a is next on given;
-    unjudged = λ p. absurd
-        (false≢true (sym opened ∙ and_left c.opening (not (is_gate (slice_get c.rest 0))) p));
-    sums = λ p. h;
+    plan = is.plan;
+    place = ap (λ (p : ℕ). p + 1) is.place;
+    unjudged = λ k l. absurd (let p = early k in let f = l in omega (arith, p, f));
+    judged = λ p. h;
   }
     where
-      opened : c.opening ≡ false
-      opened = is.opening ∙ by (is_opener c.wish) refl
-        where
-          by : (b : Bool) → is_opener c.wish ≡ b → (is_opener c.wish && nat_lt m.place 4) ≡ false
-          by false f = ap (λ (x : Bool). x && nat_lt m.place 4) f
-          by true f = (let l = opens-list (setup_in w) m c.wish m.kind refl (alike c.wish m.kind is.kind) f in
-              ap (λ (x : Bool). x && nat_lt m.place 4) f
-              ∙ ask_behind l.0 m.place j o t (ap (λ (xs : List Action). slice_get xs m.place) (sym l.1)
-              ∙ (next_stands w m a next on ∙ ap Some e)))
+      early : m.kind ≡ AuditJob → 4 ≤ m.place
+      early k = elim (cases_lt m.place 4) [
+        | inr l ↦ l
+        | inl l ↦ absurd (no-ask-first (setup_in w) m j o t k l (listed ∙ ap Some e))
+      ]
+
+-- the job has begun its append
+pub on-drawn : (w : State) (t : Kept) (c : CoreJob) (m : Job) → IsFoldOf w.records t →
+    IsJobOf (setup_in w) c m → next_action w m ≡ Some WriteBody →
+    IsJobOf (setup_in w) (drawn c (number_drawn (setup_in w) t c))
+    (onward m (subject_drawn w m m.kind) m.given)
+on-drawn w t c m f is next = record {
+  number = is.number;
+  plan = λ i. record (is.plan i) { subject = number_same w t c m f is i };
+  place = ap (λ (p : ℕ). p + 1) is.place;
+  unjudged = λ k l. is.unjudged k (omega (arith, l));
+  judged = sums;
+}
+  where
+    sums : IsTrue (has_asked (setup_in w) (onward m (subject_drawn w m m.kind) m.given)) →
+        HasSums (setup_in w) (onward m (subject_drawn w m m.kind) m.given) c.sums
+    sums h =
+        (let p = asked_parts (setup_in w) (onward m (subject_drawn w m m.kind) m.given) h in
+        let stands = next_stands w m WriteBody next (λ e. cc) in
+        let past : 4 ≤ m.place = past-first (setup_in w) m WriteBody p.audit stands (λ e. cc) p.past in
+        let subject : subject_drawn w m m.kind ≡ m.subject = ap (subject_drawn w m) p.audit
+        ∙ ap (λ (b : Bool). if b then next_audit w.records else m.subject)
+        (le-ltb m.place 4 past) in
+        sums-same (setup_in w) m (onward m (subject_drawn w m m.kind) m.given) refl (sym subject) c.sums refl
+        (is.judged (asked_whole (setup_in w) m p.audit past (ap asks_next stands))))
+
+-- the append of the job is done
+pub on-gated : (w : State) (t : Kept) (cs : List CoreJob) (c : CoreJob) (m : Job) → IsFoldOf w.records t →
+    AllZip (IsJobOf (setup_in w)) cs w.jobs → IsJobOf (setup_in w) c m → next_action w m ≡ Some SyncGate →
+    0 < (setup_in w).n → IsJobOf (setup_in w) (gated (setup_in w) t cs c) (decided m (taken_out w m m.kind))
+on-gated w t cs c m f all is next some = record {
+  number = is.number;
+  plan = λ i. record (is.plan i) { older = taken_same w t cs c m f all is i };
+  place = ap (λ (p : ℕ). p + 1) is.place;
+  unjudged = λ k l. is.unjudged k (omega (arith, l));
+  judged = sums;
+}
+  where
+    stands : slice_get (actions_of (setup_in w) m) m.place ≡ Some SyncGate
+    stands = next_stands w m SyncGate next (λ e. cc)
+
+    sums : IsTrue (has_asked (setup_in w) (decided m (taken_out w m m.kind))) →
+        HasSums (setup_in w) (decided m (taken_out w m m.kind)) c.sums
+    sums h = elim (cases_lt m.place 4) [
+      | inr l ↦ sums-same (setup_in w) m (decided m (taken_out w m m.kind)) refl refl c.sums refl
+          (is.judged (asked_whole (setup_in w) m p.audit l (ap asks_next stands)))
+      | inl l ↦ subst (HasSums (setup_in w) (decided m (taken_out w m m.kind))) (sym (is.unjudged p.audit l))
+          (no-sums (setup_in w) (decided m (taken_out w m m.kind)) some
+          (asks-none (setup_in w) m p.audit
+          (ap (λ (k : ℕ). asks_next (slice_get (actions_of (setup_in w) m) k)) (four l)
+          ∙ (ap (λ (xs : List Action). asks_next (slice_get xs (m.place + 1)))
+          (sym (audit-same (setup_in w) m (taken_out w m m.kind) p.audit)) ∙ p.head))))
+    ]
+      where
+        p : Asked (setup_in w) (decided m (taken_out w m m.kind))
+        p = asked_parts (setup_in w) (decided m (taken_out w m m.kind)) h
+
+        four : m.place < 4 → 4 ≡ m.place + 1
+        four l = (let three = gate-within (audit_rest (setup_in w) m) m.place l
+            (ap (λ (xs : List Action). slice_get xs m.place) (sym (audit-list (setup_in w) m p.audit))
+            ∙ stands) in
+            omega (arith, three))

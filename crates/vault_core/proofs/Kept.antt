@@ -1,25 +1,25 @@
 -- A core stays one as it is kept while its jobs change.
-use Rattle.std.proofs.Common.{◌≡◌, ℕ, zero, suc, ◌+◌, ◌-◌, ◌<◌, ◌≤◌, Bool, true, false, List, [], ◌∷◌, ◌++◌, Some, None, length, map, take, drop, set, get_or, refl, ap, sym, subst, ◌∙◌, arith, Global}
+use Rattle.std.proofs.Common.{◌≡◌, ℕ, zero, suc, ◌+◌, ◌<◌, ◌≤◌, Bool, List, [], ◌∷◌, ◌++◌, Some, None, length, map, take, drop, set, get_or, refl, ap, sym, subst, ◌∙◌, arith, Global}
 use Rattle.std.specs.Option.{option_map, option_eq}
-use Rattle.std.specs.Prelude.{Option, if◌then◌else◌, eqb, ◌&&◌, not, slice_get, sum, remove}
+use Rattle.std.specs.Prelude.{Option, if◌then◌else◌, eqb, slice_get, remove}
 use Rattle.std.specs.List.{All}
-use Rattle.std.proofs.lemmas.Bool.{false≢true, ne_eqb}
+use Rattle.std.proofs.lemmas.Bool.{ne_eqb}
 use Rattle.std.proofs.lemmas.Option.{slice_get_within, slice_get-map, slice_get_read, get_or_from_slice_get}
 use Rattle.std.proofs.lemmas.List.{map-set, length-map, length-set}
 use Rattle.std.proofs.lemmas.List.Edits.{length-remove}
 use Rattle.std.proofs.lemmas.List.Elements.{All-take, All-drop, All-append, All-set}
-use Rattle.std.proofs.lemmas.List.Sums.{sum_by-set, sum_by-remove, sum_by-take-drop}
-use Rattle.machine_defs.specs.Actions.{Action, Store}
-use Rattle.vault_core.specs.declared.wish.Wish.{Wish}
-use Rattle.vault_core.specs.declared.wish.Wish.TheVariants as wish
+use Rattle.std.proofs.lemmas.List.Sums.{sum_by-set, sum_by-remove}
+use Rattle.record_defs.specs.Records.{Setup}
+use Rattle.machine_defs.specs.Jobs.{Aim}
+use Rattle.machine_defs.specs.Space.{room_left}
 use Rattle.vault_core.specs.declared.job.Job.{Job}
 use Rattle.std.specs.declared.vec.Vec.{Vec}
 use Rattle.vault_core.specs.declared.own.Core.TheInside.{Inside}
-use Rattle.vault_core.specs.Parts.{core_job, view_of, IsJobKept, IsCore}
-use Rattle.vault_core.specs.View.{CoreJob, CoreView, AreRising, job_in}
-use Rattle.vault_core.specs.Reserves.{sizes_of, room_behind, reserved_of, starts_by, starts_of, Reserves}
-use Rattle.vault_core.specs.Fed.{stepped, is_own, freed, is_gate, renamed}
-use Rattle.vault_core.proofs.Counts.{gates, gates-cons}
+use Rattle.vault_core.specs.Parts.{setup_kept, core_job, view_of, IsJobKept, IsCore}
+use Rattle.vault_core.proofs.Lone.{lone_less, lone_set}
+use Rattle.vault_core.specs.View.{HasLoneUpgrade, CoreJob, CoreView, appends_in, AreRising, job_in}
+use Rattle.vault_core.specs.Reserves.{reserved_of, starts_by, starts_of, Reserves}
+use Rattle.vault_core.specs.Fed.{is_own, freed}
 
 -- to map a list without an element is to leave out that element of the mapped list
 pub map-remove : {X Y : Type 0} (f : X → Y) (xs : List X) (i : ℕ) → map f (remove xs i) ≡ remove (map f xs) i
@@ -37,72 +37,40 @@ reserves_less : (c : CoreView) (place : ℕ) (d : CoreJob) (o : Option ℕ) (b :
     Reserves c →
     Reserves (record c { jobs = remove c.jobs place; append = o; barred = b })
 reserves_less c place d o b l h = record {
-  room = (let e = sum_by-remove (reserved_of c.setup.n) c.jobs place d l in let r = h.room in
+  room = (let e = sum_by-remove (reserved_of c.table.version c.setup) c.jobs place d l in let r = h.room in
       omega (arith, e, r));
-  spare = (let e = sum_by-remove starts_of c.jobs place d l in let r = h.spare in omega (arith, e, r));
+  spare = (let e = sum_by-remove (starts_of c.setup) c.jobs place d l in let r = h.spare in
+      omega (arith, e, r));
 }
 
 -- ---- and with another job
 
 reserves_other : (c : CoreView) (place : ℕ) (j k : CoreJob) (o : Option ℕ) → slice_get c.jobs place ≡ Some j →
-    reserved_of c.setup.n k ≤ reserved_of c.setup.n j →
-    starts_of k ≤ starts_of j → Reserves c → Reserves (record c { jobs = set c.jobs place k; append = o })
+    reserved_of c.table.version c.setup k ≤ reserved_of c.table.version c.setup j →
+    starts_of c.setup k ≤ starts_of c.setup j → Reserves c → Reserves
+    (record c { jobs = set c.jobs place k; append = o })
 reserves_other c place j k o e r s h =
     let l = slice_get_within c.jobs place j e in
     let g : get_or c.jobs place j ≡ j = get_or_from_slice_get c.jobs place j j e in
     record {
-      room = (let a = sum_by-set (reserved_of c.setup.n) c.jobs place k j l in
-          let b = ap (reserved_of c.setup.n) g in let t = h.room in omega (arith, a, b, r, t));
-      spare = (let a = sum_by-set starts_of c.jobs place k j l in let b = ap starts_of g in let t = h.spare in
+      room = (let a = sum_by-set (reserved_of c.table.version c.setup) c.jobs place k j l in
+          let b = ap (reserved_of c.table.version c.setup) g in let t = h.room in omega (arith, a, b, r, t));
+      spare = (let a = sum_by-set (starts_of c.setup) c.jobs place k j l in let b = ap (starts_of c.setup) g
+          in let t = h.spare in
           omega (arith, a, b, s, t));
     }
 
 -- ---- a job that has made an action needs no more than before
 
--- behind its head, a list has no more gates than as a whole
-pub gates_fewer : (xs : List Action) → gates (drop 1 xs) ≤ gates xs
-gates_fewer [] = omega arith
-gates_fewer (x ∷ xs) = let e = gates-cons x xs in omega (arith, e)
-
-sum_drop : (xs : List ℕ) (a b : ℕ) → a ≤ b → sum (drop b xs) ≤ sum (drop a xs)
-sum_drop xs zero b l = let e = sum_by-take-drop (λ (x : ℕ). x) xs b in omega (arith, e)
-sum_drop [] (suc a) zero l = absurd (omega arith)
-sum_drop [] (suc a) (suc b) l = omega arith
-sum_drop (x ∷ xs) (suc a) zero l = absurd (omega arith)
-sum_drop (x ∷ xs) (suc a) (suc b) l = sum_drop xs a b (omega arith)
-
--- fewer gates need less room
-pub reserved_fewer : (n : ℕ) (j k : CoreJob) → k.wish ≡ j.wish → gates k.rest ≤ gates j.rest →
-    reserved_of n k ≤ reserved_of n j
-reserved_fewer n j k w l = subst (λ (x : Wish). room_behind n x (gates k.rest) ≤ reserved_of n j) (sym w)
-    (sum_drop (sizes_of n j.wish) (length (sizes_of n j.wish) - gates j.rest)
-    (length (sizes_of n j.wish) - gates k.rest) (omega arith))
-
-starts_fewer : (w : Wish) (a b : Bool) → (b ≡ true → a ≡ true) → starts_by w b ≤ starts_by w a
-starts_fewer (wish.Put name size) true true h = omega arith
-starts_fewer (wish.Put name size) true false h = omega arith
-starts_fewer (wish.Put name size) false true h = absurd (false≢true (h refl))
-starts_fewer (wish.Put name size) false false h = omega arith
-starts_fewer w a b h = omega arith
-
--- a job of the same wish that did not go back to its first append has no more PutStarts to write
-pub starts_not_more : (j k : CoreJob) → k.wish ≡ j.wish → (k.opening ≡ true → j.opening ≡ true) →
-    starts_of k ≤ starts_of j
-starts_not_more j k w h = subst (λ (x : Wish). starts_by x k.opening ≤ starts_of j) (sym w)
-    (starts_fewer j.wish j.opening k.opening h)
-
--- a job that makes an action needs no more room than before
-pub moved_room : (n : ℕ) (j : CoreJob) → reserved_of n (stepped j) ≤ reserved_of n j
-moved_room n j = reserved_fewer n j (stepped j) refl (gates_fewer j.rest)
-
--- of two that both hold, the first holds
-pub and_left : (a b : Bool) → (a && b) ≡ true → a ≡ true
-and_left true b h = refl
-and_left false b h = absurd (false≢true h)
-
--- a job that makes an action has no more PutStarts to write than before
-pub moved_starts : (j : CoreJob) → starts_of (stepped j) ≤ starts_of j
-moved_starts j = starts_not_more j (stepped j) refl (and_left j.opening (not (is_gate (slice_get j.rest 0))))
+-- a job of the same aim with as many appends needs the same room and as many PutStarts
+pub same_needs : (s : Setup) (j k : CoreJob) → k.plan.aim ≡ j.plan.aim → appends_in s k ≡ appends_in s j →
+    ((v : ℕ) → reserved_of v s k ≤ reserved_of v s j) × (starts_of s k ≤ starts_of s j)
+same_needs s j k w g =
+    let b = ap (λ (x : Aim). starts_by x (appends_in s k)) w ∙ ap (starts_by j.plan.aim) g in (
+      (λ v. (let a = ap (λ (x : Aim). room_left v s x (appends_in s k)) w ∙ ap (room_left v s j.plan.aim) g in
+          omega (arith, a))),
+      omega (arith, b),
+    )
 
 -- ---- the numbers of jobs
 
@@ -169,7 +137,7 @@ pub less_view : (a : Inside) (v : Vec Job Global) (place : ℕ) (o : Option ℕ)
     ≡ record (view_of a) { jobs = remove (view_of a).jobs place; append = o; barred = b }
 less_view a v place o b e =
     ap (λ (js : List CoreJob). record (view_of a) { jobs = js; append = o; barred = b })
-    (ap (map (core_job a.setup.n)) e ∙ map-remove (core_job a.setup.n) a.jobs.items place)
+    (ap (map (core_job)) e ∙ map-remove (core_job) a.jobs.items place)
 
 -- a core stays one as it is kept without one of its jobs
 pub less_core : (a : Inside) (v : Vec Job Global) (place : ℕ) (d : Job) (o : Option ℕ) (b : Bool) →
@@ -177,47 +145,53 @@ pub less_core : (a : Inside) (v : Vec Job Global) (place : ℕ) (d : Job) (o : O
     IsCore (record a { jobs = v; append = o; barred = b })
 less_core a v place d o b l e h = record {
   set_up = h.set_up;
-  kept = subst (All (IsJobKept a.setup.n)) (sym e)
-      (All-remove (IsJobKept a.setup.n) a.jobs.items place h.kept);
-  few = (let m : length (map (core_job a.setup.n) a.jobs.items) ≡ length a.jobs.items = simp length-map in
+  kept = subst (All (IsJobKept (setup_kept a))) (sym e)
+      (All-remove (IsJobKept (setup_kept a)) a.jobs.items place h.kept);
+  few = (let m : length (map (core_job) a.jobs.items) ≡ length a.jobs.items = simp length-map in
       let r = length-remove a.jobs.items place (omega (arith, l, m)) in let s = ap length e in
       let f = h.few in omega (arith, r, s, f));
   begun = h.begun;
   reserves = subst Reserves (sym (less_view a v place o b e))
-      (reserves_less (view_of a) place (core_job a.setup.n d) o b l h.reserves);
+      (reserves_less (view_of a) place (core_job d) o b l h.reserves);
   numbered = subst (λ (x : CoreView). AreRising 0 x.jobs a.next_job) (sym (less_view a v place o b e))
       (rising_remove 0 (view_of a).jobs a.next_job place h.numbered);
+  lone = subst (λ (x : CoreView). HasLoneUpgrade x.jobs) (sym (less_view a v place o b e))
+      (lone_less (view_of a).jobs place h.lone);
 }
 
 -- ---- a core with another job
 
 -- a contract sees another job at a place where one was put there
 pub other_view : (a : Inside) (v : Vec Job Global) (place : ℕ) (job : Job) (k : CoreJob) (o : Option ℕ) →
-    v.items ≡ set a.jobs.items place job → core_job a.setup.n job ≡ k →
+    v.items ≡ set a.jobs.items place job → core_job job ≡ k →
     view_of (record a { jobs = v; append = o }) ≡ record (view_of a)
     { jobs = set (view_of a).jobs place k; append = o }
 other_view a v place job k o e s = ap (λ (js : List CoreJob). record (view_of a) { jobs = js; append = o })
-    (ap (map (core_job a.setup.n)) e
-    ∙ (map-set (core_job a.setup.n) a.jobs.items place job
-    ∙ ap (set (map (core_job a.setup.n) a.jobs.items) place) s))
+    (ap (map (core_job)) e
+    ∙ (map-set (core_job) a.jobs.items place job
+    ∙ ap (set (map (core_job) a.jobs.items) place) s))
 
 -- a core stays one as it is kept with another job at a place that has its number and needs no more
 pub other_core : (a : Inside) (v : Vec Job Global) (place : ℕ) (job : Job) (j k : CoreJob) (o : Option ℕ) →
-    v.items ≡ set a.jobs.items place job → core_job a.setup.n job ≡ k →
-    slice_get (view_of a).jobs place ≡ Some j → k.number ≡ j.number → IsJobKept a.setup.n job →
-    reserved_of a.setup.n k ≤ reserved_of a.setup.n j → starts_of k ≤ starts_of j →
+    v.items ≡ set a.jobs.items place job → core_job job ≡ k →
+    slice_get (view_of a).jobs place ≡ Some j → k.number ≡ j.number → k.plan.aim ≡ j.plan.aim →
+    IsJobKept (setup_kept a) job →
+    ((n : ℕ) → reserved_of n (setup_kept a) k ≤ reserved_of n (setup_kept a) j) →
+    starts_of (setup_kept a) k ≤ starts_of (setup_kept a) j →
     IsCore a → IsCore (record a { jobs = v; append = o })
-other_core a v place job j k o e s g num kept r t h = record {
+other_core a v place job j k o e s g num aim kept r t h = record {
   set_up = h.set_up;
-  kept = subst (All (IsJobKept a.setup.n)) (sym e)
-      (All-set (IsJobKept a.setup.n) a.jobs.items place job kept h.kept);
+  kept = subst (All (IsJobKept (setup_kept a))) (sym e)
+      (All-set (IsJobKept (setup_kept a)) a.jobs.items place job kept h.kept);
   few = (let r = length-set a.jobs.items place job in let s = ap length e in let f = h.few in
       omega (arith, r, s, f));
   begun = h.begun;
   reserves = subst Reserves (sym (other_view a v place job k o e s))
-      (reserves_other (view_of a) place j k o g r t h.reserves);
+      (reserves_other (view_of a) place j k o g (r a.table.version) t h.reserves);
   numbered = subst (λ (x : CoreView). AreRising 0 x.jobs a.next_job) (sym (other_view a v place job k o e s))
       (rising_set 0 (view_of a).jobs a.next_job place j k g num h.numbered);
+  lone = subst (λ (x : CoreView). HasLoneUpgrade x.jobs) (sym (other_view a v place job k o e s))
+      (lone_set (view_of a).jobs place j k g aim h.lone);
 }
 
 -- ---- the job at a place
@@ -225,11 +199,11 @@ other_core a v place job j k o e s g num kept r t h = record {
 -- the job at a place is seen at that place
 pub seen_at : (a : Inside) (place : ℕ) (job : Job) → place < length (view_of a).jobs →
     job ≡ get_or a.jobs.items place job →
-    slice_get (view_of a).jobs place ≡ Some (core_job a.setup.n job)
+    slice_get (view_of a).jobs place ≡ Some (core_job job)
 seen_at a place job l e =
-    let m : length (map (core_job a.setup.n) a.jobs.items) ≡ length a.jobs.items = simp length-map in
-    slice_get-map (core_job a.setup.n) a.jobs.items place
-    ∙ ap (option_map (core_job a.setup.n))
+    let m : length (map (core_job) a.jobs.items) ≡ length a.jobs.items = simp length-map in
+    slice_get-map (core_job) a.jobs.items place
+    ∙ ap (option_map (core_job))
     (slice_get_read a.jobs.items (length a.jobs.items) place job refl (omega (arith, l, m)) e)
 
 own_is : (o : Option ℕ) (j : CoreJob) → option_eq eqb o (Some j.number) ≡ is_own o (Some j)
@@ -243,8 +217,9 @@ pub freed_is : (c : CoreView) (place : ℕ) (j : CoreJob) (b : Bool) → slice_g
 freed_is c place j b e f = ap (λ (x : Bool). if x then None else c.append)
     (sym f ∙ (own_is c.append j ∙ ap (is_own c.append) (sym e)))
 
--- the calls of a stripe, under another number
-pub renamed_stripe : (k o t : ℕ) (js : List ℕ) → map (λ j. Store j k t) js
-    ≡ map (renamed k) (map (λ j. Store j o t) js)
-renamed_stripe k o t [] = refl
-renamed_stripe k o t (j ∷ js) = ap (λ (xs : List Action). Store j k t ∷ xs) (renamed_stripe k o t js)
+-- the jobs of a core in which one gives way to another
+pub jobs_set : (a : Inside) (c : CoreView) (v : Vec Job Global) (place : ℕ) (job : Job) → view_of a ≡ c →
+    v.items ≡ set a.jobs.items place job → map core_job v.items ≡ set c.jobs place (core_job job)
+jobs_set a c v place job view e = ap (map core_job) e
+    ∙ (map-set core_job a.jobs.items place job
+    ∙ ap (λ (x : CoreView). set x.jobs place (core_job job)) view)

@@ -13,13 +13,14 @@ moves-acts flight (Some a) h = h
 
 -- the same of the job of a number
 pub moves-job : (c : CoreView) (number : ℕ) (j : CoreJob) → job_in c.jobs number ≡ Some j →
-    calls_disk (next_in c number) ≡ true → is_move (action_next c.table j) ≡ true
+    calls_disk (next_in c number) ≡ true → is_move (action_next c.setup c.table j) ≡ true
 moves-job c number j found h =
     by_barred c.barred (subst (λ (o : Option CoreJob). calls_disk (by c.barred o) ≡ true) found h)
   where
     by : Bool → Option CoreJob → Coming
     by barred o = cond barred IsBarred (next_of c o)
 
-    by_barred : (b : Bool) → calls_disk (by b (Some j)) ≡ true → is_move (action_next c.table j) ≡ true
+    by_barred : (b : Bool) → calls_disk (by b (Some j)) ≡ true →
+        is_move (action_next c.setup c.table j) ≡ true
     by_barred true h = (let e : false ≡ true = h in cc)
-    by_barred false h = moves-acts c.append (action_next c.table j) h
+    by_barred false h = moves-acts c.append (action_next c.setup c.table j) h

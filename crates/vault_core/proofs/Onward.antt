@@ -1,8 +1,8 @@
--- A job of a core stands for a job of the machine, before an action and after it.
-use Rattle.std.proofs.Common.{◌≡◌, ℕ, zero, suc, ◌+◌, ◌<◌, Bool, true, false, List, [], ◌∷◌, ◌++◌, Some, length, map, drop, replicate, inl, inr, refl, ap, sym, subst, ◌∙◌, arith}
-use Rattle.std.specs.Prelude.{Option, ◌⊎◌, ◌&&◌, not, nat_lt, slice_get, IsTrue}
+-- The asks of an audit, and the sums of what they gave.
+use Rattle.std.proofs.Common.{◌≡◌, ℕ, zero, suc, ◌+◌, ◌<◌, ◌≤◌, true, false, List, [], ◌∷◌, ◌++◌, Some, length, map, replicate, inl, inr, refl, ap, sym, subst, ◌∙◌, arith}
+use Rattle.std.specs.Prelude.{◌⊎◌, slice_get}
 use Rattle.std.specs.List.{flat_map, range_with_len}
-use Rattle.std.proofs.lemmas.Bool.{le-ltb, false≢true}
+use Rattle.std.proofs.lemmas.Bool.{false≢true}
 use Rattle.algebra_laws.specs.Lists.{Each}
 use Rattle.algebra_laws.proofs.Each.{each_get, each_append}
 use Rattle.code_defs.specs.Points.{upto}
@@ -10,60 +10,12 @@ use Rattle.column_defs.specs.Verdicts.{Sums, Judges}
 use Rattle.column_defs.specs.Challenges.{challenge_of}
 use Rattle.record_defs.specs.Records.{Setup}
 use Rattle.machine_defs.specs.Setups.{profiled, object_of}
-use Rattle.machine_defs.specs.Jobs.{Kind, PutJob, DropJob, AuditJob, Pinned, Given, Job}
-use Rattle.machine_defs.specs.Actions.{Action, WriteBody, SyncBody, WriteGate, SyncGate, Store, Fetch, Ask, Work, Remove, End, append_actions, on_each_provider, rounds_of, ask_actions, actions_of, actions_left}
+use Rattle.machine_defs.specs.Jobs.{AuditJob, Pinned, Given, Job}
+use Rattle.machine_defs.specs.Actions.{Action, WriteBody, SyncBody, WriteGate, SyncGate, Store, Fetch, Ask, Work, Remove, End, append_actions, on_each_provider, rounds_of, ask_actions, actions_of}
 use Rattle.machine_defs.specs.Given.{answers_given}
-use Rattle.machine_defs.specs.States.{State, setup_in}
 use Rattle.machine_defs.specs.Audits.{JudgesRounds, JudgesFiles, HasSums}
-use Rattle.machine_defs.specs.Steps.{next_action}
-use Rattle.machine_defs.proofs.NextActions.{next_stands}
-use Rattle.state_laws.proofs.Orders.{each-ask, put-list, audit-list, put_rest, drop_rest, audit_rest, next-left}
-use Rattle.state_laws.proofs.Gates.{drop-list}
-use Rattle.state_laws.proofs.Going.{onward, actions-onward}
-use Rattle.vault_core.proofs.Alike.{IsAlike, alike}
-use Rattle.vault_core.specs.declared.wish.Wish.{Wish}
-use Rattle.vault_core.specs.declared.wish.Wish.TheVariants as wish
-use Rattle.vault_core.specs.View.{CoreJob}
+use Rattle.state_laws.proofs.Orders.{each-ask, audit-list, audit_rest}
 use Rattle.vault_core.specs.Coming.{asks_next, begins_append}
-use Rattle.vault_core.specs.Carried.{has_asked, IsJobOf}
-use Rattle.vault_core.specs.Fed.{is_gate, stepped}
-use Rattle.vault_core.proofs.Kept.{and_left}
-use Rattle.vault_core.specs.Wished.{is_opener}
-
--- ---- the first append
-
--- the list of a job that has a first append begins with it
-pub opens-list : (s : Setup) (m : Job) (v : Wish) (k : Kind) → m.kind ≡ k → IsAlike v k → is_opener v ≡ true →
-    (rest : List Action) × (actions_of s m ≡ append_actions ++ rest)
-opens-list s m (wish.Put name size) (PutJob called bytes) e h o =
-    (put_rest s m bytes, put-list s m called bytes e)
-opens-list s m (wish.Drop name) (DropJob called) e h o = (drop_rest s m, drop-list s m called e)
-opens-list s m wish.Audit AuditJob e h o = (audit_rest s m, audit-list s m e)
-opens-list s m (wish.Get name) k e h o = absurd (false≢true o)
-opens-list s m wish.Repair k e h o = absurd (false≢true o)
-opens-list s m v k e h o = absurd h
-
-far : (p : ℕ) → nat_lt (suc (suc (suc (suc p)))) 4 ≡ false
-far p = le-ltb (suc (suc (suc (suc p)))) 4 (omega arith)
-
--- an action leaves the first append where it is the fourth move
-gate_step : (rest : List Action) (p : ℕ) (a : Action) → slice_get (append_actions ++ rest) p ≡ Some a →
-    (nat_lt p 4 && not (is_gate (Some a))) ≡ nat_lt (p + 1) 4
-gate_step rest zero a e = ap (λ (o : Option Action). nat_lt 0 4 && not (is_gate o)) (sym e)
-gate_step rest (suc zero) a e = ap (λ (o : Option Action). nat_lt 1 4 && not (is_gate o)) (sym e)
-gate_step rest (suc (suc zero)) a e = ap (λ (o : Option Action). nat_lt 2 4 && not (is_gate o)) (sym e)
-gate_step rest (suc (suc (suc zero))) a e = ap (λ (o : Option Action). nat_lt 3 4 && not (is_gate o)) (sym e)
-gate_step rest (suc (suc (suc (suc p)))) a e = ap (λ (b : Bool). b && not (is_gate (Some a))) (far p)
-    ∙ sym (le-ltb (suc (suc (suc (suc p))) + 1) 4 (omega arith))
-
--- no ask stands in a first append
-pub ask_behind : (rest : List Action) (p j o t : ℕ) →
-    slice_get (append_actions ++ rest) p ≡ Some (Ask j o t) → nat_lt p 4 ≡ false
-ask_behind rest zero j o t e = let f : Some WriteBody ≡ Some (Ask j o t) = e in cc
-ask_behind rest (suc zero) j o t e = let f : Some SyncBody ≡ Some (Ask j o t) = e in cc
-ask_behind rest (suc (suc zero)) j o t e = let f : Some WriteGate ≡ Some (Ask j o t) = e in cc
-ask_behind rest (suc (suc (suc zero))) j o t e = let f : Some SyncGate ≡ Some (Ask j o t) = e in cc
-ask_behind rest (suc (suc (suc (suc p)))) j o t e = far p
 
 -- ---- the sums of an audit
 
@@ -211,53 +163,29 @@ audit-action s m a kind e = each_get IsAudits (append_actions ++ audit_rest s m)
     (tt, (tt, (tt, (tt, (tt, tt)))))))
     (ap (λ (xs : List Action). slice_get xs m.place) (sym (audit-list s m kind)) ∙ e)
 
--- ---- a job that has made a plain action
+-- an audit's list begins with an append: what stands at a place of it is a move, or the audit is past it
+pub past-first : (s : Setup) (m : Job) (a : Action) → m.kind ≡ AuditJob →
+    slice_get (actions_of s m) m.place ≡ Some a → (a ≡ SyncGate → ⊥) → 4 ≤ m.place + 1 → 4 ≤ m.place
+past-first s m a kind e n l =
+    by m.place (ap (λ (xs : List Action). slice_get xs m.place) (sym (audit-list s m kind)) ∙ e) l
+  where
+    by : (p : ℕ) → slice_get (append_actions ++ audit_rest s m) p ≡ Some a → 4 ≤ p + 1 → 4 ≤ p
+    by zero f h = absurd (omega (arith, h))
+    by (suc zero) f h = absurd (omega (arith, h))
+    by (suc (suc zero)) f h = absurd (omega (arith, h))
+    by (suc (suc (suc zero))) f h = absurd (n (let g : Some SyncGate ≡ Some a = f in let r :
+        SyncGate ≡ a = cc in sym r))
+    by (suc (suc (suc (suc p)))) f h = omega arith
 
-module _ (w : State) (c : CoreJob) (m : Job) (a : Action) (is : IsJobOf (setup_in w) c m)
-    (next : next_action w m ≡ Some a) (on : a ≡ End → ⊥) where
-  -- a job of a core has before it the machine's next action and all behind it
-  pub left-here : c.rest ≡ a ∷ drop (m.place + 1) (actions_of (setup_in w) m)
-  left-here = is.rest ∙ next-left w m a next on
-
-  -- the first action that a job of a core has not yet made is the machine's next
-  pub head-here : slice_get c.rest 0 ≡ Some a
-  head-here = ap (λ (xs : List Action). slice_get xs 0) left-here
-
-  -- what a job of a core has behind its next action is what the machine's has one action on
-  pub rest-on : (given : List Given) → drop 1 c.rest ≡ actions_left (setup_in w) (onward m m.subject given)
-  rest-on given = ap (drop 1) left-here ∙ ap (drop (m.place + 1)) (sym (actions-onward (setup_in w) m given))
-
-  -- a job of a core leaves its first append when the machine's does
-  pub opening-on : (c.opening && not (is_gate (slice_get c.rest 0)))
-      ≡ (is_opener c.wish && nat_lt (m.place + 1) 4)
-  opening-on =
-      ap (λ (b : Bool). b && not (is_gate (slice_get c.rest 0))) is.opening
-      ∙ (ap (λ (o : Option Action). (is_opener c.wish && nat_lt m.place 4) && not (is_gate o)) head-here
-      ∙ by (is_opener c.wish) refl)
-    where
-      by : (b : Bool) → is_opener c.wish ≡ b →
-          ((is_opener c.wish && nat_lt m.place 4) && not (is_gate (Some a)))
-          ≡ (is_opener c.wish && nat_lt (m.place + 1) 4)
-      by false e = ap (λ (x : Bool). (x && nat_lt m.place 4) && not (is_gate (Some a))) e
-          ∙ sym (ap (λ (x : Bool). x && nat_lt (m.place + 1) 4) e)
-      by true e = (let l = opens-list (setup_in w) m c.wish m.kind refl (alike c.wish m.kind is.kind) e in
-          ap (λ (x : Bool). (x && nat_lt m.place 4) && not (is_gate (Some a))) e
-          ∙ (gate_step l.0 m.place a (ap (λ (xs : List Action). slice_get xs m.place) (sym l.1)
-          ∙ next_stands w m a next on)
-          ∙ sym (ap (λ (x : Bool). x && nat_lt (m.place + 1) 4) e)))
-
-  -- both one action on, a job of a core still stands for the machine's
-  pub on-moved : (given : List Given) →
-      (IsTrue (has_asked (stepped c)) → HasSums (setup_in w) (onward m m.subject given) c.sums) →
-      IsJobOf (setup_in w) (stepped c) (onward m m.subject given)
-  on-moved given sums = record {
-    number = is.number;
-    kind = is.kind;
-    pinned = is.pinned;
-    flagged = is.flagged;
-    subject = is.subject;
-    opening = opening-on;
-    rest = rest-on given;
-    unjudged = λ o. is.unjudged (and_left c.opening (not (is_gate (slice_get c.rest 0))) o);
-    sums = sums;
-  }
+-- no ask stands in an audit's first append
+pub no-ask-first : (s : Setup) (m : Job) (j o t : ℕ) → m.kind ≡ AuditJob → m.place < 4 →
+    slice_get (actions_of s m) m.place ≡ Some (Ask j o t) → ⊥
+no-ask-first s m j o t kind l e =
+    by m.place l (ap (λ (xs : List Action). slice_get xs m.place) (sym (audit-list s m kind)) ∙ e)
+  where
+    by : (p : ℕ) → p < 4 → slice_get (append_actions ++ audit_rest s m) p ≡ Some (Ask j o t) → ⊥
+    by zero h f = (let g : Some WriteBody ≡ Some (Ask j o t) = f in cc)
+    by (suc zero) h f = (let g : Some SyncBody ≡ Some (Ask j o t) = f in cc)
+    by (suc (suc zero)) h f = (let g : Some WriteGate ≡ Some (Ask j o t) = f in cc)
+    by (suc (suc (suc zero))) h f = (let g : Some SyncGate ≡ Some (Ask j o t) = f in cc)
+    by (suc (suc (suc (suc p)))) h f = omega (arith, h)

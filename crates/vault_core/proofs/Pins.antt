@@ -1,24 +1,26 @@
 -- How a new job is made, piece by piece.
-use Rattle.std.proofs.Common.{◌≡◌, ℕ, zero, suc, ◌+◌, ◌-◌, ◌<◌, ◌≤◌, Bool, true, false, List, [], ◌∷◌, ◌++◌, Some, length, take, drop, get_or, inl, inr, refl, ap, sym, subst, ◌∙◌, arith}
+use Rattle.std.proofs.Common.{◌≡◌, ℕ, zero, suc, ◌+◌, ◌-◌, ◌<◌, ◌≤◌, Bool, true, false, List, [], ◌∷◌, ◌++◌, Option, Some, length, take, drop, min, get_or, inl, inr, refl, ap, sym, subst, ◌∙◌, arith}
 use Rattle.std.specs.Prelude.{nat_lt, ◌==◌, replicate, slice_get, if◌then◌else◌}
-use Rattle.std.proofs.lemmas.Bool.{cases_Bool}
+use Rattle.std.proofs.lemmas.Bool.{cases_Bool, cases_lt, le-ltb}
 use Rattle.std.proofs.lemmas.Bool.Decides.{nat_tests}
 use Rattle.algebra_laws.proofs.Lists.{drop-get, get_or-zeros}
 use Rattle.record_defs.specs.Records.{Setup}
 use Rattle.record_defs.specs.Table.{File}
-use Rattle.machine_defs.specs.Setups.{stripes_of}
+use Rattle.code_defs.specs.Profiles.{profile_of}
+use Rattle.std.proofs.lemmas.List.{length-take-le}
 use Rattle.record_codec.specs.declared.counts.Counts.{Counts}
 use Rattle.record_codec.specs.Entries.{counted, IsPadded}
 use Rattle.vault_core.specs.declared.pinned.Pinned.{Pinned}
 use Rattle.vault_core.specs.declared.wish.Wish.{Wish}
 use Rattle.vault_core.specs.declared.wish.Wish.TheVariants as wish
 use Rattle.vault_core.specs.declared.job.Task.{Task}
-use Rattle.vault_core.specs.View.{flag_at}
+use Rattle.vault_core.specs.View.{core_pins, flag_at}
 use Rattle.vault_table.specs.Values.{Kept}
 use Rattle.machine_defs.specs.Begins.{due_number, pin_by, pin_each}
 use Rattle.vault_core.specs.Parts.{is_rewriter}
 use Rattle.vault_core.specs.Rest.{rewrites_from}
-use Rattle.vault_core.specs.Making.{pin_of_file, turns_for, tasks_made, targets_of, subject_for, core_pins}
+use Rattle.vault_core.specs.Making.{pin_of_file, subject_for}
+use Rattle.vault_core.specs.Targets.{stripes_in, turns_for, tasks_made, targets_of}
 use Rattle.vault_core.proofs.Rests.{rewrites_take, rewrites_skip}
 
 -- ---- flags
@@ -48,38 +50,81 @@ pub rewrites-unflagged : (j n : ℕ) (fl : List Bool) → j < n → flag_at fl j
     length (rewrites_from j n fl 0 0) ≡ length (rewrites_from (j + 1) n fl 0 0)
 rewrites-unflagged j n fl l f = ap length (rewrites_skip j n fl 0 0 l f)
 
+flag_past : (fl : List Bool) (j : ℕ) → length fl ≤ j → flag_at fl j ≡ false
+flag_past [] zero l = refl
+flag_past [] (suc j) l = refl
+flag_past (x ∷ fl) zero l = absurd (omega arith)
+flag_past (x ∷ fl) (suc j) l = flag_past fl j (omega arith)
+
+read_past : (xs : List ℕ) (j : ℕ) → length xs ≤ j → get_or xs j 0 ≡ 0
+read_past [] zero l = refl
+read_past [] (suc j) l = refl
+read_past (x ∷ xs) zero l = absurd (omega arith)
+read_past (x ∷ xs) (suc j) l = read_past xs j (omega arith)
+
+-- so is one that there is not
+pub flags_all : (counts : Counts) (tolerance : ℕ) (fl : List Bool) → IsPadded counts → length fl ≡ 16 →
+    ((k : ℕ) → k < 16 → flag_at fl k ≡ nat_lt tolerance (get_or counts.by k 0)) → (j : ℕ) →
+    flag_at fl j ≡ nat_lt tolerance (get_or (counted counts) j 0)
+flags_all counts tolerance fl padded long h j = elim (cases_lt j 16) [
+  | inl l ↦ flags_read counts tolerance j (flag_at fl j) padded (h j l)
+  | inr l ↦ (let few : length (counted counts) ≤ 16 =
+      (let e = length-take-le counts.n counts.by
+      (subst (λ (k : ℕ). counts.n ≤ k) (sym padded.room) padded.at_most) in let m = padded.at_most in
+      omega (arith, e, m)) in
+      flag_past fl j (omega (arith, long, l))
+      ∙ sym (ap (nat_lt tolerance) (read_past (counted counts) j (omega (arith, few, l)))
+      ∙ le-ltb tolerance 0 (omega arith)))
+]
+
+-- where none is due, no provider is flagged
+pub flags_none : (k j : ℕ) → flag_at (replicate k false) j ≡ false
+flags_none zero zero = refl
+flags_none zero (suc j) = refl
+flags_none (suc k) zero = refl
+flags_none (suc k) (suc j) = flags_none k j
+
 -- ---- turns
 
 -- an audit works on an empty file not at all
-pub turns_zero : (s : Setup) (w : Wish) (size k : ℕ) → w ≡ wish.Audit → k ≡ stripes_of s size → k ≡ 0 →
-    0 ≡ turns_for s w size
-turns_zero s w size k e h z =
-    subst (λ (v : Wish). 0 ≡ turns_for s v size) (sym e) (none (stripes_of s size) (sym h ∙ z))
+pub turns_zero : (s : Setup) (w : Wish) (f : Pinned) (k : ℕ) → w ≡ wish.Audit → k ≡ stripes_in s f → k ≡ 0 →
+    0 ≡ turns_for s w f
+turns_zero s w f k e h z =
+    subst (λ (v : Wish). 0 ≡ turns_for s v f) (sym e) (none (stripes_in s f) (sym h ∙ z))
   where
     none : (m : ℕ) → m ≡ 0 → 0 ≡ (if m == 0 then 0 else s.rounds)
     none m f = rw (f) refl
 
 -- an audit works on a file with stripes once in each round
-pub turns_some : (s : Setup) (w : Wish) (size k : ℕ) → w ≡ wish.Audit → k ≡ stripes_of s size → (k ≡ 0 → ⊥) →
-    s.rounds ≡ turns_for s w size
-turns_some s w size k e h z =
-    subst (λ (v : Wish). s.rounds ≡ turns_for s v size) (sym e) (some (stripes_of s size) (λ f. z (h ∙ f)))
+pub turns_some : (s : Setup) (w : Wish) (f : Pinned) (k : ℕ) → w ≡ wish.Audit → k ≡ stripes_in s f →
+    (k ≡ 0 → ⊥) → s.rounds ≡ turns_for s w f
+turns_some s w f k e h z =
+    subst (λ (v : Wish). s.rounds ≡ turns_for s v f) (sym e) (some (stripes_in s f) (λ g. z (h ∙ g)))
   where
     some : (m : ℕ) → (m ≡ 0 → ⊥) → s.rounds ≡ (if m == 0 then 0 else s.rounds)
     some m f = grind (arith, nat_tests, f)
 
 -- all but an audit work on each stripe of a file once
-pub turns_other : (s : Setup) (w : Wish) (size k : ℕ) → (w ≡ wish.Audit → ⊥) → k ≡ stripes_of s size →
-    k ≡ turns_for s w size
-turns_other s wish.Audit size k f h = absurd (f refl)
-turns_other s w size k f h = h
+pub turns_other : (s : Setup) (w : Wish) (f : Pinned) (k : ℕ) → (w ≡ wish.Audit → ⊥) → k ≡ stripes_in s f →
+    k ≡ turns_for s w f
+turns_other s wish.Audit f k n h = absurd (n refl)
+turns_other s w f k n h = h
+
+-- a number above the last profile's is that of the last one
+pub profile_capped : (p : ℕ) → profile_of (min p 4) ≡ profile_of p
+profile_capped zero = refl
+profile_capped (suc zero) = refl
+profile_capped (suc (suc zero)) = refl
+profile_capped (suc (suc (suc zero))) = refl
+profile_capped (suc (suc (suc (suc more)))) =
+    ap profile_of (let e : min (suc (suc (suc (suc more)))) 4 ≡ 4 = omega arith in e)
 
 -- ---- tasks
 
-tasks-append : (f : ℕ → ℕ) (xs ys : List Pinned) →
+tasks-append : (f : Pinned → ℕ) (xs ys : List Pinned) →
     tasks_made f (xs ++ ys) ≡ tasks_made f xs ++ tasks_made f ys
 tasks-append f [] ys = refl
-tasks-append f (x ∷ xs) ys = elim (cases_Bool (nat_lt 0 (f x.length))) [
+tasks-append f (x ∷ xs) ys = elim (cases_Bool (nat_lt 0 (f x))) [
   | inl t ↦ rw (t, tasks-append f xs ys) refl
   | inr e ↦ rw (e, tasks-append f xs ys) refl
 ]
@@ -91,7 +136,7 @@ take_next (x ∷ xs) zero d l = refl
 take_next (x ∷ xs) (suc i) d l = ap (λ (ys : List Pinned). x ∷ ys) (take_next xs i d (omega arith))
 
 -- the tasks of one file more are those of the files before it, and its own
-pub tasks_more : (f : ℕ → ℕ) (files : List Pinned) (i : ℕ) (d : Pinned) (old new : List Task) →
+pub tasks_more : (f : Pinned → ℕ) (files : List Pinned) (i : ℕ) (d : Pinned) (old new : List Task) →
     i < length files → old ≡ tasks_made f (take i files) →
     new ≡ old ++ tasks_made f (get_or files i d ∷ []) → new ≡ tasks_made f (take (i + 1) files)
 tasks_more f files i d old new l o e = e
@@ -108,10 +153,11 @@ take_over (x ∷ xs) zero l = absurd (omega arith)
 take_over (x ∷ xs) (suc i) l = ap (λ (ys : List Pinned). x ∷ ys) (take_over xs i (omega arith))
 
 -- all but a put work on the files that they pin
-pub targets_other : (w : Wish) (pins : List Pinned) →
-    ((name : List ℕ) (size : ℕ) → w ≡ wish.Put name size → ⊥) → pins ≡ targets_of w pins
-targets_other (wish.Put name size) pins h = absurd (h name size refl)
-targets_other w pins h = refl
+pub targets_other : (w : Wish) (profile : ℕ) (pins : List Pinned) →
+    ((name : List ℕ) (size : ℕ) (own : Option ℕ) → w ≡ wish.Put name size own → ⊥) →
+    pins ≡ targets_of w profile 0 pins
+targets_other (wish.Put name size own) profile pins h = absurd (h name size own refl)
+targets_other w profile pins h = refl
 
 -- ---- pinned files
 

@@ -1,7 +1,8 @@
 -- Why no job begins: what a core sees is what the machine sees.
-use Rattle.std.proofs.Common.{◌≡◌, ℕ, suc, ◌+◌, ◌<◌, ◌≤◌, Bool, true, false, not, ◌&&◌, ◌||◌, List, [], ◌∷◌, Option, Some, None, ◌-◌, min, length, map, drop, inl, inr, refl, ap, sym, subst, ◌∙◌, arith}
-use Rattle.std.specs.Prelude.{nat_lt, nat_le, nat_eq, is_some, sum, sum_by, count_by, if◌then◌else◌}
-use Rattle.std.specs.List.{list_any, AllZip}
+use Rattle.std.proofs.Common.{◌≡◌, ℕ, suc, ◌+◌, ◌<◌, ◌≤◌, ◌^◌, Bool, true, false, not, ◌&&◌, ◌||◌, List, [], ◌∷◌, Option, Some, None, min, length, map, inl, inr, refl, ap, sym, subst, ◌∙◌, arith}
+use Rattle.std.specs.Prelude.{◌==◌, nat_lt, nat_le, nat_eq, is_some, sum, sum_by, if◌then◌else◌}
+use Rattle.std.specs.List.{All, list_any, AllZip}
+use Rattle.std.proofs.lemmas.List.Elements.{All-head, All-tail}
 use Rattle.std.specs.Cmp.Lexicographic.{pointwise}
 use Rattle.std.specs.Option.{option_map}
 use Rattle.std.proofs.lemmas.Bool.{cases_Bool, lt-ltb, ltb-true, lt-leb}
@@ -9,19 +10,17 @@ use Rattle.std.proofs.Math.Bool.{or-false}
 use Rattle.std.proofs.lemmas.Bool.Decides.{nat_tests}
 use Rattle.std.proofs.lemmas.List.{length-map}
 use Rattle.std.proofs.lemmas.List.Sums.{sum_by-cons}
-use Rattle.record_defs.specs.Records.{Setup, largest_file, largest_journal, most_files}
+use Rattle.record_defs.specs.Records.{Setup, largest_file, largest_journal, most_files, all_profiles}
 use Rattle.record_defs.specs.Table.{File, is_same_name, find_file}
-use Rattle.machine_defs.specs.Jobs.{Aim, ToPut, ToGet, ToDrop, ToAudit, ToRepair, aim_of}
+use Rattle.machine_defs.specs.Jobs.{Aim, ToPut, ToGet, ToDrop, ToAudit, ToRepair, ToUpgrade}
 use Rattle.machine_defs.specs.Jobs.{Job as MachineJob}
-use Rattle.machine_defs.specs.Actions.{Action, ends_append}
 use Rattle.machine_defs.specs.Refusals as refusal
-use Rattle.machine_defs.specs.Refusals.{first_refusal}
+use Rattle.machine_defs.specs.Refusals.{Refusal, first_refusal}
 use Rattle.machine_defs.specs.States.{State, Alone, setup_in}
 use Rattle.machine_defs.specs.Space.{append_sizes, room_left, reserved}
 use Rattle.machine_defs.specs.Sights.{Sight, sight_of, aims_of, room_used, is_put_or_check, is_check, is_upgrade, is_shut, are_jobs_in_the_way, is_busy, is_name_among, with_name, is_crowded_for, is_stored, is_full, is_too_full, are_numbers_used_up, causes}
 use Rattle.state_laws.proofs.NamesTaken.{listed-with_puts, listed-files, length-names_in}
 use Rattle.state_laws.proofs.NamesTaken.{puts_name as machine_puts}
-use Rattle.state_laws.proofs.Written.{end-first}
 use Rattle.vault_core.specs.declared.wish.Wish.{Wish}
 use Rattle.vault_core.specs.declared.wish.Wish.TheVariants as wish
 use Rattle.vault_core.specs.declared.wish.BeginFault.{BeginFault}
@@ -29,27 +28,35 @@ use Rattle.vault_core.specs.declared.wish.BeginFault.TheVariants as fault
 use Rattle.vault_core.specs.declared.job.Job.{Job}
 use Rattle.vault_core.specs.declared.own.Core.TheInside.{Inside}
 use Rattle.vault_core.specs.View.{CoreJob, CoreView}
-use Rattle.vault_core.proofs.Standing.{refused_early}
-use Rattle.vault_core.specs.Wished.{aim_of_wish, HasName, IsShort}
-use Rattle.vault_core.specs.Parts.{core_job, view_of}
-use Rattle.vault_core.specs.Reserves.{sizes_of, reserved_of}
+use Rattle.vault_core.proofs.Pairs.{pair_length}
+use Rattle.vault_core.proofs.Places.{any-map}
+use Rattle.vault_core.specs.Wished.{aim_of_wish, profile_named, HasName, IsShort}
+use Rattle.vault_core.specs.Parts.{setup_kept, core_job, view_of, IsJobKept, IsCore}
+use Rattle.vault_core.specs.Reserves.{sizes_of, room_behind, reserved_of}
 use Rattle.vault_core.specs.Carried.{IsJobOf, CoreIs, refusal_of}
+use Rattle.vault_core.proofs.Links.{appends-is}
 use Rattle.vault_core.specs.Refusing.{aims_in, sight_in, aims_kept, puts_name, taken_names, or_full, refusal_in}
 
 -- ---- lists of jobs, as they are kept and as they are seen
 
-aims-seen : (n : ℕ) (js : List Job) → aims_in (map (core_job n) js) ≡ aims_kept js
-aims-seen n [] = refl
-aims-seen n (j ∷ js) = ap (λ (aims : List Aim). aim_of_wish j.wish ∷ aims) (aims-seen n js)
+aims-seen : (js : List Job) → aims_in (map core_job js) ≡ aims_kept js
+aims-seen [] = refl
+aims-seen (j ∷ js) = ap (λ (aims : List Aim). aim_of_wish j.wish ∷ aims) (aims-seen js)
 
-sum-seen : (n : ℕ) (js : List Job) → sum_by (reserved_of n) (map (core_job n) js)
-    ≡ sum_by (λ (j : Job). reserved_of n (core_job n j)) js
-sum-seen n [] = refl
-sum-seen n (j ∷ js) =
-    let a = sum_by-cons (reserved_of n) (core_job n j) (map (core_job n) js) in
-    let b = sum_by-cons (λ (i : Job). reserved_of n (core_job n i)) j js in
-    let i = sum-seen n js in
-    omega (arith, a, b, i)
+room-seen : (i : ℕ) (s : Setup) (w : Wish) (k : ℕ) → room_behind i s.n w k ≡ room_left i s (aim_of_wish w) k
+room-seen i s (wish.Put name size own) k = refl
+room-seen i s w k = refl
+
+sum-seen : (v : ℕ) (s : Setup) (js : List Job) → All (IsJobKept s) js →
+    sum_by (reserved_of v s) (map core_job js) ≡ sum_by (λ (j : Job). room_behind v s.n j.wish j.appends) js
+sum-seen v s [] h = refl
+sum-seen v s (j ∷ js) h =
+    let a = sum_by-cons (reserved_of v s) (core_job j) (map core_job js) in
+    let b = sum_by-cons (λ (i : Job). room_behind v s.n i.wish i.appends) j js in
+    let i = sum-seen v s js (All-tail (IsJobKept s) j js h) in
+    let k = (All-head (IsJobKept s) j js h).appends in
+    let r = room-seen v s j.wish j.appends ∙ ap (room_left v s (aim_of_wish j.wish)) k in
+    omega (arith, a, b, i, r)
 
 -- ---- names
 
@@ -81,11 +88,11 @@ found-some f None e = ap is_some e
 found-some f (Some x) e = ap is_some e
 
 -- a put adds its name, unless it is taken
-pub more-put : (files : List File) (aims : List Aim) (w : Wish) (name : List ℕ) (size : ℕ) (b : Bool) →
-    w ≡ wish.Put name size → b ≡ is_name_among (taken_names files aims) name →
+pub more-put : (files : List File) (aims : List Aim) (w : Wish) (name : List ℕ) (size : ℕ) (own : Option ℕ)
+    (b : Bool) → w ≡ wish.Put name size own → b ≡ is_name_among (taken_names files aims) name →
     length (taken_names files (aim_of_wish w ∷ aims))
     ≡ (if not b then 1 else 0) + length (taken_names files aims)
-more-put files aims w name size b e h =
+more-put files aims w name size own b e h =
     subst (λ (v : Wish). length (taken_names files (aim_of_wish v ∷ aims))
     ≡ (if not b then 1 else 0) + length (taken_names files aims)) (sym e) (by b h)
   where
@@ -100,9 +107,9 @@ more-put files aims w name size b e h =
 
 -- no other job adds one
 pub more-other : (files : List File) (aims : List Aim) (w : Wish) →
-    ((name : List ℕ) (size : ℕ) → w ≡ wish.Put name size → ⊥) →
+    ((name : List ℕ) (size : ℕ) (own : Option ℕ) → w ≡ wish.Put name size own → ⊥) →
     length (taken_names files (aim_of_wish w ∷ aims)) ≡ 0 + length (taken_names files aims)
-more-other files aims (wish.Put name size) h = absurd (h name size refl)
+more-other files aims (wish.Put name size own) h = absurd (h name size own refl)
 more-other files aims w h = omega arith
 
 -- with no job, the names taken are those of the files
@@ -111,19 +118,11 @@ none-more files = length-names_in files
 
 -- ---- a core's own tests
 
-no_upgrade : (w : Wish) → is_upgrade (aim_of_wish w) ≡ false
-no_upgrade (wish.Put name size) = refl
-no_upgrade w = refl
-
--- nothing keeps every job from beginning
-unshut : (js : List CoreJob) → list_any is_upgrade (aims_in js) ≡ false
-unshut [] = refl
-unshut (j ∷ js) = ap (λ (b : Bool). b || list_any is_upgrade (aims_in js)) (no_upgrade j.wish) ∙ unshut js
-
 -- jobs leave no place for one of this aim beside them
 abbrev pub are_in_the_way : List Aim → Aim → Bool
 are_in_the_way aims ToAudit = list_any is_put_or_check aims
 are_in_the_way aims ToRepair = list_any is_check aims
+are_in_the_way aims ToUpgrade = nat_lt 0 (length aims)
 are_in_the_way aims aim = false
 
 -- jobs are in the way where eight run or one of them is
@@ -131,35 +130,58 @@ pub way : (aims : List Aim) (w : Wish) → are_jobs_in_the_way 8 aims (aim_of_wi
     ≡ (nat_le 8 (length aims) || are_in_the_way aims (aim_of_wish w))
 way aims wish.Audit = refl
 way aims wish.Repair = refl
+way aims wish.Upgrade = some_or (length aims)
+  where
+    some_or : (n : ℕ) → nat_lt 0 n ≡ (nat_le 8 n || nat_lt 0 n)
+    some_or n = grind (arith, nat_tests)
 way aims w = sym (or-false (nat_le 8 (length aims)))
+
+-- an upgrade is among jobs as they are kept
+abbrev pub has_upgrade : Inside → Bool
+has_upgrade a = list_any is_upgrade (aims_kept a.jobs.items)
+
+-- so it is seen by a test of the jobs
+pub upgrade_seen : (a : Inside) (js : List Job) (b : Bool) → b ≡ list_any
+    (λ (j : Job). is_upgrade (aim_of_wish j.wish)) js →
+    js ≡ a.jobs.items → has_upgrade a ≡ b
+upgrade_seen a js b h e = sym (h ∙ (any-map (λ (j : Job). aim_of_wish j.wish) is_upgrade js
+    ∙ ap (λ (xs : List Job). list_any is_upgrade (aims_kept xs)) e))
 
 -- a core is busy by its own jobs when a contract sees it so
 pub busy : (a : Inside) (v : CoreView) (w : Wish) (b : Bool) → view_of a ≡ v →
-    b ≡ (nat_le 8 (length a.jobs.items) || are_in_the_way (aims_kept a.jobs.items) (aim_of_wish w)) →
+    b ≡ (has_upgrade a || (nat_le 8 (length a.jobs.items)
+    || are_in_the_way (aims_kept a.jobs.items) (aim_of_wish w))) →
     b ≡ is_busy 8 (sight_in v) (aim_of_wish w)
 busy a v w b e h = subst (λ (c : CoreView). b ≡ is_busy 8 (sight_in c) (aim_of_wish w)) e
-    (h ∙ (ap (λ (k : ℕ). nat_le 8 k || are_in_the_way (aims_kept a.jobs.items) (aim_of_wish w))
+    (h ∙ (ap (λ (t : Bool). has_upgrade a || t)
+    (ap (λ (k : ℕ). nat_le 8 k || are_in_the_way (aims_kept a.jobs.items) (aim_of_wish w))
     (sym (length-map a.jobs.items (λ (j : Job). aim_of_wish j.wish)))
-    ∙ (sym (way (aims_kept a.jobs.items) w)
-    ∙ (ap (λ (aims : List Aim). are_jobs_in_the_way 8 aims (aim_of_wish w))
-    (sym (aims-seen a.setup.n a.jobs.items))
-    ∙ ap (λ (t : Bool). t || are_jobs_in_the_way 8 (aims_in (view_of a).jobs) (aim_of_wish w))
-    (sym (unshut (view_of a).jobs))))))
+    ∙ sym (way (aims_kept a.jobs.items) w))
+    ∙ ap (λ (aims : List Aim). list_any is_upgrade aims || are_jobs_in_the_way 8 aims (aim_of_wish w))
+    (sym (aims-seen a.jobs.items))))
 
--- the same where fewer than eight run
-pub beside : (a : Inside) (v : CoreView) (w : Wish) (b : Bool) → view_of a ≡ v → length a.jobs.items < 8 →
+-- the same where no upgrade runs, and fewer than eight jobs
+pub beside : (a : Inside) (v : CoreView) (w : Wish) (b : Bool) → view_of a ≡ v → has_upgrade a ≡ false →
+    length a.jobs.items < 8 →
     b ≡ are_in_the_way (aims_kept a.jobs.items) (aim_of_wish w) → b ≡ is_busy 8 (sight_in v) (aim_of_wish w)
-beside a v w b e l h =
+beside a v w b e none l h =
     busy a v w b e (h ∙ sym
-    (ap (λ (t : Bool). t || are_in_the_way (aims_kept a.jobs.items) (aim_of_wish w))
+    (ap (λ (t : Bool). t || (nat_le 8 (length a.jobs.items)
+    || are_in_the_way (aims_kept a.jobs.items) (aim_of_wish w))) none
+    ∙ ap (λ (t : Bool). t || are_in_the_way (aims_kept a.jobs.items) (aim_of_wish w))
     (lt-leb 8 (length a.jobs.items) l)))
 
--- no job is in the way of a wish that is neither an audit nor a repair
+-- some jobs are as many as one at least
+pub some_jobs : (n : ℕ) → not (n == 0) ≡ nat_lt 0 n
+some_jobs n = grind (arith, nat_tests)
+
+-- no job is in the way of a wish that is no audit, no repair and no upgrade
 pub none-beside : (aims : List Aim) (w : Wish) → (w ≡ wish.Audit → ⊥) → (w ≡ wish.Repair → ⊥) →
-    false ≡ are_in_the_way aims (aim_of_wish w)
-none-beside aims wish.Audit a r = absurd (a refl)
-none-beside aims wish.Repair a r = absurd (r refl)
-none-beside aims w a r = refl
+    (w ≡ wish.Upgrade → ⊥) → false ≡ are_in_the_way aims (aim_of_wish w)
+none-beside aims wish.Audit a r u = absurd (a refl)
+none-beside aims wish.Repair a r u = absurd (r refl)
+none-beside aims wish.Upgrade a r u = absurd (u refl)
+none-beside aims w a r u = refl
 
 -- a core has no room for a name by its own count when a contract sees it so
 pub crowded : (a : Inside) (v : CoreView) (name : List ℕ) (taken : Bool) (count : ℕ) → view_of a ≡ v →
@@ -171,7 +193,7 @@ crowded a v name taken count e h k =
     (subst (λ (aims : List Aim). (nat_le 1024 count && not taken)
     ≡ (nat_le most_files (length (taken_names a.table.files aims)) && not
     (is_name_among (taken_names a.table.files aims) name)))
-    (sym (aims-seen a.setup.n a.jobs.items)) (rw (h, k) refl))
+    (sym (aims-seen a.jobs.items)) (rw (h, k) refl))
 
 -- the count of the files and of the names beside them is at its limit when the names taken are
 pub names-along : (a : Inside) (js : List Job) (files beside count : ℕ) →
@@ -193,9 +215,9 @@ pub few_false : (count : ℕ) (taken : Bool) → count < 1024 →
 few_false count taken l = let f : nat_le 1024 count ≡ false = grind (arith, nat_tests, l) in rw (f) refl
 
 -- the sizes of records hang on the number of providers alone
-sizes-by : (s : Setup) (w : Wish) → append_sizes 1 s (aim_of_wish w) ≡ sizes_of s.n w
-sizes-by s (wish.Put name size) = refl
-sizes-by s w = refl
+sizes-by : (i : ℕ) (s : Setup) (w : Wish) → append_sizes i s (aim_of_wish w) ≡ sizes_of i s.n w
+sizes-by i s (wish.Put name size own) = refl
+sizes-by i s w = refl
 
 full-cases : (x : Sight) (w : Wish) → ((name : List ℕ) → w ≡ wish.Get name → ⊥) →
     is_full x (aim_of_wish w) ≡ (is_too_full x (aim_of_wish w) || are_numbers_used_up x (aim_of_wish w))
@@ -205,19 +227,21 @@ full-cases x w h = refl
 -- the room of a job behind that of those that run, and whether its number comes too near the last one
 pub full : (a : Inside) (v : CoreView) (w : Wish) (room size : ℕ) (used : Bool) → view_of a ≡ v →
     ((name : List ℕ) → w ≡ wish.Get name → ⊥) →
-    room ≡ sum_by (λ (j : Job). reserved_of a.setup.n (core_job a.setup.n j)) a.jobs.items →
-    size ≡ sum (sizes_of a.setup.n w) →
+    IsCore a → room ≡ sum_by (λ (j : Job). room_behind a.table.version a.setup.n j.wish j.appends)
+    a.jobs.items →
+    size ≡ sum (sizes_of a.table.version a.setup.n w) →
     used ≡ (nat_lt largest_journal (a.end + room + size) || are_numbers_used_up (sight_in (view_of a))
     (aim_of_wish w)) → used ≡ is_full (sight_in v) (aim_of_wish w)
-full a v w room size used e get r z h =
+full a v w room size used e get core r z h =
     subst (λ (c : CoreView). used ≡ is_full (sight_in c) (aim_of_wish w)) e
     (h ∙ (ap (λ (k : ℕ). nat_lt largest_journal k || are_numbers_used_up (sight_in (view_of a))
     (aim_of_wish w)) all ∙ sym (full-cases (sight_in (view_of a)) w get)))
   where
     all : (a.end + room + size)
-        ≡ ((sight_in (view_of a)).used + sum (append_sizes 1 (sight_in (view_of a)).setup (aim_of_wish w)))
-    all = (let k = sum-seen a.setup.n a.jobs.items in
-        let m = ap (λ (xs : List ℕ). sum xs) (sizes-by (sight_in (view_of a)).setup w) in
+        ≡ ((sight_in (view_of a)).used + sum (append_sizes a.table.version (sight_in (view_of a)).setup
+        (aim_of_wish w)))
+    all = (let k = sum-seen a.table.version (setup_kept a) a.jobs.items core.kept in
+        let m = ap (λ (xs : List ℕ). sum xs) (sizes-by a.table.version (sight_in (view_of a)).setup w) in
         omega (arith, k, r, z, m))
 
 -- a journal that would grow beyond its largest size is full, whatever the numbers
@@ -235,9 +259,10 @@ under k u b l h = h ∙ ap (λ (t : Bool). t || u) (sym not_over)
     ]
 
 -- no numbers are used up for a wish that is neither a put nor an audit
-pub used-none : (x : Sight) (w : Wish) → ((name : List ℕ) (size : ℕ) → w ≡ wish.Put name size → ⊥) →
+pub used-none : (x : Sight) (w : Wish) → ((name : List ℕ) (size : ℕ) (own : Option ℕ) →
+    w ≡ wish.Put name size own → ⊥) →
     (w ≡ wish.Audit → ⊥) → false ≡ are_numbers_used_up x (aim_of_wish w)
-used-none x (wish.Put name size) p a = absurd (p name size refl)
+used-none x (wish.Put name size own) p a = absurd (p name size own refl)
 used-none x wish.Audit p a = absurd (a refl)
 used-none x w p a = refl
 
@@ -248,29 +273,19 @@ aims-same : (s : Setup) (cs : List CoreJob) (js : List MachineJob) → AllZip (I
 aims-same s [] [] is = refl
 aims-same s [] (j ∷ js) is = absurd is
 aims-same s (c ∷ cs) [] is = absurd is
-aims-same s (c ∷ cs) (j ∷ js) is = ap (λ (aim : Aim). aim ∷ aims_in cs) is.0.kind
-    ∙ ap (λ (aims : List Aim). aim_of j.kind ∷ aims) (aims-same s cs js is.1)
+aims-same s (c ∷ cs) (j ∷ js) is = λ i. (is.0.plan i).aim ∷ aims-same s cs js is.1 i
 
-reserved-same : (s : Setup) (c : CoreJob) (j : MachineJob) → IsJobOf s c j →
-    reserved_of s.n c ≡ reserved 1 s j
-reserved-same s c j is =
-    ap (λ (xs : List ℕ). sum (drop (length xs - k) xs)) (sym (sizes-by s c.wish))
-    ∙ (ap (λ (aim : Aim). room_left 1 s aim k) is.kind
-    ∙ ap (λ (xs : List Action). room_left 1 s (aim_of j.kind) (count_by ends_append xs)) is.rest)
-  where
-    k : ℕ
-    k = count_by ends_append c.rest
-
-room-jobs : (s : Setup) (cs : List CoreJob) (js : List MachineJob) → AllZip (IsJobOf s) cs js →
-    sum_by (reserved_of s.n) cs ≡ sum_by (reserved 1 s) js
-room-jobs s [] [] is = refl
-room-jobs s [] (j ∷ js) is = absurd is
-room-jobs s (c ∷ cs) [] is = absurd is
-room-jobs s (c ∷ cs) (j ∷ js) is =
-    let a = sum_by-cons (reserved_of s.n) c cs in
-    let b = sum_by-cons (reserved 1 s) j js in
-    let e = reserved-same s c j is.0 in
-    let i = room-jobs s cs js is.1 in
+room-jobs : (v : ℕ) (s : Setup) (cs : List CoreJob) (js : List MachineJob) → AllZip (IsJobOf s) cs js →
+    sum_by (reserved_of v s) cs ≡ sum_by (reserved v s) js
+room-jobs v s [] [] is = refl
+room-jobs v s [] (j ∷ js) is = absurd is
+room-jobs v s (c ∷ cs) [] is = absurd is
+room-jobs v s (c ∷ cs) (j ∷ js) is =
+    let a = sum_by-cons (reserved_of v s) c cs in
+    let b = sum_by-cons (reserved v s) j js in
+    let e : reserved_of v s c ≡ reserved v s j = λ i. room_left v s (is.0.plan i).aim
+    (appends-is s c j is.0 i) in
+    let i = room-jobs v s cs js is.1 in
     omega (arith, a, b, e, i)
 
 -- a core and a state that it stands for look the same to a begin
@@ -281,41 +296,42 @@ sight-same c w is = λ i. record {
   aims = aims-same c.setup c.jobs w.jobs is.jobs i;
   files = is.table.files i;
   due = is.table.due i;
-  version = sym is.first i;
+  version = is.table.version i;
   setup = is.setup i;
   used = used i;
   next_id = is.table.id i;
   next_audit = is.table.audit i;
 }
   where
-    used : (c.end + sum_by (reserved_of c.setup.n) c.jobs) ≡ room_used w
-    used = (let a = is.end ∙ sym (end-first 8 w is.sound is.first) in
-        let b = room-jobs c.setup c.jobs w.jobs is.jobs
-        ∙ (ap (λ (t : Setup). sum_by (reserved 1 t) w.jobs) is.setup
-        ∙ ap (λ (i : ℕ). sum_by (reserved i (setup_in w)) w.jobs) (sym is.first)) in
+    used : (c.end + sum_by (reserved_of c.table.version c.setup) c.jobs) ≡ room_used w
+    used = (let a = is.end in
+        let b = room-jobs c.table.version c.setup c.jobs w.jobs is.jobs
+        ∙ (ap (λ (t : Setup). sum_by (reserved c.table.version t) w.jobs) is.setup
+        ∙ ap (λ (i : ℕ). sum_by (reserved i (setup_in w)) w.jobs) is.table.version) in
         omega (arith, a, b))
 
--- nothing keeps every job from beginning
-unshut-state : (c : CoreView) (w : State) → CoreIs c w → is_shut (sight_of w) ≡ false
-unshut-state c w is = ap is_shut (sym (sight-same c w is)) ∙ unshut c.jobs
+-- whether a begin is refused before its words are looked at, by what a core keeps
+abbrev pub refused_early : Bool → Bool → ℕ → Option Refusal
+refused_early barred upgrade running =
+    if barred then Some refusal.MustReopen
+    else (if upgrade || nat_le 8 running then Some refusal.Busy else None)
 
 -- what refuses a begin before all else is the same in a core and in the machine
-pub early_shut : (c : CoreView) (w : State) → CoreIs c w → refused_early w.is_barred (length w.jobs)
-    ≡ first_refusal (record {
-      applies = w.is_barred;
-      refusal = refusal.MustReopen;
-    } ∷ record {
-      applies = is_shut (sight_of w) || nat_le 8 (length w.jobs);
-      refusal = refusal.Busy;
-    } ∷ [])
-early_shut c w is = ap
-    (λ (b : Bool). first_refusal
-    (record { applies = w.is_barred; refusal = refusal.MustReopen } ∷ record {
-      applies =
-          b || nat_le 8 (length w.jobs);
-      refusal = refusal.Busy;
-    } ∷ []))
-    (sym (unshut-state c w is))
+pub early : (a : Inside) (c : CoreView) (w : State) → view_of a ≡ c → CoreIs c w →
+    refused_early a.barred (has_upgrade a) (length a.jobs.items)
+    ≡ refused_early w.is_barred (is_shut (sight_of w)) (length w.jobs)
+early a c w v is = λ i. refused_early (bar i) (up i) (count i)
+  where
+    bar : a.barred ≡ w.is_barred
+    bar = ap (λ (x : CoreView). x.barred) v ∙ is.barred
+
+    up : has_upgrade a ≡ is_shut (sight_of w)
+    up = sym (ap (list_any is_upgrade) (aims-seen a.jobs.items))
+        ∙ (ap (λ (x : CoreView). list_any is_upgrade (aims_in x.jobs)) v ∙ ap is_shut (sight-same c w is))
+
+    count : length a.jobs.items ≡ length w.jobs
+    count = sym (length-map a.jobs.items core_job)
+        ∙ (ap (λ (x : CoreView). length x.jobs) v ∙ pair_length c.setup c.jobs w.jobs is.jobs)
 
 -- ---- the causes of a refusal, in order
 
@@ -336,18 +352,49 @@ order false false true f why = refl
 order false false false true why = refl
 order false false false false why = refl
 
+-- a put that names a profile may be refused for it
+orders : (b u t o m f : Bool) →
+    option_map refusal_of
+    (if b then Some fault.MustReopen
+    else (if u then Some fault.Busy
+    else or_full (if t then Some fault.BadProfile
+    else (if o then Some fault.OldVersion else (if m then Some fault.TooManyFiles else None))) f))
+    ≡ first_refusal (record { applies = b; refusal = refusal.MustReopen } ∷ record {
+      applies = u;
+      refusal = refusal.Busy;
+    } ∷ record { applies = t; refusal = refusal.BadProfile } ∷ record {
+      applies = o;
+      refusal = refusal.OldVersion;
+    } ∷ record { applies = m; refusal = refusal.TooManyFiles } ∷ record {
+      applies = f;
+      refusal = refusal.JournalFull;
+    } ∷ [])
+orders true u t o m f = refl
+orders false true t o m f = refl
+orders false false true o m f = refl
+orders false false false true m f = refl
+orders false false false false true f = refl
+orders false false false false false true = refl
+orders false false false false false false = refl
+
+not_long : (size : ℕ) → size ≤ 2 ^ 22 → nat_lt largest_file size ≡ false
+not_long size short = elim (cases_Bool (nat_lt largest_file size)) [
+  | inl t ↦ absurd (let x = ltb-true largest_file size t in omega (arith, x, short))
+  | inr f ↦ f
+]
+
 -- the causes that a core looks at are those of the machine: a name is one, and a put is not too long
 pub refusal-sight : (c : CoreView) (w : Wish) → HasName w → IsShort w →
-    option_map refusal_of (refusal_in c w) ≡ first_refusal (causes 8 (sight_in c) (aim_of_wish w) None)
-refusal-sight c (wish.Put name size) named short =
+    option_map refusal_of (refusal_in c w) ≡ first_refusal (causes 8 (sight_in c) (aim_of_wish w)
+    (profile_named w))
+refusal-sight c (wish.Put name size None) named short =
     order c.barred (is_busy 8 (sight_in c) (ToPut name size)) (is_crowded_for (sight_in c) name)
-    (is_full (sight_in c) (ToPut name size)) fault.TooManyFiles ∙ rw (named, not_long) refl
-  where
-    not_long : nat_lt largest_file size ≡ false
-    not_long = elim (cases_Bool (nat_lt largest_file size)) [
-      | inl t ↦ absurd (let x = ltb-true largest_file size t in omega (arith, x, short))
-      | inr f ↦ f
-    ]
+    (is_full (sight_in c) (ToPut name size)) fault.TooManyFiles ∙ rw (named, not_long size short) refl
+refusal-sight c (wish.Put name size (Some own)) named short =
+    orders c.barred (is_busy 8 (sight_in c) (ToPut name size)) (nat_le all_profiles own)
+    (c.table.version == 1)
+    (is_crowded_for (sight_in c) name) (is_full (sight_in c) (ToPut name size))
+    ∙ rw (named, not_long size short) refl
 refusal-sight c (wish.Get name) named short = order c.barred (is_busy 8 (sight_in c) (ToGet name))
     (not (is_stored (sight_in c) name)) false fault.NoSuchName ∙ rw (named) refl
 refusal-sight c (wish.Drop name) named short = order c.barred (is_busy 8 (sight_in c) (ToDrop name))
@@ -357,3 +404,5 @@ refusal-sight c wish.Audit named short = order c.barred (is_busy 8 (sight_in c) 
     (is_full (sight_in c) ToAudit) fault.RepairDue
 refusal-sight c wish.Repair named short = order c.barred (is_busy 8 (sight_in c) ToRepair)
     (not (is_some c.table.due)) (is_full (sight_in c) ToRepair) fault.NothingDue
+refusal-sight c wish.Upgrade named short = order c.barred (is_busy 8 (sight_in c) ToUpgrade)
+    (c.table.version == 2) (is_full (sight_in c) ToUpgrade) fault.NewVersion

@@ -30,11 +30,12 @@ numbers_none a b l = let e : b - a ≡ 0 = omega arith in ap (range_with_len a) 
 -- what a store, an ask and a fetch each have, a call has
 pub by_call : (P : Action → Type 0) (w : Wish) (o t j : ℕ) → P (Store j o t) → P (Ask j o t) →
     P (Fetch j o t) → P (call_of w o t j)
-by_call P (wish.Put name size) o t j stores asks fetches = stores
+by_call P (wish.Put name size own) o t j stores asks fetches = stores
 by_call P (wish.Get name) o t j stores asks fetches = fetches
 by_call P (wish.Drop name) o t j stores asks fetches = fetches
 by_call P wish.Audit o t j stores asks fetches = asks
 by_call P wish.Repair o t j stores asks fetches = fetches
+by_call P wish.Upgrade o t j stores asks fetches = fetches
 
 -- the calls from a provider on start with that provider's
 pub calls_here : (j n : ℕ) (w : Wish) (o t : ℕ) → j < n →
@@ -305,9 +306,10 @@ work_shift : (n : ℕ) (w : Wish) (fl : List Bool) (o t : ℕ) (more : List Acti
     drop 1 (work_of n w fl o t ++ more) ≡ drop 1 (work_of n w fl o t) ++ more
 work_shift n (wish.Get name) fl o t more h = refl
 work_shift n wish.Repair fl o t more h = refl
-work_shift n (wish.Put name size) fl o t more h = cc
+work_shift n (wish.Put name size own) fl o t more h = cc
 work_shift n (wish.Drop name) fl o t more h = cc
 work_shift n wish.Audit fl o t more h = cc
+work_shift n wish.Upgrade fl o t more h = cc
 
 -- behind the work on a stripe come the stores of a repair, and what is beyond
 pub rest_working : (n : ℕ) (job : Job) (spot : Spot) → job.cursor ≡ at.Working spot →
@@ -418,11 +420,13 @@ worked n job spot c repair works h = at_along n job c _ _
 -- a wish that rewrites stripes calls providers
 pub rewriter_calls : (w : Wish) → is_rewriter w ≡ true → is_caller w ≡ true
 rewriter_calls (wish.Drop name) h = cc
+rewriter_calls wish.Upgrade h = cc
 rewriter_calls w h = refl
 
 -- a wish that works on stripes calls providers
 pub worker_calls : (w : Wish) → is_worker w ≡ true → is_caller w ≡ true
 worker_calls (wish.Drop name) h = cc
+worker_calls wish.Upgrade h = cc
 worker_calls w h = refl
 
 -- ---- the object of a put's own file

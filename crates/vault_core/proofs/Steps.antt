@@ -1,54 +1,54 @@
 -- A core after a step of a job, and the state of the machine that it stands for then.
-use Rattle.std.proofs.Common.{◌≡◌, ℕ, zero, suc, ◌+◌, ◌<◌, ◌^◌, Bool, true, false, List, [], ◌∷◌, Some, None, map, drop, set, inl, inr, refl, ap, sym, subst, ◌∙◌, arith}
-use Rattle.std.specs.Prelude.{Option, ◌⊎◌, if◌then◌else◌, ◌&&◌, not, slice_get, remove}
+use Rattle.std.proofs.Common.{◌≡◌, ℕ, ◌+◌, ◌<◌, ◌≤◌, ◌^◌, Bool, true, false, cond, List, [], ◌∷◌, Some, None, set, inl, inr, refl, ap, sym, subst, ◌∙◌, arith}
+use Rattle.std.specs.Prelude.{is_some, ◌==◌, Option, ◌⊎◌, if◌then◌else◌, ◌&&◌, not, slice_get, remove}
 use Rattle.std.specs.List.{AllZip}
 use Rattle.std.proofs.lemmas.Bool.{eq-eqb, ne_eqb, false≢true}
-use Rattle.std.proofs.Math.Bool.{and-false, and-true}
-use Rattle.record_defs.specs.Records.{Record, Setup, PutStart, PutDone, Drop, AuditStart, AuditDone, RepairDone, record_size}
-use Rattle.record_defs.specs.Journal.{text_size}
-use Rattle.record_defs.specs.Table.{setup_of, version_of}
+use Rattle.column_defs.specs.Verdicts.{Sums}
+use Rattle.record_defs.specs.Records.{Record, Setup, PutStart, PutDone, PutDoneIn, Drop, AuditStart, AuditDone, RepairDone, Version, record_size}
+use Rattle.record_defs.specs.Areas.{end_in}
+use Rattle.record_defs.specs.Table.{setup_of}
 use Rattle.record_defs.specs.Acceptance.{refused}
-use Rattle.machine_defs.specs.Jobs.{AuditJob, Given, Fetched, Answered, Worked, Job, job_of, with_job, without_job}
-use Rattle.machine_defs.specs.Actions.{Action, WriteBody, SyncBody, WriteGate, SyncGate, Store, Fetch, Ask, Work, Remove, End, actions_of, actions_left}
+use Rattle.machine_defs.specs.Jobs.{Kind, PutJob, GetJob, DropJob, AuditJob, RepairJob, UpgradeJob, Aim, ToPut, ToGet, ToDrop, ToAudit, ToRepair, ToUpgrade, Given, Fetched, Answered, Worked, Job, job_of, with_job, without_job}
+use Rattle.machine_defs.specs.Actions.{Action, WriteBody, SyncBody, WriteGate, SyncGate, Store, Fetch, Ask, Work, Remove, End, ends_append, actions_of, actions_left, appends_left}
 use Rattle.machine_defs.specs.Answers.{Answer, Lost, ProviderFault, DiskFault, Memory}
 use Rattle.machine_defs.specs.Events.{Outcome, More, Ended, Step}
-use Rattle.machine_defs.specs.States.{State, Append, Alone, setup_in, going_on, ended, with_provider}
+use Rattle.machine_defs.specs.States.{State, Append, Alone, setup_in, journal_end, file_in, going_on, ended, with_provider}
 use Rattle.device_defs.specs.Providers.{Provider}
 use Rattle.machine_defs.specs.Audits.{HasSums}
-use Rattle.machine_defs.specs.Appends.{Moves, subject_drawn, taken_out, begun_append, done_append}
-use Rattle.machine_defs.specs.Steps.{Acts, Steps, StepsOpen, StepsOne, StepsJob, StepsOn, ActsOrWaits, next_action, holder_of}
+use Rattle.machine_defs.specs.Appends.{Moves, subject_drawn, taken_out, begun_append, done_append, done_record}
+use Rattle.machine_defs.specs.Steps.{Acts, Steps, StepsOpen, StepsOne, StepsJob, StepsOn, ActsOrWaits, is_idle_drop, next_action, holder_of}
 use Rattle.machine_defs.specs.Machine.{Happens}
 use Rattle.machine_defs.proofs.JobLists.{number_of, found_itself, same_value}
 use Rattle.machine_defs.proofs.PinFacts.{setup_same}
 use Rattle.state_laws.specs.Sound.{IsSound}
 use Rattle.state_laws.specs.SoundJobs.{IsSoundJob}
-use Rattle.state_laws.specs.Orders.{moves_made, IsInOrder}
+use Rattle.state_laws.specs.Orders.{moves_before, moves_made, IsInOrder}
+use Rattle.state_laws.proofs.Orders.{get-drop, moves-first}
 use Rattle.state_laws.proofs.Events.{events-sound}
 use Rattle.state_laws.proofs.Going.{onward}
 use Rattle.state_laws.proofs.JobLists.{mine}
 use Rattle.state_laws.proofs.Written.{setup-providers}
-use Rattle.state_laws.proofs.Gates.{decided}
+use Rattle.state_laws.proofs.Gates.{decided, drop-list}
 use Rattle.record_codec.specs.declared.counts.Counts.{Counts}
 use Rattle.record_codec.specs.Entries.{counted}
 use Rattle.vault_table.specs.Values.{Kept, IsFoldOf, id_after}
 use Rattle.machine_defs.proofs.NextActions.{next_stands}
 use Rattle.vault_core.specs.declared.action.Action.{Action as ActionValue}
 use Rattle.vault_core.specs.declared.action.Action.TheVariants as act
-use Rattle.vault_core.specs.declared.wish.Wish.{Wish}
-use Rattle.vault_core.specs.declared.wish.Wish.TheVariants as wish
 use Rattle.vault_core.specs.declared.reply.Reply.{Reply}
-use Rattle.vault_core.specs.View.{CoreJob, CoreView, job_in}
-use Rattle.vault_core.specs.Coming.{Acts as ActsNext, seen_action, HasReply, is_last_ask_of, is_gone, begins_append, is_idle, action_next, is_move, asks_next, is_last_ask, written_by, entry_of_job, entry_of_found, entry_in}
+use Rattle.vault_core.specs.View.{CoreJob, CoreView, planned, rest_in, appends_in, job_in}
+use Rattle.vault_core.specs.Coming.{Acts as ActsNext, seen_action, HasReply, is_last_ask_of, begins_append, action_next, is_move, asks_next, is_last_ask, written_as, written_by, written_of, written_in, entry_of_job, entry_of_found, entry_in}
 use Rattle.vault_core.specs.Carried.{IsJobOf, IsCoreFlight, CoreIs}
-use Rattle.vault_core.specs.Fed.{is_own, freed, stopped, barred_at, with_at, stepped, judged, is_gate, goes_plainly, number_drawn, renamed, all_renamed, drawn, gated, HasGated}
+use Rattle.vault_core.specs.Fed.{is_own, freed, stopped, barred_at, with_at, stepped, judged, goes_plainly, number_as, number_drawn, drawn, gated, HasGated}
 use Rattle.vault_core.specs.declared.reply.Reply.TheVariants as reply
 use Rattle.vault_core.specs.Replies.{IsEndAnswer, Tells}
 use Rattle.vault_core.proofs.Pairs.{IsFirst, pair_some, pair_with, pair_without, in_set_same, in_set_other, in_remove_other}
 use Rattle.vault_core.proofs.Standing.{acts_comes, comes_next, same_job, in_append}
-use Rattle.vault_core.proofs.Judging.{sums-on, on-judged}
-use Rattle.vault_core.proofs.Onward.{audit-action, on-moved, head-here, left-here}
-use Rattle.vault_core.proofs.Taking.{on-drawn}
-use Rattle.vault_core.proofs.Closing.{on-gated}
+use Rattle.vault_core.proofs.Judging.{sums-on, on-moved, on-judged, on-drawn, on-gated}
+use Rattle.vault_core.proofs.Onward.{audit-action}
+use Rattle.vault_core.proofs.Links.{head-here, appends-is, drawn-appends}
+use Rattle.vault_core.proofs.Counts.{gates, gates_behind}
+use Rattle.vault_core.proofs.Goes.{drop_one}
 use Rattle.vault_core.proofs.Falls.{StepHere}
 
 -- ---- the machine's side of a step
@@ -70,7 +70,7 @@ pub record OnMachine (c : CoreView) (w new : State) (k place : ℕ) (cj : CoreJo
   pub called : cj.number ≡ k
   pub here : slice_get c.jobs place ≡ Some cj
   pub first : IsFirst c.jobs k place
-  pub comes : action_next c.table cj ≡ Some action
+  pub comes : action_next c.setup c.table cj ≡ Some action
 
 -- a step that a core has a reply for is a step of the machine's job of that number
 pub on_machine : (c : CoreView) (w new : State) (k place : ℕ) (r : Reply) (action : Action)
@@ -116,6 +116,7 @@ on_machine c w new k place r action outcome moment s is l h =
 pub record Stays (w new : State) : Type 0 where
   pub is_open : new.is_open ≡ w.is_open
   pub records : new.records ≡ w.records
+  pub end : journal_end new ≡ journal_end w
   pub next_job : new.next_job ≡ w.next_job
   pub alone : new.alone ≡ w.alone
 
@@ -130,11 +131,10 @@ set_stands c w new k place cj m flight is sound first stays bar js number job fl
     record {
       sound = sound;
       is_open = stays.is_open ∙ is.is_open;
-      first = ap version_of stays.records ∙ is.first;
       none_alone = stays.alone ∙ is.none_alone;
       table = subst (λ (rs : List Record). IsFoldOf rs c.table) (sym stays.records) is.table;
       setup = is.setup ∙ sym setup;
-      end = is.end ∙ ap text_size (sym stays.records);
+      end = is.end ∙ sym stays.end;
       jobs = subst (AllZip (IsJobOf c.setup) (set c.jobs place cj)) (sym js)
           (pair_with c.setup c.jobs w.jobs k place cj m is.jobs first number
           (same_job (setup_in w) c.setup cj m (sym is.setup) job));
@@ -154,11 +154,10 @@ remove_stands c w new k place flight b is sound first stays bar js fl =
     record {
       sound = sound;
       is_open = stays.is_open ∙ is.is_open;
-      first = ap version_of stays.records ∙ is.first;
       none_alone = stays.alone ∙ is.none_alone;
       table = subst (λ (rs : List Record). IsFoldOf rs c.table) (sym stays.records) is.table;
       setup = is.setup ∙ sym setup;
-      end = is.end ∙ ap text_size (sym stays.records);
+      end = is.end ∙ sym stays.end;
       jobs = subst (AllZip (IsJobOf c.setup) (remove c.jobs place)) (sym js)
           (pair_without c.setup c.jobs w.jobs k place 0 w.next_job is.jobs first is.sound.numbered);
       next_job = is.next_job ∙ sym stays.next_job;
@@ -168,40 +167,90 @@ remove_stands c w new k place flight b is sound first stays bar js fl =
 
 -- ---- the append in flight
 
-module _ (c : CoreView) (w : State) (k place : ℕ) (cj : CoreJob) (is : CoreIs c w)
-    (first : IsFirst c.jobs k place) (here : slice_get c.jobs place ≡ Some cj)
-    (runs : job_in c.jobs k ≡ Some cj) (called : cj.number ≡ k) where
-  -- it is not that of a job that makes another action
-  not_own : (a : Append) → IsCoreFlight c (Some a) → is_move (action_next c.table cj) ≡ false → a.job ≡ k → ⊥
-  not_own a f still own =
-      let g : entry_in c k ≡ Some a.entry = subst (λ (n : ℕ). entry_in c n ≡ Some a.entry) own f.1 in
-      let h : entry_of_job c.table cj ≡ Some a.entry = sym (ap (entry_of_found c.table) runs) ∙ g in
-      false≢true (sym still ∙ (in_append c.table cj a.entry h).0)
+-- an action before which a move of an append is made is a move of one
+after_move : (a : Action) → 0 < moves_before a → is_move (Some a) ≡ true
+after_move SyncBody l = refl
+after_move WriteGate l = refl
+after_move SyncGate l = refl
+after_move a l = absurd (omega (arith, l))
 
-  flight_on : is_move (action_next c.table cj) ≡ false → (x : CoreJob) → x.number ≡ k →
+-- the job whose append is in flight has a move of it next
+pub flight-moves : (c : CoreView) (w : State) (j : CoreJob) (m : Job) (a : Append) → CoreIs c w →
+    IsJobOf (setup_in w) j m → job_of w.jobs a.job ≡ Some m → w.append ≡ Some a →
+    is_move (next_action w m) ≡ true
+flight-moves c w j m a is of runs e =
+    let s = is.sound.append a e in
+    let order : IsInOrder (moves_made w.append a.job) (actions_left (setup_in w) m) =
+    (is.sound.jobs a.job m runs).order in
+    let made : moves_made w.append a.job ≡ a.moves = ap (λ (f : Option Append). moves_made f a.job) e
+    ∙ mine a a.job refl in
+    let begun = s.begun in
+    by_left (actions_left (setup_in w) m) refl
+    (subst (λ (n : ℕ). IsInOrder n (actions_left (setup_in w) m)) made order) begun
+  where
+    by_left : (xs : List Action) → actions_left (setup_in w) m ≡ xs → IsInOrder a.moves xs → 1 ≤ a.moves →
+        is_move (next_action w m) ≡ true
+    by_left [] f o l = absurd o
+    by_left (x ∷ xs) f o l =
+        (let before = moves-first a.moves x xs o in
+        let moves : is_move (Some x) ≡ true = after_move x (omega (arith, before, l)) in
+        let stands : slice_get (actions_of (setup_in w) m) m.place ≡ Some x =
+        sym (get-drop (actions_of (setup_in w) m) m.place) ∙ ap (λ (ys : List Action). slice_get ys 0) f in
+        ap is_move (busy x stands (omega (arith, before, l)) m.kind refl) ∙ moves)
+      where
+        -- a drop that has begun its append is not idle
+        busy : (y : Action) → slice_get (actions_of (setup_in w) m) m.place ≡ Some y → 0 < moves_before y →
+            (k : Kind) → m.kind ≡ k → next_action w m ≡ Some y
+        busy y g n (DropJob name) k = ap (λ (b : Bool). if b then Some End
+            else slice_get (actions_of (setup_in w) m) m.place)
+            (ap (is_idle_drop w m) k ∙ ap (λ (b : Bool). b && not (is_some (file_in w name)))
+            (ne_eqb m.place 0 (λ z. absurd (let r : Some WriteBody ≡ Some y =
+            sym (ap (λ (p : ℕ). slice_get (actions_of (setup_in w) m) p) z
+            ∙ ap (λ (ys : List Action). slice_get ys 0) (drop-list (setup_in w) m name k)) ∙ g in
+            let q : WriteBody ≡ y = cc in let u = ap moves_before q in omega (arith, n, u))))) ∙ g
+        busy y g n (PutJob name bytes) k = ap (λ (b : Bool). if b then Some End
+            else slice_get (actions_of (setup_in w) m) m.place) (ap (is_idle_drop w m) k) ∙ g
+        busy y g n (GetJob name) k = ap (λ (b : Bool). if b then Some End
+            else slice_get (actions_of (setup_in w) m) m.place) (ap (is_idle_drop w m) k) ∙ g
+        busy y g n AuditJob k = ap (λ (b : Bool). if b then Some End
+            else slice_get (actions_of (setup_in w) m) m.place) (ap (is_idle_drop w m) k) ∙ g
+        busy y g n RepairJob k = ap (λ (b : Bool). if b then Some End
+            else slice_get (actions_of (setup_in w) m) m.place) (ap (is_idle_drop w m) k) ∙ g
+        busy y g n UpgradeJob k = ap (λ (b : Bool). if b then Some End
+            else slice_get (actions_of (setup_in w) m) m.place) (ap (is_idle_drop w m) k) ∙ g
+
+module _ (c : CoreView) (w : State) (k place : ℕ) (cj : CoreJob) (m : Job) (is : CoreIs c w)
+    (first : IsFirst c.jobs k place) (here : slice_get c.jobs place ≡ Some cj)
+    (called : cj.number ≡ k) (of : IsJobOf (setup_in w) cj m) (runs : job_of w.jobs k ≡ Some m) where
+  -- it is not that of a job that makes another action
+  not_own : (a : Append) → w.append ≡ Some a → is_move (next_action w m) ≡ false → a.job ≡ k → ⊥
+  not_own a e still own = false≢true (sym still ∙ flight-moves c w cj m a is of
+      (ap (job_of w.jobs) own ∙ runs) e)
+
+  flight_on : is_move (next_action w m) ≡ false → (x : CoreJob) → x.number ≡ k →
       IsCoreFlight (with_at c place x) w.append
-  flight_on still x n = by w.append is.append
+  flight_on still x n = by w.append refl is.append
     where
-      by : (o : Option Append) → IsCoreFlight c o → IsCoreFlight (with_at c place x) o
-      by None f = f
-      by (Some a) f = (
+      by : (o : Option Append) → w.append ≡ o → IsCoreFlight c o → IsCoreFlight (with_at c place x) o
+      by None e f = f
+      by (Some a) e f = (
         f.0,
-        ap (entry_of_found c.table)
-            (in_set_other c.jobs k place a.job x first n (not_own a f still)) ∙ f.1,
+        ap (written_of c.setup c.table)
+            (in_set_other c.jobs k place a.job x first n (not_own a e still)) ∙ f.1,
       )
 
-  flight_off : is_move (action_next c.table cj) ≡ false → IsCoreFlight (stopped c place) w.append
-  flight_off still = by w.append is.append
+  flight_off : is_move (next_action w m) ≡ false → IsCoreFlight (stopped c place) w.append
+  flight_off still = by w.append refl is.append
     where
-      by : (o : Option Append) → IsCoreFlight c o → IsCoreFlight (stopped c place) o
-      by None f = ap (λ (x : Option ℕ). if is_own x (slice_get c.jobs place) then None else x) f
-      by (Some a) f =
-          (let other = not_own a f still in (
+      by : (o : Option Append) → w.append ≡ o → IsCoreFlight c o → IsCoreFlight (stopped c place) o
+      by None e f = ap (λ (x : Option ℕ). if is_own x (slice_get c.jobs place) then None else x) f
+      by (Some a) e f =
+          (let other = not_own a e still in (
             ap (λ (x : Option ℕ). if is_own x (slice_get c.jobs place) then None else x) f.0
                 ∙ (ap (λ (x : Option CoreJob). if is_own (Some a.job) x then None else Some a.job) here
                 ∙ ap (λ (b : Bool). if b then None else Some a.job)
                 (ne_eqb a.job cj.number (λ e. other (e ∙ called)))),
-            ap (entry_of_found c.table) (in_remove_other c.jobs k place a.job first other) ∙ f.1,
+            ap (written_of c.setup c.table) (in_remove_other c.jobs k place a.job first other) ∙ f.1,
           ))
 
   -- no append is in flight after one that was its own, or none
@@ -223,8 +272,8 @@ core_none c o f e = subst (IsCoreFlight c) e f
 
 module _ (c : CoreView) (w new : State) (k place : ℕ) (cj : CoreJob) (a : Action) (outcome : Outcome)
     (o : OnMachine c w new k place cj a outcome) where
-  still : is_move (Some a) ≡ false → is_move (action_next c.table cj) ≡ false
-  still h = ap is_move o.comes ∙ h
+  still : is_move (Some a) ≡ false → is_move (next_action w o.job) ≡ false
+  still h = ap is_move o.next ∙ h
 
   off_arm : (p : ℕ → Provider) → is_move (Some a) ≡ false → new ≡ record (ended w o.job) { providers = p } →
       CoreIs (stopped c place) new
@@ -233,13 +282,14 @@ module _ (c : CoreView) (w new : State) (k place : ℕ) (cj : CoreJob) (a : Acti
       (record {
         is_open = ap (λ (s : State). s.is_open) e;
         records = ap (λ (s : State). s.records) e;
+        end = ap journal_end e;
         next_job = ap (λ (s : State). s.next_job) e;
         alone = ap (λ (s : State). s.alone) e;
       })
       (o.stands.barred ∙ sym (ap (λ (s : State). s.is_barred) e))
       (ap (λ (s : State). s.jobs) e ∙ ap (without_job w.jobs) o.number)
       (subst (IsCoreFlight (stopped c place)) (sym (ap (λ (s : State). s.append) e))
-      (flight_off c w k place cj o.stands o.first o.here o.runs o.called (still h)))
+      (flight_off c w k place cj o.job o.stands o.first o.here o.called o.is o.found (still h)))
 
   on_arm : (p : ℕ → Provider) (x : CoreJob) (m : Job) → x.number ≡ k → m.number ≡ k →
       is_move (Some a) ≡ false → new ≡ record (going_on w m) { providers = p } → IsJobOf (setup_in w) x m →
@@ -249,16 +299,17 @@ module _ (c : CoreView) (w new : State) (k place : ℕ) (cj : CoreJob) (a : Acti
       (record {
         is_open = ap (λ (s : State). s.is_open) e;
         records = ap (λ (s : State). s.records) e;
+        end = ap journal_end e;
         next_job = ap (λ (s : State). s.next_job) e;
         alone = ap (λ (s : State). s.alone) e;
       })
       (ap (λ (s : State). s.is_barred) e) (ap (λ (s : State). s.jobs) e) q job
       (subst (IsCoreFlight (with_at c place x)) (sym (ap (λ (s : State). s.append) e))
-      (flight_on c w k place cj o.stands o.first o.here o.runs o.called (still h) x n))
+      (flight_on c w k place cj o.job o.stands o.first o.here o.called o.is o.found (still h) x n))
 
   -- the job, after an action that is not the last ask of an audit
   plain_arm : (p : ℕ → Provider) (given : List Given) → (a ≡ End → ⊥) → is_move (Some a) ≡ false →
-      goes_plainly (Some a) ≡ true → is_last_ask cj.rest ≡ false →
+      goes_plainly (Some a) ≡ true → is_last_ask (rest_in (setup_in w) cj) ≡ false →
       (given ≡ o.job.given) ⊎ (o.job.kind ≡ AuditJob → asks_next (Some a) ≡ true) →
       new ≡ record (going_on w (onward o.job o.job.subject given)) { providers = p } →
       CoreIs (with_at c place (stepped cj)) new
@@ -281,262 +332,213 @@ module _ (c : CoreView) (w new : State) (k place : ℕ) (cj : CoreJob) (a : Acti
       remove_stands c w new k place (freed c place) c.barred o.stands o.sound o.first stays
       (o.stands.barred ∙ sym bar) (js ∙ ap (without_job w.jobs) o.number)
       (subst (IsCoreFlight (stopped c place)) (sym none)
-      (none_off c w k place cj o.stands o.first o.here o.runs o.called own))
+      (none_off c w k place cj o.job o.stands o.first o.here o.called o.is o.found own))
 
 -- ---- the moves of an append
 
--- the action that comes next while so many moves are made
-abbrev move_after : ℕ → Action
-move_after zero = WriteBody
-move_after (suc zero) = SyncBody
-move_after (suc (suc zero)) = WriteGate
-move_after (suc (suc (suc n))) = SyncGate
-
-comes_move : (n : ℕ) (xs : List Action) → n < 3 → IsInOrder (suc n) xs →
-    slice_get xs 0 ≡ Some (move_after (suc n))
-comes_move n [] l o = absurd o
-comes_move zero (SyncBody ∷ xs) l o = refl
-comes_move (suc n) (SyncBody ∷ xs) l o = absurd (let e : suc (suc n) ≡ 1 = o.0 in omega (arith, e))
-comes_move zero (WriteGate ∷ xs) l o = absurd (let e : 1 ≡ 2 = o.0 in omega (arith, e))
-comes_move (suc zero) (WriteGate ∷ xs) l o = refl
-comes_move (suc (suc n)) (WriteGate ∷ xs) l o =
-    absurd (let e : suc (suc (suc n)) ≡ 2 = o.0 in omega (arith, e))
-comes_move zero (SyncGate ∷ xs) l o = absurd (let e : 1 ≡ 3 = o.0 in omega (arith, e))
-comes_move (suc zero) (SyncGate ∷ xs) l o = absurd (let e : 2 ≡ 3 = o.0 in omega (arith, e))
-comes_move (suc (suc n)) (SyncGate ∷ xs) l o = refl
-comes_move n (x ∷ xs) l o = absurd (let e : suc n ≡ 0 = o.0 in omega (arith, e))
-
-later_move : (n : ℕ) → (is_move (Some (move_after (suc n))) ≡ true) ×
-    (begins_append (Some (move_after (suc n))) ≡ false)
-later_move zero = (refl, refl)
-later_move (suc zero) = (refl, refl)
-later_move (suc (suc n)) = (refl, refl)
-
--- a job whose next action is a later move of an append writes its record
-entry_moving : (t : Kept) (x : CoreJob) (n : ℕ) (e : Record) → n < 3 → IsInOrder (suc n) x.rest →
-    written_by t x x.wish ≡ Some e → entry_of_job t x ≡ Some e
-entry_moving t x n e l o h =
-    let head = comes_move n x.rest l o in
-    let idle : is_idle t x ≡ false =
-    ap (λ (a : Option Action). is_gone t x.wish && (x.opening && begins_append a)) head
-    ∙ (ap (λ (b : Bool). is_gone t x.wish && (x.opening && b)) (later_move n).1
-    ∙ (ap (λ (b : Bool). is_gone t x.wish && b) (and-false x.opening) ∙ and-false (is_gone t x.wish))) in
-    let next : action_next t x ≡ Some (move_after (suc n)) =
-    ap (λ (b : Bool). if b then Some End else slice_get x.rest 0) idle ∙ head in
-    ap (λ (a : Option Action). if is_move a then written_by t x x.wish else None) next
-    ∙ (ap (λ (b : Bool). if b then written_by t x x.wish else None) (later_move n).0 ∙ h)
-
--- what it writes does not change by a move that is not the last
-written_moved : (t : Kept) (j : CoreJob) (a : Action) → slice_get j.rest 0 ≡ Some a →
-    is_gate (Some a) ≡ false → written_by t (stepped j) j.wish ≡ written_by t j j.wish
-written_moved t j a h g = by j.wish
+-- what a job writes stays while it has as many appends left
+written_same : (s : Setup) (t : Kept) (i j : CoreJob) → j.plan.aim ≡ i.plan.aim →
+    j.plan.profile ≡ i.plan.profile → appends_in s j ≡ appends_in s i →
+    j.plan.subject ≡ number_drawn s t i → j.sums ≡ i.sums → written_by s t j ≡ written_by s t i
+written_same s t i j a p n k u =
+    (λ x. written_as t (n x) (p x) (k x) (u x) (a x)) ∙ by (appends_in s i) i.plan.aim
   where
-    opening : (stepped j).opening ≡ j.opening
-    opening = ap (λ (o : Option Action). j.opening && not (is_gate o)) h
-        ∙ (ap (λ (b : Bool). j.opening && not b) g ∙ and-true j.opening)
+    by : (m : ℕ) (aim : Aim) → written_as t m i.plan.profile (number_as t m i.plan.subject aim) i.sums aim
+        ≡ written_as t m i.plan.profile i.plan.subject i.sums aim
+    by m (ToPut name size) = put (m == 2)
+      where
+        put : (b : Bool) →
+            Some (if b then PutStart (id_after t) name
+            else done_record t.version (if b then id_after t else i.plan.subject) size i.plan.profile)
+            ≡ Some (if b then PutStart (id_after t) name
+            else done_record t.version i.plan.subject size i.plan.profile)
+        put true = refl
+        put false = refl
+    by m ToAudit = audit (m == 2)
+      where
+        audit : (b : Bool) → Some (if b then AuditStart t.next_audit
+            else AuditDone (if b then t.next_audit else i.plan.subject) i.sums.undecided i.sums.counts)
+            ≡ Some (if b then AuditStart t.next_audit
+            else AuditDone i.plan.subject i.sums.undecided i.sums.counts)
+        audit true = refl
+        audit false = refl
+    by m aim = refl
 
-    by : (v : Wish) → written_by t (stepped j) v ≡ written_by t j v
-    by (wish.Put name size) =
-        ap (λ (b : Bool). Some (if b then PutStart (id_after t) name else PutDone j.subject size)) opening
-    by wish.Audit = ap (λ (b : Bool). Some
-        (if b then AuditStart t.next_audit else AuditDone j.subject j.sums.undecided j.sums.counts)) opening
-    by v = refl
-
-written_drawn : (t : Kept) (j : CoreJob) (xs : List Action) → j.rest ≡ WriteBody ∷ xs →
-    written_by t (drawn j (number_drawn t j j.wish)) j.wish ≡ written_by t j j.wish
-written_drawn t j xs h = by j.wish
+-- no job writes a setup
+no_setup : (t : Kept) (n p k : ℕ) (sums : Sums) (aim : Aim) (e : Record) (rs : List Record) →
+    written_as t n p k sums aim ≡ Some e → setup_of (e ∷ rs) ≡ setup_of rs
+no_setup t n p k sums (ToPut name size) e rs h = by (n == 2) (t.version == 2) h
   where
-    head : (n : ℕ) (v : Wish) → slice_get (all_renamed n v j.rest) 0 ≡ Some WriteBody
-    head n (wish.Put name size) = ap (λ (ys : List Action). slice_get (map (renamed n) ys) 0) h
-    head n v = ap (λ (ys : List Action). slice_get ys 0) h
-
-    opening : (n : ℕ) → (drawn j n).opening ≡ j.opening
-    opening n = ap (λ (o : Option Action). j.opening && not (is_gate o)) (head n j.wish) ∙ and-true j.opening
-
-    put : (b : Bool) (name : List ℕ) (size : ℕ) →
-        (if b then PutStart (id_after t) name else PutDone (if b then id_after t else j.subject) size)
-        ≡ (if b then PutStart (id_after t) name else PutDone j.subject size)
-    put true name size = refl
-    put false name size = refl
-
-    audit : (b : Bool) → (if b then AuditStart t.next_audit
-        else AuditDone (if b then t.next_audit else j.subject) j.sums.undecided j.sums.counts)
-        ≡ (if b then AuditStart t.next_audit else AuditDone j.subject j.sums.undecided j.sums.counts)
-    audit true = refl
-    audit false = refl
-
-    by : (v : Wish) → written_by t (drawn j (number_drawn t j v)) v ≡ written_by t j v
-    by (wish.Put name size) =
-        ap (λ (b : Bool). Some
-        (if b then PutStart (id_after t) name else PutDone (number_drawn t j (wish.Put name size)) size))
-        (opening (number_drawn t j (wish.Put name size)))
-        ∙ ap {B = Option Record} Some (put j.opening name size)
-    by wish.Audit = ap (λ (b : Bool). Some
-        (if b then AuditStart t.next_audit else AuditDone
-        (number_drawn t j wish.Audit) j.sums.undecided j.sums.counts))
-        (opening (number_drawn t j wish.Audit)) ∙ ap {B = Option Record} Some (audit j.opening)
-    by v = refl
-
--- no job writes a setup, or the second version
-no_setup : (t : Kept) (j : CoreJob) (v : Wish) (e : Record) (rs : List Record) → written_by t j v ≡ Some e →
-    (setup_of (e ∷ rs) ≡ setup_of rs) × (version_of (e ∷ rs) ≡ version_of rs)
-no_setup t j (wish.Put name size) e rs h = by j.opening h
+    by : (b v : Bool) → Some (if b then PutStart (id_after t) name
+        else (if v then PutDoneIn k size p else PutDone k size)) ≡ Some e →
+        setup_of (e ∷ rs) ≡ setup_of rs
+    by true v g = (let i : PutStart (id_after t) name ≡ e = cc in
+        ap (λ (r : Record). setup_of (r ∷ rs)) (sym i))
+    by false true g = (let i : PutDoneIn k size p ≡ e = cc in ap (λ (r : Record). setup_of (r ∷ rs)) (sym i))
+    by false false g = (let i : PutDone k size ≡ e = cc in ap (λ (r : Record). setup_of (r ∷ rs)) (sym i))
+no_setup t n p k sums (ToGet name) e rs h = let g : None ≡ Some e = h in cc
+no_setup t n p k sums (ToDrop name) e rs h = let g : Some (Drop name) ≡ Some e = h in let i : Drop name ≡ e =
+    cc in ap (λ (r : Record). setup_of (r ∷ rs)) (sym i)
+no_setup t n p k sums ToAudit e rs h = by (n == 2) h
   where
-    by : (b : Bool) → Some (if b then PutStart (id_after t) name else PutDone j.subject size) ≡ Some e →
-        (setup_of (e ∷ rs) ≡ setup_of rs) × (version_of (e ∷ rs) ≡ version_of rs)
-    by true g = (let i : PutStart (id_after t) name ≡ e = cc in
-        (ap (λ (r : Record). setup_of (r ∷ rs)) (sym i), ap (λ (r : Record). version_of (r ∷ rs)) (sym i)))
-    by false g = (let i : PutDone j.subject size ≡ e = cc in
-        (ap (λ (r : Record). setup_of (r ∷ rs)) (sym i), ap (λ (r : Record). version_of (r ∷ rs)) (sym i)))
-no_setup t j (wish.Get name) e rs h = let g : None ≡ Some e = h in cc
-no_setup t j (wish.Drop name) e rs h = let g : Some (Drop name) ≡ Some e = h in let i : Drop name ≡ e =
-    cc in (ap (λ (r : Record). setup_of (r ∷ rs)) (sym i), ap (λ (r : Record). version_of (r ∷ rs)) (sym i))
-no_setup t j wish.Audit e rs h = by j.opening h
-  where
-    by : (b : Bool) → Some
-        (if b then AuditStart t.next_audit else AuditDone j.subject j.sums.undecided j.sums.counts) ≡ Some e →
-        (setup_of (e ∷ rs) ≡ setup_of rs) × (version_of (e ∷ rs) ≡ version_of rs)
-    by true g = (let i : AuditStart t.next_audit ≡ e = cc in
-        (ap (λ (r : Record). setup_of (r ∷ rs)) (sym i), ap (λ (r : Record). version_of (r ∷ rs)) (sym i)))
-    by false g = (let i : AuditDone j.subject j.sums.undecided j.sums.counts ≡ e = cc in
-        (ap (λ (r : Record). setup_of (r ∷ rs)) (sym i), ap (λ (r : Record). version_of (r ∷ rs)) (sym i)))
-no_setup t j wish.Repair e rs h = let g : Some (RepairDone j.subject) ≡ Some e = h in
-    let i : RepairDone j.subject ≡ e = cc in
-    (ap (λ (r : Record). setup_of (r ∷ rs)) (sym i), ap (λ (r : Record). version_of (r ∷ rs)) (sym i))
+    by : (b : Bool) → Some (if b then AuditStart t.next_audit else AuditDone k sums.undecided sums.counts)
+        ≡ Some e → setup_of (e ∷ rs) ≡ setup_of rs
+    by true g = (let i : AuditStart t.next_audit ≡ e = cc in ap (λ (r : Record). setup_of (r ∷ rs)) (sym i))
+    by false g = (let i : AuditDone k sums.undecided sums.counts ≡ e = cc in
+        ap (λ (r : Record). setup_of (r ∷ rs)) (sym i))
+no_setup t n p k sums ToRepair e rs h = let g : Some (RepairDone k) ≡ Some e = h in
+    let i : RepairDone k ≡ e = cc in ap (λ (r : Record). setup_of (r ∷ rs)) (sym i)
+no_setup t n p k sums ToUpgrade e rs h = let g : Some Version ≡ Some e = h in
+    let i : Version ≡ e = cc in ap (λ (r : Record). setup_of (r ∷ rs)) (sym i)
 
 module _ (c : CoreView) (w new : State) (k place : ℕ) (cj : CoreJob) (a : Action) (outcome : Outcome)
     (o : OnMachine c w new k place cj a outcome) where
   -- a job that is at a later move of its append, after this step
-  flight_moved : (x : CoreJob) (m : Job) (y : Append) (n : ℕ) (flight : Option ℕ) → n < 3 →
-      new.append ≡ Some y → y.job ≡ k → y.moves ≡ suc n → flight ≡ Some y.job → new.jobs ≡ with_job w.jobs m →
-      m.number ≡ k → Stays w new →
-      x.number ≡ k → IsJobOf (setup_in w) x m → written_by c.table x x.wish ≡ Some y.entry →
+  flight_moved : (x : CoreJob) (y : Append) (flight : Option ℕ) →
+      new.append ≡ Some y → y.job ≡ k → flight ≡ Some y.job → x.number ≡ k →
+      written_by c.setup c.table x ≡ Some y.entry →
       IsCoreFlight (record (with_at c place x) { append = flight }) new.append
-  flight_moved x m y n flight l e own count fl js number stays called job writes =
-      let setup : setup_in new ≡ setup_in w = setup_same new w (ap setup_of stays.records) in
-      let before : job_of w.jobs m.number ≡ Some o.job =
-      subst (λ (i : ℕ). job_of w.jobs i ≡ Some o.job) (sym number) o.found in
-      let found : job_of new.jobs k ≡ Some m = subst (λ (i : ℕ). job_of new.jobs i ≡ Some m) number
-      (ap (λ (xs : List Job). job_of xs m.number) js ∙ found_itself w.jobs m o.job before) in
-      let made : moves_made new.append k ≡ suc n = ap (λ (f : Option Append). moves_made f k) e
-      ∙ (mine y k own ∙ count) in
-      let order : IsInOrder (suc n) x.rest = subst (λ (i : ℕ). IsInOrder i x.rest) made
-      (subst (IsInOrder (moves_made new.append k)) (ap (λ (s : Setup). actions_left s m) setup ∙ sym job.rest)
-      (o.sound.jobs k m found).order) in
+  flight_moved x y flight e own fl called writes =
       subst (IsCoreFlight (record (with_at c place x) { append = flight })) (sym e) (
         fl,
-        ap (λ (i : ℕ). entry_of_found c.table (job_in (set c.jobs place x) i)) own
-            ∙ (ap (entry_of_found c.table) (in_set_same c.jobs k place x o.first called)
-            ∙ entry_moving c.table x n y.entry l order writes),
+        ap (λ (i : ℕ). written_of c.setup c.table (job_in (set c.jobs place x) i)) own
+            ∙ (ap (written_of c.setup c.table) (in_set_same c.jobs k place x o.first called) ∙ writes),
       )
 
   -- what the append in flight writes
-  written_now : (y : Append) → w.append ≡ Some y → y.job ≡ k → written_by c.table cj cj.wish ≡ Some y.entry
+  written_now : (y : Append) → w.append ≡ Some y → y.job ≡ k → written_by c.setup c.table cj ≡ Some y.entry
   written_now y e own =
       let f : IsCoreFlight c (Some y) = subst (IsCoreFlight c) e o.stands.append in
-      let g : entry_in c k ≡ Some y.entry = subst (λ (n : ℕ). entry_in c n ≡ Some y.entry) own f.1 in
-      let h : entry_of_job c.table cj ≡ Some y.entry = sym (ap (entry_of_found c.table) o.runs) ∙ g in
-      (in_append c.table cj y.entry h).1
+      sym (ap (written_of c.setup c.table) o.runs)
+      ∙ (subst (λ (n : ℕ). written_in c n ≡ Some y.entry) own f.1)
+
+  -- an action that ends no append leaves as many of them
+  gateless : ends_append a ≡ false → (a ≡ End → ⊥) → appends_in c.setup (stepped cj) ≡ appends_in c.setup cj
+  gateless g on =
+      let e = subst (λ (s : Setup). slice_get (rest_in s cj) 0 ≡ Some a) (sym o.stands.setup)
+      (head-here w cj o.job a o.is o.next on) in
+      let b = gates_behind (rest_in c.setup cj) a e in
+      let x = ap (λ (t : Bool). cond {A = ℕ} t 1 0) g in
+      let d = ap gates (drop_one cj.place (planned c.setup cj.plan)) in
+      omega (arith, b, x, d)
 
   holds : (y : Append) → w.append ≡ Some y → c.append ≡ Some y.job
   holds y e = (let f : IsCoreFlight c (Some y) = subst (IsCoreFlight c) e o.stands.append in f.0)
 
   -- a second or third move
-  move_arm : (y z : Append) (n : ℕ) → (a ≡ End → ⊥) → is_gate (Some a) ≡ false →
-      goes_plainly (Some a) ≡ true → is_last_ask cj.rest ≡ false → n < 3 → w.append ≡ Some y →
-      y.job ≡ o.job.number → z.entry ≡ y.entry → z.job ≡ y.job →
-      z.moves ≡ suc n → new.append ≡ Some z → new.jobs
+  move_arm : (y z : Append) → (a ≡ End → ⊥) → ends_append a ≡ false →
+      goes_plainly (Some a) ≡ true → is_last_ask (rest_in (setup_in w) cj) ≡ false → w.append ≡ Some y →
+      y.job ≡ o.job.number → z.entry ≡ y.entry → z.job ≡ y.job → new.append ≡ Some z → new.jobs
       ≡ with_job w.jobs (onward o.job o.job.subject o.job.given) → new.is_barred ≡ w.is_barred → Stays w new →
-      CoreIs (with_at c place (stepped cj)) new
-  move_arm y z n on g plain last l e own entry same count f js bar stays =
+      (a ≡ WriteBody → ⊥) → CoreIs (with_at c place (stepped cj)) new
+  move_arm y z on g plain last e own entry same f js bar stays later =
       let job = on-moved w cj o.job a o.is o.next on o.job.given
       (sums-on w cj o.job a o.is o.next on o.job.given plain last (inl refl)) in
+      let writes : written_by c.setup c.table (stepped cj) ≡ written_by c.setup c.table cj =
+      ap (λ (n : ℕ). written_as c.table n cj.plan.profile cj.plan.subject cj.sums cj.plan.aim)
+      (gateless g on) in
       set_stands c w new k place (stepped cj) (onward o.job o.job.subject o.job.given) c.append o.stands
       o.sound o.first stays bar js o.number job
-      (flight_moved (stepped cj) (onward o.job o.job.subject o.job.given) z n c.append l f
-      (same ∙ (own ∙ o.number)) count (holds y e ∙ ap (λ (i : ℕ). Some i) (sym same)) js o.number stays
-      o.called job
-      (written_moved c.table cj a (head-here w cj o.job a o.is o.next on) g
-      ∙ (written_now y e (own ∙ o.number) ∙ ap (λ (r : Record). Some r) (sym entry))))
+      (flight_moved (stepped cj) z c.append f (same ∙ (own ∙ o.number))
+      (holds y e ∙ ap (λ (i : ℕ). Some i) (sym same)) o.called
+      (writes ∙ (written_now y e (own ∙ o.number) ∙ ap (λ (r : Record). Some r) (sym entry))))
 
 -- the first move
 drawn_arm : (c : CoreView) (w new : State) (k place : ℕ) (cj : CoreJob) (outcome : Outcome)
     (o : OnMachine c w new k place cj WriteBody outcome) → (entry : Record) →
     ((y : Append) → new.append ≡ Some y → y.job ≡ k → entry_in c k ≡ Some y.entry) →
     (faults : ℕ) → new ≡ record (begun_append w o.job entry) { disk_faults = faults } →
-    CoreIs (record (with_at c place (drawn cj (number_drawn c.table cj cj.wish))) { append = Some cj.number })
+    CoreIs (record (with_at c place (drawn cj (number_drawn c.setup c.table cj))) { append = Some cj.number })
     new
 drawn_arm c w new k place cj outcome o entry told faults e =
-    let job = on-drawn w c.table cj o.job (moves_made w.append k) o.stands.table o.is o.next o.sound_job.order
-    o.sound_job.undecided in
+    let number = number_drawn c.setup c.table cj in
+    let job : IsJobOf (setup_in w) (drawn cj number) (onward o.job (subject_drawn w o.job o.job.kind)
+    o.job.given) =
+    subst (λ (s : Setup). IsJobOf (setup_in w) (drawn cj (number_drawn s c.table cj))
+    (onward o.job (subject_drawn w o.job o.job.kind) o.job.given)) (sym o.stands.setup)
+    (on-drawn w c.table cj o.job o.stands.table o.is o.next) in
     let f : new.append ≡ Some (record { job = o.job.number; entry = entry; moves = 1 }) =
     ap (λ (s : State). s.append) e in
     let stays : Stays w new =
     record {
       is_open = ap (λ (s : State). s.is_open) e;
       records = ap (λ (s : State). s.records) e;
+      end = ap journal_end e;
       next_job = ap (λ (s : State). s.next_job) e;
       alone = ap (λ (s : State). s.alone) e;
     } in
     let g : entry_in c k ≡ Some entry =
     told (record { job = o.job.number; entry = entry; moves = 1 }) f o.number in
-    let h : entry_of_job c.table cj ≡ Some entry = sym (ap (entry_of_found c.table) o.runs) ∙ g in
-    let writes = written_drawn c.table cj (drop (o.job.place + 1) (actions_of (setup_in w) o.job))
-    (left-here w cj o.job WriteBody o.is o.next (λ x. cc)) ∙ (in_append c.table cj entry h).1 in
-    set_stands c w new k place (drawn cj (number_drawn c.table cj cj.wish))
+    let h : entry_of_job c.setup c.table cj ≡ Some entry =
+    sym (ap (entry_of_found c.setup c.table) o.runs) ∙ g in
+    let old : IsJobOf c.setup cj o.job = same_job (setup_in w) c.setup cj o.job (sym o.stands.setup) o.is in
+    let now : IsJobOf c.setup (drawn cj number) (onward o.job (subject_drawn w o.job o.job.kind) o.job.given)
+    =
+    same_job (setup_in w) c.setup (drawn cj number)
+    (onward o.job (subject_drawn w o.job o.job.kind) o.job.given) (sym o.stands.setup) job in
+    let count : appends_in c.setup (drawn cj number) ≡ appends_in c.setup cj =
+    appends-is c.setup (drawn cj number) (onward o.job (subject_drawn w o.job o.job.kind) o.job.given) now
+    ∙ (ap (λ (s : Setup). appends_left s (onward o.job (subject_drawn w o.job o.job.kind) o.job.given))
+    o.stands.setup
+    ∙ (drawn-appends w o.job o.next
+    ∙ (ap (λ (s : Setup). appends_left s o.job) (sym o.stands.setup)
+    ∙ sym (appends-is c.setup cj o.job old)))) in
+    let writes : written_by c.setup c.table (drawn cj number) ≡ Some entry =
+    written_same c.setup c.table cj (drawn cj number) refl refl count refl refl
+    ∙ (in_append c.setup c.table cj entry h).1 in
+    set_stands c w new k place (drawn cj number)
     (onward o.job (subject_drawn w o.job o.job.kind) o.job.given)
     (Some cj.number) o.stands o.sound o.first stays
     (ap (λ (s : State). s.is_barred) e) (ap (λ (s : State). s.jobs) e) o.number job
-    (flight_moved c w new k place cj WriteBody outcome o (drawn cj (number_drawn c.table cj cj.wish))
-    (onward o.job (subject_drawn w o.job o.job.kind) o.job.given)
-    (record { job = o.job.number; entry = entry; moves = 1 }) 0 (Some cj.number)
-    (omega arith) f o.number refl (ap (λ (i : ℕ). Some i) (o.called ∙ sym o.number))
-    (ap (λ (s : State). s.jobs) e) o.number stays o.called job writes)
+    (flight_moved c w new k place cj WriteBody outcome o (drawn cj number)
+    (record { job = o.job.number; entry = entry; moves = 1 }) (Some cj.number) f o.number
+    (ap (λ (i : ℕ). Some i) (o.called ∙ sym o.number)) o.called writes)
 
 -- the fourth move
 gated_arm : (c cnew : CoreView) (w new : State) (k place : ℕ) (cj : CoreJob) (outcome : Outcome)
     (o : OnMachine c w new k place cj SyncGate outcome) → (y : Append) → w.append ≡ Some y →
     y.job ≡ o.job.number →
-    ((entry : Record) (rs : List Record) → written_by c.table cj cj.wish ≡ Some entry → IsFoldOf rs c.table →
+    ((entry : Record) (rs : List Record) → written_by c.setup c.table cj ≡ Some entry → IsFoldOf rs c.table →
     refused rs entry ≡ None → HasGated c place cj entry rs cnew) →
     (faults : ℕ) → new ≡ record (done_append w o.job y) { disk_faults = faults } → CoreIs cnew new
 gated_arm c cnew w new k place cj outcome o y at own gates faults e =
     let writes = written_now c w new k place cj SyncGate outcome o y at (own ∙ o.number) in
     let has = gates y.entry w.records writes o.stands.table (o.stands.sound.append y at).follows.accepted in
     let records : new.records ≡ y.entry ∷ w.records = ap (λ (s : State). s.records) e in
-    let setup : setup_in new ≡ setup_in w = setup_same new w
-    (ap setup_of records ∙ (no_setup c.table cj cj.wish y.entry w.records writes).0) in
+    let setup : setup_in new ≡ setup_in w = setup_same new w (ap setup_of records
+    ∙ no_setup c.table (appends_in c.setup cj) cj.plan.profile cj.plan.subject cj.sums cj.plan.aim y.entry
+    w.records writes) in
     let some : 0 < (setup_in w).n =
     (let p = (setup-providers 8 w o.stands.sound o.stands.is_open).0 in omega (arith, p)) in
     let all : AllZip (IsJobOf (setup_in w)) c.jobs w.jobs =
     subst (λ (s : Setup). AllZip (IsJobOf s) c.jobs w.jobs) o.stands.setup o.stands.jobs in
-    let job = on-gated w c.table c.jobs cj o.job o.stands.table all o.is o.next some o.sound_job.undecided in
-    let zip : AllZip (IsJobOf (setup_in w)) (set c.jobs place (gated (setup_in w).n c.table c.jobs cj))
+    let job = on-gated w c.table c.jobs cj o.job o.stands.table all o.is o.next some in
+    let zip : AllZip (IsJobOf (setup_in w)) (set c.jobs place (gated (setup_in w) c.table c.jobs cj))
     (with_job w.jobs (decided o.job (taken_out w o.job o.job.kind))) =
-    pair_with (setup_in w) c.jobs w.jobs k place (gated (setup_in w).n c.table c.jobs cj)
+    pair_with (setup_in w) c.jobs w.jobs k place (gated (setup_in w) c.table c.jobs cj)
     (decided o.job (taken_out w o.job o.job.kind)) all o.first o.number job in
-    let back : AllZip (IsJobOf c.setup) (set c.jobs place (gated c.setup.n c.table c.jobs cj))
+    let back : AllZip (IsJobOf c.setup) (set c.jobs place (gated c.setup c.table c.jobs cj))
     (with_job w.jobs (decided o.job (taken_out w o.job o.job.kind))) =
-    subst (λ (s : Setup). AllZip (IsJobOf s) (set c.jobs place (gated s.n c.table c.jobs cj))
+    subst (λ (s : Setup). AllZip (IsJobOf s) (set c.jobs place (gated s c.table c.jobs cj))
     (with_job w.jobs (decided o.job (taken_out w o.job o.job.kind)))) (sym o.stands.setup) zip in
     subst (λ (x : CoreView). CoreIs x new) (sym has.others) (record {
       sound = o.sound;
       is_open = ap (λ (s : State). s.is_open) e ∙ o.stands.is_open;
-      first = ap version_of records
-          ∙ ((no_setup c.table cj cj.wish y.entry w.records writes).1 ∙ o.stands.first);
       none_alone = ap (λ (s : State). s.alone) e ∙ o.stands.none_alone;
       table = subst (λ (rs : List Record). IsFoldOf rs cnew.table) (sym records) has.table;
       setup = o.stands.setup ∙ sym setup;
-      end = (let a = ap text_size records in let b = o.stands.end in let d : text_size (y.entry ∷ w.records)
-          ≡ text_size w.records + (1 + record_size y.entry) = refl in omega (arith, a, b, d));
-      jobs = subst (AllZip (IsJobOf c.setup) (set c.jobs place (gated c.setup.n c.table c.jobs cj)))
+      end = (let a = ap journal_end e in let b = o.stands.end in
+          let d : end_in w.area (y.entry ∷ w.journal) ≡ end_in w.area w.journal + (1 + record_size y.entry) =
+          omega arith in
+          omega (arith, a, b, d));
+      jobs = subst (AllZip (IsJobOf c.setup) (set c.jobs place (gated c.setup c.table c.jobs cj)))
           (sym (ap (λ (s : State). s.jobs) e)) back;
       next_job = o.stands.next_job ∙ sym (ap (λ (s : State). s.next_job) e);
       append = subst (IsCoreFlight
           (record c {
             table = cnew.table;
             end = c.end + (1 + record_size y.entry);
-            jobs = set c.jobs place (gated c.setup.n c.table c.jobs cj);
+            jobs = set c.jobs place (gated c.setup c.table c.jobs cj);
             append = None;
           }))
           (sym (ap (λ (s : State). s.append) e)) refl;
@@ -573,7 +575,7 @@ goes_well w m a answer new n e h = absurd h
 pub begins_done : (c : CoreView) (w new : State) (k place : ℕ) (cj : CoreJob) (outcome : Outcome)
     (o : OnMachine c w new k place cj WriteBody outcome) → Tells k reply.Done outcome new →
     ((y : Append) → new.append ≡ Some y → y.job ≡ k → entry_in c k ≡ Some y.entry) →
-    CoreIs (record (with_at c place (drawn cj (number_drawn c.table cj cj.wish))) { append = Some cj.number })
+    CoreIs (record (with_at c place (drawn cj (number_drawn c.setup c.table cj))) { append = Some cj.number })
     new
 begins_done c w new k place cj More o t told =
     (let h : Moves w o.job WriteBody w.append More new = o.acts in
@@ -585,7 +587,7 @@ begins_done c w new k place cj outcome o t told = absurd t
 -- done: the fourth move
 pub gates_done : (c cnew : CoreView) (w new : State) (k place : ℕ) (cj : CoreJob) (outcome : Outcome)
     (o : OnMachine c w new k place cj SyncGate outcome) → Tells k reply.Done outcome new →
-    ((entry : Record) (rs : List Record) → written_by c.table cj cj.wish ≡ Some entry → IsFoldOf rs c.table →
+    ((entry : Record) (rs : List Record) → written_by c.setup c.table cj ≡ Some entry → IsFoldOf rs c.table →
     refused rs entry ≡ None → HasGated c place cj entry rs cnew) → CoreIs cnew new
 gates_done c cnew w new k place cj More o t gates = by w.append refl o.acts
   where
@@ -617,63 +619,66 @@ more_done c w new k place cj SyncBody o p h = by w.append refl o.acts
     by : (f : Option Append) → w.append ≡ f → Moves w o.job SyncBody f More new →
         CoreIs (with_at c place (stepped cj)) new
     by None e g = absurd g
-    by (Some y) e g = move_arm c w new k place cj SyncBody More o y (record y { moves = y.moves + 1 }) 1
+    by (Some y) e g = move_arm c w new k place cj SyncBody More o y (record y { moves = y.moves + 1 })
         (λ x. cc) refl refl
-        (ap (λ (x : Option Action). asks_next x && begins_append (slice_get cj.rest 1))
-        (head-here w cj o.job SyncBody o.is o.next (λ x. cc))) (omega arith) e g.0.0 refl refl
-        (let m = g.0.1 in omega (arith, m)) (ap (λ (s : State). s.append) g.1.2)
+        (ap (λ (x : Option Action). asks_next x && begins_append (slice_get (rest_in (setup_in w) cj) 1))
+        (head-here w cj o.job SyncBody o.is o.next (λ x. cc))) e g.0.0 refl refl
+        (ap (λ (s : State). s.append) g.1.2)
         (ap (λ (s : State). s.jobs) g.1.2) (ap (λ (s : State). s.is_barred) g.1.2)
         (record {
           is_open = ap (λ (s : State). s.is_open) g.1.2;
           records = ap (λ (s : State). s.records) g.1.2;
+          end = ap journal_end g.1.2;
           next_job = ap (λ (s : State). s.next_job) g.1.2;
           alone = ap (λ (s : State). s.alone) g.1.2;
-        })
+        }) (λ x. cc)
 more_done c w new k place cj WriteGate o p h = by w.append refl o.acts
   where
     by : (f : Option Append) → w.append ≡ f → Moves w o.job WriteGate f More new →
         CoreIs (with_at c place (stepped cj)) new
     by None e g = absurd g
-    by (Some y) e g = move_arm c w new k place cj WriteGate More o y (record y { moves = y.moves + 1 }) 2
+    by (Some y) e g = move_arm c w new k place cj WriteGate More o y (record y { moves = y.moves + 1 })
         (λ x. cc) refl refl
-        (ap (λ (x : Option Action). asks_next x && begins_append (slice_get cj.rest 1))
-        (head-here w cj o.job WriteGate o.is o.next (λ x. cc))) (omega arith) e g.0.0 refl refl
-        (let m = g.0.1 in omega (arith, m)) (ap (λ (s : State). s.append) g.1.2)
+        (ap (λ (x : Option Action). asks_next x && begins_append (slice_get (rest_in (setup_in w) cj) 1))
+        (head-here w cj o.job WriteGate o.is o.next (λ x. cc))) e g.0.0 refl refl
+        (ap (λ (s : State). s.append) g.1.2)
         (ap (λ (s : State). s.jobs) g.1.2) (ap (λ (s : State). s.is_barred) g.1.2)
         (record {
           is_open = ap (λ (s : State). s.is_open) g.1.2;
           records = ap (λ (s : State). s.records) g.1.2;
+          end = ap journal_end g.1.2;
           next_job = ap (λ (s : State). s.next_job) g.1.2;
           alone = ap (λ (s : State). s.alone) g.1.2;
-        })
+        }) (λ x. cc)
 more_done c w new k place cj (Store j object stripe) o p h =
     plain_arm c w new k place cj (Store j object stripe) More o
     (with_provider w.providers j o.acts.0) o.job.given (λ x. cc) refl refl
-    (ap (λ (x : Option Action). asks_next x && begins_append (slice_get cj.rest 1))
+    (ap (λ (x : Option Action). asks_next x && begins_append (slice_get (rest_in (setup_in w) cj) 1))
     (head-here w cj o.job (Store j object stripe) o.is o.next (λ x. cc))) (inl refl) o.acts.2
 more_done c w new k place cj (Remove j object) o p h =
     plain_arm c w new k place cj (Remove j object) More o (with_provider w.providers j o.acts.0) o.job.given
     (λ x. cc) refl refl
-    (ap (λ (x : Option Action). asks_next x && begins_append (slice_get cj.rest 1))
+    (ap (λ (x : Option Action). asks_next x && begins_append (slice_get (rest_in (setup_in w) cj) 1))
     (head-here w cj o.job (Remove j object) o.is o.next (λ x. cc))) (inl refl) o.acts.2
 more_done c w new k place cj (Fetch j object stripe) o p h =
     plain_arm c w new k place cj (Fetch j object stripe) More o (with_provider w.providers j o.acts.1.0)
     (Fetched j object stripe o.acts.0 ∷ o.job.given) (λ x. cc) refl refl
-    (ap (λ (x : Option Action). asks_next x && begins_append (slice_get cj.rest 1))
+    (ap (λ (x : Option Action). asks_next x && begins_append (slice_get (rest_in (setup_in w) cj) 1))
     (head-here w cj o.job (Fetch j object stripe) o.is o.next (λ x. cc)))
     (inr (λ kind. absurd (audit-action (setup_in w) o.job (Fetch j object stripe) kind
     (next_stands w o.job (Fetch j object stripe) o.next (λ x. cc))))) o.acts.1.2
 more_done c w new k place cj (Work object stripe) o p h =
     plain_arm c w new k place cj (Work object stripe) More o w.providers
     (Worked object stripe o.acts.0 ∷ o.job.given) (λ x. cc) refl refl
-    (ap (λ (x : Option Action). asks_next x && begins_append (slice_get cj.rest 1))
+    (ap (λ (x : Option Action). asks_next x && begins_append (slice_get (rest_in (setup_in w) cj) 1))
     (head-here w cj o.job (Work object stripe) o.is o.next (λ x. cc)))
     (inr (λ kind. absurd (audit-action (setup_in w) o.job (Work object stripe) kind
     (next_stands w o.job (Work object stripe) o.next (λ x. cc))))) o.acts.2
 more_done c w new k place cj (Ask j object round) o p h =
     plain_arm c w new k place cj (Ask j object round) More o (with_provider w.providers j o.acts.1.0)
     (Answered j object round o.acts.0 ∷ o.job.given) (λ x. cc) refl refl
-    (sym (ap is_last_ask_of o.runs) ∙ h) (inr (λ kind. refl)) o.acts.1.2
+    (subst (λ (s : Setup). is_last_ask (rest_in s cj) ≡ false) o.stands.setup
+    (sym (ap (is_last_ask_of c.setup) o.runs) ∙ h)) (inr (λ kind. refl)) o.acts.1.2
 
 -- a plain action that is done leaves a core that stands for the machine's state after it
 pub plain_done : (c : CoreView) (w new : State) (k place : ℕ) (cj : CoreJob) (a : Action) (outcome : Outcome)
@@ -717,6 +722,7 @@ moves_fail w m WriteBody flight new n h = (
   record {
     is_open = ap (λ (s : State). s.is_open) h.3;
     records = ap (λ (s : State). s.records) h.3;
+    end = ap journal_end h.3;
     next_job = ap (λ (s : State). s.next_job) h.3;
     alone = ap (λ (s : State). s.alone) h.3;
   },
@@ -727,6 +733,7 @@ moves_fail w m SyncBody (Some y) new n h = (
   record {
     is_open = ap (λ (s : State). s.is_open) h.1.3;
     records = ap (λ (s : State). s.records) h.1.3;
+    end = ap journal_end h.1.3;
     next_job = ap (λ (s : State). s.next_job) h.1.3;
     alone = ap (λ (s : State). s.alone) h.1.3;
   },
@@ -737,6 +744,7 @@ moves_fail w m WriteGate (Some y) new n h = (
   record {
     is_open = ap (λ (s : State). s.is_open) h.1.3;
     records = ap (λ (s : State). s.records) h.1.3;
+    end = ap journal_end h.1.3;
     next_job = ap (λ (s : State). s.next_job) h.1.3;
     alone = ap (λ (s : State). s.alone) h.1.3;
   },
@@ -747,6 +755,7 @@ moves_fail w m SyncGate (Some y) new n h = (
   record {
     is_open = ap (λ (s : State). s.is_open) h.1.3;
     records = ap (λ (s : State). s.records) h.1.3;
+    end = ap journal_end h.1.3;
     next_job = ap (λ (s : State). s.next_job) h.1.3;
     alone = ap (λ (s : State). s.alone) h.1.3;
   },
@@ -799,6 +808,7 @@ memory_ends c w new k place cj WriteBody o r =
     (record {
       is_open = ap (λ (s : State). s.is_open) h.2;
       records = ap (λ (s : State). s.records) h.2;
+      end = ap journal_end h.2;
       next_job = ap (λ (s : State). s.next_job) h.2;
       alone = ap (λ (s : State). s.alone) h.2;
     })
@@ -815,6 +825,7 @@ memory_ends c w new k place cj WriteGate o r = by w.append refl o.acts
         (record {
           is_open = ap (λ (s : State). s.is_open) h.1.2;
           records = ap (λ (s : State). s.records) h.1.2;
+          end = ap journal_end h.1.2;
           next_job = ap (λ (s : State). s.next_job) h.1.2;
           alone = ap (λ (s : State). s.alone) h.1.2;
         })

@@ -1,31 +1,31 @@
 -- A core and the states of the machine that it stands for.
 --
---   IsKindOf wish kind     == the machine's kind of a wish: a put's bytes are as many as it says
---   pin_of f               == a pinned file, without its bytes
---   has_asked c            == an audit that has asked all that it asks
---   IsJobOf s c j          == a job of a core stands for a job of the machine
---   IsCoreFlight c append  == the append in flight is that of the same job, and its record is the one that
---                             this job writes
---   CoreIs c w             == a core stands for a state of the machine: its vault is open, the journal has
---                             its first version, and nothing runs alone
---   refusal_of fault       == the machine's refusal
---   begun w moment kind    == the state after a begin
---   IsNextOf w number next == what comes next for a job in a state of the machine
---   IsEntryOf w number e   == the record that the append of a job writes in a state of the machine
+--   IsKindOf wish kind      == the machine's kind of a wish: a put's bytes are as many as it says
+--   pin_of f                == a pinned file, without its bytes
+--   seen_plan j             == the plan of a job of the machine, without bytes
+--   has_asked s j           == an audit that has asked all that it asks
+--   IsJobOf s c j           == a job of a core stands for a job of the machine
+--   IsCoreFlight c append   == the append in flight is that of the same job, and its record is the one that
+--                              this job writes
+--   CoreIs c w              == a core stands for a state of the machine: its vault is open, and nothing runs
+--                              alone
+--   refusal_of fault        == the machine's refusal
+--   begun w moment kind own == the state after a begin, of a put also with a profile of its own
+--   IsNextOf w number next  == what comes next for a job in a state of the machine
+--   IsEntryOf w number e    == the record that the append of a job writes in a state of the machine
 use Rattle.std.specs.Prelude.{◌≡◌, ℕ, ◌+◌, ◌<◌, ◌&&◌, Bool, true, false, not, IsTrue, [], ◌∷◌, ◌++◌, length, map, replicate, slice_get, Option, None, Some}
 use Rattle.std.specs.List.{AllZip}
+use Rattle.column_defs.specs.Verdicts.{Sums}
 use Rattle.record_defs.specs.Records.{Setup, Record}
-use Rattle.record_defs.specs.Journal.{text_size}
-use Rattle.record_defs.specs.Table.{version_of}
-use Rattle.machine_defs.specs.Jobs.{Kind, aim_of, Job, job_of}
+use Rattle.machine_defs.specs.Jobs.{Kind, AuditJob, aim_of, Job, job_of}
 use Rattle.machine_defs.specs.Jobs.{Pinned as PinnedBytes}
-use Rattle.machine_defs.specs.Actions.{Action, actions_left}
+use Rattle.machine_defs.specs.Actions.{Action, Plan, actions_of}
 use Rattle.machine_defs.specs.Refusals as refusal
 use Rattle.machine_defs.specs.Refusals.{Refusal}
-use Rattle.machine_defs.specs.States.{State, Append, setup_in}
+use Rattle.machine_defs.specs.States.{State, Append, setup_in, journal_end}
 use Rattle.machine_defs.specs.Appends.{Writes, is_first_append}
 use Rattle.machine_defs.specs.Audits.{HasSums}
-use Rattle.machine_defs.specs.Begins.{new_job}
+use Rattle.machine_defs.specs.Begins.{beginning}
 use Rattle.machine_defs.specs.Steps.{next_action, holder_of}
 use Rattle.state_laws.specs.Sound.{IsSound}
 use Rattle.vault_table.specs.Values.{IsFoldOf}
@@ -33,12 +33,11 @@ use Rattle.vault_core.specs.declared.action.Next.{Next}
 use Rattle.vault_core.specs.declared.action.Next.TheVariants as next
 use Rattle.vault_core.specs.declared.pinned.Pinned.{Pinned}
 use Rattle.vault_core.specs.declared.wish.Wish.{Wish}
-use Rattle.vault_core.specs.declared.wish.Wish.TheVariants as wish
 use Rattle.vault_core.specs.declared.wish.BeginFault.{BeginFault}
 use Rattle.vault_core.specs.declared.wish.BeginFault.TheVariants as fault
-use Rattle.vault_core.specs.Wished.{aim_of_wish, is_opener}
-use Rattle.vault_core.specs.View.{CoreJob, CoreView, flag_at}
-use Rattle.vault_core.specs.Coming.{seen_action, asks_next, is_move, entry_in}
+use Rattle.vault_core.specs.Wished.{aim_of_wish}
+use Rattle.vault_core.specs.View.{CoreJob, CoreView, plan_in}
+use Rattle.vault_core.specs.Coming.{seen_action, asks_next, is_move, written_in}
 
 -- the machine's kind of a wish
 abbrev pub IsKindOf : Wish → Kind → Type 0
@@ -46,43 +45,55 @@ IsKindOf w kind = aim_of_wish w ≡ aim_of kind
 
 -- a pinned file, without its bytes
 abbrev pub pin_of : PinnedBytes → Pinned
-pin_of f = record { id = f.id; length = length f.bytes }
+pin_of f = record { id = f.id; length = length f.bytes; profile = f.profile }
+
+-- the plan of a job of the machine, without bytes
+abbrev pub seen_plan : Job → Plan Pinned
+seen_plan j = record {
+  aim = aim_of j.kind;
+  profile = j.profile;
+  subject = j.subject;
+  older = j.older;
+  flagged = j.flagged;
+  pins = map pin_of j.pinned;
+}
+
+-- no provider was counted yet, and no round was undecided
+abbrev pub no_sums : Setup → Sums
+no_sums s = record { counts = replicate s.n 0; undecided = 0 }
 
 -- an audit
-abbrev pub is_audit_wish : Wish → Bool
-is_audit_wish wish.Audit = true
-is_audit_wish w = false
+abbrev pub is_audit : Kind → Bool
+is_audit AuditJob = true
+is_audit kind = false
 
 -- an audit that has asked all that it asks
-abbrev pub has_asked : CoreJob → Bool
-has_asked c = is_audit_wish c.wish && (not c.opening && not (asks_next (slice_get c.rest 0)))
+abbrev pub has_asked : Setup → Job → Bool
+has_asked s j =
+    is_audit j.kind
+    && (not (is_first_append j) && not (asks_next (slice_get (actions_of s j) j.place)))
 
 -- a job of a core stands for a job of the machine
 pub record IsJobOf (s : Setup) (c : CoreJob) (j : Job) : Type 0 where
   pub number : c.number ≡ j.number
-  pub kind : IsKindOf c.wish j.kind
-  pub pinned : c.pinned ≡ map pin_of j.pinned
-  pub flagged : (k : ℕ) → k < s.n → flag_at c.flagged k ≡ j.flagged k
-  pub subject : c.subject ≡ j.subject
-  pub opening : c.opening ≡ (is_opener c.wish && is_first_append j)
-  pub rest : c.rest ≡ actions_left s j
-  pub unjudged : c.opening ≡ true → c.sums ≡ record { counts = replicate s.n 0; undecided = 0 }
-  pub sums : IsTrue (has_asked c) → HasSums s j c.sums
+  pub plan : plan_in c.plan ≡ seen_plan j
+  pub place : c.place ≡ j.place
+  pub unjudged : j.kind ≡ AuditJob → j.place < 4 → c.sums ≡ no_sums s
+  pub judged : IsTrue (has_asked s j) → HasSums s j c.sums
 
 -- the append in flight is that of the same job, and its record is the one that this job writes
 abbrev pub IsCoreFlight : CoreView → Option Append → Type 0
 IsCoreFlight c None = c.append ≡ None
-IsCoreFlight c (Some a) = (c.append ≡ Some a.job) × (entry_in c a.job ≡ Some a.entry)
+IsCoreFlight c (Some a) = (c.append ≡ Some a.job) × (written_in c a.job ≡ Some a.entry)
 
 -- a core stands for a state of the machine
 pub record CoreIs (c : CoreView) (w : State) : Type 0 where
   pub sound : IsSound 8 w
   pub is_open : w.is_open ≡ true
-  pub first : version_of w.records ≡ 1
   pub none_alone : w.alone ≡ None
   pub table : IsFoldOf w.records c.table
   pub setup : c.setup ≡ setup_in w
-  pub end : c.end ≡ text_size w.records
+  pub end : c.end ≡ journal_end w
   pub jobs : AllZip (IsJobOf c.setup) c.jobs w.jobs
   pub next_job : c.next_job ≡ w.next_job
   pub append : IsCoreFlight c w.append
@@ -93,17 +104,21 @@ abbrev pub refusal_of : BeginFault → Refusal
 refusal_of fault.MustReopen = refusal.MustReopen
 refusal_of fault.Busy = refusal.Busy
 refusal_of fault.BadName = refusal.BadName
+refusal_of fault.BadProfile = refusal.BadProfile
 refusal_of fault.TooLong = refusal.TooLong
+refusal_of fault.OldVersion = refusal.OldVersion
 refusal_of fault.NoSuchName = refusal.NoSuchName
 refusal_of fault.TooManyFiles = refusal.TooManyFiles
 refusal_of fault.RepairDue = refusal.RepairDue
 refusal_of fault.NothingDue = refusal.NothingDue
+refusal_of fault.NewVersion = refusal.NewVersion
 refusal_of fault.JournalFull = refusal.JournalFull
 refusal_of fault.Memory = refusal.Memory
 
--- the state after a begin
-abbrev pub begun : State → ℕ → Kind → State
-begun w moment kind = record w { jobs = w.jobs ++ new_job w moment kind ∷ []; next_job = w.next_job + 1 }
+-- the state after a begin, of a put also with a profile of its own
+abbrev pub begun : State → ℕ → Kind → Option ℕ → State
+begun w moment kind own =
+    record w { jobs = w.jobs ++ beginning w moment kind own ∷ []; next_job = w.next_job + 1 }
 
 -- a job runs and has this next action, which has to wait for this job, if for any
 pub record ComesNext (w : State) (number : ℕ) (action : Action) (awaited : Option ℕ) : Type 0 where

@@ -1,17 +1,20 @@
 -- How jobs as they are kept go on.
 --
---   aimed object task    == a task of this object
---   decides job          == the next action decides on the removal of an older object
---   drawn_tasks k w ts   == the tasks of a job that has taken this number
---   removals_of n object == the removals of an object that a job takes away, if there is one, and the end
-use Rattle.std.specs.Prelude.{ℕ, Bool, true, false, not, List, [], ◌∷◌, ◌++◌, map, Option, None, Some}
+--   aimed object task                    == a task of this object
+--   is_taker wish                        == a job of this wish takes an older object away, where there is one
+--   decides job                          == the last append of such a job has ended, which decides on the
+--                                           older object
+--   decides_on job                       == the append that it makes is its last one
+--   drawn_tasks k w ts                   == the tasks of a job that has taken this number
+--   removals_of n object                 == the removals of an object that a job takes away, if there is one,
+--                                           and the end
+--   LeavesBehind n older decided old new == what the last move of an append leaves before a job
+--   listed_older o                       == the object that a job takes away, as a list
+use Rattle.std.specs.Prelude.{◌≡◌, ℕ, ◌-◌, ◌==◌, ◌&&◌, Bool, true, false, List, [], ◌∷◌, ◌++◌, length, map, drop, Option, None, Some}
 use Rattle.machine_defs.specs.Actions.{Action, Remove, End}
-use Rattle.vault_core.specs.Rest.{numbers}
+use Rattle.vault_core.specs.Rest.{numbers, rest_of}
 use Rattle.vault_core.specs.declared.wish.Wish.{Wish}
 use Rattle.vault_core.specs.declared.wish.Wish.TheVariants as wish
-use Rattle.vault_core.specs.declared.cursor.Move.TheVariants as move
-use Rattle.vault_core.specs.declared.cursor.Cursor.{Cursor}
-use Rattle.vault_core.specs.declared.cursor.Cursor.TheVariants as at
 use Rattle.vault_core.specs.declared.job.Task.{Task}
 use Rattle.vault_core.specs.declared.job.Job.{Job}
 
@@ -19,35 +22,37 @@ use Rattle.vault_core.specs.declared.job.Job.{Job}
 abbrev pub aimed : ℕ → Task → Task
 aimed object task = record task { object = object }
 
--- a job at its first append, or at a later one, takes an older object away once this is done: a put at its
--- last append, a drop at its only one
-abbrev pub is_taker : Wish → Bool → Bool
-is_taker (wish.Put name size) opening = not opening
-is_taker (wish.Drop name) opening = opening
-is_taker w opening = false
+-- a job of this wish takes an older object away, where there is one
+abbrev pub is_taker : Wish → Bool
+is_taker (wish.Put name size own) = true
+is_taker (wish.Drop name) = true
+is_taker w = false
 
--- an action decides on the removal of an older object: it is the last move of such an append
-abbrev pub decides_at : Wish → Cursor → Bool
-decides_at w (at.Opening move.GateSync) = is_taker w true
-decides_at w (at.Closing move.GateSync) = is_taker w false
-decides_at w c = false
-
--- the next action of a job does so
+-- the last append of such a job has ended
 abbrev pub decides : Job → Bool
-decides job = decides_at job.wish job.cursor
+decides job = (job.appends == 0) && is_taker job.wish
 
--- a cursor is at a move of a first append that is not its last
-abbrev pub goes_opening : Cursor → Bool
-goes_opening (at.Opening move.GateSync) = false
-goes_opening (at.Opening m) = true
-goes_opening c = false
+-- the append that a job makes is its last one, which decides on the older object
+abbrev pub decides_on : Job → Bool
+decides_on job = (job.appends - 1 == 0) && is_taker job.wish
 
 -- the tasks of a job that has taken this number: a put names its own file by it
 abbrev pub drawn_tasks : ℕ → Wish → List Task → List Task
-drawn_tasks number (wish.Put name size) tasks = map (aimed number) tasks
+drawn_tasks number (wish.Put name size own) tasks = map (aimed number) tasks
 drawn_tasks number w tasks = tasks
+
+-- the object that a job takes away, as a list
+abbrev pub listed_older : Option ℕ → List ℕ
+listed_older None = []
+listed_older (Some object) = object ∷ []
 
 -- the removals of an object that a job takes away, if there is one, and the end
 abbrev pub removals_of : ℕ → Option ℕ → List Action
 removals_of n None = End ∷ []
 removals_of n (Some object) = map (λ j. Remove j object) (numbers 0 n) ++ End ∷ []
+
+-- what the last move of an append leaves before a job: what its decision leaves, or all behind the move
+abbrev pub LeavesBehind : ℕ → Option ℕ → Bool → Job → Job → Type 0
+LeavesBehind n older true old new =
+    (rest_of n new ≡ removals_of n older) × (new.left ≡ length (removals_of n older))
+LeavesBehind n older false old new = (rest_of n new ≡ drop 1 (rest_of n old)) × (new.left ≡ old.left - 1)

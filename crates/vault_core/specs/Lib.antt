@@ -6,6 +6,7 @@ pub mod Coming
 pub mod Carried
 pub mod Replies
 pub mod Going
+pub mod Targets
 pub mod Reserves
 pub mod Fed
 pub mod Refusing

@@ -1,17 +1,21 @@
 -- How a core is kept.
 --
---   core_job n job            == what a contract sees of a job
+--   plan_kept job             == the plan of a job as it is kept
+--   core_job job              == what a contract sees of a job
 --   view_of a                 == what a contract sees of a core
 --   IsWithin n flagged cursor == the cursor is at a provider, and at a stripe or round that there is, and is
 --                                one that a job of this wish comes to
 --   IsSet n job               == what stays of a job as it is kept while it goes on
 --   MayBeAt n job c xs        == a job may be at a cursor, and then these are the actions that it has not yet
 --                                made
---   IsJobKept n job           == a job as it is kept
+--   IsSteady n job            == a job as it is kept, for n providers, whatever its plan
+--   MayFinish n job           == a job is at the last move of an append
+--   IsJobKept s job           == a job as it is kept: from its cursor on stand the actions of its plan
 --   IsCore a                  == a core as it is kept
-use Rattle.std.specs.Prelude.{◌≡◌, ℕ, ◌<◌, ◌≤◌, Bool, true, false, IsTrue, List, [], length, map}
+use Rattle.std.specs.Prelude.{◌≡◌, ℕ, ◌+◌, ◌<◌, ◌≤◌, ◌^◌, Bool, true, false, IsTrue, nat_lt, List, [], length, map, None, Some}
 use Rattle.std.specs.List.{All}
-use Rattle.record_defs.specs.Records.{Setup, is_setup}
+use Rattle.column_defs.specs.Verdicts.{Sums}
+use Rattle.record_defs.specs.Records.{Setup, is_setup, all_profiles}
 use Rattle.machine_defs.specs.Actions.{Action}
 use Rattle.machine_defs.specs.Left.{removes_older}
 use Rattle.record_codec.specs.Entries.{counted, with_master, IsPadded}
@@ -23,21 +27,13 @@ use Rattle.vault_core.specs.declared.cursor.Cursor.TheVariants as at
 use Rattle.vault_core.specs.declared.job.Task.{Task}
 use Rattle.vault_core.specs.declared.job.Job.{Job}
 use Rattle.vault_core.specs.declared.own.Core.TheInside.{Inside}
-use Rattle.vault_core.specs.View.{CoreJob, CoreView, AreRising, flag_at}
-use Rattle.vault_core.specs.Wished.{aim_of_wish, is_opener, is_closer, HasName, IsShort}
+use Rattle.vault_core.specs.View.{CorePlan, CoreJob, CoreView, AreRising, HasLoneUpgrade, flag_at, rest_in, appends_in}
+use Rattle.vault_core.specs.Wished.{aim_of_wish, profile_named, is_opener, is_closer, HasName, IsShort}
 use Rattle.vault_core.specs.Rest.{rest_at, rest_of}
 use Rattle.vault_core.specs.Reserves.{Reserves}
 use Rattle.vault_core.specs.Coming.{most_of}
-
--- a cursor is at a first append
-abbrev pub is_opening : Cursor → Bool
-is_opening (at.Opening m) = true
-is_opening c = false
-
--- a cursor is at the first move of a first append
-abbrev pub is_unbegun : Cursor → Bool
-is_unbegun (at.Opening move.Body) = true
-is_unbegun c = false
+use Rattle.vault_core.specs.Going.{listed_older, decides_on}
+use Rattle.vault_core.specs.Targets.{turns_for, targets_of, tasks_made}
 
 -- a cursor is at the first move of an append
 abbrev pub is_start : Cursor → Bool
@@ -45,29 +41,30 @@ is_start (at.Opening move.Body) = true
 is_start (at.Closing move.Body) = true
 is_start c = false
 
--- a cursor is behind all appends
-abbrev pub is_past : Cursor → Bool
-is_past (at.Removing object j) = true
-is_past at.Ending = true
-is_past c = false
-
 -- a cursor is at the end
 abbrev pub is_over : Cursor → Bool
 is_over at.Ending = true
 is_over c = false
 
--- what a contract sees of a job
-abbrev pub core_job : ℕ → Job → CoreJob
-core_job n job = record {
-  number = job.number;
-  wish = job.wish;
-  pinned = job.pinned.items;
-  flagged = job.flagged;
+-- the plan of a job as it is kept
+abbrev pub plan_kept : Job → CorePlan
+plan_kept job = record {
+  aim = aim_of_wish job.wish;
+  profile = job.profile;
   subject = job.subject;
-  opening = is_opening job.cursor;
-  rest = rest_of n job;
-  sums = record { counts = counted job.counts; undecided = job.undecided };
+  older = listed_older job.older;
+  flagged = job.flagged;
+  pins = job.pinned.items;
 }
+
+-- the sums of a job as it is kept
+abbrev pub sums_kept : Job → Sums
+sums_kept job = record { counts = counted job.counts; undecided = job.undecided }
+
+-- what a contract sees of a job
+abbrev pub core_job : Job → CoreJob
+core_job job =
+    record { number = job.number; plan = plan_kept job; place = job.place; sums = sums_kept job }
 
 -- the setup of a core
 abbrev pub setup_kept : Inside → Setup
@@ -79,7 +76,7 @@ view_of a = record {
   table = a.table;
   setup = setup_kept a;
   end = a.end;
-  jobs = map (core_job a.setup.n) a.jobs.items;
+  jobs = map core_job a.jobs.items;
   next_job = a.next_job;
   append = a.append;
   barred = a.barred;
@@ -93,6 +90,7 @@ has_append w = true
 -- a wish that calls providers
 abbrev pub is_caller : Wish → Bool
 is_caller (wish.Drop name) = false
+is_caller wish.Upgrade = false
 is_caller w = true
 
 -- a wish that works on stripes
@@ -129,6 +127,8 @@ pub record IsSet (n : ℕ) (job : Job) : Type 0 where
   pub tasks : All (λ (t : Task). 0 < t.turns) job.tasks.items
   pub idle : is_caller job.wish ≡ false → job.tasks.items ≡ []
   pub wishable : HasName job.wish × IsShort job.wish
+  pub known : IsTrue (nat_lt job.profile all_profiles)
+  pub own : (p : ℕ) → profile_named job.wish ≡ Some p → job.profile ≡ p
   pub flags : length job.flagged ≡ 16
   pub counts : job.counts.n ≡ n
   pub padded : IsPadded job.counts
@@ -139,19 +139,42 @@ pub record MayBeAt (n : ℕ) (job : Job) (cursor : Cursor) (actions : List Actio
   pub within : IsWithin n job.flagged cursor
   pub rest : rest_at n job cursor ≡ actions
 
--- a job as it is kept
-pub record IsJobKept (n : ℕ) (job : Job) : Type 0 where
+-- a job as it is kept, for n providers, whatever its plan
+pub record IsSteady (n : ℕ) (job : Job) : Type 0 where
   pub stays : IsSet n job
   pub comes : comes_to job.wish job.cursor ≡ true
   pub within : IsWithin n job.flagged job.cursor
-  pub left : job.left ≡ most_of n (core_job n job)
+
+-- a job is at the last move of an append
+pub record MayFinish (n : ℕ) (job : Job) : Type 0 where
+  pub steady : IsSteady n job
+  pub going : is_over job.cursor ≡ false
+  pub appends : 0 < job.appends
+  pub left : 0 < job.left
+  pub decided : decides_on job ≡ true → job.left ≡ 2 + n
+  pub fits : job.place + job.left < 2 ^ 64
+
+-- A job as it is kept: from its cursor on stand the actions of its plan that it has not yet made, and its
+-- tasks, its appends and the steps that it may still make are those of its plan. Until its last append is
+-- done it takes nothing away.
+pub record IsJobKept (s : Setup) (job : Job) : Type 0 where
+  pub steady : IsSteady s.n job
+  pub tasks : job.tasks.items
+      ≡ tasks_made (turns_for s job.wish) (targets_of job.wish job.profile job.subject job.pinned.items)
+  pub listed : rest_of s.n job ≡ rest_in s (core_job job)
+  pub appends : job.appends ≡ appends_in s (core_job job)
+  pub left : job.left ≡ most_of s (core_job job)
+  pub fits : job.place + job.left < 2 ^ 64
+  pub undecided : 0 < job.appends → job.older ≡ None
 
 -- A core as it is kept: its setup is within its limits, the journal has room for all records of its jobs,
--- the table for their PutStarts, and the jobs have ascending numbers.
+-- the table for their PutStarts, the jobs have ascending numbers, and where an upgrade runs it is the only
+-- one.
 pub record IsCore (a : Inside) : Type 0 where
   pub set_up : IsTrue (is_setup (setup_kept a))
-  pub kept : All (IsJobKept a.setup.n) a.jobs.items
+  pub kept : All (IsJobKept (setup_kept a)) a.jobs.items
   pub few : length a.jobs.items ≤ 8
   pub begun : 9 ≤ a.end
   pub reserves : Reserves (view_of a)
   pub numbered : AreRising 0 (view_of a).jobs a.next_job
+  pub lone : HasLoneUpgrade (view_of a).jobs

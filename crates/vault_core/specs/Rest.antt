@@ -11,9 +11,12 @@
 --   closing_of wish                == the actions behind those on files: the last append, and the end
 --   moves_from at                  == the moves of an append from this one on
 --   actions_after at, move_actions == those behind it; those from one on, if there is one
---   tasks_on n job tasks           == the actions from the first of these tasks on
---   beyond n job spot              == the actions behind those at a stripe or round
---   rest_at n job cursor           == the actions from a cursor on
+--   tasks_from ..                  == the actions from the first of these tasks on
+--   behind_spot ..                 == the actions behind those at a stripe or round
+--   rest_from ..                   == the actions from a cursor on
+--   tasks_on n job tasks           == the first of these of a job
+--   beyond n job spot              == the second
+--   rest_at n job cursor           == the third
 --   rest_of n job                  == the actions that a job has not yet made
 use Rattle.std.specs.Prelude.{ℕ, ◌+◌, ◌-◌, Bool, List, [], ◌∷◌, ◌++◌, drop, map, Option, None, Some, if◌then◌else◌}
 use Rattle.std.specs.List.{flat_map, range_with_len}
@@ -35,7 +38,7 @@ numbers a b = range_with_len a (b - a)
 
 -- what a job calls a provider for at a stripe or a round
 abbrev pub call_of : Wish → ℕ → ℕ → ℕ → Action
-call_of (wish.Put name length) object turn j = Store j object turn
+call_of (wish.Put name length own) object turn j = Store j object turn
 call_of wish.Audit object turn j = Ask j object turn
 call_of w object turn j = Fetch j object turn
 
@@ -95,26 +98,40 @@ move_actions None = []
 move_actions (Some m) = moves_from m
 
 -- the actions from the first of these tasks on
-abbrev pub tasks_on : ℕ → Job → List Task → List Action
-tasks_on n job tasks = tasks_of n job.wish job.flagged tasks ++ closing_of job.wish
+abbrev pub tasks_from : ℕ → Wish → List Bool → List Task → List Action
+tasks_from n w flagged tasks = tasks_of n w flagged tasks ++ closing_of w
 
 -- the actions behind those at a stripe or round
-abbrev pub beyond : ℕ → Job → Spot → List Action
-beyond n job spot =
-    turns_from (spot.turn + 1) n job.wish job.flagged spot.object spot.turns
-    ++ tasks_on n job (drop spot.behind job.tasks.items)
+abbrev pub behind_spot : ℕ → Wish → List Bool → List Task → Spot → List Action
+behind_spot n w flagged tasks spot =
+    turns_from (spot.turn + 1) n w flagged spot.object spot.turns
+    ++ tasks_from n w flagged (drop spot.behind tasks)
 
 -- the actions from a cursor on
+abbrev pub rest_from : ℕ → Wish → List Bool → List Task → Cursor → List Action
+rest_from n w flagged tasks (at.Opening m) = moves_from m ++ tasks_from n w flagged tasks
+rest_from n w flagged tasks (at.Calling spot j) =
+    calls_from j n w spot.object spot.turn
+    ++ (work_of n w flagged spot.object spot.turn ++ behind_spot n w flagged tasks spot)
+rest_from n w flagged tasks (at.Working spot) =
+    work_of n w flagged spot.object spot.turn ++ behind_spot n w flagged tasks spot
+rest_from n w flagged tasks (at.Rewriting spot j) =
+    rewrites_from j n flagged spot.object spot.turn ++ behind_spot n w flagged tasks spot
+rest_from n w flagged tasks (at.Closing m) = moves_from m ++ End ∷ []
+rest_from n w flagged tasks (at.Removing object j) = map (λ k. Remove k object) (numbers j n) ++ End ∷ []
+rest_from n w flagged tasks at.Ending = End ∷ []
+
+-- the same of a job
+abbrev pub tasks_on : ℕ → Job → List Task → List Action
+tasks_on n job tasks = tasks_from n job.wish job.flagged tasks
+
+-- the actions behind those at a stripe or round of a job
+abbrev pub beyond : ℕ → Job → Spot → List Action
+beyond n job spot = behind_spot n job.wish job.flagged job.tasks.items spot
+
+-- the actions of a job from a cursor on
 abbrev pub rest_at : ℕ → Job → Cursor → List Action
-rest_at n job (at.Opening m) = moves_from m ++ tasks_on n job job.tasks.items
-rest_at n job (at.Calling spot j) =
-    calls_from j n job.wish spot.object spot.turn
-    ++ (work_of n job.wish job.flagged spot.object spot.turn ++ beyond n job spot)
-rest_at n job (at.Working spot) = work_of n job.wish job.flagged spot.object spot.turn ++ beyond n job spot
-rest_at n job (at.Rewriting spot j) = rewrites_from j n job.flagged spot.object spot.turn ++ beyond n job spot
-rest_at n job (at.Closing m) = moves_from m ++ End ∷ []
-rest_at n job (at.Removing object j) = map (λ k. Remove k object) (numbers j n) ++ End ∷ []
-rest_at n job at.Ending = End ∷ []
+rest_at n job cursor = rest_from n job.wish job.flagged job.tasks.items cursor
 
 -- the actions that a job has not yet made
 unfoldable pub rest_of : ℕ → Job → List Action

@@ -1,35 +1,82 @@
 -- What a contract sees of a core, as plain data.
 --
---   CoreJob                 == a running job: its wish, the files that it works on, the providers that a
---                              repair rewrites, its number as a put, an audit or a repair, whether it is at
---                              its first append, the actions that it has not yet made, and the sums of an
---                              audit
+--   core_pins               == how pinned files are read
+--   CoreJob                 == a running job: its number, the plan of its actions, how many of them it has
+--                              made, and the sums of an audit
+--   plan_in plan            == the plan, as the machine has it
+--   planned s plan          == its actions
+--   rest_in s j             == those that a job has not yet made
+--   appends_in s j          == how many appends it has not yet finished
 --   CoreView                == the table, the setup, the length of the journal's text, the running jobs in
 --                              the order of their begins, the next job number, the job whose append is in
 --                              flight, and whether a disk call failed
 --   job_in jobs number      == the job of that number; None where there is none
+--   is_upgrading j          == a job is an upgrade
+--   HasLoneUpgrade jobs     == where an upgrade runs it is the only job
 --   AreRising low jobs next == the numbers of jobs ascend, from `low` on, and are below `next`
 --   flag_at flags j         == the flag of provider j; false past the end
 --   of_providers n          == a setup of so many providers, all else 0: the room of records and the steps
 --                              left hang on no more of it
-use Rattle.std.specs.Prelude.{ℕ, ◌+◌, ◌≤◌, ◌==◌, Bool, false, List, [], ◌∷◌, Option, None, Some, slice_index_or, if◌then◌else◌}
+use Rattle.std.specs.List.{list_any}
+use Rattle.std.specs.Prelude.{◌≡◌, ℕ, ◌+◌, ◌≤◌, ◌==◌, Bool, true, false, length, List, [], ◌∷◌, Option, None, Some, drop, count_by, slice_index_or, if◌then◌else◌}
 use Rattle.column_defs.specs.Verdicts.{Sums}
 use Rattle.record_defs.specs.Records.{Setup}
-use Rattle.machine_defs.specs.Actions.{Action}
+use Rattle.machine_defs.specs.Jobs.{Aim}
+use Rattle.machine_defs.specs.Sights.{is_upgrade}
+use Rattle.machine_defs.specs.Actions.{Action, PinsOf, Plan, plan_actions, ends_append}
 use Rattle.vault_table.specs.Values.{Kept}
 use Rattle.vault_core.specs.declared.pinned.Pinned.{Pinned}
-use Rattle.vault_core.specs.declared.wish.Wish.{Wish}
+
+-- how pinned files are read
+abbrev pub core_pins : PinsOf Pinned
+core_pins = record { id = λ f. f.id; profile = λ f. f.profile; size = λ f. f.length }
+
+-- the plan of a job, as plain data
+pub record CorePlan : Type 0 where
+  pub aim : Aim
+  pub profile : ℕ
+  pub subject : ℕ
+  pub older : List ℕ
+  pub flagged : List Bool
+  pub pins : List Pinned
 
 -- a running job
 pub record CoreJob : Type 0 where
   pub number : ℕ
-  pub wish : Wish
-  pub pinned : List Pinned  -- in ascending order of their numbers
-  pub flagged : List Bool
-  pub subject : ℕ  -- 0 until it is drawn
-  pub opening : Bool  -- the first append of a put, a drop or an audit is not yet done
-  pub rest : List Action  -- not yet made
+  pub plan : CorePlan
+  pub place : ℕ  -- in the list of the plan's actions
   pub sums : Sums
+
+-- the flag of a provider
+abbrev pub flag_at : List Bool → ℕ → Bool
+flag_at flags j = slice_index_or flags j false
+
+-- a plan, as the machine has it
+abbrev pub plan_in : CorePlan → Plan Pinned
+plan_in p = record {
+  aim = p.aim;
+  profile = p.profile;
+  subject = p.subject;
+  older = p.older;
+  flagged = flag_at p.flagged;
+  pins = p.pins;
+}
+
+-- the actions of a plan
+unfoldable pub planned_by : Setup → Plan Pinned → List Action
+planned_by s plan = plan_actions core_pins s plan plan.aim
+
+-- the same of a job's plan
+abbrev pub planned : Setup → CorePlan → List Action
+planned s p = planned_by s (plan_in p)
+
+-- those that a job has not yet made
+abbrev pub rest_in : Setup → CoreJob → List Action
+rest_in s j = drop j.place (planned s j.plan)
+
+-- how many appends a job has not yet finished
+abbrev pub appends_in : Setup → CoreJob → ℕ
+appends_in s j = count_by ends_append (rest_in s j)
 
 -- a core
 pub record CoreView : Type 0 where
@@ -51,9 +98,13 @@ abbrev pub AreRising : ℕ → List CoreJob → ℕ → Type 0
 AreRising low [] next = low ≤ next
 AreRising low (j ∷ js) next = (low ≤ j.number) × AreRising (j.number + 1) js next
 
--- the flag of a provider
-abbrev pub flag_at : List Bool → ℕ → Bool
-flag_at flags j = slice_index_or flags j false
+-- a job is an upgrade
+abbrev pub is_upgrading : CoreJob → Bool
+is_upgrading j = is_upgrade j.plan.aim
+
+-- where an upgrade runs it is the only job
+abbrev pub HasLoneUpgrade : List CoreJob → Type 0
+HasLoneUpgrade jobs = list_any is_upgrading jobs ≡ true → length jobs ≤ 1
 
 -- a setup of so many providers, all else 0
 abbrev pub of_providers : ℕ → Setup

@@ -1,14 +1,15 @@
-ghost use Rattle.std.specs.Prelude.{◌≡◌, ◌≢◌, ◌<◌, ◌≤◌, ◌+◌, ◌-◌, ◌^◌, ℕ, length, sum_by, None, Some, OnOk, OnErr, IfErr, IfOk};
+ghost use Rattle.std.specs.Prelude.{◌≡◌, ◌≢◌, ◌<◌, ◌≤◌, ◌+◌, ◌-◌, ◌^◌, ◌∷◌, ◌++◌, [], ℕ, length, sum_by, None, Some, OnOk, OnErr, IfErr, IfOk};
 ghost use Rattle.machine_defs.specs.Jobs.{Kind};
 ghost use Rattle.machine_defs.specs.Events.{IsSpelledKind};
 ghost use Rattle.machine_defs.specs.States.{State};
-ghost use Rattle.machine_defs.specs.Begins.{begin_refusal};
+ghost use Rattle.machine_defs.specs.Begins.{refusal_of_begin};
 ghost use Rattle.vault_core.specs.declared.wish.BeginFault.TheVariants as fault;
 ghost use Rattle.vault_core.specs.Carried.{CoreIs, IsKindOf, refusal_of, begun};
 ghost use Rattle.record_defs.specs.Records.{largest_journal};
 ghost use Rattle.vault_core.specs.Parts.{core_job, IsJobKept};
 ghost use Rattle.vault_core.specs.Reserves.{reserved_of};
-ghost use Rattle.vault_core.specs.Wished.{IsShort};
+ghost use Rattle.vault_core.specs.View.{HasLoneUpgrade};
+ghost use Rattle.vault_core.specs.Wished.{profile_named, IsShort};
 ghost use Rattle.vault_core.specs.Making.{starts_for, admitted};
 
 use crate::job::Job;
@@ -26,12 +27,13 @@ impl Core {
         requires size { IsShort wish }
         ensures begun { (w : State) (kind : Kind) (moment : ℕ) → CoreIs self.old w → IsKindOf wish kind
             → IsSpelledKind kind →
-            OnOk result (CoreIs self.new (begun w moment kind)) }
+            OnOk result (CoreIs self.new (begun w moment kind (profile_named wish))) }
         ensures accepted { (w : State) (kind : Kind) → CoreIs self.old w → IsKindOf wish kind
-            → OnOk result (begin_refusal 8 w kind ≡ None) }
+            → OnOk result (refusal_of_begin 8 w kind (profile_named wish) ≡ None) }
         ensures number { IfOk result (λ job. job ≡ self.old.next_job) }
         ensures refused { (w : State) (kind : Kind) → CoreIs self.old w → IsKindOf wish kind →
-            IfErr result (λ why. why ≢ fault.Memory → begin_refusal 8 w kind ≡ Some (refusal_of why)) }
+            IfErr result (λ why. why ≢ fault.Memory
+            → refusal_of_begin 8 w kind (profile_named wish) ≡ Some (refusal_of why)) }
         ensures unchanged { OnErr result (self.new ≡ self.old) }
         ensures setup { self.new.setup ≡ self.old.setup }
     {
@@ -49,9 +51,11 @@ impl Core {
         requires number { self.old.next_job < 2 ^ 32 - 1 }
         requires few { length self.old.jobs < 8 }
         requires next { job.number ≡ self.old.next_job }
-        requires kept { IsJobKept self.old.setup.n job }
-        requires room { self.old.end + sum_by (reserved_of self.old.setup.n) self.old.jobs
-            + reserved_of self.old.setup.n (core_job self.old.setup.n job) ≤ largest_journal }
+        requires kept { IsJobKept self.old.setup job }
+        requires room { self.old.end + sum_by (reserved_of self.old.table.version self.old.setup)
+            self.old.jobs
+            + reserved_of self.old.table.version self.old.setup (core_job job) ≤ largest_journal }
+        requires lone { HasLoneUpgrade (self.old.jobs ++ core_job job ∷ []) }
         ensures admitted { OnOk result (self.new ≡ admitted self.old job.wish job) }
         ensures number { IfOk result (λ number. number ≡ self.old.next_job) }
         ensures memory { IfErr result (λ why. why ≡ fault.Memory) }

@@ -1,17 +1,27 @@
 //! The last records of jobs.
-ghost use Rattle.std.specs.Prelude.{◌≡◌, ◌≤◌, ◌<◌, ◌^◌};
-ghost use Rattle.record_defs.specs.Records.{PutDone, AuditDone, RepairDone};
+ghost use Rattle.std.specs.Prelude.{◌≡◌, ◌≤◌, ◌<◌, ◌^◌, IsTrue, nat_lt};
+ghost use Rattle.machine_defs.specs.Appends.{done_record};
+ghost use Rattle.record_defs.specs.Records.{AuditDone, RepairDone, Version, all_profiles};
 ghost use Rattle.std.specs.List.{All};
-ghost use Rattle.record_codec.specs.Entries.{entry_of, counted, IsInGrammar, IsPadded};
+ghost use Rattle.record_codec.specs.Entries.{entry_of, counted, HasSpelling, IsInGrammar, IsPadded};
 
 use record_codec::{Counts, Record};
 
-/// The last record of a put.
-pub fn put_done(id: u64, length: u32) -> Record
-    ensures value { entry_of result ≡ PutDone id length }
-    ensures in_grammar { length ≤ 2 ^ 22 → IsInGrammar result }
+/// The last record of a put: in the second version it has the file's profile.
+pub fn put_done(version: u8, id: u64, length: u32, profile: u8) -> Record
+    ensures value { entry_of result ≡ done_record version id length profile }
+    ensures spelled { length ≤ 2 ^ 22 → IsTrue (nat_lt profile all_profiles) → HasSpelling result }
+    ensures in_grammar { length ≤ 2 ^ 22 → version ≡ 1 → IsInGrammar result }
 {
-    Record::PutDone { id, length }
+    if version == 2 {
+        Record::PutDoneIn {
+            id,
+            length,
+            profile,
+        }
+    } else {
+        Record::PutDone { id, length }
+    }
 }
 
 /// Numbers fit their type: a contract learns it of a slice alone.
@@ -23,6 +33,7 @@ fn fit(numbers: &[u32])
 pub fn audit_done(number: u64, undecided: u32, counts: Counts) -> Record
     ensures value { entry_of result ≡ AuditDone number undecided (counted counts) }
     ensures in_grammar { 4 ≤ counts.n → counts.n ≤ 16 → IsPadded counts → IsInGrammar result }
+    ensures spelled { 4 ≤ counts.n → counts.n ≤ 16 → IsPadded counts → HasSpelling result }
 {
     fit(&counts.by);
     Record::AuditDone {
@@ -36,6 +47,15 @@ pub fn audit_done(number: u64, undecided: u32, counts: Counts) -> Record
 pub fn repair_done(number: u64) -> Record
     ensures value { entry_of result ≡ RepairDone number }
     ensures in_grammar { IsInGrammar result }
+    ensures spelled { HasSpelling result }
 {
     Record::RepairDone { number }
+}
+
+/// The record of an upgrade: from it on the journal has its second version.
+pub fn second_version() -> Record
+    ensures value { entry_of result ≡ Version }
+    ensures spelled { HasSpelling result }
+{
+    Record::Version
 }

@@ -13,8 +13,9 @@ ghost use Rattle.record_codec.specs.Entries.{counted, IsPadded};
 ghost use Rattle.vault_table.specs.Values.{file_of_entry, IsFoldOf};
 ghost use Rattle.vault_core.specs.View.{CoreJob};
 ghost use Rattle.vault_core.specs.Coming.{TakesReply, core_left, written_by};
-ghost use Rattle.vault_core.specs.Parts.{core_job};
-ghost use Rattle.vault_core.specs.Fed.{first_at, goes_plainly, stopped, barred_at, stepped, with_at, judged, number_drawn, drawn, is_pinned_in, removable_in, older_of, HasGated};
+ghost use Rattle.vault_core.specs.Wished.{aim_of_wish};
+ghost use Rattle.vault_core.specs.Going.{listed_older};
+ghost use Rattle.vault_core.specs.Fed.{first_at, goes_plainly, stopped, barred_at, stepped, with_at, judged, number_as, number_drawn, drawn, is_pinned_in, removable_in, taken_as, HasGated};
 ghost use Rattle.vault_core.specs.Carried.{CoreIs};
 ghost use Rattle.vault_core.specs.Replies.{IsReplyTo};
 
@@ -65,7 +66,7 @@ impl Core {
             },
             Reply::Failed => match action {
                 Action::Store { .. } => self.stop(place),
-                _ => self.bar(place),
+                _ => self.fail(place),
             },
             Reply::Memory => self.stop(place),
             Reply::Lost { .. } => self.stop(place),
@@ -92,7 +93,7 @@ impl Core {
     }
 
     /// Ends the job at a place by a disk call that failed: no job goes on.
-    fn bar(&mut self, place: usize)
+    fn fail(&mut self, place: usize)
         requires { place < length self.old.jobs }
         ensures { self.new ≡ barred_at self.old place }
     {
@@ -104,8 +105,10 @@ impl Core {
     /// The job at a place has made its next action.
     fn advance(&mut self, place: usize)
         requires { goes_plainly (first_at self.old place) ≡ true }
-        ensures { (j : CoreJob) → slice_get self.old.jobs place ≡ Some j
+        ensures moved { (j : CoreJob) → slice_get self.old.jobs place ≡ Some j
             → self.new ≡ with_at self.old place (stepped j) }
+        ensures falls { (j : CoreJob) → slice_get self.old.jobs place ≡ Some j
+            → core_left self.new j.number < core_left self.old j.number }
     {
         let providers = self.setup.n as u32;
         let job = &mut self.jobs[place];
@@ -117,9 +120,11 @@ impl Core {
         requires plain { goes_plainly (first_at self.old place) ≡ true }
         requires counts { counts.n ≡ self.old.setup.n }
         requires padded { IsPadded counts }
-        ensures { (j : CoreJob) → slice_get self.old.jobs place ≡ Some j →
+        ensures moved { (j : CoreJob) → slice_get self.old.jobs place ≡ Some j →
             self.new ≡ with_at self.old place
             (judged j (record { counts = counted counts; undecided = undecided })) }
+        ensures falls { (j : CoreJob) → slice_get self.old.jobs place ≡ Some j
+            → core_left self.new j.number < core_left self.old j.number }
     {
         let providers = self.setup.n as u32;
         let job = &mut self.jobs[place];
@@ -130,11 +135,13 @@ impl Core {
 
     /// The number that a job's append draws, or has drawn.
     fn number(&self, job: &Job) -> u64
-        ensures { result ≡ number_drawn self.now.table (core_job self.now.setup.n job.now) job.now.wish }
+        ensures { result
+            ≡ number_as self.now.table job.now.appends job.now.subject (aim_of_wish job.now.wish) }
     {
+        let first = job.appends == 2;
         match job.wish {
-            Wish::Put { .. } if job.is_opening() => self.table.next_id(),
-            Wish::Audit if job.is_opening() => self.table.next_audit(),
+            Wish::Put { .. } if first => self.table.next_id(),
+            Wish::Audit if first => self.table.next_audit(),
             _ => job.subject,
         }
     }
@@ -142,9 +149,11 @@ impl Core {
     /// The append of the job at a place has begun: it draws its number.
     fn begin_append(&mut self, place: usize)
         requires { first_at self.old place ≡ Some WriteBody }
-        ensures { (j : CoreJob) → slice_get self.old.jobs place ≡ Some j →
+        ensures moved { (j : CoreJob) → slice_get self.old.jobs place ≡ Some j →
             self.new ≡ record (with_at self.old place
-            (drawn j (number_drawn self.old.table j j.wish))) { append = Some j.number } }
+            (drawn j (number_drawn self.old.setup self.old.table j))) { append = Some j.number } }
+        ensures falls { (j : CoreJob) → slice_get self.old.jobs place ≡ Some j
+            → core_left self.new j.number < core_left self.old j.number }
     {
         let number = self.number(&self.jobs[place]);
         let providers = self.setup.n as u32;
@@ -163,7 +172,7 @@ impl Core {
 
     /// The object of a file, unless there is none or it is pinned.
     fn removable(&self, file: Option<Entry>) -> Option<u64>
-        ensures { result ≡ removable_in self.now.jobs (option_map file_of_entry file) }
+        ensures { listed_older result ≡ removable_in self.now.jobs (option_map file_of_entry file) }
     {
         match file {
             Some(file) => {
@@ -177,10 +186,13 @@ impl Core {
     }
 
     /// The object that a put or a drop takes out of effect, unless there is none or it is pinned.
-    fn older(&self, wish: &Wish) -> Option<u64>
-        ensures { result ≡ older_of self.now.table self.now.jobs wish.now }
+    fn older(&self, job: &Job) -> Option<u64>
+        ensures { listed_older result
+            ≡ taken_as self.now.table self.now.jobs job.now.appends (aim_of_wish job.now.wish) }
     {
-        match wish {
+        let first = job.appends == 2;
+        match &job.wish {
+            Wish::Put { .. } if first => None,
             Wish::Put { name, .. } => self.removable(self.table.find(name)),
             Wish::Drop { name } => self.removable(self.table.find(name)),
             _ => None,
@@ -192,7 +204,7 @@ impl Core {
         requires { first_at self.old place ≡ Some SyncGate }
         ensures gated { (j : CoreJob) (entry : EntryData) (rs : List EntryData)
             → slice_get self.old.jobs place ≡ Some j →
-            written_by self.old.table j j.wish ≡ Some entry → IsFoldOf rs self.old.table
+            written_by self.old.setup self.old.table j ≡ Some entry → IsFoldOf rs self.old.table
             → refused rs entry ≡ None →
             HasGated self.old place j entry rs self.new }
         ensures falls { (j : CoreJob) → slice_get self.old.jobs place ≡ Some j
@@ -202,9 +214,9 @@ impl Core {
         let Some(entry) = self.jobs[place].record(&self.table) else {
             return;
         };
-        let older = self.older(&self.jobs[place].wish);
+        let older = self.older(&self.jobs[place]);
         if self.table.apply(&entry).is_err() {
-            self.bar(place);
+            self.fail(place);
             return;
         }
         self.end += 1 + entry.size() as u64;

@@ -1,12 +1,11 @@
 //! How a job goes on.
-ghost use Rattle.std.specs.Prelude.{◌≡◌, ◌<◌, ◌≤◌, ◌+◌, ℕ, false, true, [], ◌++◌, map, drop, Some, IfSome, IfNone, slice_get};
+ghost use Rattle.std.specs.Prelude.{◌≡◌, ◌<◌, ◌≤◌, ◌+◌, ◌-◌, ◌^◌, ℕ, false, true, [], ◌++◌, length, map, drop, IfSome, IfNone};
 ghost use Rattle.vault_core.specs.View.{flag_at};
-ghost use Rattle.machine_defs.specs.Actions.{SyncGate};
 ghost use Rattle.vault_core.specs.Coming.{is_last_ask};
-ghost use Rattle.vault_core.specs.Fed.{gated_by};
 ghost use Rattle.vault_core.specs.Rest.{rest_of, closing_of, tasks_on, beyond, calls_from, work_of, rewrites_from};
-ghost use Rattle.vault_core.specs.Parts.{IsSet, MayBeAt, IsJobKept, core_job, is_opening, is_over, is_rewriter, is_worker, is_caller};
-ghost use Rattle.vault_core.specs.Going.{aimed, decides, goes_opening, drawn_tasks, removals_of};
+ghost use Rattle.vault_core.specs.Parts.{IsSet, MayBeAt, IsSteady, is_over, is_rewriter, is_worker, is_caller};
+ghost use Rattle.vault_core.specs.Going.{aimed, is_taker, decides, decides_on, drawn_tasks, removals_of, LeavesBehind};
+ghost use Rattle.vault_core.specs.Parts.{MayFinish};
 
 use crate::action::Action;
 use crate::cursor::{Cursor, Move, Spot};
@@ -44,8 +43,7 @@ fn aim(tasks: &mut [Task], object: u64)
 impl Job {
     /// The cursor behind all files.
     fn closing(&self) -> Cursor
-        ensures at { (n : ℕ) → MayBeAt n self.now result (closing_of self.now.wish) }
-        ensures later { is_opening result ≡ false }
+        ensures { (n : ℕ) → MayBeAt n self.now result (closing_of self.now.wish) }
     {
         match self.wish {
             Wish::Get { .. } | Wish::Drop { .. } => Cursor::Ending,
@@ -55,9 +53,8 @@ impl Job {
 
     /// The cursor at the task of a place, or behind all files.
     fn task_at(&self, place: usize) -> Cursor
-        ensures at { (n : ℕ) → 0 < n → IsSet n self.now
+        ensures { (n : ℕ) → 0 < n → IsSet n self.now
             → MayBeAt n self.now result (tasks_on n self.now (drop place self.now.tasks.items)) }
-        ensures later { is_opening result ≡ false }
     {
         match self.tasks.get(place) {
             Some(task) => Cursor::Calling {
@@ -76,9 +73,8 @@ impl Job {
     /// The cursor behind a stripe or round.
     fn turn_after(&self, spot: Spot) -> Cursor
         requires { spot.turn < spot.turns }
-        ensures at { (n : ℕ) → 0 < n → IsSet n self.now → is_caller self.now.wish ≡ true
+        ensures { (n : ℕ) → 0 < n → IsSet n self.now → is_caller self.now.wish ≡ true
             → MayBeAt n self.now result (beyond n self.now spot) }
-        ensures later { is_opening result ≡ false }
     {
         if spot.turn + 1 < spot.turns {
             return Cursor::Calling {
@@ -95,10 +91,9 @@ impl Job {
     /// The cursor behind the calls of providers at a stripe or round.
     fn calls_after(&self, spot: Spot) -> Cursor
         requires { spot.turn < spot.turns }
-        ensures at { (n : ℕ) → 0 < n → IsSet n self.now → is_caller self.now.wish ≡ true →
+        ensures { (n : ℕ) → 0 < n → IsSet n self.now → is_caller self.now.wish ≡ true →
             MayBeAt n self.now result
             (work_of n self.now.wish self.now.flagged spot.object spot.turn ++ beyond n self.now spot) }
-        ensures later { is_opening result ≡ false }
     {
         match self.wish {
             Wish::Get { .. } | Wish::Repair => Cursor::Working { spot },
@@ -113,10 +108,9 @@ impl Job {
         requires some { 0 < providers }
         requires stays { IsSet providers self.now }
         requires wish { is_rewriter self.now.wish ≡ true }
-        ensures at { MayBeAt providers self.now result
+        ensures { MayBeAt providers self.now result
             (rewrites_from from providers self.now.flagged spot.object spot.turn
             ++ beyond providers self.now spot) }
-        ensures later { is_opening result ≡ false }
     {
         match flagged_from(&self.flagged, from, providers) {
             Some(provider) => Cursor::Rewriting { spot, provider },
@@ -131,10 +125,9 @@ impl Job {
         requires some { 0 < providers }
         requires stays { IsSet providers self.now }
         requires wish { is_worker self.now.wish ≡ true }
-        ensures at { MayBeAt providers self.now result
+        ensures { MayBeAt providers self.now result
             (drop 1 (work_of providers self.now.wish self.now.flagged spot.object spot.turn)
             ++ beyond providers self.now spot) }
-        ensures later { is_opening result ≡ false }
     {
         match self.wish {
             Wish::Repair => self.rewrites_after(spot, 0, providers),
@@ -148,11 +141,10 @@ impl Job {
         requires some { provider < providers }
         requires stays { IsSet providers self.now }
         requires wish { is_caller self.now.wish ≡ true }
-        ensures at { MayBeAt providers self.now result
+        ensures { MayBeAt providers self.now result
             (calls_from (provider + 1) providers self.now.wish spot.object spot.turn
             ++ (work_of providers self.now.wish self.now.flagged spot.object spot.turn
             ++ beyond providers self.now spot)) }
-        ensures later { is_opening result ≡ false }
     {
         if provider + 1 < providers {
             return Cursor::Calling {
@@ -167,10 +159,9 @@ impl Job {
     fn after(&self, providers: u32) -> Cursor
         requires few { providers ≤ 16 }
         requires some { 0 < providers }
-        requires kept { IsJobKept providers self.now }
+        requires kept { IsSteady providers self.now }
         requires going { is_over self.now.cursor ≡ false }
-        ensures at { MayBeAt providers self.now result (drop 1 (rest_of providers self.now)) }
-        ensures opening { is_opening result ≡ goes_opening self.now.cursor }
+        ensures { MayBeAt providers self.now result (drop 1 (rest_of providers self.now)) }
     {
         match self.cursor {
             Cursor::Opening { at } => match at.next() {
@@ -204,7 +195,7 @@ impl Job {
     pub fn is_last_ask(&self, providers: u32) -> bool
         requires few { providers ≤ 16 }
         requires some { 0 < providers }
-        requires kept { IsJobKept providers self.now }
+        requires kept { IsSteady providers self.now }
         ensures { result ≡ is_last_ask (rest_of providers self.now) }
     {
         match self.action() {
@@ -217,15 +208,20 @@ impl Job {
     pub fn advance(&mut self, providers: u32)
         requires few { providers ≤ 16 }
         requires some { 0 < providers }
-        requires kept { IsJobKept providers self.old }
+        requires kept { IsSteady providers self.old }
         requires going { is_over self.old.cursor ≡ false }
-        requires undecided { decides self.old ≡ false }
-        ensures kept { IsJobKept providers self.new }
+        requires left { 0 < self.old.left }
+        requires fits { self.old.place + self.old.left < 2 ^ 64 }
+        ensures kept { IsSteady providers self.new }
         ensures rest { rest_of providers self.new ≡ drop 1 (rest_of providers self.old) }
-        ensures opening { is_opening self.new.cursor ≡ goes_opening self.old.cursor }
-        ensures same { self.new ≡ record self.old { cursor = self.new.cursor; left = self.new.left } }
+        ensures same { self.new ≡ record self.old {
+          cursor = self.new.cursor;
+          place = self.old.place + 1;
+          left = self.old.left - 1;
+        } }
     {
         self.cursor = self.after(providers);
+        self.place += 1;
         self.left -= 1;
     }
 
@@ -241,28 +237,30 @@ impl Job {
         }
     }
 
-    /// The next action decides on the removal of an older object: it is the last move of a put's or a drop's
-    /// last append.
-    pub fn decides(&self) -> bool
+    /// The last append of a put or a drop has ended, which decides on the removal of an older object.
+    fn decides(&self) -> bool
         ensures { result ≡ decides self.now }
     {
-        matches!(
-            (&self.wish, self.cursor),
-            (Wish::Put { .. }, Cursor::Closing { at: Move::GateSync })
-                | (Wish::Drop { .. }, Cursor::Opening { at: Move::GateSync })
-        )
+        self.appends == 0 && matches!(self.wish, Wish::Put { .. } | Wish::Drop { .. })
     }
 
     /// Makes the action that decides on the removal of an older object.
-    pub fn decide(&mut self, older: Option<u64>, providers: u32)
+    fn decide(&mut self, older: Option<u64>, providers: u32)
         requires some { 0 < providers }
-        requires kept { IsJobKept providers self.old }
-        requires decides { decides self.old ≡ true }
-        ensures kept { IsJobKept providers self.new }
+        requires kept { IsSteady providers self.old }
+        requires taker { is_taker self.old.wish ≡ true }
+        requires left { self.old.left ≡ 2 + providers }
+        requires fits { self.old.place + self.old.left < 2 ^ 64 }
+        ensures kept { IsSteady providers self.new }
         ensures rest { rest_of providers self.new ≡ removals_of providers older }
-        ensures opening { is_opening self.new.cursor ≡ false }
-        ensures same { self.new ≡ record self.old { cursor = self.new.cursor; left = self.new.left } }
+        ensures left { self.new.left ≡ length (removals_of providers older) }
+        ensures same { self.new ≡ record self.old {
+          cursor = self.new.cursor;
+          place = self.old.place + 1;
+          left = self.new.left;
+        } }
     {
+        self.place += 1;
         match older {
             Some(object) => {
                 self.cursor = Cursor::Removing {
@@ -278,16 +276,24 @@ impl Job {
         }
     }
 
-    /// Makes the last move of an append, which decides on the removal of an older object where there is one
-    /// to decide on.
+    /// Makes the last move of an append, which decides on the removal of an older object where it is the last
+    /// append of a put or a drop.
     pub fn finish(&mut self, older: Option<u64>, providers: u32)
         requires few { providers ≤ 16 }
         requires some { 0 < providers }
-        requires kept { IsJobKept providers self.old }
-        requires gate { slice_get (rest_of providers self.old) 0 ≡ Some SyncGate }
-        ensures kept { IsJobKept providers self.new }
-        ensures seen { core_job providers self.new ≡ gated_by providers older (core_job providers self.old) }
+        requires ready { MayFinish providers self.old }
+        ensures kept { IsSteady providers self.new }
+        ensures behind { LeavesBehind providers older (decides_on self.old) self.old self.new }
+        ensures same { self.new ≡ record self.old {
+          older = older;
+          cursor = self.new.cursor;
+          appends = self.old.appends - 1;
+          place = self.old.place + 1;
+          left = self.new.left;
+        } }
     {
+        self.older = older;
+        self.appends -= 1;
         if self.decides() {
             self.decide(older, providers);
         } else {

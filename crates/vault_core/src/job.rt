@@ -1,15 +1,18 @@
-ghost use Rattle.std.specs.Prelude.{◌≡◌, ◌<◌, ◌≤◌, ◌==◌, ℕ, Some, true, IfSome, IsSome, slice_get};
+ghost use Rattle.std.specs.Prelude.{◌≡◌, ◌<◌, ◌≤◌, ◌==◌, ℕ, Some, true, false, IfSome, IsSome, slice_get};
+ghost use Rattle.record_defs.specs.Records.{Setup};
 ghost use Rattle.std.specs.Option.{option_map};
 ghost use Rattle.std.specs.List.{list_any};
-ghost use Rattle.record_codec.specs.Entries.{entry_of, IsInGrammar};
+ghost use Rattle.record_codec.specs.Entries.{entry_of, HasSpelling, IsInGrammar};
 ghost use Rattle.vault_core.specs.declared.pinned.Pinned.{Pinned as PinnedFile};
-ghost use Rattle.vault_core.specs.Coming.{seen_action, action_next, entry_of_job, written_by, is_last_ask, is_idle, is_move, provider_of};
+ghost use Rattle.vault_core.specs.Coming.{seen_action, action_next, entry_of_job, written_as, is_last_ask, is_idle, is_move, provider_of};
 ghost use Rattle.vault_core.specs.Rest.{call_of, rest_of};
-ghost use Rattle.vault_core.specs.Parts.{core_job, IsJobKept, has_append, is_opening, is_unbegun, is_past};
+ghost use Rattle.vault_core.specs.Parts.{core_job, plan_kept, sums_kept, IsSet, IsSteady, IsJobKept, has_append};
+ghost use Rattle.vault_core.specs.Wished.{aim_of_wish};
+ghost use Rattle.machine_defs.specs.Sights.{is_upgrade};
 
 use crate::action::Action;
 use crate::cursor::{Cursor, Move, Spot};
-use crate::entries::{audit_done, put_done, repair_done};
+use crate::entries::{audit_done, put_done, repair_done, second_version};
 use crate::pinned::Pinned;
 use crate::wish::Wish;
 use record_codec::{Counts, Record};
@@ -22,16 +25,21 @@ pub struct Task {
     pub turns: u32,
 }
 
-/// A running job. A put's own file is its one task.
+/// A running job: the plan of its actions, and where it is among them. A put's own file is its one task. Of
+/// its appends so many have not ended; so many actions are made, and so many may be left at most.
 #[derive(Drop)]
 pub struct Job {
     pub number: u32,
     pub wish: Wish,
+    pub profile: u8,
     pub pinned: Vec<Pinned>,
     pub tasks: Vec<Task>,
     pub flagged: [bool; 16],
     pub subject: u64,
+    pub older: Option<u64>,
     pub cursor: Cursor,
+    pub appends: u8,
+    pub place: u64,
     pub left: u64,
     pub undecided: u32,
     pub counts: Counts,
@@ -64,10 +72,10 @@ fn call(wish: &Wish, spot: &Spot, provider: u32) -> Action
 impl Job {
     /// The next of the actions that the job has not yet made.
     pub fn action(&self) -> Action
-        ensures value { (n : ℕ) → IsJobKept n self.now
+        ensures value { (n : ℕ) → IsSteady n self.now
             → slice_get (rest_of n self.now) 0 ≡ Some (seen_action result) }
-        ensures within { (n j : ℕ) → IsJobKept n self.now → provider_of (seen_action result) ≡ Some j → j < n }
-        ensures appends { (n : ℕ) → IsJobKept n self.now → is_move (Some (seen_action result)) ≡ true
+        ensures within { (n j : ℕ) → IsSteady n self.now → provider_of (seen_action result) ≡ Some j → j < n }
+        ensures appends { (n : ℕ) → IsSteady n self.now → is_move (Some (seen_action result)) ≡ true
             → has_append self.now.wish ≡ true }
     {
         match self.cursor {
@@ -88,29 +96,23 @@ impl Job {
         }
     }
 
-    /// The job has not made the first move of its first append.
-    fn is_unbegun(&self) -> bool
-        ensures { result ≡ is_unbegun self.now.cursor }
-    {
-        matches!(self.cursor, Cursor::Opening { at: Move::Body })
-    }
-
     /// A drop that has not begun its append and whose name is not in effect: only its end is left.
     fn is_idle(&self, table: &Table) -> bool
-        ensures { (n : ℕ) → result ≡ is_idle table.now (core_job n self.now) }
+        ensures { result ≡ is_idle table.now (core_job self.now) }
     {
         match &self.wish {
-            Wish::Drop { name } => table.find(name).is_none() && self.is_unbegun(),
+            Wish::Drop { name } => table.find(name).is_none() && self.place == 0,
             _ => false,
         }
     }
 
     /// The next action of the job over a table.
     pub fn action_over(&self, table: &Table) -> Action
-        ensures value { (n : ℕ) → IsJobKept n self.now
-            → action_next table.now (core_job n self.now) ≡ Some (seen_action result) }
-        ensures within { (n j : ℕ) → IsJobKept n self.now → provider_of (seen_action result) ≡ Some j → j < n }
-        ensures appends { (n : ℕ) → IsJobKept n self.now → is_move (Some (seen_action result)) ≡ true
+        ensures value { (s : Setup) → IsJobKept s self.now
+            → action_next s table.now (core_job self.now) ≡ Some (seen_action result) }
+        ensures within { (s : Setup) (j : ℕ) → IsJobKept s self.now
+            → provider_of (seen_action result) ≡ Some j → j < s.n }
+        ensures appends { (s : Setup) → IsJobKept s self.now → is_move (Some (seen_action result)) ≡ true
             → has_append self.now.wish ≡ true }
     {
         if self.is_idle(table) {
@@ -119,52 +121,50 @@ impl Job {
         self.action()
     }
 
-    /// The job is at a move of its first append.
-    pub fn is_opening(&self) -> bool
-        ensures { result ≡ is_opening self.now.cursor }
-    {
-        matches!(self.cursor, Cursor::Opening { .. })
-    }
-
-    /// The job has no append left.
-    pub fn is_past(&self) -> bool
-        ensures { result ≡ is_past self.now.cursor }
-    {
-        matches!(self.cursor, Cursor::Removing { .. } | Cursor::Ending)
-    }
-
-    /// The record of the job's first append where it is at that, and else that of its last one.
+    /// The record of the job's append: a put and an audit have two appends before the first one is done.
     pub fn record(&self, table: &Table) -> Option<Record>
-        ensures value { (n : ℕ) → option_map entry_of result ≡ written_by table.now (core_job n self.now)
-            self.now.wish }
+        ensures value { option_map entry_of result ≡ written_as table.now self.now.appends
+            self.now.profile self.now.subject (sums_kept self.now) (aim_of_wish self.now.wish) }
         ensures there { has_append self.now.wish ≡ true → IsSome result }
-        ensures in_grammar { (n : ℕ) → 4 ≤ n → n ≤ 16 → IsJobKept n self.now
+        ensures spelled { (n : ℕ) → 4 ≤ n → n ≤ 16 → IsSet n self.now
+            → IfSome result (λ entry. HasSpelling entry) }
+        ensures in_grammar { (n : ℕ) → 4 ≤ n → n ≤ 16 → IsSet n self.now → table.now.version ≡ 1
+            → is_upgrade (aim_of_wish self.now.wish) ≡ false
             → IfSome result (λ entry. IsInGrammar entry) }
     {
-        let opening = self.is_opening();
+        let first = self.appends == 2;
         match self.wish {
-            Wish::Put { name, .. } if opening => Some(Record::PutStart {
+            Wish::Put { name, .. } if first => Some(Record::PutStart {
                 id: table.next_id(),
                 name,
             }),
-            Wish::Put { length, .. } => Some(put_done(self.subject, length)),
+            Wish::Put { length, .. } => Some(put_done(
+                table.version(),
+                self.subject,
+                length,
+                self.profile,
+            )),
             Wish::Get { .. } => None,
             Wish::Drop { name } => Some(Record::Drop { name }),
-            Wish::Audit if opening => Some(Record::AuditStart {
+            Wish::Audit if first => Some(Record::AuditStart {
                 number: table.next_audit(),
             }),
             Wish::Audit => Some(audit_done(self.subject, self.undecided, self.counts)),
             Wish::Repair => Some(repair_done(self.subject)),
+            Wish::Upgrade => Some(second_version()),
         }
     }
 
     /// The record that the job's append writes, if it is in one.
     pub fn entry_over(&self, table: &Table) -> Option<Record>
-        ensures value { (n : ℕ) → IsJobKept n self.now
-            → option_map entry_of result ≡ entry_of_job table.now (core_job n self.now) }
-        ensures there { (n : ℕ) → IsJobKept n self.now
-            → is_move (action_next table.now (core_job n self.now)) ≡ true → IsSome result }
-        ensures in_grammar { (n : ℕ) → 4 ≤ n → n ≤ 16 → IsJobKept n self.now
+        ensures value { (s : Setup) → IsJobKept s self.now
+            → option_map entry_of result ≡ entry_of_job s table.now (core_job self.now) }
+        ensures there { (s : Setup) → IsJobKept s self.now
+            → is_move (action_next s table.now (core_job self.now)) ≡ true → IsSome result }
+        ensures spelled { (n : ℕ) → 4 ≤ n → n ≤ 16 → IsSet n self.now
+            → IfSome result (λ entry. HasSpelling entry) }
+        ensures in_grammar { (n : ℕ) → 4 ≤ n → n ≤ 16 → IsSet n self.now → table.now.version ≡ 1
+            → is_upgrade (aim_of_wish self.now.wish) ≡ false
             → IfSome result (λ entry. IsInGrammar entry) }
     {
         match self.action_over(table) {

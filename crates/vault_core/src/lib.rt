@@ -3,6 +3,7 @@
 #![tactic(auto)]
 
 mod action;
+mod alone;
 mod begin;
 mod cursor;
 mod entries;

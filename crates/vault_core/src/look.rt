@@ -1,4 +1,4 @@
-ghost use Rattle.std.specs.Prelude.{◌≡◌, ◌+◌, ◌<◌, ◌≤◌, ◌^◌, ◌||◌, List, ℕ, Option, None, Some, length, IsTrue, true, IfSome, IsSome, if◌then◌else◌, nat_le, ◌∷◌, []};
+ghost use Rattle.std.specs.Prelude.{◌≡◌, ◌+◌, ◌<◌, ◌≤◌, ◌^◌, ◌||◌, List, ℕ, Option, None, Some, length, IsTrue, true, false, IfSome, IsSome, if◌then◌else◌, nat_le, ◌∷◌, []};
 ghost use Rattle.std.specs.Option.{option_map};
 ghost use Rattle.record_defs.specs.Records.{record_size};
 ghost use Rattle.machine_defs.specs.Jobs.{job_of};
@@ -10,17 +10,19 @@ ghost use Rattle.machine_defs.specs.Sights.{sight_of, is_shut};
 ghost use Rattle.machine_defs.specs.Refusals as refusal;
 ghost use Rattle.machine_defs.specs.Refusals.{first_refusal};
 ghost use Rattle.column_defs.specs.Verdicts.{Sums};
-ghost use Rattle.record_codec.specs.Entries.{entry_of, counted, IsInGrammar, IsPadded};
+ghost use Rattle.record_codec.specs.Entries.{entry_of, counted, HasSpelling, IsInGrammar, IsPadded};
 ghost use Rattle.vault_core.specs.View.{job_in, CoreJob};
-ghost use Rattle.vault_core.specs.Coming.{seen_next, waits_or_acts, next_in, left_in, entry_in, is_last_ask_of, called_provider, calls_disk};
+ghost use Rattle.vault_core.specs.Coming.{seen_next, waits_or_acts, next_in, left_in, entry_in, is_last_ask_of, is_upgrade_of, called_provider, calls_disk};
 ghost use Rattle.vault_core.specs.Reserves.{Reserves};
 ghost use Rattle.vault_core.specs.Parts.{core_job, IsJobKept};
 ghost use Rattle.vault_core.specs.Carried.{CoreIs, refusal_of, IsNextOf, IsEntryOf};
+ghost use Rattle.vault_core.specs.Wished.{aim_of_wish, profile_named};
 
 use crate::action::{Action, Next};
 use crate::job::Job;
 use crate::own::Core;
 use crate::pinned::Pinned;
+use crate::refusal::some_upgrade;
 use crate::wish::{BeginFault, Wish};
 use key_schedule::Master;
 use record_codec::{Counts, Record, Setup};
@@ -78,6 +80,9 @@ impl Core {
         if self.barred {
             return Some(BeginFault::MustReopen);
         }
+        if some_upgrade(&self.jobs) {
+            return Some(BeginFault::Busy);
+        }
         if self.running() as usize >= MOST_JOBS {
             return Some(BeginFault::Busy);
         }
@@ -86,8 +91,8 @@ impl Core {
 
     /// The running job of a number.
     pub(crate) fn find(&self, job: u32) -> Option<&Job>
-        ensures found { option_map (λ x. core_job self.now.setup.n x.now) result ≡ job_in self.now.jobs job }
-        ensures kept { IfSome result (λ x. IsJobKept self.now.setup.n x.now) }
+        ensures found { option_map (λ x. core_job x.now) result ≡ job_in self.now.jobs job }
+        ensures kept { IfSome result (λ x. IsJobKept self.now.setup x.now) }
         ensures providers { (4 ≤ self.now.setup.n) × (self.now.setup.n ≤ 16) }
         ensures reserves { Reserves self.now }
     {
@@ -152,7 +157,9 @@ impl Core {
     fn writing(&self, job: u32) -> Option<Record>
         ensures value { option_map entry_of result ≡ entry_in self.now job }
         ensures there { calls_disk (next_in self.now job) ≡ true → IsSome result }
-        ensures in_grammar { IfSome result (λ entry. IsInGrammar entry) }
+        ensures spelled { IfSome result (λ entry. HasSpelling entry) }
+        ensures in_grammar { self.now.table.version ≡ 1 → is_upgrade_of (job_in self.now.jobs job) ≡ false
+            → IfSome result (λ entry. IsInGrammar entry) }
         ensures room { IfSome result (λ entry. self.now.end + (1 + record_size (entry_of entry)) ≤ 2 ^ 24) }
     {
         let running = self.find(job)?;
@@ -164,7 +171,9 @@ impl Core {
         ensures value { option_map entry_of result ≡ entry_in self.now job }
         ensures there { calls_disk (next_in self.now job) ≡ true → IsSome result }
         ensures machine { (w : State) → CoreIs self.now w → IsEntryOf w job (option_map entry_of result) }
-        ensures in_grammar { IfSome result (λ entry. IsInGrammar entry) }
+        ensures spelled { IfSome result (λ entry. HasSpelling entry) }
+        ensures in_grammar { self.now.table.version ≡ 1 → is_upgrade_of (job_in self.now.jobs job) ≡ false
+            → IfSome result (λ entry. IsInGrammar entry) }
         ensures room { IfSome result (λ entry. self.now.end + (1 + record_size (entry_of entry)) ≤ 2 ^ 24) }
     {
         self.writing(job)
@@ -172,7 +181,7 @@ impl Core {
 
     /// Whether the job's next action is the last ask of an audit, to which the reply is a verdict.
     pub fn is_last_ask(&self, job: u32) -> bool
-        ensures { result ≡ is_last_ask_of (job_in self.now.jobs job) }
+        ensures { result ≡ is_last_ask_of self.now.setup (job_in self.now.jobs job) }
     {
         match self.find(job) {
             Some(running) => running.is_last_ask(self.setup.n as u32),
@@ -182,7 +191,10 @@ impl Core {
 
     /// What a running job is for.
     pub fn wish(&self, job: u32) -> Option<Wish>
-        ensures { result ≡ option_map (λ (j : CoreJob). j.wish) (job_in self.now.jobs job) }
+        ensures aim { option_map aim_of_wish result
+            ≡ option_map (λ (j : CoreJob). j.plan.aim) (job_in self.now.jobs job) }
+        ensures own { IfSome result (λ wish. (p : ℕ) → profile_named wish ≡ Some p
+            → option_map (λ (j : CoreJob). j.plan.profile) (job_in self.now.jobs job) ≡ Some p) }
     {
         match self.find(job) {
             Some(running) => Some(running.wish),
@@ -192,7 +204,7 @@ impl Core {
 
     /// The object number of a running put, or the number of an audit or a repair; 0 until it is drawn.
     pub fn subject(&self, job: u32) -> Option<u64>
-        ensures { result ≡ option_map (λ (j : CoreJob). j.subject) (job_in self.now.jobs job) }
+        ensures { result ≡ option_map (λ (j : CoreJob). j.plan.subject) (job_in self.now.jobs job) }
     {
         match self.find(job) {
             Some(running) => Some(running.subject),
@@ -203,7 +215,7 @@ impl Core {
     /// The files that a running job works on, in ascending order of their object numbers.
     pub fn pinned(&self, job: u32) -> Option<&[Pinned]>
         ensures { option_map (λ x. x.now) result
-            ≡ option_map (λ (j : CoreJob). j.pinned) (job_in self.now.jobs job) }
+            ≡ option_map (λ (j : CoreJob). j.plan.pins) (job_in self.now.jobs job) }
     {
         match self.find(job) {
             Some(running) => Some(&running.pinned),

@@ -1,42 +1,49 @@
 //! How a job is made.
-ghost use Rattle.std.specs.Prelude.{◌≡◌, ◌<◌, ◌≤◌, ◌+◌, ◌*◌, ◌^◌, ◌++◌, ℕ, List, [], ◌∷◌, true, false, length, sum_by, Option, Some, None, IfOk, IfSome, IfNone, OnOk};
+ghost use Rattle.std.specs.Prelude.{◌≡◌, ◌<◌, ◌≤◌, ◌+◌, ◌*◌, ◌^◌, ◌++◌, ℕ, List, [], ◌∷◌, true, false, length, sum_by, Option, Some, None, IfOk, IfSome, IfNone, OnOk, IsTrue, nat_lt};
 ghost use Rattle.std.specs.Option.{option_map};
 ghost use Rattle.std.specs.List.{insert};
 ghost use Rattle.record_codec.specs.Entries.{with_master, IsPadded};
-ghost use Rattle.machine_defs.specs.Setups.{stripes_of};
-ghost use Rattle.machine_defs.specs.Begins.{pin_by, pin_found, pin_each, due_number, due_flags};
+ghost use Rattle.code_defs.specs.Profiles.{profile_of};
+ghost use Rattle.record_defs.specs.Records.{all_profiles};
+ghost use Rattle.machine_defs.specs.Begins.{pin_by, pin_found, pin_each, due_number, due_flags, chosen};
 ghost use Rattle.vault_table.specs.Values.{file_of_entry, due_of_pair};
 ghost use Rattle.vault_core.specs.declared.pinned.Pinned.{Pinned as PinnedFile};
 ghost use Rattle.vault_core.specs.declared.job.Task.{Task as TaskData};
-ghost use Rattle.vault_core.specs.View.{flag_at};
+ghost use Rattle.vault_core.specs.View.{core_pins, flag_at};
+ghost use Rattle.vault_core.specs.Targets.{targets_of, stripes_in, turns_for, tasks_made};
 ghost use Rattle.vault_core.specs.Rest.{rewrites_from};
 ghost use Rattle.vault_core.specs.Parts.{IsJobKept, is_rewriter};
-ghost use Rattle.vault_core.specs.Wished.{HasName, IsShort};
-ghost use Rattle.vault_core.specs.Making.{pin_of_file, core_pins, pins_for, targets_of, turns_for, tasks_made, size_of_turn, other_actions, most_at, cursor_on, cursor_first, IsMade};
+ghost use Rattle.vault_core.specs.Wished.{HasName, IsShort, profile_named};
+ghost use Rattle.vault_core.specs.Making.{pin_of_file, pins_for, size_of_turn, other_actions, most_at, appends_for, cursor_on, cursor_first, IsMade};
 
 use crate::cursor::{Cursor, Move, Spot};
 use crate::job::{Job, Task};
 use crate::pinned::Pinned;
 use crate::wish::Wish;
-use code_points::find_profile;
+use code_points::{Profile, find_profile};
 use record_codec::{Counts, Setup};
 use std::alloc::Global;
 use stream_model::Memory;
 use vault_table::{Entry, Table};
 
-/// How many stripes a file of so many bytes has.
-fn stripes(setup: &Setup, length: u32) -> u32
-    requires primary { 1 ≤ setup.now.l }
-    requires known { setup.now.profile ≤ 4 }
-    ensures { (key : List ℕ) → result ≡ stripes_of (with_master setup.now key) length }
+/// The profile of a number; the last one of a greater number.
+fn profile_at(number: u8) -> Profile
+    ensures { result.keep ≡ (profile_of number).keep }
 {
-    match find_profile(setup.profile) {
-        Some(profile) => {
-            let stripe = 16 * (u64::from(setup.l) * u64::from(profile.keep));
-            ((u64::from(length) + (stripe - 1)) / stripe) as u32
-        }
+    match find_profile(number.min(4)) {
+        Some(profile) => profile,
         None => unreachable!(),
     }
+}
+
+/// How many stripes a file has.
+fn stripes(setup: &Setup, file: &Pinned) -> u32
+    requires primary { 1 ≤ setup.now.l }
+    ensures { (key : List ℕ) → result ≡ stripes_in (with_master setup.now key) file.now }
+{
+    let profile = profile_at(file.profile);
+    let stripe = 16 * (u64::from(setup.l) * u64::from(profile.keep));
+    ((u64::from(file.length) + (stripe - 1)) / stripe) as u32
 }
 
 /// The first place of a file with a larger object number.
@@ -71,6 +78,7 @@ fn pinned_entry(file: &Entry) -> Pinned
     Pinned {
         id: file.id,
         length: file.length,
+        profile: file.profile,
     }
 }
 
@@ -113,12 +121,11 @@ fn pinned_for(alloc: Global, table: &Table, wish: &Wish) -> Result<Vec<Pinned>, 
 }
 
 /// How often a job of this wish works on a file: at each stripe, or in each round where there is a stripe.
-fn turns(setup: &Setup, wish: &Wish, length: u32) -> u32
+fn turns(setup: &Setup, wish: &Wish, file: &Pinned) -> u32
     requires primary { 1 ≤ setup.now.l }
-    requires known { setup.now.profile ≤ 4 }
-    ensures { (key : List ℕ) → result ≡ turns_for (with_master setup.now key) wish.now length }
+    ensures { (key : List ℕ) → result ≡ turns_for (with_master setup.now key) wish.now file.now }
 {
-    let stripes = stripes(setup, length);
+    let stripes = stripes(setup, file);
     match wish {
         Wish::Audit => if stripes == 0 { 0 } else { setup.rounds as u32 },
         _ => stripes,
@@ -128,11 +135,10 @@ fn turns(setup: &Setup, wish: &Wish, length: u32) -> u32
 /// Adds the task of a file, if there is something to do.
 fn add_task(tasks: &mut Vec<Task>, setup: &Setup, wish: &Wish, file: &Pinned) -> Result<(), Memory>
     requires primary { 1 ≤ setup.now.l }
-    requires known { setup.now.profile ≤ 4 }
     ensures { (key : List ℕ) → OnOk result (tasks.new.items ≡ tasks.old.items ++ tasks_made
         (turns_for (with_master setup.now key) wish.now) (file.now ∷ [])) }
 {
-    let turns = turns(setup, wish, file.length);
+    let turns = turns(setup, wish, file);
     if turns > 0 {
         tasks.push(Task {
             object: file.id,
@@ -150,7 +156,6 @@ fn tasks_for(
     files: &[Pinned],
 ) -> Result<Vec<Task>, Memory>
     requires primary { 1 ≤ setup.now.l }
-    requires known { setup.now.profile ≤ 4 }
     ensures { (key : List ℕ) → IfOk result (λ tasks. tasks.items ≡ tasks_made
         (turns_for (with_master setup.now key) wish.now) files.now) }
 {
@@ -161,23 +166,38 @@ fn tasks_for(
     Ok(tasks)
 }
 
+/// The profile of a new job: the one that a put names, or else the setup's.
+fn profile_for(setup: &Setup, wish: &Wish) -> u8
+    ensures { (key : List ℕ) → result ≡ chosen (with_master setup.now key) (profile_named wish.now) }
+{
+    match wish {
+        Wish::Put {
+            profile: Some(profile),
+            ..
+        } => *profile,
+        _ => setup.profile,
+    }
+}
+
 /// The tasks of a new job: of a put its own file, whose object number is not yet drawn.
 fn tasks_of(
     alloc: Global,
     setup: &Setup,
     wish: &Wish,
+    profile: u8,
     pinned: &[Pinned],
 ) -> Result<Vec<Task>, Memory>
     requires primary { 1 ≤ setup.now.l }
-    requires known { setup.now.profile ≤ 4 }
     ensures { (key : List ℕ) → IfOk result (λ tasks. tasks.items ≡ tasks_made
-        (turns_for (with_master setup.now key) wish.now) (targets_of wish.now pinned.now)) }
+        (turns_for (with_master setup.now key) wish.now)
+        (targets_of wish.now profile 0 pinned.now)) }
 {
     match wish {
         Wish::Put { length, .. } => {
             let own = [Pinned {
                 id: 0,
                 length: *length,
+                profile,
             }];
             tasks_for(alloc, setup, wish, &own)
         }
@@ -188,8 +208,8 @@ fn tasks_of(
 /// The providers whose counts are above the tolerance.
 fn flags_of(counts: &Counts, tolerance: u16) -> [bool; 16]
     requires { IsPadded counts.now }
-    ensures flags { (j : ℕ) → j < 16
-        → flag_at result j ≡ due_flags tolerance (Some (due_of_pair (record { 0 = 0; 1 = counts.now }))) j }
+    ensures flags { (j : ℕ) → flag_at result j ≡ due_flags tolerance
+        (Some (due_of_pair (record { 0 = 0; 1 = counts.now }))) j }
     ensures long { length result ≡ 16 }
 {
     let mut flagged = [false; 16];
@@ -202,8 +222,7 @@ fn flags_of(counts: &Counts, tolerance: u16) -> [bool; 16]
 /// The providers that a due audit flags.
 fn flags(due: &Option<(u64, Counts)>, tolerance: u16) -> [bool; 16]
     requires { IfSome due.now (λ x. IsPadded x.1) }
-    ensures flags { (j : ℕ) → j < 16
-        → flag_at result j ≡ due_flags tolerance (option_map due_of_pair due.now) j }
+    ensures flags { (j : ℕ) → flag_at result j ≡ due_flags tolerance (option_map due_of_pair due.now) j }
     ensures long { length result ≡ 16 }
 {
     match due {
@@ -263,7 +282,7 @@ fn other_size(wish: &Wish, providers: u8) -> u64
         Wish::Get { .. } => 1,
         Wish::Drop { .. } => 5 + providers as u64,
         Wish::Audit => 9,
-        Wish::Repair => 5,
+        Wish::Repair | Wish::Upgrade => 5,
     }
 }
 
@@ -299,6 +318,17 @@ fn subject(wish: &Wish, due: &Option<(u64, Counts)>) -> u64
     }
 }
 
+/// How many appends a job of this wish has.
+fn appends(wish: &Wish) -> u8
+    ensures { result ≡ appends_for wish.now }
+{
+    match wish {
+        Wish::Put { .. } | Wish::Audit => 2,
+        Wish::Get { .. } => 0,
+        Wish::Drop { .. } | Wish::Repair | Wish::Upgrade => 1,
+    }
+}
+
 /// The cursor at the first task, or at what is behind all tasks.
 fn cursor_on(closing: Cursor, tasks: &[Task]) -> Cursor
     ensures { result ≡ cursor_on closing tasks.now }
@@ -324,6 +354,7 @@ fn first_cursor(wish: &Wish, tasks: &[Task]) -> Cursor
     match wish {
         Wish::Get { .. } => cursor_on(Cursor::Ending, tasks),
         Wish::Repair => cursor_on(Cursor::Closing { at: Move::Body }, tasks),
+        Wish::Upgrade => Cursor::Closing { at: Move::Body },
         _ => Cursor::Opening { at: Move::Body },
     }
 }
@@ -337,19 +368,21 @@ pub fn make_job(
     number: u32,
 ) -> Result<Job, Memory>
     requires primary { 1 ≤ setup.now.l }
-    requires known { setup.now.profile ≤ 4 }
     requires some { 4 ≤ setup.now.n }
     requires few { setup.now.n ≤ 16 }
     requires named { HasName wish }
     requires short { IsShort wish }
+    requires known { (key : List ℕ)
+        → IsTrue (nat_lt (chosen (with_master setup.now key) (profile_named wish)) all_profiles) }
     ensures made { (key : List ℕ) → IfOk result (λ job. IsMade table.now (with_master setup.now key) number
         wish job) }
-    ensures kept { IfOk result (λ job. IsJobKept setup.now.n job) }
+    ensures kept { (key : List ℕ) → IfOk result (λ job. IsJobKept (with_master setup.now key) job) }
 {
     let due = table.due();
     let flagged = flags(&due, setup.tolerance);
     let pinned = pinned_for(alloc, table, &wish)?;
-    let tasks = tasks_of(alloc, setup, &wish, &pinned)?;
+    let profile = profile_for(setup, &wish);
+    let tasks = tasks_of(alloc, setup, &wish, profile, &pinned)?;
     let Some(left) = most_actions(&wish, &tasks, &flagged, setup.n) else {
         return Err(Memory);
     };
@@ -357,11 +390,15 @@ pub fn make_job(
     Ok(Job {
         number,
         wish,
+        profile,
         pinned,
         tasks,
         flagged,
         subject: subject(&wish, &due),
+        older: None,
         cursor,
+        appends: appends(&wish),
+        place: 0,
         left,
         undecided: 0,
         counts: Counts {

@@ -1,18 +1,17 @@
 //! Why a job does not begin.
 ghost use Rattle.std.specs.Prelude.{◌≡◌, ◌≤◌, ◌+◌, ℕ, Some, None, if◌then◌else◌, length, sum_by, ◌∷◌};
 ghost use Rattle.std.specs.Option.{option_map};
-ghost use Rattle.std.specs.List.{list_any, All};
+ghost use Rattle.std.specs.List.{list_any};
 ghost use Rattle.machine_defs.specs.Jobs.{Kind};
 ghost use Rattle.machine_defs.specs.States.{State};
 ghost use Rattle.machine_defs.specs.Refusals.{first_refusal};
-ghost use Rattle.machine_defs.specs.Sights.{is_check, is_put_or_check, is_name_among, is_busy, is_crowded_for, is_full, causes};
-ghost use Rattle.machine_defs.specs.Begins.{begin_refusal};
+ghost use Rattle.machine_defs.specs.Sights.{is_check, is_put_or_check, is_upgrade, is_name_among, is_busy, is_crowded_for, is_full, causes};
+ghost use Rattle.machine_defs.specs.Begins.{refusal_of_begin};
 ghost use Rattle.vault_core.specs.declared.job.Job.{Job as JobData};
 ghost use Rattle.vault_core.specs.Carried.{CoreIs, IsKindOf, refusal_of};
-ghost use Rattle.vault_core.specs.Wished.{aim_of_wish, HasName, IsShort};
-ghost use Rattle.vault_core.specs.Parts.{core_job, IsJobKept};
-ghost use Rattle.vault_core.specs.Reserves.{reserved_of};
-ghost use Rattle.vault_core.specs.Refusing.{sight_in, aims_kept, puts_name, taken_names, word_refusal_in, refusal_in};
+ghost use Rattle.vault_core.specs.Wished.{aim_of_wish, profile_named, HasName, IsShort};
+ghost use Rattle.vault_core.specs.Reserves.{room_behind};
+ghost use Rattle.vault_core.specs.Refusing.{sight_in, aims_kept, puts_name, taken_names, put_refusal_in, word_refusal_in, refusal_in};
 
 use crate::job::Job;
 use crate::look::MOST_JOBS;
@@ -24,6 +23,9 @@ use vault_table::Table;
 
 /// How many files can be in effect.
 pub const MOST_FILES: usize = 1024;
+
+/// How many profiles there are.
+pub const PROFILES: u8 = 5;
 
 /// The largest length of a journal, in bytes.
 pub const LARGEST_JOURNAL: u64 = 1 << 24;
@@ -69,6 +71,20 @@ fn some_check(jobs: &[Job]) -> bool
     jobs.iter().any(is_check)
 }
 
+/// A job is an upgrade.
+fn is_upgrade(job: &Job) -> bool
+    ensures { result ≡ is_upgrade (aim_of_wish job.now.wish) }
+{
+    matches!(job.wish, Wish::Upgrade)
+}
+
+/// One of these jobs is an upgrade.
+pub(crate) fn some_upgrade(jobs: &[Job]) -> bool
+    ensures { result ≡ list_any (λ (j : JobData). is_upgrade (aim_of_wish j.wish)) jobs.now }
+{
+    jobs.iter().any(is_upgrade)
+}
+
 /// One of these jobs is a put of this name.
 fn some_puts(jobs: &[Job], name: &Name) -> bool
     ensures { result ≡ list_any (λ (j : JobData). puts_name name.now (aim_of_wish j.wish)) jobs.now }
@@ -110,15 +126,15 @@ fn names_beside(table: &Table, jobs: &[Job]) -> usize
 }
 
 /// The room that the records of jobs still need.
-fn reserved_for(jobs: &[Job], providers: u8) -> u64
+fn reserved_for(jobs: &[Job], providers: u8, version: u8) -> u64
     requires few { length jobs.now ≤ 8 }
-    requires kept { All (IsJobKept providers) jobs.now }
-    ensures value { result ≡ sum_by (λ (j : JobData). reserved_of providers (core_job providers j)) jobs.now }
+    ensures value { result
+        ≡ sum_by (λ (j : JobData). room_behind version providers j.wish j.appends) jobs.now }
     ensures bound { result ≤ 8360 }
 {
     let mut room = 0;
     for job in jobs {
-        room += reserved(job, providers);
+        room += reserved(job, providers, version);
     }
     room
 }
@@ -144,13 +160,29 @@ impl Core {
     fn is_busy(&self, wish: &Wish) -> bool
         ensures { result ≡ is_busy 8 (sight_in self.now) (aim_of_wish wish.now) }
     {
+        if some_upgrade(&self.jobs) {
+            return true;
+        }
         if self.jobs.len() >= MOST_JOBS {
             return true;
         }
         match wish {
             Wish::Audit => some_put_or_check(&self.jobs),
             Wish::Repair => some_check(&self.jobs),
+            Wish::Upgrade => !self.jobs.is_empty(),
             _ => false,
+        }
+    }
+
+    /// Why the words of a put, or the names in effect, let none begin.
+    fn put_refusal(&self, name: &Name, profile: Option<u8>) -> Option<BeginFault>
+        ensures { result ≡ put_refusal_in (sight_in self.now) name.now profile }
+    {
+        match profile {
+            None => when(self.is_crowded(name), BeginFault::TooManyFiles),
+            Some(profile) if profile >= PROFILES => Some(BeginFault::BadProfile),
+            Some(_) if self.table.version() == 1 => Some(BeginFault::OldVersion),
+            Some(_) => when(self.is_crowded(name), BeginFault::TooManyFiles),
         }
     }
 
@@ -168,12 +200,13 @@ impl Core {
         ensures { result ≡ word_refusal_in (sight_in self.now) wish.now }
     {
         match wish {
-            Wish::Put { name, .. } => when(self.is_crowded(name), BeginFault::TooManyFiles),
+            Wish::Put { name, profile, .. } => self.put_refusal(name, *profile),
             Wish::Get { name } | Wish::Drop { name } => {
                 when(self.table.find(name).is_none(), BeginFault::NoSuchName)
             }
             Wish::Audit => when(self.table.due().is_some(), BeginFault::RepairDue),
             Wish::Repair => when(self.table.due().is_none(), BeginFault::NothingDue),
+            Wish::Upgrade => when(self.table.version() == 2, BeginFault::NewVersion),
         }
     }
 
@@ -184,8 +217,9 @@ impl Core {
         if let Wish::Get { .. } = wish {
             return false;
         }
-        let room = reserved_for(&self.jobs, self.setup.n);
-        if self.end + room + sizes(wish, self.setup.n) > LARGEST_JOURNAL {
+        let version = self.table.version();
+        let room = reserved_for(&self.jobs, self.setup.n, version);
+        if self.end + room + sizes(wish, self.setup.n, version) > LARGEST_JOURNAL {
             return true;
         }
         match wish {
@@ -219,10 +253,10 @@ impl Core {
         ensures value { result ≡ refusal_in self.now wish.now }
         ensures named { HasName wish.now }
         ensures sight { IsShort wish.now → option_map refusal_of result
-            ≡ first_refusal (causes 8 (sight_in self.now) (aim_of_wish wish.now) None) }
+            ≡ first_refusal (causes 8 (sight_in self.now) (aim_of_wish wish.now) (profile_named wish.now)) }
         ensures machine { (w : State) (kind : Kind) → CoreIs self.now w → IsKindOf wish.now kind
             → IsShort wish.now →
-            option_map refusal_of result ≡ begin_refusal 8 w kind }
+            option_map refusal_of result ≡ refusal_of_begin 8 w kind (profile_named wish.now) }
     {
         read_name(wish);
         self.first_refusal(wish)

@@ -1,10 +1,11 @@
-use Rattle.std.proofs.Common.{◌∙◌, List, [], ap, refl}
+use Rattle.std.proofs.Common.{◌∙◌, List, ap, refl, arith}
 use Rattle.std.specs.Prelude.{Option}
 use Rattle.record_defs.specs.Table.{Due}
 use Rattle.machine_defs.specs.Begins.{due_number, due_flags}
 use Rattle.record_codec.specs.Entries.{with_master}
 use Rattle.vault_core.specs.declared.pinned.Pinned.{Pinned}
-use Rattle.vault_core.specs.Making.{turns_for, tasks_made, targets_of, cursor_first, most_at}
+use Rattle.vault_core.specs.Making.{cursor_first, most_at}
+use Rattle.vault_core.specs.Targets.{turns_for, tasks_made, targets_of}
 use Rattle.vault_core.proofs.Pins.{subject_is}
 use Rattle.vault_core.proofs.Begun.{made-kept}
 use Rattle.vault_core.proofs.made.make_job.Goals as goal
@@ -13,23 +14,29 @@ pub returns-clause-made : goal.returns-clause-made
 returns-clause-made c = λ key. record {
   number = refl;
   wish = refl;
+  profile = c.profile_for-profile.ensures key;
   pinned = c.in_ok-pinned.ensures;
   tasks = c.in_ok-tasks.ensures key
       ∙ ap (λ (ps : List Pinned). tasks_made (turns_for (with_master c.args.setup.now key) c.args.wish)
-      (targets_of c.args.wish ps)) c.deref.ensures.value;
-  flags = λ j l. c.flags-flagged.ensures.flags j l
+      (targets_of c.args.wish c.profile_for-profile.result 0 ps)) c.deref.ensures.value;
+  flags = λ j. c.flags-flagged.ensures.flags j
       ∙ ap (λ (d : Option Due). due_flags c.args.setup.now.tolerance d j) c.due-due.ensures.value;
   subject = subject_is c.args.table.now c.args.wish c.subject.result
       (λ e. c.subject.ensures.repair e ∙ ap due_number c.due-due.ensures.value) c.subject.ensures.other;
+  older = refl;
+  appends = c.appends.ensures;
+  place = refl;
   cursor = c.first_cursor-cursor.ensures ∙ ap (cursor_first c.args.wish) c.deref-3.ensures.value;
   undecided = refl;
   counts = refl;
 }
 
 pub returns-clause-kept : goal.returns-clause-kept
-returns-clause-kept c = made-kept c.args.table.now
-    (with_master c.args.setup.now []) c.args.number c.args.wish _
-    (returns-clause-made c []) c.requires.some c.requires.few c.requires.named c.requires.short
+returns-clause-kept c = λ key. made-kept c.args.table.now
+    (with_master c.args.setup.now key) c.args.number c.args.wish _
+    (returns-clause-made c key) c.requires.some c.requires.few c.requires.named c.requires.short
+    (c.requires.known key)
     c.flags-flagged.ensures.long
     (c.in-Some.ensures.most ∙ ap
     (most_at c.args.setup.now.n c.args.wish c.flags-flagged.result) c.deref-2.ensures.value)
+    (omega arith)

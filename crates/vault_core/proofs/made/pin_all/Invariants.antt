@@ -1,5 +1,6 @@
 use Rattle.std.proofs.Common.{◌≡◌, ◌≤◌, drop, length}
-use Rattle.vault_core.specs.Making.{core_pins, pin_of_file}
+use Rattle.vault_core.specs.Making.{pin_of_file}
+use Rattle.vault_core.specs.View.{core_pins}
 use Rattle.vault_core.proofs.made.pin_all.Given as goal
 use Rattle.machine_defs.specs.Begins.{pin_each}
 

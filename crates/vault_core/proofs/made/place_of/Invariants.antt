@@ -1,6 +1,6 @@
 use Rattle.std.proofs.Common.{◌≡◌, ◌++◌, take, drop}
 use Rattle.vault_core.specs.declared.pinned.Pinned.{Pinned}
-use Rattle.vault_core.specs.Making.{core_pins}
+use Rattle.vault_core.specs.View.{core_pins}
 use Rattle.vault_core.proofs.made.place_of.Given as goal
 use Rattle.machine_defs.specs.Begins.{pin_by}
 

@@ -1,13 +1,13 @@
 use Rattle.std.proofs.Common.{◌∙◌, ap, arith}
 use Rattle.record_codec.specs.Entries.{with_master}
-use Rattle.vault_core.specs.Making.{turns_for, tasks_made}
+use Rattle.vault_core.specs.Targets.{turns_for, tasks_made}
 use Rattle.vault_core.proofs.Pins.{tasks_more, take_over}
 use Rattle.vault_core.proofs.made.tasks_for.Goals as goal
 
 pub loop-file-preserved : goal.loop-file-preserved
 loop-file-preserved c =
     λ key. tasks_more (turns_for (with_master c.args.setup.now key) c.args.wish.now) c.args.files.now
-    c.loop-file.file-index (record { id = 0; length = 0 })
+    c.loop-file.file-index (record { id = 0; length = 0; profile = 0 })
     c.loop-file.tasks.items c.add_task.new.tasks.items (omega arith) (c.loop-file.invariant key)
     (c.in_ok-add_task.ensures key)
 

@@ -2,7 +2,7 @@ use Rattle.std.proofs.Common.{◌≡◌, subst, List}
 use Rattle.std.specs.Prelude.{IfOk}
 use Rattle.record_codec.specs.Entries.{with_master}
 use Rattle.vault_core.specs.declared.pinned.Pinned.{Pinned}
-use Rattle.vault_core.specs.Making.{turns_for, tasks_made}
+use Rattle.vault_core.specs.Targets.{turns_for, tasks_made}
 use Rattle.vault_core.proofs.Pins.{targets_other}
 use Rattle.vault_core.proofs.made.tasks_of.Goals as goal
 
@@ -11,5 +11,5 @@ returns-in_default c =
     λ key. subst (λ (pins : List Pinned). IfOk c.tasks_for-in_default.result
     (λ tasks. tasks.items ≡ tasks_made (turns_for (with_master c.args.setup.now key) c.args.wish.now)
     pins))
-    (targets_other c.args.wish.now c.args.pinned.now c.in_default.not-Put)
+    (targets_other c.args.wish.now c.args.profile c.args.pinned.now c.in_default.not-Put)
     (c.tasks_for-in_default.ensures key)

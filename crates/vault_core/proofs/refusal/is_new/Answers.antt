@@ -4,7 +4,8 @@ use Rattle.vault_core.proofs.refusal.is_new.Goals as goal
 
 pub returns-in-Put : goal.returns-in-Put
 returns-in-Put c = more-put c.args.table.now.files
-    (aims_kept c.args.jobs.now) c.args.job.now.wish c.in-Put.name c.in-Put.length c.is_taken.result
+    (aims_kept c.args.jobs.now) c.args.job.now.wish c.in-Put.name c.in-Put.length c.in-Put.profile
+    c.is_taken.result
     c.in-Put.is c.is_taken.ensures
 
 pub returns-in_default : goal.returns-in_default

@@ -1,26 +1,30 @@
-use Rattle.std.proofs.Common.{◌-◌, arith, ap, sym}
+use Rattle.std.proofs.Common.{◌+◌, ◌-◌, ap, sym, arith}
 use Rattle.vault_core.specs.Rest.{rest_of}
 use Rattle.vault_core.specs.Going.{removals_of}
-use Rattle.vault_core.proofs.Gates.{decides_left, decided, ended}
+use Rattle.std.proofs.Common.{length}
+use Rattle.vault_core.proofs.Gates.{decided, ended, removals_length}
 use Rattle.vault_core.proofs.job.Job.decide.Goals as goal
-
-pub overflow_sub-self : goal.overflow_sub-self
-overflow_sub-self c = let e =
-    decides_left c.args.providers c.args.self.now c.requires.kept c.requires.decides in omega (arith, e)
 
 pub returns-in-Some-clause-kept : goal.returns-in-Some-clause-kept
 returns-in-Some-clause-kept c = decided c.args.providers c.args.self.now c.in-Some.object
-    (c.args.self.now.left - 1) c.requires.some c.requires.kept c.requires.decides
-    (let e = decides_left c.args.providers c.args.self.now c.requires.kept c.requires.decides in
-    omega (arith, e))
+    (c.args.self.now.place + 1) (c.args.self.now.left - 1) c.requires.some c.requires.kept c.requires.taker
 
 pub returns-in-Some-clause-rest : goal.returns-in-Some-clause-rest
 unfolding rest_of
 returns-in-Some-clause-rest c = ap (removals_of c.args.providers) (sym c.in-Some.is)
 
+pub returns-in-Some-clause-left : goal.returns-in-Some-clause-left
+returns-in-Some-clause-left c = let l = c.requires.left in
+    let r = removals_length c.args.providers c.in-Some.object in
+    let e = ap (λ o. length (removals_of c.args.providers o)) c.in-Some.is in omega (arith, l, r, e)
+
 pub returns-in-None-clause-kept : goal.returns-in-None-clause-kept
-returns-in-None-clause-kept c = ended c.args.providers c.args.self.now c.requires.kept
+returns-in-None-clause-kept c = ended c.args.providers c.args.self.now (c.args.self.now.place + 1) 1
+    c.requires.kept
 
 pub returns-in-None-clause-rest : goal.returns-in-None-clause-rest
 unfolding rest_of
 returns-in-None-clause-rest c = ap (removals_of c.args.providers) (sym c.in-None.is)
+
+pub returns-in-None-clause-left : goal.returns-in-None-clause-left
+returns-in-None-clause-left c = ap (λ o. length (removals_of c.args.providers o)) (sym c.in-None.is)

@@ -1,20 +1,34 @@
-use Rattle.std.proofs.Common.{◌∙◌, sym}
-use Rattle.vault_core.proofs.Gating.{gate_going, seen_decided, seen_undecided}
+use Rattle.std.proofs.Common.{◌-◌, ap, sym, subst, ◌∙◌}
+use Rattle.std.proofs.lemmas.Bool.{and_parts}
+use Rattle.vault_core.specs.Going.{LeavesBehind}
+use Rattle.vault_core.proofs.Gates.{steady_with, rest_with}
 use Rattle.vault_core.proofs.job.Job.finish.Goals as goal
 
-pub advance-requires-clause-going : goal.advance-requires-clause-going
-advance-requires-clause-going c = gate_going c.args.providers c.args.self.now c.requires.kept c.requires.gate
+pub decide-requires-clause-kept : goal.decide-requires-clause-kept
+decide-requires-clause-kept c = steady_with c.args.providers c.args.self.now c.args.older
+    (c.args.self.now.appends - 1) c.requires.ready.steady
 
-pub returns-then-decides-clause-seen : goal.returns-then-decides-clause-seen
-returns-then-decides-clause-seen c =
-    seen_decided c.args.providers c.args.self.now c.decide.new.self c.args.older c.requires.kept
-    c.requires.gate
-    (sym c.decides.ensures ∙ c.if-decides.true) c.decide.ensures.rest c.decide.ensures.opening
-    c.decide.ensures.same
+pub advance-requires-clause-kept : goal.advance-requires-clause-kept
+advance-requires-clause-kept c = steady_with c.args.providers c.args.self.now c.args.older
+    (c.args.self.now.appends - 1) c.requires.ready.steady
 
-pub returns-else-decides-clause-seen : goal.returns-else-decides-clause-seen
-returns-else-decides-clause-seen c =
-    seen_undecided c.args.providers c.args.self.now c.advance.new.self c.args.older c.requires.kept
-    c.requires.gate
-    (sym c.decides.ensures ∙ c.if-decides.false) c.advance.ensures.rest c.advance.ensures.opening
-    c.advance.ensures.same
+pub decide-requires-clause-taker : goal.decide-requires-clause-taker
+decide-requires-clause-taker c =
+    (and_parts _ _ (sym c.decides.ensures ∙ c.if-decides.true)).1
+
+pub decide-requires-clause-left : goal.decide-requires-clause-left
+decide-requires-clause-left c = c.requires.ready.decided (sym c.decides.ensures ∙ c.if-decides.true)
+
+pub returns-then-decides-clause-behind : goal.returns-then-decides-clause-behind
+returns-then-decides-clause-behind c =
+    subst (λ b. LeavesBehind c.args.providers c.args.older b c.args.self.now c.decide.new.self)
+    (sym (sym c.decides.ensures ∙ c.if-decides.true)) (c.decide.ensures.rest, c.decide.ensures.left)
+
+pub returns-else-decides-clause-behind : goal.returns-else-decides-clause-behind
+returns-else-decides-clause-behind c =
+    subst (λ b. LeavesBehind c.args.providers c.args.older b c.args.self.now c.advance.new.self)
+    (sym (sym c.decides.ensures ∙ c.if-decides.false)) (
+      c.advance.ensures.rest ∙ rest_with c.args.providers c.args.self.now c.args.older
+          (c.args.self.now.appends - 1),
+      ap (λ j. j.left) c.advance.ensures.same,
+    )

@@ -12,4 +12,4 @@ pub returns-in-Ask : goal.returns-in-Ask
 returns-in-Ask c = c.is_start.ensures
     ∙ asks_last c.args.providers c.args.self.now c.after.result c.in-Ask.provider c.in-Ask.object
     c.in-Ask.round
-    (c.in-Ask.ensures.value c.args.providers c.requires.kept) c.after.ensures.at
+    (c.in-Ask.ensures.value c.args.providers c.requires.kept) c.after.ensures

@@ -2,7 +2,7 @@ use Rattle.std.proofs.Common.{◌≡◌, ◌∙◌, List, ◌++◌, ◌∷◌, [
 use Rattle.std.specs.Prelude.{sum_by}
 use Rattle.record_defs.specs.Records.{largest_journal}
 use Rattle.vault_core.specs.declared.job.Job.{Job}
-use Rattle.vault_core.specs.View.{CoreView}
+use Rattle.vault_core.specs.View.{CoreView, HasLoneUpgrade}
 use Rattle.vault_core.specs.Parts.{core_job, IsJobKept}
 use Rattle.vault_core.specs.Reserves.{reserved_of}
 use Rattle.vault_core.proofs.Admitted.{admitted-core, admitted-view, fewer-than}
@@ -17,11 +17,14 @@ invariant_of-self-2 c =
     (c.push_reserved.ensures.items ∙ ap (λ (js : List Job). js ++ c.args.job ∷ []) c.reserve.ensures.items)
     c.self.invariant
     (subst (λ (v : CoreView). c.args.job.number ≡ v.next_job) (sym c.self.view_is) c.requires.next)
-    (subst (λ (v : CoreView). IsJobKept v.setup.n c.args.job) (sym c.self.view_is) c.requires.kept)
-    (fewer-than c.self.inside.setup.n c.self.inside.jobs.items
+    (subst (λ (v : CoreView). IsJobKept v.setup c.args.job) (sym c.self.view_is) c.requires.kept)
+    (fewer-than c.self.inside.jobs.items
     (subst (λ (v : CoreView). length v.jobs < 8) (sym c.self.view_is) c.requires.few))
-    (subst (λ (v : CoreView). v.end + sum_by (reserved_of v.setup.n) v.jobs + reserved_of v.setup.n
-    (core_job v.setup.n c.args.job) ≤ largest_journal) (sym c.self.view_is) c.requires.room)
+    (subst (λ (v : CoreView). v.end + sum_by (reserved_of v.table.version v.setup) v.jobs + reserved_of
+    v.table.version v.setup
+    (core_job c.args.job) ≤ largest_journal) (sym c.self.view_is) c.requires.room)
+    (subst (λ (v : CoreView). HasLoneUpgrade (v.jobs ++ core_job c.args.job ∷ [])) (sym c.self.view_is)
+    c.requires.lone)
 
 pub returns-clause-admitted : goal.returns-clause-admitted
 returns-clause-admitted c =

@@ -1,14 +1,14 @@
-use Rattle.std.proofs.Common.{◌<◌, ◌∙◌, sym, ap, subst, length, None, true}
-use Rattle.vault_core.specs.Fed.{barred_at}
+use Rattle.std.proofs.Common.{sym, subst, true}
+use Rattle.machine_defs.specs.Appends.{barred}
 use Rattle.vault_core.specs.View.{CoreView}
-use Rattle.vault_core.proofs.Kept.{less_view, less_core}
+use Rattle.vault_core.specs.Carried.{CoreIs}
+use Rattle.vault_core.proofs.Idle.{bar_core, core-bar}
 use Rattle.vault_core.proofs.own.Core.bar.Goals as goal
 
 pub invariant_of-self : goal.invariant_of-self
-invariant_of-self c = less_core c.self.inside c.remove.new.self c.args.place c.remove.result None true
-    (subst (λ (x : CoreView). c.args.place < length x.jobs) (sym c.self.view_is) c.requires)
-    c.remove.ensures.items c.self.invariant
+invariant_of-self c = bar_core c.self.inside c.self.invariant
 
-pub returns : goal.returns
-returns c = less_view c.self.inside c.remove.new.self c.args.place None true c.remove.ensures.items
-    ∙ ap (λ (x : CoreView). barred_at x c.args.place) c.self.view_is
+pub returns-clause-stands : goal.returns-clause-stands
+returns-clause-stands c = λ w is free sound. subst
+    (λ (v : CoreView). CoreIs (record v { barred = true }) (barred w)) (sym c.self.view_is)
+    (core-bar c.args.self.now w is free sound)

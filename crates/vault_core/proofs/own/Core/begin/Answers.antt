@@ -2,14 +2,15 @@ use Rattle.std.proofs.Common.{◌≡◌, ◌∙◌, ap, sym, subst, ◌+◌, ◌
 use Rattle.std.specs.Prelude.{IsTrue, sum_by}
 use Rattle.std.specs.Option.{option_map}
 use Rattle.record_defs.specs.Records.{is_setup, largest_journal}
-use Rattle.machine_defs.specs.Begins.{begin_refusal}
+use Rattle.machine_defs.specs.Begins.{refusal_of_begin}
 use Rattle.vault_core.specs.declared.wish.Wish.{Wish}
 use Rattle.vault_core.specs.View.{CoreView}
-use Rattle.vault_core.specs.Parts.{core_job}
+use Rattle.vault_core.specs.Wished.{aim_of_wish, profile_named}
+use Rattle.vault_core.specs.Parts.{setup_kept, core_job, IsJobKept}
 use Rattle.vault_core.specs.Reserves.{Reserves, reserved_of}
 use Rattle.vault_core.specs.Carried.{CoreIs, refusal_of, begun}
 use Rattle.vault_core.specs.Making.{admitted, IsMade}
-use Rattle.vault_core.proofs.Admitted.{core-begun, made-room, room-left, few-left, on_ok_then}
+use Rattle.vault_core.proofs.Admitted.{core-begun, own-left, own-known, made-room, room-left, few-left, lone-left, on_ok_then}
 use Rattle.vault_core.proofs.own.Core.begin.Goals as goal
 use Rattle.vault_core.proofs.Gating.{providers}
 
@@ -18,17 +19,24 @@ admit-requires-clause-room c =
     let made = subst (λ (v : CoreView). IsMade v.table v.setup v.next_job c.args.wish c.in-Ok.job)
     c.self.view_is (c.in-Ok.ensures.made c.self.inside.master.0) in
     let e = made-room c.args.self.now.table c.args.self.now.setup c.args.self.now.next_job c.args.wish
-    c.in-Ok.job made in
+    c.in-Ok.job made (subst (λ (v : CoreView). IsJobKept v.setup c.in-Ok.job) c.self.view_is
+    (c.in-Ok.ensures.kept c.self.inside.master.0)) in
     let l = room-left c.args.self.now c.args.wish (subst Reserves c.self.view_is c.self.invariant.reserves)
     (sym c.in_default.is ∙ c.refusal.ensures.value) in
-    let whole : c.args.self.now.end + sum_by (reserved_of c.args.self.now.setup.n)
-    c.args.self.now.jobs + reserved_of c.args.self.now.setup.n
-    (core_job c.args.self.now.setup.n c.in-Ok.job) ≤ largest_journal = omega (arith, e, l) in
+    let whole : c.args.self.now.end + sum_by (reserved_of c.args.self.now.table.version c.args.self.now.setup)
+    c.args.self.now.jobs + reserved_of c.args.self.now.table.version c.args.self.now.setup
+    (core_job c.in-Ok.job) ≤ largest_journal = omega (arith, e, l) in
     whole
 
 pub admit-requires-clause-few : goal.admit-requires-clause-few
 admit-requires-clause-few c =
     few-left c.args.self.now c.args.wish (sym c.in_default.is ∙ c.refusal.ensures.value)
+
+pub admit-requires-clause-lone : goal.admit-requires-clause-lone
+admit-requires-clause-lone c =
+    lone-left c.args.self.now c.args.wish (core_job c.in-Ok.job)
+    (ap aim_of_wish (c.in-Ok.ensures.made c.self.inside.master.0).wish)
+    (sym c.in_default.is ∙ c.refusal.ensures.value)
 
 pub returns-in-Ok-clause-begun : goal.returns-in-Ok-clause-begun
 returns-in-Ok-clause-begun c = λ w kind moment is of spelled.
@@ -36,16 +44,28 @@ returns-in-Ok-clause-begun c = λ w kind moment is of spelled.
     c.self.view_is (c.in-Ok.ensures.made c.self.inside.master.0) in
     let bounds = providers c.args.self.now.setup
     (subst (λ (v : CoreView). IsTrue (is_setup v.setup)) c.self.view_is c.self.invariant.set_up) in
-    let allowed : begin_refusal 8 w kind ≡ None = sym (c.refusal.ensures.machine w kind is of c.requires.size)
+    let allowed : refusal_of_begin 8 w kind (profile_named c.args.wish) ≡ None = sym
+    (c.refusal.ensures.machine w kind is of c.requires.size)
     ∙ ap (option_map refusal_of) c.in_default.is in
     on_ok_then c.admit.result _ _
     (λ (e : c.admit.new.self ≡ admitted c.args.self.now c.in-Ok.job.wish c.in-Ok.job).
-    subst (λ (v : CoreView). CoreIs v (begun w moment kind))
+    subst (λ (v : CoreView). CoreIs v (begun w moment kind (profile_named c.args.wish)))
     (sym (e ∙ ap (λ (v : Wish). admitted c.args.self.now v c.in-Ok.job) made.wish))
-    (core-begun c.args.self.now w kind moment c.args.wish c.in-Ok.job is of spelled allowed bounds.0 bounds.1
-    made))
+    (core-begun c.args.self.now w kind moment c.args.wish c.in-Ok.job is of spelled
+    (λ p e. (let l = own-left c.args.self.now c.args.wish (sym c.in_default.is ∙ c.refusal.ensures.value) p e
+    in
+    omega (arith, l))) allowed bounds.1 made))
     c.admit.ensures.admitted
 
 pub admit-requires-clause-next : goal.admit-requires-clause-next
 admit-requires-clause-next c =
     (c.in-Ok.ensures.made c.self.inside.master.0).number ∙ ap (λ (v : CoreView). v.next_job) c.self.view_is
+
+pub admit-requires-clause-kept : goal.admit-requires-clause-kept
+admit-requires-clause-kept c = subst (λ (v : CoreView). IsJobKept v.setup c.in-Ok.job) c.self.view_is
+    (c.in-Ok.ensures.kept c.self.inside.master.0)
+
+pub make_job-requires-clause-known : goal.make_job-requires-clause-known
+make_job-requires-clause-known c = λ key.
+    own-known c.args.self.now (setup_kept c.self.inside) c.args.wish
+    (sym c.in_default.is ∙ c.refusal.ensures.value) c.self.invariant.set_up

@@ -6,7 +6,7 @@ use Rattle.record_codec.specs.Entries.{counted}
 use Rattle.vault_core.specs.View.{CoreJob, CoreView}
 use Rattle.vault_core.specs.Fed.{stepped, judged}
 use Rattle.vault_core.specs.Coming.{Acts, seen_action, HasReply}
-use Rattle.vault_core.proofs.Falls.{step_here, step_left, step_first, step_plain, step_runs, plain_by, verdict_plain, removed_falls, moved_goes, moved_setup, drawn_goes, drawn_setup, judged_goes}
+use Rattle.vault_core.proofs.Falls.{step_here, step_left, step_first, step_plain, step_runs, plain_by, verdict_plain, removed_falls, moved_setup, drawn_setup}
 use Rattle.vault_core.specs.Carried.{CoreIs}
 use Rattle.vault_core.specs.Replies.{Tells}
 use Rattle.vault_core.proofs.Steps.{on_machine, other_store, begins_done, gates_done, ends_done, plain_done, stops_failed, bars_failed, stops_memory, stops_lost, judges_verdict}
@@ -60,8 +60,7 @@ returns-in-WriteBody-clause-falls c =
     c.index.ensures c.action_over-action.ensures.value in
     step_left c.args.self.now c.begin_append.new.self c.args.job c.in-Some.place c.args.reply
     (seen_action c.action_over-action.result) here
-    (drawn_goes c.self.inside c.args.self.now c.begin_append.new.self c.in-Some.place c.self.view_is
-    c.self.invariant c.begin_append.ensures)
+    c.begin_append.ensures.falls
 
 pub returns-in-WriteBody-clause-setup : goal.returns-in-WriteBody-clause-setup
 returns-in-WriteBody-clause-setup c =
@@ -69,7 +68,7 @@ returns-in-WriteBody-clause-setup c =
     c.args.reply c.action_over-action.result c.self.view_is c.self.invariant c.requires c.in-Some.ensures
     c.index.ensures c.action_over-action.ensures.value in
     drawn_setup c.args.self.now c.begin_append.new.self c.in-Some.place here.job
-    c.begin_append.ensures here.here
+    c.begin_append.ensures.moved here.here
 
 pub returns-in-SyncGate-clause-falls : goal.returns-in-SyncGate-clause-falls
 returns-in-SyncGate-clause-falls c =
@@ -131,17 +130,16 @@ returns-in_default-action c =
           let tells = subst (λ (r : Reply). Tells c.args.job r outcome new) c.in-Done.is told.tells in
           let replies = subst (λ (r : Reply). HasReply c.args.self.now c.args.job
           (Acts (seen_action c.action_over-action.result)) r) c.in-Done.is here.replies in
-          subst (λ (x : CoreView). CoreIs x new) (sym (c.advance.ensures here.job here.here))
+          subst (λ (x : CoreView). CoreIs x new) (sym (c.advance.ensures.moved here.job here.here))
           (plain_done c.args.self.now w new c.args.job c.in-Some.place here.job
           (seen_action c.action_over-action.result) outcome on tells
           (plain_by c.action_over-action.result c.in_default-action.not-WriteBody
           c.in_default-action.not-SyncGate c.in_default-action.not-End) replies);
       falls = step_left c.args.self.now c.advance.new.self c.args.job c.in-Some.place c.args.reply
           (seen_action c.action_over-action.result) here
-          (moved_goes c.self.inside c.args.self.now c.advance.new.self c.in-Some.place c.self.view_is
-          c.self.invariant c.advance.ensures);
+          c.advance.ensures.falls;
       setup = moved_setup c.args.self.now c.advance.new.self c.in-Some.place stepped here.job
-          c.advance.ensures here.here;
+          c.advance.ensures.moved here.here;
     }
 
 pub returns-in_default-action-2 : goal.returns-in_default-action-2
@@ -156,15 +154,15 @@ returns-in_default-action-2 c =
           let tells = subst (λ (r : Reply). Tells c.args.job r outcome new) c.in-Failed.is told.tells in
           let replies = subst (λ (r : Reply). HasReply c.args.self.now c.args.job
           (Acts (seen_action c.action_over-action.result)) r) c.in-Failed.is here.replies in
-          subst (λ (x : CoreView). CoreIs x new) (sym c.bar.ensures)
+          subst (λ (x : CoreView). CoreIs x new) (sym c.fail.ensures)
           (bars_failed c.args.self.now w new c.args.job c.in-Some.place here.job
           (seen_action c.action_over-action.result) outcome on
           (other_store c.action_over-action.result c.in_default-action-2.not-Store) replies tells);
-      falls = step_left c.args.self.now c.bar.new.self c.args.job c.in-Some.place c.args.reply
+      falls = step_left c.args.self.now c.fail.new.self c.args.job c.in-Some.place c.args.reply
           (seen_action c.action_over-action.result) here
-          (removed_falls c.self.inside c.args.self.now c.bar.new.self c.in-Some.place c.self.view_is
-          c.self.invariant (ap (λ (x : CoreView). x.jobs) c.bar.ensures));
-      setup = ap (λ (x : CoreView). x.setup) c.bar.ensures;
+          (removed_falls c.self.inside c.args.self.now c.fail.new.self c.in-Some.place c.self.view_is
+          c.self.invariant (ap (λ (x : CoreView). x.jobs) c.fail.ensures));
+      setup = ap (λ (x : CoreView). x.setup) c.fail.ensures;
     }
 
 pub returns-in-Verdict-clause-falls : goal.returns-in-Verdict-clause-falls
@@ -174,9 +172,7 @@ returns-in-Verdict-clause-falls c =
     c.index.ensures c.action_over-action.ensures.value in
     step_left c.args.self.now c.judge.new.self c.args.job c.in-Some.place c.args.reply
     (seen_action c.action_over-action.result) here
-    (judged_goes c.self.inside c.args.self.now c.judge.new.self c.in-Some.place
-    (record { counts = counted c.in-Verdict.counts; undecided = c.in-Verdict.undecided }) c.self.view_is
-    c.self.invariant c.judge.ensures)
+    c.judge.ensures.falls
 
 pub returns-in-Verdict-clause-setup : goal.returns-in-Verdict-clause-setup
 returns-in-Verdict-clause-setup c =
@@ -186,7 +182,7 @@ returns-in-Verdict-clause-setup c =
     moved_setup c.args.self.now c.judge.new.self c.in-Some.place
     (λ (k : CoreJob). judged k
     (record { counts = counted c.in-Verdict.counts; undecided = c.in-Verdict.undecided }))
-    here.job c.judge.ensures here.here
+    here.job c.judge.ensures.moved here.here
 
 pub returns-in-WriteBody-clause-step : goal.returns-in-WriteBody-clause-step
 returns-in-WriteBody-clause-step c = λ w new outcome moment is happens told.
@@ -196,7 +192,7 @@ returns-in-WriteBody-clause-step c = λ w new outcome moment is happens told.
     let on = on_machine c.args.self.now w new c.args.job c.in-Some.place c.args.reply WriteBody outcome moment
     here is c.ranges.job.fits happens in
     let tells = subst (λ (r : Reply). Tells c.args.job r outcome new) c.in-Done.is told.tells in
-    subst (λ (x : CoreView). CoreIs x new) (sym (c.begin_append.ensures here.job here.here))
+    subst (λ (x : CoreView). CoreIs x new) (sym (c.begin_append.ensures.moved here.job here.here))
     (begins_done c.args.self.now w new c.args.job c.in-Some.place here.job outcome on tells told.entry)
 
 pub returns-in-SyncGate-clause-step : goal.returns-in-SyncGate-clause-step
@@ -272,7 +268,7 @@ returns-in-Verdict-clause-step c = λ w new outcome moment is happens told.
     let tells = subst (λ (r : Reply). Tells c.args.job r outcome new) c.in-Verdict.is told.tells in
     let replies = subst (λ (r : Reply). HasReply c.args.self.now c.args.job
     (Acts ((seen_action c.action_over-action.result))) r) c.in-Verdict.is here.replies in
-    subst (λ (x : CoreView). CoreIs x new) (sym (c.judge.ensures here.job here.here))
+    subst (λ (x : CoreView). CoreIs x new) (sym (c.judge.ensures.moved here.job here.here))
     (judges_verdict c.args.self.now w new c.args.job c.in-Some.place here.job
     (seen_action c.action_over-action.result) c.in-Verdict.undecided c.in-Verdict.counts outcome on
     replies tells)

@@ -14,9 +14,9 @@ returns-in-Some-clause-found c =
     ∙ (seen_at c.self.inside c.in-Some.place c.index.result.now
     (subst (λ (x : CoreView). c.in-Some.place < length x.jobs) (sym c.self.view_is)
     (position-Some (λ (j : CoreJob). j.number == c.args.job) c.args.self.now.jobs c.in-Some.place
-    (core_job c.self.inside.setup.n c.index.result.now)
+    (core_job c.index.result.now)
     (sym c.place_of.ensures ∙ c.in-Some.is)).0) c.index.ensures
-    ∙ ap (λ (x : CoreView). Some (core_job x.setup.n c.index.result.now)) c.self.view_is)))
+    ∙ ap (λ (x : CoreView). Some (core_job c.index.result.now)) c.self.view_is)))
 
 pub returns-in-None-clause-found : goal.returns-in-None-clause-found
 returns-in-None-clause-found c =

@@ -13,7 +13,7 @@ pub returns : goal.returns
 returns c = c.pin.ensures
     ∙ (ap (list_any (λ (j : Job). list_any (λ (file : Pinned). file.id == c.args.object) j.pinned.items))
     c.deref.ensures.value
-    ∙ (any-map (core_job c.self.inside.setup.n)
-    (λ (j : CoreJob). list_any (λ (file : Pinned). file.id == c.args.object) j.pinned)
+    ∙ (any-map core_job
+    (λ (j : CoreJob). list_any (λ (file : Pinned). file.id == c.args.object) j.plan.pins)
     c.self.inside.jobs.items
     ∙ ap (λ (x : CoreView). is_pinned_in x.jobs c.args.object) c.self.view_is))

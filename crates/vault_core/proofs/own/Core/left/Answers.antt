@@ -1,21 +1,20 @@
-use Rattle.std.proofs.Common.{◌∙◌, ap, Some, arith}
+use Rattle.std.proofs.Common.{◌∙◌, ap, Some}
 use Rattle.std.specs.Option.{option_map}
 use Rattle.vault_core.specs.Coming.{most_of}
-use Rattle.vault_core.proofs.Gates.{rest_some}
+use Rattle.vault_core.proofs.Goes.{left_some}
 use Rattle.vault_core.proofs.Standing.{left_same}
 use Rattle.vault_core.proofs.own.Core.left.Goals as goal
 
 pub returns-in-Some-clause-machine : goal.returns-in-Some-clause-machine
 returns-in-Some-clause-machine c = λ w is.
     ap Some c.in-Some.ensures.kept.left
-    ∙ (ap (option_map (most_of c.args.self.now.setup.n)) c.in-Some.ensures.found
+    ∙ (ap (option_map (most_of c.args.self.now.setup)) c.in-Some.ensures.found
     ∙ left_same c.args.self.now w c.args.job is)
 
 pub returns-in-None-clause-machine : goal.returns-in-None-clause-machine
 returns-in-None-clause-machine c =
-    λ w is. ap (option_map (most_of c.args.self.now.setup.n)) c.in-None.ensures.found
+    λ w is. ap (option_map (most_of c.args.self.now.setup)) c.in-None.ensures.found
     ∙ left_same c.args.self.now w c.args.job is
 
 pub returns-in-Some-clause-some : goal.returns-in-Some-clause-some
-returns-in-Some-clause-some c = let l = c.in-Some.ensures.kept.left in let r =
-    rest_some c.args.self.now.setup.n c.in-Some.running.now c.in-Some.ensures.kept in omega (arith, l, r)
+returns-in-Some-clause-some c = left_some c.args.self.now.setup c.in-Some.running.now c.in-Some.ensures.kept

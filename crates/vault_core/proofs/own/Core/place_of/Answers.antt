@@ -9,6 +9,6 @@ use Rattle.vault_core.proofs.own.Core.place_of.Goals as goal
 pub returns : goal.returns
 returns c = c.place_in.ensures
     ∙ (ap (position (λ (j : Job). j.number == c.args.job)) c.deref.ensures.value
-    ∙ (position-map (core_job c.self.inside.setup.n)
+    ∙ (position-map core_job
     (λ (j : CoreJob). j.number == c.args.job) c.self.inside.jobs.items
     ∙ ap (λ (x : CoreView). position (λ (j : CoreJob). j.number == c.args.job) x.jobs) c.self.view_is))

@@ -16,7 +16,7 @@ pub returns-then-eq : goal.returns-then-eq
 returns-then-eq c =
     let l = subst (λ (x : CoreView). c.args.place < length x.jobs) (sym c.self.view_is) c.requires in
     let f = freed_is (view_of c.self.inside) c.args.place
-    (core_job c.self.inside.setup.n c.remove-job.result) true
+    (core_job c.remove-job.result) true
     (seen_at c.self.inside c.args.place c.remove-job.result l c.remove-job.ensures.value)
     (sym c.eq.ensures ∙ c.if-eq.true) in
     less_view c.self.inside c.remove-job.new.self c.args.place None c.self.inside.barred
@@ -36,7 +36,7 @@ pub returns : goal.returns
 returns c =
     let l = subst (λ (x : CoreView). c.args.place < length x.jobs) (sym c.self.view_is) c.requires in
     let f = freed_is (view_of c.self.inside) c.args.place
-    (core_job c.self.inside.setup.n c.remove-job.result) false
+    (core_job c.remove-job.result) false
     (seen_at c.self.inside c.args.place c.remove-job.result l c.remove-job.ensures.value)
     (sym c.eq.ensures ∙ c.if-eq.false) in
     less_view c.self.inside c.remove-job.new.self c.args.place c.self.inside.append c.self.inside.barred

@@ -1,7 +1,7 @@
-use Rattle.std.proofs.Common.{◌≡◌, true, subst, sym}
+use Rattle.std.proofs.Common.{◌≡◌, ◌∙◌, ap, true, subst, sym}
 use Rattle.vault_core.proofs.Fits.{writing_room}
 use Rattle.vault_core.proofs.own.Core.writing.Goals as goal
-use Rattle.vault_core.specs.Coming.{action_next, is_move}
+use Rattle.vault_core.specs.Coming.{action_next, is_move, is_upgrade_of}
 use Rattle.vault_core.specs.Parts.{core_job}
 use Rattle.vault_core.specs.View.{CoreView}
 use Rattle.vault_core.proofs.NextMoves.{moves-job}
@@ -9,14 +9,26 @@ use Rattle.vault_core.proofs.NextMoves.{moves-job}
 pub returns-clause-room : goal.returns-clause-room
 returns-clause-room c =
     writing_room c.args.self.now c.args.job c.in_ok-running.running.now c.self.inside.table
-    c.entry_over.result c.in_ok-running.ensures.reserves c.in_ok-running.ensures.kept
+    c.entry_over.result (ap (λ (v : CoreView). v.table) (sym c.self.view_is)) c.in_ok-running.ensures.reserves
+    c.in_ok-running.ensures.kept
     c.in_ok-running.ensures.found
-    (c.entry_over.ensures.value c.args.self.now.setup.n c.in_ok-running.ensures.kept)
+    (c.entry_over.ensures.value c.args.self.now.setup c.in_ok-running.ensures.kept)
 
 pub returns-clause-there : goal.returns-clause-there
 returns-clause-there c = λ moves.
-    c.entry_over.ensures.there c.args.self.now.setup.n c.in_ok-running.ensures.kept
+    c.entry_over.ensures.there c.args.self.now.setup c.in_ok-running.ensures.kept
     (subst (λ (v : CoreView). is_move
-    (action_next v.table (core_job c.args.self.now.setup.n c.in_ok-running.running.now)) ≡ true)
+    (action_next c.args.self.now.setup v.table (core_job c.in_ok-running.running.now)) ≡ true)
     (sym c.self.view_is)
     (moves-job c.args.self.now c.args.job _ (sym c.in_ok-running.ensures.found) moves))
+
+pub returns-clause-spelled : goal.returns-clause-spelled
+returns-clause-spelled c = c.entry_over.ensures.spelled c.args.self.now.setup.n
+    c.in_ok-running.ensures.providers.0 c.in_ok-running.ensures.providers.1
+    c.in_ok-running.ensures.kept.steady.stays
+
+pub returns-clause-in_grammar : goal.returns-clause-in_grammar
+returns-clause-in_grammar c = λ first plain. c.entry_over.ensures.in_grammar c.args.self.now.setup.n
+    c.in_ok-running.ensures.providers.0 c.in_ok-running.ensures.providers.1
+    c.in_ok-running.ensures.kept.steady.stays (ap (λ (v : CoreView). v.table.version) c.self.view_is ∙ first)
+    (ap is_upgrade_of c.in_ok-running.ensures.found ∙ plain)

@@ -1,0 +1,214 @@
+-- A job of a core and the job of the machine that it stands for: what comes next, what is left, and what it
+-- draws and takes away.
+use Rattle.std.proofs.Common.{◌≡◌, ℕ, ◌+◌, ◌<◌, ◌≤◌, Bool, true, false, List, [], ◌∷◌, ◌++◌, Some, None, drop, inl, inr, refl, ap, sym, ◌∙◌, arith}
+use Rattle.std.specs.Prelude.{◌⊎◌, Option, if◌then◌else◌, ◌==◌, ◌&&◌, ◌||◌, not, is_some, slice_get, count_by}
+use Rattle.std.specs.List.{AllZip, flat_map, list_any}
+use Rattle.std.proofs.lemmas.Bool.{cases_lt, lt-ltb, le-ltb, ne_eqb, eq-eqb}
+use Rattle.std.proofs.lemmas.List.Folds.{flat_map-map}
+use Rattle.record_defs.specs.Records.{Setup}
+use Rattle.record_defs.specs.Table.{File, find_file, next_id, next_audit}
+use Rattle.record_defs.proofs.FilesLaws.{find-files_of}
+use Rattle.machine_defs.specs.Setups.{profiled}
+use Rattle.machine_defs.specs.Jobs.{Kind, PutJob, GetJob, DropJob, AuditJob, RepairJob, UpgradeJob, aim_of, Job}
+use Rattle.machine_defs.specs.Jobs.{Pinned as PinnedBytes}
+use Rattle.machine_defs.specs.Actions.{Action, WriteBody, End, append_actions, on_each_provider, on_each_stripe, open_actions, rewrite_plan, rounds_of, Ask, Plan, plan_actions, actions_by, actions_of, actions_left, appends_left, ends_append}
+use Rattle.machine_defs.specs.States.{State, setup_in, file_in}
+use Rattle.machine_defs.specs.Appends.{is_first_append, subject_drawn, removable, taken_out}
+use Rattle.machine_defs.specs.Steps.{is_idle_drop, next_action}
+use Rattle.state_laws.proofs.Orders.{next-left, put-first, put-later, audit-first, audit-later, put-second, audit-second, gates}
+use Rattle.state_laws.proofs.Going.{onward, count-onward}
+use Rattle.vault_table.specs.Values.{Kept, IsFoldOf, id_after}
+use Rattle.vault_core.specs.declared.pinned.Pinned.{Pinned}
+use Rattle.vault_core.specs.View.{CoreJob, core_pins, planned, planned_by, rest_in, appends_in}
+use Rattle.vault_core.specs.Coming.{is_gone, is_idle, action_next}
+use Rattle.vault_core.specs.Carried.{pin_of, seen_plan, IsJobOf}
+use Rattle.vault_core.specs.Fed.{is_pinned_in, removable_in, number_as, number_drawn, taken_as, taken_by}
+use Rattle.vault_core.proofs.Places.{any-map}
+
+-- ---- the actions
+
+-- a plan without bytes has the actions of its job
+pub planned-seen : (s : Setup) (m : Job) → planned_by s (seen_plan m) ≡ actions_of s m
+unfolding planned_by actions_of
+planned-seen s m = by m.kind
+  where
+    by : (k : Kind) → plan_actions core_pins s (seen_plan m) (aim_of k) ≡ actions_by s m k
+    by (PutJob name bytes) = refl
+    by (GetJob name) = ap (λ (xs : List Action). xs ++ End ∷ [])
+        (flat_map-map (λ (f : Pinned). on_each_stripe (profiled s f.profile) f.length (open_actions s f.id))
+        pin_of m.pinned)
+    by (DropJob name) = refl
+    by AuditJob = ap (λ (xs : List Action). append_actions ++ (xs ++ (append_actions ++ End ∷ [])))
+        (flat_map-map (λ (f : Pinned). flat_map (λ round. on_each_provider s (λ j. Ask j f.id round))
+        (rounds_of (profiled s f.profile) f.length)) pin_of m.pinned)
+    by RepairJob = ap (λ (xs : List Action). xs ++ (append_actions ++ End ∷ []))
+        (flat_map-map (λ (f : Pinned). on_each_stripe (profiled s f.profile) f.length
+        (λ stripe. open_actions s f.id stripe ++ rewrite_plan s m.flagged f.id stripe)) pin_of m.pinned)
+    by UpgradeJob = refl
+
+module _ (s : Setup) (c : CoreJob) (m : Job) (is : IsJobOf s c m) where
+  -- it has the same actions
+  pub list-is : planned s c.plan ≡ actions_of s m
+  list-is = ap (planned_by s) is.plan ∙ planned-seen s m
+
+  -- what is left is the same
+  pub rest-is : rest_in s c ≡ actions_left s m
+  rest-is = λ i. drop (is.place i) (list-is i)
+
+  -- so many appends are left
+  pub appends-is : appends_in s c ≡ appends_left s m
+  appends-is = ap (count_by ends_append) rest-is
+
+-- ---- the first append
+
+-- a put has two appends left exactly while it is at its first one
+pub put-two : (s : Setup) (m : Job) (name bytes : List ℕ) → m.kind ≡ PutJob name bytes →
+    (appends_left s m == 2) ≡ is_first_append m
+put-two s m name bytes kind = elim (cases_lt m.place 4) [
+  | inl l ↦ eq-eqb (appends_left s m) 2 (put-first s m name bytes kind l) ∙ sym (lt-ltb m.place 4 l)
+  | inr l ↦ ne_eqb (appends_left s m) 2
+      (λ e. absurd (let a = put-later s m name bytes kind l in omega (arith, a, e)))
+      ∙ sym (le-ltb m.place 4 l)
+]
+
+-- so has an audit
+pub audit-two : (s : Setup) (m : Job) → m.kind ≡ AuditJob → (appends_left s m == 2) ≡ is_first_append m
+audit-two s m kind = elim (cases_lt m.place 4) [
+  | inl l ↦ eq-eqb (appends_left s m) 2 (audit-first s m kind l) ∙ sym (lt-ltb m.place 4 l)
+  | inr l ↦ ne_eqb (appends_left s m) 2
+      (λ e. absurd (let a = audit-later s m kind l in omega (arith, a, e)))
+      ∙ sym (le-ltb m.place 4 l)
+]
+
+-- a name has the same file in the table of a core and in the records that it was folded from
+pub file_here : (t : Kept) (w : State) (name : List ℕ) → IsFoldOf w.records t →
+    find_file t.files name ≡ file_in w name
+file_here t w name f = ap (λ (fs : List File). find_file fs name) f.files ∙ find-files_of w.records name
+
+-- the number that its append draws, or has drawn, is the machine's
+pub number_same : (w : State) (t : Kept) (c : CoreJob) (m : Job) → IsFoldOf w.records t →
+    IsJobOf (setup_in w) c m → number_drawn (setup_in w) t c ≡ subject_drawn w m m.kind
+number_same w t c m f is =
+    (λ i. number_as t (appends-is (setup_in w) c m is i) (is.plan i).subject (is.plan i).aim)
+    ∙ by m.kind refl
+  where
+    by : (k : Kind) → m.kind ≡ k →
+        number_as t (appends_left (setup_in w) m) m.subject (aim_of k) ≡ subject_drawn w m k
+    by (PutJob name bytes) e =
+        ap (λ (b : Bool). if b then id_after t else m.subject) (put-two (setup_in w) m name bytes e)
+        ∙ ap (λ (i : ℕ). if is_first_append m then i else m.subject) f.id
+    by AuditJob e = ap (λ (b : Bool). if b then t.next_audit else m.subject) (audit-two (setup_in w) m e)
+        ∙ ap (λ (i : ℕ). if is_first_append m then i else m.subject) f.audit
+    by (GetJob name) e = refl
+    by (DropJob name) e = refl
+    by RepairJob e = refl
+    by UpgradeJob e = refl
+
+-- ---- what is pinned, and what is taken away
+
+pinned_jobs : (s : Setup) (cs : List CoreJob) (js : List Job) (id : ℕ) → AllZip (IsJobOf s) cs js →
+    is_pinned_in cs id ≡ list_any (λ (j : Job). list_any (λ (f : PinnedBytes). f.id == id) j.pinned) js
+pinned_jobs s [] [] id h = refl
+pinned_jobs s [] (j ∷ js) id h = absurd h
+pinned_jobs s (c ∷ cs) [] id h = absurd h
+pinned_jobs s (c ∷ cs) (j ∷ js) id h =
+    ap (λ (b : Bool). b || is_pinned_in cs id)
+    (ap (λ (x : Plan Pinned). list_any (λ (file : Pinned). file.id == id) x.pins) h.0.plan
+    ∙ sym (any-map pin_of (λ (file : Pinned). file.id == id) j.pinned))
+    ∙ ap (λ (b : Bool). list_any (λ (f : PinnedBytes). f.id == id) j.pinned || b) (pinned_jobs s cs js id h.1)
+
+removable_same : (s : Setup) (cs : List CoreJob) (w : State) (o : Option File) →
+    AllZip (IsJobOf s) cs w.jobs →
+    removable_in cs o ≡ removable w o
+removable_same s cs w None h = refl
+removable_same s cs w (Some f) h =
+    ap (λ (b : Bool). if b then [] else f.id ∷ []) (pinned_jobs s cs w.jobs f.id h)
+
+-- the object that its append takes out of effect is the machine's
+pub taken_same : (w : State) (t : Kept) (cs : List CoreJob) (c : CoreJob) (m : Job) → IsFoldOf w.records t →
+    AllZip (IsJobOf (setup_in w)) cs w.jobs → IsJobOf (setup_in w) c m →
+    taken_by (setup_in w) t cs c ≡ taken_out w m m.kind
+taken_same w t cs c m f all is =
+    (λ i. taken_as t cs (appends-is (setup_in w) c m is i) (is.plan i).aim) ∙ by m.kind refl
+  where
+    here : (name : List ℕ) → removable_in cs (find_file t.files name) ≡ removable w (file_in w name)
+    here name = ap (removable_in cs) (file_here t w name f) ∙ removable_same (setup_in w) cs w
+        (file_in w name) all
+
+    by : (k : Kind) → m.kind ≡ k → taken_as t cs (appends_left (setup_in w) m) (aim_of k) ≡ taken_out w m k
+    by (PutJob name bytes) e =
+        ap (λ (b : Bool). if b then [] else removable_in cs (find_file t.files name))
+        (put-two (setup_in w) m name bytes e)
+        ∙ ap (λ (xs : List ℕ). if is_first_append m then [] else xs) (here name)
+    by (DropJob name) e = here name
+    by (GetJob name) e = refl
+    by AuditJob e = refl
+    by RepairJob e = refl
+    by UpgradeJob e = refl
+
+-- ---- what comes next
+
+-- a drop is idle in a core as in the machine
+pub idle_same : (w : State) (t : Kept) (c : CoreJob) (m : Job) → IsFoldOf w.records t →
+    IsJobOf (setup_in w) c m → is_idle_drop w m m.kind ≡ is_idle t c
+idle_same w t c m f is = by m.kind ∙ sym (λ i. is_gone t (is.plan i).aim && (is.place i == 0))
+  where
+    swap : (a b : Bool) → (a && b) ≡ (b && a)
+    swap true true = refl
+    swap true false = refl
+    swap false true = refl
+    swap false false = refl
+
+    by : (k : Kind) → is_idle_drop w m k ≡ (is_gone t (aim_of k) && (m.place == 0))
+    by (DropJob name) = swap (m.place == 0) (not (is_some (file_in w name)))
+        ∙ ap (λ (o : Option File). not (is_some o) && (m.place == 0)) (sym (file_here t w name f))
+    by (PutJob name bytes) = refl
+    by (GetJob name) = refl
+    by AuditJob = refl
+    by RepairJob = refl
+    by UpgradeJob = refl
+
+-- the next action is the same
+pub next_same : (w : State) (t : Kept) (c : CoreJob) (m : Job) → IsFoldOf w.records t →
+    IsJobOf (setup_in w) c m → next_action w m ≡ action_next (setup_in w) t c
+next_same w t c m f is =
+    ap (λ (b : Bool). if b then Some End else slice_get (actions_of (setup_in w) m) m.place)
+    (idle_same w t c m f is)
+    ∙ (λ i. if is_idle t c then Some End
+    else slice_get (sym (list-is (setup_in w) c m is) i) (sym is.place i))
+
+module _ (w : State) (c : CoreJob) (m : Job) (a : Action) (is : IsJobOf (setup_in w) c m)
+    (next : next_action w m ≡ Some a) (on : a ≡ End → ⊥) where
+  -- a job of a core has before it the machine's next action and all behind it
+  pub left-here : rest_in (setup_in w) c ≡ a ∷ drop (m.place + 1) (actions_of (setup_in w) m)
+  left-here = rest-is (setup_in w) c m is ∙ next-left w m a next on
+
+  -- the first action that a job of a core has not yet made is the machine's next
+  pub head-here : slice_get (rest_in (setup_in w) c) 0 ≡ Some a
+  head-here = ap (λ (xs : List Action). slice_get xs 0) left-here
+
+-- the first move of an append leaves as many appends, whatever number it draws
+pub drawn-appends : (w : State) (m : Job) → next_action w m ≡ Some WriteBody →
+    appends_left (setup_in w) (onward m (subject_drawn w m m.kind) m.given) ≡ appends_left (setup_in w) m
+drawn-appends w m next = by m.kind refl (cases_lt m.place 4)
+  where
+    same : subject_drawn w m m.kind ≡ m.subject →
+        appends_left (setup_in w) (onward m (subject_drawn w m m.kind) m.given) ≡ appends_left (setup_in w) m
+    same e = ap (λ (n : ℕ). appends_left (setup_in w) (onward m n m.given)) e
+        ∙ (let c = count-onward w m m.given WriteBody next (λ f. cc) in let z : gates WriteBody ≡ 0 = refl in
+        omega (arith, c, z))
+
+    by : (k : Kind) → m.kind ≡ k → (m.place < 4) ⊎ (4 ≤ m.place) →
+        appends_left (setup_in w) (onward m (subject_drawn w m m.kind) m.given) ≡ appends_left (setup_in w) m
+    by (PutJob name bytes) k (inl l) = (put-second w m (onward m (subject_drawn w m m.kind) m.given)
+        name bytes k next l refl refl).1
+    by (PutJob name bytes) k (inr l) = same (ap (subject_drawn w m) k
+        ∙ ap (λ (b : Bool). if b then next_id w.records else m.subject) (le-ltb m.place 4 l))
+    by AuditJob k (inl l) = (audit-second w m (onward m (subject_drawn w m m.kind) m.given)
+        k next l refl refl).1
+    by AuditJob k (inr l) = same (ap (subject_drawn w m) k
+        ∙ ap (λ (b : Bool). if b then next_audit w.records else m.subject) (le-ltb m.place 4 l))
+    by (GetJob name) k p = same (ap (subject_drawn w m) k)
+    by (DropJob name) k p = same (ap (subject_drawn w m) k)
+    by RepairJob k p = same (ap (subject_drawn w m) k)
+    by UpgradeJob k p = same (ap (subject_drawn w m) k)

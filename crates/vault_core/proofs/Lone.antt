@@ -1,0 +1,106 @@
+-- An upgrade is the only job that runs.
+use Rattle.std.proofs.Common.{◌≡◌, ℕ, zero, suc, ◌≤◌, ◌||◌, Bool, true, false, List, [], ◌∷◌, ◌++◌, length, map, Some, None, refl, sym, ap, ◌∙◌, inl, inr, arith, length-append}
+use Rattle.std.specs.Prelude.{slice_get, slice_set, remove, sum_by}
+use Rattle.std.specs.List.{list_any}
+use Rattle.std.proofs.lemmas.Bool.{cases_Bool, false≢true, ltb-false}
+use Rattle.std.proofs.lemmas.List.{length-map, length-set}
+use Rattle.std.proofs.lemmas.List.Sums.{sum_by-cons}
+use Rattle.machine_defs.specs.Jobs.{Aim, ToPut, ToGet, ToDrop, ToAudit, ToRepair, ToUpgrade}
+use Rattle.machine_defs.specs.Sights.{is_upgrade, are_jobs_in_the_way}
+use Rattle.vault_core.specs.View.{CoreJob, HasLoneUpgrade, is_upgrading}
+
+-- another job for the same end in place of one
+pub any_set : {X : Type 0} (p : X → Bool) (xs : List X) (i : ℕ) (x y : X) → slice_get xs i ≡ Some x →
+    p y ≡ p x → list_any p (slice_set xs i y) ≡ list_any p xs
+any_set p [] zero x y g e = refl
+any_set p [] (suc i) x y g e = refl
+any_set p (z ∷ xs) zero x y g e =
+    (let f : Some z ≡ Some x = g in let s : z ≡ x = cc in
+    ap (λ (b : Bool). b || list_any p xs) (e ∙ ap p (sym s)))
+any_set p (z ∷ xs) (suc i) x y g e = ap (λ (b : Bool). p z || b) (any_set p xs i x y g e)
+
+or_right : (a b : Bool) → b ≡ true → (a || b) ≡ true
+or_right true b h = refl
+or_right false b h = h
+
+-- a list with one less has no more
+pub any_remove : {X : Type 0} (p : X → Bool) (xs : List X) (i : ℕ) → list_any p (remove xs i) ≡ true →
+    list_any p xs ≡ true
+any_remove p [] zero h = h
+any_remove p [] (suc i) h = h
+any_remove p (z ∷ xs) zero h = or_right (p z) (list_any p xs) h
+any_remove p (z ∷ xs) (suc i) h = elim (cases_Bool (p z)) [
+  | inl t ↦ ap (λ (b : Bool). b || list_any p xs) t
+  | inr f ↦ ap (λ (b : Bool). b || list_any p xs) f
+      ∙ any_remove p xs i (sym (ap (λ (b : Bool). b || list_any p (remove xs i)) f) ∙ h)
+]
+
+length_less : {X : Type 0} (xs : List X) (i : ℕ) → length (remove xs i) ≤ length xs
+length_less [] zero = omega arith
+length_less [] (suc i) = omega arith
+length_less (z ∷ xs) zero = omega arith
+length_less (z ∷ xs) (suc i) = (let h = length_less xs i in omega (arith, h))
+
+-- so it stays
+pub lone_less : (js : List CoreJob) (i : ℕ) → HasLoneUpgrade js → HasLoneUpgrade (remove js i)
+lone_less js i h = λ e. (let a = h (any_remove is_upgrading js i e) in let b = length_less js i in
+    omega (arith, a, b))
+
+pub lone_set : (js : List CoreJob) (i : ℕ) (x y : CoreJob) → slice_get js i ≡ Some x →
+    y.plan.aim ≡ x.plan.aim → HasLoneUpgrade js → HasLoneUpgrade (slice_set js i y)
+lone_set js i x y g e h = λ u.
+    (let a = h (sym (any_set is_upgrading js i x y g (ap is_upgrade e)) ∙ u) in
+    let b = length-set js i y in omega (arith, a, b))
+
+-- one of a list is among it
+pub any_here : {X : Type 0} (p : X → Bool) (xs : List X) (i : ℕ) (x : X) →
+    slice_get xs i ≡ Some x → p x ≡ true →
+    list_any p xs ≡ true
+any_here p [] i x g e = (let f : None ≡ Some x = g in cc)
+any_here p (z ∷ xs) zero x g e =
+    (let f : Some z ≡ Some x = g in let s : z ≡ x = cc in ap (λ (b : Bool). b || list_any p xs) (ap p s ∙ e))
+any_here p (z ∷ xs) (suc i) x g e = or_right (p z) (list_any p xs) (any_here p xs i x g e)
+
+-- the sum over a lone job in whose place stands one that counts nothing
+pub lone_sum : {X : Type 0} (f : X → ℕ) (xs : List X) (i : ℕ) (x y : X) → slice_get xs i ≡ Some x →
+    length xs ≤ 1 → f y ≡ 0 → sum_by f (slice_set xs i y) ≡ 0
+lone_sum f [] zero x y g l z = refl
+lone_sum f [] (suc i) x y g l z = refl
+lone_sum f (k ∷ []) zero x y g l z = (let a = sum_by-cons f y [] in let b : sum_by f [] ≡ 0 = refl in
+    omega (arith, a, b, z))
+lone_sum f (k ∷ []) (suc i) x y g l z = (let e : None ≡ Some x = g in cc)
+lone_sum f (k ∷ m ∷ xs) i x y g l z = absurd (omega (arith, l))
+
+any_push : {X : Type 0} (p : X → Bool) (xs : List X) (y : X) → list_any p xs ≡ false →
+    list_any p (xs ++ y ∷ []) ≡ true → p y ≡ true
+any_push p [] y n h = by (p y) h
+  where
+    by : (b : Bool) → (b || false) ≡ true → b ≡ true
+    by true e = refl
+    by false e = e
+any_push p (x ∷ xs) y n h = elim (cases_Bool (p x)) [
+  | inl t ↦ (let f : true ≡ false = sym (ap (λ (b : Bool). b || list_any p xs) t) ∙ n in cc)
+  | inr f ↦ any_push p xs y (sym (ap (λ (b : Bool). b || list_any p xs) f) ∙ n)
+      (sym (ap (λ (b : Bool). b || list_any p (xs ++ y ∷ [])) f) ∙ h)
+]
+
+-- only an upgrade upgrades, and it begins where no job runs
+none_before : (aim : Aim) (n : ℕ) (aims : List Aim) → is_upgrade aim ≡ true →
+    are_jobs_in_the_way n aims aim ≡ false → length aims ≤ 0
+none_before ToUpgrade n aims u w = ltb-false 0 (length aims) w
+none_before (ToPut name size) n aims u w = absurd (false≢true u)
+none_before (ToGet name) n aims u w = absurd (false≢true u)
+none_before (ToDrop name) n aims u w = absurd (false≢true u)
+none_before ToAudit n aims u w = absurd (false≢true u)
+none_before ToRepair n aims u w = absurd (false≢true u)
+
+-- it is so behind a begin
+pub lone_more : (js : List CoreJob) (y : CoreJob) → list_any is_upgrading js ≡ false →
+    are_jobs_in_the_way 8 (map (λ (j : CoreJob). j.plan.aim) js) y.plan.aim ≡ false →
+    HasLoneUpgrade (js ++ y ∷ [])
+lone_more js y n w = λ e.
+    (let a = none_before y.plan.aim 8 (map (λ (j : CoreJob). j.plan.aim) js)
+    (any_push is_upgrading js y n e) w in
+    let b = length-map js (λ (j : CoreJob). j.plan.aim) in
+    let c = length-append js (y ∷ []) in
+    let o : length (y ∷ []) ≡ 1 = refl in omega (arith, a, b, c, o))

@@ -1,0 +1,88 @@
+-- How many actions a job has on its files.
+use Rattle.std.proofs.Common.{◌≡◌, ℕ, suc, ◌+◌, ◌*◌, ◌-◌, Bool, List, [], ◌∷◌, length, inl, inr, refl, ap, ◌∙◌, length-append, arith}
+use Rattle.std.specs.Prelude.{sum_by}
+use Rattle.std.specs.List.{flat_map}
+use Rattle.std.proofs.lemmas.Bool.{cases_Bool}
+use Rattle.std.proofs.lemmas.List.{length-map}
+use Rattle.std.proofs.lemmas.List.Sums.{sum_by-cons}
+use Rattle.std.proofs.lemmas.List.FromFn.{length-range_with_len}
+use Rattle.machine_defs.specs.Actions.{Action}
+use Rattle.vault_core.specs.declared.wish.Wish.{Wish}
+use Rattle.vault_core.specs.declared.wish.Wish.TheVariants as wish
+use Rattle.vault_core.specs.declared.job.Task.{Task}
+use Rattle.vault_core.specs.View.{flag_at}
+use Rattle.vault_core.specs.Rest.{numbers, calls_from, rewrite_of, rewrites_from, work_of, turn_of, turns_from, tasks_of, closing_of, tasks_from}
+use Rattle.vault_core.specs.Making.{size_of_turn}
+
+length-calls : (n : ℕ) (w : Wish) (o t : ℕ) → length (calls_from 0 n w o t) ≡ n
+length-calls n w o t = let a : length (calls_from 0 n w o t) ≡ length (numbers 0 n) =
+    simp length-map in let b = length-range_with_len 0 (n - 0) in omega (arith, a, b)
+
+length-rewrite : (fl : List Bool) (o t j : ℕ) → length (rewrite_of fl o t j) ≡ length (rewrite_of fl 0 0 j)
+length-rewrite fl o t j = elim (cases_Bool (flag_at fl j)) [
+  | inl h ↦ rw h refl
+  | inr h ↦ rw h refl
+]
+
+length-flat : {X : Type 0} (f g : X → List Action) (ks : List X) → ((k : X) → length (f k) ≡ length (g k)) →
+    length (flat_map f ks) ≡ length (flat_map g ks)
+length-flat f g [] h = refl
+length-flat f g (k ∷ ks) h =
+    let a = length-append (f k) (flat_map f ks) in
+    let b = length-append (g k) (flat_map g ks) in
+    let c = h k in
+    let i = length-flat f g ks h in
+    omega (arith, a, b, c, i)
+
+length-rewrites : (n : ℕ) (fl : List Bool) (o t : ℕ) →
+    length (rewrites_from 0 n fl o t) ≡ length (rewrites_from 0 n fl 0 0)
+length-rewrites n fl o t =
+    length-flat (rewrite_of fl o t) (rewrite_of fl 0 0) (numbers 0 n) (length-rewrite fl o t)
+
+length-turn : (n : ℕ) (w : Wish) (fl : List Bool) (o t : ℕ) →
+    length (turn_of n w fl o t) ≡ size_of_turn n w fl
+length-turn n w fl o t = let a = length-append (calls_from 0 n w o t) (work_of n w fl o t) in let b =
+    length-calls n w o t in let c = by w in omega (arith, a, b, c)
+  where
+    by : (v : Wish) → n + length (work_of n v fl o t) ≡ size_of_turn n v fl
+    by (wish.Put name size own) = omega arith
+    by (wish.Get name) = refl
+    by (wish.Drop name) = omega arith
+    by wish.Audit = omega arith
+    by wish.Upgrade = omega arith
+    by wish.Repair = let e = length-rewrites n fl o t in
+        let k : length (work_of n wish.Repair fl o t) ≡ suc (length (rewrites_from 0 n fl o t)) = refl in
+        omega (arith, e, k)
+
+length-each : {X : Type 0} (f : X → List Action) (m : ℕ) (ks : List X) → ((k : X) → length (f k) ≡ m) →
+    length (flat_map f ks) ≡ length ks * m
+length-each f m [] h = omega arith
+length-each f m (k ∷ ks) h =
+    let a = length-append (f k) (flat_map f ks) in
+    let c = h k in
+    let i = length-each f m ks h in
+    let e : suc (length ks) * m ≡ m + length ks * m = omega arith in
+    omega (arith, a, c, i, e)
+
+length-turns : (n : ℕ) (w : Wish) (fl : List Bool) (o b : ℕ) →
+    length (turns_from 0 n w fl o b) ≡ b * size_of_turn n w fl
+length-turns n w fl o b = length-each (turn_of n w fl o) (size_of_turn n w fl) (numbers 0 b)
+    (length-turn n w fl o)
+    ∙ ap (λ (k : ℕ). k * size_of_turn n w fl) (length-range_with_len 0 (b - 0)
+    ∙ (let e : b - 0 ≡ b = omega arith in e))
+
+pub length-tasks : (n : ℕ) (w : Wish) (fl : List Bool) (ts : List Task) →
+    length (tasks_of n w fl ts) ≡ sum_by (λ (t : Task). t.turns * size_of_turn n w fl) ts
+length-tasks n w fl [] = refl
+length-tasks n w fl (t ∷ ts) =
+    let a = length-append (turns_from 0 n w fl t.object t.turns) (tasks_of n w fl ts) in
+    let b = length-turns n w fl t.object t.turns in
+    let d = sum_by-cons (λ (t : Task). t.turns * size_of_turn n w fl) t ts in
+    let i = length-tasks n w fl ts in
+    omega (arith, a, b, d, i)
+
+-- from its files on
+pub length-from : (n : ℕ) (w : Wish) (fl : List Bool) (ts : List Task) → length (tasks_from n w fl ts)
+    ≡ sum_by (λ (t : Task). t.turns * size_of_turn n w fl) ts + length (closing_of w)
+length-from n w fl ts = let a = length-append (tasks_of n w fl ts) (closing_of w) in
+    let b = length-tasks n w fl ts in omega (arith, a, b)
