@@ -19,7 +19,7 @@ use Rattle.device_defs.specs.Cells.{Cells}
 use Rattle.device_defs.specs.Providers.{Provider}
 use Rattle.device_defs.specs.ProviderCalls.{Asks}
 use Rattle.record_defs.specs.Records.{Setup}
-use Rattle.machine_defs.specs.Actions.{Action, Ask, WriteBody, SyncBody, WriteGate, SyncGate, End, actions_of, actions_by, actions_left, append_actions, ask_actions}
+use Rattle.machine_defs.specs.Actions.{Action, Plan, Ask, WriteBody, SyncBody, WriteGate, SyncGate, End, actions_of, actions_by, actions_left, append_actions, ask_actions}
 use Rattle.machine_defs.specs.Audits.{challenge_in, asked_challenge, HasSums}
 use Rattle.machine_defs.specs.Events.{More}
 use Rattle.machine_defs.specs.Given.{pinned_size, pinned_profile}
@@ -39,7 +39,8 @@ use Rattle.record_codec.specs.declared.counts.Counts.{Counts}
 use Rattle.vault_core.specs.Carried.{IsJobOf, ComesNext, pin_of}
 use Rattle.vault_core.specs.Coming.{Coming, Acts, is_last_ask, is_last_ask_of, next_in, HasReply, TakesReply}
 use Rattle.vault_core.specs.Replies.{Tells}
-use Rattle.vault_core.specs.View.{CoreJob, CoreView, job_in}
+use Rattle.vault_core.specs.View.{CoreJob, CoreView, rest_in, job_in}
+use Rattle.vault_core.proofs.Links.{rest-is}
 use Rattle.vault_core.specs.declared.pinned.Pinned.{Pinned as PinnedValue}
 use Rattle.vault_core.specs.declared.reply.Reply.{Reply}
 use Rattle.vault_core.specs.declared.reply.Reply.TheVariants as reply
@@ -277,7 +278,7 @@ asking v w holds faults number k o r ps stands comes =
       next = next;
       left_is = next-left w next.job (Ask k o r) next.comes (λ e. absurd (let f : ⊥ = cc in f));
       sound_job = sound_job;
-      plain = plain-core v.core w number next.job stands.core next.runs;
+      plain = plain-core v.core w number next.job stands.core stands.first next.runs;
       in_core = core_job v.core.setup v.core.jobs w.jobs number next.job stands.core.jobs next.runs;
       setup_is = stands.core.setup;
       n_is = stands.shaped.n ∙ sym (ap (λ (s : Setup). s.n) stands.setup);
@@ -318,8 +319,8 @@ module _ (v : Desk) (w : State) (number k o r : ℕ) (it : IsAsking v w number k
   told_size : length_in v.core number o ≡ Some (length nx.x.file.bytes)
   told_size =
       ap (λ (j : Option CoreJob). length_found j o) it.in_core.1
-      ∙ among_is it.in_core.0.pinned o
-      ∙ (λ i. size_at (it.in_core.2.pinned i) (nx.id_is i))
+      ∙ among_is it.in_core.0.plan.pins o
+      ∙ (λ i. size_at (it.in_core.2.plan i).pins (nx.id_is i))
       ∙ (of_file (HasSize it.next.job.pinned) (have_sizes it.next.job.pinned)).file
       ∙ ap Some size_is
 
@@ -377,7 +378,7 @@ module _ (v : Desk) (w : State) (number k o r : ℕ) (it : IsAsking v w number k
 
     q_number : q.number ≡ it.next.job.subject
     q_number = subst (λ (j : Option CoreJob). IsAuditNumber j q.number) it.in_core.1 put.number_is
-        ∙ it.in_core.2.subject
+        ∙ ap (λ (p : Plan PinnedValue). p.subject) it.in_core.2.plan
 
     q_n : q.file.shape.n ≡ (setup_in w).n
     q_n = ap (λ (x : ShapeValue). x.n) put.shape_is ∙ it.n_is
@@ -454,15 +455,16 @@ module _ (v : Desk) (w : State) (number k o r : ℕ) (it : IsAsking v w number k
   -- after the last ask all rounds are judged
   all_judged : (symbol : Option ℕ) (u : AuditTask) →
       IsAudit (setup_in w) u (advanced_with it.next.job (Answered k o r symbol)) (after w it.next.job)
-      → is_last_ask_of (job_in v.core.jobs number) ≡ true →
+      → is_last_ask_of v.core.setup (job_in v.core.jobs number) ≡ true →
       HasSums (setup_in w) (advanced_with it.next.job (Answered k o r symbol)) (sums_on u)
   all_judged symbol u is last =
       let job = it.next.job in
       let s = setup_in w in
-      let rest : it.in_core.0.rest ≡ Ask k o r ∷ after w job = it.in_core.2.rest
+      let rest : rest_in v.core.setup it.in_core.0 ≡ Ask k o r ∷ after w job =
+      rest-is v.core.setup it.in_core.0 job it.in_core.2
       ∙ ap (λ (x : Setup). actions_left x job) it.setup_is ∙ it.left_is in
       let is_last : is_last_ask (Ask k o r ∷ after w job) ≡ true = ap is_last_ask (sym rest)
-      ∙ sym (ap is_last_ask_of it.in_core.1) ∙ last in
+      ∙ sym (ap (is_last_ask_of v.core.setup) it.in_core.1) ∙ last in
       let st = starts_append k o r (after w job) is_last in
       let one : job.place + 1 ≡ suc job.place = omega arith in
       let tail : after w job ≡ append_actions ++ End ∷ [] =
@@ -480,7 +482,7 @@ module _ (v : Desk) (w : State) (number k o r : ℕ) (it : IsAsking v w number k
 
 -- a reply that tells what an ask came to is one that the ask has
 told_has : (c : CoreView) (number k o r : ℕ) (is_last : Bool) (y : Task) (told : Reply)
-    → is_last ≡ is_last_ask_of (job_in c.jobs number) → TellsAsk is_last y told → MayTell c.setup.n y
+    → is_last ≡ is_last_ask_of c.setup (job_in c.jobs number) → TellsAsk is_last y told → MayTell c.setup.n y
     → HasReply c number (Acts (Ask k o r)) told
 told_has c number k o r false y reply.Done last tells may = sym last
 told_has c number k o r true (task.Audit t) (reply.Verdict undecided counts) last tells may = (
@@ -492,7 +494,7 @@ told_has c number k o r is_last y told last tells may = absurd tells
 
 -- so the core takes it
 pub told_takes : (c : CoreView) (number k o r : ℕ) (is_last : Bool) (y : Task) (told : Reply)
-    → next_in c number ≡ Acts (Ask k o r) → is_last ≡ is_last_ask_of (job_in c.jobs number)
+    → next_in c number ≡ Acts (Ask k o r) → is_last ≡ is_last_ask_of c.setup (job_in c.jobs number)
     → TellsAsk is_last y told → MayTell c.setup.n y → TakesReply c number told
 told_takes c number k o r is_last y told next last tells may =
     subst (λ (x : Coming). HasReply c number x told) (sym next)
@@ -556,7 +558,8 @@ module _ (v : Desk) (w : State) (holds : Option Cells) (faults moment number k o
 
   -- the reply tells what the ask came to
   tells_more : (symbol : Option ℕ) (y : Task) (p' : Provider) (is_last : Bool) (told : Reply) →
-      Asked v.master.0 q k x.task y symbol → is_last ≡ is_last_ask_of (job_in v.core.jobs number) →
+      Asked v.master.0 q k x.task y symbol → is_last ≡ is_last_ask_of v.core.setup
+      (job_in v.core.jobs number) →
       TellsAsk is_last y told
       → Tells number told More
       (record (going_on w (advanced_with it.next.job (Answered k o r symbol)))
@@ -569,7 +572,8 @@ module _ (v : Desk) (w : State) (holds : Option Cells) (faults moment number k o
       new = record (going_on w (advanced_with it.next.job (Answered k o r symbol)))
           { providers = with_provider w.providers k p' }
 
-      by_reply : (is_last : Bool) (told : Reply) → is_last ≡ is_last_ask_of (job_in v.core.jobs number) →
+      by_reply : (is_last : Bool) (told : Reply) → is_last ≡ is_last_ask_of v.core.setup
+          (job_in v.core.jobs number) →
           (u : AuditTask) → TellsAsk is_last (task.Audit u) told
           → IsAudit (setup_in w) u (advanced_with it.next.job (Answered k o r symbol)) (after w it.next.job) →
           Tells number told More new
@@ -605,7 +609,7 @@ module _ (v : Desk) (w : State) (holds : Option Cells) (faults moment number k o
       (is_last : Bool) (told : Reply) → y.number ≡ x.number → Asked v.master.0 q k x.task y.task symbol
       → Asks (honest_answer (challenge_put v.master.0 q)) q.file.id p symbol p' → slice_get ps k ≡ Some p →
       ps' ≡ slice_set ps k p'
-      → is_last ≡ is_last_ask_of (job_in v.core.jobs number) → TellsAsk is_last y.task told
+      → is_last ≡ is_last_ask_of v.core.setup (job_in v.core.jobs number) → TellsAsk is_last y.task told
       → v'.jobs.items ≡ slice_set v.jobs.items place y → KeepsAll v v' → v'.flight ≡ v.flight →
       IsFed v.core number told v'.core
       → DeskMakesStep w moment number turn.More v' (devices holds faults ps) (devices holds faults ps')
@@ -644,7 +648,7 @@ module _ (v : Desk) (w : State) (holds : Option Cells) (faults moment number k o
       } in
       let core = fed w new More moment stands.core happens (record {
         tells = tells_more symbol y.task p' is_last told asked last_is tells;
-        entry = λ b is mine. entry_kept v.core w w.append number stands.core.append b is mine;
+        entry = λ b is mine. entry_kept v.core w number stands.core b is mine;
       }) in
       let are : AreRunning (setup_in w) v'.jobs.items new.jobs =
       subst (λ (rs : List Running). AreRunning (setup_in w) rs (with_job w.jobs next_job)) (sym jobs)

@@ -1,24 +1,32 @@
 -- What a desk at work stands for, whatever devices it was lent.
 use mathlib.Core.Bool.{Bool-set}
-use Rattle.std.proofs.Common.{◌≡◌, ℕ, ◌≤◌, List, length, get_or, None, Result, refl, sym, ap, subst, ◌∙◌}
+use Rattle.std.proofs.Common.{◌≡◌, ℕ, ◌≤◌, false, List, length, get_or, Option, None, Some, Result, refl, sym, ap, subst, ◌∙◌}
 use Rattle.std.specs.Prelude.{IsSome, is_some}
 use Rattle.std.proofs.Math.Logic.{∥∥₁_elim, ∥∥₁_map}
 use Rattle.std.proofs.Math.Nat.{ℕ_set}
 use Rattle.std.proofs.lemmas.Option.{slice_get-get_or}
 use Rattle.device_defs.specs.Providers.{Provider}
 use Rattle.record_defs.specs.Records.{Setup}
-use Rattle.machine_defs.specs.Actions.{Action}
-use Rattle.machine_defs.specs.Jobs.{Kind}
+use Rattle.machine_defs.specs.Actions.{Action, Plan, actions_left}
+use Rattle.machine_defs.specs.Jobs.{Kind, Job, aim_of}
+use Rattle.machine_defs.specs.Sights.{is_upgrade}
 use Rattle.machine_defs.specs.States.{State, setup_in}
 use Rattle.state_laws.specs.Sound.{IsSound}
 use Rattle.state_laws.proofs.Packs.{journal-same}
 use Rattle.vault_core.specs.declared.wish.BeginFault.{BeginFault}
+use Rattle.vault_core.specs.declared.pinned.Pinned.{Pinned}
+use Rattle.vault_core.specs.Coming.{is_upgrade_of}
+use Rattle.vault_core.specs.View.{CoreJob, job_in}
+use Rattle.vault_core.proofs.Pairs.{pair_some}
 use Rattle.vault_open.specs.Devices.{Devices, devices}
+use Rattle.vault.specs.declared.tasks.Running.{Running}
+use Rattle.vault.specs.declared.tasks.Task.{Task}
+use Rattle.vault.specs.declared.tasks.Task.TheVariants as task
 use Rattle.vault.specs.declared.desk.Desk.{Desk}
 use Rattle.vault.specs.Desks.{DeskStands, IsAtWork, DeskMakesBegin, Comes}
 use Rattle.vault.specs.Running.{place_in}
-use Rattle.vault.specs.Tasks.{AreRunning}
-use Rattle.vault.proofs.JobPlaces.{place_is}
+use Rattle.vault.specs.Tasks.{IsTask, IsRunning, AreRunning}
+use Rattle.vault.proofs.JobPlaces.{place_is, found}
 use Rattle.vault.proofs.Ways.{setup_same, working}
 
 -- ---- from one state that a desk stands for
@@ -55,6 +63,37 @@ pub providers_fit : (v : Desk) → IsAtWork v → v.core.setup.n ≡ v.setup.n
 providers_fit v =
     by_work (ℕ_set _ _) v (λ w faults ps stands.
     ap (λ (s : Setup). s.n) (stands.core.setup ∙ stands.setup))
+
+-- the journal has its first version
+pub first_at_work : (v : Desk) → IsAtWork v → v.core.table.version ≡ 1
+first_at_work v =
+    by_work (ℕ_set _ _) v (λ w faults ps stands. stands.core.table.version ∙ stands.first)
+
+-- no job that a vault runs is an upgrade
+no_upgrade : (s : Setup) (r : Running) (job : Job) → IsRunning s r job → is_upgrade (aim_of job.kind) ≡ false
+no_upgrade s r job is = by r.task is.task
+  where
+    by : (t : Task) → IsTask s job (actions_left s job) t → is_upgrade (aim_of job.kind) ≡ false
+    by (task.Put t) h = ap (λ (k : Kind). is_upgrade (aim_of k)) h.kind
+    by (task.Get t) h = ap (λ (k : Kind). is_upgrade (aim_of k)) h.kind
+    by task.Drop h = ap (λ (k : Kind). is_upgrade (aim_of k)) h.kind
+    by (task.Audit t) h = ap (λ (k : Kind). is_upgrade (aim_of k)) h.kind
+    by (task.Repair t) h = ap (λ (k : Kind). is_upgrade (aim_of k)) h.kind
+
+-- so the core of a desk at work runs none
+pub plain_at_work : (v : Desk) (number : ℕ) → IsAtWork v → is_upgrade_of (job_in v.core.jobs number) ≡ false
+plain_at_work v number =
+    by_work (Bool-set _ _) v (λ w faults ps stands. by w faults ps stands (job_in v.core.jobs number) refl)
+  where
+    by : (w : State) (faults : ℕ) (ps : List Provider) → DeskStands v (devices None faults ps) w →
+        (o : Option CoreJob) → job_in v.core.jobs number ≡ o →
+        is_upgrade_of (job_in v.core.jobs number) ≡ false
+    by w faults ps stands None e = ap is_upgrade_of e
+    by w faults ps stands (Some j) e =
+        (let p = pair_some v.core.setup v.core.jobs w.jobs number j stands.core.jobs e in
+        let f = found (setup_in w) v.jobs.items w.jobs number p.job stands.jobs p.runs in
+        ap is_upgrade_of e ∙ (ap (λ (plan : Plan Pinned). is_upgrade plan.aim) p.is.plan
+        ∙ no_upgrade (setup_in w) f.running p.job f.is))
 
 -- ---- over other devices
 
@@ -124,7 +163,6 @@ over_stands v w old faults older ps enough S =
       core = record {
         sound = over_sound w faults ps few S.core.sound;
         is_open = S.core.is_open;
-        first = S.core.first;
         none_alone = S.core.none_alone;
         table = S.core.table;
         setup = S.core.setup ∙ sym same;
@@ -134,6 +172,7 @@ over_stands v w old faults older ps enough S =
         append = S.core.append;
         barred = S.core.barred;
       };
+      first = S.first;
       setup = same ∙ S.setup;
       shaped = S.shaped;
       jobs = subst (λ (s : Setup). AreRunning s v.jobs.items w.jobs) (sym same) S.jobs;

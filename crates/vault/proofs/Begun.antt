@@ -59,7 +59,7 @@ running-push s (q ∷ rs) (k ∷ js) r j are is = (are.0, running-push s rs js r
 module _ (old new : Desk) (d : Devices) (w : State) (moment : ℕ) (kind : Kind)
     (stands : DeskStands old d w) where
   -- a begin that is accepted
-  pub admitted : (number : ℕ) (task : Task) → CoreIs new.core (begun w moment kind) →
+  pub admitted : (number : ℕ) (task : Task) → CoreIs new.core (begun w moment kind None) →
       begin_refusal 8 w kind ≡ None → number ≡ old.core.next_job
       → IsTask (setup_in w) (new_job w moment kind) (actions_left (setup_in w) (new_job w moment kind)) task
       → new.jobs.items ≡ old.jobs.items ++ record { number = number; task = task } ∷ [] → KeepsAll old new →
@@ -67,11 +67,13 @@ module _ (old new : Desk) (d : Devices) (w : State) (moment : ℕ) (kind : Kind)
   admitted number task core accepted number_is is jobs keeps flight =
       let next : number ≡ w.next_job = number_is ∙ stands.core.next_job in
       record {
-        state = begun w moment kind;
+        state = begun w moment kind None;
         begins = (stands.core.is_open, accepted, next, refl);
-        stands = stands_on old new w (begun w moment kind) d.holds d.faults d.providers d.providers stands
+        stands = stands_on old new w (begun w moment kind None) d.holds d.faults d.providers
+            d.providers stands
             (record { records = refl; doubt = refl; append = refl; faults = refl; barred = refl })
-            (handed_same d.providers w (begun w moment kind) stands.devices.providers refl (λ j. refl)) core
+            (handed_same d.providers w (begun w moment kind None) stands.devices.providers refl (λ j. refl))
+            core
             keeps flight
             (subst (λ (items : List Running). AreRunning (setup_in w) items
             (w.jobs ++ new_job w moment kind ∷ [])) (sym jobs)

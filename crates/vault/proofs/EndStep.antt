@@ -1,6 +1,6 @@
 -- The end of a job is a step of the machine.
 use Rattle.std.proofs.Common.{◌≡◌, ℕ, zero, suc, ◌==◌, Bool, false, List, [], ◌∷◌, take, drop, Option, Some, None, refl, sym, ap, subst, ◌∙◌, inl, inr, arith}
-use Rattle.std.specs.Prelude.{slice_get, IsTrue, nat_lt, not, ◌&&◌}
+use Rattle.std.specs.Prelude.{slice_get, nat_lt, not, ◌&&◌}
 use Rattle.std.specs.List.{flat_map, AllZip}
 use Rattle.std.specs.Option.{option_map}
 use Rattle.std.proofs.lemmas.Bool.{cases_Bool}
@@ -9,7 +9,7 @@ use Rattle.code_defs.specs.Points.{upto}
 use Rattle.column_defs.specs.Objects.{bytes_of_symbols}
 use Rattle.column_defs.specs.Verdicts.{Sums}
 use Rattle.record_defs.specs.Records.{Setup}
-use Rattle.machine_defs.specs.Actions.{Action, WriteBody, SyncBody, WriteGate, SyncGate, End, actions_of, actions_by, actions_left}
+use Rattle.machine_defs.specs.Actions.{Action, WriteBody, SyncBody, WriteGate, SyncGate, End, Plan, actions_of, actions_by, actions_left}
 use Rattle.machine_defs.specs.Answers as answers
 use Rattle.machine_defs.specs.Events.{Ended}
 use Rattle.machine_defs.specs.Appends.{is_first_append}
@@ -22,15 +22,12 @@ use Rattle.machine_defs.specs.Steps.{Ends, GotBytes, next_action, is_idle_drop}
 use Rattle.machine_defs.proofs.JobLists.{number_of, cond_true, cond_false, same_value}
 use Rattle.record_codec.specs.declared.counts.Counts.{Counts}
 use Rattle.record_codec.specs.Entries.{counted}
-use Rattle.vault_core.specs.Wished.{is_opener}
-use Rattle.vault_core.specs.Carried.{ComesNext, IsJobOf, IsKindOf, has_asked}
-use Rattle.vault_core.proofs.Alike.{IsAlike, alike}
+use Rattle.vault_core.specs.declared.pinned.Pinned.{Pinned as PinnedFile}
+use Rattle.vault_core.specs.Carried.{ComesNext, IsJobOf, is_audit}
 use Rattle.vault_core.specs.Coming.{asks_next}
 use Rattle.vault_core.specs.View.{CoreJob, job_in}
 use Rattle.vault_core.specs.Replies.{Tells}
 use Rattle.vault_core.specs.declared.reply.Reply.TheVariants as reply
-use Rattle.vault_core.specs.declared.wish.Wish.{Wish}
-use Rattle.vault_core.specs.declared.wish.Wish.TheVariants as wish
 use Rattle.vault.specs.declared.tasks.Running.{Running}
 use Rattle.vault.specs.declared.tasks.Task.{Task}
 use Rattle.vault.specs.declared.tasks.Task.TheVariants as task
@@ -105,22 +102,6 @@ past_first s j (suc (suc zero)) is = (let e : Some WriteGate ≡ Some End = is i
 past_first s j (suc (suc (suc zero))) is = (let e : Some SyncGate ≡ Some End = is in absurd cc)
 past_first s j (suc (suc (suc (suc place)))) is = le-ltb (suc (suc (suc (suc place)))) 4 (omega arith)
 
--- an audit of the core that is past its first append and has no ask next has asked all that it asks
-asked : (c : CoreJob) → c.wish ≡ wish.Audit → c.opening ≡ false → asks_next (slice_get c.rest 0) ≡ false →
-    IsTrue (has_asked c)
-asked c audits opening next =
-    subst (λ (x : CoreJob). IsTrue (has_asked x))
-    (λ i. record c { wish = sym audits i; opening = sym opening i })
-    (subst (λ (b : Bool). IsTrue (not b)) (sym next) refl)
-
--- the wish of an audit
-wish_of : (x : Wish) → IsAlike x AuditJob → x ≡ wish.Audit
-wish_of (wish.Put name size) is = absurd is
-wish_of (wish.Get name) is = absurd is
-wish_of (wish.Drop name) is = absurd is
-wish_of wish.Audit is = refl
-wish_of wish.Repair is = absurd is
-
 module _ (w : State) (job : Job) (next : next_action w job ≡ Some End) where
   listed : (kind : Kind) → job.kind ≡ kind → is_idle_drop w job kind ≡ false →
       slice_get (actions_of (setup_in w) job) job.place ≡ Some End
@@ -137,16 +118,17 @@ module _ (w : State) (job : Job) (next : next_action w job ≡ Some End) where
   -- the sums of an audit that comes to its end are those of all that it heard
   sums_are : (c : CoreJob) → IsJobOf (setup_in w) c job → job.kind ≡ AuditJob →
       HasSums (setup_in w) job c.sums
-  sums_are c of is =
-      let audits : c.wish ≡ wish.Audit = wish_of c.wish
-      (alike c.wish AuditJob (subst (λ (k : Kind). IsKindOf c.wish k) is of.kind)) in
-      of.sums (asked c audits (of.opening ∙ (λ i. is_opener (audits i) && past is i))
-      (ap asks_next (ap (λ (l : List Action). slice_get l 0) of.rest
-      ∙ first_left (actions_of (setup_in w) job) job.place End (listed AuditJob is refl))))
+  sums_are c of is = of.judged
+      (λ i. is_audit (is i) && (not (past is i) && not (asks_next (listed AuditJob is refl i))))
+
+  -- the number that it answers is the job's
+  drawn_is : (c : CoreJob) → IsJobOf (setup_in w) c job → (subject : ℕ) → c.plan.subject ≡ subject →
+      subject ≡ job.subject
+  drawn_is c of subject drawn = sym drawn ∙ ap (λ (p : Plan PinnedFile). p.subject) of.plan
 
   -- what a job answers at its end is what the machine says
   ends : (c : CoreJob) → IsJobOf (setup_in w) c job → (subject undecided : ℕ) (counts : Counts) →
-      c.subject ≡ subject → c.sums ≡ record { counts = counted counts; undecided = undecided }
+      c.plan.subject ≡ subject → c.sums ≡ record { counts = counted counts; undecided = undecided }
       → (t : Task) → IsTask (setup_in w) job (actions_left (setup_in w) job) t →
       Ends w job job.kind (machine_answer (answer_at_end t subject undecided counts))
   ends c of subject undecided counts drawn sums (task.Put t) is =
@@ -165,10 +147,14 @@ module _ (w : State) (job : Job) (next : next_action w job ≡ Some End) where
   ends c of subject undecided counts drawn sums task.Drop is =
       subst (λ (k : Kind). Ends w job k answers.Dropped) (sym is.kind) tt
   ends c of subject undecided counts drawn sums (task.Audit t) is =
-      subst (λ (k : Kind). Ends w job k (answers.Audited subject undecided (counted counts))) (sym is.kind)
-      (sym drawn ∙ of.subject, subst (λ (x : Sums). HasSums (setup_in w) job x) sums (sums_are c of is.kind))
+      subst (λ (k : Kind). Ends w job k (answers.Audited subject undecided (counted counts))) (sym is.kind) (
+        drawn_is c of subject drawn,
+        subst (λ (x : Sums). HasSums (setup_in w) job x) sums
+            (sums_are c of is.kind),
+      )
   ends c of subject undecided counts drawn sums (task.Repair t) is =
-      subst (λ (k : Kind). Ends w job k (answers.Repaired subject)) (sym is.kind) (sym drawn ∙ of.subject)
+      subst (λ (k : Kind). Ends w job k (answers.Repaired subject)) (sym is.kind)
+      (drawn_is c of subject drawn)
 
 -- such an answer is that of a job that came to its end
 well : (number subject undecided : ℕ) (counts : Counts) (new : State) (t : Task) →
@@ -204,7 +190,7 @@ module _ (v : Desk) (d : Devices) (w : State) (moment number : ℕ) (stands : De
 
   -- the end is a step of the machine
   pub end_step : (v2 : Desk) (t : Turn) (place subject undecided : ℕ) (counts : Counts) (r : Running)
-      → option_map (λ (j : CoreJob). j.subject) (job_in v.core.jobs number) ≡ Some subject
+      → option_map (λ (j : CoreJob). j.plan.subject) (job_in v.core.jobs number) ≡ Some subject
       → option_map (λ (j : CoreJob). j.sums) (job_in v.core.jobs number)
       ≡ Some (record { counts = counted counts; undecided = undecided })
       → place_in v.jobs.items number ≡ Some place → slice_get v.jobs.items place ≡ Some r
@@ -213,7 +199,7 @@ module _ (v : Desk) (d : Devices) (w : State) (moment number : ℕ) (stands : De
   end_step v2 t place subject undecided counts r subject_is sums_is at there stopped =
       let new : State = ended w coming.job in
       let running = at_place v d w number place End r stands coming at there in
-      let drawn = some_of (λ (j : CoreJob). j.subject) _ of_core.job subject of_core.runs subject_is in
+      let drawn = some_of (λ (j : CoreJob). j.plan.subject) _ of_core.job subject of_core.runs subject_is in
       let sums = some_of (λ (j : CoreJob). j.sums) _ of_core.job _ of_core.runs sums_is in
       ends_by v v v2 w new d.holds d.faults moment number place d.providers d.providers End r r reply.Done
       (answer_at_end r.task subject undecided counts) t stands coming (

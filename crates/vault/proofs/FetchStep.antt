@@ -89,7 +89,8 @@ module _ (v : Desk) (w : State) (holds : Option Cells) (faults moment number k o
         subst (λ (x : Provider). Fetches (worked_object w job o).profile.size o s x (given_of found block) q)
         seen
         (subst (λ (m : ℕ). Fetches m o s p (given_of found block) q)
-        (size_is w job k o s r (plain-core v.core w number job stands.core coming.runs) coming.comes runs)
+        (size_is w job k o s r (plain-core v.core w number job stands.core stands.first coming.runs)
+        coming.comes runs)
         fetches) in
         goes_on v v' w new holds faults moment number place ps ps' (Fetch k o s) r' next_job stands coming
         (given_of found block, (q, call, refl))

@@ -4,6 +4,8 @@ use Rattle.std.specs.Prelude.{IsTrue}
 use Rattle.std.specs.List.{list_all, Contains}
 use Rattle.std.proofs.lemmas.Bool.{cases_Bool}
 use Rattle.record_defs.specs.Records.{is_in_grammar}
+use Rattle.record_defs.specs.Journal.{text_size}
+use Rattle.record_defs.specs.Table.{version_of}
 use Rattle.machine_defs.specs.Jobs.{Pinned, Job, job_of}
 use Rattle.machine_defs.specs.Given.{pinned_profile}
 use Rattle.machine_defs.specs.Setups.{profiled, object_of}
@@ -11,24 +13,30 @@ use Rattle.machine_defs.specs.States.{State, setup_in, put_object, worked_object
 use Rattle.machine_defs.proofs.JobLists.{cond_true, cond_false}
 use Rattle.state_laws.specs.Sound.{IsWholeJournal}
 use Rattle.state_laws.specs.SoundJobs.{IsPlainJob}
-use Rattle.state_laws.proofs.Written.{whole-first, grammar-now}
+use Rattle.state_laws.proofs.Written.{whole-first, grammar-now, end-first}
 use Rattle.vault_core.specs.View.{CoreView}
 use Rattle.vault_core.specs.Carried.{CoreIs}
 
 -- ---- a core's state
 
--- a core stands only for states whose disk holds the whole history
-pub whole-core : (c : CoreView) (w : State) → CoreIs c w → IsWholeJournal w
-whole-core c w is = whole-first 8 w is.sound is.first
+-- in the first version the disk holds the whole history
+pub whole-core : (c : CoreView) (w : State) → CoreIs c w → version_of w.records ≡ 1 → IsWholeJournal w
+whole-core c w is first = whole-first 8 w is.sound first
 
--- a core stands only for states whose records are in the grammar
-pub grammar-core : (c : CoreView) (w : State) → CoreIs c w → IsTrue (list_all is_in_grammar w.records)
-grammar-core c w is = grammar-now 8 w is.sound is.first
+-- the records are in the grammar
+pub grammar-core : (c : CoreView) (w : State) → CoreIs c w → version_of w.records ≡ 1 →
+    IsTrue (list_all is_in_grammar w.records)
+grammar-core c w is first = grammar-now 8 w is.sound first
 
--- while the journal has its first version, each job that runs has the setup's profile
-pub plain-core : (c : CoreView) (w : State) (number : ℕ) (job : Job) → CoreIs c w →
+-- its text ends where the records do
+pub end-core : (c : CoreView) (w : State) → CoreIs c w → version_of w.records ≡ 1 →
+    c.end ≡ text_size w.records
+end-core c w is first = is.end ∙ end-first 8 w is.sound first
+
+-- each job that runs has the setup's profile
+pub plain-core : (c : CoreView) (w : State) (number : ℕ) (job : Job) → CoreIs c w → version_of w.records ≡ 1 →
     job_of w.jobs number ≡ Some job → IsPlainJob (setup_in w) job
-plain-core c w number job is runs = (is.sound.jobs number job runs).plain is.first
+plain-core c w number job is first runs = (is.sound.jobs number job runs).plain first
 
 -- ---- objects
 

@@ -78,7 +78,7 @@ module _ (v : Desk) (d : Devices) (w : State) (moment : ℕ) (stands : DeskStand
       let same_length : bench.keys.file.length ≡ length (w.bytes file.id) = for_file.length_is
       ∙ sym size-is in
       let profile : file.profile ≡ s.profile =
-      file-first 8 w stands.core.sound stands.core.first name file found in
+      file-first 8 w stands.core.sound stands.first name file found in
       let same_stripes : stripes_on bench ≡ total = (λ i. stripes (is_bench i) (same_length i))
       ∙ ap (λ (p : ℕ). stripes_of (profiled s p) (length (w.bytes file.id))) (sym profile) in
       let same_n : bench.keys.file.shape.n ≡ s.n = ap (λ (o : Object). o.shape.n) is_bench in

@@ -148,7 +148,7 @@ ends_by v v1 v2 w new holds faults moment number place ps ps' action r r' reply 
     let core = left.fed w new (Ended (machine_answer answer)) moment stands.core happens
     (record {
       tells = tells;
-      entry = λ a is mine. entry_kept v.core w w.append number stands.core.append a
+      entry = λ a is mine. entry_kept v.core w number stands.core a
           (sym quiet.append ∙ is) mine;
     }) in
     let are : AreRunning (setup_in w) v2.jobs.items new.jobs =

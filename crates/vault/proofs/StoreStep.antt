@@ -255,7 +255,7 @@ module _ (v : Desk) (w : State) (holds : Option Cells) (faults moment number k o
           subst (λ (x : Provider). Stores o s (block_to_store w coming.job coming.job.kind k o s) x q) seen
           (subst (λ (b : List ℕ). Stores o s b p q)
           (block_is w coming.job k o s coming.comes
-          (plain-core v.core w number coming.job stands.core coming.runs) r runs) stores) in
+          (plain-core v.core w number coming.job stands.core stands.first coming.runs) r runs) stores) in
           goes_on v v' w new holds faults moment number place ps ps' (Store k o s) r'
           (advanced coming.job) stands coming
           (q, call, refl)

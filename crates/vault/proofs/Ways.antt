@@ -7,7 +7,7 @@ use Rattle.algebra_laws.proofs.Lists.{get-set_same}
 use Rattle.device_defs.specs.Cells.{Cells}
 use Rattle.device_defs.specs.Providers.{Provider}
 use Rattle.record_defs.specs.Records.{Setup, Record}
-use Rattle.record_defs.specs.Table.{setup_of}
+use Rattle.record_defs.specs.Table.{setup_of, version_of}
 use Rattle.record_defs.specs.Journal.{StandsOrIsEmpty, text_size}
 use Rattle.machine_defs.specs.Actions.{Action, actions_of, actions_by}
 use Rattle.machine_defs.specs.Events.{Outcome, Step, More}
@@ -17,7 +17,8 @@ use Rattle.machine_defs.specs.Setups.{setup_or_none}
 use Rattle.machine_defs.specs.States.{State, Append, Alone, setup_in, with_provider}
 use Rattle.machine_defs.specs.Steps.{Acts, ActsOrWaits, StepsOn, StepsJob, StepsOne, StepsOpen, Steps}
 use Rattle.machine_defs.proofs.JobLists.{cond_true, cond_false, number_of}
-use Rattle.vault_core.specs.Carried.{CoreIs, ComesNext, IsCoreFlight}
+use Rattle.vault_core.specs.Carried.{CoreIs, ComesNext}
+use Rattle.vault_core.proofs.InFlight.{flight-entry}
 use Rattle.vault_core.specs.Coming.{entry_in}
 use Rattle.vault_core.specs.View.{CoreView}
 use Rattle.opening_defs.specs.Opened.{AreHanded}
@@ -146,37 +147,37 @@ pub stands_on : (v v' : Desk) (w new : State) (holds : Option Cells) (faults : �
     DeskStands v (devices holds faults ps) w → IsQuiet w new → AreHanded ps' new
     → CoreIs v'.core new → KeepsAll v v' → v'.flight ≡ v.flight →
     AreRunning (setup_in w) v'.jobs.items new.jobs → DeskStands v' (devices holds faults ps') new
-stands_on v v' w new holds faults ps ps' stands quiet handed core keeps flight jobs = record {
-  devices = record {
-    images = images-first holds new (whole-core v'.core new core)
-        (images_on holds w new quiet.records quiet.doubt
-        (first-images holds w (whole-core v.core w stands.core) stands.devices.images));
-    faults = quiet.faults ∙ stands.devices.faults;
-    providers = handed;
-  };
-  core = core;
-  setup = setup_same w new quiet.records ∙ stands.setup
-      ∙ sym (λ i. with_master (keeps.setup i) (keeps.master i).0);
-  shaped = shaped_on v v' keeps stands.shaped;
-  jobs = subst (λ (s : Setup). AreRunning s v'.jobs.items new.jobs)
-      (sym (setup_same w new quiet.records)) jobs;
-  flight = λ free.
-      subst (λ (f : Option Flight). IsFlight f new.append new.records holds) (sym flight)
-      (subst (λ (a : Option Append). IsFlight v.flight a new.records holds) (sym quiet.append)
-      (subst (λ (rs : List Record). IsFlight v.flight w.append rs holds) (sym quiet.records)
-      (stands.flight (sym quiet.barred ∙ free))));
-}
+stands_on v v' w new holds faults ps ps' stands quiet handed core keeps flight jobs =
+    let first : version_of new.records ≡ 1 = ap version_of quiet.records ∙ stands.first in
+    record {
+      devices = record {
+        images = images-first holds new (whole-core v'.core new core first)
+            (images_on holds w new quiet.records quiet.doubt
+            (first-images holds w (whole-core v.core w stands.core stands.first) stands.devices.images));
+        faults = quiet.faults ∙ stands.devices.faults;
+        providers = handed;
+      };
+      core = core;
+      first = first;
+      setup = setup_same w new quiet.records ∙ stands.setup
+          ∙ sym (λ i. with_master (keeps.setup i) (keeps.master i).0);
+      shaped = shaped_on v v' keeps stands.shaped;
+      jobs = subst (λ (s : Setup). AreRunning s v'.jobs.items new.jobs)
+          (sym (setup_same w new quiet.records)) jobs;
+      flight = λ free.
+          subst (λ (f : Option Flight). IsFlight f new.append new.records holds) (sym flight)
+          (subst (λ (a : Option Append). IsFlight v.flight a new.records holds) (sym quiet.append)
+          (subst (λ (rs : List Record). IsFlight v.flight w.append rs holds) (sym quiet.records)
+          (stands.flight (sym quiet.barred ∙ free))));
+    }
 
 -- ---- a job goes on
 
 -- the record in flight is the one that the core gave
-pub entry_kept : (c : CoreView) (w : State) (flight : Option Append) (number : ℕ) → IsCoreFlight c flight →
-    (a : Append) → flight ≡ Some a → a.job ≡ number → entry_in c number ≡ Some a.entry
-entry_kept c w None number is a flight mine = (let e : None ≡ Some a = flight in cc)
-entry_kept c w (Some b) number is a flight mine =
-    let same : b ≡ a = (let e : Some b ≡ Some a = flight in cc) in
-    subst (λ (n : ℕ). entry_in c n ≡ Some a.entry) mine
-    (subst (λ (x : Append). entry_in c x.job ≡ Some x.entry) same is.1)
+pub entry_kept : (c : CoreView) (w : State) (number : ℕ) → CoreIs c w →
+    (a : Append) → w.append ≡ Some a → a.job ≡ number → entry_in c number ≡ Some a.entry
+entry_kept c w number is a flight mine =
+    subst (λ (n : ℕ). entry_in c n ≡ Some a.entry) mine (flight-entry c w a is flight)
 
 -- what is read past the text is as before where the disk was not called
 pub same_beyond : (w : State) (holds : Option Cells) (faults : ℕ) (ps ps' : List Provider) →
@@ -201,7 +202,7 @@ goes_told v v' w new holds faults moment number place ps ps' action r j answer s
     let core = fed w new More moment stands.core happens
     (record {
       tells = tells;
-      entry = λ a is mine. entry_kept v.core w w.append number stands.core.append a
+      entry = λ a is mine. entry_kept v.core w number stands.core a
           (sym quiet.append ∙ is) mine;
     }) in
     let are : AreRunning (setup_in w) v'.jobs.items new.jobs =

@@ -372,7 +372,7 @@ module _ (v : Desk) (w : State) (d : Devices) (moment number o s : ℕ) (stands 
   coming = comes.machine w stands.core
 
   plain_job : IsPlainJob (setup_in w) coming.job
-  plain_job = plain-core v.core w number coming.job stands.core coming.runs
+  plain_job = plain-core v.core w number coming.job stands.core stands.first coming.runs
 
   module _ (place : ℕ) (r : Running) (at : place_in v.jobs.items number ≡ Some place)
       (there : slice_get v.jobs.items place ≡ Some r) where

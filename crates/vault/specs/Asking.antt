@@ -55,7 +55,7 @@ length_among fs object = length_at fs (position (λ (f : Pinned). f.id == object
 -- the same of the files of a job, if it runs
 abbrev pub length_found : Option CoreJob → ℕ → Option ℕ
 length_found None object = None
-length_found (Some j) object = length_among j.pinned object
+length_found (Some j) object = length_among j.plan.pins object
 
 -- the same of those of the job of a number
 abbrev pub length_in : CoreView → ℕ → ℕ → Option ℕ
@@ -64,7 +64,7 @@ length_in c job object = length_found (job_in c.jobs job) object
 -- the number of a job as an audit, if it runs
 abbrev pub IsAuditNumber : Option CoreJob → ℕ → Type 0
 IsAuditNumber None number = ⊥
-IsAuditNumber (Some j) number = number ≡ j.subject
+IsAuditNumber (Some j) number = number ≡ j.plan.subject
 
 -- the file, the audit's number, the round and the picks of an ask
 pub record IsQuestion (v : Desk) (job object round : ℕ) (q : Question) : Type 0 where

@@ -3,7 +3,8 @@
 --   IsShaped v                    == the shape and the profile are those of the setup
 --   IsFlight f flight rs told     == no append is in flight, and the disk has the text with a closed gate; or
 --                                    that of the machine is, and the disk is as after its moves so far
---   DeskStands v d w              == the desk and the devices stand for a state in which a vault is open
+--   DeskStands v d w              == the desk and the devices stand for a state in which a vault is open, and
+--                                    the journal has its first version
 --   IsAtWork v                    == the desk stands for some state, over some devices of which the disk
 --                                    tells nothing: what its parts owe each other, whatever devices it was
 --                                    lent
@@ -18,6 +19,7 @@ use Rattle.device_defs.specs.Cells.{Cells}
 use Rattle.device_defs.specs.Providers.{Provider}
 use Rattle.record_defs.specs.Records.{Record}
 use Rattle.record_defs.specs.Journal.{before_gate, text_size}
+use Rattle.record_defs.specs.Table.{version_of}
 use Rattle.machine_defs.specs.Actions.{Action}
 use Rattle.machine_defs.specs.Jobs.{Kind, job_of}
 use Rattle.machine_defs.specs.Answers as answers
@@ -62,6 +64,7 @@ IsFlight f flight rs told = ⊥
 pub record DeskStands (v : Desk) (d : Devices) (w : State) : Type 0 where
   pub devices : AreDevices d w
   pub core : CoreIs v.core w
+  pub first : version_of w.records ≡ 1
   pub setup : setup_in w ≡ with_master v.setup v.master.0
   pub shaped : IsShaped v
   pub jobs : AreRunning (setup_in w) v.jobs.items w.jobs

@@ -9,7 +9,7 @@ ghost use Rattle.machine_defs.specs.Refusals as refusal;
 ghost use Rattle.machine_defs.specs.Refusals.{Cause, first_refusal};
 ghost use Rattle.machine_defs.specs.States.{State, setup_in};
 ghost use Rattle.vault_core.specs.Carried.{CoreIs, IsKindOf, refusal_of};
-ghost use Rattle.vault_core.specs.Wished.{IsShort};
+ghost use Rattle.vault_core.specs.Wished.{profile_named, IsShort};
 ghost use Rattle.vault_open.specs.Devices.{Devices};
 ghost use Rattle.vault.specs.Running.{IsSameDesk};
 ghost use Rattle.vault.specs.Desks.{DeskStands, DeskMakesBegin};
@@ -47,10 +47,11 @@ impl Desk {
     }
 
     /// Takes a job in with what it works with, where its begin is accepted. Conditions: a number is left for
-    /// the job, and a put has at most 2^22 bytes.
+    /// the job, and a put has at most 2^22 bytes and names no profile of its own.
     pub(crate) fn admit(&mut self, wish: Wish, task: Task) -> Result<u32, BeginFault>
         requires number { self.old.core.next_job < 2 ^ 32 - 1 }
         requires size { IsShort wish }
+        requires plain { profile_named wish ≡ None }
         ensures machine { (w : State) (d : Devices) (moment : ℕ) (kind : Kind) → DeskStands self.old d w
             → IsKindOf wish kind → IsSpelledKind kind
             → (begin_refusal 8 w kind ≡ None

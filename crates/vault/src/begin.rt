@@ -36,6 +36,7 @@ impl Vault {
         let wish = Wish::Put {
             name,
             length: length as u32,
+            profile: None,
         };
         let task = PutTask {
             bytes,

@@ -149,7 +149,7 @@ impl Desk {
     /// The object number of a running put, or the number of an audit or a repair; 0 until it is drawn.
     pub fn subject_of(&self, job: u32) -> u64
         requires { RunsIn self.now.core job }
-        ensures { Some result ≡ option_map (λ (j : CoreJob). j.subject) (job_in self.now.core.jobs job) }
+        ensures { Some result ≡ option_map (λ (j : CoreJob). j.plan.subject) (job_in self.now.core.jobs job) }
     {
         match self.core.subject(job) {
             Some(number) => number,

@@ -1,9 +1,9 @@
-use Rattle.std.proofs.Common.{Err, ℕ, Some, ◌≡◌, ◌≢◌, refl, ◌∙◌, ap, List, ◌++◌, ◌∷◌, [], sym, subst, inl, inr, ◌⊎◌, rules}
-use Rattle.machine_defs.specs.Begins.{begin_refusal}
+use Rattle.std.proofs.Common.{Err, ℕ, Option, Some, None, ◌≡◌, ◌≢◌, refl, ◌∙◌, ap, List, ◌++◌, ◌∷◌, [], sym, subst, inl, inr, ◌⊎◌, rules}
+use Rattle.machine_defs.specs.Begins.{begin_refusal, refusal_of_begin}
 use Rattle.machine_defs.specs.Jobs.{Kind}
 use Rattle.machine_defs.specs.Refusals as refusal
 use Rattle.machine_defs.specs.States.{State, setup_in}
-use Rattle.vault_core.specs.Carried.{CoreIs, refusal_of}
+use Rattle.vault_core.specs.Carried.{CoreIs, refusal_of, begun}
 use Rattle.vault_core.specs.declared.own.Core.{Core}
 use Rattle.vault_core.specs.declared.wish.BeginFault.{BeginFault}
 use Rattle.vault_core.specs.declared.wish.BeginFault.TheVariants as fault
@@ -26,6 +26,9 @@ cause w kind fault.MustReopen is = inl (is (search rules))
 cause w kind fault.Busy is = inl (is (search rules))
 cause w kind fault.BadName is = inl (is (search rules))
 cause w kind fault.TooLong is = inl (is (search rules))
+cause w kind fault.BadProfile is = inl (is (search rules))
+cause w kind fault.OldVersion is = inl (is (search rules))
+cause w kind fault.NewVersion is = inl (is (search rules))
 cause w kind fault.NoSuchName is = inl (is (search rules))
 cause w kind fault.TooManyFiles is = inl (is (search rules))
 cause w kind fault.RepairDue is = inl (is (search rules))
@@ -59,14 +62,19 @@ pub returns-in-Err-clause-machine : goal.returns-in-Err-clause-machine
 returns-in-Err-clause-machine c = λ w d moment kind stands of spelled is.
     refused c.args.self.now _ d w moment kind c.in-Err.why stands c.in-Err.ensures.unchanged
     c.reserve.ensures.items (record { setup = refl; master = refl; shape = refl; profile = refl }) refl
-    (c.in-Err.ensures.refused w kind stands.core of)
+    (subst (λ (own : Option ℕ). c.in-Err.why ≢ fault.Memory
+    → refusal_of_begin 8 w kind own ≡ Some (refusal_of c.in-Err.why)) c.requires.plain
+    (c.in-Err.ensures.refused w kind stands.core of))
 
 pub returns-in-Ok-clause-machine : goal.returns-in-Ok-clause-machine
 returns-in-Ok-clause-machine c = λ w d moment kind stands of spelled is.
-    let accepted = c.in-Ok.ensures.accepted w kind stands.core of in
+    let accepted : begin_refusal 8 w kind ≡ None =
+    subst (λ (own : Option ℕ). refusal_of_begin 8 w kind own ≡ None) c.requires.plain
+    (c.in-Ok.ensures.accepted w kind stands.core of) in
     let running : Running = record { number = c.in-Ok.number; task = c.args.task } in
     admitted c.args.self.now _ d w moment kind stands c.in-Ok.number c.args.task
-    (c.in-Ok.ensures.begun w kind moment stands.core of spelled) accepted c.in-Ok.ensures.number
+    (subst (λ (own : Option ℕ). CoreIs c.begin.new.self (begun w moment kind own)) c.requires.plain
+    (c.in-Ok.ensures.begun w kind moment stands.core of spelled)) accepted c.in-Ok.ensures.number
     (is accepted)
     (c.push_reserved.ensures.items
     ∙ ap (λ (l : List Running). l ++ running ∷ []) c.reserve.ensures.items)
