@@ -72,7 +72,6 @@ module _ (holds : Option Cells) (faults : ℕ) (ps qs : List Provider) (w : Stat
         core = record {
           sound = sound;
           is_open = S.core.is_open;
-          first = S.core.first;
           none_alone = S.core.none_alone;
           table = S.core.table;
           setup = S.core.setup ∙ sym same;
@@ -82,6 +81,7 @@ module _ (holds : Option Cells) (faults : ℕ) (ps qs : List Provider) (w : Stat
           append = S.core.append;
           barred = S.core.barred;
         };
+        first = S.first;
         setup = same ∙ S.setup;
         shaped = S.shaped;
         jobs = S.jobs;
