@@ -158,11 +158,14 @@ module _ (law : OpensAll) (there : ThereIsOne) (v : Vault) (records : List Recor
   memory-is begin_fault.MustReopen e = cc
   memory-is begin_fault.Busy e = cc
   memory-is begin_fault.BadName e = cc
+  memory-is begin_fault.BadProfile e = cc
   memory-is begin_fault.TooLong e = cc
+  memory-is begin_fault.OldVersion e = cc
   memory-is begin_fault.NoSuchName e = cc
   memory-is begin_fault.TooManyFiles e = cc
   memory-is begin_fault.RepairDue e = cc
   memory-is begin_fault.NothingDue e = cc
+  memory-is begin_fault.NewVersion e = cc
   memory-is begin_fault.JournalFull e = cc
   memory-is begin_fault.Memory e = refl
 

@@ -36,7 +36,8 @@ pub fn unopened(why: Unopened) -> Report
     }
 }
 
-/// Tells that a job was refused. Where one job runs alone, the vault is open and not busy.
+/// Tells that a job was refused. Where one job runs alone, the vault is open and not busy; no command names a
+/// profile or upgrades.
 pub fn refused(why: BeginFault) -> Report
     ensures { ending_of result ≡ ending_with (status_of (refusal_of why)) 0 }
 {
@@ -48,6 +49,11 @@ pub fn refused(why: BeginFault) -> Report
         BeginFault::TooLong => Report::of(TOO_LONG),
         BeginFault::BadName => Report::of(BAD_NAME),
         BeginFault::TooManyFiles => Report::of(TOO_MANY_FILES),
-        BeginFault::MustReopen | BeginFault::Busy | BeginFault::Memory => Report::of(NO_MEMORY),
+        BeginFault::MustReopen
+        | BeginFault::Busy
+        | BeginFault::BadProfile
+        | BeginFault::OldVersion
+        | BeginFault::NewVersion
+        | BeginFault::Memory => Report::of(NO_MEMORY),
     }
 }

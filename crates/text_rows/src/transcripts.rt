@@ -166,7 +166,7 @@ fn first_other(alloc: Global, rows: &[Row]) -> Option<usize> {
     None
 }
 
-static BEGINS: [Row; 13] = [
+static BEGINS: [Row; 16] = [
     (Line::Begin(None), "closed\n"),
     (Line::Begin(Some(Ok(1))), "job 1\n"),
     (Line::Begin(Some(Ok(u32::MAX))), "job 4294967295\n"),
@@ -180,8 +180,16 @@ static BEGINS: [Row; 13] = [
         "refused BadName\n",
     ),
     (
+        Line::Begin(Some(Err(BeginFault::BadProfile))),
+        "refused BadProfile\n",
+    ),
+    (
         Line::Begin(Some(Err(BeginFault::TooLong))),
         "refused TooLong\n",
+    ),
+    (
+        Line::Begin(Some(Err(BeginFault::OldVersion))),
+        "refused OldVersion\n",
     ),
     (
         Line::Begin(Some(Err(BeginFault::NoSuchName))),
@@ -198,6 +206,10 @@ static BEGINS: [Row; 13] = [
     (
         Line::Begin(Some(Err(BeginFault::NothingDue))),
         "refused NothingDue\n",
+    ),
+    (
+        Line::Begin(Some(Err(BeginFault::NewVersion))),
+        "refused NewVersion\n",
     ),
     (
         Line::Begin(Some(Err(BeginFault::JournalFull))),
