@@ -41,6 +41,14 @@ enum Base {
 enum Act {
     /// A job is begun: its number, or why it is refused.
     Begins(Job, Result<u32, BeginFault>),
+    /// A put of no byte under the name `b` is begun that names this profile.
+    PutsIn(u8, Result<u32, BeginFault>),
+    /// An upgrade is begun.
+    Upgrades(Result<u32, BeginFault>),
+    /// The next job number is drawn.
+    Draws(u32),
+    /// A disk call outside the jobs fails.
+    Fails,
     /// A job has so many steps left.
     Left(u32, u64),
     /// A job makes so many actions.
@@ -113,6 +121,7 @@ fn wish_of(job: Job) -> Option<Wish>
         Job::Put(name, bytes) => Some(Wish::Put {
             name: Name::new(name)?,
             length: bytes.len() as u32,
+            profile: None,
         }),
         Job::Get(name) => Some(Wish::Get {
             name: Name::new(name)?,
@@ -125,12 +134,33 @@ fn wish_of(job: Job) -> Option<Wish>
     }
 }
 
+/// What a core is told of a put that names this profile.
+fn put_in(profile: u8) -> Option<Wish>
+    ensures { IfSome result (λ wish. IsShort wish) }
+{
+    Some(Wish::Put {
+        name: Name::new(b"b")?,
+        length: 0,
+        profile: Some(profile),
+    })
+}
+
 /// Begins a job.
-fn start(core: &mut Core, job: Job) -> Result<u32, BeginFault> {
-    match wish_of(job) {
+fn start(core: &mut Core, wish: Option<Wish>) -> Result<u32, BeginFault>
+    requires { IfSome wish (λ w. IsShort w) }
+{
+    match wish {
         Some(wish) if core.next_job() <= 1000 => core.begin(wish),
         _ => Err(BeginFault::BadName),
     }
+}
+
+/// Draws a job number.
+fn drawn(core: &mut Core) -> Option<u32> {
+    if core.next_job() > 1000 {
+        return None;
+    }
+    Some(core.draw())
 }
 
 /// Makes the next action of a job, if it has one now that is not the last ask of an audit.
@@ -168,7 +198,14 @@ fn waits(core: &Core, job: u32, other: u32) -> bool {
 /// Whether an act comes to what it is to.
 fn goes(core: &mut Core, act: Act) -> bool {
     match act {
-        Act::Begins(job, wanted) => start(core, job) == wanted,
+        Act::Begins(job, wanted) => start(core, wish_of(job)) == wanted,
+        Act::PutsIn(profile, wanted) => start(core, put_in(profile)) == wanted,
+        Act::Upgrades(wanted) => start(core, Some(Wish::Upgrade)) == wanted,
+        Act::Draws(wanted) => drawn(core) == Some(wanted),
+        Act::Fails => {
+            core.bar();
+            true
+        }
         Act::Left(job, wanted) => core.left(job) == Some(wanted),
         Act::Makes(job, count) => makes(core, job, count),
         Act::Rests(job) => !make(core, job),
@@ -376,4 +413,79 @@ const CROWDED: &[Case] = &[Case {
 #[test]
 fn jobs_keep_others_out(rt: HostRuntime) {
     assert_eq!(rt; first_wrong(rt.alloc(), CROWDED), None);
+}
+
+/// An upgrade, what may begin before it, beside it and behind it, and the room that it and a put need.
+const UPGRADES: &[Case] = &[
+    Case {
+        base: Base::Empty,
+        end: 1000,
+        acts: &[
+            Act::PutsIn(5, Err(BeginFault::BadProfile)),
+            Act::PutsIn(0, Err(BeginFault::OldVersion)),
+            Act::Upgrades(Ok(1)),
+            Act::Left(1, 5),
+            Act::Begins(Job::Get(b"a"), Err(BeginFault::Busy)),
+            Act::Full(1),
+            Act::Makes(1, 5),
+            Act::Rests(1),
+            Act::Upgrades(Err(BeginFault::NewVersion)),
+            Act::PutsIn(5, Err(BeginFault::BadProfile)),
+            Act::PutsIn(0, Ok(2)),
+            Act::Upgrades(Err(BeginFault::Busy)),
+            Act::Left(2, 15),
+            Act::Makes(2, 9),
+            Act::Rests(2),
+        ],
+    },
+    Case {
+        base: Base::Empty,
+        end: 16_777_186,
+        acts: &[
+            Act::Upgrades(Ok(1)),
+            Act::Makes(1, 5),
+            Act::PutsIn(0, Ok(2)),
+        ],
+    },
+    Case {
+        base: Base::Empty,
+        end: 16_777_187,
+        acts: &[
+            Act::Upgrades(Ok(1)),
+            Act::Makes(1, 5),
+            Act::PutsIn(0, Err(BeginFault::JournalFull)),
+        ],
+    },
+    Case {
+        base: Base::Empty,
+        end: 16_777_213,
+        acts: &[Act::Upgrades(Ok(1))],
+    },
+    Case {
+        base: Base::Empty,
+        end: 16_777_214,
+        acts: &[Act::Upgrades(Err(BeginFault::JournalFull))],
+    },
+];
+
+#[test]
+fn an_upgrade_runs_alone(rt: HostRuntime) {
+    assert_eq!(rt; first_wrong(rt.alloc(), UPGRADES), None);
+}
+
+/// What runs outside the jobs takes a number of theirs, and bars them where its disk call fails.
+const BESIDE: &[Case] = &[Case {
+    base: Base::Stored,
+    end: 1000,
+    acts: &[
+        Act::Draws(1),
+        Act::Begins(Job::Get(b"a"), Ok(2)),
+        Act::Fails,
+        Act::Begins(Job::Get(b"a"), Err(BeginFault::MustReopen)),
+    ],
+}];
+
+#[test]
+fn what_runs_outside_is_told(rt: HostRuntime) {
+    assert_eq!(rt; first_wrong(rt.alloc(), BESIDE), None);
 }
