@@ -377,6 +377,8 @@ salvaging() {
     says 0 '1 4 1536 notes 1492
 2 2 768 other 692
 3 3 1152 third 1092' hail-salvage home 3
+    cp home/provider-0/3-0 home/provider-0/3-10923
+    says 0 '' hail-verify home
     rm -r home/journal home/provider-3 home/provider-4 home/provider-5
     says 0 '1 4 1536
 2 2 768
