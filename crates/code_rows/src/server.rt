@@ -98,10 +98,25 @@ fn corrected(code: &AnyCode, errors: u32, work: &mut Work) -> (Option<u32>, bool
     (count, block == codeword)
 }
 
+/// The same by the guess alone.
+fn guessed(code: &AnyCode, errors: u32) -> (Option<u32>, bool)
+    requires size { 1 ≤ (code_profile code.now).size }
+    requires most { (code_profile code.now).size ≤ 128 }
+    requires few { errors ≤ 128 }
+{
+    let size = code.profile().size as usize;
+    let mut codeword = [Symbol::ZERO; 128];
+    encode_one(code, &mut codeword[..size]);
+    let mut block = codeword;
+    spoil(&mut block[..size], errors);
+    let count = code.guess_in(&mut block[..size]);
+    (count, block == codeword)
+}
+
 /// How many symbols are spoiled, and whether the codeword is given back.
 type Spoiled = (u32, bool);
 
-/// Whether the codeword is given back as the row says.
+/// Whether the codeword is given back as the row says, also by the guess alone.
 fn corrects_so(code: &AnyCode, (errors, is_found): &Spoiled, work: &mut Work) -> bool {
     let size = code.profile().size;
     if size == 0 || size > 128 || work.size() != 128 || *errors > 128 {
@@ -109,6 +124,7 @@ fn corrects_so(code: &AnyCode, (errors, is_found): &Spoiled, work: &mut Work) ->
     }
     let count = if *is_found { Some(*errors) } else { None };
     corrected(code, *errors, work) == (count, *is_found)
+        && guessed(code, *errors) == (count, *is_found)
 }
 
 /// Whether it is in all of these rows.

@@ -87,4 +87,15 @@ impl AnyCode {
     {
         with_code!(self, code => code.decode_in(block, work))
     }
+
+    /// Corrects a block by a guess alone, which `decode_in` tries before it decodes, and tells how many symbols
+    /// it changed. None where the guess is wrong; then the block is unchanged.
+    pub fn guess_in(&self, block: &mut [Symbol]) -> Option<u32>
+        requires { length block.old ≡ (code_profile self.now).size }
+        ensures unchanged { IfNone result (block.new ≡ block.old) }
+        ensures opened { OnSome result (Opens (plain_profile (code_profile self.now)) block.old block.new) }
+        ensures changed { IfSome result (λ count. count ≡ differences block.old block.new) }
+    {
+        with_code!(self, code => code.guess_in(block))
+    }
 }

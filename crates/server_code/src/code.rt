@@ -1,6 +1,7 @@
 ghost use Rattle.std.specs.Prelude.{◌≡◌};
 ghost use Rattle.code_points.specs.Profile.{plain_profile};
 
+use crate::correct::correct;
 use crate::open::open_block;
 use crate::tables::Tables;
 use code_points::Profile;
@@ -61,5 +62,16 @@ impl<const N: usize, const K: usize> ServerCode<N, K> {
         ensures work { work.new.size ≡ work.old.size }
     {
         open_block(&self.tables, block, work)
+    }
+
+    /// Corrects a block by a guess alone, which `decode_in` tries before it decodes, and tells how many symbols
+    /// it changed. None where the guess is wrong; then the block is unchanged.
+    pub fn guess_in(&self, block: &mut [Symbol]) -> Option<u32>
+        requires { length block.old ≡ N }
+        ensures unchanged { IfNone result (block.new ≡ block.old) }
+        ensures opened { OnSome result (Opens (plain_profile self.now.profile) block.old block.new) }
+        ensures changed { IfSome result (λ count. count ≡ differences block.old block.new) }
+    {
+        correct(&self.tables, block)
     }
 }
