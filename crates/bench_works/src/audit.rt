@@ -8,7 +8,7 @@ ghost use Rattle.bench_works.specs.declared.stripes.TheConstants.{MASTER};
 use crate::blocks::mix;
 use crate::failure::Failure;
 use crate::numbers::number_named;
-use crate::outcome::Outcome;
+use crate::outcome::{NOTHING, Outcome};
 use crate::stripes::{Coded, MASTER, file_over};
 use aggregate::{Blocks, answer};
 use audit_verdict::{Counts, judge_round, round_challenge};
@@ -292,6 +292,7 @@ impl AuditWork {
         Ok(Outcome {
             count: self.rounds,
             checksum: self.judge_all(&mut work),
+            decoded: NOTHING,
         })
     }
 }

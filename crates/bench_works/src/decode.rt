@@ -8,7 +8,7 @@ ghost use Rattle.bench_works.specs.Blocks.{decoding_checksum};
 use crate::blocks::{LONGEST, fill, mix, mix_all, profile_named};
 use crate::failure::Failure;
 use crate::numbers::number_named;
-use crate::outcome::Outcome;
+use crate::outcome::{NOTHING, Outcome};
 use hail_field::Symbol;
 use hail_poly::Work;
 use server_code::AnyCode;
@@ -110,6 +110,7 @@ impl DecodeWork {
         Ok(Outcome {
             count: self.count,
             checksum: self.correct_all(kept, block, &mut work),
+            decoded: NOTHING,
         })
     }
 }

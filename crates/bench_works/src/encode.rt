@@ -7,7 +7,7 @@ ghost use Rattle.bench_works.specs.Blocks.{encoding_checksum};
 use crate::blocks::{LONGEST, fill, mix_all, profile_named};
 use crate::failure::Failure;
 use crate::numbers::number_named;
-use crate::outcome::Outcome;
+use crate::outcome::{NOTHING, Outcome};
 use hail_field::Symbol;
 use server_code::AnyCode;
 use std::alloc::Global;
@@ -61,6 +61,7 @@ impl EncodeWork {
         Outcome {
             count: self.count,
             checksum: self.encode_all(kept, block),
+            decoded: NOTHING,
         }
     }
 }

@@ -4,7 +4,7 @@ ghost use Rattle.bench_works.specs.Checksum.{answer, checksum_of};
 
 use crate::failure::Failure;
 use crate::numbers::{after, number_named};
-use crate::outcome::Outcome;
+use crate::outcome::{NOTHING, Outcome};
 use hail_field::Symbol;
 
 /// What is done with each symbol.
@@ -78,6 +78,7 @@ impl FieldWork {
         Outcome {
             count: self.count,
             checksum: sum.0,
+            decoded: NOTHING,
         }
     }
 }

@@ -192,6 +192,7 @@ impl GetWork {
         &self,
         keys: &ObjectKeys,
         count: u32,
+        trust: &mut Trust,
         rows: &mut [Symbol],
         scratch: &mut [Block],
         work: &mut Work,
@@ -208,11 +209,10 @@ impl GetWork {
             ≡ opening_checksum (shaped_object MASTER.0 self.now.coded.file)
             (file_bytes self.now.coded.file.length) count) }
     {
-        let mut trust = Trust::new();
         let mut masks = MasksAtHand::new();
         let mut sum = 0;
         for stripe in 0..count {
-            self.open(keys, stripe, &mut trust, &mut masks, rows, scratch, work)?;
+            self.open(keys, stripe, trust, &mut masks, rows, scratch, work)?;
             sum = mix_all(sum, rows);
         }
         Ok(sum)
@@ -224,6 +224,7 @@ impl GetWork {
         alloc: Global,
         keys: &ObjectKeys,
         count: u32,
+        trust: &mut Trust,
         work: &mut Work,
     ) -> Result<u128, Failure>
         requires master { keys.now.master ≡ MASTER }
@@ -237,10 +238,10 @@ impl GetWork {
     {
         let mut rows = self.coded.rows(alloc)?;
         let mut scratch = self.coded.zeros(alloc)?;
-        self.open_all(keys, count, &mut rows, &mut scratch, work)
+        self.open_all(keys, count, trust, &mut rows, &mut scratch, work)
     }
 
-    /// Opens each stripe. The checksum is of each symbol of its rows.
+    /// Opens each stripe. The checksum is of each symbol of its rows; told is also how much was decoded.
     pub fn run(&self, alloc: Global) -> Result<Outcome, Failure>
         ensures count { IfOk result (λ outcome.
             outcome.count ≡ stripes (shaped_object MASTER.0 self.now.coded.file) self.now.coded.file.length) }
@@ -250,8 +251,13 @@ impl GetWork {
     {
         let keys = ObjectKeys::with_tables(alloc, &MASTER, &self.coded.file)?;
         let mut work = Work::new(alloc, 128)?;
+        let mut trust = Trust::new();
         let count = self.coded.file.stripes();
-        let checksum = self.open_in_room(alloc, &keys, count, &mut work)?;
-        Ok(Outcome { count, checksum })
+        let checksum = self.open_in_room(alloc, &keys, count, &mut trust, &mut work)?;
+        Ok(Outcome {
+            count,
+            checksum,
+            decoded: trust.decoded(),
+        })
     }
 }

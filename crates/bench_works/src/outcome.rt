@@ -1,5 +1,7 @@
 ghost use Rattle.std.specs.Prelude.{◌≡◌, ◌*◌, ◌/◌, max};
 
+use column_codec::Decoded;
+
 /// What a piece of work came to.
 #[derive(Clone, Copy)]
 pub struct Outcome {
@@ -7,7 +9,12 @@ pub struct Outcome {
     pub count: u32,
     /// A number that depends on each answer, and not on the machine.
     pub checksum: u128,
+    /// How much was decoded since guesses at it failed, in works on stripes that are opened.
+    pub decoded: Decoded,
 }
+
+/// Nothing was decoded.
+pub const NOTHING: Decoded = Decoded { blocks: 0, rows: 0 };
 
 impl Outcome {
     /// How many answers came in a second, if all came in these nanoseconds.

@@ -6,7 +6,7 @@ ghost use Rattle.bench_works.specs.Stripes.{file_bytes, making_checksum};
 ghost use Rattle.bench_works.specs.declared.stripes.TheConstants.{MASTER};
 
 use crate::failure::Failure;
-use crate::outcome::Outcome;
+use crate::outcome::{NOTHING, Outcome};
 use crate::stripes::{Coded, MASTER, file_named, mix_blocks};
 use column_codec::{Block, MasksAtHand, ObjectKeys};
 use std::alloc::Global;
@@ -56,6 +56,10 @@ impl PutWork {
         let mut blocks = self.coded.zeros(alloc)?;
         let count = self.coded.file.stripes();
         let checksum = self.make_all(&keys, count, &mut blocks);
-        Ok(Outcome { count, checksum })
+        Ok(Outcome {
+            count,
+            checksum,
+            decoded: NOTHING,
+        })
     }
 }

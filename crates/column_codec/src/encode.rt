@@ -15,6 +15,9 @@ use hail_poly::Work;
 use key_schedule::Master;
 use server_code::AnyCode;
 
+/// The most symbols of a short stripe.
+const SHORT: usize = 128;
+
 impl ObjectKeys {
     /// Fills `rows` with the symbols of a stripe of a file of these bytes, in layout order. Those past the
     /// end are zero.
@@ -49,6 +52,79 @@ impl ObjectKeys {
         }
     }
 
+    /// Fills the blocks of a stripe, whose symbols are made in `symbols`.
+    #[tactic(auto, using(crate::proofs::Places::stripe_small, crate::proofs::RowLemmas::profile_small))]
+    fn encode_within(
+        &self,
+        code: &AnyCode,
+        stripe: u32,
+        bytes: &[u8],
+        symbols: &mut [Symbol],
+        masks: &mut MasksAtHand,
+        out: &mut [Block],
+    )
+        requires code { code_profile code.now ≡ self.now.file.profile }
+        requires symbols { length symbols.old ≡ self.now.file.shape.l * self.now.file.profile.keep }
+        requires out { length out.old ≡ self.now.file.shape.n }
+        requires blocks { All (λ block. length block ≡ self.now.file.profile.size) out.old }
+        ensures blocks { out.new ≡ map (λ j. columns (shaped_object self.now.master.0 self.now.file)
+            bytes.now j stripe)
+            (upto self.now.file.shape.n) }
+        ensures sizes { All (λ block. length block ≡ self.now.file.profile.size) out.new }
+    {
+        self.symbols_into(stripe, bytes, symbols);
+        self.columns_into(code, stripe, symbols, masks, out);
+    }
+
+    /// The same with room for the symbols of a short stripe, which costs less to clear than that for a long
+    /// one.
+    fn encode_short(
+        &self,
+        code: &AnyCode,
+        stripe: u32,
+        bytes: &[u8],
+        masks: &mut MasksAtHand,
+        out: &mut [Block],
+    )
+        requires short { self.now.file.shape.l * self.now.file.profile.keep ≤ SHORT }
+        requires code { code_profile code.now ≡ self.now.file.profile }
+        requires out { length out.old ≡ self.now.file.shape.n }
+        requires blocks { All (λ block. length block ≡ self.now.file.profile.size) out.old }
+        ensures blocks { out.new ≡ map (λ j. columns (shaped_object self.now.master.0 self.now.file)
+            bytes.now j stripe)
+            (upto self.now.file.shape.n) }
+        ensures sizes { All (λ block. length block ≡ self.now.file.profile.size) out.new }
+    {
+        let count = usize::from(self.file.shape.l) * self.file.profile.keep as usize;
+        let mut buffer = [Symbol::ZERO; SHORT];
+        let symbols = &mut buffer[..count];
+        self.encode_within(code, stripe, bytes, symbols, masks, out);
+    }
+
+    /// The same with room for the symbols of any stripe.
+    #[tactic(auto, using(crate::proofs::Places::stripe_small, crate::proofs::RowLemmas::profile_small))]
+    fn encode_long(
+        &self,
+        code: &AnyCode,
+        stripe: u32,
+        bytes: &[u8],
+        masks: &mut MasksAtHand,
+        out: &mut [Block],
+    )
+        requires code { code_profile code.now ≡ self.now.file.profile }
+        requires out { length out.old ≡ self.now.file.shape.n }
+        requires blocks { All (λ block. length block ≡ self.now.file.profile.size) out.old }
+        ensures blocks { out.new ≡ map (λ j. columns (shaped_object self.now.master.0 self.now.file)
+            bytes.now j stripe)
+            (upto self.now.file.shape.n) }
+        ensures sizes { All (λ block. length block ≡ self.now.file.profile.size) out.new }
+    {
+        let count = usize::from(self.file.shape.l) * self.file.profile.keep as usize;
+        let mut buffer = [Symbol::ZERO; 1248];
+        let symbols = &mut buffer[..count];
+        self.encode_within(code, stripe, bytes, symbols, masks, out);
+    }
+
     /// Fills the blocks that the providers are to hold of a stripe of a file of these bytes (HAIL, 2009): n
     /// blocks of as many symbols as the profile has, in the order of providers, with masks on the secondary
     /// ones. Bytes past the file's end count as zeros. It takes no memory and refuses nothing. Blocks keep
@@ -72,10 +148,11 @@ impl ObjectKeys {
         ensures sizes { All (λ block. length block ≡ self.now.file.profile.size) out.new }
     {
         let count = usize::from(self.file.shape.l) * self.file.profile.keep as usize;
-        let mut buffer = [Symbol::ZERO; 1248];
-        let symbols = &mut buffer[..count];
-        self.symbols_into(stripe, bytes, symbols);
-        self.columns_into(code, stripe, symbols, masks, out);
+        if count <= SHORT {
+            self.encode_short(code, stripe, bytes, masks, out);
+        } else {
+            self.encode_long(code, stripe, bytes, masks, out);
+        }
     }
 }
 

@@ -25,4 +25,4 @@ pub use keys::ObjectKeys;
 pub use masks::MasksAtHand;
 pub use opening::{RowLost, open_stripe};
 pub use table::ConstantTable;
-pub use trust::Trust;
+pub use trust::{Decoded, Trust};

@@ -189,7 +189,11 @@ impl ObjectKeys {
                     return true;
                 }
                 Some(place) => {
-                    if left == 0 || !self.learn(marks, blocks, place, &mut liars, work) {
+                    if left == 0 {
+                        return false;
+                    }
+                    trust.count_rows(1);
+                    if !self.learn(marks, blocks, place, &mut liars, work) {
                         return false;
                     }
                 }
@@ -204,6 +208,7 @@ impl ObjectKeys {
         stripe: u32,
         marks: &[bool; 16],
         blocks: &[Block],
+        trust: &mut Trust,
         rows: &mut [Symbol],
         work: &mut Work,
     ) -> Result<(), RowLost>
@@ -223,6 +228,7 @@ impl ObjectKeys {
         let keep = self.file.profile.keep as usize;
         let l = usize::from(self.file.shape.l);
         for place in 0..keep {
+            trust.count_rows(1);
             if !self.open_place(marks, blocks, place, work) {
                 clear(rows);
                 let row = u64::from(stripe) * u64::from(self.file.profile.size) + place as u64;
@@ -259,7 +265,7 @@ impl ObjectKeys {
         if self.carry(marks, blocks, self.file.shape.b, trust, rows, work) {
             Ok(())
         } else {
-            self.open_each_row(stripe, marks, blocks, rows, work)
+            self.open_each_row(stripe, marks, blocks, trust, rows, work)
         }
     }
 

@@ -174,6 +174,7 @@ impl ObjectKeys {
         ) {
             return Ok(());
         }
+        trust.count_blocks(u32::from(self.file.shape.n));
         let marks = self.open_present_blocks(code, stripe, seen, present, masks, scratch, work);
         self.open_rows(stripe, &marks, scratch, trust, rows, work)
     }

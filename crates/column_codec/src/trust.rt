@@ -1,12 +1,21 @@
 use crate::guess::lacking;
 
+/// How many blocks and rows were decoded since guesses at them failed. Each count stands still at its type's
+/// end. It is told, and decides nothing.
+#[derive(Clone, Copy, Debug, PartialEq, Eq)]
+pub struct Decoded {
+    pub blocks: u32,
+    pub rows: u32,
+}
+
 /// The providers that the stripes before were opened without, since they gave codewords of other symbols.
 /// Keep one for as long as stripes of an object are opened: the next stripe is tried first without their
 /// blocks, so that it takes them for liars once and not in each stripe. It decides only what is looked at
-/// first, and never what a stripe opens to.
+/// first, and never what a stripe opens to. It counts what is decoded.
 #[derive(Clone, Copy)]
 pub struct Trust {
     trusted: [bool; 16],
+    decoded: Decoded,
 }
 
 /// Those that are trusted, but for those that are lost.
@@ -21,11 +30,27 @@ pub(crate) fn without(trusted: &[bool; 16], lost: &[bool; 16]) -> [bool; 16] {
 }
 
 impl Trust {
-    /// Each provider is trusted.
+    /// Each provider is trusted, and nothing was decoded.
     pub fn new() -> Trust {
         Trust {
             trusted: [true; 16],
+            decoded: Decoded { blocks: 0, rows: 0 },
         }
+    }
+
+    /// How much was decoded so far.
+    pub fn decoded(&self) -> Decoded {
+        self.decoded
+    }
+
+    /// Counts blocks that are decoded.
+    pub(crate) fn count_blocks(&mut self, count: u32) {
+        self.decoded.blocks = self.decoded.blocks.saturating_add(count);
+    }
+
+    /// Counts rows that are decoded.
+    pub(crate) fn count_rows(&mut self, count: u32) {
+        self.decoded.rows = self.decoded.rows.saturating_add(count);
     }
 
     /// The providers whose blocks are looked at first.

@@ -355,26 +355,51 @@ fn opens(
     answer == Ok(()) && rows == [Symbol(0x0101_0101_0101_0101_0101_0101_0101_0101); 4]
 }
 
-/// Whether it opens so, and again by those that are trusted then.
-fn opens_twice(rt: &impl Abort, alloc: Global, wide: &Wide, seen: &[Symbol; 42]) -> bool {
+/// Whether it opens so, and again by those that are trusted then; and how many blocks and rows were decoded.
+fn opens_twice(
+    rt: &impl Abort,
+    alloc: Global,
+    wide: &Wide,
+    seen: &[Symbol; 42],
+) -> (bool, u32, u32) {
     let mut trust = Trust::new();
     let mut masks = MasksAtHand::new();
     let mut scratch = seven(rt, alloc, wide.keys.file.profile.size);
     let mut work = work(rt, alloc);
-    opens(wide, seen, &mut trust, &mut masks, &mut scratch, &mut work)
-        && opens(wide, seen, &mut trust, &mut masks, &mut scratch, &mut work)
+    let open = opens(wide, seen, &mut trust, &mut masks, &mut scratch, &mut work)
+        && opens(wide, seen, &mut trust, &mut masks, &mut scratch, &mut work);
+    (open, trust.decoded().blocks, trust.decoded().rows)
 }
 
 /// Which of seven providers give codewords of other symbols, whether one symbol of each block is wrong, and
-/// whether the stripe opens.
-type Beside = ([bool; 7], bool, bool);
+/// whether the stripe opens, with how many blocks and rows decoded. A clean one takes none. Liars cost one row
+/// the first time, and none the second. Where symbols are wrong the blocks are decoded each time; a row then
+/// finds the liars each time. Three liars are too many: two guesses and a row itself find no polynomial.
+type Beside = ([bool; 7], bool, (bool, u32, u32));
 
-static BESIDE: [Beside; 5] = [
-    ([true, true, false, false, false, false, false], false, true),
-    ([false, true, false, false, false, false, true], false, true),
-    ([false, true, false, false, false, false, true], true, true),
-    ([false; 7], true, true),
-    ([true, true, true, false, false, false, false], false, false),
+static BESIDE: [Beside; 6] = [
+    ([false; 7], false, (true, 0, 0)),
+    (
+        [true, true, false, false, false, false, false],
+        false,
+        (true, 0, 1),
+    ),
+    (
+        [false, true, false, false, false, false, true],
+        false,
+        (true, 0, 1),
+    ),
+    (
+        [false, true, false, false, false, false, true],
+        true,
+        (true, 14, 2),
+    ),
+    ([false; 7], true, (true, 14, 0)),
+    (
+        [true, true, true, false, false, false, false],
+        false,
+        (false, 7, 3),
+    ),
 ];
 
 /// The place of the first row that goes otherwise.

@@ -19,7 +19,7 @@ fn words(rt: &(impl Env + AllocGlobal)) -> Result<Vec<String>, Failure> {
     Ok(all.skip(1).collect(rt.alloc())?)
 }
 
-/// Writes the words and the checksum to standard output, the time to standard error.
+/// Writes the words and the checksum to standard output, to standard error the time, and how much was decoded.
 fn tell(
     rt: &(impl Print + Eprint),
     words: &[String],
@@ -32,6 +32,8 @@ fn tell(
     println!(rt; "checksum {:032x}", outcome.checksum)?;
     let rate = outcome.rate(nanos);
     eprintln!(rt; "{} in {nanos} ns, {rate} a second", outcome.count)?;
+    let (blocks, rows) = (outcome.decoded.blocks, outcome.decoded.rows);
+    eprintln!(rt; "decoded {blocks} blocks and {rows} rows")?;
     Ok(())
 }
 
