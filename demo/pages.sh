@@ -2,7 +2,8 @@
 # pages.sh PAGE ..: does what each page tells, in one shell a page, in a folder of its own that goes at the end.
 # A block of a page is lines behind four spaces. A line behind `$ ` is a command, and the lines up to the next one are what it writes, of
 # which `..` stands for any. A block without such a line is commands that end with 0, whatever they write. A block below a line
-# `<!-- not run: .. -->` is passed over, and what stands in `<!-- run: .. -->` is done too, and ends with 0. HAIL names another program than the one of this repository, and TOOLS another folder of companions.
+# `<!-- not run: .. -->` is passed over. A line `<!-- run: NAME -->` calls a function of demo/PAGE.steps, which ends with 0.
+# HAIL names another program than the one of this repository, and TOOLS another folder of companions.
 # Ends with 0 exactly where each command went as the page tells.
 set -u
 
@@ -90,6 +91,8 @@ for page in "$@"; do
     place=$scratch/$(basename "$page").place
     mkdir "$steps" "$place" && part "$page" "$steps" || exit 1
     ln -s "$HAIL" "$place/hail" && ln -s "$tools" "$place/tools" || exit 1
+    more=$root/demo/$(basename "$page" .md).steps
+    [ ! -e "$more" ] || . "$more"
     (cd "$place" && PATH=$place:$tools:$PATH && follow "$steps" "$page") || failed=1
     echo "$page: $(find "$steps" -name '*.does' | wc -l) commands and blocks"
 done
