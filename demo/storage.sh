@@ -2,7 +2,8 @@
 # A store whose providers are mounts, by sshfs (a server of this user alone, behind a pipe) and by rclone (without a cache): storage.sh
 # Each provider is a link to a folder inside its mount. A file is put, given and audited. Then a mount ends: a put and a repair are told as
 # its fault, the file comes back, the audit flags it, and nothing lands in the folder below. Mounted again it is repaired. With sshfs the
-# server also dies in the midst of a put: the old file or the new one is there, and the new one where it was told as stored.
+# server also dies in the midst of a put: the old file or the new one is there, and the new one where it was told as stored; and where
+# the provider is the mount itself, what lands in the folder below is not told as stored.
 # It tells each case that goes otherwise, ends with 0 exactly where none does, and leaves nothing behind. A kind of mount that can't be had
 # here is named, and not tried: on Debian the packages sshfs, openssh-server (its sftp-server) and rclone, with /dev/fuse.
 set -u
@@ -119,6 +120,23 @@ server_dies() {
     [ -z "$(ls -A near/2 2>/dev/null)" ] || wrong "$kind: blocks land below a mount whose server died"
 }
 
+# A mount that is the provider's folder itself ends in a put: blocks may land below it, and are not told as stored.
+bare_mount_ends() {
+    end_mount 2
+    mount_by_sshfs 2 || wrong "$kind: no third mount"
+    rm home/provider-2
+    ln -s "$scratch/near/2" home/provider-2
+    timeout 60 "$program" home put file <third >out 2>err &
+    until [ "$(ls far/2 | wc -l)" -gt 5 ] || ! kill -0 $! 2>/dev/null; do :; done
+    until fusermount3 -u near/2 2>/dev/null; do mountpoint -q near/2 || break; done
+    wait $!
+    case $? in
+        0) [ -z "$(ls -A near/2 2>/dev/null)" ] || wrong "$kind: blocks below a mount that ended are told as stored" ;;
+        12 | 13) ;;
+        *) wrong "$kind: a put whose mount ends says $(cat err)" ;;
+    esac
+}
+
 # The story of one kind of mount, where its tools are there.
 try_kind() {
     local tool place
@@ -130,7 +148,7 @@ try_kind() {
     [ -w /dev/fuse ] || { echo "storage: $kind is not tried, there is no /dev/fuse"; return 0; }
     begin || { echo "storage: $kind is not tried, nothing can be mounted"; return 0; }
     mount_ends
-    [ "$kind" = rclone ] || server_dies
+    [ "$kind" = rclone ] || { server_dies; bare_mount_ends; }
     for place in 0 1 2 3 4 5; do end_mount $place; done
     wait
 }
