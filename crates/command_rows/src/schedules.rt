@@ -270,11 +270,23 @@ fn a_store_is_set_up_and_opened_by_a_schedule(rt: HostRuntime) {
 const NINE: &[u8] =
     b"reopen\nbegin put a 00\nbegin get a\nrun 1\nstep 1\nlist\nbegin drop a\nrun 2\nlist\n";
 
-/// Each write of the sink fails in turn.
+/// Each write of the sink fails in turn; the event whose line it was is done, and none behind it.
 const CUT: &[Rows] = &[
-    Rows::Deeds(&[FOUR, OverSink("replay", NINE, 0, 15, b"")]),
-    Rows::Deeds(&[FOUR, OverSink("replay", NINE, 1, 15, b"opened\n")]),
-    Rows::Deeds(&[FOUR, OverSink("replay", NINE, 2, 15, b"opened\njob 1\n")]),
+    Rows::Deeds(&[
+        FOUR,
+        OverSink("replay", NINE, 0, 15, b""),
+        Done("list", b"", b""),
+    ]),
+    Rows::Deeds(&[
+        FOUR,
+        OverSink("replay", NINE, 1, 15, b"opened\n"),
+        Done("list", b"", b""),
+    ]),
+    Rows::Deeds(&[
+        FOUR,
+        OverSink("replay", NINE, 2, 15, b"opened\njob 1\n"),
+        Done("list", b"", b""),
+    ]),
     Rows::Deeds(&[
         FOUR,
         OverSink(
@@ -284,6 +296,7 @@ const CUT: &[Rows] = &[
             15,
             b"opened\njob 1\nrefused NoSuchName\n",
         ),
+        Done("list", b"", b"a 1\n"),
     ]),
     Rows::Deeds(&[
         FOUR,
@@ -294,6 +307,7 @@ const CUT: &[Rows] = &[
             15,
             b"opened\njob 1\nrefused NoSuchName\nput\n",
         ),
+        Done("list", b"", b"a 1\n"),
     ]),
     Rows::Deeds(&[
         FOUR,
@@ -304,6 +318,7 @@ const CUT: &[Rows] = &[
             15,
             b"opened\njob 1\nrefused NoSuchName\nput\nrefused NoSuchJob\n",
         ),
+        Done("list", b"", b"a 1\n"),
     ]),
     Rows::Deeds(&[
         FOUR,
@@ -314,6 +329,7 @@ const CUT: &[Rows] = &[
             15,
             b"opened\njob 1\nrefused NoSuchName\nput\nrefused NoSuchJob\nnames 1\na 1\n",
         ),
+        Done("list", b"", b"a 1\n"),
     ]),
     Rows::Deeds(&[
         FOUR,
@@ -324,6 +340,7 @@ const CUT: &[Rows] = &[
             15,
             b"opened\njob 1\nrefused NoSuchName\nput\nrefused NoSuchJob\nnames 1\na 1\njob 2\n",
         ),
+        Done("list", b"", b""),
     ]),
     Rows::Deeds(&[
         FOUR,
@@ -334,6 +351,7 @@ const CUT: &[Rows] = &[
             15,
             b"opened\njob 1\nrefused NoSuchName\nput\nrefused NoSuchJob\nnames 1\na 1\njob 2\ndropped\n",
         ),
+        Done("list", b"", b""),
     ]),
 ];
 

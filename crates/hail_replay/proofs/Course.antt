@@ -23,7 +23,7 @@ use Rattle.hail_replay.specs.Starts.{AreLeft, called_behind}
 use Rattle.hail_replay.specs.Performed.{outcome_in, heard_in_came, AreMomentsOf, Performs}
 use Rattle.hail_replay.specs.Replayed.{CarriesOn}
 use Rattle.hail_replay.specs.UnderWay.{HasCome, HasDone, HasRun, HasCounted}
-use Rattle.hail_replay.proofs.Wrote.{sank, written-on}
+use Rattle.hail_replay.proofs.Wrote.{sank, written-on, behind-others}
 use Rattle.hail_client.proofs.Standing.{devices-of}
 
 module _ (start : State) (base : List Moment) where
@@ -74,6 +74,17 @@ module _ (start : State) (base : List Moment) where
             (come-on command came done H.later H.lines heard c next d e H.come P);
         wrote = written-on first mid last b f g H.lines (lines_of P.last.outcome) status low never H.wrote
             (subst (λ (x : List ℕ). WritesLine x status (sank mid last f g)) (sym same) writes);
+        stops = record {
+          newest = P.last ∷ P.steps;
+          older = H.later;
+          before = H.lines;
+          more = lines_of P.last.outcome;
+          moments = refl;
+          others = H.come.carried_out;
+          lines_are = refl;
+          cut = behind-others first mid last b f g H.lines (lines_of P.last.outcome) status low never H.wrote
+              (subst (λ (x : List ℕ). WritesLine x status (sank mid last f g)) (sym same) writes);
+        };
       })
 
   -- the same without lines

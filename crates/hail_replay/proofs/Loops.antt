@@ -25,7 +25,7 @@ use Rattle.hail_replay.specs.Trials.{RunsTrial, RunsTo, CountsTo}
 use Rattle.hail_replay.specs.UnderWay.{HasDone, HasRun, HasCounted}
 use Rattle.hail_replay.proofs.Counts.{none-fell, then-fell}
 use Rattle.hail_replay.proofs.Course.{come-first, carries-on, next-done}
-use Rattle.hail_replay.proofs.Wrote.{sank, nothing-written, nothing-taken, written-out}
+use Rattle.hail_replay.proofs.Wrote.{sank, nothing-written, nothing-taken, written-out, none-cut, cut-nothing}
 
 -- what does not hang on a run: of the commands all, these are left
 pub record IsOnCourse (all left : List Instruction) (c : Client) (old new : Devices) : Type 0 where
@@ -85,6 +85,7 @@ none-done all c d first b fresh start before told L = (
     come = come-first start before c d L (run-sound 8 start before (omega arith, omega arith) L.starts L.run)
         fresh.stands;
     wrote = nothing-written first b;
+    stops = none-cut first b;
   },
 )
 
@@ -125,6 +126,7 @@ module _ (all left : List Instruction) (command : Instruction) (c next : Client)
         lines = H.lines;
         carries = carries-on start before (command ∷ D.0) H.later H.lines after next old L new H.come;
         wrote = H.wrote;
+        stops = H.stops;
       })
 
 module _ (all : List Instruction) (c : Client) (old new : Devices) (first last : Option (List ℕ)) (b f : ℕ)
@@ -143,6 +145,7 @@ module _ (all : List Instruction) (c : Client) (old new : Devices) (first last :
         lines = D.2.lines;
         carries = carries-on start before D.0 D.2.later D.2.lines heard c old L new D.2.come;
         wrote = D.2.wrote;
+        stops = D.2.stops;
       })
 
   -- where there was no memory for what was heard, the lines so far were written
@@ -160,6 +163,7 @@ module _ (all : List Instruction) (c : Client) (old new : Devices) (first last :
         lines = D.2.lines;
         carries = carries-on start before D.0 D.2.later D.2.lines heard c old L new D.2.come;
         wrote = written-out first last b f D.2.lines D.2.wrote;
+        stops = cut-nothing D.0 D.2.later D.2.lines first last b f D.2.stops;
       })
 
 -- ---- a trial

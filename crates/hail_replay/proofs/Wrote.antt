@@ -1,10 +1,13 @@
 -- The lines of several events, one behind the other.
-use Rattle.std.proofs.Common.{◌≡◌, ◌≢◌, inl, inr, ℕ, suc, ◌+◌, ◌≤◌, List, [], ◌∷◌, ◌++◌, length, take, Option, Result, Ok, Err, IfOk, refl, ap, sym, ◌∙◌, arith}
+use Rattle.std.proofs.Common.{◌≡◌, ◌≢◌, inl, inr, ℕ, suc, ◌+◌, ◌≤◌, List, [], ◌∷◌, ◌++◌, length, take, Option, Result, Ok, Err, IfOk, refl, ap, sym, subst, ◌∙◌, arith}
 use Rattle.std.proofs.lemmas.List.{length-append, take_all}
 use Rattle.device_defs.specs.Told.{told_then, TakesFront}
 use Rattle.device_defs.proofs.Lasting.{rose-before, told_then-nothing}
 use Rattle.command_defs.specs.Sinking.{Sinking, WritesLine}
+use Rattle.machine_defs.specs.Runs.{Moment}
+use Rattle.machine_defs.specs.Transcripts.{Instruction}
 use Rattle.hail_replay.specs.Answers.{CarriedOut}
+use Rattle.hail_replay.specs.Replayed.{StopsAtCut}
 use Rattle.stream_model.proofs.ToldLemmas.{told_then-append}
 
 -- a sink told and counted these
@@ -78,11 +81,55 @@ written-on first mid last b f g lines more status low never so_far (inr (inr (s,
     (let here = all-written first mid b f lines so_far in
     inr (inr (s, front-behind first mid last lines more here front)))
 
+-- those of one event more stand behind the others
+pub behind-others : (first mid last : Option (List ℕ)) (b f g : ℕ) (lines more : List ℕ) (status : ℕ) →
+    b ≤ f → f ≤ g → WritesLine lines 0 (sank first mid b f) → WritesLine more status (sank mid last f g)
+    → WritesLine more status (sank (told_then first lines) last b g)
+behind-others first mid last b f g lines more status low never so_far (inl (s, is)) =
+    inl (s, is ∙ ap (λ t. told_then t more) (all-written first mid b f lines so_far))
+behind-others first mid last b f g lines more status low never so_far (inr (inl (ne, s, rose, front))) =
+    inr (inl (
+      ne,
+      s,
+      rose-before b f g low never rose,
+      subst (λ t. TakesFront t last more) (all-written first mid b f lines so_far) front,
+    ))
+behind-others first mid last b f g lines more status low never so_far (inr (inr (s, front))) =
+    inr (inr (s, subst (λ t. TakesFront t last more) (all-written first mid b f lines so_far) front))
+
+-- before the first event there is no line
+pub none-cut : (first : Option (List ℕ)) (b : ℕ) → StopsAtCut [] [] [] 0 (sank first first b b)
+none-cut first b = record {
+  newest = [];
+  older = [];
+  before = [];
+  more = [];
+  moments = refl;
+  others = (refl, refl);
+  lines_are = refl;
+  cut = inl (refl, told_then-nothing first ∙ told_then-nothing (told_then first []));
+}
+
 -- want of memory before the next event
 pub written-out : (first mid : Option (List ℕ)) (b f : ℕ) (lines : List ℕ) →
     WritesLine lines 0 (sank first mid b f) → WritesLine lines 70 (sank first mid b f)
 written-out first mid b f lines so_far =
     inr (inr (refl, whole-front first mid lines (all-written first mid b f lines so_far)))
+
+-- want of memory before the next event cuts nothing off
+pub cut-nothing : (done : List Instruction) (later : List Moment) (lines : List ℕ)
+    (first mid : Option (List ℕ)) (b f : ℕ) → StopsAtCut done later lines 0 (sank first mid b f)
+    → StopsAtCut done later lines 70 (sank first mid b f)
+cut-nothing done later lines first mid b f S = record {
+  newest = S.newest;
+  older = S.older;
+  before = S.before;
+  more = S.more;
+  moments = S.moments;
+  others = S.others;
+  lines_are = S.lines_are;
+  cut = written-out (told_then first S.before) mid b f S.more S.cut;
+}
 
 -- how it ends
 pub ends-of : (lines : List ℕ) (status : ℕ) (sink : Sinking) → WritesLine lines status sink →

@@ -5,11 +5,17 @@
 --                               the whole is a run, which keeps the headline; its last state is that of the
 --                               devices, the jobs of this call heard this, and in it at most as many calls of
 --                               a device failed as its count rose
+--   but_newest commands      == all commands but the newest
+--   StopsAtCut done later lines status sink
+--                            == where the line of a command could not be written, nothing was done behind it:
+--                               the lines of all commands but the newest were written, and only those of the
+--                               newest may have been cut off
 --   Replays start before commands status sink heard d
 --                            == such moments carry out the commands in order, up to those left, of which
 --                               there are none at status 0; their lines are written, or a front of them where
 --                               a counted fault of the sink or want of memory cut them off
-use Rattle.std.specs.Prelude.{◌≡◌, ℕ, List, [], ◌++◌, reverse}
+use Rattle.std.specs.Prelude.{◌≡◌, ℕ, List, [], ◌∷◌, ◌++◌, reverse}
+use Rattle.device_defs.specs.Told.{told_then}
 use Rattle.command_defs.specs.Sinking.{Sinking, WritesLine}
 use Rattle.machine_defs.specs.Failures.{Count, count_in, HasFailures, RoseBy}
 use Rattle.machine_defs.specs.Heard.{Entry, heard_in}
@@ -33,6 +39,24 @@ pub record CarriesOn (start : State) (before : List Moment) (done : List Instruc
       (count_in count (now start (later ++ called_behind start before))) n
   pub headline : Headline start (later ++ called_behind start before)
 
+-- all commands but the newest, which stands first
+abbrev pub but_newest : List Instruction → List Instruction
+but_newest [] = []
+but_newest (command ∷ commands) = commands
+
+-- the lines of all commands but the newest were written, and behind them those of the newest, or a front of
+-- them where a counted fault of the sink or want of memory cut them off
+pub record StopsAtCut (done : List Instruction) (later : List Moment) (lines : List ℕ) (status : ℕ)
+    (sink : Sinking) : Type 0 where
+  pub newest : List Moment
+  pub older : List Moment
+  pub before : List ℕ
+  pub more : List ℕ
+  pub moments : later ≡ newest ++ older
+  pub others : CarriesOut (but_newest done) older before
+  pub lines_are : lines ≡ before ++ more
+  pub cut : WritesLine more status (record sink { old = told_then sink.old before })
+
 -- a schedule carried out
 pub record Replays (start : State) (before : List Moment) (commands : List Instruction) (status : ℕ)
     (sink : Sinking) (heard : List Entry) (d : Devices) : Type 0 where
@@ -44,3 +68,4 @@ pub record Replays (start : State) (before : List Moment) (commands : List Instr
   pub lines : List ℕ
   pub carries : CarriesOn start before done later lines heard d
   pub wrote : WritesLine lines status sink
+  pub stops : StopsAtCut done later lines status sink

@@ -4,7 +4,7 @@
 --                                                    write these lines, client and devices have reached the
 --                                                    last of them, and the jobs that ended heard this
 --   HasDone start base done status sink heard c d == the same of some moments, whose lines were written, or a
---                                                    front of them
+--                                                    front of them, cut off in those of the newest command
 --   HasRun start base done heard c d              == the same of some moments
 --   HasCounted expected start base done counts heard c d
 --                                                 == the same of some moments, which come to these counts
@@ -15,6 +15,7 @@ use Rattle.machine_defs.specs.Runs.{Moment}
 use Rattle.machine_defs.specs.States.{State}
 use Rattle.machine_defs.specs.Transcripts.{Instruction, CarriesOut}
 use Rattle.hail_replay.specs.Counts.{TrialCounts, counts_of}
+use Rattle.hail_replay.specs.Replayed.{StopsAtCut}
 use Rattle.vault_open.specs.Devices.{Devices}
 use Rattle.hail_client.specs.declared.client.Client.{Client}
 use Rattle.hail_client.specs.Stands.{IsReached}
@@ -33,6 +34,7 @@ pub record HasDone (start : State) (base : List Moment) (done : List Instruction
   pub lines : List ℕ
   pub come : HasCome start base done later lines heard c d
   pub wrote : WritesLine lines status sink
+  pub stops : StopsAtCut done later lines status sink
 
 -- some moments carry them out
 pub record HasRun (start : State) (base : List Moment) (done : List Instruction) (heard : List Entry)
