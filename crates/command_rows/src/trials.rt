@@ -1,6 +1,6 @@
 use crate::check::check;
 use command_fixtures::Deed::{Done, Providers, Refused};
-use command_fixtures::Rows;
+use command_fixtures::{KEY, Rows};
 
 /// The trial of 7, and the file that it leaves.
 const SEVEN: &[Rows] = &[Rows::Deeds(&[
@@ -16,6 +16,23 @@ const SEVEN: &[Rows] = &[Rows::Deeds(&[
 #[test]
 fn trial_of_seven_finds_and_mends_all(rt: HostRuntime) {
     check(&rt, SEVEN);
+}
+
+/// A trial in a home that is set up, whose store tolerates 4,096 wrong rounds: its audit flags nobody, so there
+/// is no repair, and the jobs behind it have other numbers than those that are run.
+const TOLERANT: &[Rows] = &[Rows::Deeds(&[
+    Providers(6),
+    Done("init 6 3 1 2 1 6 4096", KEY, b"ready\n"),
+    Done(
+        "trial 23",
+        b"",
+        b"trial 23\nevents 225\ngets 1 right 1\naudits 1 flagged\nrepairs 0\nstops 2\n",
+    ),
+])];
+
+#[test]
+fn a_trial_flags_by_the_tolerance_of_the_store(rt: HostRuntime) {
+    check(&rt, TOLERANT);
 }
 
 /// Too few providers, and words that are no trial.

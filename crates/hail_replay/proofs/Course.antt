@@ -13,16 +13,18 @@ use Rattle.machine_defs.specs.States.{State, IsStart, continued}
 use Rattle.machine_defs.specs.Transcripts.{Instruction, Once, RunJob, GoOn, CarriesOut}
 use Rattle.headline.specs.Headline.{Headline}
 use Rattle.state_laws.specs.Sound.{IsSound}
-use Rattle.hail_replay.specs.Counts.{TrialCounts}
+use Rattle.hail_replay.specs.Counts.{TrialCounts, table_tolerance}
 use Rattle.hail_replay.specs.Seen.{SeesOne}
 use Rattle.vault_open.specs.Devices.{Devices, AreDevices}
 use Rattle.hail_client.specs.declared.client.Client.{Client}
+use Rattle.hail_client.specs.Client.{names_of}
 use Rattle.hail_client.specs.Stands.{ClientStands, IsReached}
 use Rattle.hail_replay.specs.declared.came.Came.{Came}
 use Rattle.hail_replay.specs.Starts.{AreLeft, called_behind}
 use Rattle.hail_replay.specs.Performed.{outcome_in, heard_in_came, AreMomentsOf, Performs}
 use Rattle.hail_replay.specs.Replayed.{CarriesOn}
 use Rattle.hail_replay.specs.UnderWay.{HasCome, HasDone, HasRun, HasCounted}
+use Rattle.hail_replay.proofs.Judged.{judged}
 use Rattle.hail_replay.proofs.Wrote.{sank, written-on, behind-others}
 use Rattle.hail_client.proofs.Standing.{devices-of}
 
@@ -109,13 +111,15 @@ module _ (start : State) (base : List Moment) where
   went-on (RunJob job) last steps runs = (job, runs.before)
 
   -- and what a tally sees
-  pub counted-on : (expected : List ℕ) (command : Instruction) (came : Option Came) (done : List Instruction)
-      (old new : TrialCounts) (heard after : List Entry) (c next : Client) (d e : Devices)
+  pub counted-on : (expected : List ℕ) (tolerance : ℕ) (command : Instruction) (came : Option Came)
+      (done : List Instruction) (old new : TrialCounts) (heard after : List Entry) (c next : Client)
+      (d e : Devices)
       → HasCounted expected start base done old heard c d
       → ((start : State) (ms : List Moment) → IsReached start ms c d → Performs start ms command came next e)
-      → SeesOne expected (outcome_in next came) old new
+      → SeesOne expected tolerance (outcome_in next came) old new
+      → tolerance ≡ table_tolerance (names_of next)
       → after ≡ heard ++ heard_in_came came → HasCounted expected start base (command ∷ done) new after next e
-  counted-on expected command came done old new heard after c next d e H performs sees after_is =
+  counted-on expected tolerance command came done old new heard after c next d e H performs sees tolerates after_is =
       (let P = performs start (H.later ++ base) H.come.reached in
       let g = went-on command P.last P.steps P.moments in
       record {
@@ -124,7 +128,9 @@ module _ (start : State) (base : List Moment) where
         come = subst (λ (x : List Entry). HasCome start base (command ∷ done) (P.last ∷ (P.steps ++ H.later))
             (H.lines ++ lines_of P.last.outcome) x next e) (sym after_is)
             (come-on command came done H.later H.lines heard c next d e H.come P);
-        counts_are = sees done command H.later P.steps P.last g.0 P.outcome_is g.1 H.counts_are;
+        counts_are = sees done command H.later P.steps P.last g.0 P.outcome_is
+            (judged start (P.steps ++ (H.later ++ base)) P.last next e P.reached tolerance tolerates) g.1
+            H.counts_are;
       })
 
 -- ---- beginning and end

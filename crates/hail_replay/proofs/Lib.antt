@@ -10,5 +10,6 @@ mod Behind
 mod Arms
 mod Performing
 mod Wrote
+mod Judged
 mod Course
 mod Loops

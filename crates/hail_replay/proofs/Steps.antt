@@ -3,6 +3,7 @@ use Rattle.std.proofs.Common.{◌≡◌, ℕ, ◌+◌, Bool, false, List, [], �
 use Rattle.std.proofs.lemmas.List.{append-nil}
 use Rattle.machine_defs.specs.Events.{Outcome, More}
 use Rattle.machine_defs.specs.Runs.{Moment}
+use Rattle.machine_defs.specs.States.{setup_in}
 use Rattle.machine_defs.specs.Transcripts.{Instruction, GoOn}
 use Rattle.hail_replay.specs.Counts.{TrialCounts, one_if, how_many, is_got, is_expected, is_audited, is_repaired, is_stopped, flagged_by, flagged_in, counts_of, counts_on}
 use Rattle.hail_replay.specs.Seen.{SeesOne}
@@ -25,7 +26,7 @@ how_many-more is_one none job (m ∷ steps) ms on =
 flagged-more : (job : ℕ) (steps ms : List Moment) → GoOn job steps → flagged_in (steps ++ ms) ≡ flagged_in ms
 flagged-more job [] ms on = refl
 flagged-more job (m ∷ steps) ms on =
-    ap (λ (o : Outcome). flagged_in (steps ++ ms) ++ flagged_by o) on.1
+    ap (λ (o : Outcome). flagged_in (steps ++ ms) ++ flagged_by (setup_in m.state).tolerance o) on.1
     ∙ append-nil (flagged_in (steps ++ ms)) ∙ flagged-more job steps ms on.2
 
 -- counts of these numbers
@@ -49,7 +50,7 @@ made-same a b c d f g h i j k m n e l o p q r s t u = cc
 -- one command more
 on-one : (expected : List ℕ) (commands : List Instruction) (command : Instruction) (ms steps : List Moment)
     (m : Moment) (job : ℕ) → GoOn job steps
-    → counts_on expected m.outcome (counts_of expected commands ms)
+    → counts_on expected (setup_in m.state).tolerance m.outcome (counts_of expected commands ms)
     ≡ counts_of expected (command ∷ commands) (m ∷ (steps ++ ms))
 unfolding made
 on-one expected commands command ms steps m job on =
@@ -58,14 +59,24 @@ on-one expected commands command ms steps m job on =
     ap (λ (n : ℕ). n + one_if (is_one m.outcome)) (sym (how_many-more is_one none job steps ms on)) in
     made-same _ _ _ _ _ _ _ _ _ _ _ _ _ _ one (same is_got refl) (same (is_expected expected) refl)
     (same is_audited refl)
-    (ap (λ (js : List ℕ). js ++ flagged_by m.outcome) (sym (flagged-more job steps ms on)))
+    (ap (λ (js : List ℕ). js ++ flagged_by (setup_in m.state).tolerance m.outcome)
+    (sym (flagged-more job steps ms on)))
     (same is_repaired refl) (same is_stopped refl)
 
+-- tolerances by which the same providers are flagged count the same
+same-flags : (expected : List ℕ) (a b : ℕ) (outcome : Outcome) (old : TrialCounts) →
+    flagged_by a outcome ≡ flagged_by b outcome
+    → counts_on expected a outcome old ≡ counts_on expected b outcome old
+same-flags expected a b outcome old same =
+    ap (λ (js : List ℕ). record (counts_on expected a outcome old) { flagged = old.flagged ++ js }) same
+
 -- counts that took an outcome in saw one
-pub sees_one : (expected : List ℕ) (outcome : Outcome) (old new : TrialCounts) →
-    new ≡ counts_on expected outcome old → SeesOne expected outcome old new
-sees_one expected outcome old new is commands command ms steps m job came on before =
+pub sees_one : (expected : List ℕ) (tolerance : ℕ) (outcome : Outcome) (old new : TrialCounts) →
+    new ≡ counts_on expected tolerance outcome old → SeesOne expected tolerance outcome old new
+sees_one expected tolerance outcome old new is commands command ms steps m job came flags on before =
     is
-    ∙ ap (λ (c : TrialCounts). counts_on expected outcome c) before
-    ∙ ap (λ (o : Outcome). counts_on expected o (counts_of expected commands ms)) (sym came)
+    ∙ ap (λ (c : TrialCounts). counts_on expected tolerance outcome c) before
+    ∙ ap (λ (o : Outcome). counts_on expected tolerance o (counts_of expected commands ms)) (sym came)
+    ∙ same-flags expected tolerance (setup_in m.state).tolerance m.outcome (counts_of expected commands ms)
+    (sym flags)
     ∙ on-one expected commands command ms steps m job on

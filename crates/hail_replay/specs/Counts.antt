@@ -9,15 +9,18 @@
 --   is_audited outcome                == an audit ended
 --   is_repaired outcome               == a repair ended
 --   is_stopped outcome                == the client was stopped
---   flag_of j count                   == provider j, where its count is above the trial's tolerance
---   flagged_from j counts             == of the providers from j on those whose count is
---   flagged_by outcome                == whom an audit flagged that ended so; nobody at another outcome
---   how_many is_one ms, flagged_in ms == the same over moments; the oldest flags first
+--   flag_of tolerance j count         == provider j, where its count is above the tolerance
+--   flagged_from tolerance j counts   == of the providers from j on those whose count is
+--   flagged_by tolerance outcome      == whom an audit flagged that ended so; nobody at another outcome
+--   how_many is_one ms, flagged_in ms == the same over moments, each audit by the tolerance of the setup in
+--                                        effect at its end; the oldest flags first
 --   counts_of expected commands ms    == the counts, where moments carry out commands and gets are to give
 --                                        the expected bytes
---   counts_on expected outcome old    == the counts after one more event that came to this outcome
+--   counts_on expected tolerance outcome old
+--                                     == the counts after one more event that came to this outcome
+--   table_tolerance table             == the tolerance of the setup that a table has; 0 where there is none
 --   trial_lines number counts         == the six lines of a trial
-use Rattle.std.specs.Prelude.{ℕ, ◌+◌, Bool, true, false, List, [], ◌∷◌, ◌++◌, length, codes, nat_lt, if◌then◌else◌}
+use Rattle.std.specs.Prelude.{ℕ, ◌+◌, Bool, true, false, List, [], ◌∷◌, ◌++◌, length, codes, Option, Some, None, nat_lt, if◌then◌else◌}
 use Rattle.std.specs.List.{flat_map}
 use Rattle.std.specs.Str.{bytes_eq}
 use Rattle.machine_defs.specs.Answers.{Got, Audited, Repaired}
@@ -25,7 +28,9 @@ use Rattle.machine_defs.specs.Events.{Outcome, Ended, Stopped}
 use Rattle.machine_defs.specs.Runs.{Moment}
 use Rattle.machine_defs.specs.Transcripts.{Instruction}
 use Rattle.machine_defs.specs.Lines.{line, then_number}
-use Rattle.trial_maker.specs.Trials.{trial_tolerance}
+use Rattle.machine_defs.specs.Setups.{setup_or_none}
+use Rattle.machine_defs.specs.States.{setup_in}
+use Rattle.vault_table.specs.Values.{Kept}
 
 -- what a trial counts
 pub record TrialCounts : Type 0 where
@@ -63,18 +68,19 @@ is_stopped Stopped = true
 is_stopped outcome = false
 
 -- provider j, where its count is above the tolerance
-abbrev pub flag_of : ℕ → ℕ → List ℕ
-flag_of j count = if nat_lt trial_tolerance count then j ∷ [] else []
+abbrev pub flag_of : ℕ → ℕ → ℕ → List ℕ
+flag_of tolerance j count = if nat_lt tolerance count then j ∷ [] else []
 
 -- of the providers from j on those whose count is above the tolerance
-abbrev pub flagged_from : ℕ → List ℕ → List ℕ
-flagged_from j [] = []
-flagged_from j (count ∷ counts) = flag_of j count ++ flagged_from (j + 1) counts
+abbrev pub flagged_from : ℕ → ℕ → List ℕ → List ℕ
+flagged_from tolerance j [] = []
+flagged_from tolerance j (count ∷ counts) =
+    flag_of tolerance j count ++ flagged_from tolerance (j + 1) counts
 
 -- whom an audit flagged that ended so
-abbrev pub flagged_by : Outcome → List ℕ
-flagged_by (Ended (Audited number undecided counts)) = flagged_from 0 counts
-flagged_by outcome = []
+abbrev pub flagged_by : ℕ → Outcome → List ℕ
+flagged_by tolerance (Ended (Audited number undecided counts)) = flagged_from tolerance 0 counts
+flagged_by tolerance outcome = []
 
 -- 1 where it is so
 abbrev pub one_if : Bool → ℕ
@@ -86,10 +92,10 @@ abbrev pub how_many : (Outcome → Bool) → List Moment → ℕ
 how_many is_one [] = 0
 how_many is_one (m ∷ ms) = how_many is_one ms + one_if (is_one m.outcome)
 
--- whom all audits flagged
+-- whom all audits flagged, each by the setup in effect at its end
 abbrev pub flagged_in : List Moment → List ℕ
 flagged_in [] = []
-flagged_in (m ∷ ms) = flagged_in ms ++ flagged_by m.outcome
+flagged_in (m ∷ ms) = flagged_in ms ++ flagged_by (setup_in m.state).tolerance m.outcome
 
 -- the counts of a run
 abbrev pub counts_of : List ℕ → List Instruction → List Moment → TrialCounts
@@ -104,16 +110,21 @@ counts_of expected commands ms = record {
 }
 
 -- the counts after one more event
-abbrev pub counts_on : List ℕ → Outcome → TrialCounts → TrialCounts
-counts_on expected outcome old = record {
+abbrev pub counts_on : List ℕ → ℕ → Outcome → TrialCounts → TrialCounts
+counts_on expected tolerance outcome old = record {
   events = old.events + 1;
   gets = old.gets + one_if (is_got outcome);
   right = old.right + one_if (is_expected expected outcome);
   audits = old.audits + one_if (is_audited outcome);
-  flagged = old.flagged ++ flagged_by outcome;
+  flagged = old.flagged ++ flagged_by tolerance outcome;
   repairs = old.repairs + one_if (is_repaired outcome);
   stops = old.stops + one_if (is_stopped outcome);
 }
+
+-- the tolerance of the setup that the table of an open vault has
+abbrev pub table_tolerance : Option Kept → ℕ
+table_tolerance None = 0
+table_tolerance (Some table) = (setup_or_none table.setup).tolerance
 
 -- the six lines of a trial
 abbrev pub trial_lines : ℕ → TrialCounts → List ℕ

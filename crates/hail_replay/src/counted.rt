@@ -5,9 +5,9 @@ ghost use Rattle.machine_defs.specs.States.{State};
 ghost use Rattle.machine_defs.specs.Transcripts.{Instruction};
 ghost use Rattle.schedule_text.specs.Events.{event_command, commands_of};
 ghost use Rattle.trial_maker.specs.Trials.{trial_bytes, trial_commands};
-ghost use Rattle.hail_client.specs.Client.{client_next_job};
+ghost use Rattle.hail_client.specs.Client.{client_next_job, names_of};
 ghost use Rattle.hail_replay.specs.Answers.{CarriedOut};
-ghost use Rattle.hail_replay.specs.Counts.{counts_of};
+ghost use Rattle.hail_replay.specs.Counts.{counts_of, table_tolerance};
 ghost use Rattle.hail_replay.specs.Heard.{entries_heard, room_of};
 ghost use Rattle.hail_replay.specs.Performed.{StandsWhereOpen, KeepsStanding, NoCountFell};
 ghost use Rattle.hail_replay.specs.Starts.{devices_of, sinking_of, AreLeft, IsNewClient};
@@ -27,6 +27,19 @@ use std::alloc::Global;
 use stream_model::{Memory, Sink};
 use trial_maker::laws::sizes_of_a_trial;
 use trial_maker::{Trial, make_trial};
+
+/// How many wrong rounds of a provider the store of the open vault tolerates; 0 where none is open.
+fn tolerance_of(client: &Client) -> u16
+    ensures { result ≡ table_tolerance (names_of client.now) }
+{
+    match client.names() {
+        Some(table) => match table.setup() {
+            Some((setup, _)) => setup.tolerance,
+            None => 0,
+        },
+        None => 0,
+    }
+}
 
 /// Performs an event and counts what it came to.
 fn trial_event<D: Disk, P: Tamper>(
@@ -61,8 +74,9 @@ fn trial_event<D: Disk, P: Tamper>(
         (devices_of D.Disk P.Provider disk.new providers.new) }
 {
     let came = perform(alloc, client, event, disk, providers);
+    let tolerance = tolerance_of(client);
     let came = named(came, client);
-    let seen = tally.see(alloc, expected, &came);
+    let seen = tally.see(alloc, expected, tolerance, &came);
     heard.push(heard_of(came));
     seen
 }

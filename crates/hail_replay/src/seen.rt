@@ -9,7 +9,6 @@ ghost use Rattle.hail_replay.specs.Seen.{IsSeen};
 use crate::Came;
 use command_lines::counts_in_use;
 use std::alloc::{AllocError, Global};
-use trial_maker::TOLERANCE;
 use vault::{Answer, Turn};
 
 /// What one event is to the counts.
@@ -21,7 +20,8 @@ pub struct Seen {
     pub right: bool,
     /// Whether an audit ended.
     pub audited: bool,
-    /// The providers whose count in that audit is above the tolerance, in rising order.
+    /// The providers that its verdict flags: those whose count is above the tolerance of the store, in
+    /// rising order.
     pub flagged: Vec<u32>,
     /// Whether a repair ended, having stored what it was to store.
     pub repaired: bool,
@@ -48,22 +48,27 @@ impl Seen {
 }
 
 /// The providers whose count is above the tolerance.
-fn flagged_of(alloc: Global, counts: &[u32]) -> Result<Vec<u32>, AllocError>
+fn flagged_of(alloc: Global, tolerance: u16, counts: &[u32]) -> Result<Vec<u32>, AllocError>
     requires { length counts.now ≤ 16 }
-    ensures { IfOk result (λ flagged. flagged.items ≡ flagged_from 0 counts.now) }
+    ensures { IfOk result (λ flagged. flagged.items ≡ flagged_from tolerance 0 counts.now) }
 {
     let mut flagged = Vec::new(alloc);
     for place in 0..counts.len() {
-        if counts[place] > u32::from(TOLERANCE) {
+        if counts[place] > u32::from(tolerance) {
             flagged.push(place as u32)?;
         }
     }
     Ok(flagged)
 }
 
-/// What the end of a job is to the counts.
-pub fn seen_end(alloc: Global, expected: &[u8], answer: &Answer) -> Result<Seen, AllocError>
-    ensures { IfOk result (IsSeen expected.now (Ended (machine_answer answer.now))) }
+/// What the end of a job is to the counts, where the store tolerates so many wrong rounds of a provider.
+pub fn seen_end(
+    alloc: Global,
+    expected: &[u8],
+    tolerance: u16,
+    answer: &Answer,
+) -> Result<Seen, AllocError>
+    ensures { IfOk result (IsSeen expected.now tolerance (Ended (machine_answer answer.now))) }
 {
     let nothing = Seen::nothing(alloc);
     match answer {
@@ -76,7 +81,7 @@ pub fn seen_end(alloc: Global, expected: &[u8], answer: &Answer) -> Result<Seen,
             })
         }
         Answer::Audited { counts, .. } => {
-            let flagged = flagged_of(alloc, counts_in_use(counts))?;
+            let flagged = flagged_of(alloc, tolerance, counts_in_use(counts))?;
             Ok(Seen {
                 audited: true,
                 flagged,
@@ -92,12 +97,17 @@ pub fn seen_end(alloc: Global, expected: &[u8], answer: &Answer) -> Result<Seen,
 }
 
 /// What an event is to the counts that came to this.
-pub(crate) fn seen_of(alloc: Global, expected: &[u8], came: &Came<'_>) -> Result<Seen, AllocError>
-    ensures { IfOk result (IsSeen expected.now (came_outcome came.now)) }
+pub(crate) fn seen_of(
+    alloc: Global,
+    expected: &[u8],
+    tolerance: u16,
+    came: &Came<'_>,
+) -> Result<Seen, AllocError>
+    ensures { IfOk result (IsSeen expected.now tolerance (came_outcome came.now)) }
 {
     let nothing = Seen::nothing(alloc);
     match came {
-        Came::Stepped(Some(Turn::Done(end))) => seen_end(alloc, expected, &end.answer),
+        Came::Stepped(Some(Turn::Done(end))) => seen_end(alloc, expected, tolerance, &end.answer),
         Came::Stopped => Ok(Seen {
             stopped: true,
             ..nothing

@@ -57,15 +57,23 @@ impl Tally {
         self.events
     }
 
-    /// Counts one more event that came to this; gets are to give the expected bytes. Want of memory is its
-    /// one refusal. Condition: fewer than 2^64 - 1 events were counted (`events` tells).
-    pub fn see(&mut self, alloc: Global, expected: &[u8], came: &Came<'_>) -> Result<(), Memory>
+    /// Counts one more event that came to this; gets are to give the expected bytes, and an audit flags by
+    /// the tolerance of the store, in wrong rounds. Want of memory is its one refusal. Condition: fewer than
+    /// 2^64 - 1 events were counted (`events` tells).
+    pub fn see(
+        &mut self,
+        alloc: Global,
+        expected: &[u8],
+        tolerance: u16,
+        came: &Came<'_>,
+    ) -> Result<(), Memory>
         requires { self.old.events < 2 ^ 64 - 1 }
-        ensures ok { OnOk result (self.new ≡ counts_on expected.now (came_outcome came.now) self.old) }
+        ensures ok { OnOk result (self.new ≡ counts_on expected.now tolerance (came_outcome came.now) self.old) }
         ensures err { OnErr result (self.new ≡ self.old) }
-        ensures run { OnOk result (SeesOne expected.now (came_outcome came.now) self.old self.new) }
+        ensures run { OnOk result
+            (SeesOne expected.now tolerance (came_outcome came.now) self.old self.new) }
     {
-        let seen = seen_of(alloc, expected, came)?;
+        let seen = seen_of(alloc, expected, tolerance, came)?;
         self.flagged.extend_from_slice(&seen.flagged)?;
         self.events += 1;
         self.gets += u64::from(seen.got);

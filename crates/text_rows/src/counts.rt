@@ -12,7 +12,7 @@ fn count(alloc: Global, tally: &mut Tally, came: &Came<'_>) -> Option<()> {
     if tally.events() == u64::MAX {
         return None;
     }
-    tally.see(alloc, WANTED, came).ok()
+    tally.see(alloc, WANTED, 0, came).ok()
 }
 
 /// The counts of some events.
@@ -55,16 +55,27 @@ fn events_are_counted(rt: HostRuntime) {
     assert_eq!(rt; told(rt.alloc(), &events, wanted), Some((8, true)));
 }
 
-/// Whether the end of a job is seen so: as a get, as a right one, as an audit, as a repair, and with these
-/// providers flagged.
-fn is_seen(alloc: Global, answer: &Answer, flags: [bool; 4], flagged: &[u32]) -> bool {
-    match seen_end(alloc, WANTED, answer) {
+/// Whether the end of a job is seen so by a tolerance: as a get, as a right one, as an audit, as a repair, and
+/// with these providers flagged.
+fn is_seen_by(
+    alloc: Global,
+    tolerance: u16,
+    answer: &Answer,
+    flags: [bool; 4],
+    flagged: &[u32],
+) -> bool {
+    match seen_end(alloc, WANTED, tolerance, answer) {
         Ok(seen) => {
             [seen.got, seen.right, seen.audited, seen.repaired] == flags
                 && seen.flagged.as_slice() == flagged
         }
         Err(_) => false,
     }
+}
+
+/// The same where no wrong round is tolerated.
+fn is_seen(alloc: Global, answer: &Answer, flags: [bool; 4], flagged: &[u32]) -> bool {
+    is_seen_by(alloc, 0, answer, flags, flagged)
 }
 
 /// Whether the end of a get with these bytes is seen as a get, and as a right one.
@@ -100,6 +111,8 @@ fn other_ends_are_seen(rt: HostRuntime) {
         is_seen(rt.alloc(), &lost, [false; 4], &[]),
         is_seen(rt.alloc(), &repaired, [false, false, false, true], &[]),
         is_seen(rt.alloc(), &audited, [false, false, true, false], &[2, 5]),
+        is_seen_by(rt.alloc(), 1, &audited, [false, false, true, false], &[2]),
+        is_seen_by(rt.alloc(), 4, &audited, [false, false, true, false], &[]),
     ];
-    assert_eq!(rt; right, [true; 4]);
+    assert_eq!(rt; right, [true; 6]);
 }

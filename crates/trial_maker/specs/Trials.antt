@@ -6,7 +6,6 @@
 --                                                  file, of the 65,536 behind these
 --   losing_provider seed epoch                  == the provider that loses its blocks: the first draw chooses
 --                                                  it in epoch 0, then the next
---   trial_tolerance                             == how many wrong rounds the store tolerates of a provider
 --   trial_setup seed                            == the setup
 --   opening seed                                == init, reopening, and the put, which is job 1 and makes
 --                                                  object 1
@@ -37,10 +36,6 @@ trial_bytes seed = bytes_behind seed 33 65536
 abbrev pub losing_provider : ℕ → ℕ → ℕ
 losing_provider seed epoch = (draw seed 1 / 2 ^ 33 % 6 + epoch) % 6
 
--- how many wrong rounds the store tolerates of a provider
-abbrev pub trial_tolerance : ℕ
-trial_tolerance = 0
-
 -- the setup
 abbrev pub trial_setup : ℕ → Setup
 trial_setup seed =
@@ -51,7 +46,7 @@ trial_setup seed =
       profile = 2;
       rounds = 4;
       picks = 8;
-      tolerance = trial_tolerance;
+      tolerance = 0;
       master = trial_key seed;
     }
 

@@ -6,4 +6,4 @@ mod epochs;
 pub mod laws;
 mod trial;
 
-pub use trial::{TOLERANCE, Trial, make_trial};
+pub use trial::{Trial, make_trial};

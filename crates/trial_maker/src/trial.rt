@@ -11,9 +11,6 @@ use schedule_text::Event;
 use std::alloc::{AllocError, Global};
 use stream_model::{Bytes, Memory};
 
-/// How many wrong rounds the store of a trial tolerates of a provider.
-pub const TOLERANCE: u16 = 0;
-
 /// The setup of a trial.
 const SETUP: Setup = Setup {
     n: 6,
@@ -22,7 +19,7 @@ const SETUP: Setup = Setup {
     profile: 2,
     rounds: 4,
     picks: 8,
-    tolerance: TOLERANCE,
+    tolerance: 0,
 };
 
 /// How many bytes the file of a trial has.

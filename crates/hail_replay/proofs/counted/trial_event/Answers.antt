@@ -9,11 +9,11 @@ use Rattle.hail_replay.proofs.counted.trial_event.Goals as goal
 
 pub returns-clause-ok : goal.returns-clause-ok
 returns-clause-ok g c = on-ok c.see-seen.result c.see-seen.ensures.run (λ sees start base done told H.
-    counted-on start base c.args.expected.now (event_command c.args.event) c.perform-came.result done _ _ _ _
-    _ _ _ _ H
+    counted-on start base c.args.expected.now c.tolerance_of-tolerance.result (event_command c.args.event)
+    c.perform-came.result done _ _ _ _ _ _ _ _ H
     (λ run ms R. c.perform-came.ensures.performed.machine run ms told R)
-    (subst (λ (o : Outcome). SeesOne c.args.expected.now o c.args.tally.now c.see-seen.new.self)
-    c.named-came.ensures.outcome sees)
+    (subst (λ (o : Outcome). SeesOne c.args.expected.now c.tolerance_of-tolerance.result o c.args.tally.now c.see-seen.new.self)
+    c.named-came.ensures.outcome sees) c.tolerance_of-tolerance.ensures
     (c.push.ensures ∙ ap (λ (x : List Entry). entries_heard c.args.heard.now ++ x)
     (c.heard_of.ensures ∙ c.named-came.ensures.heard)))
 

@@ -3,4 +3,4 @@ use Rattle.hail_replay.specs.Counts.{flagged_from}
 use Rattle.hail_replay.proofs.seen.flagged_of.Given as goal
 
 abbrev pub invariant-loop-place : goal.invariant-loop-place
-invariant-loop-place l = l.flagged.items ≡ flagged_from 0 (take l.place l.counts)
+invariant-loop-place l = l.flagged.items ≡ flagged_from l.tolerance 0 (take l.place l.counts)

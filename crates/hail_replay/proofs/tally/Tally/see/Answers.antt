@@ -5,5 +5,5 @@ use Rattle.hail_replay.proofs.Steps.{sees_one}
 use Rattle.hail_replay.proofs.tally.Tally.see.Goals as goal
 
 pub returns-clause-run : goal.returns-clause-run
-returns-clause-run c = sees_one c.args.expected.now (came_outcome c.args.came.now) c.args.self.now _
+returns-clause-run c = sees_one c.args.expected.now c.args.tolerance (came_outcome c.args.came.now) c.args.self.now _
     (grind (arith, common_steps))

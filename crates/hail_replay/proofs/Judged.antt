@@ -1,0 +1,89 @@
+-- An audit that ended leaves its vault open, and the vault's table has the setup by which it flags.
+use Rattle.std.proofs.Common.{◌≡◌, ℕ, Bool, true, false, List, ◌∷◌, length, Option, Some, None, refl, ap, sym, ◌∙◌}
+use Rattle.std.specs.Prelude.{IsSome, nat_lt}
+use Rattle.std.specs.Option.{option_map}
+use Rattle.std.proofs.lemmas.Bool.{false≢true}
+use Rattle.device_defs.specs.Providers.{Held, without_block, with_symbol, HasPlace}
+use Rattle.record_defs.specs.Records.{Setup, is_setup}
+use Rattle.machine_defs.specs.Answers.{Audited}
+use Rattle.machine_defs.specs.Events.{Event, Init, Begin, BeginAt, BeginScrub, BeginPack, Step, Alter, Lose, Stop, Reopen, Names, Continue, Outcome, Ended}
+use Rattle.machine_defs.specs.Machine.{Lists, Happens}
+use Rattle.machine_defs.specs.Openings.{InitsBy, Inits}
+use Rattle.machine_defs.specs.Replacements.{ReplacesIf}
+use Rattle.machine_defs.specs.Runs.{Moment, now}
+use Rattle.machine_defs.specs.Setups.{setup_or_none}
+use Rattle.machine_defs.specs.States.{State, setup_in}
+use Rattle.machine_defs.specs.Steps.{Steps}
+use Rattle.vault.specs.declared.vault.Vault.{Vault}
+use Rattle.vault.specs.Seen.{table_of}
+use Rattle.vault_open.specs.Devices.{Devices}
+use Rattle.hail_client.specs.declared.client.Client.{Client}
+use Rattle.hail_client.specs.Client.{names_of}
+use Rattle.hail_client.specs.Stands.{StandsBy, IsReached}
+use Rattle.hail_replay.specs.Counts.{flagged_by, table_tolerance}
+use Rattle.hail_replay.specs.Seen.{FlagsBy}
+use Rattle.hail_replay.proofs.Same as same
+
+module _ (old new : State) (number undecided : ℕ) (counts : List ℕ) where
+  abbrev audited : Outcome
+  audited = Ended (Audited number undecided counts)
+
+  steps : (job : ℕ) (is_open : Bool) → old.is_open ≡ is_open → Steps old job is_open audited new →
+      new.is_open ≡ true
+  steps job true opened h = (same.steps old job true audited new h).is_open ∙ opened
+  steps job false opened h = absurd h
+
+  inits_by : (s : Setup) (good : Bool) → InitsBy old s good audited new → new.is_open ≡ true
+  inits_by s true h = absurd h
+  inits_by s false h = absurd h
+
+  inits : (s : Setup) (is_open : Bool) → Inits old s is_open audited new → new.is_open ≡ true
+  inits s true h = absurd h
+  inits s false h = inits_by s (is_setup s) h
+
+  replaces_if : (handed : Bool) (j : ℕ) (IsThere : Held → Type 0) (changed : Held → Held) →
+      ReplacesIf handed old j IsThere changed audited new → new.is_open ≡ true
+  replaces_if true j IsThere changed h = absurd h
+  replaces_if false j IsThere changed h = absurd h
+
+  lists : (is_open : Bool) → Lists old is_open audited new → new.is_open ≡ true
+  lists true h = absurd h
+  lists false h = absurd h
+
+  -- an audit that ended leaves the vault open
+  audited-open : (moment : ℕ) (e : Event) → Happens 8 moment old e audited new → new.is_open ≡ true
+  audited-open moment (Init s) h = inits s old.is_open h
+  audited-open moment (Begin kind) h = absurd h
+  audited-open moment (BeginAt profile name bytes) h = absurd h
+  audited-open moment BeginScrub h = absurd h
+  audited-open moment BeginPack h = absurd h
+  audited-open moment (Step job) h = steps job old.is_open refl h
+  audited-open moment (Alter j object stripe place symbol) h =
+      replaces_if (nat_lt j old.handed) j (λ held. HasPlace (held object stripe) place)
+      (with_symbol object stripe place symbol) h
+  audited-open moment (Lose j object stripe) h =
+      replaces_if (nat_lt j old.handed) j (λ held. IsSome (held object stripe))
+      (without_block object stripe) h
+  audited-open moment (Stop picks) h = absurd h
+  audited-open moment Reopen h = absurd h
+  audited-open moment Names h = lists old.is_open h
+  audited-open moment Continue h = absurd h
+
+-- an open vault has the setup in effect; where none is open, no audit ended
+flags-by : (o : Option Vault) (next : ℕ) (d : Devices) (old new : State) (moment : ℕ) (e : Event)
+    (outcome : Outcome) → StandsBy o next d new → Happens 8 moment old e outcome new
+    → flagged_by (setup_in new).tolerance outcome ≡ flagged_by (table_tolerance (option_map table_of o)) outcome
+unfolding setup_in
+flags-by (Some v) next d old new moment e outcome S h =
+    ap (λ (x : Option Setup). flagged_by (setup_or_none x).tolerance outcome) (sym S.core.table.setup)
+flags-by None next d old new moment e (Ended (Audited number undecided counts)) S h =
+    absurd (false≢true (sym S.closed ∙ audited-open old new number undecided counts moment e h))
+flags-by None next d old new moment e outcome S h = refl
+
+-- the last moment of a run flags by the tolerance that the client's table has
+pub judged : (start : State) (ms : List Moment) (m : Moment) (c : Client) (d : Devices) →
+    IsReached start (m ∷ ms) c d → (tolerance : ℕ) → tolerance ≡ table_tolerance (names_of c)
+    → FlagsBy tolerance m
+judged start ms m c d R tolerance is =
+    flags-by c.vault c.next_job d (now start ms) m.state (length ms) m.event m.outcome R.stands R.run.1
+    ∙ ap (λ (t : ℕ). flagged_by t m.outcome) (sym is)
