@@ -39,8 +39,8 @@ pub record IsOpened (old : Seen) (records : List Record) : Type 0 where
 -- a command over a store that is set up ends before its begin
 pub data Unstarted (old new : Seen) (end : Ending) : Type 0 where
   disk_fault : Rose old.disk_faults new.disk_faults → IsRefused 12 0 old new end → Unstarted old new end
-  not_set_up : IfSome old.disk (λ cells. HasNoSetup (journal_read cells)) → IsRefused 9 0 old new end
-      → Unstarted old new end
+  not_set_up : IfSome old.disk (λ cells. HasNoSetup (journal_read cells)) → IsSynced old new
+      → IsRefused 9 0 old new end → Unstarted old new end
   bad_journal : (at : ℕ) → IfSome old.disk (λ cells. (9 < length (journal_read cells)) × IsBadStart
       (journal_read cells) at) → IsRefused 8 at old new end → Unstarted old new end
   too_few_providers : (records : List Record) → IsRead old.disk records

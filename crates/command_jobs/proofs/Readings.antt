@@ -10,8 +10,8 @@ use Rattle.record_defs.specs.Records.{Record}
 use Rattle.opening_defs.specs.Journals.{journal_read, IsRead, IsResynced}
 use Rattle.vault_open.specs.declared.fault.StartFault.{StartFault}
 use Rattle.vault_open.specs.declared.fault.StartFault.TheVariants as start_fault
-use Rattle.vault_open.specs.Causes.{IsStartFault}
-use Rattle.command_jobs.specs.Opened.{AreRecords, unopened_of, IsUnopened}
+use Rattle.vault_open.specs.Causes.{IsStartFault, LiesInJournal}
+use Rattle.command_jobs.specs.Opened.{AreRecords, unopened_of, IsUnopened, LiesInStore}
 
 -- records that a disk reads are records of a journal
 pub read-records : (told : Option Cells) (rs : List Record) → IsRead told rs → AreRecords rs
@@ -27,6 +27,13 @@ fault-seen (Some cells) handed start_fault.NotSetUp h = h
 fault-seen None handed (start_fault.BadJournal at) h = tt
 fault-seen (Some cells) handed (start_fault.BadJournal at) h = h
 fault-seen told handed start_fault.Memory h = tt
+
+-- a cause of a start that lies in the store lies in the journal
+pub lies-read : (why : StartFault) → LiesInStore (unopened_of why) → LiesInJournal why
+lies-read start_fault.DiskFault h = h
+lies-read start_fault.NotSetUp h = h
+lies-read (start_fault.BadJournal at) h = h
+lies-read start_fault.Memory h = h
 
 -- a disk that is synced again reads as before
 pub reads-resynced : (old new : Option Cells) → Goes IsResynced old new →

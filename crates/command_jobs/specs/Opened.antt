@@ -9,6 +9,8 @@
 --   IsFreshFor v holds faults handed   == the same over some records, with enough providers
 --   unopened_of fault                  == why no vault is opened, where a start gave this fault
 --   IsUnopened told handed why         == the cause for which no vault is opened
+--   LiesInStore why                    == a cause that lies in what the disk reads, or in how many providers are
+--                                         handed in
 use Rattle.std.specs.Prelude.{◌≡◌, ◌≢◌, ℕ, ◌<◌, ◌≤◌, IsTrue, IfSome, List, [], length, Option}
 use Rattle.std.specs.List.{list_all}
 use Rattle.device_defs.specs.Cells.{Cells}
@@ -75,3 +77,11 @@ IsUnopened told handed unopened.TooFewProviders =
     (records : List Record) × IsRead told records × (handed < (setup_in_effect records).n)
 IsUnopened told handed unopened.DiskFault = Unit {0}
 IsUnopened told handed unopened.Memory = Unit {0}
+
+-- a cause that lies in what the disk reads, or in how many providers are handed in
+abbrev pub LiesInStore : Unopened → Type 0
+LiesInStore unopened.NotSetUp = Unit {0}
+LiesInStore (unopened.BadJournal at) = Unit {0}
+LiesInStore unopened.TooFewProviders = Unit {0}
+LiesInStore unopened.DiskFault = ⊥
+LiesInStore unopened.Memory = ⊥

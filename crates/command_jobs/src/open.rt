@@ -7,7 +7,7 @@ ghost use Rattle.device_defs.specs.Told.{Goes};
 ghost use Rattle.record_defs.specs.Records.{Record};
 ghost use Rattle.opening_defs.specs.Journals.{IsResynced};
 ghost use Rattle.command_jobs.specs.declared.open.Unopened.TheVariants as unopened;
-ghost use Rattle.command_jobs.specs.Opened.{IsFreshOver, IsReadFor, IsFreshFor, IsUnopened, unopened_of};
+ghost use Rattle.command_jobs.specs.Opened.{IsFreshOver, IsReadFor, IsFreshFor, IsUnopened, LiesInStore, unopened_of};
 
 use disk_model::Disk;
 use job_laws::alone::opened_states;
@@ -56,8 +56,8 @@ pub fn open_vault<D: Disk>(alloc: Global, disk: &mut D, handed: usize) -> Result
     ensures reads { option_map reads (D.holds disk.new) ≡ option_map reads (D.holds disk.old) }
     ensures disk { Goes IsResynced (D.holds disk.old) (D.holds disk.new) }
     ensures synced { OnOk result (D.holds disk.new ≡ option_map synced (D.holds disk.old)) }
-    ensures few { IsErrOf result unopened.TooFewProviders
-        → D.holds disk.new ≡ option_map synced (D.holds disk.old) }
+    ensures resynced { IfErr result
+        (λ why. LiesInStore why → D.holds disk.new ≡ option_map synced (D.holds disk.old)) }
     ensures cause { HasCause (D.faults disk.old) (D.faults disk.new) (IsErrOf result unopened.DiskFault) }
 {
     opened_states();

@@ -12,12 +12,12 @@ use Rattle.device_defs.specs.ProviderCalls.{Replaces}
 use Rattle.device_defs.specs.Told.{Goes}
 use Rattle.device_defs.proofs.Lasting.{image-firm, each_image-mono}
 use Rattle.record_defs.specs.Records.{Record}
-use Rattle.record_defs.specs.Journal.{StandsFor}
+use Rattle.record_defs.specs.Reading.{HasNoSetup}
 use Rattle.machine_defs.specs.Events.{Event, Alter, Lose, Stop, Outcome, Replaced, NothingHeld, Stopped as HasStopped}
 use Rattle.machine_defs.specs.Machine.{Happens}
 use Rattle.machine_defs.specs.Replacements.{ReplacesIf}
 use Rattle.machine_defs.specs.Runs.{Moment, now, IsRun}
-use Rattle.machine_defs.specs.Stands.{StandsForState}
+use Rattle.machine_defs.specs.Stands.{StandsPlain, StandsForState}
 use Rattle.machine_defs.specs.States.{State, with_provider}
 use Rattle.machine_defs.proofs.JobLists.{cond_true, cond_false}
 use Rattle.state_laws.specs.Sound.{IsSound}
@@ -28,7 +28,7 @@ use Rattle.command_laws.specs.After.{IsSure}
 use Rattle.command_laws.specs.Pieces.{IsStore, IsCall, moment, ReplacesHeld, AreReplaced, IsLater, AreBetween, Call, last_seen, IsChain, AreCalls}
 use Rattle.job_laws.proofs.Telling.{opened_state, state-over, over-opened}
 use Rattle.command_laws.proofs.Knowing.{StandsInState}
-use Rattle.command_laws.proofs.GoingOn.{now-more, run-sound, settled, settled-by, command-on}
+use Rattle.command_laws.proofs.GoingOn.{now-more, run-sound, settled, SettlesOn, MaySettle, settled-by, command-on}
 
 -- ---- lists with an element replaced
 
@@ -123,7 +123,6 @@ store-replaced : (w : State) (s next : Seen) (j : ℕ) (q : Provider) → IsStor
     IsStore (replaced_in w j q) next
 store-replaced w s next j q S sound disk faults handed = record {
   sound = sound;
-  set_up = S.set_up;
   tells = ap is_some disk ∙ S.tells;
   images = subst (λ d. StandsForState d (replaced_in w j q)) (sym disk)
       (each_image-mono s.disk _ _ again S.images);
@@ -141,7 +140,6 @@ store-same : (w : State) (s next : Seen) → IsStore w s → next.disk ≡ s.dis
     next.disk_faults ≡ s.disk_faults → next.providers ≡ s.providers → IsStore w next
 store-same w s next S disk faults providers = record {
   sound = S.sound;
-  set_up = S.set_up;
   tells = ap is_some disk ∙ S.tells;
   images = subst (λ d. StandsForState d w) (sym disk) S.images;
   faults_are = S.faults_are ∙ sym faults;
@@ -184,34 +182,43 @@ pub later-on : (start : State) (ms : List Moment) (new next : Seen) → IsRun 8 
     IsStore (now start ms) new → IsLater new next → GoesBetween start ms next
 later-on start ms new next R S L = elim L.disk [
   | inl same ↦ replaced-on start L.events ms new next R S same L.faults L.replaced
-  | inr stopped ↦ (let w : State = now start ms in
-      let c = stopped-at new.disk next.disk (StandsInState w) S.tells S.images stopped in
-      let f = settled-by w S.sound S.set_up c.0 c.2 in
-      let v : State = settled w f.0 in
-      let m : Moment = moment (Stop []) HasStopped v in
-      let run : IsRun 8 start (m ∷ ms) = (refl, f.1.settles w refl refl refl refl, R) in
-      let mid : Seen = record new { disk = next.disk } in
-      let stood : IsStore v mid = record {
-        sound = run-sound start (m ∷ []) ms S.sound run;
-        set_up = f.1.up;
-        tells = ap is_some c.1;
-        images = subst (λ d. StandsForState d v) (sym c.1)
-            (λ image of. inl (inl (
-              refl,
-              subst (λ bytes. StandsFor bytes f.0)
-                  (sym (image-firm c.0 image of)) f.1.good.stands,
-            )));
-        faults_are = S.faults_are;
-        handed = record { count = S.handed.count; each = S.handed.each };
-      } in
-      let more = replaced-on start L.events (m ∷ ms) mid next run stood refl L.faults L.replaced in
-      let same : more.0 ++ (m ∷ ms) ≡ (more.0 ++ m ∷ []) ++ ms = sym (append_assoc more.0 (m ∷ []) ms) in (
-        more.0 ++ m ∷ [],
-        both-between more.0 (m ∷ []) more.1 (tt, tt),
-        subst (λ l. IsRun 8 start l) same more.2,
-        subst (λ l. IsStore (now start l) next) same more.3,
-      ))
+  | inr stopped ↦ (let c = stopped-at new.disk next.disk (StandsInState (now start ms)) S.tells S.images stopped in
+      stopped-by c.0 c.1 (settled-by (now start ms) S.sound c.0 c.2))
 ]
+  where
+    -- the disk that the stop left reads these records
+    stopped-on : (image : List ℕ) → next.disk ≡ Some (firm image) → (rs : List Record) →
+        SettlesOn (now start ms) rs → StandsPlain (settled (now start ms) rs) image → GoesBetween start ms next
+    stopped-on image disk rs settles stands =
+        (let w : State = now start ms in
+        let v : State = settled w rs in
+        let m : Moment = moment (Stop []) HasStopped v in
+        let run : IsRun 8 start (m ∷ ms) = (refl, settles w refl refl refl refl, R) in
+        let mid : Seen = record new { disk = next.disk } in
+        let stood : IsStore v mid = record {
+          sound = run-sound start (m ∷ []) ms S.sound run;
+          tells = ap is_some disk;
+          images = subst (λ d. StandsForState d v) (sym disk)
+              (λ other of. inl (subst (StandsPlain v) (sym (image-firm image other of)) stands));
+          faults_are = S.faults_are;
+          handed = record { count = S.handed.count; each = S.handed.each };
+        } in
+        let more = replaced-on start L.events (m ∷ ms) mid next run stood refl L.faults L.replaced in
+        let same : more.0 ++ (m ∷ ms) ≡ (more.0 ++ m ∷ []) ++ ms = sym (append_assoc more.0 (m ∷ []) ms) in (
+          more.0 ++ m ∷ [],
+          both-between more.0 (m ∷ []) more.1 (tt, tt),
+          subst (λ l. IsRun 8 start l) same more.2,
+          subst (λ l. IsStore (now start l) next) same more.3,
+        ))
+
+    none-stands : (image : List ℕ) → HasNoSetup image → StandsPlain (settled (now start ms) []) image
+    none-stands image (inl short) = inr (refl, short)
+    none-stands image (inr stands) = inl (refl, stands)
+
+    stopped-by : (image : List ℕ) → next.disk ≡ Some (firm image) → MaySettle (now start ms) image →
+        GoesBetween start ms next
+    stopped-by image disk (MaySettle.some rs F) = stopped-on image disk rs F.settles (inl (refl, F.good.stands))
+    stopped-by image disk (MaySettle.none N) = stopped-on image disk [] N.settles (none-stands image N.none)
 
 -- ---- commands one after the other
 
@@ -257,7 +264,6 @@ sure-store s records K =
       w,
       record {
         sound = rest-sound 8 w O.rest;
-        set_up = O.rest.set_up refl;
         tells = K.known.tells;
         images = each_image-mono s.disk _ _ (λ image stands. inl (inl (refl, stands))) K.images;
         faults_are = refl;

@@ -83,7 +83,7 @@ module _ (old new : Seen) (end : Ending) where
 
   unstarted-causes : Unstarted old new end → FaultsHaveCauses old new end
   unstarted-causes (Unstarted.disk_fault rose r) = disk-rose r.status_is rose
-  unstarted-causes (Unstarted.not_set_up is r) = none-rose 9 refl r.status_is
+  unstarted-causes (Unstarted.not_set_up is sync r) = none-rose 9 refl r.status_is
   unstarted-causes (Unstarted.bad_journal at is r) = none-rose 8 refl r.status_is
   unstarted-causes (Unstarted.too_few_providers records read few synced r) = none-rose 22 refl r.status_is
   unstarted-causes (Unstarted.no_memory r) = none-rose 70 refl r.status_is

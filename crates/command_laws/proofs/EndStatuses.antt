@@ -25,7 +25,7 @@ use Rattle.command_laws.proofs.RowCauses.{none-at}
 
 unstarted-ending : (old new : Seen) (end : Ending) → Unstarted old new end → is_ending end.status ≡ true
 unstarted-ending old new end (Unstarted.disk_fault rose r) = ap is_ending r.status_is
-unstarted-ending old new end (Unstarted.not_set_up is r) = ap is_ending r.status_is
+unstarted-ending old new end (Unstarted.not_set_up is sync r) = ap is_ending r.status_is
 unstarted-ending old new end (Unstarted.bad_journal at is r) = ap is_ending r.status_is
 unstarted-ending old new end (Unstarted.too_few_providers records read few synced r) =
     ap is_ending r.status_is

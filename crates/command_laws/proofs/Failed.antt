@@ -115,7 +115,7 @@ unstarted-own : (m : ℕ) (old new : Seen) (end : Ending) → Unstarted old new 
 unstarted-own m old new end (Unstarted.disk_fault rose r) is own =
     not_two end.status 12 m r.status_is is
     (λ e. elim own [ inl k ↦ omega (arith, k, e) | inr k ↦ omega (arith, k, e) ])
-unstarted-own m old new end (Unstarted.not_set_up fresh r) is own =
+unstarted-own m old new end (Unstarted.not_set_up fresh sync r) is own =
     not_two end.status 9 m r.status_is is
     (λ e. elim own [ inl k ↦ omega (arith, k, e) | inr k ↦ omega (arith, k, e) ])
 unstarted-own m old new end (Unstarted.bad_journal at bad r) is own =

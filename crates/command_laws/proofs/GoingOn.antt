@@ -1,8 +1,8 @@
 -- Commands over devices that a run left go on with that run.
-use Rattle.std.proofs.Common.{◌≡◌, ℕ, ◌+◌, ◌<◌, ◌≤◌, ◌⊎◌, true, false, List, [], ◌∷◌, ◌++◌, length, Option, None, Some, refl, ap, sym, subst, ◌∙◌, inl, inr, arith, append_assoc}
+use Rattle.std.proofs.Common.{◌≡◌, ℕ, ◌+◌, ◌<◌, ◌≤◌, ◌⊎◌, true, false, List, [], ◌∷◌, ◌++◌, length, Option, None, Some, refl, ap, sym, subst, ◌∙◌, inl, inr, arith, append_assoc, length-take, lit≤}
 use Rattle.std.specs.Prelude.{is_some, IfSome}
 use Rattle.std.specs.Option.{option_map}
-use Rattle.std.proofs.lemmas.Bool.{false≢true}
+use Rattle.std.proofs.lemmas.Bool.{cases_Bool, false≢true}
 use Rattle.device_defs.specs.Cells.{Cells, reads}
 use Rattle.device_defs.specs.Disks.{synced}
 use Rattle.device_defs.specs.Faults.{Rose}
@@ -10,13 +10,16 @@ use Rattle.device_defs.specs.Images.{IsImage, EachImage}
 use Rattle.device_defs.specs.Providers.{Provider}
 use Rattle.device_defs.proofs.Lasting.{image-firm, each_image-mono}
 use Rattle.device_defs.proofs.PickLaws.{IsImage-reads}
-use Rattle.record_defs.specs.Records.{Record}
-use Rattle.record_defs.specs.Journal.{StandsFor}
+use Rattle.record_defs.specs.Records.{Record, largest_file, largest_journal}
+use Rattle.device_defs.specs.Told.{Goes}
+use Rattle.record_defs.specs.Acceptance.{AreAccepted}
+use Rattle.record_defs.specs.Journal.{StandsFor, text_size}
 use Rattle.record_defs.specs.Reading.{HasNoSetup}
 use Rattle.record_defs.specs.Table.{setup_of, version_of, files_of}
 use Rattle.record_defs.specs.Areas as areas
 use Rattle.record_defs.specs.Packed.{packed}
 use Rattle.record_defs.proofs.PackLaws.{packed_are}
+use Rattle.record_defs.proofs.Standing.{stands-take}
 use Rattle.machine_defs.specs.Answers.{Answer}
 use Rattle.machine_defs.specs.Events.{Event, Begin, Step, Reopen, Names, Continue, Outcome, Refused, Opened, More, Begun, Ended, Listed, Continued, IsSpelled, IsSpelledKind}
 use Rattle.machine_defs.specs.Jobs.{Kind, PutJob, GetJob, DropJob, AuditJob, RepairJob}
@@ -25,33 +28,31 @@ use Rattle.machine_defs.specs.Begins.{Begins, begin_refusal}
 use Rattle.machine_defs.specs.Refusals as refusal
 use Rattle.machine_defs.specs.Refusals.{Refusal}
 use Rattle.machine_defs.specs.Runs.{Moment, now, IsRun}
-use Rattle.machine_defs.specs.Setups.{setup_or_none}
 use Rattle.machine_defs.specs.Stands.{StandsForState}
-use Rattle.machine_defs.specs.States.{State, given_up, continued, setup_in}
+use Rattle.machine_defs.specs.States.{State, Doubt, given_up, continued, setup_in}
 use Rattle.machine_defs.specs.Openings.{Rereads}
 use Rattle.machine_defs.specs.Transcripts.{GoOn}
 use Rattle.state_laws.specs.Sound.{IsWholeJournal, IsSound}
 use Rattle.state_laws.proofs.Events.{events-sound}
-use Rattle.state_laws.proofs.Records.{is_some-at, version-first, grammar-rest, setup-more}
+use Rattle.state_laws.proofs.Records.{is_some-at, version-first, grammar-rest, none-set_up, second-set_up}
 use Rattle.command_defs.specs.Forms.{Command, RowOf, InitWith, PutUnder, GetOf, DropOf, ListAll, AuditAll, RepairDue}
-use Rattle.command_defs.specs.Seen.{Seen, Ending, NoCountFalls, IsRefused, IsSynced}
-use Rattle.opening_defs.specs.Journals.{journal_read, IsRead, IsBadStart}
+use Rattle.command_defs.specs.Seen.{Seen, Ending, NoCountFalls, IsRefused, IsSynced, ReadsUpTo}
+use Rattle.opening_defs.specs.Journals.{journal_read, IsRead, IsBadStart, IsResynced}
 use Rattle.command_defs.specs.Opens.{IsOpened, Unstarted, setup_in_effect}
 use Rattle.opening_defs.specs.Opened.{AreHanded, IsOpenedOver}
 use Rattle.command_defs.specs.JobRuns.{AreSteps, GoesOnTo}
 use Rattle.command_defs.specs.Jobs.{AnswersJob, EndsByAnswer, RunsAlone, RanAlone}
 use Rattle.command_defs.specs.Lines.{text_of}
 use Rattle.command_defs.specs.Refusals.{refusal_over, status_of}
-use Rattle.command_defs.specs.Commands.{AnswersPut, AnswersAlone, AnswersList, Answers}
+use Rattle.command_defs.specs.Commands.{AnswersPut, AnswersAlone, ListsFiles, AnswersList, Answers}
 use Rattle.command_laws.specs.Ends.{RunsKind, opens_store}
-use Rattle.command_laws.specs.Pieces.{IsStore, IsSpelledCommand, IsCall, moment}
-use Rattle.opening_defs.proofs.Readings.{read-once, read-set_up, read-good as read-never-bad}
+use Rattle.command_laws.specs.Pieces.{IsStore, IsSpelledCommand, IsCall, moment, unopened_status}
+use Rattle.opening_defs.proofs.Readings.{read-once, read-set_up, read-good as read-never-bad, fresh-good}
 use Rattle.job_laws.proofs.Telling.{over-opened}
 use Rattle.command_laws.proofs.Images.{refused-keeps}
 use Rattle.command_laws.proofs.LastStates.{last-state}
 use Rattle.state_laws.proofs.Written.{whole-end}
-use Rattle.command_laws.proofs.Knowing.{IsGood, read-good, none-up, StandsInState, StandsSo, stands-so}
-use Rattle.command_laws.proofs.Afterwards.{read-kept}
+use Rattle.command_laws.proofs.Knowing.{IsGood, read-good, none-up, StandsInState}
 use Rattle.command_laws.proofs.DoneStores.{tells-past}
 use Rattle.job_laws.proofs.BeginRefusals.{refusal-of}
 
@@ -127,98 +128,142 @@ settled w rs = record (given_up w) {
   is_switching = false;
 }
 
+-- these records may be settled on
+abbrev pub SettlesOn : State → List Record → Type 0
+SettlesOn w rs = (v : State) → v.doubt ≡ w.doubt → v.records ≡ w.records → v.journal ≡ w.journal →
+    v.area ≡ w.area → Rereads v (settled v rs)
+
 -- the records that an image of a store stands for may be settled
 pub record Settled (w : State) (image : List ℕ) (rs : List Record) : Type 0 where
-  pub settles : (v : State) → v.doubt ≡ w.doubt → v.records ≡ w.records → v.journal ≡ w.journal →
-      v.area ≡ w.area → Rereads v (settled v rs)
-  pub good : IsGood (setup_in w) image rs
+  pub settles : SettlesOn w rs
+  pub good : IsGood (setup_in_effect rs) image rs
   pub up : is_some (setup_of rs) ≡ true
+
+-- that there is none may be settled, and an image stands for none
+pub record SettledNone (w : State) (image : List ℕ) : Type 0 where
+  pub settles : SettlesOn w []
+  pub none : HasNoSetup image
+
+-- what an image of a store may be settled to: some records with a setup, or none
+pub data MaySettle (w : State) (image : List ℕ) : Type 0 where
+  some : (rs : List Record) → Settled w image rs → MaySettle w image
+  none : SettledNone w image → MaySettle w image
 
 -- while journals have no second version, an image of a store stands for one in which the disk holds the whole
 -- history
-whole-by : (w : State) → IsSound 8 w → is_some (setup_of w.records) ≡ true → (image : List ℕ) →
-    StandsInState w image → IsWholeJournal w
-whole-by w S up image (inl (inl h)) =
+whole-by : (w : State) → IsSound 8 w → (image : List ℕ) → StandsInState w image → IsWholeJournal w
+whole-by w S image (inl (inl h)) =
     S.journal.whole (sym S.journal.alike.version ∙ version-first w.journal h.1.in_grammar)
-whole-by w S up image (inl (inr empty)) =
-    absurd (none-up w.journal (ap is_some S.journal.alike.setup ∙ up) empty.0)
-whole-by w S up image (inr (inl D)) = S.journal.whole
+whole-by w S image (inl (inr empty)) =
+    S.journal.whole (sym S.journal.alike.version ∙ ap version_of empty.0)
+whole-by w S image (inr (inl D)) = S.journal.whole
     (sym S.journal.alike.version
     ∙ version-first w.journal (grammar-rest D.doubt.entry w.journal D.stands.1.in_grammar))
-whole-by w S up image (inr (inr X)) =
+whole-by w S image (inr (inr X)) =
     absurd (let second : version_of w.journal ≡ 2 = S.journal.alike.version
     ∙ (S.switching X.switching).version in
-    let set = is_some-at (setup_of w.journal) (ap is_some S.journal.alike.setup ∙ up) in
+    let set = is_some-at (setup_of w.journal) (second-set_up w.journal S.journal.accepted second) in
     let like = (packed_are w.journal S.journal.accepted set.0 set.1 second).1 in
     let first : version_of (packed w.journal) ≡ 1 = version-first (packed w.journal) X.stands.1.in_grammar in
     let same : version_of (packed w.journal) ≡ version_of w.journal = like.version in
     omega (arith, second, first, same))
 
--- the records that an image of a store stands for may be settled, and leave it good
-pub settled-by : (w : State) → IsSound 8 w → is_some (setup_of w.records) ≡ true → (image : List ℕ) →
-    StandsInState w image → (rs : List Record) × Settled w image rs
-unfolding setup_in
-settled-by w S up image h = by_stand (stands-so w W up image h)
-  where
-    W : IsWholeJournal w
-    W = whole-by w S up image h
+module _ (w : State) (S : IsSound 8 w) (W : IsWholeJournal w) (image : List ℕ) where
+  -- the history is settled on
+  on-history : (rs : List Record) → w.records ≡ rs → SettlesOn w rs
+  on-history rs is v doubt records journal area = (
+    v.journal,
+    v.area,
+    inl (refl, refl),
+    inl (λ i. record (given_up v) {
+      doubt = None;
+      records = sym (records ∙ is) i;
+      journal = sym (journal ∙ (W.journal ∙ is)) i;
+      area = sym (area ∙ W.area) i;
+      is_switching = false;
+    }),
+  )
 
-    by_stand : StandsSo w image → (rs : List Record) × Settled w image rs
-    by_stand (StandsSo.sure stands) = (
-      w.records,
-      record {
-        settles = λ v doubt records journal area. (
-          v.journal,
-          v.area,
-          inl (refl, refl),
-          inl (λ i. record (given_up v) {
-            doubt = None;
-            records = sym records i;
-            journal = sym (journal ∙ W.journal) i;
-            area = sym (area ∙ W.area) i;
-            is_switching = false;
-          }),
-        );
-        good = record {
-          some = none-up w.records up;
-          accepted = S.accepted;
-          room = (let r = S.room in let e = whole-end w W in omega (arith, r, e));
-          setup = refl;
-          stands = stands;
-        };
-        up = up;
+  -- or the record in doubt comes into effect
+  on-doubt : (d : Doubt) → w.doubt ≡ Some d → SettlesOn w (d.entry ∷ w.records)
+  on-doubt d in_doubt v doubt records journal area = (
+    v.journal,
+    v.area,
+    inl (refl, refl),
+    inr (
+      d,
+      doubt ∙ in_doubt,
+      λ i. record (given_up v) {
+        doubt = None;
+        records = d.entry ∷ sym records i;
+        journal = d.entry ∷ sym (journal ∙ W.journal) i;
+        area = sym (area ∙ W.area) i;
+        is_switching = false;
       },
-    )
-    by_stand (StandsSo.doubtful d in_doubt stands) = (let F = S.doubt d in_doubt in
-        let same = setup-more d.entry w.records up F.accepted in (
-          d.entry ∷ w.records,
-          record {
-            settles = λ v doubt records journal area. (
-              v.journal,
-              v.area,
-              inl (refl, refl),
-              inr (
-                d,
-                doubt ∙ in_doubt,
-                λ i. record (given_up v) {
-                  doubt = None;
-                  records = d.entry ∷ sym records i;
-                  journal = d.entry ∷ sym (journal ∙ W.journal) i;
-                  area = sym (area ∙ W.area) i;
-                  is_switching = false;
-                },
-              ),
-            );
-            good = record {
-              some = λ e. cc;
-              accepted = (F.accepted, S.accepted);
-              room = (let r = F.room in let e = whole-end w W in omega (arith, r, e));
-              setup = ap setup_or_none same;
-              stands = stands;
-            };
-            up = ap is_some same ∙ up;
-          },
-        ))
+    ),
+  )
+
+  settled-some : (rs : List Record) → SettlesOn w rs → AreAccepted rs → text_size rs ≤ largest_journal →
+      is_some (setup_of rs) ≡ true → StandsFor image rs → Settled w image rs
+  settled-some rs on accepted room up stands = record {
+    settles = on;
+    good = record {
+      some = none-up rs up;
+      accepted = accepted;
+      room = room;
+      setup = refl;
+      stands = stands;
+    };
+    up = up;
+  }
+
+  settled-history : StandsFor image w.records → MaySettle w image
+  settled-history stands = elim (cases_Bool (is_some (setup_of w.records))) [
+    | inl up ↦ MaySettle.some w.records (settled-some w.records (on-history w.records refl) S.accepted
+        (let r = S.room in let e = whole-end w W in omega (arith, r, e)) up stands)
+    | inr f ↦ (let none = none-set_up w.records S.accepted f in
+        MaySettle.none (record {
+          settles = on-history [] none;
+          none = inr (subst (StandsFor image) none stands);
+        }))
+  ]
+
+  settled-doubt : (d : Doubt) → w.doubt ≡ Some d → StandsFor image (d.entry ∷ w.records) → MaySettle w image
+  settled-doubt d in_doubt stands = (let F = S.doubt d in_doubt in
+      let rs : List Record = d.entry ∷ w.records in
+      elim (cases_Bool (is_some (setup_of rs))) [
+        | inl up ↦ MaySettle.some rs (settled-some rs (on-doubt d in_doubt) (F.accepted, S.accepted)
+            (let r = F.room in let e = whole-end w W in omega (arith, r, e)) up stands)
+        | inr f ↦ absurd (let none : rs ≡ [] = none-set_up rs (F.accepted, S.accepted) f in cc)
+      ])
+
+  -- so may what an image of the state stands for
+  settled-whole : StandsInState w image → MaySettle w image
+  settled-whole (inl (inl h)) = settled-history (subst (StandsFor image) W.journal h.1)
+  settled-whole (inl (inr empty)) = MaySettle.none (record {
+    settles = on-history [] (sym W.journal ∙ empty.0);
+    none = inl empty.1;
+  })
+  settled-whole (inr (inl D)) = settled-doubt D.doubt D.in_doubt
+      (subst (λ l. StandsFor image (D.doubt.entry ∷ l)) W.journal D.stands.1)
+  settled-whole (inr (inr X)) = absurd (false≢true (sym W.unswitched ∙ X.switching))
+
+-- what an image of a sound state stands for may be settled
+pub settled-by : (w : State) → IsSound 8 w → (image : List ℕ) → StandsInState w image → MaySettle w image
+settled-by w S image h = settled-whole w S (whole-by w S image h) image h
+
+-- a disk that was synced, or left as it was, tells as before
+resynced-tells : (a b : Option Cells) → Goes IsResynced a b → is_some a ≡ true → is_some b ≡ true
+resynced-tells None b goes tells = absurd (false≢true tells)
+resynced-tells (Some a) None goes tells = absurd goes
+resynced-tells (Some a) (Some b) goes tells = refl
+
+-- so does what is looked at of it
+none-looked_at : (cells : Cells) → HasNoSetup (reads cells) → HasNoSetup (journal_read cells)
+none-looked_at cells (inl short) =
+    inl (let e = length-take largest_journal (reads cells) in omega (arith, short, e))
+none-looked_at cells (inr stands) =
+    inr (stands-take largest_journal (reads cells) [] stands (lit≤ tt))
 
 module _ (start : State) (ms : List Moment) (R : IsRun 8 start ms) (old : Seen)
     (S : IsStore (now start ms) old) where
@@ -228,19 +273,10 @@ module _ (start : State) (ms : List Moment) (R : IsRun 8 start ms) (old : Seen)
   told : (c : Cells) × (old.disk ≡ Some c)
   told = is_some-at old.disk S.tells
 
-  found : (rs : List Record) × Settled w (reads told.0) rs
-  found = settled-by w S.sound S.set_up (reads told.0)
+  -- what the disk reads may be settled
+  found : MaySettle w (reads told.0)
+  found = settled-by w S.sound (reads told.0)
       (subst (λ d. EachImage d (StandsInState w)) told.1 S.images (reads told.0) (IsImage-reads told.0))
-
-  abbrev rs : List Record
-  rs = found.0
-
-  is-read : IsRead old.disk rs
-  is-read = read-good (setup_in w) old.disk told.0 rs told.1 found.1.good
-
-  once : (other : List Record) → IsRead old.disk other → other ≡ rs
-  once other read = read-once told.0 other rs (subst (λ d. IsRead d other) told.1 read)
-      (subst (λ d. IsRead d rs) told.1 is-read)
 
   -- the first moment
   abbrev later : Moment
@@ -259,54 +295,6 @@ module _ (start : State) (ms : List Moment) (R : IsRun 8 start ms) (old : Seen)
     each = λ j below. S.handed.each j below ∙ ap (λ (f : ℕ → Provider). Some (f j)) (sym same);
   })
 
-  -- the store in which the vault is opened over the records that were read
-  abbrev opened_at : ℕ → State
-  opened_at faults = record (settled (continued w) rs) { is_open = true; disk_faults = faults }
-
-  run-opened : (faults : ℕ) → old.disk_faults ≤ faults → (setup_in_effect rs).n ≤ length old.providers →
-      IsRun 8 start (moment Reopen Opened (opened_at faults) ∷ later ∷ ms)
-  unfolding setup_in
-  run-opened faults l enough = (
-    tt,
-    (
-      settled (continued w) rs,
-      found.1.settles (continued w) refl refl refl refl,
-      found.1.up,
-      (let e = S.handed.count in omega (arith, e, enough)),
-      (faults, faults-at faults l, refl),
-    ),
-    run-later,
-  )
-
-  stands-synced : (d : Option Cells) (v : State) → d ≡ option_map synced old.disk → v.journal ≡ rs →
-      v.area ≡ areas.A → StandsForState d v
-  stands-synced d v is journal area =
-      image-of-synced told.0 d (StandsInState v) (is ∙ ap (option_map synced) told.1)
-      (inl (inl (area, subst (λ l. StandsFor (reads told.0) l) (sym journal) found.1.good.stands)))
-
-  sound-opened : (faults : ℕ) → old.disk_faults ≤ faults → (setup_in_effect rs).n ≤ length old.providers →
-      IsSound 8 (opened_at faults)
-  sound-opened faults l enough =
-      run-sound start (moment Reopen Opened (opened_at faults) ∷ later ∷ []) ms S.sound
-      (run-opened faults l enough)
-
-  over : (faults : ℕ) → old.disk_faults ≤ faults → (setup_in_effect rs).n ≤ length old.providers →
-      IsOpenedOver (opened_at faults) rs faults old.providers
-  over faults l enough = record {
-    records = refl;
-    whole = record { journal = refl; area = refl; unswitched = refl };
-    jobs = refl;
-    next_job = refl;
-    none_alone = refl;
-    append = refl;
-    doubt = refl;
-    is_open = refl;
-    unbarred = refl;
-    bytes = (sound-opened faults l enough).files;
-    faults_are = refl;
-    handed = handed-by (opened_at faults) old.providers refl refl refl;
-  }
-
   -- ---- a command
 
   module _ (command : Command) (new : Seen) (end : Ending) (counts : NoCountFalls old new) where
@@ -316,7 +304,7 @@ module _ (start : State) (ms : List Moment) (R : IsRun 8 start ms) (old : Seen)
         IsStore (now start (own ++ ms)) new
 
     refused-tells : (status at : ℕ) → IsRefused status at old new end → is_some new.disk ≡ true
-    refused-tells status at r = (read-kept old.disk new.disk rs r.disk S.tells is-read).0
+    refused-tells status at r = resynced-tells old.disk new.disk r.disk S.tells
 
     -- the vault was not opened, and what is in doubt stays so
     abbrev closed_at : ℕ → State
@@ -333,220 +321,358 @@ module _ (start : State) (ms : List Moment) (R : IsRun 8 start ms) (old : Seen)
             inr (inl (record { doubt = D.doubt; in_doubt = D.in_doubt; stands = D.stands }))
         again image (inr (inr X)) = inr (inr (record { switching = X.switching; stands = X.stands }))
 
-    closed-on : (status at : ℕ) (why : Refusal) → IsRefused status at old new end →
+    closed-on : (at : ℕ) (why : Refusal) → IsRefused (unopened_status why) at old new end →
         Happens 8 (length (later ∷ ms)) (continued w) Reopen (Refused why) (closed_at new.disk_faults) →
         GoesOn
-    closed-on status at why r happens =
+    closed-on at why r happens =
         (let m : Moment = moment Reopen (Refused why) (closed_at new.disk_faults) in
         let run : IsRun 8 start (m ∷ later ∷ ms) = (tt, happens, run-later) in (
           m ∷ later ∷ [],
-          IsCall.unopened (continued w) (closed_at new.disk_faults) why refl r.heard,
+          IsCall.unopened (continued w) (closed_at new.disk_faults) why refl r.status_is r.heard,
           run,
           record {
             sound = run-sound start (m ∷ later ∷ []) ms S.sound run;
-            set_up = S.set_up;
-            tells = refused-tells status at r;
-            images = stands-kept status at r;
+            tells = refused-tells (unopened_status why) at r;
+            images = stands-kept (unopened_status why) at r;
             faults_are = refl;
             handed = handed-by (closed_at new.disk_faults) new.providers refl refl r.providers;
           },
         ))
 
     memory-on : (at : ℕ) → IsRefused 70 at old new end → GoesOn
-    memory-on at r = closed-on 70 at refusal.Memory r
+    memory-on at r = closed-on at refusal.Memory r
         (new.disk_faults, faults-at new.disk_faults counts.disk, refl)
 
-    -- too few providers are handed in
-    few-on : (other : List Record) → IsRead old.disk other →
-        length old.providers < (setup_in_effect other).n → IsSynced old new → IsRefused 22 0 old new end →
-        GoesOn
-    unfolding setup_in
-    few-on other read few sync r =
-        (let v : State = record (settled (continued w) rs) { disk_faults = new.disk_faults } in
-        let m : Moment = moment Reopen (Refused refusal.TooFewProviders) v in
-        let fewer : length old.providers < (setup_in_effect rs).n =
-        subst (λ l. length old.providers < (setup_in_effect l).n) (once other read) few in
-        let run : IsRun 8 start (m ∷ later ∷ ms) = (
-          tt,
-          (
-            settled (continued w) rs,
-            found.1.settles (continued w) refl refl refl refl,
-            found.1.up,
-            (let e = S.handed.count in omega (arith, e, fewer)),
-            (new.disk_faults, faults-at new.disk_faults counts.disk, refl),
-          ),
-          run-later,
-        ) in (
-          m ∷ later ∷ [],
-          IsCall.unopened (continued w) v refusal.TooFewProviders refl r.heard,
-          run,
-          record {
-            sound = run-sound start (m ∷ later ∷ []) ms S.sound run;
-            set_up = found.1.up;
-            tells = refused-tells 22 0 r;
-            images = stands-synced new.disk v sync refl refl;
-            faults_are = refl;
-            handed = handed-by v new.providers refl refl r.providers;
-          },
-        ))
-
-    unstarted-on : Unstarted old new end → GoesOn
-    unstarted-on (Unstarted.disk_fault rose r) = closed-on 12 0 refusal.DiskFault r (
+    fault-on : Rose old.disk_faults new.disk_faults → IsRefused 12 0 old new end → GoesOn
+    fault-on rose r = closed-on 0 refusal.DiskFault r (
       new.disk_faults,
       faults-at new.disk_faults counts.disk,
       subst (λ n. Rose n new.disk_faults) (sym S.faults_are) rose,
       refl,
     )
-    unstarted-on (Unstarted.not_set_up is r) = absurd
-        (read-set_up told.0 rs (subst (λ d. IsRead d rs) told.1 is-read)
-        (subst (λ d. IfSome d (λ cells. HasNoSetup (journal_read cells))) told.1 is))
-    unstarted-on (Unstarted.bad_journal at is r) =
-        absurd (let bad : (9 < length (journal_read told.0)) × IsBadStart (journal_read told.0) at =
-        subst (λ d. IfSome d (λ cells. (9 < length (journal_read cells)) ×
-        IsBadStart (journal_read cells) at)) told.1 is in
-        read-never-bad told.0 at rs (subst (λ d. IsRead d rs) told.1 is-read) bad.1)
-    unstarted-on (Unstarted.too_few_providers other read few sync r) = few-on other read few sync r
-    unstarted-on (Unstarted.no_memory r) = memory-on 0 r
 
-    -- ---- a vault that was opened
+    -- ---- nothing is set up
 
-    module _ (enough : (setup_in_effect rs).n ≤ length old.providers) where
-      abbrev opened : State
-      opened = opened_at new.disk_faults
+    module _ (N : SettledNone w (reads told.0)) where
+      none-read : (other : List Record) → IsRead old.disk other → ⊥
+      none-read other read = read-set_up told.0 other (subst (λ d. IsRead d other) told.1 read)
+          (none-looked_at told.0 N.none)
 
-      abbrev reopened : Moment
-      reopened = moment Reopen Opened opened
+      unset-on : IsSynced old new → IsRefused 9 0 old new end → GoesOn
+      unset-on sync r =
+          (let v : State = record (settled (continued w) []) { disk_faults = new.disk_faults } in
+          let m : Moment = moment Reopen (Refused refusal.NotSetUp) v in
+          let run : IsRun 8 start (m ∷ later ∷ ms) = (
+            tt,
+            (
+              settled (continued w) [],
+              N.settles (continued w) refl refl refl refl,
+              refl,
+              (new.disk_faults, faults-at new.disk_faults counts.disk, refl),
+            ),
+            run-later,
+          ) in (
+            m ∷ later ∷ [],
+            IsCall.unopened (continued w) v refusal.NotSetUp refl r.status_is r.heard,
+            run,
+            record {
+              sound = run-sound start (m ∷ later ∷ []) ms S.sound run;
+              tells = refused-tells 9 0 r;
+              images = image-of-synced told.0 new.disk (StandsInState v)
+                  (sync ∙ ap (option_map synced) told.1) (none-stands N.none);
+              faults_are = refl;
+              handed = handed-by v new.providers refl refl r.providers;
+            },
+          ))
+        where
+          none-stands : HasNoSetup (reads told.0) →
+              StandsInState (record (settled (continued w) []) { disk_faults = new.disk_faults }) (reads told.0)
+          none-stands (inl short) = inl (inr (refl, short))
+          none-stands (inr stands) = inl (inl (refl, stands))
 
-      store-opened : IsSynced old new → new.providers ≡ old.providers → IsStore opened new
-      store-opened sync same = record {
-        sound = sound-opened new.disk_faults counts.disk enough;
-        set_up = found.1.up;
-        tells = synced-tells old.disk new.disk sync S.tells;
-        images = stands-synced new.disk opened sync refl refl;
+      unset-unstarted : Unstarted old new end → GoesOn
+      unset-unstarted (Unstarted.disk_fault rose r) = fault-on rose r
+      unset-unstarted (Unstarted.not_set_up is sync r) = unset-on sync r
+      unset-unstarted (Unstarted.bad_journal at is r) =
+          absurd (let bad : (9 < length (journal_read told.0)) × IsBadStart (journal_read told.0) at =
+          subst (λ d. IfSome d (λ cells. (9 < length (journal_read cells)) ×
+          IsBadStart (journal_read cells) at)) told.1 is in
+          fresh-good (journal_read told.0) at bad.0 (none-looked_at told.0 N.none) bad.1)
+      unset-unstarted (Unstarted.too_few_providers other read few sync r) = absurd (none-read other read)
+      unset-unstarted (Unstarted.no_memory r) = memory-on 0 r
+
+      unset-alone : (kind : Kind) → AnswersAlone kind old new end → GoesOn
+      unset-alone kind (AnswersAlone.unstarted u) = unset-unstarted u
+      unset-alone kind (AnswersAlone.begun other O A) = absurd (none-read other O.read)
+
+      unset-list : AnswersList old new end → GoesOn
+      unset-list (AnswersList.unstarted u) = unset-unstarted u
+      unset-list (AnswersList.no_memory r) = memory-on 0 r
+      unset-list (AnswersList.listed other O L) = absurd (none-read other O.read)
+
+      unset-put : (name : List ℕ) → AnswersPut name old new end → GoesOn
+      unset-put name (AnswersPut.unstarted u same) = unset-unstarted u
+      unset-put name (AnswersPut.source_fault other O rose sync taken r) = absurd (none-read other O.read)
+      unset-put name (AnswersPut.no_memory taken r) = memory-on 0 r
+      unset-put name (AnswersPut.begun other bytes O read A) = absurd (none-read other O.read)
+
+    -- ---- records with a setup are read
+
+    module _ (rs : List Record) (F : Settled w (reads told.0) rs) where
+      is-read : IsRead old.disk rs
+      is-read = read-good (setup_in_effect rs) old.disk told.0 rs told.1 F.good
+
+      once : (other : List Record) → IsRead old.disk other → other ≡ rs
+      once other read = read-once told.0 other rs (subst (λ d. IsRead d other) told.1 read)
+          (subst (λ d. IsRead d rs) told.1 is-read)
+
+      -- the store in which the vault is opened over the records that were read
+      abbrev opened_at : ℕ → State
+      opened_at faults = record (settled (continued w) rs) { is_open = true; disk_faults = faults }
+
+      run-opened : (faults : ℕ) → old.disk_faults ≤ faults →
+          (setup_in_effect rs).n ≤ length old.providers →
+          IsRun 8 start (moment Reopen Opened (opened_at faults) ∷ later ∷ ms)
+      unfolding setup_in
+      run-opened faults l enough = (
+        tt,
+        (
+          settled (continued w) rs,
+          F.settles (continued w) refl refl refl refl,
+          F.up,
+          (let e = S.handed.count in omega (arith, e, enough)),
+          (faults, faults-at faults l, refl),
+        ),
+        run-later,
+      )
+
+      stands-synced : (d : Option Cells) (v : State) → d ≡ option_map synced old.disk → v.journal ≡ rs →
+          v.area ≡ areas.A → StandsForState d v
+      stands-synced d v is journal area =
+          image-of-synced told.0 d (StandsInState v) (is ∙ ap (option_map synced) told.1)
+          (inl (inl (area, subst (λ l. StandsFor (reads told.0) l) (sym journal) F.good.stands)))
+
+      sound-opened : (faults : ℕ) → old.disk_faults ≤ faults →
+          (setup_in_effect rs).n ≤ length old.providers → IsSound 8 (opened_at faults)
+      sound-opened faults l enough =
+          run-sound start (moment Reopen Opened (opened_at faults) ∷ later ∷ []) ms S.sound
+          (run-opened faults l enough)
+
+      over : (faults : ℕ) → old.disk_faults ≤ faults → (setup_in_effect rs).n ≤ length old.providers →
+          IsOpenedOver (opened_at faults) rs faults old.providers
+      over faults l enough = record {
+        records = refl;
+        whole = record { journal = refl; area = refl; unswitched = refl };
+        jobs = refl;
+        next_job = refl;
+        none_alone = refl;
+        append = refl;
+        doubt = refl;
+        is_open = refl;
+        unbarred = refl;
+        bytes = (sound-opened faults l enough).files;
         faults_are = refl;
-        handed = handed-by opened new.providers refl refl same;
+        handed = handed-by (opened_at faults) old.providers refl refl refl;
       }
 
-      opened-on : (status at : ℕ) → (end.status ≡ 14) ⊎ (end.status ≡ 70) → IsSynced old new →
-          IsRefused status at old new end → GoesOn
-      opened-on status at why sync r = (
-        reopened ∷ later ∷ [],
-        IsCall.opened (continued w) opened refl why r.heard,
-        run-opened new.disk_faults counts.disk enough,
-        store-opened sync r.providers,
-      )
+      -- too few providers are handed in
+      few-on : (other : List Record) → IsRead old.disk other →
+          length old.providers < (setup_in_effect other).n → IsSynced old new →
+          IsRefused 22 0 old new end → GoesOn
+      unfolding setup_in
+      few-on other read few sync r =
+          (let v : State = record (settled (continued w) rs) { disk_faults = new.disk_faults } in
+          let m : Moment = moment Reopen (Refused refusal.TooFewProviders) v in
+          let fewer : length old.providers < (setup_in_effect rs).n =
+          subst (λ l. length old.providers < (setup_in_effect l).n) (once other read) few in
+          let run : IsRun 8 start (m ∷ later ∷ ms) = (
+            tt,
+            (
+              settled (continued w) rs,
+              F.settles (continued w) refl refl refl refl,
+              F.up,
+              (let e = S.handed.count in omega (arith, e, fewer)),
+              (new.disk_faults, faults-at new.disk_faults counts.disk, refl),
+            ),
+            run-later,
+          ) in (
+            m ∷ later ∷ [],
+            IsCall.unopened (continued w) v refusal.TooFewProviders refl r.status_is r.heard,
+            run,
+            record {
+              sound = run-sound start (m ∷ later ∷ []) ms S.sound run;
+              tells = refused-tells 22 0 r;
+              images = stands-synced new.disk v sync refl refl;
+              faults_are = refl;
+              handed = handed-by v new.providers refl refl r.providers;
+            },
+          ))
 
-      listed-on : command ≡ ListAll → end.heard ≡ [] → IsSynced old new → new.providers ≡ old.providers →
-          GoesOn
-      listed-on is heard sync same = (
-        moment Names (Listed (files_of rs)) opened ∷ reopened ∷ later ∷ [],
-        IsCall.listed (continued w) opened opened is refl heard,
-        (tt, (refl, refl), run-opened new.disk_faults counts.disk enough),
-        store-opened sync same,
-      )
+      unstarted-on : Unstarted old new end → GoesOn
+      unstarted-on (Unstarted.disk_fault rose r) = fault-on rose r
+      unstarted-on (Unstarted.not_set_up is sync r) = absurd
+          (read-set_up told.0 rs (subst (λ d. IsRead d rs) told.1 is-read)
+          (subst (λ d. IfSome d (λ cells. HasNoSetup (journal_read cells))) told.1 is))
+      unstarted-on (Unstarted.bad_journal at is r) =
+          absurd (let bad : (9 < length (journal_read told.0)) × IsBadStart (journal_read told.0) at =
+          subst (λ d. IfSome d (λ cells. (9 < length (journal_read cells)) ×
+          IsBadStart (journal_read cells) at)) told.1 is in
+          read-never-bad told.0 at rs (subst (λ d. IsRead d rs) told.1 is-read) bad.1)
+      unstarted-on (Unstarted.too_few_providers other read few sync r) = few-on other read few sync r
+      unstarted-on (Unstarted.no_memory r) = memory-on 0 r
 
-      module _ (kind : Kind) (is_job : RunsKind command old new kind) where
-        refused-on : (status at : ℕ) (why : Refusal) → IsSpelledKind kind →
-            (refusal_over rs kind ≡ Some why) ⊎ (why ≡ refusal.Memory) → end.status ≡ status_of why →
-            IsSynced old new → IsRefused status at old new end → GoesOn
-        refused-on status at why spelled cause status_is sync r = (
-          moment (Begin kind) (Refused why) opened ∷ reopened ∷ later ∷ [],
-          IsCall.refused kind (continued w) opened opened why is_job refl status_is r.heard,
-          (spelled, (refl, by_cause cause, refl), run-opened new.disk_faults counts.disk enough),
+      -- ---- a vault that was opened
+
+      module _ (enough : (setup_in_effect rs).n ≤ length old.providers) where
+        abbrev opened : State
+        opened = opened_at new.disk_faults
+
+        abbrev reopened : Moment
+        reopened = moment Reopen Opened opened
+
+        store-opened : IsSynced old new → new.providers ≡ old.providers → IsStore opened new
+        store-opened sync same = record {
+          sound = sound-opened new.disk_faults counts.disk enough;
+          tells = synced-tells old.disk new.disk sync S.tells;
+          images = stands-synced new.disk opened sync refl refl;
+          faults_are = refl;
+          handed = handed-by opened new.providers refl refl same;
+        }
+
+        opened-on : (status at : ℕ) → (end.status ≡ 14) ⊎ (end.status ≡ 70) → IsSynced old new →
+            IsRefused status at old new end → GoesOn
+        opened-on status at why sync r = (
+          reopened ∷ later ∷ [],
+          IsCall.opened (continued w) opened refl why r.heard,
+          run-opened new.disk_faults counts.disk enough,
           store-opened sync r.providers,
         )
-          where
-            by_cause : (refusal_over rs kind ≡ Some why) ⊎ (why ≡ refusal.Memory) →
-                (begin_refusal 8 opened kind ≡ Some why) ⊎ (why ≡ refusal.Memory)
-            by_cause (inl e) = inl
-                (refusal-of opened kind refl refl refl
-                (record { journal = refl; area = refl; unswitched = refl }) ∙ e)
-            by_cause (inr e) = inr e
 
-        ended-on : (how : Answer) → IsSpelledKind kind → RunsAlone rs kind how old new end.heard →
-            EndsByAnswer (text_of (setup_in_effect rs).tolerance kind how) how old new end → GoesOn
-        unfolding setup_in
-        ended-on how spelled A by =
-            (let v : State = opened_at A.faults in
-            let two : Moment = moment Reopen Opened v in
-            let n : ℕ = length (two ∷ later ∷ ms) in
-            let V : IsOpenedOver v rs A.faults old.providers = over A.faults A.before enough in
-            let ran : RanAlone rs kind how old new end.heard A.faults v n = A.ran v n V in
-            let L = last-state v ran.last n kind how end.heard
-            (over-opened v old rs A.faults (record { read = is-read; enough = enough }) V) spelled ran.runs in
-            let c : State = ran.runs.begun in
-            let job_is : ran.runs.job ≡ 1 = ran.runs.begins.2 in
-            let three : Moment = moment (Begin kind) (Begun 1) c in
-            let begun : IsRun 8 start (three ∷ two ∷ later ∷ ms) = (
-              spelled,
-              subst (λ j. Begins 8 n v kind (Begun j) c) job_is ran.runs.begins,
-              run-opened A.faults A.before enough,
-            ) in
-            let g : GoesOnTo c (n + 1) 1 how end.heard ran.last =
-            subst (λ j. GoesOnTo c (n + 1) j how end.heard ran.last) job_is ran.runs.goes_on in
-            let at : n + 1 ≡ length (three ∷ two ∷ later ∷ ms) = omega arith in
-            let stepped : IsRun 8 start (g.steps ++ three ∷ two ∷ later ∷ ms) =
-            steps-run start c (three ∷ two ∷ later ∷ ms) g.steps refl
-            (subst (λ k. AreSteps c k 1 g.steps) at g.are_steps) begun in
-            let four : Moment = moment (Step 1) (Ended how) ran.last in
-            let ended : IsRun 8 start (four ∷ (g.steps ++ three ∷ two ∷ later ∷ ms)) = (
-              omega arith,
-              happens-at start c (three ∷ two ∷ later ∷ ms) g.steps (Step 1) (Ended how) ran.last refl
-                  (subst (λ k. Happens 8 (k + length g.steps) (now c g.steps) (Step 1)
-                  (Ended how) ran.last) at g.ends),
-              stepped,
-            ) in (
-              four ∷ (g.steps ++ three ∷ two ∷ later ∷ []),
-              IsCall.ended kind (continued w) v c ran.last g.steps how is_job
-                  (steps-go c (n + 1) g.steps g.are_steps) refl by g.heard_is,
-              subst (λ l. IsRun 8 start (four ∷ l)) (sym (append_assoc g.steps (three ∷ two ∷ later ∷ []) ms))
-                  ended,
-              record {
-                sound = L.sound;
-                set_up = L.up;
-                tells = tells-past kind how rs ran.last.records old.disk new.disk ran.past_text ∙ S.tells;
-                images = ran.images;
-                faults_are = ran.faults_are;
-                handed = ran.handed;
-              },
-            ))
+        listed-on : command ≡ ListAll → ListsFiles rs old new end → GoesOn
+        listed-on is L = (
+          moment Names (Listed (files_of rs)) opened ∷ reopened ∷ later ∷ [],
+          IsCall.listed (continued w) opened opened is refl L.written L.heard,
+          (tt, (refl, refl), run-opened new.disk_faults counts.disk enough),
+          store-opened L.disk L.providers,
+        )
 
-        -- the words of a begin are bytes, also where it is refused
-        job-on : IsSpelledKind kind → AnswersJob kind rs old new end → GoesOn
-        job-on spelled (AnswersJob.refused why is sync r) =
-            refused-on (status_of why) 0 why spelled (inl is) r.status_is sync r
-        job-on spelled (AnswersJob.no_memory sync r) =
-            refused-on 70 0 refusal.Memory spelled (inr refl) r.status_is sync r
-        job-on spelled (AnswersJob.ended how none runs left by) = ended-on how spelled runs by
+        module _ (kind : Kind) (is_job : RunsKind command old new kind) where
+          refused-on : (status at : ℕ) (why : Refusal) → IsSpelledKind kind →
+              (refusal_over rs kind ≡ Some why) ⊎ (why ≡ refusal.Memory) → end.status ≡ status_of why →
+              IsSynced old new → IsRefused status at old new end → GoesOn
+          refused-on status at why spelled cause status_is sync r = (
+            moment (Begin kind) (Refused why) opened ∷ reopened ∷ later ∷ [],
+            IsCall.refused kind (continued w) opened opened why is_job refl status_is r.heard,
+            (spelled, (refl, by_cause cause, refl), run-opened new.disk_faults counts.disk enough),
+            store-opened sync r.providers,
+          )
+            where
+              by_cause : (refusal_over rs kind ≡ Some why) ⊎ (why ≡ refusal.Memory) →
+                  (begin_refusal 8 opened kind ≡ Some why) ⊎ (why ≡ refusal.Memory)
+              by_cause (inl e) = inl
+                  (refusal-of opened kind refl refl refl
+                  (record { journal = refl; area = refl; unswitched = refl }) ∙ e)
+              by_cause (inr e) = inr e
 
-    enough-of : (other : List Record) → IsOpened old other → (setup_in_effect rs).n ≤ length old.providers
-    enough-of other O = subst (λ l. (setup_in_effect l).n ≤ length old.providers) (once other O.read) O.enough
+          ended-on : (how : Answer) → IsSpelledKind kind → RunsAlone rs kind how old new end.heard →
+              EndsByAnswer (text_of (setup_in_effect rs).tolerance kind how) how old new end → GoesOn
+          unfolding setup_in
+          ended-on how spelled A by =
+              (let v : State = opened_at A.faults in
+              let two : Moment = moment Reopen Opened v in
+              let n : ℕ = length (two ∷ later ∷ ms) in
+              let V : IsOpenedOver v rs A.faults old.providers = over A.faults A.before enough in
+              let ran : RanAlone rs kind how old new end.heard A.faults v n = A.ran v n V in
+              let L = last-state v ran.last n kind how end.heard
+              (over-opened v old rs A.faults (record { read = is-read; enough = enough }) V) spelled ran.runs in
+              let c : State = ran.runs.begun in
+              let job_is : ran.runs.job ≡ 1 = ran.runs.begins.2 in
+              let three : Moment = moment (Begin kind) (Begun 1) c in
+              let begun : IsRun 8 start (three ∷ two ∷ later ∷ ms) = (
+                spelled,
+                subst (λ j. Begins 8 n v kind (Begun j) c) job_is ran.runs.begins,
+                run-opened A.faults A.before enough,
+              ) in
+              let g : GoesOnTo c (n + 1) 1 how end.heard ran.last =
+              subst (λ j. GoesOnTo c (n + 1) j how end.heard ran.last) job_is ran.runs.goes_on in
+              let at : n + 1 ≡ length (three ∷ two ∷ later ∷ ms) = omega arith in
+              let stepped : IsRun 8 start (g.steps ++ three ∷ two ∷ later ∷ ms) =
+              steps-run start c (three ∷ two ∷ later ∷ ms) g.steps refl
+              (subst (λ k. AreSteps c k 1 g.steps) at g.are_steps) begun in
+              let four : Moment = moment (Step 1) (Ended how) ran.last in
+              let ended : IsRun 8 start (four ∷ (g.steps ++ three ∷ two ∷ later ∷ ms)) = (
+                omega arith,
+                happens-at start c (three ∷ two ∷ later ∷ ms) g.steps (Step 1) (Ended how) ran.last refl
+                    (subst (λ k. Happens 8 (k + length g.steps) (now c g.steps) (Step 1)
+                    (Ended how) ran.last) at g.ends),
+                stepped,
+              ) in (
+                four ∷ (g.steps ++ three ∷ two ∷ later ∷ []),
+                IsCall.ended kind (continued w) v c ran.last g.steps how is_job
+                    (steps-go c (n + 1) g.steps g.are_steps) refl by g.heard_is,
+                subst (λ l. IsRun 8 start (four ∷ l))
+                    (sym (append_assoc g.steps (three ∷ two ∷ later ∷ []) ms)) ended,
+                record {
+                  sound = L.sound;
+                  tells = tells-past kind how rs ran.last.records old.disk new.disk ran.past_text ∙ S.tells;
+                  images = ran.images;
+                  faults_are = ran.faults_are;
+                  handed = ran.handed;
+                },
+              ))
 
-    alone-on : (kind : Kind) → RunsKind command old new kind → IsSpelledKind kind →
-        AnswersAlone kind old new end → GoesOn
-    alone-on kind is spelled (AnswersAlone.unstarted u) = unstarted-on u
-    alone-on kind is spelled (AnswersAlone.begun other O A) =
-        job-on (enough-of other O) kind is spelled
-        (subst (λ l. AnswersJob kind l old new end) (once other O.read) A)
+          -- the words of a begin are bytes, also where it is refused
+          job-on : IsSpelledKind kind → AnswersJob kind rs old new end → GoesOn
+          job-on spelled (AnswersJob.refused why is sync r) =
+              refused-on (status_of why) 0 why spelled (inl is) r.status_is sync r
+          job-on spelled (AnswersJob.no_memory sync r) =
+              refused-on 70 0 refusal.Memory spelled (inr refl) r.status_is sync r
+          job-on spelled (AnswersJob.ended how begins runs left by) = ended-on how spelled runs by
 
-    list-on : command ≡ ListAll → AnswersList old new end → GoesOn
-    list-on is (AnswersList.unstarted u) = unstarted-on u
-    list-on is (AnswersList.no_memory r) = memory-on 0 r
-    list-on is (AnswersList.listed other O L) = listed-on (enough-of other O) is L.heard L.disk L.providers
+      enough-of : (other : List Record) → IsOpened old other → (setup_in_effect rs).n ≤ length old.providers
+      enough-of other O =
+          subst (λ l. (setup_in_effect l).n ≤ length old.providers) (once other O.read) O.enough
 
-  put-on : (name : List ℕ) (new : Seen) (end : Ending) (counts : NoCountFalls old new) →
-      IsSpelledCommand (PutUnder name) → AnswersPut name old new end → GoesOn (PutUnder name) new end counts
-  put-on name new end counts spelled (AnswersPut.unstarted u same) =
-      unstarted-on (PutUnder name) new end counts u
-  put-on name new end counts spelled (AnswersPut.source_fault other O rose sync taken r) =
-      opened-on (PutUnder name) new end counts (enough-of (PutUnder name) new end counts other O) 14 0
-      (inl r.status_is) sync r
-  put-on name new end counts spelled (AnswersPut.no_memory taken r) =
-      memory-on (PutUnder name) new end counts 0 r
-  put-on name new end counts spelled (AnswersPut.begun other bytes O read A) =
-      job-on (PutUnder name) new end counts (enough-of (PutUnder name) new end counts other O)
-      (PutJob name bytes) (bytes, read, refl) (spelled, read.are_bytes)
-      (subst (λ l. AnswersJob (PutJob name bytes) l old new end) (once other O.read) A)
+      alone-on : (kind : Kind) → RunsKind command old new kind → IsSpelledKind kind →
+          AnswersAlone kind old new end → GoesOn
+      alone-on kind is spelled (AnswersAlone.unstarted u) = unstarted-on u
+      alone-on kind is spelled (AnswersAlone.begun other O A) =
+          job-on (enough-of other O) kind is spelled
+          (subst (λ l. AnswersJob kind l old new end) (once other O.read) A)
+
+      list-on : command ≡ ListAll → AnswersList old new end → GoesOn
+      list-on is (AnswersList.unstarted u) = unstarted-on u
+      list-on is (AnswersList.no_memory r) = memory-on 0 r
+      list-on is (AnswersList.listed other O L) = listed-on (enough-of other O) is
+          (subst (λ l. ListsFiles l old new end) (once other O.read) L)
+
+      put-on : (name : List ℕ) → ((bytes : List ℕ) → ReadsUpTo (largest_file + 1) old.source new.source bytes →
+          RunsKind command old new (PutJob name bytes)) → IsSpelledCommand (PutUnder name) →
+          AnswersPut name old new end → GoesOn
+      put-on name is spelled (AnswersPut.unstarted u same) = unstarted-on u
+      put-on name is spelled (AnswersPut.source_fault other O rose sync taken r) =
+          opened-on (enough-of other O) 14 0 (inl r.status_is) sync r
+      put-on name is spelled (AnswersPut.no_memory taken r) = memory-on 0 r
+      put-on name is spelled (AnswersPut.begun other bytes O read A) =
+          job-on (enough-of other O) (PutJob name bytes) (is bytes read) (spelled, read.are_bytes)
+          (subst (λ l. AnswersJob (PutJob name bytes) l old new end) (once other O.read) A)
+
+    -- a job alone, whether a store is set up or not
+    alone-by : MaySettle w (reads told.0) → (kind : Kind) → RunsKind command old new kind →
+        IsSpelledKind kind → AnswersAlone kind old new end → GoesOn
+    alone-by (MaySettle.some rs F) kind is spelled A = alone-on rs F kind is spelled A
+    alone-by (MaySettle.none N) kind is spelled A = unset-alone N kind A
+
+    list-by : MaySettle w (reads told.0) → command ≡ ListAll → AnswersList old new end → GoesOn
+    list-by (MaySettle.some rs F) is A = list-on rs F is A
+    list-by (MaySettle.none N) is A = unset-list N A
+
+    put-by : MaySettle w (reads told.0) → (name : List ℕ) →
+        ((bytes : List ℕ) → ReadsUpTo (largest_file + 1) old.source new.source bytes →
+        RunsKind command old new (PutJob name bytes)) → IsSpelledCommand (PutUnder name) →
+        AnswersPut name old new end → GoesOn
+    put-by (MaySettle.some rs F) name is spelled A = put-on rs F name is spelled A
+    put-by (MaySettle.none N) name is spelled A = unset-put N name A
 
   -- a command over a store that a run left goes on with that run
   pub command-on : (command : Command) (new : Seen) (end : Ending) (counts : NoCountFalls old new) →
@@ -554,12 +680,14 @@ module _ (start : State) (ms : List Moment) (R : IsRun 8 start ms) (old : Seen)
       GoesOn command new end counts
   command-on (RowOf n l b seen) new end counts opens spelled A = absurd (false≢true opens)
   command-on (InitWith numbers) new end counts opens spelled A = absurd (false≢true opens)
-  command-on (PutUnder name) new end counts opens spelled A = put-on name new end counts spelled A
+  command-on (PutUnder name) new end counts opens spelled A =
+      put-by (PutUnder name) new end counts found name (λ bytes read. (bytes, read, refl)) spelled A
   command-on (GetOf name) new end counts opens spelled A =
-      alone-on (GetOf name) new end counts (GetJob name) refl spelled A.0
+      alone-by (GetOf name) new end counts found (GetJob name) refl spelled A.0
   command-on (DropOf name) new end counts opens spelled A =
-      alone-on (DropOf name) new end counts (DropJob name) refl spelled A.0
-  command-on ListAll new end counts opens spelled A = list-on ListAll new end counts refl A.0
-  command-on AuditAll new end counts opens spelled A = alone-on AuditAll new end counts AuditJob refl tt A.0
+      alone-by (DropOf name) new end counts found (DropJob name) refl spelled A.0
+  command-on ListAll new end counts opens spelled A = list-by ListAll new end counts found refl A.0
+  command-on AuditAll new end counts opens spelled A =
+      alone-by AuditAll new end counts found AuditJob refl tt A.0
   command-on RepairDue new end counts opens spelled A =
-      alone-on RepairDue new end counts RepairJob refl tt A.0
+      alone-by RepairDue new end counts found RepairJob refl tt A.0

@@ -43,7 +43,7 @@ pub unstarted-refused : (old new : Seen) (end : Ending) → Unstarted old new en
     (status : ℕ) × (at : ℕ) × ((status ≢ 0) × (status ≢ 15)) × IsRefused status at old new end
 unstarted-refused old new end (Unstarted.disk_fault rose r) =
     (12, 0, ((λ e. omega (arith, e)), (λ e. omega (arith, e))), r)
-unstarted-refused old new end (Unstarted.not_set_up is r) =
+unstarted-refused old new end (Unstarted.not_set_up is sync r) =
     (9, 0, ((λ e. omega (arith, e)), (λ e. omega (arith, e))), r)
 unstarted-refused old new end (Unstarted.bad_journal at is r) =
     (8, at, ((λ e. omega (arith, e)), (λ e. omega (arith, e))), r)

@@ -77,7 +77,7 @@ pub unstarted-known : (old new : Seen) (end : Ending) (records : List Record) �
     Unstarted old new end →
     (Rose old.disk_faults new.disk_faults × IsRefused 12 0 old new end) ⊎ IsRefused 70 0 old new end
 unstarted-known old new end records K (Unstarted.disk_fault rose r) = inl (rose, r)
-unstarted-known old new end records K (Unstarted.not_set_up is r) =
+unstarted-known old new end records K (Unstarted.not_set_up is sync r) =
     absurd (let c = is_some-at old.disk K.tells in
     read-set_up c.0 records (subst (λ d. IsRead d records) c.1 K.opened.read)
     (subst (λ d. IfSome d (λ cells. HasNoSetup (journal_read cells))) c.1 is))

@@ -29,3 +29,4 @@ pub mod PutSample
 pub mod AuditSample
 pub mod RepairSample
 pub mod InitSample
+pub mod UnsetSample

@@ -69,7 +69,7 @@ status-not status n m is also differ = differ (sym is ∙ also)
 
 unset-only : (cells : Cells) (old new : Seen) (end : Ending) → old.disk ≡ Some cells → Opening old new end →
     end.status ≡ 9 → HasNoSetup (journal_read cells)
-unset-only cells old new end tells (Opening.before (Unstarted.not_set_up is r)) nine =
+unset-only cells old new end tells (Opening.before (Unstarted.not_set_up is sync r)) nine =
     subst (λ d. IfSome d (λ c. HasNoSetup (journal_read c))) tells is
 unset-only cells old new end tells (Opening.before (Unstarted.disk_fault rose r)) nine =
     absurd (status-not end.status 12 9 r.status_is nine (λ e. omega (arith, e)))
@@ -91,7 +91,7 @@ bad-only cells old new end tells (Opening.before (Unstarted.bad_journal at is r)
     (subst (λ d. IfSome d (λ c. (9 < length (journal_read c)) × IsBadStart (journal_read c) at)) tells is)
 bad-only cells old new end tells (Opening.before (Unstarted.disk_fault rose r)) eight =
     absurd (status-not end.status 12 8 r.status_is eight (λ e. omega (arith, e)))
-bad-only cells old new end tells (Opening.before (Unstarted.not_set_up is r)) eight =
+bad-only cells old new end tells (Opening.before (Unstarted.not_set_up is sync r)) eight =
     absurd (status-not end.status 9 8 r.status_is eight (λ e. omega (arith, e)))
 bad-only cells old new end tells (Opening.before (Unstarted.too_few_providers records read few synced r)) eight =
     absurd (status-not end.status 22 8 r.status_is eight (λ e. omega (arith, e)))
@@ -108,7 +108,7 @@ few-only old new end (Opening.before (Unstarted.too_few_providers records read f
     (records, read, few)
 few-only old new end (Opening.before (Unstarted.disk_fault rose r)) is =
     absurd (status-not end.status 12 22 r.status_is is (λ e. omega (arith, e)))
-few-only old new end (Opening.before (Unstarted.not_set_up fresh r)) is =
+few-only old new end (Opening.before (Unstarted.not_set_up fresh sync r)) is =
     absurd (status-not end.status 9 22 r.status_is is (λ e. omega (arith, e)))
 few-only old new end (Opening.before (Unstarted.bad_journal at bad r)) is =
     absurd (status-not end.status 8 22 r.status_is is (λ e. omega (arith, e)))
@@ -128,7 +128,7 @@ module _ (cells : Cells) (old new : Seen) (end : Ending) (tells : old.disk ≡ S
 
   unset-always : HasNoSetup (journal_read cells) → Opening old new end → (end.status ≡ 9) ⊎ (end.status ≡ 70)
   unset-always fresh (Opening.before (Unstarted.disk_fault rose r)) = absurd (calm rose)
-  unset-always fresh (Opening.before (Unstarted.not_set_up is r)) = inl r.status_is
+  unset-always fresh (Opening.before (Unstarted.not_set_up is sync r)) = inl r.status_is
   unset-always fresh (Opening.before (Unstarted.bad_journal at is r)) =
       absurd (let bad : (9 < length (journal_read cells)) × IsBadStart (journal_read cells) at =
       subst (λ d. IfSome d (λ c. (9 < length (journal_read c)) × IsBadStart (journal_read c) at)) tells
@@ -144,7 +144,7 @@ module _ (cells : Cells) (old new : Seen) (end : Ending) (tells : old.disk ≡ S
   bad-always : (at : ℕ) → 9 < length (journal_read cells) → IsBadStart (journal_read cells) at →
       Opening old new end → ((end.status ≡ 8) × (end.at ≡ at)) ⊎ (end.status ≡ 70)
   bad-always at long bad (Opening.before (Unstarted.disk_fault rose r)) = absurd (calm rose)
-  bad-always at long bad (Opening.before (Unstarted.not_set_up is r)) =
+  bad-always at long bad (Opening.before (Unstarted.not_set_up is sync r)) =
       absurd (fresh-good (journal_read cells) at long
       (subst (λ d. IfSome d (λ c. HasNoSetup (journal_read c))) tells is) bad)
   bad-always at long bad (Opening.before (Unstarted.bad_journal other is r)) =
@@ -163,7 +163,7 @@ module _ (cells : Cells) (old new : Seen) (end : Ending) (tells : old.disk ≡ S
       length old.providers < (setup_in_effect records).n → Opening old new end →
       (end.status ≡ 22) ⊎ (end.status ≡ 70)
   few-always records read few (Opening.before (Unstarted.disk_fault rose r)) = absurd (calm rose)
-  few-always records read few (Opening.before (Unstarted.not_set_up is r)) =
+  few-always records read few (Opening.before (Unstarted.not_set_up is sync r)) =
       absurd (read-set_up cells records (told-read records read)
       (subst (λ d. IfSome d (λ c. HasNoSetup (journal_read c))) tells is))
   few-always records read few (Opening.before (Unstarted.bad_journal at is r)) =

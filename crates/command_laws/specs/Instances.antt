@@ -13,7 +13,8 @@
 --   small_numbers, key_text, key_devices, ready_store
 --                                                  == the numbers of an init, its key, devices before it and
 --                                                     after it
---   empty_devices                                  == devices whose disk reads nothing
+--   empty_devices, failed_devices                  == devices whose disk reads nothing, and the same when one
+--                                                     call of the disk failed
 --   with_sink s bytes                              == what is seen, with these bytes in the sink
 --   ends status                                    == an end that heard nothing
 --   get_held, get_other                            == two calls over the store: of its file, and of a name
@@ -67,6 +68,10 @@ store records = record {
 -- devices whose disk reads nothing
 abbrev pub empty_devices : Seen
 empty_devices = record (store []) { disk = Some [] }
+
+-- the same when a call of the disk failed
+abbrev pub failed_devices : Seen
+failed_devices = record empty_devices { disk_faults = 1 }
 
 -- the name of the file
 abbrev pub held_name : List ℕ

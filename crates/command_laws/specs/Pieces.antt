@@ -1,8 +1,9 @@
 -- Commands as pieces of one run of the machine. Moments and calls have the newest first.
 --
---   IsStore w s                      == a sound state of a store that is set up stands for what is seen of
---                                       disk and providers
+--   IsStore w s                      == a sound state stands for what is seen of disk and providers; its store
+--                                       may be set up, or not, or a setup may be in doubt
 --   IsSpelledCommand command         == the name in the command's words is of bytes
+--   unopened_status why              == the status that tells why no vault was opened
 --   IsCall command old new end w own == these moments are what the machine makes of a command: a later call
 --                                       of the program, a reopening, and where that opened, the begin of its
 --                                       job with its steps, or a list of names; from this state on
@@ -24,7 +25,7 @@ use Rattle.machine_defs.specs.Answers.{Answer}
 use Rattle.machine_defs.specs.Events.{Event, Begin, Step, Alter, Lose, Stop, Reopen, Names, Continue, Outcome, Refused, Opened, Begun, Ended, Listed, Continued, IsSpelled, AreBytes}
 use Rattle.machine_defs.specs.Heard.{heard_by}
 use Rattle.machine_defs.specs.Jobs.{Kind, job_of}
-use Rattle.machine_defs.specs.Openings.{IsSetUp}
+use Rattle.machine_defs.specs.Refusals as refusal
 use Rattle.machine_defs.specs.Refusals.{Refusal}
 use Rattle.machine_defs.specs.Runs.{Moment, now}
 use Rattle.machine_defs.specs.Stands.{StandsForState}
@@ -33,19 +34,19 @@ use Rattle.machine_defs.specs.Transcripts.{GoOn}
 use Rattle.record_defs.specs.Table.{files_of}
 use Rattle.state_laws.specs.Sound.{IsSound}
 use Rattle.command_defs.specs.Forms.{Command, PutUnder, GetOf, DropOf, ListAll}
-use Rattle.command_defs.specs.Seen.{Seen, Ending, NoCountFalls}
+use Rattle.command_defs.specs.Seen.{Seen, Ending, NoCountFalls, sinking}
+use Rattle.command_defs.specs.Sinking.{WritesLine}
 use Rattle.opening_defs.specs.Opened.{AreHanded}
 use Rattle.command_defs.specs.Jobs.{EndsByAnswer}
-use Rattle.command_defs.specs.Lines.{text_of}
+use Rattle.command_defs.specs.Lines.{text_of, list_lines}
 use Rattle.command_defs.specs.Refusals.{status_of}
 use Rattle.command_defs.specs.Commands.{Answers}
 use Rattle.command_laws.specs.Ends.{RunsKind, opens_store}
 
--- a sound state of a store that is set up stands for what is seen: each image of the disk for its records,
--- or for these with the one in doubt, and the providers are its own
+-- a sound state stands for what is seen: each image of the disk for its records, or for these with the one
+-- in doubt, or it is too short for any where there are none; and the providers are its own
 pub record IsStore (w : State) (s : Seen) : Type 0 where
   pub sound : IsSound 8 w
-  pub set_up : IsSetUp w
   pub tells : is_some s.disk ≡ true
   pub images : StandsForState s.disk w
   pub faults_are : w.disk_faults ≡ s.disk_faults
@@ -62,14 +63,21 @@ IsSpelledCommand command = Unit {0}
 abbrev pub moment : Event → Outcome → State → Moment
 moment event outcome w = record { event = event; outcome = outcome; state = w }
 
--- what the machine makes of a command from this state on: its store is not opened; it is opened, and no
--- more came of it; the begin of its job is refused; the names are listed; or its job began and went on to
--- its end
+-- the status that tells why no vault was opened
+abbrev pub unopened_status : Refusal → ℕ
+unopened_status refusal.NotSetUp = 9
+unopened_status refusal.DiskFault = 12
+unopened_status refusal.TooFewProviders = 22
+unopened_status why = 70
+
+-- what the machine makes of a command from this state on: its store is not opened, for the reason that the
+-- status tells; it is opened, and no more came of it; the begin of its job is refused; the names are listed,
+-- and the files in effect written; or its job began and went on to its end
 pub data IsCall (command : Command) (old new : Seen) (end : Ending) (w : State)
     (own : List Moment) : Type 0 where
   unopened : (a b : State) (why : Refusal)
-      → own ≡ moment Reopen (Refused why) b ∷ moment Continue Continued a ∷ [] → end.heard ≡ [] →
-      IsCall command old new end w own
+      → own ≡ moment Reopen (Refused why) b ∷ moment Continue Continued a ∷ []
+      → end.status ≡ unopened_status why → end.heard ≡ [] → IsCall command old new end w own
   opened : (a b : State) → own ≡ moment Reopen Opened b ∷ moment Continue Continued a ∷ []
       → (end.status ≡ 14) ⊎ (end.status ≡ 70) → end.heard ≡ [] →
       IsCall command old new end w own
@@ -78,7 +86,8 @@ pub data IsCall (command : Command) (old new : Seen) (end : Ending) (w : State)
       end.status ≡ status_of why → end.heard ≡ [] → IsCall command old new end w own
   listed : (a b c : State) → command ≡ ListAll →
       own ≡ moment Names (Listed (files_of b.records)) c ∷ moment Reopen Opened b
-      ∷ moment Continue Continued a ∷ [] → end.heard ≡ [] →
+      ∷ moment Continue Continued a ∷ [] →
+      WritesLine (list_lines (files_of b.records)) end.status (sinking old new) → end.heard ≡ [] →
       IsCall command old new end w own
   ended : (kind : Kind) (a b c d : State) (steps : List Moment) (answer : Answer)
       → RunsKind command old new kind → GoOn 1 steps →

@@ -1,7 +1,9 @@
 //! Concrete values that meet what the laws suppose of a store, its file and commands over it: these laws are
 //! not empty.
-ghost use Rattle.std.specs.Prelude.{◌≤◌, false, [], ◌∷◌};
+ghost use Rattle.std.specs.Prelude.{◌≡◌, ◌≤◌, false, [], ◌∷◌, Some, None};
+ghost use Rattle.record_defs.specs.Records.{SetUp};
 ghost use Rattle.record_defs.specs.Table.{files_of};
+ghost use Rattle.machine_defs.specs.Openings.{IsNotSetUp};
 ghost use Rattle.machine_defs.specs.States.{State};
 ghost use Rattle.command_defs.specs.Forms.{InitWith, PutUnder, GetOf, ListAll, AuditAll, RepairDue, RowOf};
 ghost use Rattle.command_defs.specs.Lines.{list_lines};
@@ -12,11 +14,12 @@ ghost use Rattle.job_laws.specs.Failing.{bad_seen};
 ghost use Rattle.command_laws.specs.After.{IsSure, Follows, HasRightFile, IsUntouched, IsSteady, IsFaultless};
 ghost use Rattle.command_laws.specs.Opened.{IsKeyed};
 ghost use Rattle.command_laws.specs.Pieces.{IsStore, IsLater, IsChain};
-ghost use Rattle.command_laws.specs.Instances.{store, small_setup, small_numbers, key_devices, ready_store, put_store, held_name, held_file, other_name, set_up_records, held_records, due_records, audited_store, repaired_store, empty_devices, with_sink, ends, get_held, get_other};
+ghost use Rattle.command_laws.specs.Instances.{store, small_setup, small_numbers, key_devices, ready_store, put_store, held_name, held_file, other_name, set_up_records, held_records, due_records, audited_store, repaired_store, empty_devices, failed_devices, with_sink, ends, get_held, get_other};
 
 /// A store that was set up, one with one empty file, and one with a repair due are known, in each image of
 /// the disk. The file is right on all providers, none of which is wrong or failed; the next command finds it
-/// so; and a state of the abstract client stands for the store.
+/// so; and a state of the abstract client stands for the store, as one does for a disk on which nothing is set
+/// up, and for one of which an init failed, whose setup is in doubt.
 pub fn there_are_known_stores()
     ensures set_up { IsSure (store set_up_records) set_up_records }
     ensures sure { IsSure (store held_records) held_records }
@@ -32,6 +35,9 @@ pub fn there_are_known_stores()
     ensures untouched { IsUntouched 4 (λ j. false) (store held_records) (store held_records)
         × IsSteady 4 (λ j. false) (store held_records) (store held_records) }
     ensures state { (w : State) × IsStore w (store held_records) }
+    ensures unset { (w : State) × IsStore w empty_devices × IsNotSetUp w }
+    ensures doubtful { (w : State) × IsStore w failed_devices × IsNotSetUp w
+        × (w.doubt ≡ Some (record { entry = SetUp small_setup; maker = None })) }
 {}
 
 /// An init with a key sets up an empty disk. Over a store that was set up a put of the empty file is done,

@@ -5,7 +5,7 @@ use Rattle.command_defs.specs.Seen.{Seen, Ending, KeepsDisk, IsSynced}
 use Rattle.command_defs.specs.Opens.{setup_in_effect, Unstarted, disk_fault, not_set_up, bad_journal, too_few_providers, no_memory}
 use Rattle.command_jobs.specs.declared.open.Unopened.{Unopened}
 use Rattle.command_jobs.specs.declared.open.Unopened.TheVariants as unopened
-use Rattle.command_jobs.specs.Opened.{IsUnopened}
+use Rattle.command_jobs.specs.Opened.{IsUnopened, LiesInStore}
 use Rattle.hail_top.specs.Telling.{unopened_ending}
 use Rattle.hail_top.proofs.Refused.{refused-told}
 
@@ -13,17 +13,17 @@ use Rattle.hail_top.proofs.Refused.{refused-told}
 pub unopened-told : (old new : Seen) (end : Ending) (why : Unopened) (handed : ℕ) →
     end ≡ unopened_ending why → handed ≡ length old.providers
     → IsUnopened old.disk handed why → KeepsDisk old new →
-    (why ≡ unopened.TooFewProviders → IsSynced old new) →
+    (LiesInStore why → IsSynced old new) →
     (why ≡ unopened.DiskFault → Rose old.disk_faults new.disk_faults)
     → new.providers ≡ old.providers → new.sink ≡ old.sink → Unstarted old new end
 unopened-told old new end unopened.DiskFault handed is as_many cause kept synced rose same silent =
     disk_fault (rose refl) (refused-told 12 0 old new end is kept same silent)
 unopened-told old new end unopened.NotSetUp handed is as_many cause kept synced rose same silent =
-    not_set_up cause (refused-told 9 0 old new end is kept same silent)
+    not_set_up cause (synced tt) (refused-told 9 0 old new end is kept same silent)
 unopened-told old new end (unopened.BadJournal at) handed is as_many cause kept synced rose same silent =
     bad_journal at cause (refused-told 8 at old new end is kept same silent)
 unopened-told old new end unopened.TooFewProviders handed is as_many cause kept synced rose same silent =
     too_few_providers cause.0 cause.1 (subst (λ (n : ℕ). n < (setup_in_effect cause.0).n) as_many cause.2)
-    (synced refl) (refused-told 22 0 old new end is kept same silent)
+    (synced tt) (refused-told 22 0 old new end is kept same silent)
 unopened-told old new end unopened.Memory handed is as_many cause kept synced rose same silent =
     no_memory (refused-told 70 0 old new end is kept same silent)

@@ -1,8 +1,11 @@
-use Rattle.std.proofs.Common.{◌<◌, ◌≤◌, ap, arith}
+use Rattle.std.proofs.Common.{◌≡◌, ◌<◌, ◌≤◌, ap, arith}
+use Rattle.std.specs.Option.{option_map}
+use Rattle.device_defs.specs.Disks.{synced}
 use Rattle.command_defs.specs.Opens.{setup_in_effect}
 use Rattle.record_codec.specs.declared.setup.Setup.{Setup}
-use Rattle.command_jobs.specs.Opened.{IsUnopened, unopened_of}
-use Rattle.command_jobs.proofs.Readings.{fault-seen, reads-resynced, told-by}
+use Rattle.command_jobs.specs.Opened.{IsUnopened, LiesInStore, unopened_of}
+use Rattle.command_jobs.specs.declared.open.Unopened.{Unopened}
+use Rattle.command_jobs.proofs.Readings.{fault-seen, lies-read, reads-resynced, told-by}
 use Rattle.command_jobs.proofs.Fresh.{fresh-vault}
 use Rattle.command_jobs.proofs.open.open_vault.Goals as goal
 
@@ -12,6 +15,14 @@ returns-in_err-vault-clause-refused g c = told-by c.from_residual.result
     c.from_residual.ensures.1
     (fault-seen (g.D.Disk.holds c.args.disk.now) c.args.handed c.in_err-vault.field-0.0
     c.in_err-vault.ensures.refused)
+
+pub returns-in_err-vault-clause-resynced : goal.returns-in_err-vault-clause-resynced
+returns-in_err-vault-clause-resynced g c = told-by c.from_residual.result
+    (unopened_of c.in_err-vault.field-0.0)
+    (λ (why : Unopened). LiesInStore why →
+    g.D.Disk.holds c.start.new.disk ≡ option_map synced (g.D.Disk.holds c.args.disk.now))
+    c.from_residual.ensures.1
+    (λ lies. c.in_err-vault.ensures.resynced (lies-read c.in_err-vault.field-0.0 lies))
 
 pub returns-in_err-vault-clause-reads : goal.returns-in_err-vault-clause-reads
 returns-in_err-vault-clause-reads g c =

@@ -3,6 +3,7 @@ use Rattle.command_laws.specs.Instances.{store, held_records}
 use Rattle.command_laws.proofs.Between.{sure-store}
 use Rattle.command_laws.proofs.Samples.{never-rises, never-seen, set_up-sure, held-sure, held-file, none-bad}
 use Rattle.command_laws.proofs.RepairSample.{due-sure}
+use Rattle.command_laws.proofs.UnsetSample.{unset, unset-store, doubtful, doubtful-store}
 use Rattle.command_laws.proofs.instances.there_are_known_stores.Goals as goal
 
 pub returns-clause-set_up : goal.returns-clause-set_up
@@ -19,6 +20,12 @@ returns-clause-none_bad c = none-bad
 
 pub returns-clause-state : goal.returns-clause-state
 returns-clause-state c = sure-store (store held_records) held_records held-sure
+
+pub returns-clause-unset : goal.returns-clause-unset
+returns-clause-unset c = (unset, unset-store, refl)
+
+pub returns-clause-doubtful : goal.returns-clause-doubtful
+returns-clause-doubtful c = (doubtful, doubtful-store, refl, refl)
 
 pub returns-clause-due : goal.returns-clause-due
 returns-clause-due c = due-sure

@@ -39,5 +39,5 @@ returns-in-Err-clause-answers g c left count =
     let see = provider_seen g.P.Provider in
     unstarted (unopened-told _ _ _ c.in-Err.why (length c.args.providers.now) c.unopened.ensures
     (sym (length-map c.args.providers.now see)) c.in-Err.ensures.refused c.in-Err.ensures.disk
-    (λ few. c.in-Err.ensures.few (ap (λ (w : Unopened). Err w) few))
+    c.in-Err.ensures.resynced
     (λ same. c.in-Err.ensures.cause.rose (ap (λ (w : Unopened). Err w) same)) refl refl)

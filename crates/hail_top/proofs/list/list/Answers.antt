@@ -20,5 +20,5 @@ pub returns-in-Err-clause-answers : goal.returns-in-Err-clause-answers
 returns-in-Err-clause-answers g c providers left count handed =
     unstarted (unopened-told _ _ _ c.in-Err.why c.args.handed c.unopened.ensures
     (sym handed) c.in-Err.ensures.refused c.in-Err.ensures.disk
-    (λ few. c.in-Err.ensures.few (ap (λ (w : Unopened). Err w) few))
+    c.in-Err.ensures.resynced
     (λ same. c.in-Err.ensures.cause.rose (ap (λ (w : Unopened). Err w) same)) refl refl)
