@@ -283,7 +283,7 @@ trial-told number start before commands expected text counts heard d status sink
     })
 
 -- the state of a later call has the same devices
-continued-devices : (d : Devices) (w : State) → AreDevices d w → AreDevices d (continued w)
+pub continued-devices : (d : Devices) (w : State) → AreDevices d w → AreDevices d (continued w)
 continued-devices d w A = record {
   images = same-images d.holds w (continued w) refl refl refl refl A.images;
   faults = A.faults;

@@ -10,3 +10,4 @@ pub mod Replayed
 pub mod Trials
 pub mod Forms
 pub mod Answers
+pub mod Examples

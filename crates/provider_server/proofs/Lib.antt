@@ -1,1 +1,2 @@
 pub mod OneServed
+pub mod EndsWell
