@@ -1,11 +1,12 @@
 //! What holds of every client, and of the runs that its calls make.
-ghost use Rattle.std.specs.Prelude.{◌≡◌, ◌≤◌, ℕ, List, [], ◌∷◌, Option, Some, None, codes, length};
+ghost use Rattle.std.specs.Prelude.{◌≡◌, ◌≤◌, ℕ, List, [], ◌∷◌, Option, Some, None, IsTrue, codes, length};
 ghost use Rattle.device_defs.specs.Cells.{Cells};
 ghost use Rattle.device_defs.specs.Images.{EachImage};
-ghost use Rattle.record_defs.specs.Records.{Record};
+ghost use Rattle.record_codec.specs.Entries.{with_master};
+ghost use Rattle.record_defs.specs.Records.{Record, is_master};
 ghost use Rattle.record_defs.specs.Table.{File};
 ghost use Rattle.record_defs.specs.Areas.{A};
-ghost use Rattle.machine_defs.specs.Events.{Event, Outcome};
+ghost use Rattle.machine_defs.specs.Events.{Event, Init, Outcome, IsSpelled};
 ghost use Rattle.machine_defs.specs.Runs.{Moment, now};
 ghost use Rattle.machine_defs.specs.Halves.{AllTell};
 ghost use Rattle.machine_defs.specs.Stands.{IsFresh, StandsForState};
@@ -19,6 +20,9 @@ ghost use Rattle.hail_client.specs.Examples.{closed_client, fresh, hidden, store
 ghost use Rattle.hail_client.specs.Start.{start_of, TellAll};
 ghost use Rattle.hail_client.specs.Stands.{ClientStands, MakesEvent, IsReached, ImageHasFile, moment_of};
 
+use key_schedule::Master;
+use record_codec::Setup;
+
 /// The devices of a client are those of each state that it stands for, which is sound; no more providers are
 /// used than are handed in, and the numbers of jobs are the same.
 pub fn what_a_client_stands_for()
@@ -30,12 +34,40 @@ pub fn what_a_client_stands_for()
         → w.next_job ≡ client_next_job c }
 {}
 
+/// A key is one of the grammar.
+fn key_is_spelled(key: &[u8])
+    requires { length key.now ≡ 32 }
+    ensures { IsTrue (is_master key.now) }
+{}
+
+/// The numbers of a setup and its key fit their types: an init with them is an event that a schedule can have.
+pub fn setups_are_spelled(setup: Setup, master: &Master)
+    ensures { IsSpelled (Init (with_master setup master.now.0)) }
+{
+    let Setup {
+        n: _,
+        l: _,
+        b: _,
+        profile: _,
+        rounds: _,
+        picks: _,
+        tolerance: _,
+    } = setup;
+    key_is_spelled(&master.0);
+}
+
 /// Each image of the disk of a client stands for records that have every file which is kept: in effect, also
 /// with the record in doubt added.
 pub fn images_have_the_files()
     ensures { (c : Client) (d : Devices) (w : State) (name : List ℕ) (file : File) → ClientStands c d w
         → IsKept w name file →
         EachImage d.holds (ImageHasFile name file) }
+{}
+
+/// So does each image of devices that are those of a sound state, whoever called them.
+pub fn images_of_devices()
+    ensures { (d : Devices) (w : State) (name : List ℕ) (file : File) → AreDevices d w → IsSound 8 w
+        → IsKept w name file → EachImage d.holds (ImageHasFile name file) }
 {}
 
 /// A disk before its first use stands for each state whose journal, in the first area, is of the records that
@@ -90,6 +122,7 @@ pub fn a_fresh_disk_has_a_start()
 /// file is kept, so each image of the disk has it.
 pub fn a_stored_file_is_kept()
     ensures stands { ClientStands closed_client stored stored_state }
+    ensures devices { AreDevices stored stored_state × IsSound 8 stored_state }
     ensures kept { IsKept stored_state (codes "notes.txt") notes }
     ensures images { EachImage stored.holds (ImageHasFile (codes "notes.txt") notes) }
 {}

@@ -1,12 +1,12 @@
-ghost use Rattle.std.specs.Prelude.{◌≡◌, ◌↔◌, ℕ, true, false, List, Err, IsSome, IsTrue, IfSome, IfErr, OnOk, OnErr, IsErrOf, is_ok, is_some, length};
+ghost use Rattle.std.specs.Prelude.{◌≡◌, ◌↔◌, ℕ, true, false, List, Err, IsSome, IfSome, IfErr, OnOk, OnErr, IsErrOf, is_ok, is_some, length};
 ghost use Rattle.std.specs.Option.{option_map};
 ghost use Rattle.device_defs.specs.Disks.{synced};
 ghost use Rattle.device_defs.specs.Faults.{HasCause};
 ghost use Rattle.device_defs.specs.Images.{EachImage};
 ghost use Rattle.device_defs.specs.Providers.{Provider};
 ghost use Rattle.device_defs.specs.Told.{Goes};
-ghost use Rattle.machine_defs.specs.Events.{Init, Reopen, Stop, Stopped, IsSpelled};
-ghost use Rattle.record_defs.specs.Records.{is_master, is_setup};
+ghost use Rattle.machine_defs.specs.Events.{Init, Reopen, Stop, Stopped};
+ghost use Rattle.record_defs.specs.Records.{is_setup};
 ghost use Rattle.machine_defs.specs.States.{State};
 ghost use Rattle.record_codec.specs.Entries.{with_master};
 ghost use Rattle.vault_open.specs.Devices.{devices};
@@ -24,33 +24,12 @@ ghost use Rattle.hail_client.specs.Stands.{ClientStands, MakesEvent, IsMadeAnew,
 use crate::begin::bytes_are_bytes;
 use crate::client::Client;
 use crate::fault::ReopenFault;
+use crate::laws::setups_are_spelled;
 use disk_model::Disk;
 use key_schedule::Master;
 use record_codec::Setup;
 use std::alloc::Global;
 use vault::{InitFault, Vault, init};
-
-/// A key is one of the grammar.
-fn key_is_spelled(key: &[u8])
-    requires { length key.now ≡ 32 }
-    ensures { IsTrue (is_master key.now) }
-{}
-
-/// The numbers of a setup and its key are spelled.
-fn setup_is_spelled(setup: Setup, master: &Master)
-    ensures { IsSpelled (Init (with_master setup master.now.0)) }
-{
-    let Setup {
-        n: _,
-        l: _,
-        b: _,
-        profile: _,
-        rounds: _,
-        picks: _,
-        tolerance: _,
-    } = setup;
-    key_is_spelled(&master.0);
-}
 
 impl Client {
     /// Sets a store up on a disk; refused where a vault is open, with the disk left alone.
@@ -86,7 +65,7 @@ impl Client {
         ensures cause { HasCause (D.faults disk.old) (D.faults disk.new)
             (IsErrOf result init_fault.DiskFault) }
     {
-        setup_is_spelled(*setup, master);
+        setups_are_spelled(*setup, master);
         if self.vault.is_some() {
             return Err(InitFault::Already);
         }

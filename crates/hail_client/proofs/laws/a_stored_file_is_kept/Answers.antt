@@ -7,6 +7,7 @@ use Rattle.hail_client.proofs.laws.a_stored_file_is_kept.Goals as goal
 pub returns : goal.returns
 returns c = record {
   stands = stored-stands;
+  devices = (stored-stands.devices, stored-stands.sound);
   kept = stored-kept;
   images = images-have stored.holds stored_state (codes "notes.txt") notes stored-stands.sound
       stored-stands.devices.images stored-kept;
