@@ -5,6 +5,7 @@ mod AnswerLaws
 mod Refused
 mod SetUpEnds
 mod SetUpReads
+mod InitRuns
 mod AnswerTexts
 mod JobEnds
 mod Unopened

@@ -11,7 +11,9 @@ use Rattle.provider_server.specs.Answers.{AnswersServe}
 use Rattle.hail_top.specs.Answered.{AnswersWords}
 use Rattle.hail_top.specs.Carried.{AnswersForm}
 use Rattle.hail_top.specs.Endings.{ending_with}
+use Rattle.hail_top.specs.InitRuns.{InitsOn}
 use Rattle.hail_top.proofs.Answered.{no_memory-told}
+use Rattle.hail_top.proofs.InitRuns.{inits-same}
 use Rattle.hail_top.proofs.Carried.{form-keeps, unstarted-form}
 use Rattle.hail_top.proofs.FormWords.{answered-form, no-form}
 use Rattle.hail_top.proofs.ServeWords.{form-serves-none, no-serve, unstarted-serve}
@@ -19,10 +21,12 @@ use Rattle.hail_top.proofs.ServeWords.{form-serves-none, no-serve, unstarted-ser
 -- words that spell one command are answered as it is
 pub command-words : (words : List (String Global)) (command : Command) (old new : Seen) (end : Ending) →
     IsForm words command → ((other : Command) → IsForm words other → command ≡ other)
-    → Answers command old new end → NoCountFalls old new → AnswersWords words old new end
-command-words words command old new end is once a counts = record {
+    → Answers command old new end → InitsOn command old new end → NoCountFalls old new →
+    AnswersWords words old new end
+command-words words command old new end is once a inits counts = record {
   usage = λ none no_form no_serve. absurd (none command is);
   answers = λ other spelled. subst (λ (c : Command). Answers c old new end) (once other spelled) a;
+  inits = λ other spelled. subst (λ (c : Command). InitsOn c old new end) (once other spelled) inits;
   carries = λ form spelled. absurd (no-form words command form is spelled);
   serves = λ number spelled. absurd (no-serve words command number is spelled);
   headline = λ form spelled. absurd (no-form words command form is spelled);
@@ -36,6 +40,7 @@ pub form-words : (words : List (String Global)) (form : Form) (old new : Seen) (
 form-words words form old new end none is a counts = record {
   usage = λ no_command no_form no_serve. absurd (no_form form is);
   answers = λ command spelled. absurd (none command spelled);
+  inits = λ command spelled. absurd (none command spelled);
   carries = λ other spelled. answered-form words form other old new end is a spelled;
   serves = λ number spelled. absurd (form-serves-none words form number is spelled);
   headline = λ other spelled.
@@ -52,6 +57,7 @@ pub other-words : (words : List (String Global)) (old new : Seen) (end : Ending)
 other-words words old new end none no_form usage serves counts = record {
   usage = λ no_command no_other no_serve. usage no_serve;
   answers = λ command spelled. absurd (none command spelled);
+  inits = λ command spelled. absurd (none command spelled);
   carries = λ form spelled. absurd (no_form form spelled);
   serves = serves;
   headline = λ form spelled. absurd (no_form form spelled);
@@ -85,6 +91,7 @@ unread-words words same end is = record {
     };
   };
   answers = λ command spelled. no_memory-told command same end is;
+  inits = λ command spelled. inits-same command same end;
   carries = λ form spelled. unstarted-form form same end is;
   serves = λ number spelled. unstarted-serve number same end is;
   headline = λ form spelled. form-keeps form same same end (unstarted-form form same end is);

@@ -8,6 +8,7 @@ ghost use Rattle.record_codec.specs.Entries.{with_master};
 ghost use Rattle.command_defs.specs.Inits.{AnswersInit, InitsDisk};
 ghost use Rattle.command_words.specs.Commands.{numbers_of};
 ghost use Rattle.hail_top.specs.Endings.{ending_of};
+ghost use Rattle.hail_top.specs.InitRuns.{InitGoesOn, InitsDevices};
 ghost use Rattle.hail_top.specs.SetUps.{IsSetupFor, init_ending};
 
 use crate::reading::read_up_to;
@@ -19,6 +20,7 @@ use crate::report::{
 use command_lines::{ready_line, write_text};
 use command_words::{Numbers, read_key, read_setup};
 use disk_model::Disk;
+use hail_client::laws::setups_are_spelled;
 use key_schedule::Master;
 use record_codec::Setup;
 use std::alloc::Global;
@@ -55,10 +57,18 @@ fn set_up_disk<D: Disk, K: Sink>(
         (K.faults sink.old))
         (seen (D.holds disk.new) (D.faults disk.new) providers left' read_faults' (K.written sink.new)
         (K.faults sink.new)) (ending_of result) }
+    ensures goes_on { (providers : List Provider) (left left' : Option (List ℕ))
+        (read_faults read_faults' : ℕ)
+        → InitGoesOn (with_master setup.now master.now.0)
+        (seen (D.holds disk.old) (D.faults disk.old) providers left read_faults (K.written sink.old)
+        (K.faults sink.old))
+        (seen (D.holds disk.new) (D.faults disk.new) providers left' read_faults' (K.written sink.new)
+        (K.faults sink.new)) (ending_of result) }
     ensures tells { is_some (D.holds disk.new) ≡ is_some (D.holds disk.old) }
     ensures disk_count { D.faults disk.old ≤ D.faults disk.new }
     ensures sink_count { K.faults sink.old ≤ K.faults sink.new }
 {
+    setups_are_spelled(*setup, master);
     match init(alloc, disk, master, setup) {
         Ok(()) => Report::of(write_text(ready_line(), sink)),
         Err(fault) => not_set_up(fault),
@@ -77,6 +87,13 @@ fn set_up_with<D: Disk, K: Sink>(
         (read_faults read_faults' : ℕ)
         → IsSetupFor setup.now numbers (length providers) → ReadsUpTo longest_key left left' text.now
         → AnswersInit numbers
+        (seen (D.holds disk.old) (D.faults disk.old) providers left read_faults (K.written sink.old)
+        (K.faults sink.old))
+        (seen (D.holds disk.new) (D.faults disk.new) providers left' read_faults' (K.written sink.new)
+        (K.faults sink.new)) (ending_of result) }
+    ensures goes_on { (numbers : SevenNumbers) (providers : List Provider) (left left' : Option (List ℕ))
+        (read_faults read_faults' : ℕ)
+        → IsSetupFor setup.now numbers (length providers) → InitsDevices numbers
         (seen (D.holds disk.old) (D.faults disk.old) providers left read_faults (K.written sink.old)
         (K.faults sink.old))
         (seen (D.holds disk.new) (D.faults disk.new) providers left' read_faults' (K.written sink.new)
@@ -106,6 +123,13 @@ fn set_up_read<D: Disk, S: Source, K: Sink>(
         (seen (D.holds disk.new) (D.faults disk.new) providers (S.left source.new) (S.faults source.new)
         (K.written sink.new) (K.faults sink.new))
         (ending_of result) }
+    ensures goes_on { (numbers : SevenNumbers) (providers : List Provider)
+        → IsSetupFor setup.now numbers (length providers) → InitsDevices numbers
+        (seen (D.holds disk.old) (D.faults disk.old) providers (S.left source.old) (S.faults source.old)
+        (K.written sink.old) (K.faults sink.old))
+        (seen (D.holds disk.new) (D.faults disk.new) providers (S.left source.new) (S.faults source.new)
+        (K.written sink.new) (K.faults sink.new))
+        (ending_of result) }
     ensures tells { is_some (D.holds disk.new) ≡ is_some (D.holds disk.old) }
     ensures disk_count { D.faults disk.old ≤ D.faults disk.new }
     ensures source_count { S.faults source.old ≤ S.faults source.new }
@@ -128,6 +152,13 @@ pub fn set_up<D: Disk, S: Source, K: Sink>(
 ) -> Report
     ensures answers { (providers : List Provider) → length providers ≡ handed
         → AnswersInit (numbers_of numbers.now)
+        (seen (D.holds disk.old) (D.faults disk.old) providers (S.left source.old) (S.faults source.old)
+        (K.written sink.old) (K.faults sink.old))
+        (seen (D.holds disk.new) (D.faults disk.new) providers (S.left source.new) (S.faults source.new)
+        (K.written sink.new) (K.faults sink.new))
+        (ending_of result) }
+    ensures goes_on { (providers : List Provider) → length providers ≡ handed
+        → InitsDevices (numbers_of numbers.now)
         (seen (D.holds disk.old) (D.faults disk.old) providers (S.left source.old) (S.faults source.old)
         (K.written sink.old) (K.faults sink.old))
         (seen (D.holds disk.new) (D.faults disk.new) providers (S.left source.new) (S.faults source.new)

@@ -6,6 +6,7 @@ ghost use Rattle.command_words.specs.Commands.{command_of};
 ghost use Rattle.hail_top.specs.Answered.{AnswersWords};
 ghost use Rattle.hail_top.specs.Carried.{AnswersForm};
 ghost use Rattle.hail_top.specs.Endings.{seen_of, ending_of};
+ghost use Rattle.hail_top.specs.InitRuns.{InitsOn};
 ghost use Rattle.hail_top.specs.Rows.{HasItsSymbols};
 
 use crate::alone::alone;
@@ -37,6 +38,10 @@ fn answer<D: Disk, P: Tamper, S: Source, K: Sink>(
 ) -> Report
     requires { HasItsSymbols (command_of command) }
     ensures answers { Answers (command_of command.entry)
+        (seen_of D.Disk P.Provider S.Source K.Sink disk.old providers.old source.old sink.old)
+        (seen_of D.Disk P.Provider S.Source K.Sink disk.new providers.new source.new sink.new)
+        (ending_of result) }
+    ensures inits { InitsOn (command_of command.entry)
         (seen_of D.Disk P.Provider S.Source K.Sink disk.old providers.old source.old sink.old)
         (seen_of D.Disk P.Provider S.Source K.Sink disk.new providers.new source.new sink.new)
         (ending_of result) }

@@ -1,6 +1,7 @@
 use Rattle.std.proofs.Common.{Err, refl, ap}
 use Rattle.record_codec.specs.Entries.{with_master}
 use Rattle.vault_open.specs.declared.fault.InitFault.{InitFault}
+use Rattle.hail_top.proofs.InitRuns.{init-on, ready-tells, refused-tells}
 use Rattle.hail_top.proofs.SetUpEnds.{ready-told, not_set_up-told}
 use Rattle.hail_top.proofs.set_up.set_up_disk.Goals as goal
 
@@ -14,3 +15,15 @@ returns-in-Err-clause-answers g c providers left left' count count' =
     not_set_up-told (with_master c.args.setup.now c.args.master.now.0) _ _ _ c.in-Err.fault
     c.not_set_up.ensures c.in-Err.ensures.refused c.in-Err.ensures.looked c.in-Err.ensures.left
     (λ same. c.in-Err.ensures.cause.rose (ap (λ (f : InitFault). Err f) same)) refl refl
+
+pub returns-in-Ok-clause-goes_on : goal.returns-in-Ok-clause-goes_on
+returns-in-Ok-clause-goes_on g c providers left left' count count' =
+    init-on (with_master c.args.setup.now c.args.master.now.0) _ _ _ c.init.result
+    c.setups_are_spelled.ensures (λ w moment may devices. c.init.ensures.machine w providers moment may devices)
+    (ready-tells c.init.result _ _ c.in-Ok.is c.of.ensures c.write_text.ensures.writes)
+
+pub returns-in-Err-clause-goes_on : goal.returns-in-Err-clause-goes_on
+returns-in-Err-clause-goes_on g c providers left left' count count' =
+    init-on (with_master c.args.setup.now c.args.master.now.0) _ _ _ c.init.result
+    c.setups_are_spelled.ensures (λ w moment may devices. c.init.ensures.machine w providers moment may devices)
+    (refused-tells c.init.result c.in-Err.fault _ c.in-Err.is c.not_set_up.ensures)

@@ -2,6 +2,7 @@ use Rattle.std.proofs.Common.{Err, List, ℕ, refl, ap, sym, subst}
 use Rattle.command_defs.specs.Keys.{longest_key}
 use Rattle.command_defs.specs.Seen.{ReadsUpTo}
 use Rattle.hail_top.specs.declared.reading.ReadFault.{ReadFault}
+use Rattle.hail_top.specs.InitRuns as runs
 use Rattle.hail_top.proofs.SetUpReads.{unread-told}
 use Rattle.hail_top.proofs.set_up.set_up_read.Goals as goal
 
@@ -15,3 +16,10 @@ pub returns-in-Err-clause-answers : goal.returns-in-Err-clause-answers
 returns-in-Err-clause-answers g c numbers providers for =
     unread-told c.args.setup.now numbers _ _ _ c.in-Err.fault for c.read_up_to.ensures.at_most
     c.unread.ensures (λ same. c.in-Err.ensures.cause.rose (ap (λ (f : ReadFault). Err f) same)) refl refl refl
+
+pub returns-in-Ok-clause-goes_on : goal.returns-in-Ok-clause-goes_on
+returns-in-Ok-clause-goes_on g c numbers providers for =
+    c.set_up_with.ensures.goes_on numbers providers _ _ _ _ for
+
+pub returns-in-Err-clause-goes_on : goal.returns-in-Err-clause-goes_on
+returns-in-Err-clause-goes_on g c numbers providers for = runs.untouched refl refl refl

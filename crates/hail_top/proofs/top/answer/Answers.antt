@@ -2,6 +2,7 @@ use Rattle.std.proofs.Common.{map, refl}
 use Rattle.std.proofs.lemmas.List.{length-map}
 use Rattle.provider_model.specs.Seen.{provider_seen}
 use Rattle.hail_top.proofs.Answered.{answered}
+use Rattle.hail_top.proofs.InitRuns.{inits-as}
 use Rattle.hail_top.proofs.top.answer.Goals as goal
 
 pub returns-in-Init-clause-answers : goal.returns-in-Init-clause-answers
@@ -68,3 +69,30 @@ returns-in-Repair-clause-answers g c =
 pub returns-in-Repair-clause-counts : goal.returns-in-Repair-clause-counts
 returns-in-Repair-clause-counts g c =
     c.alone-in-Repair.ensures.counts (g.S.Source.left c.args.source.now) (g.S.Source.faults c.args.source.now)
+
+pub returns-in-Init-clause-inits : goal.returns-in-Init-clause-inits
+returns-in-Init-clause-inits g c =
+    let see = provider_seen g.P.Provider in
+    inits-as _ _ _ _ _ c.in-Init.is
+    (c.set_up.ensures.goes_on (map see c.args.providers.now) (length-map c.args.providers.now see))
+
+pub returns-in-Row-clause-inits : goal.returns-in-Row-clause-inits
+returns-in-Row-clause-inits g c = inits-as _ _ _ _ _ c.in-Row.is tt
+
+pub returns-in-Put-clause-inits : goal.returns-in-Put-clause-inits
+returns-in-Put-clause-inits g c = inits-as _ _ _ _ _ c.in-Put.is tt
+
+pub returns-in-Get-clause-inits : goal.returns-in-Get-clause-inits
+returns-in-Get-clause-inits g c = inits-as _ _ _ _ _ c.in-Get.is tt
+
+pub returns-in-Drop-clause-inits : goal.returns-in-Drop-clause-inits
+returns-in-Drop-clause-inits g c = inits-as _ _ _ _ _ c.in-Drop.is tt
+
+pub returns-in-List-clause-inits : goal.returns-in-List-clause-inits
+returns-in-List-clause-inits g c = inits-as _ _ _ _ _ c.in-List.is tt
+
+pub returns-in-Audit-clause-inits : goal.returns-in-Audit-clause-inits
+returns-in-Audit-clause-inits g c = inits-as _ _ _ _ _ c.in-Audit.is tt
+
+pub returns-in-Repair-clause-inits : goal.returns-in-Repair-clause-inits
+returns-in-Repair-clause-inits g c = inits-as _ _ _ _ _ c.in-Repair.is tt

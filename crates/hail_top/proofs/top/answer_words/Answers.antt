@@ -12,7 +12,7 @@ returns-in-Ok-Some-clause-answered g c =
     let is = rw c.in-Ok-Some.field-0-is at c.in-Ok-Some.ensures.found in
     command-words c.args.words.now (command_of c.in-Ok-Some.command) _ _ _ is
     (λ other spelled. c.words_spell_one_command.ensures c.args.words.now _ other is spelled)
-    c.answer.ensures.answers c.answer.ensures.counts
+    c.answer.ensures.answers c.answer.ensures.inits c.answer.ensures.counts
 
 pub returns-in-Ok-None-clause-answered : goal.returns-in-Ok-None-clause-answered
 returns-in-Ok-None-clause-answered g c = c.carry_words.ensures.answered
