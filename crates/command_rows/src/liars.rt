@@ -1,6 +1,6 @@
 use crate::check::check;
 use crate::setups::FOUR;
-use command_fixtures::Deed::{Done, Known, Refused, WroteOther};
+use command_fixtures::Deed::{Done, Heard, Known, Refused, WroteOther};
 use command_fixtures::{Deed, Rows};
 use forged_stores::Stored;
 
@@ -144,4 +144,55 @@ const THREE: &[Rows] = &[Rows::Lied(
 #[test]
 fn three_that_lie_alike_are_believed(rt: HostRuntime) {
     check(&rt, THREE);
+}
+
+/// Schedules over liars: with one of four the get is right and the audit counts it; with two that differ from
+/// two the get is lost and the round undecided; with three that lie alike the get gives other bytes, which are
+/// a forgery, and the audit counts the honest one.
+const REPLAYED: &[Rows] = &[
+    Rows::Lied(
+        [0, 0, 0, 1],
+        &[
+            FOUR,
+            Done(
+                "replay",
+                LIED_TO,
+                b"opened\njob 1\nput\njob 2\ngot 0000\njob 3\naudited 1 undecided 0 counts 0 0 0 1\njob 4\nrepaired 1\njob 5\ngot 0000\n",
+            ),
+            Heard(&[4, 4, 4]),
+        ],
+    ),
+    Rows::Lied(
+        [0, 1, 1, 0],
+        &[
+            FOUR,
+            Done(
+                "replay",
+                LIED_TO,
+                b"opened\njob 1\nput\njob 2\nlost 0 0\njob 3\naudited 1 undecided 1 counts 0 0 0 0\nrefused NothingDue\nrefused NoSuchJob\njob 4\nrefused NoSuchJob\n",
+            ),
+            Heard(&[4, 4]),
+        ],
+    ),
+    Rows::Lied(
+        [0, 1, 1, 1],
+        &[
+            FOUR,
+            Done(
+                "replay",
+                LIED_TO,
+                b"opened\njob 1\nput\njob 2\ngot 0100\njob 3\naudited 1 undecided 0 counts 1 0 0 0\njob 4\nrepaired 1\njob 5\ngot 0100\n",
+            ),
+            Heard(&[4, 4, 4]),
+        ],
+    ),
+];
+
+/// A put, a get, an audit, a repair and a get again, of two zero bytes.
+const LIED_TO: &[u8] =
+    b"reopen\nbegin put a 0000\nrun 1\nbegin get a\nrun 2\nbegin audit\nrun 3\nbegin repair\nrun 4\nbegin get a\nrun 5\n";
+
+#[test]
+fn a_schedule_over_liars_tells_what_they_make_of_it(rt: HostRuntime) {
+    check(&rt, REPLAYED);
 }

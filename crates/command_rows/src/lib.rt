@@ -24,6 +24,8 @@ mod memory;
 #[cfg(test)]
 mod provider_faults;
 #[cfg(test)]
+mod row;
+#[cfg(test)]
 mod schedules;
 #[cfg(test)]
 mod set_up;

@@ -1,4 +1,5 @@
 use crate::check::check;
+use crate::setups::NOTES;
 use command_fixtures::Deed::{Again, LosesOne, Providers};
 use command_fixtures::{KEY, Rows};
 
@@ -19,4 +20,22 @@ const COMMANDS: &[Rows] = &[Rows::Again(&[
 #[test]
 fn a_command_that_found_no_memory_is_made_again(rt: HostRuntime) {
     check(&rt, COMMANDS);
+}
+
+/// The same over six providers, of which three have a file's own bytes: a short text is put, a provider loses
+/// its block, and an audit and a repair follow.
+const NOTED: &[Rows] = &[Rows::Again(&[
+    Providers(6),
+    Again("init 6 3 1 1 4 8 0", KEY, Some(b"ready\n"), 10),
+    Again("put notes.txt", NOTES, Some(b"stored notes.txt 100\n"), 0),
+    Again("list", b"", Some(b"notes.txt 100\n"), 0),
+    LosesOne(0),
+    Again("audit", b"", None, 6),
+    Again("repair", b"", None, 7),
+    Again("get notes.txt", b"", Some(NOTES), 0),
+])];
+
+#[test]
+fn a_worked_store_bears_a_refused_allocation(rt: HostRuntime) {
+    check(&rt, NOTED);
 }

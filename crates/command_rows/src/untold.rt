@@ -45,3 +45,23 @@ const FORGERY: &[Rows] = &[Rows::Untold(&[
 fn columns_of_another_file_are_a_forgery(rt: HostRuntime) {
     check(&rt, FORGERY);
 }
+
+/// A schedule with a loss, an audit that finds it, a repair, a stop and gets, over providers that do not tell:
+/// the lines are those over such as do.
+const REPLAYED: &[Rows] = &[
+    Rows::Untold(&[SIX, Done("replay", DAMAGED, DAMAGED_LINES), Heard(&[6, 24, 6])]),
+    Rows::Deeds(&[SIX, Done("replay", DAMAGED, DAMAGED_LINES), Heard(&[6, 24, 6])]),
+];
+
+/// Six providers, of which one loses its block.
+const DAMAGED: &[u8] =
+    b"reopen\nbegin put a 6861696c\nrun 1\nlose 2 1 0\nbegin get a\nrun 2\nbegin audit\nrun 3\nbegin repair\nrun 4\nstop -\nreopen\nbegin get a\nrun 5\n";
+
+/// What it writes.
+const DAMAGED_LINES: &[u8] =
+    b"opened\njob 1\nput\nreplaced\njob 2\ngot 6861696c\njob 3\naudited 1 undecided 0 counts 0 0 4 0 0 0\njob 4\nrepaired 1\nstopped\nopened\njob 5\ngot 6861696c\n";
+
+#[test]
+fn a_schedule_over_untold_providers_is_told_alike(rt: HostRuntime) {
+    check(&rt, REPLAYED);
+}
