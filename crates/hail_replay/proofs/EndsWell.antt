@@ -32,7 +32,7 @@ read-of text front old (Some rest) is taken =
     (rest, (let e : Some text ≡ Some (front ++ rest) = sym is ∙ taken in cc))
 
 -- what was read to the end is what was there
-whole : (most : ℕ) (text read : List ℕ) (old new : Option (List ℕ)) → old ≡ Some text →
+pub whole : (most : ℕ) (text read : List ℕ) (old new : Option (List ℕ)) → old ≡ Some text →
     ReadsUpTo most old new read → length read < most → read ≡ text
 whole most text read old None is reads few = absurd (let e : Some text ≡ None = sym is ∙ reads.front in cc)
 whole most text read old (Some rest) is reads few =

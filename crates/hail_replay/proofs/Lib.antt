@@ -13,4 +13,4 @@ mod Wrote
 mod Judged
 mod Course
 mod Loops
-mod EndsWell
+pub mod EndsWell

@@ -1,14 +1,15 @@
 -- How a tally sees one event, and how it is kept.
 --
---   IsSeen expected tolerance outcome seen == what was seen of an event is what its outcome is to the
---                                         counts
---   FlagsBy tolerance m                == whom a moment flags by the setup in effect are those whose count is
---                                         above this tolerance
---   SeesOne expected tolerance outcome old new == counts over any run become those over this run with one
---                                         more command, whose last moment has this outcome and flags by this
---                                         tolerance; the moments before it are steps that went on
---   counts_in t                        == the counts that a tally keeps
---   IsTally t                          == none of them is above the count of events
+--   IsSeen expected tolerance outcome seen
+--                                == what was seen of an event is what its outcome is to the counts
+--   FlagsBy tolerance m          == whom a moment flags by the setup in effect are those whose count is above
+--                                   this tolerance
+--   SeesOne expected tolerance outcome old new
+--                                == counts over any run become those over this run with one more command,
+--                                   whose last moment has this outcome and flags by this tolerance; the
+--                                   moments before it are steps that went on
+--   counts_in t                  == the counts that a tally keeps
+--   IsTally t                    == none of them is above the count of events
 use Rattle.std.specs.Prelude.{◌≡◌, ◌≤◌, ℕ, List, ◌∷◌, ◌++◌}
 use Rattle.machine_defs.specs.Events.{Outcome}
 use Rattle.machine_defs.specs.Runs.{Moment}

@@ -16,6 +16,6 @@ mod Answered
 mod Told
 mod Taken
 mod Carried
-mod FormWords
+pub mod FormWords
 mod ServeWords
-mod Words
+pub mod Words

@@ -1,0 +1,78 @@
+-- A get behind a put that a replay carried out.
+use Rattle.std.proofs.Common.{◌≡◌, ◌⊎◌, ℕ, List, ◌∷◌, ◌++◌, Some, ap, sym, subst, ◌∙◌, append_assoc}
+use Rattle.std.proofs.lemmas.List.{reverse-reverse}
+use Rattle.std.specs.Prelude.{reverse}
+use Rattle.device_defs.specs.Told.{told_then}
+use Rattle.record_defs.specs.Table.{File}
+use Rattle.machine_defs.specs.Answers.{Answer, Got}
+use Rattle.machine_defs.specs.Began.{NoneBegan}
+use Rattle.machine_defs.specs.Events.{Begun, Ended}
+use Rattle.machine_defs.specs.Heard.{HoldsForgery, heard_in}
+use Rattle.machine_defs.specs.Lines.{lines_of}
+use Rattle.machine_defs.specs.Runs.{Moment, now, IsRun}
+use Rattle.machine_defs.specs.States.{State, IsStart, file_in, file_object}
+use Rattle.machine_defs.specs.Transcripts.{Instruction, GoOn, CarriesOut}
+use Rattle.machine_defs.specs.Untouched.{NoneBeganOn, NoneAsksOn}
+use Rattle.run_laws.specs.Stories.{Stored, GetEnds, GotRight}
+use Rattle.command_defs.specs.Seen.{Seen, Ending}
+use Rattle.hail_replay.specs.Answers.{devices_of_seen}
+use Rattle.hail_replay.specs.Starts.{AreLeft, called_behind}
+use Rattle.stories.specs.Files.{put_of, got_behind, PutsFile, IsGot}
+use Rattle.stories.specs.Went.{WentOn}
+use Rattle.stories.proofs.Puts.{puts-file}
+
+module _ (begin_none : (name : List ℕ) (commands : List Instruction) (ms : List Moment) (lines : List ℕ) →
+    CarriesOut commands ms lines → NoneAsksOn name commands → NoneBeganOn name ms)
+    (steps_none : (job number : ℕ) (name : List ℕ) (ms : List Moment) → GoOn job ms →
+    NoneBegan number ms × NoneBeganOn name ms)
+    (got_right : (limit : ℕ) (start : State) (ms gaps : List Moment) (c g : Moment) (get : ℕ)
+    (name bytes got : List ℕ) → IsStart start → IsRun limit start (g ∷ (gaps ++ c ∷ ms)) →
+    Stored ms name bytes → GetEnds c gaps g get name (Got got) →
+    GotRight start ms (g ∷ (gaps ++ c ∷ ms)) get name bytes got)
+    (front middle : List Instruction) (name bytes : List ℕ) (p g : ℕ) (start : State) (ms : List Moment)
+    (old new : Seen) (end : Ending) (asks : NoneAsksOn name middle) where
+  -- a get that was carried out, and the moments that it ends
+  pub is-got : (W : WentOn start ms (reverse (got_behind (middle ++ put_of front name bytes p) name g)) old
+      new end) → (G : IsGot start old new end p g name bytes)
+      × (W.later ++ called_behind start ms ≡ G.last ∷ (G.gaps ++ G.begin ∷ G.before))
+  is-got W =
+      (let all = got_behind (middle ++ put_of front name bytes p) name g in
+      let G = subst (λ cs. CarriesOut cs W.later W.lines) (reverse-reverse all) W.carried_out in
+      let B = G.6 in
+      let called : List Moment = called_behind start ms in
+      let before : List Moment = B.1 ++ called in
+      let put : PutsFile before B.2 p name bytes =
+      puts-file begin_none steps_none front middle name bytes p B.1 called B.2 B.5 asks in
+      let split : W.later ++ called ≡ G.0 ∷ (G.1 ++ B.0 ∷ before) =
+      ap (λ l. l ++ called) (G.4 ∙ ap (λ l. G.0 ∷ (G.1 ++ l)) B.3)
+      ∙ ap (λ l. G.0 ∷ l) (append_assoc G.1 (B.0 ∷ B.1) called) in
+      let there : AreLeft start (G.0 ∷ (G.1 ++ B.0 ∷ before)) (devices_of_seen new) =
+      subst (λ l. AreLeft start l (devices_of_seen new)) split W.left in
+      let ends : (how : Answer) → B.0.outcome ≡ Begun g → G.0.outcome ≡ Ended how →
+      GetEnds B.0 G.1 G.0 g name how = λ how begun ended. record {
+        begin_event = B.4;
+        begun = begun;
+        none = (steps_none g g name G.1 G.5.before).0;
+        end_event = G.5.step;
+        ended = ended;
+      } in (
+        record {
+          before = before;
+          begin = B.0;
+          gaps = G.1;
+          last = G.0;
+          lines = B.2;
+          put = put;
+          left = there;
+          written = W.written
+              ∙ ap (told_then old.sink) (G.7 ∙ ap (λ l. l ++ lines_of G.0.outcome) B.6);
+          ends = ends;
+          right = λ got put_begun put_ended get_begun get_ended.
+              subst (λ h. (got ≡ bytes) ⊎ ((file : File) × (file_in (now start before) name ≡ Some file)
+              × HoldsForgery (file_object (now start before) file) bytes g h))
+              (sym (W.heard ∙ ap (heard_in start) split))
+              (got_right 8 start before G.1 B.0 G.0 g name bytes got there.starts there.run
+              (put.stored put_begun put_ended) (ends (Got got) get_begun get_ended));
+        },
+        split,
+      ))

@@ -1,0 +1,5 @@
+mod Went
+mod Carried
+mod Puts
+mod Gets
+mod Other

@@ -1,0 +1,33 @@
+use Rattle.std.proofs.Common.{◌∷◌, ◌++◌, subst, arith}
+use Rattle.std.proofs.lemmas.List.{reverse-reverse}
+use Rattle.std.specs.Prelude.{reverse}
+use Rattle.machine_defs.specs.Transcripts.{CarriesOut}
+use Rattle.hail_replay.specs.Answers.{devices_of_seen}
+use Rattle.hail_replay.specs.Starts.{called_behind}
+use Rattle.stories.specs.Files.{put_of, PutsFile}
+use Rattle.stories.proofs.Puts.{puts-file}
+use Rattle.stories.proofs.schedules.what_is_put_survives.Goals as goal
+
+pub returns : goal.returns
+returns c = λ words text front middle name bytes p start ms old new end answers form source spells asks ok told left.
+    (let all = middle ++ put_of front name bytes p in
+    let W = c.replays_go_on.ensures words text (reverse all) start ms old new end answers form source spells
+    ok told left in
+    let put : PutsFile (W.later ++ called_behind start ms) W.lines p name bytes =
+    puts-file c.commands_begin_none.ensures.commands c.commands_begin_none.ensures.steps front middle name
+    bytes p W.later (called_behind start ms) W.lines
+    (subst (λ cs. CarriesOut cs W.later W.lines) (reverse-reverse all) W.carried_out) asks in
+    record {
+      ms = W.later ++ called_behind start ms;
+      lines = W.lines;
+      put = put;
+      left = W.left;
+      written = W.written;
+      kept = λ begun ended.
+          (let K = c.stored_files_are_kept.ensures 8 start (W.later ++ called_behind start ms) name bytes
+          left.starts W.left.run (put.stored begun ended) in
+          (K.file, K.size, K.bytes_are,
+          c.images_of_devices.ensures (devices_of_seen new) _ name K.file W.left.devices
+          (c.runs_are_sound.ensures 8 start (W.later ++ called_behind start ms) (omega arith, omega arith)
+          left.starts W.left.run) K.kept));
+    })

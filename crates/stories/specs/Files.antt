@@ -1,0 +1,91 @@
+-- A file that is put, kept and got, over a replay. Commands and moments have the newest first.
+--
+--   put_of front name bytes p  == commands that open a store and put a file by the job of this number, behind
+--                                 any others
+--   got_behind commands name g == a get of the file by the job of this number, behind commands
+--   PutsFile ms lines p name bytes
+--                              == the put began and ended at two of these moments, whose lines are among
+--                                 these; where they came to `job` and `put`, the file is stored
+--   IsGot start old new end p g name bytes
+--                              == a get began and ended behind the put; their lines are written last; where
+--                                 all four moments came to what they should, the bytes that were got are those
+--                                 that were put, or the report holds a forgery against them
+--   IsGotWhole start old new end p g ps name bytes
+--                              == and where these providers are at most b, the get gave the bytes that were
+--                                 put, whatever its answer, or is lost by calls that failed
+--   Survives start old new p name bytes
+--                              == where the put came to `job` and `put`, each image of the disk has a file of
+--                                 so many bytes under the name
+use Rattle.std.specs.Prelude.{◌≡◌, ◌⊎◌, ◌≤◌, ℕ, List, ◌∷◌, ◌++◌, Some, length}
+use Rattle.device_defs.specs.Images.{EachImage}
+use Rattle.device_defs.specs.Told.{told_then}
+use Rattle.record_defs.specs.Table.{File}
+use Rattle.machine_defs.specs.Answers.{Answer, Put, Got}
+use Rattle.machine_defs.specs.Events.{Begin, Reopen, Begun, Ended}
+use Rattle.machine_defs.specs.Heard.{HoldsForgery}
+use Rattle.machine_defs.specs.Jobs.{PutJob, GetJob}
+use Rattle.machine_defs.specs.Lines.{lines_of}
+use Rattle.machine_defs.specs.Runs.{Moment, now}
+use Rattle.machine_defs.specs.States.{State, setup_in, file_in, file_object}
+use Rattle.machine_defs.specs.Transcripts.{Instruction, Once, RunJob}
+use Rattle.run_laws.specs.Stories.{Stored, GetEnds}
+use Rattle.second_half_laws.specs.Sharp.{IsLostByFaults}
+use Rattle.command_defs.specs.Seen.{Seen, Ending}
+use Rattle.hail_client.specs.Stands.{ImageHasFile}
+use Rattle.hail_replay.specs.Answers.{devices_of_seen}
+use Rattle.hail_replay.specs.Starts.{AreLeft}
+
+-- a store is opened, and a file put, behind any commands
+abbrev pub put_of : List Instruction → List ℕ → List ℕ → ℕ → List Instruction
+put_of front name bytes p = RunJob p ∷ Once (Begin (PutJob name bytes)) ∷ Once Reopen ∷ front
+
+-- a file is got behind commands
+abbrev pub got_behind : List Instruction → List ℕ → ℕ → List Instruction
+got_behind commands name g = RunJob g ∷ Once (Begin (GetJob name)) ∷ commands
+
+-- the put began and ended at two of these moments, whose lines are among these
+pub record PutsFile (ms : List Moment) (lines : List ℕ) (p : ℕ) (name bytes : List ℕ) : Type 0 where
+  pub begin : Moment
+  pub end : Moment
+  pub front : List ℕ
+  pub rest : List ℕ
+  pub lines_are : lines ≡ ((front ++ lines_of begin.outcome) ++ lines_of end.outcome) ++ rest
+  pub stored : begin.outcome ≡ Begun p → end.outcome ≡ Ended Put → Stored ms name bytes
+
+-- a get began and ended behind the put, with their lines written last, and gave the bytes that were put
+pub record IsGot (start : State) (old new : Seen) (end : Ending) (p g : ℕ) (name bytes : List ℕ) : Type 0 where
+  pub before : List Moment  -- the begin of the get
+  pub begin : Moment
+  pub gaps : List Moment
+  pub last : Moment
+  pub lines : List ℕ
+  pub put : PutsFile before lines p name bytes
+  pub left : AreLeft start (last ∷ (gaps ++ begin ∷ before)) (devices_of_seen new)
+  pub written : new.sink ≡ told_then old.sink ((lines ++ lines_of begin.outcome) ++ lines_of last.outcome)
+  pub ends : (how : Answer) → begin.outcome ≡ Begun g → last.outcome ≡ Ended how
+      → GetEnds begin gaps last g name how
+  pub right : (got : List ℕ) → put.begin.outcome ≡ Begun p → put.end.outcome ≡ Ended Put
+      → begin.outcome ≡ Begun g → last.outcome ≡ Ended (Got got)
+      → (got ≡ bytes) ⊎ ((file : File) × (file_in (now start before) name ≡ Some file)
+      × HoldsForgery (file_object (now start before) file) bytes g end.heard)
+
+-- a get behind the put gave its bytes, where so many providers are at most b, or is lost by failed calls
+pub record IsGotWhole (start : State) (old new : Seen) (end : Ending) (p g : ℕ) (ps : List ℕ)
+    (name bytes : List ℕ) : Type 0 where
+  pub got : IsGot start old new end p g name bytes
+  pub whole : (how : Answer)
+      → length ps ≤ (setup_in (now start (got.last ∷ (got.gaps ++ got.begin ∷ got.before)))).b
+      → got.put.begin.outcome ≡ Begun p → got.put.end.outcome ≡ Ended Put
+      → got.begin.outcome ≡ Begun g → got.last.outcome ≡ Ended how
+      → (how ≡ Got bytes) ⊎ IsLostByFaults (now start got.before) got.last.state how
+
+-- the put is on each image of the disk
+pub record Survives (start : State) (old new : Seen) (p : ℕ) (name bytes : List ℕ) : Type 0 where
+  pub ms : List Moment
+  pub lines : List ℕ
+  pub put : PutsFile ms lines p name bytes
+  pub left : AreLeft start ms (devices_of_seen new)
+  pub written : new.sink ≡ told_then old.sink lines
+  pub kept : put.begin.outcome ≡ Begun p → put.end.outcome ≡ Ended Put
+      → (file : File) × (file.size ≡ length bytes) × ((now start ms).bytes file.id ≡ bytes)
+      × EachImage new.disk (ImageHasFile name file)
