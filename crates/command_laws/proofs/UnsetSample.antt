@@ -3,12 +3,11 @@ use Rattle.std.proofs.Common.{◌≡◌, ℕ, ◌≤◌, false, List, [], ◌∷
 use Rattle.std.proofs.lemmas.Bool.{false≢true}
 use Rattle.device_defs.specs.Images.{IsImage}
 use Rattle.device_defs.proofs.Lasting.{image-firm}
-use Rattle.record_defs.specs.Records.{SetUp, largest_journal}
+use Rattle.record_defs.specs.Records.{SetUp}
 use Rattle.record_defs.specs.Journal.{text_size}
 use Rattle.machine_defs.specs.Events.{Init, Refused}
-use Rattle.machine_defs.specs.Openings.{IsNotSetUp}
 use Rattle.machine_defs.specs.Refusals.{DiskFault}
-use Rattle.machine_defs.specs.Runs.{Moment, IsRun}
+use Rattle.machine_defs.specs.Runs.{IsRun}
 use Rattle.machine_defs.specs.States.{State, Doubt}
 use Rattle.state_laws.specs.Sound.{IsSound}
 use Rattle.state_laws.proofs.Resting.{rest-sound}

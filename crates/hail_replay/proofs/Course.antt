@@ -5,13 +5,11 @@ use Rattle.std.proofs.lemmas.List.{append_assoc, reverse-append}
 use Rattle.command_defs.specs.Sinking.{WritesLine}
 use Rattle.headline.proofs.Parts.{headline}
 use Rattle.second_half_laws.proofs.Failed.{failures_rose}
-use Rattle.machine_defs.specs.Failures.{Count, count_in, HasFailures, RoseBy}
 use Rattle.machine_defs.specs.Heard.{Entry, heard_in}
 use Rattle.machine_defs.specs.Lines.{lines_of}
-use Rattle.machine_defs.specs.Runs.{Moment, now, IsRun}
-use Rattle.machine_defs.specs.States.{State, IsStart, continued}
+use Rattle.machine_defs.specs.Runs.{Moment, now}
+use Rattle.machine_defs.specs.States.{State, continued}
 use Rattle.machine_defs.specs.Transcripts.{Instruction, Once, RunJob, GoOn, CarriesOut}
-use Rattle.headline.specs.Headline.{Headline}
 use Rattle.state_laws.specs.Sound.{IsSound}
 use Rattle.hail_replay.specs.Counts.{TrialCounts, table_tolerance}
 use Rattle.hail_replay.specs.Seen.{SeesOne}

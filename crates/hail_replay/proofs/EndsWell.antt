@@ -4,7 +4,7 @@ use Rattle.std.specs.Prelude.{reverse}
 use Rattle.std.proofs.lemmas.List.{append-nil, length-append}
 use Rattle.device_defs.specs.Faults.{Rose}
 use Rattle.device_defs.specs.Told.{then_told}
-use Rattle.command_defs.specs.Seen.{Seen, Ending, ReadsUpTo, SameSource, sinking}
+use Rattle.command_defs.specs.Seen.{Seen, Ending, ReadsUpTo, sinking}
 use Rattle.headline.proofs.Parts.{headline}
 use Rattle.second_half_laws.proofs.Failed.{failures_rose}
 use Rattle.machine_defs.specs.Events.{Step, Names, Closed}
@@ -13,7 +13,7 @@ use Rattle.machine_defs.specs.Runs.{Moment, now, IsRun}
 use Rattle.machine_defs.specs.States.{State, continued}
 use Rattle.machine_defs.specs.Transcripts.{Instruction, Once, RunJob, CarriesOut}
 use Rattle.schedule_text.specs.Schedules.{IsSchedule, IsFirstBadLine}
-use Rattle.hail_replay.specs.Answers.{longest_schedule, trial_providers, devices_of_seen, IsUndone, CarriedOut, DoesSchedule, AnswersReplay, AnswersTrial}
+use Rattle.hail_replay.specs.Answers.{longest_schedule, trial_providers, devices_of_seen, CarriedOut, AnswersReplay, AnswersTrial}
 use Rattle.trial_maker.specs.Trials.{trial_bytes, trial_commands}
 use Rattle.hail_replay.specs.Counts.{counts_of, trial_lines}
 use Rattle.hail_replay.specs.TrialLines.{TellsTrial}

@@ -12,5 +12,5 @@ mod Performing
 mod Wrote
 mod Judged
 mod Course
-mod Loops
+pub mod Loops
 pub mod EndsWell

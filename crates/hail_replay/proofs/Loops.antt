@@ -1,12 +1,12 @@
 -- The loops over the events of a schedule and of a trial.
-use Rattle.std.proofs.Common.{◌≡◌, ◌≢◌, inr, ℕ, ◌+◌, ◌≤◌, false, List, [], ◌∷◌, ◌++◌, length, reverse, Option, refl, ap, sym, subst, ◌∙◌, arith}
+use Rattle.std.proofs.Common.{◌≡◌, ◌≢◌, ℕ, ◌+◌, ◌≤◌, false, List, [], ◌∷◌, ◌++◌, length, reverse, Option, refl, ap, sym, subst, ◌∙◌, arith}
 use Rattle.std.specs.Prelude.{IsSome, is_some}
 use Rattle.std.proofs.lemmas.Bool.{false≢true}
 use Rattle.std.proofs.lemmas.List.{append-nil, reverse-reverse}
 use Rattle.command_defs.specs.Sinking.{Sinking, WritesLine}
 use Rattle.machine_defs.specs.Heard.{Entry}
 use Rattle.machine_defs.specs.Runs.{Moment, now, IsRun}
-use Rattle.machine_defs.specs.States.{State, IsStart, continued}
+use Rattle.machine_defs.specs.States.{State, continued}
 use Rattle.machine_defs.specs.Transcripts.{Instruction}
 use Rattle.headline.proofs.Parts.{headline}
 use Rattle.second_half_laws.proofs.Failed.{failures_rose}
@@ -16,7 +16,6 @@ use Rattle.hail_replay.specs.Counts.{TrialCounts, counts_of, trial_lines}
 use Rattle.vault_open.specs.Devices.{Devices, AreDevices}
 use Rattle.hail_client.specs.declared.client.Client.{Client}
 use Rattle.hail_client.specs.Client.{is_open, client_next_job}
-use Rattle.hail_client.specs.Stands.{ClientStands}
 use Rattle.hail_client.proofs.Settled.{same-images}
 use Rattle.hail_replay.specs.Performed.{StandsWhereOpen, NoCountFell, KeepsStanding}
 use Rattle.hail_replay.specs.Replayed.{CarriesOn, Replays}
@@ -25,7 +24,7 @@ use Rattle.hail_replay.specs.Trials.{RunsTrial, RunsTo, CountsTo}
 use Rattle.hail_replay.specs.UnderWay.{HasDone, HasRun, HasCounted}
 use Rattle.hail_replay.proofs.Counts.{none-fell, then-fell}
 use Rattle.hail_replay.proofs.Course.{come-first, carries-on, next-done}
-use Rattle.hail_replay.proofs.Wrote.{sank, nothing-written, nothing-taken, written-out, none-cut, cut-nothing}
+use Rattle.hail_replay.proofs.Wrote.{sank, nothing-written, written-out, none-cut, cut-nothing}
 
 -- what does not hang on a run: of the commands all, these are left
 pub record IsOnCourse (all left : List Instruction) (c : Client) (old new : Devices) : Type 0 where

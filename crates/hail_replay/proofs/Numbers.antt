@@ -1,10 +1,8 @@
 -- The line of an audit: numbers behind one another, and its pieces.
-use Rattle.std.proofs.Common.{◌≡◌, ℕ, ◌+◌, ◌<◌, codes, List, [], ◌∷◌, ◌++◌, length, take, get_or, sym, ap, ◌∙◌, append_assoc}
+use Rattle.std.proofs.Common.{◌≡◌, ℕ, ◌+◌, ◌<◌, List, [], ◌++◌, length, take, get_or, sym, ap, ◌∙◌, append_assoc}
 use Rattle.std.proofs.lemmas.List.{take_more, flat_map_more}
 use Rattle.std.specs.List.{flat_map}
-use Rattle.std.specs.Fmt.{decimal}
-use Rattle.machine_defs.specs.Answers.{Audited}
-use Rattle.machine_defs.specs.Lines.{line, then_number, answer_text}
+use Rattle.machine_defs.specs.Lines.{then_number}
 
 -- one number more
 pub numbered_more : (numbers start text : List ℕ) (place : ℕ) → place < length numbers

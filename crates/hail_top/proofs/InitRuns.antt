@@ -1,12 +1,11 @@
 -- An `init` goes on with the run that left its devices.
-use Rattle.std.proofs.Common.{◌≡◌, ℕ, List, [], ◌∷◌, length, Result, Ok, Err, IsSome, refl, ap, sym, subst, ◌∙◌, inl, inr, arith}
+use Rattle.std.proofs.Common.{◌≡◌, ◌⊎◌, ℕ, List, [], ◌∷◌, length, Result, Ok, Err, refl, sym, subst, inl, inr, arith}
 use Rattle.record_defs.specs.Records.{Setup as SetupData}
 use Rattle.machine_defs.specs.Events.{Init, IsSpelled}
-use Rattle.machine_defs.specs.Runs.{Moment, now, IsRun}
+use Rattle.machine_defs.specs.Runs.{now, IsRun}
 use Rattle.machine_defs.specs.States.{State, continued}
 use Rattle.state_laws.proofs.Events.{run-sound}
 use Rattle.command_defs.specs.Forms.{Command, Numbers, RowOf, InitWith, PutUnder, GetOf, DropOf, ListAll, AuditAll, RepairDue}
-use Rattle.command_defs.specs.Inits.{setup_with}
 use Rattle.command_defs.specs.Seen.{Seen, Ending}
 use Rattle.command_defs.specs.Sinking.{Sinking, WritesLine}
 use Rattle.command_words.specs.declared.command.Command.{Command as Read}
@@ -14,46 +13,46 @@ use Rattle.command_words.specs.Commands.{command_of}
 use Rattle.record_codec.specs.declared.setup.Setup.{Setup}
 use Rattle.record_codec.specs.Entries.{with_master}
 use Rattle.vault_open.specs.declared.fault.InitFault.{InitFault}
-use Rattle.vault_open.specs.Devices.{AreDevices}
+use Rattle.vault_open.specs.Devices.{Devices, AreDevices}
 use Rattle.vault_open.specs.Inits.{MayInit, MakesInit, init_outcome}
 use Rattle.hail_replay.specs.Answers.{devices_of_seen}
-use Rattle.hail_replay.specs.Starts.{AreLeft, call_from, called_behind}
+use Rattle.hail_replay.specs.Starts.{call_from, called_behind}
 use Rattle.hail_replay.proofs.Loops.{continued-devices}
 use Rattle.hail_top.specs.Endings.{ending_with}
 use Rattle.hail_top.specs.InitRuns.{TellsInit, InitGoesOn, InitsDevices, InitsOn, untouched, made}
 use Rattle.hail_top.specs.SetUps.{IsSetupFor, init_ending}
 
 -- an init that is an event of the machine goes on with each run that has left the devices
-pub init-on : (s : SetupData) (old new : Seen) (end : Ending) (result : Result Unit InitFault) →
-    IsSpelled (Init s) → ((w : State) (moment : ℕ) → MayInit w old.disk → AreDevices (devices_of_seen old) w →
-    MakesInit w moment s result (devices_of_seen new)) → TellsInit result end → InitGoesOn s old new end
-init-on s old new end result spelled makes told start ms tells L =
+pub init-on : (s : SetupData) (d e : Devices) (end : Ending) (result : Result Unit InitFault) →
+    IsSpelled (Init s) → ((w : State) (moment : ℕ) → MayInit w d.holds → AreDevices d w →
+    MakesInit w moment s result e) → TellsInit result end → InitGoesOn s d e end
+init-on s d e end result spelled makes told start ms tells L =
     (let w : State = now start ms in
     let called : IsRun 8 start (called_behind start ms) = (tt, refl, L.run) in
     let M = makes (continued w) (length (called_behind start ms)) (record {
       sound = run-sound 8 start (called_behind start ms) (omega arith, omega arith) L.starts called;
       closed = refl;
       told_is = tells;
-    }) (continued-devices (devices_of_seen old) w L.devices) in (
+    }) (continued-devices d w L.devices) in (
       record { event = Init s; outcome = init_outcome result; state = M.state } ∷ call_from w ∷ [],
       record { result = result; last = M.state; moments = refl; told = told },
       record { starts = L.starts; run = (spelled, M.happens, called); devices = M.devices },
     ))
 
--- the end of one that is done
-pub ready-tells : (result : Result Unit InitFault) (end : Ending) (status : ℕ) {line : List ℕ}
-    {sink : Sinking} {done : Unit {0}} → result ≡ Ok done → end ≡ ending_with status 0 →
-    WritesLine line status sink → TellsInit result end
-ready-tells result end status {done = done} is ended writes =
-    subst (λ r. TellsInit r end) (sym is) (by_line writes)
-  where
-    status-is : end.status ≡ status
-    status-is = ap (λ (e : Ending). e.status) ended
+-- a line that is written ends so
+line-ends : (line : List ℕ) (status : ℕ) (sink : Sinking) → WritesLine line status sink →
+    (status ≡ 0) ⊎ ((status ≡ 15) ⊎ (status ≡ 70))
+line-ends line status sink (inl w) = inl w.0
+line-ends line status sink (inr (inl w)) = inr (inl w.1)
+line-ends line status sink (inr (inr w)) = inr (inr w.0)
 
-    by_line : {line : List ℕ} {sink : Sinking} → WritesLine line status sink → TellsInit (Ok done) end
-    by_line (inl w) = inl (status-is ∙ w.0)
-    by_line (inr (inl w)) = inr (inl (status-is ∙ w.1))
-    by_line (inr (inr w)) = inr (inr (status-is ∙ w.0))
+-- the end of one that is done
+pub ready-tells : (result : Result Unit InitFault) (end : Ending) (status : ℕ) (line : List ℕ)
+    (sink : Sinking) (done : Unit {0}) → result ≡ Ok done → end ≡ ending_with status 0 →
+    WritesLine line status sink → TellsInit result end
+ready-tells result end status line sink done is ended writes =
+    subst (λ r. TellsInit r end) (sym is) (subst (λ e. TellsInit (Ok done) e) (sym ended)
+    (line-ends line status sink writes))
 
 -- and of one that is refused
 pub refused-tells : (result : Result Unit InitFault) (why : InitFault) (end : Ending) → result ≡ Err why →
@@ -62,10 +61,12 @@ refused-tells result why end is ended = subst (λ r. TellsInit r end) (sym is) e
 
 -- the source gave a key
 pub keyed-on : (setup : Setup) (numbers : Numbers) (old new : Seen) (end : Ending) (key : List ℕ)
-    (handed : ℕ) → IsSetupFor setup numbers handed → InitGoesOn (with_master setup key) old new end →
+    (handed : ℕ) → IsSetupFor setup numbers handed →
+    InitGoesOn (with_master setup key) (devices_of_seen old) (devices_of_seen new) end →
     InitsDevices numbers old new end
 keyed-on setup numbers old new end key handed for goes =
-    made key (subst (λ (s : SetupData). InitGoesOn s old new end) (for.same key) goes)
+    made key (subst (λ (s : SetupData). InitGoesOn s (devices_of_seen old) (devices_of_seen new) end)
+    (for.same key) goes)
 
 -- it is this command
 pub inits-as : (command other : Read) (old new : Seen) (end : Ending) → command ≡ other →

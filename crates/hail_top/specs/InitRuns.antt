@@ -4,7 +4,7 @@
 --                                      have been cut off
 --   IsInitMade s end w own          == these moments are what the machine makes of an init with this setup,
 --                                      from this state on: a later call of the program, and the init
---   InitGoesOn s old new end        == whatever run from a start has left the devices, those behind the init
+--   InitGoesOn s d e end            == whatever run from a start has left the devices, those behind the init
 --                                      are left by that run with such moments
 --   InitsDevices numbers old new end
 --                                   == an `init` left the devices as they were, or goes on with that run
@@ -18,6 +18,7 @@ use Rattle.command_defs.specs.Forms.{Command, Numbers, InitWith}
 use Rattle.command_defs.specs.Inits.{setup_with}
 use Rattle.command_defs.specs.Seen.{Seen, Ending}
 use Rattle.vault_open.specs.declared.fault.InitFault.{InitFault}
+use Rattle.vault_open.specs.Devices.{Devices}
 use Rattle.vault_open.specs.Inits.{init_outcome}
 use Rattle.hail_replay.specs.Answers.{devices_of_seen}
 use Rattle.hail_replay.specs.Starts.{AreLeft, call_from}
@@ -37,17 +38,17 @@ pub record IsInitMade (s : Setup) (end : Ending) (w : State) (own : List Moment)
   pub told : TellsInit result end
 
 -- the devices behind an init are left by the run that left those before it, with its moments
-abbrev pub InitGoesOn : Setup → Seen → Seen → Ending → Type 0
-InitGoesOn s old new end =
-    (start : State) (ms : List Moment) → IsSome old.disk → AreLeft start ms (devices_of_seen old)
-    → (own : List Moment) × IsInitMade s end (now start ms) own
-    × AreLeft start (own ++ ms) (devices_of_seen new)
+abbrev pub InitGoesOn : Setup → Devices → Devices → Ending → Type 0
+InitGoesOn s d e end =
+    (start : State) (ms : List Moment) → IsSome d.holds → AreLeft start ms d
+    → (own : List Moment) × IsInitMade s end (now start ms) own × AreLeft start (own ++ ms) e
 
 -- an `init` left the devices as they were, or is an event of the machine with some key
 pub data InitsDevices (numbers : Numbers) (old new : Seen) (end : Ending) : Type 0 where
   untouched : new.disk ≡ old.disk → new.disk_faults ≡ old.disk_faults → new.providers ≡ old.providers
       → InitsDevices numbers old new end
-  made : (key : List ℕ) → InitGoesOn (setup_with numbers key) old new end
+  made : (key : List ℕ)
+      → InitGoesOn (setup_with numbers key) (devices_of_seen old) (devices_of_seen new) end
       → InitsDevices numbers old new end
 
 -- so does a command that is an `init`

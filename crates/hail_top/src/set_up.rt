@@ -5,6 +5,7 @@ ghost use Rattle.command_defs.specs.Forms.{Numbers as SevenNumbers};
 ghost use Rattle.command_defs.specs.Keys.{longest_key};
 ghost use Rattle.command_defs.specs.Seen.{ReadsUpTo, seen};
 ghost use Rattle.record_codec.specs.Entries.{with_master};
+ghost use Rattle.vault_open.specs.Devices.{devices};
 ghost use Rattle.command_defs.specs.Inits.{AnswersInit, InitsDisk};
 ghost use Rattle.command_words.specs.Commands.{numbers_of};
 ghost use Rattle.hail_top.specs.Endings.{ending_of};
@@ -57,13 +58,9 @@ fn set_up_disk<D: Disk, K: Sink>(
         (K.faults sink.old))
         (seen (D.holds disk.new) (D.faults disk.new) providers left' read_faults' (K.written sink.new)
         (K.faults sink.new)) (ending_of result) }
-    ensures goes_on { (providers : List Provider) (left left' : Option (List ℕ))
-        (read_faults read_faults' : ℕ)
-        → InitGoesOn (with_master setup.now master.now.0)
-        (seen (D.holds disk.old) (D.faults disk.old) providers left read_faults (K.written sink.old)
-        (K.faults sink.old))
-        (seen (D.holds disk.new) (D.faults disk.new) providers left' read_faults' (K.written sink.new)
-        (K.faults sink.new)) (ending_of result) }
+    ensures goes_on { (providers : List Provider) → InitGoesOn (with_master setup.now master.now.0)
+        (devices (D.holds disk.old) (D.faults disk.old) providers)
+        (devices (D.holds disk.new) (D.faults disk.new) providers) (ending_of result) }
     ensures tells { is_some (D.holds disk.new) ≡ is_some (D.holds disk.old) }
     ensures disk_count { D.faults disk.old ≤ D.faults disk.new }
     ensures sink_count { K.faults sink.old ≤ K.faults sink.new }

@@ -7,7 +7,7 @@ use Rattle.command_defs.specs.Seen.{Seen, Ending, provider_at}
 use Rattle.wire_defs.specs.Requests.{Request, Remove, AreFrames, requests_text}
 use Rattle.wire_defs.specs.Replies.{Done, Serves}
 use Rattle.wire_defs.specs.Serving.{End, Finished, BadAt, TooMany, SourceFailed, SinkFailed, OutOfMemory, HasServed, IsOfBytes, EndsOf, most_bytes}
-use Rattle.provider_server.specs.Answers.{served_status, ServesRequests, AnswersServe}
+use Rattle.provider_server.specs.Answers.{served_status, AnswersServe}
 use Rattle.provider_server.specs.Examples.{removal, before_removal, behind_removal}
 
 module _ (of_all : (bytes : List ℕ) (end : End) (left was now : Option (List ℕ)) (old new : Provider)

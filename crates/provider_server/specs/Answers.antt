@@ -5,7 +5,7 @@
 --   ServesRequests number old new end == the requests that the source gives were served with this provider
 --   AnswersServe number old new end   == `serve`: 22 exactly where the provider was not handed in, unless
 --                                        there was no memory for the words
-use Rattle.std.specs.Prelude.{◌≡◌, ◌≢◌, ℕ, ◌<◌, ◌≤◌, List, [], length}
+use Rattle.std.specs.Prelude.{◌≡◌, ◌≢◌, ℕ, ◌<◌, ◌≤◌, [], length}
 use Rattle.device_defs.specs.Faults.{HasCause}
 use Rattle.command_defs.specs.Seen.{Seen, Ending, provider_at}
 use Rattle.wire_defs.specs.Serving.{End, Finished, BadAt, TooMany, SourceFailed, SinkFailed, OutOfMemory, HasServed}

@@ -1,8 +1,6 @@
 -- How a server ended, as an ending; and the devices beside the disk, as they are seen.
-use Rattle.std.specs.Prelude.{ℕ, List, [], Option}
-use Rattle.device_defs.specs.Cells.{Cells}
-use Rattle.device_defs.specs.Providers.{Provider}
-use Rattle.command_defs.specs.Seen.{Seen, Ending}
+use Rattle.std.specs.Prelude.{[]}
+use Rattle.command_defs.specs.Seen.{Ending}
 use Rattle.provider_server.specs.declared.status.Served.{Served}
 
 -- how it ended

@@ -8,7 +8,9 @@ ghost use Rattle.wire_defs.specs.Serving.{most_bytes};
 ghost use Rattle.provider_server.specs.Answers.{AnswersServe};
 ghost use Rattle.provider_server.specs.Examples.{removal, before_removal, behind_removal};
 
-use provider_wire::laws::{a_byte_behind_a_removal_is_bad, bytes_have_one_end, ends_are_of_all_bytes};
+use provider_wire::laws::{
+    a_byte_behind_a_removal_is_bad, bytes_have_one_end, ends_are_of_all_bytes,
+};
 
 /// Where the provider is handed in, and the source has whole requests, of at most 2^24 bytes, a `serve` ends
 /// with 0, or finds no memory, unless the source or the sink failed.

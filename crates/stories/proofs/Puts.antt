@@ -1,5 +1,5 @@
 -- A put behind commands, with commands behind it that begin no put and no drop of its name.
-use Rattle.std.proofs.Common.{◌≡◌, ℕ, List, [], ◌∷◌, ◌++◌, refl, ap, sym, subst, ◌∙◌, inl, append_assoc}
+use Rattle.std.proofs.Common.{◌≡◌, ℕ, List, ◌∷◌, ◌++◌, ap, sym, subst, ◌∙◌, inl, append_assoc}
 use Rattle.machine_defs.specs.Began.{GivesUp, NoneBegan}
 use Rattle.machine_defs.specs.Lines.{lines_of}
 use Rattle.machine_defs.specs.Runs.{Moment}

@@ -1,5 +1,5 @@
 -- A replay of status 0, and devices that were not touched.
-use Rattle.std.proofs.Common.{◌≡◌, ℕ, ◌+◌, ◌≤◌, List, [], ◌++◌, length, reverse, Option, Some, None, refl, ap, sym, subst, ◌∙◌, inl, inr, arith}
+use Rattle.std.proofs.Common.{◌≡◌, ℕ, ◌+◌, List, [], ◌++◌, reverse, Some, ap, sym, subst, ◌∙◌, inl, inr, arith}
 use Rattle.std.specs.Prelude.{IsSome}
 use Rattle.std.proofs.lemmas.List.{append-nil, reverse-reverse}
 use Rattle.device_defs.specs.Told.{told_then}
@@ -9,7 +9,7 @@ use Rattle.opening_defs.specs.Opened.{AreHanded}
 use Rattle.machine_defs.specs.States.{State}
 use Rattle.machine_defs.specs.Transcripts.{Instruction, CarriesOut}
 use Rattle.command_defs.specs.Forms.{Numbers}
-use Rattle.command_defs.specs.Seen.{Seen, Ending, ReadsUpTo, sinking}
+use Rattle.command_defs.specs.Seen.{Seen, Ending, sinking}
 use Rattle.command_defs.specs.Sinking.{Sinking, WritesLine}
 use Rattle.schedule_text.specs.Schedules.{IsSchedule}
 use Rattle.hail_replay.specs.Answers.{longest_schedule, devices_of_seen, DoesSchedule, AnswersReplay}
@@ -60,7 +60,8 @@ module _ (one : (text : List ℕ) (commands others : List Instruction) → IsSch
         absurd (let e : 0 ≡ 19 = sym ok ∙ undone.status_is in omega arith)
     | AnswersReplay.no_memory reads undone ↦
         absurd (let e : 0 ≡ 70 = sym ok ∙ undone.status_is in omega arith)
-    | AnswersReplay.done t reads few does ↦ went t (whole (longest_schedule + 1) text t old.source new.source source reads (omega (arith, few))) does
+    | AnswersReplay.done t reads few does ↦ went t
+        (whole (longest_schedule + 1) text t old.source new.source source reads (omega (arith, few))) does
   ]
 
 -- devices that are as they were are left by the same run

@@ -17,13 +17,13 @@ returns-in-Err-clause-answers g c providers left left' count count' =
     (λ same. c.in-Err.ensures.cause.rose (ap (λ (f : InitFault). Err f) same)) refl refl
 
 pub returns-in-Ok-clause-goes_on : goal.returns-in-Ok-clause-goes_on
-returns-in-Ok-clause-goes_on g c providers left left' count count' =
+returns-in-Ok-clause-goes_on g c providers =
     init-on (with_master c.args.setup.now c.args.master.now.0) _ _ _ c.init.result
-    c.setups_are_spelled.ensures (λ w moment may devices. c.init.ensures.machine w providers moment may devices)
-    (ready-tells c.init.result _ _ c.in-Ok.is c.of.ensures c.write_text.ensures.writes)
+    c.setups_are_spelled.ensures (λ w moment may there. c.init.ensures.machine w providers moment may there)
+    (ready-tells c.init.result _ _ _ _ _ c.in-Ok.is c.of.ensures c.write_text.ensures.writes)
 
 pub returns-in-Err-clause-goes_on : goal.returns-in-Err-clause-goes_on
-returns-in-Err-clause-goes_on g c providers left left' count count' =
+returns-in-Err-clause-goes_on g c providers =
     init-on (with_master c.args.setup.now c.args.master.now.0) _ _ _ c.init.result
-    c.setups_are_spelled.ensures (λ w moment may devices. c.init.ensures.machine w providers moment may devices)
+    c.setups_are_spelled.ensures (λ w moment may there. c.init.ensures.machine w providers moment may there)
     (refused-tells c.init.result c.in-Err.fault _ c.in-Err.is c.not_set_up.ensures)

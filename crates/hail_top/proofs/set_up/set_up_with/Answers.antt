@@ -16,7 +16,7 @@ returns-in-None-clause-answers g c numbers providers left left' count count' for
 pub returns-in-Some-clause-goes_on : goal.returns-in-Some-clause-goes_on
 returns-in-Some-clause-goes_on g c numbers providers left left' count count' for =
     keyed-on c.args.setup.now numbers _ _ _ _ (length providers) for
-    (c.set_up_disk.ensures.goes_on providers left left' count count')
+    (c.set_up_disk.ensures.goes_on providers)
 
 pub returns-in-None-clause-goes_on : goal.returns-in-None-clause-goes_on
 returns-in-None-clause-goes_on g c numbers providers left left' count count' for =

@@ -1,8 +1,5 @@
-use Rattle.std.proofs.Common.{◌≡◌, ◌∙◌, ap, subst, sym, length, arith}
-use Rattle.std.specs.Prelude.{map, Some}
+use Rattle.std.proofs.Common.{arith}
 use Rattle.std.proofs.lemmas.Option.{slice_get-get_or}
-use Rattle.device_defs.specs.Faults.{HasCause}
-use Rattle.wire_defs.specs.Serving.{SourceFailed, SinkFailed}
 use Rattle.provider_model.specs.Seen.{provider_seen}
 use Rattle.provider_wire.specs.Ends.{end_of}
 use Rattle.provider_server.proofs.OneServed.{served-answers, served-counts, cause_source, cause_sink}

@@ -1,9 +1,8 @@
-use Rattle.std.proofs.Common.{List, inl, inr, [], ◌∷◌, ◌++◌, subst, sym, append_assoc, arith}
-use Rattle.machine_defs.specs.Runs.{Moment}
+use Rattle.std.proofs.Common.{inl, inr, [], ◌∷◌, ◌++◌, subst, sym, append_assoc, arith}
 use Rattle.hail_replay.specs.Answers.{devices_of_seen}
 use Rattle.hail_replay.specs.Starts.{AreLeft, call_from}
 use Rattle.machine_defs.specs.Runs.{now}
-use Rattle.command_defs.specs.Forms.{InitWith}
+use Rattle.command_defs.specs.Forms.{RowOf, InitWith}
 use Rattle.stories.proofs.Went.{left-same, init-left}
 use Rattle.stories.proofs.laws.commands_leave_devices.Goals as goal
 
@@ -16,12 +15,15 @@ returns-clause-stores c = λ words command start ms old new end answers form ope
       images = left.devices.images;
       faults_are = left.devices.faults;
       handed = left.devices.providers;
-    }) opens spelled (answers.answers command form) answers.counts in
-    (H.0, H.1, record {
-      starts = left.starts;
-      run = H.2;
-      devices = record { images = H.3.images; faults = H.3.faults_are; providers = H.3.handed };
-    }))
+    }) opens spelled (answers.answers command form) answers.counts in (
+      H.0,
+      H.1,
+      record {
+        starts = left.starts;
+        run = H.2;
+        devices = record { images = H.3.images; faults = H.3.faults_are; providers = H.3.handed };
+      },
+    ))
 
 pub returns-clause-init : goal.returns-clause-init
 returns-clause-init c = λ words numbers start ms old new end answers form told left.
@@ -32,14 +34,14 @@ returns-clause-carried c = λ words form start ms old new end answers is told le
     elim (answers.headline form is) [
       | inl u ↦ ([], left-same start ms old new u.2.disk u.2.disk_faults u.2.providers left)
       | inr goes ↦ (let G = goes start ms told left in (
-          G.later ++ call_from (now start ms) ∷ [],
-          subst (λ l. AreLeft start l (devices_of_seen new))
-              (sym (append_assoc G.later (call_from (now start ms) ∷ []) ms))
-              (record { starts = left.starts; run = G.carries.run; devices = G.carries.last }),
-        ))
+        G.later ++ call_from (now start ms) ∷ [],
+        subst (λ l. AreLeft start l (devices_of_seen new))
+            (sym (append_assoc G.later (call_from (now start ms) ∷ []) ms))
+            (record { starts = left.starts; run = G.carries.run; devices = G.carries.last }),
+      ))
     ]
 
 pub returns-clause-row : goal.returns-clause-row
 returns-clause-row c = λ words n l b symbols start ms old new end answers form left.
-    (let T = (answers.answers _ form).1 in
+    (let T = (answers.answers (RowOf n l b symbols) form).1 in
     left-same start ms old new T.disk T.disk_faults T.providers left)

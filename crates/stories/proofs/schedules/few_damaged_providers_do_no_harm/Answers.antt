@@ -9,7 +9,9 @@ use Rattle.stories.proofs.Gets.{is-got}
 use Rattle.stories.proofs.schedules.few_damaged_providers_do_no_harm.Goals as goal
 
 pub returns : goal.returns
-returns c = λ words text front middle name bytes p g ps start ms old new end answers form source spells asks ok told left tell before names.
+returns c =
+    λ words text front middle name bytes p g ps start ms old new end answers form source spells asks ok told
+    left tell before names.
     (let all = got_behind (middle ++ put_of front name bytes p) name g in
     let W = c.replays_go_on.ensures words text (reverse all) start ms old new end answers form source spells
     ok told left in

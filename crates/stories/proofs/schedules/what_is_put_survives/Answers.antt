@@ -1,4 +1,4 @@
-use Rattle.std.proofs.Common.{◌∷◌, ◌++◌, subst, arith}
+use Rattle.std.proofs.Common.{◌++◌, subst, arith}
 use Rattle.std.proofs.lemmas.List.{reverse-reverse}
 use Rattle.std.specs.Prelude.{reverse}
 use Rattle.machine_defs.specs.Transcripts.{CarriesOut}
@@ -9,7 +9,9 @@ use Rattle.stories.proofs.Puts.{puts-file}
 use Rattle.stories.proofs.schedules.what_is_put_survives.Goals as goal
 
 pub returns : goal.returns
-returns c = λ words text front middle name bytes p start ms old new end answers form source spells asks ok told left.
+returns c =
+    λ words text front middle name bytes p start ms old new end answers form source spells asks ok told
+    left.
     (let all = middle ++ put_of front name bytes p in
     let W = c.replays_go_on.ensures words text (reverse all) start ms old new end answers form source spells
     ok told left in
@@ -25,9 +27,12 @@ returns c = λ words text front middle name bytes p start ms old new end answers
       written = W.written;
       kept = λ begun ended.
           (let K = c.stored_files_are_kept.ensures 8 start (W.later ++ called_behind start ms) name bytes
-          left.starts W.left.run (put.stored begun ended) in
-          (K.file, K.size, K.bytes_are,
-          c.images_of_devices.ensures (devices_of_seen new) _ name K.file W.left.devices
-          (c.runs_are_sound.ensures 8 start (W.later ++ called_behind start ms) (omega arith, omega arith)
-          left.starts W.left.run) K.kept));
+          left.starts W.left.run (put.stored begun ended) in (
+            K.file,
+            K.size,
+            K.bytes_are,
+            c.images_of_devices.ensures (devices_of_seen new) _ name K.file W.left.devices
+                (c.runs_are_sound.ensures 8 start (W.later ++ called_behind start ms) (omega arith, omega arith)
+                left.starts W.left.run) K.kept,
+          ));
     })
