@@ -1,7 +1,6 @@
 -- How many providers agree with the row of given primary symbols.
-use Rattle.std.specs.Prelude.{◌≡◌, ℕ, zero, suc, ◌+◌, ◌-◌, ◌*◌, ◌<◌, ◌≤◌, ◌==◌, nat_eq, Bool, true, false, cond, List, [], ◌∷◌, ◌++◌, length, map, take, drop, replicate, slice_get, IfNone, Option, None, Some, if◌then◌else◌}
+use Rattle.std.specs.Prelude.{◌≡◌, ℕ, zero, suc, ◌+◌, ◌*◌, ◌<◌, ◌≤◌, ◌==◌, Bool, true, List, [], ◌∷◌, ◌++◌, length, map, take, drop, replicate, IfNone, Option, None, Some, if◌then◌else◌}
 use Rattle.std.proofs.Common.{arith, ap, sym, refl, ◌∙◌, get_or, subst}
-use Rattle.std.specs.List.{range_with_len}
 use Rattle.std.proofs.lemmas.Option.{slice_get-get_or}
 use Rattle.std.proofs.lemmas.List.{get_or-take, get_or-drop}
 use Rattle.std.proofs.lemmas.List.FromFn.{length-map-range_with_len, length-range_with_len, map-range_with_len_more, fill_by_all, get_or-map-range_with_len}
@@ -13,7 +12,6 @@ use Rattle.algebra_laws.proofs.Interpolate.{length-interpolate}
 use Rattle.code_defs.specs.Polynomials.{value, agree, is_seen, interpolate}
 use Rattle.code_defs.specs.Points.{upto}
 use Rattle.code_defs.specs.ServerCode.{codeword}
-use Rattle.code_defs.specs.DispersalCode.{Accepts}
 use Rattle.column_defs.specs.Objects.{Object, stripe_symbols, is_primary, kept_by, point, points}
 use Rattle.column_defs.specs.Keys.{secret_point}
 use Rattle.column_defs.specs.Columns.{row_polynomial, primary_row}
@@ -21,7 +19,7 @@ use Rattle.column_defs.specs.Opened.{SeenBlock, symbol_in, AcceptsRow}
 use Rattle.column_defs.proofs.ColumnLaws.{value-interpolate_upto}
 use Rattle.column_codec.specs.Agreement.{agreeing_at, agreed}
 use Rattle.column_codec.specs.OpenedBlocks.{opened_at, opened_of, HasRow}
-use Rattle.column_codec.specs.Rows.{symbols_at, row_value}
+use Rattle.column_codec.specs.Rows.{row_value}
 use Rattle.column_codec.proofs.RowLemmas.{symbols_at-row}
 use Rattle.column_codec.proofs.OpenLemmas.{seen-map}
 

@@ -1,12 +1,11 @@
 -- The values of kept rows, block by block, and the tables of weights.
-use Rattle.std.specs.Prelude.{◌≡◌, ℕ, ◌+◌, ◌-◌, ◌*◌, ◌<◌, ◌≤◌, List, [], Option, None, Some, IfSome, length, map, take, drop, replicate}
-use Rattle.std.proofs.Common.{arith, ap, sym, refl, ◌∙◌, get_or}
+use Rattle.std.specs.Prelude.{◌≡◌, ℕ, ◌+◌, ◌-◌, ◌*◌, ◌<◌, ◌≤◌, List, [], Option, None, Some, IfSome, length, take, drop}
+use Rattle.std.proofs.Common.{arith, ap, refl, ◌∙◌, get_or}
 use Rattle.std.specs.Option.{ForSome}
 use Rattle.std.proofs.lemmas.Nat.{div-mul-add, mod-mul-add}
 use Rattle.std.proofs.lemmas.List.{get_or-take, get_or-drop}
 use Rattle.std.proofs.lemmas.List.FromFn.{get_or-map-range_with_len, length-map-range_with_len}
 use Rattle.hail_field.specs.Nim.{nim_add, nim_mul}
-use Rattle.code_defs.specs.Points.{upto}
 use Rattle.code_defs.specs.Polynomials.{value}
 use Rattle.code_defs.specs.Sums.{dot}
 use Rattle.column_defs.specs.Objects.{Object, stripe_symbols, point}

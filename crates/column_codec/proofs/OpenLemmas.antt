@@ -10,8 +10,6 @@ use Rattle.std.proofs.lemmas.Nat.{div-mul-add, mod-mul-add}
 use Rattle.std.proofs.lemmas.List.FromFn.{length-map-range_with_len, get_or-map-range_with_len}
 use Rattle.code_defs.specs.Polynomials.{value}
 use Rattle.code_defs.specs.Points.{upto}
-use Rattle.code_defs.specs.Profiles.{Profile}
-use Rattle.code_defs.specs.ServerCode.{Opens, OpensToNone}
 use Rattle.code_defs.specs.DispersalCode.{Accepts, AcceptsNone}
 use Rattle.column_defs.specs.Objects.{Object, stripe_symbols, row_number, is_primary, point, points}
 use Rattle.column_defs.specs.Opened.{SeenBlock, masked, bare, OpensTo, AllOpen, AcceptsRow, AcceptsNoRow, GivesSymbols, LosesRow, symbol_in}

@@ -1,5 +1,5 @@
 -- Products by half bytes.
-use Rattle.std.specs.Prelude.{◌≡◌, ℕ, suc, ◌+◌, ◌-◌, ◌*◌, ◌/◌, ◌%◌, ◌^◌, ◌<◌, ◌≤◌, List, [], length}
+use Rattle.std.specs.Prelude.{◌≡◌, ℕ, ◌+◌, ◌-◌, ◌*◌, ◌/◌, ◌%◌, ◌^◌, ◌<◌, ◌≤◌}
 use Rattle.std.proofs.Common.{arith, ap, sym, refl, ◌∙◌, subst, pow-add, mul_comm}
 use Rattle.std.specs.Int.Bits.{xor_shifted}
 use Rattle.std.proofs.Common.{pow_pos}

@@ -1,4 +1,4 @@
-use Rattle.std.proofs.Common.{◌≡◌, ◌<◌, ◌∙◌, ℕ}
+use Rattle.std.proofs.Common.{◌∙◌}
 use Rattle.column_defs.specs.Opened.{GivesSymbols}
 use Rattle.file_layout.specs.Files.{shaped_object}
 use Rattle.column_codec.specs.PresentBlocks.{present_blocks}

@@ -1,4 +1,4 @@
-use Rattle.std.proofs.Common.{◌≡◌, ◌≤◌, ◌<◌, ℕ, get_or, length}
+use Rattle.std.proofs.Common.{◌≡◌, ◌≤◌, ◌<◌, ℕ, get_or}
 use Rattle.file_layout.specs.Files.{shaped_object}
 use Rattle.column_codec.specs.Agreement.{agreed}
 use Rattle.column_codec.proofs.keys.ObjectKeys.count_all.Given as goal

@@ -1,4 +1,4 @@
-use Rattle.std.proofs.Common.{◌≡◌, ◌+◌, ◌∙◌, ap, sym, arith, get_or, true, Some, None}
+use Rattle.std.proofs.Common.{◌≡◌, ◌+◌, ◌∙◌, ap, sym, arith, get_or, Some, None}
 use Rattle.std.specs.Bool.{if◌then◌else◌}
 use Rattle.column_defs.specs.Opened.{SeenBlock}
 use Rattle.code_points.proofs.Steps.{keep_below}

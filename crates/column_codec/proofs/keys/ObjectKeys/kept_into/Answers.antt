@@ -1,4 +1,4 @@
-use Rattle.std.proofs.Common.{◌≡◌, ◌-◌, ◌∙◌, [], ap, arith, refl, take, get_or, List, ℕ}
+use Rattle.std.proofs.Common.{◌≡◌, ◌∙◌, [], ap, arith, refl, take, get_or, List, ℕ}
 use Rattle.std.proofs.lemmas.List.{get_or-take}
 use Rattle.std.proofs.lemmas.List.FromFn.{fill_by_all}
 use Rattle.file_layout.specs.Files.{shaped_object}

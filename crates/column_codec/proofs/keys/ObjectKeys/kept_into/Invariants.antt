@@ -1,4 +1,4 @@
-use Rattle.std.proofs.Common.{◌≡◌, ◌<◌, ℕ, [], get_or, length}
+use Rattle.std.proofs.Common.{◌≡◌, ◌<◌, ℕ, [], get_or}
 use Rattle.hail_field.specs.Nim.{nim_add}
 use Rattle.code_defs.specs.Sums.{dot}
 use Rattle.column_codec.proofs.WeightLemmas.{differences_at}

@@ -1,4 +1,4 @@
-use Rattle.std.proofs.Common.{sym, ◌∙◌}
+use Rattle.std.proofs.Common.{sym}
 use Rattle.code_points.proofs.Steps.{keep_below}
 use Rattle.column_codec.proofs.OpenLemmas.{length-front}
 use Rattle.column_codec.proofs.keys.ObjectKeys.kept_of.Goals as goal

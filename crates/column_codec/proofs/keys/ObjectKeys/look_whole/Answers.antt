@@ -1,7 +1,7 @@
 use Rattle.std.proofs.Common.{◌∙◌, ap, subst, List, ℕ}
 use Rattle.std.proofs.lemmas.Bool.{OnTrue_from}
 use Rattle.code_points.specs.Profile.{plain_profile}
-use Rattle.code_defs.specs.ServerCode.{IsCodeword, Opens}
+use Rattle.code_defs.specs.ServerCode.{Opens}
 use Rattle.column_defs.specs.Opened.{bare}
 use Rattle.file_layout.specs.Files.{shaped_object}
 use Rattle.server_code.proofs.Checks.{codeword_opens}

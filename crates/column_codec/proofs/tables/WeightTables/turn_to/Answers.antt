@@ -1,4 +1,4 @@
-use Rattle.std.proofs.Common.{◌≡◌, ◌*◌, ◌-◌, ◌∙◌, ap, sym, arith, map, length}
+use Rattle.std.proofs.Common.{◌≡◌, ◌*◌, ◌-◌, ◌∙◌, ap, sym, arith, map}
 use Rattle.std.proofs.lemmas.List.{length-set, take_all}
 use Rattle.code_defs.specs.Points.{upto}
 use Rattle.column_codec.specs.ObjectKeys.{weight_at}
