@@ -6,7 +6,7 @@ mod generator;
 mod profile;
 mod table;
 
-pub use bytes::{byte_product, byte_sum};
+pub use bytes::{byte_inverse, byte_product, byte_sum};
 pub use generator::{generator_row, kept_multipliers, parity_row};
 pub use profile::{Profile, find_profile};
 pub use table::multiplier;

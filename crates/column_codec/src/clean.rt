@@ -1,10 +1,23 @@
 use crate::block::Block;
+use crate::guess::lacking;
 use crate::keys::ObjectKeys;
 use crate::masks::MasksAtHand;
 use crate::trust::Trust;
 use hail_field::Symbol;
 use hail_poly::Work;
 use server_code::AnyCode;
+
+/// The providers whose blocks were not looked at, where those of `first` were until `enough` were marked:
+/// where these are too few, each of them was.
+fn not_looked_at(first: &[bool; 16], marks: &[bool; 16], enough: u8) -> [bool; 16] {
+    let mut left = [true; 16];
+    if lacking(marks, 16) > 16usize.saturating_sub(usize::from(enough)) {
+        for j in 0..16 {
+            left[j] = !first[j];
+        }
+    }
+    left
+}
 
 impl ObjectKeys {
     ghost use Rattle.std.specs.Prelude.{◌≡◌, ◌≤◌, ◌<◌, ◌*◌, ℕ, Some, None, [], length, slice_index_or};
@@ -211,9 +224,9 @@ impl ObjectKeys {
         ) {
             return true;
         }
-        let all = [true; 16];
+        let left = not_looked_at(&first, &marks, enough);
         self.carry_marked(
-            code, stripe, seen, present, &all, shape.n, shape.b, &mut marks, trust, masks, rows,
+            code, stripe, seen, present, &left, shape.n, shape.b, &mut marks, trust, masks, rows,
             scratch, work,
         )
     }

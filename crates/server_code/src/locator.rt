@@ -5,7 +5,7 @@ ghost use Rattle.server_code.specs.Products.{AreProducts};
 
 use crate::products::{Multiples, scaled};
 use crate::tables::Tables;
-use code_points::{Profile, byte_product, multiplier};
+use code_points::{Profile, byte_inverse, byte_product, multiplier};
 use hail_field::Symbol;
 
 /// How many coefficients there is room for: one more than a block has symbols behind the kept ones.
@@ -196,8 +196,11 @@ fn error(products: &[Multiples], locator: &[u8], syndromes: &[Symbol], x: u8, we
         slope = byte_product(x, slope) ^ partial;
         sum = sum.add(scaled(products, partial, syndromes[locator.len() - 1 - k]));
     }
-    let divisor = Symbol(u128::from(byte_product(slope, weight)));
-    sum.mul(divisor.inv().unwrap_or(Symbol::ZERO))
+    let divisor = byte_product(slope, weight);
+    if divisor == 0 {
+        return Symbol::ZERO;
+    }
+    scaled(products, byte_inverse(divisor), sum)
 }
 
 /// Corrects the symbols at the places that the locator names.
