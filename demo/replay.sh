@@ -77,6 +77,21 @@ row 0 "$told" schedule home replay
 row 0 'b 5' empty home list
 row 0 stone empty home get b
 
+# The longest file at profile 2: 3,641 stripes of 1,152 bytes, so that block 3,640 is the last. With that one lost it still comes back.
+seq 1 700000 | head -c 4194304 | od -An -v -tx1 | tr -d ' \n' >hex
+{
+    printf 'init 6 3 1 2 4 8 0 %s\nreopen\nbegin put a ' $digits
+    cat hex
+    printf '\nrun 1\nlose 5 1 3641\nlose 5 1 3640\nbegin get a\nrun 2\n'
+} >long
+{
+    printf 'ready\nopened\njob 1\nput\nnothing held\nreplaced\njob 2\ngot '
+    cat hex
+    echo
+} >due
+"$hail" - replay <long >out 2>err || wrong "the longest file ends with $? ($(cat err))"
+cmp -s out due || wrong 'the longest file comes back otherwise'
+
 # A later schedule goes on with the store, and numbers its jobs from 1: damage, an audit that finds it, a repair, and more damage.
 cat >schedule <<SCHEDULE
 reopen
