@@ -1,229 +1,58 @@
 -- A repair whose store fails, from every state that was just opened.
-use Rattle.std.proofs.Common.{◌≡◌, ℕ, zero, suc, ◌+◌, ◌<◌, List, [], ◌∷◌, Some, None, refl, subst, ◌∙◌, inl, arith}
-use Rattle.std.specs.Prelude.{slice_get}
-use Rattle.device_defs.specs.Providers.{Provider}
+use Rattle.std.proofs.Common.{◌≡◌, ℕ, List, [], ◌∷◌, Some, None, refl, ◌∙◌, inl, arith}
 use Rattle.record_defs.specs.Spellings.{spelling}
-use Rattle.machine_defs.specs.Jobs.{RepairJob, Job, Fetched, Worked}
+use Rattle.machine_defs.specs.Jobs.{RepairJob}
 use Rattle.machine_defs.specs.Actions.{actions_of}
 use Rattle.machine_defs.specs.Answers.{ProviderFault}
-use Rattle.machine_defs.specs.Begins.{new_job}
-use Rattle.machine_defs.specs.Events.{Step, More, Ended}
 use Rattle.machine_defs.specs.Examples.{empty_provider}
-use Rattle.machine_defs.specs.Machine.{Happens}
-use Rattle.machine_defs.specs.Runs.{Moment}
-use Rattle.machine_defs.specs.States.{State, setup_in, with_provider}
+use Rattle.machine_defs.specs.States.{State, setup_in}
 use Rattle.second_half_laws.proofs.ByteSteps.{block_sized, symbols}
 use Rattle.command_defs.specs.Forms.{RepairDue}
-use Rattle.command_defs.specs.JobRuns.{AreSteps}
 use Rattle.command_defs.specs.Jobs.{RanAlone, RunsAlone, AnswersJob}
 use Rattle.command_defs.specs.Commands.{AnswersAlone, Answers}
-use Rattle.command_laws.specs.Pieces.{moment}
 use Rattle.job_laws.proofs.Telling.{left-alone, jobs-leave}
 use Rattle.job_laws.proofs.BeginRefusals.{refusal-of}
-use Rattle.command_runs.specs.Devices.{named, byte_audited_records, own_block, holds, fetched, failed_store, ends_at, due, repair_failed}
-use Rattle.command_runs.proofs.Shape.{formed, form-is, one_byte, one_byte-is}
-use Rattle.command_runs.proofs.Counting.{fetch-counts}
+use Rattle.command_runs.specs.Devices.{byte_audited_records, own_block, holds, ends_at, due, repair_failed}
+use Rattle.command_runs.proofs.Shape.{formed, one_byte}
 use Rattle.command_runs.proofs.Stores.{due-sure as old-sure, failed_due-new as new-sure}
 use Rattle.damage_run.proofs.Values.{without_two_give}
 use Rattle.command_runs.proofs.Begins.{repair_begins}
+use Rattle.made_runs.specs.Turns.{Turn, Came, Works, StoreFails, after_step}
+use Rattle.made_runs.proofs.Turns.{goes-so}
+use Rattle.command_runs.proofs.Made.{after_turns, runs-so, four-each, alone-byte}
 
 module _ (w : State) (n : ℕ) (count : w.handed ≡ 4) where
   abbrev v : State
   v = formed byte_audited_records (one_byte w.bytes) (holds 0) (holds 1) (empty_provider) (holds 3) w
 
-  abbrev base : Job
-  base = new_job v n (RepairJob)
+  abbrev turns : List Turn
+  turns = (Works symbols) ∷ (Came (Some (own_block 3))) ∷ (Came None) ∷ (Came (Some (own_block 1))) ∷ (Came (Some (own_block 0))) ∷ []
 
-  abbrev s0 : State
-  s0 = record v { jobs = base ∷ []; next_job = 2 }
+  abbrev at_end : State
+  at_end = after_turns v n (RepairJob) turns
 
-  abbrev ps1 : ℕ → Provider
-  ps1 = with_provider v.providers 0 (fetched (v.providers 0))
-
-  abbrev s1 : State
-  s1 = record v {
-    jobs = (record base { place = 1; given = Fetched 0 1 0 (Some (own_block 0)) ∷ [] }) ∷ [];
-    next_job = 2;
-    providers = ps1;
-  }
-
-  happens1 : (m : ℕ) → Happens 8 m s0 (Step 1) More s1
-  unfolding setup_in actions_of
-  happens1 m = (
-    Some (own_block 0),
-    (
-      fetched (v.providers 0),
-      record { held = refl; counts = fetch-counts (v.providers 0); gives = inl (block_sized 0) },
-      refl,
-    ),
-  )
-
-  abbrev ps2 : ℕ → Provider
-  ps2 = with_provider ps1 1 (fetched (ps1 1))
-
-  abbrev s2 : State
-  s2 = record v {
-    jobs = (record base {
-      place = 2;
-      given = Fetched 1 1 0 (Some (own_block 1)) ∷ Fetched 0 1 0 (Some (own_block 0)) ∷ [];
-    }) ∷ [];
-    next_job = 2;
-    providers = ps2;
-  }
-
-  happens2 : (m : ℕ) → Happens 8 m s1 (Step 1) More s2
-  unfolding setup_in actions_of
-  happens2 m = (
-    Some (own_block 1),
-    (
-      fetched (ps1 1),
-      record { held = refl; counts = fetch-counts (ps1 1); gives = inl (block_sized 1) },
-      refl,
-    ),
-  )
-
-  abbrev ps3 : ℕ → Provider
-  ps3 = with_provider ps2 2 (fetched (ps2 2))
-
-  abbrev s3 : State
-  s3 = record v {
-    jobs = (record base {
-      place = 3;
-      given = Fetched 2 1 0 (None) ∷ Fetched 1 1 0 (Some (own_block 1)) ∷ Fetched 0 1 0
-          (Some (own_block 0)) ∷ [];
-    }) ∷ [];
-    next_job = 2;
-    providers = ps3;
-  }
-
-  happens3 : (m : ℕ) → Happens 8 m s2 (Step 1) More s3
-  unfolding setup_in actions_of
-  happens3 m = (
-    None,
-    (fetched (ps2 2), record { held = refl; counts = fetch-counts (ps2 2); gives = inl (refl) }, refl),
-  )
-
-  abbrev ps4 : ℕ → Provider
-  ps4 = with_provider ps3 3 (fetched (ps3 3))
-
-  abbrev s4 : State
-  s4 = record v {
-    jobs = (record base {
-      place = 4;
-      given = Fetched 3 1 0 (Some (own_block 3)) ∷ Fetched 2 1 0 (None) ∷ Fetched 1 1 0
-          (Some (own_block 1)) ∷ Fetched 0 1 0 (Some (own_block 0)) ∷ [];
-    }) ∷ [];
-    next_job = 2;
-    providers = ps4;
-  }
-
-  happens4 : (m : ℕ) → Happens 8 m s3 (Step 1) More s4
-  unfolding setup_in actions_of
-  happens4 m = (
-    Some (own_block 3),
-    (
-      fetched (ps3 3),
-      record { held = refl; counts = fetch-counts (ps3 3); gives = inl (block_sized 3) },
-      refl,
-    ),
-  )
-
-  abbrev s5 : State
-  s5 = record v {
-    jobs = (record base {
-      place = 5;
-      given = Worked 1 0 symbols ∷ Fetched 3 1 0 (Some (own_block 3)) ∷ Fetched 2 1 0 (None) ∷ Fetched 1 1 0
-          (Some (own_block 1)) ∷ Fetched 0 1 0 (Some (own_block 0)) ∷ [];
-    }) ∷ [];
-    next_job = 2;
-    providers = ps4;
-  }
-
-  happens5 : (m : ℕ) → Happens 8 m s4 (Step 1) More s5
-  unfolding setup_in actions_of
-  happens5 m = (symbols, without_two_give, refl)
-
-  abbrev ps5 : ℕ → Provider
-  ps5 = with_provider ps4 2 (failed_store (ps4 2))
-
-  abbrev s6 : State
-  s6 = record v { jobs = []; next_job = 2; providers = ps5 }
-
-  happens6 : (m : ℕ) → Happens 8 m s5 (Step 1) (Ended (ProviderFault 2)) s6
-  unfolding setup_in actions_of
-  happens6 m = (
-    refl,
-    (
-      failed_store (ps4 2),
-      record {
-        held = refl;
-        counts = record { store_faults = omega arith; other_faults = refl; fetches = refl };
-        cause = λ low. omega arith;
-      },
-      refl,
-    ),
-  )
-
-  abbrev step : State → Moment
-  step s = moment (Step 1) More s
-
-  steps : List Moment
-  steps = step s5 ∷ step s4 ∷ step s3 ∷ step s2 ∷ step s1 ∷ []
-
-  steps-are : AreSteps s0 (n + 1) 1 steps
-  unfolding steps
-  steps-are = (
-    refl,
-    refl,
-    happens5 0,
-    (
-      refl,
-      refl,
-      happens4 0,
-      (refl, refl, happens3 0, (refl, refl, happens2 0, (refl, refl, happens1 0, tt))),
-    ),
-  )
-
-  each : (j : ℕ) → j < 4 → slice_get (repair_failed).providers j ≡ Some (s6.providers j)
-  each zero l = refl
-  each (suc zero) l = refl
-  each (suc (suc zero)) l = refl
-  each (suc (suc (suc zero))) l = refl
-  each (suc (suc (suc (suc j)))) l = absurd (omega (arith, l))
+  abbrev last : State
+  last = after_step at_end 1 (StoreFails 2)
 
   ran-formed : RanAlone byte_audited_records (RepairJob) (ProviderFault 2) (due) (repair_failed) ([]) 0 v n
-  unfolding steps spelling
+  unfolding setup_in actions_of spelling
   ran-formed = record {
-    last = s6;
-    runs = record {
-      begun = s0;
-      job = 1;
-      begins = (
-        refl,
-        refusal-of v (RepairJob) refl refl refl
-            (record { journal = refl; area = refl; unswitched = refl }) ∙ repair_begins,
-        refl,
-        refl,
-      );
-      goes_on = record { steps = steps; are_steps = steps-are; ends = happens6 0; heard_is = refl };
-    };
+    last = last;
+    runs = runs-so v n (RepairJob) turns (ProviderFault 2) last refl
+        (refusal-of v (RepairJob) refl refl refl
+        (record { journal = refl; area = refl; unswitched = refl }) ∙ repair_begins)
+        (refl, (refl, (refl, without_two_give)), (refl, (refl, (refl, block_sized 3)), (refl, (refl, (refl, refl)), (refl, (refl, (refl, block_sized 1)), (refl, (refl, (refl, block_sized 0)), tt)))))
+        (goes-so 8 n at_end 1 (StoreFails 2) (refl, (refl, refl)));
     images = λ image is. inl (inl (refl, new-sure.images image is));
     faults_are = refl;
-    handed = record { count = count; each = each };
+    handed = record { count = count; each = four-each (repair_failed).providers last.providers refl refl refl refl };
     past_text = refl;
   }
 
 -- the repair's job runs to a failed store of provider 2 from every state just opened over the store
 pub alone : RunsAlone byte_audited_records (RepairJob) (ProviderFault 2) (due) (repair_failed) ([])
-alone = record {
-  faults = 0;
-  before = omega arith;
-  ran = λ w n V. subst (λ u. RanAlone byte_audited_records (RepairJob) (ProviderFault 2) (due) (repair_failed)
-      ([]) 0 u n)
-      (form-is byte_audited_records (one_byte w.bytes) (holds 0) (holds 1) (empty_provider) (holds 3) w
-      (one_byte-is w.bytes (V.bytes named (record { name = named; id = 1; size = 1; profile = 0 }) refl).1) V)
-      (ran-formed w n V.handed.count);
-}
+alone = alone-byte byte_audited_records (holds 0) (holds 1) (empty_provider) (holds 3) (RepairJob) (ProviderFault 2) (due) (repair_failed) ([])
+    (omega arith) refl refl ran-formed
 
 -- the repair ends with status 13, at provider 2
 pub answers : Answers (RepairDue) (due) (repair_failed) (ends_at 13 2)

@@ -1,352 +1,57 @@
 -- A put over devices that tell nothing, from every state that was just opened.
-use Rattle.std.proofs.Common.{◌≡◌, ℕ, zero, suc, ◌+◌, ◌<◌, ◌==◌, List, [], ◌∷◌, Some, None, refl, subst, ◌∙◌, inl, arith}
-use Rattle.std.specs.Prelude.{slice_get, if◌then◌else◌}
-use Rattle.device_defs.specs.Providers.{Provider}
-use Rattle.record_defs.specs.Records.{PutStart, PutDone}
+use Rattle.std.proofs.Common.{◌≡◌, ℕ, List, [], ◌∷◌, refl, ◌∙◌, inl, arith}
 use Rattle.record_defs.specs.Spellings.{spelling}
-use Rattle.machine_defs.specs.Jobs.{PutJob, Job}
+use Rattle.machine_defs.specs.Jobs.{PutJob}
 use Rattle.machine_defs.specs.Actions.{actions_of}
 use Rattle.machine_defs.specs.Answers.{Put}
-use Rattle.machine_defs.specs.Begins.{new_job}
-use Rattle.machine_defs.specs.Events.{Step, More, Ended}
-use Rattle.machine_defs.specs.Machine.{Happens}
-use Rattle.machine_defs.specs.Runs.{Moment}
-use Rattle.machine_defs.specs.States.{State, setup_in, with_provider}
+use Rattle.machine_defs.specs.States.{State, setup_in}
 use Rattle.command_defs.specs.Forms.{PutUnder}
-use Rattle.command_defs.specs.JobRuns.{AreSteps}
 use Rattle.command_defs.specs.Jobs.{RanAlone, RunsAlone, AnswersJob}
 use Rattle.command_defs.specs.Commands.{AnswersPut, Answers}
-use Rattle.command_laws.specs.Pieces.{moment}
 use Rattle.job_laws.proofs.Telling.{left-alone, jobs-leave}
 use Rattle.job_laws.proofs.BeginRefusals.{refusal-of}
-use Rattle.command_runs.specs.Devices.{named, four_records, started_records, byte_records, given_block, all_hidden, silent}
+use Rattle.command_runs.specs.Devices.{named, four_records, all_hidden, silent}
 use Rattle.damage_run.specs.Schedule.{byte}
 use Rattle.command_laws.specs.Instances.{ends}
-use Rattle.command_runs.proofs.Shape.{formed, form-is}
-use Rattle.command_runs.proofs.Counting.{store-counts}
+use Rattle.command_runs.proofs.Shape.{formed}
 use Rattle.command_runs.proofs.Stores.{hidden-fresh}
 use Rattle.command_runs.proofs.Begins.{put_begins}
+use Rattle.made_runs.specs.Turns.{Turn, Goes, Gives, after_step}
+use Rattle.made_runs.proofs.Turns.{goes-so}
+use Rattle.command_runs.proofs.Made.{after_turns, runs-so, four-each, alone-over}
 
 module _ (w : State) (n : ℕ) (count : w.handed ≡ 4) where
   abbrev v : State
   v = formed four_records w.bytes (silent) (silent) (silent) (silent) w
 
-  abbrev base : Job
-  base = new_job v n (PutJob named byte)
+  abbrev turns : List Turn
+  turns = (Goes 12) ∷ []
 
-  abbrev s0 : State
-  s0 = record v { jobs = base ∷ []; next_job = 2 }
+  abbrev at_end : State
+  at_end = after_turns v n (PutJob named byte) turns
 
-  abbrev s1 : State
-  s1 = record v {
-    bytes = (λ id. if id == 1 then byte else v.bytes id);
-    jobs = (record base { subject = 1; place = 1 }) ∷ [];
-    next_job = 2;
-    append = Some (record { job = 1; entry = (PutStart 1 named); moves = 1 });
-  }
-
-  happens1 : (m : ℕ) → Happens 8 m s0 (Step 1) More s1
-  unfolding setup_in actions_of
-  happens1 m = ((PutStart 1 named), refl, (0, omega arith, refl))
-
-  abbrev s2 : State
-  s2 = record v {
-    bytes = (λ id. if id == 1 then byte else v.bytes id);
-    jobs = (record base { subject = 1; place = 2 }) ∷ [];
-    next_job = 2;
-    append = Some (record { job = 1; entry = (PutStart 1 named); moves = 2 });
-  }
-
-  happens2 : (m : ℕ) → Happens 8 m s1 (Step 1) More s2
-  unfolding setup_in actions_of
-  happens2 m = ((refl, refl), (0, omega arith, refl))
-
-  abbrev s3 : State
-  s3 = record v {
-    bytes = (λ id. if id == 1 then byte else v.bytes id);
-    jobs = (record base { subject = 1; place = 3 }) ∷ [];
-    next_job = 2;
-    append = Some (record { job = 1; entry = (PutStart 1 named); moves = 3 });
-    doubt = Some (record {
-      entry = (PutStart 1 named);
-      maker = Some (record base { subject = 1; place = 3 });
-    });
-  }
-
-  happens3 : (m : ℕ) → Happens 8 m s2 (Step 1) More s3
-  unfolding setup_in actions_of
-  happens3 m = ((refl, refl), (0, omega arith, refl))
-
-  abbrev s4 : State
-  s4 = record v {
-    records = started_records;
-    journal = started_records;
-    bytes = (λ id. if id == 1 then byte else v.bytes id);
-    jobs = (record base { subject = 1; place = 4 }) ∷ [];
-    next_job = 2;
-    append = None;
-    doubt = None;
-  }
-
-  happens4 : (m : ℕ) → Happens 8 m s3 (Step 1) More s4
-  unfolding setup_in actions_of
-  happens4 m = ((refl, refl), (0, omega arith, refl))
-
-  abbrev ps1 : ℕ → Provider
-  ps1 = with_provider v.providers 0 (given_block 0 (v.providers 0))
-
-  abbrev s5 : State
-  s5 = record v {
-    records = started_records;
-    journal = started_records;
-    bytes = (λ id. if id == 1 then byte else v.bytes id);
-    jobs = (record base { subject = 1; place = 5 }) ∷ [];
-    next_job = 2;
-    append = None;
-    doubt = None;
-    providers = ps1;
-  }
-
-  happens5 : (m : ℕ) → Happens 8 m s4 (Step 1) More s5
-  unfolding setup_in actions_of
-  happens5 m = (
-    given_block 0 (v.providers 0),
-    record { held = refl; counts = store-counts 0 (v.providers 0) },
-    refl,
-  )
-
-  abbrev ps2 : ℕ → Provider
-  ps2 = with_provider ps1 1 (given_block 1 (ps1 1))
-
-  abbrev s6 : State
-  s6 = record v {
-    records = started_records;
-    journal = started_records;
-    bytes = (λ id. if id == 1 then byte else v.bytes id);
-    jobs = (record base { subject = 1; place = 6 }) ∷ [];
-    next_job = 2;
-    append = None;
-    doubt = None;
-    providers = ps2;
-  }
-
-  happens6 : (m : ℕ) → Happens 8 m s5 (Step 1) More s6
-  unfolding setup_in actions_of
-  happens6 m = (given_block 1 (ps1 1), record { held = refl; counts = store-counts 1 (ps1 1) }, refl)
-
-  abbrev ps3 : ℕ → Provider
-  ps3 = with_provider ps2 2 (given_block 2 (ps2 2))
-
-  abbrev s7 : State
-  s7 = record v {
-    records = started_records;
-    journal = started_records;
-    bytes = (λ id. if id == 1 then byte else v.bytes id);
-    jobs = (record base { subject = 1; place = 7 }) ∷ [];
-    next_job = 2;
-    append = None;
-    doubt = None;
-    providers = ps3;
-  }
-
-  happens7 : (m : ℕ) → Happens 8 m s6 (Step 1) More s7
-  unfolding setup_in actions_of
-  happens7 m = (given_block 2 (ps2 2), record { held = refl; counts = store-counts 2 (ps2 2) }, refl)
-
-  abbrev ps4 : ℕ → Provider
-  ps4 = with_provider ps3 3 (given_block 3 (ps3 3))
-
-  abbrev s8 : State
-  s8 = record v {
-    records = started_records;
-    journal = started_records;
-    bytes = (λ id. if id == 1 then byte else v.bytes id);
-    jobs = (record base { subject = 1; place = 8 }) ∷ [];
-    next_job = 2;
-    append = None;
-    doubt = None;
-    providers = ps4;
-  }
-
-  happens8 : (m : ℕ) → Happens 8 m s7 (Step 1) More s8
-  unfolding setup_in actions_of
-  happens8 m = (given_block 3 (ps3 3), record { held = refl; counts = store-counts 3 (ps3 3) }, refl)
-
-  abbrev s9 : State
-  s9 = record v {
-    records = started_records;
-    journal = started_records;
-    bytes = (λ id. if id == 1 then byte else v.bytes id);
-    jobs = (record base { subject = 1; place = 9 }) ∷ [];
-    next_job = 2;
-    append = Some (record { job = 1; entry = (PutDone 1 1); moves = 1 });
-    doubt = None;
-    providers = ps4;
-  }
-
-  happens9 : (m : ℕ) → Happens 8 m s8 (Step 1) More s9
-  unfolding setup_in actions_of
-  happens9 m = ((PutDone 1 1), refl, (0, omega arith, refl))
-
-  abbrev s10 : State
-  s10 = record v {
-    records = started_records;
-    journal = started_records;
-    bytes = (λ id. if id == 1 then byte else v.bytes id);
-    jobs = (record base { subject = 1; place = 10 }) ∷ [];
-    next_job = 2;
-    append = Some (record { job = 1; entry = (PutDone 1 1); moves = 2 });
-    doubt = None;
-    providers = ps4;
-  }
-
-  happens10 : (m : ℕ) → Happens 8 m s9 (Step 1) More s10
-  unfolding setup_in actions_of
-  happens10 m = ((refl, refl), (0, omega arith, refl))
-
-  abbrev s11 : State
-  s11 = record v {
-    records = started_records;
-    journal = started_records;
-    bytes = (λ id. if id == 1 then byte else v.bytes id);
-    jobs = (record base { subject = 1; place = 11 }) ∷ [];
-    next_job = 2;
-    append = Some (record { job = 1; entry = (PutDone 1 1); moves = 3 });
-    doubt = Some (record { entry = (PutDone 1 1); maker = Some (record base { subject = 1; place = 11 }) });
-    providers = ps4;
-  }
-
-  happens11 : (m : ℕ) → Happens 8 m s10 (Step 1) More s11
-  unfolding setup_in actions_of
-  happens11 m = ((refl, refl), (0, omega arith, refl))
-
-  abbrev s12 : State
-  s12 = record v {
-    records = byte_records;
-    journal = byte_records;
-    bytes = (λ id. if id == 1 then byte else v.bytes id);
-    jobs = (record base { subject = 1; place = 12 }) ∷ [];
-    next_job = 2;
-    append = None;
-    doubt = None;
-    providers = ps4;
-  }
-
-  happens12 : (m : ℕ) → Happens 8 m s11 (Step 1) More s12
-  unfolding setup_in actions_of
-  happens12 m = ((refl, refl), (0, omega arith, refl))
-
-  abbrev s13 : State
-  s13 = record v {
-    records = byte_records;
-    journal = byte_records;
-    bytes = (λ id. if id == 1 then byte else v.bytes id);
-    jobs = [];
-    next_job = 2;
-    append = None;
-    doubt = None;
-    providers = ps4;
-  }
-
-  happens13 : (m : ℕ) → Happens 8 m s12 (Step 1) (Ended (Put)) s13
-  unfolding setup_in actions_of
-  happens13 m = (tt, refl)
-
-  abbrev step : State → Moment
-  step s = moment (Step 1) More s
-
-  steps : List Moment
-  steps = step s12 ∷ step s11 ∷ step s10 ∷ step s9 ∷ step s8 ∷ step s7 ∷ step s6 ∷ step s5 ∷ step s4 ∷ step
-      s3 ∷ step s2 ∷ step s1 ∷ []
-
-  steps-are : AreSteps s0 (n + 1) 1 steps
-  unfolding steps
-  steps-are = (
-    refl,
-    refl,
-    happens12 0,
-    (
-      refl,
-      refl,
-      happens11 0,
-      (
-        refl,
-        refl,
-        happens10 0,
-        (
-          refl,
-          refl,
-          happens9 0,
-          (
-            refl,
-            refl,
-            happens8 0,
-            (
-              refl,
-              refl,
-              happens7 0,
-              (
-                refl,
-                refl,
-                happens6 0,
-                (
-                  refl,
-                  refl,
-                  happens5 0,
-                  (
-                    refl,
-                    refl,
-                    happens4 0,
-                    (refl, refl, happens3 0, (refl, refl, happens2 0, (refl, refl, happens1 0, tt))),
-                  ),
-                ),
-              ),
-            ),
-          ),
-        ),
-      ),
-    ),
-  )
-
-  each : (j : ℕ) → j < 4 → slice_get (all_hidden).providers j ≡ Some (s13.providers j)
-  each zero l = refl
-  each (suc zero) l = refl
-  each (suc (suc zero)) l = refl
-  each (suc (suc (suc zero))) l = refl
-  each (suc (suc (suc (suc j)))) l = absurd (omega (arith, l))
+  abbrev last : State
+  last = after_step at_end 1 (Gives Put)
 
   ran-formed : RanAlone four_records (PutJob named byte) (Put) (all_hidden) (all_hidden) ([]) 0 v n
-  unfolding steps spelling
+  unfolding setup_in actions_of spelling
   ran-formed = record {
-    last = s13;
-    runs = record {
-      begun = s0;
-      job = 1;
-      begins = (
-        refl,
-        refusal-of v (PutJob named byte) refl refl refl
-            (record { journal = refl; area = refl; unswitched = refl }) ∙ put_begins,
-        refl,
-        refl,
-      );
-      goes_on = record { steps = steps; are_steps = steps-are; ends = happens13 0; heard_is = refl };
-    };
+    last = last;
+    runs = runs-so v n (PutJob named byte) turns (Put) last refl
+        (refusal-of v (PutJob named byte) refl refl refl
+        (record { journal = refl; area = refl; unswitched = refl }) ∙ put_begins)
+        (refl, refl, tt)
+        (goes-so 8 n at_end 1 (Gives Put) (refl, (refl, tt)));
     images = tt;
     faults_are = refl;
-    handed = record { count = count; each = each };
+    handed = record { count = count; each = four-each (all_hidden).providers last.providers refl refl refl refl };
     past_text = refl;
   }
 
 -- the put's job runs to its end from every state just opened over devices that tell nothing
 pub alone : RunsAlone four_records (PutJob named byte) (Put) (all_hidden) (all_hidden) ([])
-alone = record {
-  faults = 0;
-  before = omega arith;
-  ran = λ w n V. subst (λ u. RanAlone four_records (PutJob named byte) (Put) (all_hidden) (all_hidden)
-      ([]) 0 u n)
-      (form-is four_records w.bytes (silent) (silent) (silent) (silent) w refl V)
-      (ran-formed w n V.handed.count);
-}
+alone = alone-over four_records (silent) (silent) (silent) (silent) (PutJob named byte) (Put) (all_hidden) (all_hidden) ([])
+    (omega arith) refl ran-formed
 
 -- the put ends with status 0
 pub answers : Answers (PutUnder named) (all_hidden) (all_hidden) (ends 0)

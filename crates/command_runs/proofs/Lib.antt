@@ -3,6 +3,7 @@ pub mod Shape
 pub mod Stores
 pub mod StoredPut
 pub mod FailedPut
+pub mod Made
 pub mod CutPut
 pub mod NoRoomPut
 pub mod DoneDrop

@@ -1,186 +1,60 @@
 -- A repair over blocks that are all lost, from every state that was just opened.
-use Rattle.std.proofs.Common.{◌≡◌, ℕ, zero, suc, ◌+◌, ◌<◌, List, [], ◌∷◌, Some, None, refl, subst, ◌∙◌, inl, arith}
-use Rattle.std.specs.Prelude.{slice_get}
-use Rattle.device_defs.specs.Providers.{Provider}
+use Rattle.std.proofs.Common.{◌≡◌, ℕ, List, [], ◌∷◌, None, refl, ◌∙◌, inl, arith}
 use Rattle.record_defs.specs.Spellings.{spelling}
-use Rattle.machine_defs.specs.Jobs.{RepairJob, Job, Fetched}
+use Rattle.machine_defs.specs.Jobs.{RepairJob}
 use Rattle.machine_defs.specs.Actions.{actions_of}
 use Rattle.machine_defs.specs.Answers.{Lost}
-use Rattle.machine_defs.specs.Begins.{new_job}
-use Rattle.machine_defs.specs.Events.{Step, More, Ended}
 use Rattle.machine_defs.specs.Examples.{empty_provider}
 use Rattle.record_defs.specs.Examples.{four}
-use Rattle.machine_defs.specs.Machine.{Happens}
-use Rattle.machine_defs.specs.Runs.{Moment}
-use Rattle.machine_defs.specs.States.{State, setup_in, with_provider}
+use Rattle.machine_defs.specs.States.{State, setup_in}
 use Rattle.command_defs.specs.Forms.{RepairDue}
-use Rattle.command_defs.specs.JobRuns.{AreSteps}
 use Rattle.command_defs.specs.Jobs.{RanAlone, RunsAlone, AnswersJob}
 use Rattle.command_defs.specs.Commands.{AnswersAlone, Answers}
-use Rattle.command_laws.specs.Pieces.{moment}
 use Rattle.job_laws.proofs.Telling.{left-alone, jobs-leave}
 use Rattle.job_laws.proofs.BeginRefusals.{refusal-of}
-use Rattle.command_runs.specs.Devices.{named, byte_audited_records, fetched, due_lost, repair_lost}
+use Rattle.command_runs.specs.Devices.{byte_audited_records, due_lost, repair_lost}
 use Rattle.command_laws.specs.Instances.{ends}
-use Rattle.command_runs.proofs.Shape.{formed, form-is, one_byte, one_byte-is}
-use Rattle.command_runs.proofs.Counting.{fetch-counts}
+use Rattle.command_runs.proofs.Shape.{formed, one_byte}
 use Rattle.column_laws.proofs.Worked.{none-lose}
 use Rattle.command_runs.proofs.Stores.{robbed_due-old as old-sure, lost_due-new as new-sure}
 use Rattle.command_runs.proofs.Begins.{repair_begins}
+use Rattle.made_runs.specs.Turns.{Turn, Came, LosesOne, after_step}
+use Rattle.made_runs.proofs.Turns.{goes-so}
+use Rattle.command_runs.proofs.Made.{after_turns, runs-so, four-each, alone-byte}
 
 module _ (w : State) (n : ℕ) (count : w.handed ≡ 4) where
   abbrev v : State
   v = formed byte_audited_records (one_byte w.bytes) (empty_provider) (empty_provider) (empty_provider)
       (empty_provider) w
 
-  abbrev base : Job
-  base = new_job v n (RepairJob)
+  abbrev turns : List Turn
+  turns = (Came None) ∷ (Came None) ∷ (Came None) ∷ (Came None) ∷ []
 
-  abbrev s0 : State
-  s0 = record v { jobs = base ∷ []; next_job = 2 }
+  abbrev at_end : State
+  at_end = after_turns v n (RepairJob) turns
 
-  abbrev ps1 : ℕ → Provider
-  ps1 = with_provider v.providers 0 (fetched (v.providers 0))
-
-  abbrev s1 : State
-  s1 = record v {
-    jobs = (record base { place = 1; given = Fetched 0 1 0 (None) ∷ [] }) ∷ [];
-    next_job = 2;
-    providers = ps1;
-  }
-
-  happens1 : (m : ℕ) → Happens 8 m s0 (Step 1) More s1
-  unfolding setup_in actions_of
-  happens1 m = (
-    None,
-    (
-      fetched (v.providers 0),
-      record { held = refl; counts = fetch-counts (v.providers 0); gives = inl (refl) },
-      refl,
-    ),
-  )
-
-  abbrev ps2 : ℕ → Provider
-  ps2 = with_provider ps1 1 (fetched (ps1 1))
-
-  abbrev s2 : State
-  s2 = record v {
-    jobs = (record base { place = 2; given = Fetched 1 1 0 (None) ∷ Fetched 0 1 0 (None) ∷ [] }) ∷ [];
-    next_job = 2;
-    providers = ps2;
-  }
-
-  happens2 : (m : ℕ) → Happens 8 m s1 (Step 1) More s2
-  unfolding setup_in actions_of
-  happens2 m = (
-    None,
-    (fetched (ps1 1), record { held = refl; counts = fetch-counts (ps1 1); gives = inl (refl) }, refl),
-  )
-
-  abbrev ps3 : ℕ → Provider
-  ps3 = with_provider ps2 2 (fetched (ps2 2))
-
-  abbrev s3 : State
-  s3 = record v {
-    jobs = (record base {
-      place = 3;
-      given = Fetched 2 1 0 (None) ∷ Fetched 1 1 0 (None) ∷ Fetched 0 1 0 (None) ∷ [];
-    }) ∷ [];
-    next_job = 2;
-    providers = ps3;
-  }
-
-  happens3 : (m : ℕ) → Happens 8 m s2 (Step 1) More s3
-  unfolding setup_in actions_of
-  happens3 m = (
-    None,
-    (fetched (ps2 2), record { held = refl; counts = fetch-counts (ps2 2); gives = inl (refl) }, refl),
-  )
-
-  abbrev ps4 : ℕ → Provider
-  ps4 = with_provider ps3 3 (fetched (ps3 3))
-
-  abbrev s4 : State
-  s4 = record v {
-    jobs = (record base {
-      place = 4;
-      given = Fetched 3 1 0 (None) ∷ Fetched 2 1 0 (None) ∷ Fetched 1 1 0 (None) ∷ Fetched 0 1 0
-          (None) ∷ [];
-    }) ∷ [];
-    next_job = 2;
-    providers = ps4;
-  }
-
-  happens4 : (m : ℕ) → Happens 8 m s3 (Step 1) More s4
-  unfolding setup_in actions_of
-  happens4 m = (
-    None,
-    (fetched (ps3 3), record { held = refl; counts = fetch-counts (ps3 3); gives = inl (refl) }, refl),
-  )
-
-  abbrev s5 : State
-  s5 = record v { jobs = []; next_job = 2; providers = ps4 }
-
-  happens5 : (m : ℕ) → Happens 8 m s4 (Step 1) (Ended (Lost 0 0)) s5
-  unfolding setup_in actions_of
-  happens5 m = (refl, none-lose four.master, refl)
-
-  abbrev step : State → Moment
-  step s = moment (Step 1) More s
-
-  steps : List Moment
-  steps = step s4 ∷ step s3 ∷ step s2 ∷ step s1 ∷ []
-
-  steps-are : AreSteps s0 (n + 1) 1 steps
-  unfolding steps
-  steps-are = (
-    refl,
-    refl,
-    happens4 0,
-    (refl, refl, happens3 0, (refl, refl, happens2 0, (refl, refl, happens1 0, tt))),
-  )
-
-  each : (j : ℕ) → j < 4 → slice_get (repair_lost).providers j ≡ Some (s5.providers j)
-  each zero l = refl
-  each (suc zero) l = refl
-  each (suc (suc zero)) l = refl
-  each (suc (suc (suc zero))) l = refl
-  each (suc (suc (suc (suc j)))) l = absurd (omega (arith, l))
+  abbrev last : State
+  last = after_step at_end 1 (LosesOne 0 0)
 
   ran-formed : RanAlone byte_audited_records (RepairJob) (Lost 0 0) (due_lost) (repair_lost) ([]) 0 v n
-  unfolding steps spelling
+  unfolding setup_in actions_of spelling
   ran-formed = record {
-    last = s5;
-    runs = record {
-      begun = s0;
-      job = 1;
-      begins = (
-        refl,
-        refusal-of v (RepairJob) refl refl refl
-            (record { journal = refl; area = refl; unswitched = refl }) ∙ repair_begins,
-        refl,
-        refl,
-      );
-      goes_on = record { steps = steps; are_steps = steps-are; ends = happens5 0; heard_is = refl };
-    };
+    last = last;
+    runs = runs-so v n (RepairJob) turns (Lost 0 0) last refl
+        (refusal-of v (RepairJob) refl refl refl
+        (record { journal = refl; area = refl; unswitched = refl }) ∙ repair_begins)
+        (refl, (refl, (refl, refl)), (refl, (refl, (refl, refl)), (refl, (refl, (refl, refl)), (refl, (refl, (refl, refl)), tt))))
+        (goes-so 8 n at_end 1 (LosesOne 0 0) (refl, (refl, (refl, none-lose four.master))));
     images = λ image is. inl (inl (refl, new-sure.images image is));
     faults_are = refl;
-    handed = record { count = count; each = each };
+    handed = record { count = count; each = four-each (repair_lost).providers last.providers refl refl refl refl };
     past_text = refl;
   }
 
 -- the repair's job runs to a lost row from every state just opened over the store
 pub alone : RunsAlone byte_audited_records (RepairJob) (Lost 0 0) (due_lost) (repair_lost) ([])
-alone = record {
-  faults = 0;
-  before = omega arith;
-  ran = λ w n V. subst (λ u. RanAlone byte_audited_records (RepairJob) (Lost 0 0) (due_lost) (repair_lost)
-      ([]) 0 u n)
-      (form-is byte_audited_records (one_byte w.bytes) (empty_provider) (empty_provider) (empty_provider)
-      (empty_provider) w
-      (one_byte-is w.bytes (V.bytes named (record { name = named; id = 1; size = 1; profile = 0 }) refl).1) V)
-      (ran-formed w n V.handed.count);
-}
+alone = alone-byte byte_audited_records (empty_provider) (empty_provider) (empty_provider) (empty_provider) (RepairJob) (Lost 0 0) (due_lost) (repair_lost) ([])
+    (omega arith) refl refl ran-formed
 
 -- the repair ends with status 4
 pub answers : Answers (RepairDue) (due_lost) (repair_lost) (ends 4)

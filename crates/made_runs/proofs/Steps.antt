@@ -1,0 +1,153 @@
+-- A step that can be made in which nothing fails happens.
+use Rattle.std.specs.Prelude.{◌≡◌, ℕ, ◌==◌, ◌&&◌, Bool, true, false, not, List, Option, None, Some, is_some}
+use Rattle.std.proofs.Common.{refl, arith, inl}
+use Rattle.std.proofs.lemmas.Bool.{eqb-true, false≢true}
+use Rattle.column_defs.specs.Challenges.{honest_answer}
+use Rattle.machine_defs.specs.Audits.{asked_challenge}
+use Rattle.device_defs.specs.Providers.{Held, Provider}
+use Rattle.device_defs.specs.ProviderCalls.{FetchGives, AskGives}
+use Rattle.machine_defs.specs.Jobs.{Kind, PutJob, GetJob, DropJob, AuditJob, RepairJob, UpgradeJob, Job, job_of, advanced}
+use Rattle.machine_defs.specs.Actions.{Action, WriteBody, SyncBody, WriteGate, SyncGate, Store, Fetch, Ask, Work, Remove, End}
+use Rattle.machine_defs.specs.Events.{Step, More}
+use Rattle.machine_defs.specs.Machine.{Happens}
+use Rattle.machine_defs.specs.States.{State, Append, Alone, setup_in, worked_object, going_on}
+use Rattle.machine_defs.specs.Appends.{Moves, Writes, IsAt, moved, doubted, done_append}
+use Rattle.machine_defs.specs.Steps.{block_to_store, Acts, ActsOrWaits, StepsOn, StepsJob, StepsOne, StepsOpen, Steps, next_action, holder_of}
+use Rattle.made_runs.specs.Steps.{stored, fetched, removed, block_from, answer_from, can_write, written, is_at, can_act, acted, by_flight, can_go, can_run, can_beside, can_unbarred, can_open, can_step, gone, gone_on, stepped}
+
+-- both of two tests hold
+pub first : (a b : Bool) → (a && b) ≡ true → a ≡ true
+first true b c = refl
+first false b c = absurd (false≢true c)
+
+pub second : (a b : Bool) → (a && b) ≡ true → b ≡ true
+second true b c = c
+second false b c = absurd (false≢true c)
+
+-- the record is one that the append may write
+writes : (w : State) (job : Job) (kind : Kind) → can_write job kind ≡ true → Writes w job kind (written w job kind)
+writes w job (PutJob name bytes) c = refl
+writes w job (GetJob name) c = absurd (false≢true c)
+writes w job (DropJob name) c = refl
+writes w job AuditJob c = rw c refl
+writes w job RepairJob c = refl
+writes w job UpgradeJob c = refl
+
+-- the append in flight is at its place
+pub is-at : (a : Append) (job : Job) (moves : ℕ) → is_at job moves (Some a) ≡ true → IsAt a job moves
+is-at a job moves c = (
+  eqb-true a.job job.number (first (a.job == job.number) (a.moves == moves) c),
+  eqb-true a.moves moves (second (a.job == job.number) (a.moves == moves) c),
+)
+
+syncs : (w : State) (job : Job) (flight : Option Append) → is_at job 1 flight ≡ true →
+    Moves w job SyncBody flight More (by_flight w (moved (going_on w (advanced job))) flight)
+syncs w job None c = absurd (false≢true c)
+syncs w job (Some a) c = (is-at a job 1 c, (w.disk_faults, omega arith, refl))
+
+gates : (w : State) (job : Job) (flight : Option Append) → is_at job 2 flight ≡ true →
+    Moves w job WriteGate flight More
+    (by_flight w (λ a. doubted (moved (going_on w (advanced job)) a) a job) flight)
+gates w job None c = absurd (false≢true c)
+gates w job (Some a) c = (is-at a job 2 c, (w.disk_faults, omega arith, refl))
+
+ends : (w : State) (job : Job) (flight : Option Append) → is_at job 3 flight ≡ true →
+    Moves w job SyncGate flight More (by_flight w (done_append w job) flight)
+ends w job None c = absurd (false≢true c)
+ends w job (Some a) c = (is-at a job 3 c, (w.disk_faults, omega arith, refl))
+
+-- a fetch that goes well
+fetches : (size object stripe : ℕ) (p : Provider) (told : Option Held) → is_some told ≡ true →
+    FetchGives size object stripe told (block_from size object stripe told)
+fetches size object stripe p None c = absurd (false≢true c)
+fetches size object stripe p (Some held) c = refl
+
+-- an ask that goes well
+asks : (honest : (ℕ → Option (List ℕ)) → Option ℕ) (object : ℕ) (told : Option Held) → is_some told ≡ true →
+    AskGives honest object told (answer_from honest object told)
+asks honest object None c = absurd (false≢true c)
+asks honest object (Some held) c = refl
+
+-- an action that can be made so
+pub acts : (w : State) (job : Job) (action : Action) → can_act w job action ≡ true →
+    Acts w job action More (acted w job action)
+acts w job WriteBody c = (written w job job.kind, writes w job job.kind c, (w.disk_faults, omega arith, refl))
+acts w job SyncBody c = syncs w job w.append c
+acts w job WriteGate c = gates w job w.append c
+acts w job SyncGate c = ends w job w.append c
+acts w job (Store j object stripe) c = (
+  stored object stripe (block_to_store w job job.kind j object stripe) (w.providers j),
+  record { held = refl; counts = record { store_faults = omega arith; other_faults = refl; fetches = refl } },
+  refl,
+)
+acts w job (Fetch j object stripe) c = (
+  block_from (worked_object w job object).profile.size object stripe (w.providers j).held,
+  (
+    fetched (w.providers j),
+    record {
+      held = refl;
+      counts = record { store_faults = refl; other_faults = omega arith; fetches = refl };
+      gives = inl (fetches (worked_object w job object).profile.size object stripe (w.providers j)
+          (w.providers j).held c);
+    },
+    refl,
+  ),
+)
+acts w job (Ask j object round) c = (
+  answer_from (honest_answer (asked_challenge (setup_in w) job object round)) object (w.providers j).held,
+  (
+    w.providers j,
+    record {
+      held = refl;
+      counts = record { store_faults = refl; other_faults = omega arith; fetches = refl };
+      gives = inl (asks (honest_answer (asked_challenge (setup_in w) job object round)) object
+          (w.providers j).held c);
+    },
+    refl,
+  ),
+)
+acts w job (Work object stripe) c = absurd (false≢true c)
+acts w job (Remove j object) c = (
+  removed object (w.providers j),
+  inl (record {
+    held = refl;
+    counts = record { store_faults = refl; other_faults = omega arith; fetches = refl };
+  }),
+  refl,
+)
+acts w job End c = absurd (false≢true c)
+
+-- one that need not wait
+free : (w : State) (job : Job) (action : Action) (holder : Option ℕ) →
+    (not (is_some holder) && can_act w job action) ≡ true →
+    ActsOrWaits w job action holder More (acted w job action)
+free w job action None c = acts w job action c
+free w job action (Some h) c = absurd (false≢true c)
+
+goes : (w : State) (job : Job) (next : Option Action) → can_go w job next ≡ true →
+    StepsOn w job next More (gone w job next)
+goes w job None c = absurd (false≢true c)
+goes w job (Some action) c = free w job action (holder_of w.append action) c
+
+runs : (w : State) (found : Option Job) → can_run w found ≡ true → StepsJob w found More (gone_on w found)
+runs w None c = absurd (false≢true c)
+runs w (Some job) c = goes w job (next_action w job) c
+
+beside : (w : State) (n : ℕ) (alone : Option Alone) → can_beside w n alone ≡ true →
+    StepsOne w n alone More (stepped w n)
+beside w n None c = runs w (job_of w.jobs n) c
+beside w n (Some alone) c = absurd (false≢true c)
+
+unbarred : (w : State) (n : ℕ) (barred : Bool) → can_unbarred w n barred ≡ true →
+    StepsOpen w n barred More (stepped w n)
+unbarred w n true c = absurd (false≢true c)
+unbarred w n false c = beside w n w.alone c
+
+opened : (w : State) (n : ℕ) (is_open : Bool) → can_open w n is_open ≡ true →
+    Steps w n is_open More (stepped w n)
+opened w n true c = unbarred w n w.is_barred c
+opened w n false c = absurd (false≢true c)
+
+-- a step that can be made so happens
+pub steps : (limit m : ℕ) (w : State) (n : ℕ) → can_step w n ≡ true → Happens limit m w (Step n) More (stepped w n)
+steps limit m w n c = opened w n w.is_open c

@@ -1,0 +1,159 @@
+-- A step in which no device fails and nothing is out of memory, as a function of the state.
+--
+--   can_step w n    == the next step of job n can be such a one that answers more, with no choice in it
+--   stepped w n     == the state after it
+--
+-- A step has a choice where it works on a stripe, ends, or writes what an audit counted: Turns has those.
+use Rattle.std.specs.Prelude.{ℕ, ◌==◌, ◌&&◌, Bool, true, false, not, List, length, Option, None, Some, is_some, if◌then◌else◌}
+use Rattle.std.specs.Option.{option_map}
+use Rattle.column_defs.specs.Challenges.{honest_answer}
+use Rattle.record_defs.specs.Records.{Record, PutStart, Drop, AuditStart, RepairDone, Version}
+use Rattle.record_defs.specs.Table.{version_of, next_id, next_audit}
+use Rattle.device_defs.specs.Faults.{one_more}
+use Rattle.device_defs.specs.Providers.{Held, Provider, with_block, without_object, sized}
+use Rattle.machine_defs.specs.Jobs.{Kind, PutJob, GetJob, DropJob, AuditJob, RepairJob, UpgradeJob, Job, Fetched, Answered, job_of, advanced, advanced_with}
+use Rattle.machine_defs.specs.Actions.{Action, WriteBody, SyncBody, WriteGate, SyncGate, Store, Fetch, Ask, Work, Remove, End}
+use Rattle.machine_defs.specs.States.{State, Append, Alone, setup_in, worked_object, going_on, with_provider}
+use Rattle.machine_defs.specs.Audits.{asked_challenge}
+use Rattle.machine_defs.specs.Appends.{is_first_append, done_record, begun_append, moved, doubted, done_append}
+use Rattle.machine_defs.specs.Steps.{block_to_store, next_action, holder_of}
+
+-- ---- calls of a provider that go well
+
+-- a provider with a block stored
+abbrev pub stored : ℕ → ℕ → List ℕ → Provider → Provider
+stored object stripe block p = record p { held = option_map (with_block object stripe block) p.held }
+
+-- a provider that was fetched from
+abbrev pub fetched : Provider → Provider
+fetched p = record p { fetches = one_more p.fetches }
+
+-- a provider without an object
+abbrev pub removed : ℕ → Provider → Provider
+removed object p = record p { held = option_map (without_object object) p.held }
+
+-- the block that a provider gives
+abbrev pub block_from : ℕ → ℕ → ℕ → Option Held → Option (List ℕ)
+block_from size object stripe None = None
+block_from size object stripe (Some held) = sized size (held object stripe)
+
+-- the answer that a provider gives
+abbrev pub answer_from : ((ℕ → Option (List ℕ)) → Option ℕ) → ℕ → Option Held → Option ℕ
+answer_from honest object None = None
+answer_from honest object (Some held) = honest (held object)
+
+-- a state with a call of provider j made
+abbrev pub called : State → ℕ → Provider → State
+called w j p = record w { providers = with_provider w.providers j p }
+
+-- ---- the record that an append writes
+
+-- but for the counts of an audit
+abbrev pub can_write : Job → Kind → Bool
+can_write job (GetJob name) = false
+can_write job AuditJob = is_first_append job
+can_write job kind = true
+
+-- that record
+abbrev pub written : State → Job → Kind → Record
+written w job (PutJob name bytes) =
+    if is_first_append job then PutStart (next_id w.records) name
+    else done_record (version_of w.records) job.subject (length bytes) job.profile
+written w job (GetJob name) = Version
+written w job (DropJob name) = Drop name
+written w job AuditJob = AuditStart (next_audit w.records)
+written w job RepairJob = RepairDone job.subject
+written w job UpgradeJob = Version
+
+-- ---- an action
+
+-- the append in flight is this job's, with so many moves done
+abbrev pub is_at : Job → ℕ → Option Append → Bool
+is_at job moves None = false
+is_at job moves (Some a) = (a.job == job.number) && (a.moves == moves)
+
+-- an action can be made so
+abbrev pub can_act : State → Job → Action → Bool
+can_act w job WriteBody = can_write job job.kind
+can_act w job SyncBody = is_at job 1 w.append
+can_act w job WriteGate = is_at job 2 w.append
+can_act w job SyncGate = is_at job 3 w.append
+can_act w job (Store j object stripe) = true
+can_act w job (Fetch j object stripe) = is_some (w.providers j).held
+can_act w job (Ask j object round) = is_some (w.providers j).held
+can_act w job (Work object stripe) = false
+can_act w job (Remove j object) = true
+can_act w job End = false
+
+-- a change that an append in flight makes
+abbrev pub by_flight : State → (Append → State) → Option Append → State
+by_flight w change None = w
+by_flight w change (Some a) = change a
+
+-- the state after it
+abbrev pub acted : State → Job → Action → State
+acted w job WriteBody = begun_append w job (written w job job.kind)
+acted w job SyncBody = by_flight w (moved (going_on w (advanced job))) w.append
+acted w job WriteGate =
+    by_flight w (λ a. doubted (moved (going_on w (advanced job)) a) a job) w.append
+acted w job SyncGate = by_flight w (done_append w job) w.append
+acted w job (Store j object stripe) =
+    called (going_on w (advanced job)) j
+    (stored object stripe (block_to_store w job job.kind j object stripe) (w.providers j))
+acted w job (Fetch j object stripe) =
+    called (going_on w (advanced_with job (Fetched j object stripe
+    (block_from (worked_object w job object).profile.size object stripe (w.providers j).held)))) j
+    (fetched (w.providers j))
+acted w job (Ask j object round) =
+    called (going_on w (advanced_with job (Answered j object round
+    (answer_from (honest_answer (asked_challenge (setup_in w) job object round)) object
+    (w.providers j).held)))) j (w.providers j)
+acted w job (Work object stripe) = w
+acted w job (Remove j object) =
+    called (going_on w (advanced job)) j (removed object (w.providers j))
+acted w job End = w
+
+-- ---- a step
+
+-- a job's next action can be made so, and need not wait
+abbrev pub can_go : State → Job → Option Action → Bool
+can_go w job None = false
+can_go w job (Some action) = not (is_some (holder_of w.append action)) && can_act w job action
+
+-- so can a job that runs
+abbrev pub can_run : State → Option Job → Bool
+can_run w None = false
+can_run w (Some job) = can_go w job (next_action w job)
+
+-- where nothing runs alone
+abbrev pub can_beside : State → ℕ → Option Alone → Bool
+can_beside w n None = can_run w (job_of w.jobs n)
+can_beside w n (Some alone) = false
+
+-- and no disk call has failed
+abbrev pub can_unbarred : State → ℕ → Bool → Bool
+can_unbarred w n true = false
+can_unbarred w n false = can_beside w n w.alone
+
+-- in a vault that is open
+abbrev pub can_open : State → ℕ → Bool → Bool
+can_open w n true = can_unbarred w n w.is_barred
+can_open w n false = false
+
+-- the next step of a job can be such a one
+abbrev pub can_step : State → ℕ → Bool
+can_step w n = can_open w n w.is_open
+
+-- the state after a job's next action
+abbrev pub gone : State → Job → Option Action → State
+gone w job None = w
+gone w job (Some action) = acted w job action
+
+-- after that of a job that runs
+abbrev pub gone_on : State → Option Job → State
+gone_on w None = w
+gone_on w (Some job) = gone w job (next_action w job)
+
+-- the state after it
+abbrev pub stepped : State → ℕ → State
+stepped w n = gone_on w (job_of w.jobs n)
