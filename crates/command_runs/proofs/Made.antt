@@ -24,6 +24,7 @@ use Rattle.made_runs.proofs.Turns.{goes-so}
 use Rattle.command_runs.specs.Devices.{named}
 use Rattle.command_runs.proofs.Shape.{formed, form-is, one_byte, one_byte-is}
 
+-- plain steps go on the steps of a job
 plain : (w : State) (moment : ℕ) (ms : List Moment) (n k : ℕ) → can_go_by w ms n k ≡ true →
     AreSteps w moment n ms → AreSteps w moment n (gone_by w ms n k)
 plain w moment ms n zero c r = r
@@ -35,6 +36,7 @@ plain w moment ms n (suc k) c r = (
   plain w moment ms n k (second (can_step (now w (gone_by w ms n k)) n) (can_go_by w ms n k) c) r,
 )
 
+-- so does a turn
 turn-steps : (w : State) (moment : ℕ) (ms : List Moment) (n : ℕ) (turn : Turn) → is_more turn ≡ true →
     FitsTurn w ms n turn → AreSteps w moment n ms → AreSteps w moment n (turned w ms n turn)
 turn-steps w moment ms n (Goes k) m f r = plain w moment ms n k f r
@@ -45,20 +47,20 @@ turn-steps w moment ms n Cut m f r = absurd (false≢true m)
 turn-steps w moment ms n turn m f r = (refl, refl, goes-so 8 (moment + length ms) (now w ms) n turn f, r)
 
 -- turns of a job that all answer more are its steps
-pub are-steps : (w : State) (moment n : ℕ) (turns : List Turn) → AreFitTurns w n turns →
-    AreSteps w moment n (job_run w n turns)
+pub are-steps : (w : State) (moment n : ℕ) (turns : List Turn) → AreFitTurns w [] n turns →
+    AreSteps w moment n (job_run w [] n turns)
 are-steps w moment n [] f = tt
 are-steps w moment n (turn ∷ turns) f =
-    turn-steps w moment (job_run w n turns) n turn f.0 f.1 (are-steps w moment n turns f.2)
+    turn-steps w moment (job_run w [] n turns) n turn f.0 f.1 (are-steps w moment n turns f.2)
 
 -- the state after the turns of a job that begins in this one
 abbrev pub after_turns : State → ℕ → Kind → List Turn → State
-after_turns w n kind turns = now (begun w n kind) (job_run (begun w n kind) w.next_job turns)
+after_turns w n kind turns = now (begun w n kind) (job_run (begun w n kind) [] w.next_job turns)
 
 -- a job runs so
 pub runs-so : (w : State) (n : ℕ) (kind : Kind) (turns : List Turn) (answer : Answer) (last : State) →
     w.is_open ≡ true → refusal_of_begin 8 w kind None ≡ None →
-    AreFitTurns (begun w n kind) w.next_job turns →
+    AreFitTurns (begun w n kind) [] w.next_job turns →
     Happens 8 n (after_turns w n kind turns) (Step w.next_job) (Ended answer) last →
     RunsJob w n kind answer (heard_by (job_of (after_turns w n kind turns).jobs w.next_job)) last
 runs-so w n kind turns answer last is_open begins fit ends = record {
@@ -66,7 +68,7 @@ runs-so w n kind turns answer last is_open begins fit ends = record {
   job = w.next_job;
   begins = (is_open, begins, refl, refl);
   goes_on = record {
-    steps = job_run (begun w n kind) w.next_job turns;
+    steps = job_run (begun w n kind) [] w.next_job turns;
     are_steps = are-steps (begun w n kind) (n + 1) w.next_job turns fit;
     ends = ends;
     heard_is = refl;

@@ -15,17 +15,19 @@ use Rattle.machine_defs.specs.Appends.{Moves, Writes, IsAt, moved, doubted, done
 use Rattle.machine_defs.specs.Steps.{block_to_store, Acts, ActsOrWaits, StepsOn, StepsJob, StepsOne, StepsOpen, Steps, next_action, holder_of}
 use Rattle.made_runs.specs.Steps.{stored, fetched, removed, block_from, answer_from, can_write, written, is_at, can_act, acted, by_flight, can_go, can_run, can_beside, can_unbarred, can_open, can_step, gone, gone_on, stepped}
 
--- both of two tests hold
+-- of two tests that hold the first does
 pub first : (a b : Bool) → (a && b) ≡ true → a ≡ true
 first true b c = refl
 first false b c = absurd (false≢true c)
 
+-- and the second
 pub second : (a b : Bool) → (a && b) ≡ true → b ≡ true
 second true b c = c
 second false b c = absurd (false≢true c)
 
 -- the record is one that the append may write
-writes : (w : State) (job : Job) (kind : Kind) → can_write job kind ≡ true → Writes w job kind (written w job kind)
+writes : (w : State) (job : Job) (kind : Kind) → can_write job kind ≡ true →
+    Writes w job kind (written w job kind)
 writes w job (PutJob name bytes) c = refl
 writes w job (GetJob name) c = absurd (false≢true c)
 writes w job (DropJob name) c = refl
@@ -40,17 +42,20 @@ is-at a job moves c = (
   eqb-true a.moves moves (second (a.job == job.number) (a.moves == moves) c),
 )
 
+-- a sync of the body
 syncs : (w : State) (job : Job) (flight : Option Append) → is_at job 1 flight ≡ true →
     Moves w job SyncBody flight More (by_flight w (moved (going_on w (advanced job))) flight)
 syncs w job None c = absurd (false≢true c)
 syncs w job (Some a) c = (is-at a job 1 c, (w.disk_faults, omega arith, refl))
 
+-- a write of the gate
 gates : (w : State) (job : Job) (flight : Option Append) → is_at job 2 flight ≡ true →
     Moves w job WriteGate flight More
     (by_flight w (λ a. doubted (moved (going_on w (advanced job)) a) a job) flight)
 gates w job None c = absurd (false≢true c)
 gates w job (Some a) c = (is-at a job 2 c, (w.disk_faults, omega arith, refl))
 
+-- a sync of the gate
 ends : (w : State) (job : Job) (flight : Option Append) → is_at job 3 flight ≡ true →
     Moves w job SyncGate flight More (by_flight w (done_append w job) flight)
 ends w job None c = absurd (false≢true c)
@@ -124,30 +129,36 @@ free : (w : State) (job : Job) (action : Action) (holder : Option ℕ) →
 free w job action None c = acts w job action c
 free w job action (Some h) c = absurd (false≢true c)
 
+-- a job's next action
 goes : (w : State) (job : Job) (next : Option Action) → can_go w job next ≡ true →
     StepsOn w job next More (gone w job next)
 goes w job None c = absurd (false≢true c)
 goes w job (Some action) c = free w job action (holder_of w.append action) c
 
+-- that of a job that runs
 runs : (w : State) (found : Option Job) → can_run w found ≡ true → StepsJob w found More (gone_on w found)
 runs w None c = absurd (false≢true c)
 runs w (Some job) c = goes w job (next_action w job) c
 
+-- where nothing runs alone
 beside : (w : State) (n : ℕ) (alone : Option Alone) → can_beside w n alone ≡ true →
     StepsOne w n alone More (stepped w n)
 beside w n None c = runs w (job_of w.jobs n) c
 beside w n (Some alone) c = absurd (false≢true c)
 
+-- and no disk call has failed
 unbarred : (w : State) (n : ℕ) (barred : Bool) → can_unbarred w n barred ≡ true →
     StepsOpen w n barred More (stepped w n)
 unbarred w n true c = absurd (false≢true c)
 unbarred w n false c = beside w n w.alone c
 
+-- in a vault that is open
 opened : (w : State) (n : ℕ) (is_open : Bool) → can_open w n is_open ≡ true →
     Steps w n is_open More (stepped w n)
 opened w n true c = unbarred w n w.is_barred c
 opened w n false c = absurd (false≢true c)
 
 -- a step that can be made so happens
-pub steps : (limit m : ℕ) (w : State) (n : ℕ) → can_step w n ≡ true → Happens limit m w (Step n) More (stepped w n)
+pub steps : (limit m : ℕ) (w : State) (n : ℕ) → can_step w n ≡ true →
+    Happens limit m w (Step n) More (stepped w n)
 steps limit m w n c = opened w n w.is_open c

@@ -15,27 +15,31 @@ use Rattle.machine_defs.specs.Replacements.{ReplacesIf}
 use Rattle.machine_defs.specs.Runs.{Moment, IsRun, now}
 use Rattle.machine_defs.specs.Steps.{Acts, ActsOrWaits, StepsOn, StepsJob, StepsOne, StepsOpen, Steps, next_action, holder_of}
 use Rattle.made_runs.specs.Steps.{fetched, is_at, by_flight, can_step}
-use Rattle.made_runs.specs.Turns.{Turn, Goes, Works, Notes, Came, Heard, NoneCame, Gives, LosesOne, StoreFails, Cut, told, faulted, can_fail, failed_at, store_failed, fetch_failed, Fits, after, FitsNext, FitsFound, FitsStep, after_next, after_found, after_step, gone_by, can_go_by, turned, FitsTurn, Instruction, Turns, Begins, Loses, Reopens, Runs, turns_by, can_turn_by, holds_block, without_one, lost, done, FitsOne, run_of, AreFit}
+use Rattle.made_runs.specs.Turns.{Turn, Goes, Works, Notes, Came, Heard, NoneCame, Gives, LosesOne, StoreFails, Cut, told, faulted, can_fail, failed_at, store_failed, fetch_failed, Fits, after, FitsNext, FitsFound, FitsStep, after_next, after_found, after_step, gone_by, can_go_by, turned, FitsTurn, Instruction, Turns, Begins, Loses, Reopens, Runs, job_run, AreFitTurns, holds_block, without_one, lost, done, FitsOne, run_of, AreFit}
 use Rattle.made_runs.proofs.Steps.{first, second, is-at, steps}
 
 -- ---- a move that fails
 
+-- the second
 sync_fails : (w : State) (job : Job) (flight : Option Append) → is_at job 1 flight ≡ true →
     Moves w job SyncBody flight (Ended DiskFault) (faulted (barred (ended w job)))
 sync_fails w job None c = absurd (false≢true c)
 sync_fails w job (Some a) c = (is-at a job 1 c, (w.disk_faults + 1, omega arith, λ low. omega arith, refl))
 
+-- the third
 gate_fails : (w : State) (job : Job) (flight : Option Append) → is_at job 2 flight ≡ true →
     Moves w job WriteGate flight (Ended DiskFault)
     (faulted (by_flight w (λ a. doubted (barred (ended w job)) a job) flight))
 gate_fails w job None c = absurd (false≢true c)
 gate_fails w job (Some a) c = (is-at a job 2 c, (w.disk_faults + 1, omega arith, λ low. omega arith, refl))
 
+-- the last
 end_fails : (w : State) (job : Job) (flight : Option Append) → is_at job 3 flight ≡ true →
     Moves w job SyncGate flight (Ended DiskFault) (faulted (barred (ended w job)))
 end_fails w job None c = absurd (false≢true c)
 end_fails w job (Some a) c = (is-at a job 3 c, (w.disk_faults + 1, omega arith, λ low. omega arith, refl))
 
+-- each of them
 fails_at : (w : State) (job : Job) (action : Action) → can_fail w job action ≡ true →
     Acts w job action (Ended DiskFault) (failed_at w job action)
 fails_at w job WriteBody c = (w.disk_faults + 1, omega arith, λ low. omega arith, refl)
@@ -51,6 +55,7 @@ fails_at w job End c = absurd (false≢true c)
 
 -- ---- one step
 
+-- an action goes as a turn says
 acts_so : (w : State) (job : Job) (action : Action) (turn : Turn) → Fits w job action turn →
     Acts w job action (told turn) (after w job action turn)
 acts_so w job (Work object stripe) (Works symbols) f = (symbols, f, refl)
@@ -108,32 +113,38 @@ acts_so w job (Store j object stripe) (StoreFails k) f = (
 acts_so w job action Cut f = fails_at w job action f
 acts_so w job action turn f = absurd f
 
+-- one that need not wait
 free : (w : State) (job : Job) (action : Action) (turn : Turn) (holder : Option ℕ) →
     not (is_some holder) ≡ true → Fits w job action turn →
     ActsOrWaits w job action holder (told turn) (after w job action turn)
 free w job action turn None c f = acts_so w job action turn f
 free w job action turn (Some h) c f = absurd (false≢true c)
 
+-- a job's next action
 goes : (w : State) (job : Job) (next : Option Action) (turn : Turn) → FitsNext w job next turn →
     StepsOn w job next (told turn) (after_next w job next turn)
 goes w job None turn f = absurd f
 goes w job (Some action) turn f = free w job action turn (holder_of w.append action) f.0 f.1
 
+-- that of a job that runs
 found : (w : State) (job : Option Job) (turn : Turn) → FitsFound w job turn →
     StepsJob w job (told turn) (after_found w job turn)
 found w None turn f = absurd f
 found w (Some job) turn f = goes w job (next_action w job) turn f
 
+-- where nothing runs alone
 beside : (w : State) (n : ℕ) (turn : Turn) (alone : Option Alone) → not (is_some alone) ≡ true →
     FitsFound w (job_of w.jobs n) turn → StepsOne w n alone (told turn) (after_step w n turn)
 beside w n turn None c f = found w (job_of w.jobs n) turn f
 beside w n turn (Some alone) c f = absurd (false≢true c)
 
+-- and no disk call has failed
 unbarred : (w : State) (n : ℕ) (turn : Turn) (barred : Bool) → (not barred && not (is_some w.alone)) ≡ true →
     FitsFound w (job_of w.jobs n) turn → StepsOpen w n barred (told turn) (after_step w n turn)
 unbarred w n turn true c f = absurd (false≢true c)
 unbarred w n turn false c f = beside w n turn w.alone c f
 
+-- in a vault that is open
 opened : (w : State) (n : ℕ) (turn : Turn) (is_open : Bool) →
     (is_open && (not w.is_barred && not (is_some w.alone))) ≡ true → FitsFound w (job_of w.jobs n) turn →
     Steps w n is_open (told turn) (after_step w n turn)
@@ -147,23 +158,25 @@ goes-so limit m w n turn f = opened w n turn w.is_open f.0 f.1
 
 -- ---- a run
 
-plain : (limit : ℕ) (start : State) (ms : List Moment) (n k : ℕ) → n < 2 ^ 32 → can_go_by start ms n k ≡ true →
-    IsRun limit start ms → IsRun limit start (gone_by start ms n k)
+-- plain steps go on a run
+plain : (limit : ℕ) (start : State) (ms : List Moment) (n k : ℕ) → n < 2 ^ 32 →
+    can_go_by start ms n k ≡ true → IsRun limit start ms → IsRun limit start (gone_by start ms n k)
 plain limit start ms n zero l c r = r
 plain limit start ms n (suc k) l c r = (
   l,
   steps limit (length (gone_by start ms n k)) (now start (gone_by start ms n k)) n
       (first (can_step (now start (gone_by start ms n k)) n) (can_go_by start ms n k) c),
-  plain limit start ms n k l (second (can_step (now start (gone_by start ms n k)) n) (can_go_by start ms n k) c)
-      r,
+  plain limit start ms n k l
+      (second (can_step (now start (gone_by start ms n k)) n) (can_go_by start ms n k) c) r,
 )
 
+-- so does a turn
 turns : (limit : ℕ) (start : State) (ms : List Moment) (n : ℕ) (turn : Turn) → n < 2 ^ 32 →
     FitsTurn start ms n turn → IsRun limit start ms → IsRun limit start (turned start ms n turn)
 turns limit start ms n (Goes k) l f r = plain limit start ms n k l f r
 turns limit start ms n turn l f r = (l, goes-so limit (length ms) (now start ms) n turn f, r)
 
--- a block that is lost
+-- a provider loses a block that it holds
 replaced : (object stripe : ℕ) (held : Option Held) (a b c : ℕ) → holds_block object stripe held ≡ true →
     Replaces (λ h. IsSome (h object stripe)) (without_block object stripe) true
     (record { held = held; store_faults = a; other_faults = b; fetches = c })
@@ -171,6 +184,7 @@ replaced : (object stripe : ℕ) (held : Option Held) (a b c : ℕ) → holds_bl
 replaced object stripe None a b c t = absurd (false≢true t)
 replaced object stripe (Some held) a b c t = ((λ u. t, λ u. refl), refl)
 
+-- of a provider that is handed in
 loses : (w : State) (j object stripe : ℕ) (handed : Bool) →
     (handed && holds_block object stripe (w.providers j).held) ≡ true →
     ReplacesIf handed w j (λ held. IsSome (held object stripe)) (without_block object stripe) Replaced
@@ -185,10 +199,10 @@ loses w j object stripe false c = absurd (false≢true c)
 
 -- turns of a job
 all_turns : (limit : ℕ) (start : State) (ms : List Moment) (n : ℕ) (ts : List Turn) → n < 2 ^ 32 →
-    can_turn_by start ms n ts → IsRun limit start ms → IsRun limit start (turns_by start ms n ts)
+    AreFitTurns start ms n ts → IsRun limit start ms → IsRun limit start (job_run start ms n ts)
 all_turns limit start ms n [] l f r = r
 all_turns limit start ms n (t ∷ ts) l f r =
-    turns limit start (turns_by start ms n ts) n t l f.1 (all_turns limit start ms n ts l f.2 r)
+    turns limit start (job_run start ms n ts) n t l f.1 (all_turns limit start ms n ts l f.2 r)
 
 -- what an instruction makes goes on the run
 one : (limit : ℕ) (start : State) (ms : List Moment) (i : Instruction) → FitsOne limit start ms i →
@@ -211,13 +225,13 @@ one limit start ms Reopens f r = (
 )
 one limit start ms (Runs n ts last) f r = (
   f.0,
-  goes-so limit (length (turns_by start ms n ts)) (now start (turns_by start ms n ts)) n last f.3,
+  goes-so limit (length (job_run start ms n ts)) (now start (job_run start ms n ts)) n last f.3,
   all_turns limit start ms n ts f.0 f.1 r,
 )
 
--- what is computed from instructions that can be carried out is a run
-pub are-run : (limit : ℕ) (start : State) (is : List Instruction) → AreFit limit start is →
-    IsRun limit start (run_of start is)
-are-run limit start [] f = tt
-are-run limit start (i ∷ is) f =
-    one limit start (run_of start is) i f.0 (are-run limit start is f.1)
+-- moments of a run with those of instructions that can be carried out before them are a run
+pub are-run : (limit : ℕ) (start : State) (ms : List Moment) (is : List Instruction) →
+    AreFit limit start ms is → IsRun limit start ms → IsRun limit start (run_of start ms is)
+are-run limit start ms [] f r = r
+are-run limit start ms (i ∷ is) f r =
+    one limit start (run_of start ms is) i f.0 (are-run limit start ms is f.1 r)

@@ -1,13 +1,18 @@
--- How the steps of a job go, as functions of the state; and runs that are computed from a list of them.
+-- How the steps of a job go, as functions of the state; and runs that are computed from instructions.
+-- Moments, turns and instructions stand the newest first.
 --
 --   Turn                     == how steps of a job go: so many plain ones, or one with a choice or a fault
---   turned start ms n turn   == these moments with those of a turn of job n before them
---   FitsTurn start ms n turn == the job can go so
---   job_run start n turns    == the moments of turns of one job, the newest first
---   AreFitTurns              == the job can go so in each
---   Instruction              == a turn of a job, a begin of one, or a block that is lost
---   run_of start is          == the moments of instructions, the newest first
---   AreFit limit start is    == each can be carried out
+--   turned start ms n turn   == the moments ms with those of a turn of job n before them
+--   FitsTurn start ms n turn == after them the job can go so
+--   job_run start ms n turns == the moments ms with those of turns of job n before them
+--   AreFitTurns              == after them the job can go so in each, and each answers more
+--   Instruction              == a turn of a job, or its turns to its end; the begin of one; a block that is
+--                               lost; a vault that opens
+--   run_of start ms is       == the moments ms with those of instructions before them
+--   AreFit limit start ms is == after them each can be carried out
+--   schedule_of cs is        == the commands cs with those of instructions before them
+--   lines_made start ms bytes is
+--                            == these bytes and the lines that instructions write
 use Rattle.std.specs.Prelude.{◌≡◌, ℕ, zero, suc, ◌+◌, ◌<◌, ◌^◌, ◌&&◌, Bool, true, false, not, List, [], ◌∷◌, ◌++◌, length, Option, None, Some, is_some, nat_lt, nat_le}
 use Rattle.column_defs.specs.Challenges.{honest_answer}
 use Rattle.column_defs.specs.Opened.{GivesSymbols, LosesRow}
@@ -98,7 +103,8 @@ Fits w job WriteBody (Notes entry) = Writes w job job.kind entry
 Fits w job (Fetch j object stripe) (Came block) =
     FetchGives (worked_object w job object).profile.size object stripe (w.providers j).held block
 Fits w job (Ask j object round) (Heard symbol) =
-    AskGives (honest_answer (asked_challenge (setup_in w) job object round)) object (w.providers j).held symbol
+    AskGives (honest_answer (asked_challenge (setup_in w) job object round)) object (w.providers j).held
+    symbol
 Fits w job (Fetch j object stripe) NoneCame = Unit {0}
 Fits w job End (Gives answer) = Ends w job job.kind answer
 Fits w job (Work object stripe) (LosesOne s row) =
@@ -142,15 +148,17 @@ is_ready w = w.is_open && (not w.is_barred && not (is_some w.alone))
 abbrev pub FitsStep : State → ℕ → Turn → Type 0
 FitsStep w n turn = (is_ready w ≡ true) × FitsFound w (job_of w.jobs n) turn
 
--- the state after it
+-- the state after a job's next action
 abbrev pub after_next : State → Job → Option Action → Turn → State
 after_next w job None turn = w
 after_next w job (Some action) turn = after w job action turn
 
+-- the state after the next action of a job that runs
 abbrev pub after_found : State → Option Job → Turn → State
 after_found w None turn = w
 after_found w (Some job) turn = after_next w job (next_action w job) turn
 
+-- the state after a job's next step
 abbrev pub after_step : State → ℕ → Turn → State
 after_step w n turn = after_found w (job_of w.jobs n) turn
 
@@ -176,17 +184,6 @@ turned start ms n turn = step_of n (told turn) (after_step (now start ms) n turn
 abbrev pub FitsTurn : State → List Moment → ℕ → Turn → Type 0
 FitsTurn start ms n (Goes k) = can_go_by start ms n k ≡ true
 FitsTurn start ms n turn = FitsStep (now start ms) n turn
-
--- the moments of turns of one job
-abbrev pub job_run : State → ℕ → List Turn → List Moment
-job_run start n [] = []
-job_run start n (turn ∷ turns) = turned start (job_run start n turns) n turn
-
--- the job can go so in each, and each answers more
-abbrev pub AreFitTurns : State → ℕ → List Turn → Type 0
-AreFitTurns start n [] = Unit {0}
-AreFitTurns start n (turn ∷ turns) =
-    (is_more turn ≡ true) × FitsTurn start (job_run start n turns) n turn × AreFitTurns start n turns
 
 -- ---- runs
 
@@ -221,15 +218,15 @@ abbrev pub reopened : State → State
 reopened w = record (given_up w) { is_switching = false; doubt = None; is_open = true }
 
 -- these moments with those of turns of a job before them
-abbrev pub turns_by : State → List Moment → ℕ → List Turn → List Moment
-turns_by start ms n [] = ms
-turns_by start ms n (turn ∷ turns) = turned start (turns_by start ms n turns) n turn
+abbrev pub job_run : State → List Moment → ℕ → List Turn → List Moment
+job_run start ms n [] = ms
+job_run start ms n (turn ∷ turns) = turned start (job_run start ms n turns) n turn
 
 -- the job can go so in each, and each answers more
-abbrev pub can_turn_by : State → List Moment → ℕ → List Turn → Type 0
-can_turn_by start ms n [] = Unit {0}
-can_turn_by start ms n (turn ∷ turns) =
-    (is_more turn ≡ true) × FitsTurn start (turns_by start ms n turns) n turn × can_turn_by start ms n turns
+abbrev pub AreFitTurns : State → List Moment → ℕ → List Turn → Type 0
+AreFitTurns start ms n [] = Unit {0}
+AreFitTurns start ms n (turn ∷ turns) =
+    (is_more turn ≡ true) × FitsTurn start (job_run start ms n turns) n turn × AreFitTurns start ms n turns
 
 -- these moments with those of an instruction before them
 abbrev pub done : State → List Moment → Instruction → List Moment
@@ -245,8 +242,8 @@ done start ms (Loses j object stripe) =
     ∷ ms
 done start ms Reopens = record { event = Reopen; outcome = Opened; state = reopened (now start ms) } ∷ ms
 done start ms (Runs n turns last) =
-    step_of n (told last) (after_step (now start (turns_by start ms n turns)) n last)
-    ∷ turns_by start ms n turns
+    step_of n (told last) (after_step (now start (job_run start ms n turns)) n last)
+    ∷ job_run start ms n turns
 
 -- it can be carried out
 abbrev pub FitsOne : ℕ → State → List Moment → Instruction → Type 0
@@ -261,18 +258,18 @@ FitsOne limit start ms Reopens =
     (is_some (setup_of (now start ms).records) ≡ true)
     × (nat_le (setup_in (now start ms)).n (now start ms).handed ≡ true)
 FitsOne limit start ms (Runs n turns last) =
-    (n < 2 ^ 32) × can_turn_by start ms n turns × (is_more last ≡ false)
-    × FitsStep (now start (turns_by start ms n turns)) n last
+    (n < 2 ^ 32) × AreFitTurns start ms n turns × (is_more last ≡ false)
+    × FitsStep (now start (job_run start ms n turns)) n last
 
--- the moments of instructions
-abbrev pub run_of : State → List Instruction → List Moment
-run_of start [] = []
-run_of start (i ∷ is) = done start (run_of start is) i
+-- these moments with those of instructions before them
+abbrev pub run_of : State → List Moment → List Instruction → List Moment
+run_of start ms [] = ms
+run_of start ms (i ∷ is) = done start (run_of start ms is) i
 
--- each can be carried out
-abbrev pub AreFit : ℕ → State → List Instruction → Type 0
-AreFit limit start [] = Unit {0}
-AreFit limit start (i ∷ is) = FitsOne limit start (run_of start is) i × AreFit limit start is
+-- after these moments each can be carried out
+abbrev pub AreFit : ℕ → State → List Moment → List Instruction → Type 0
+AreFit limit start ms [] = Unit {0}
+AreFit limit start ms (i ∷ is) = FitsOne limit start (run_of start ms is) i × AreFit limit start ms is
 
 -- ---- what they write
 
@@ -281,28 +278,36 @@ abbrev pub once_each : ℕ → ℕ → List transcripts.Instruction → List tra
 once_each n zero cs = cs
 once_each n (suc k) cs = transcripts.Once (Step n) ∷ once_each n k cs
 
--- the commands of instructions
-abbrev pub schedule_of : List Instruction → List transcripts.Instruction
-schedule_of [] = []
-schedule_of (Turns n (Goes k) ∷ is) = once_each n k (schedule_of is)
-schedule_of (Turns n turn ∷ is) = transcripts.Once (Step n) ∷ schedule_of is
-schedule_of (Begins kind ∷ is) = transcripts.Once (Begin kind) ∷ schedule_of is
-schedule_of (Loses j object stripe ∷ is) = transcripts.Once (Lose j object stripe) ∷ schedule_of is
-schedule_of (Reopens ∷ is) = transcripts.Once Reopen ∷ schedule_of is
-schedule_of (Runs n turns last ∷ is) = transcripts.RunJob n ∷ schedule_of is
+-- these commands with that of an instruction before them
+abbrev pub commanded : List transcripts.Instruction → Instruction → List transcripts.Instruction
+commanded cs (Turns n (Goes k)) = once_each n k cs
+commanded cs (Turns n turn) = transcripts.Once (Step n) ∷ cs
+commanded cs (Begins kind) = transcripts.Once (Begin kind) ∷ cs
+commanded cs (Loses j object stripe) = transcripts.Once (Lose j object stripe) ∷ cs
+commanded cs Reopens = transcripts.Once Reopen ∷ cs
+commanded cs (Runs n turns last) = transcripts.RunJob n ∷ cs
 
--- so many lines of steps
+-- these commands with those of instructions before them
+abbrev pub schedule_of : List transcripts.Instruction → List Instruction → List transcripts.Instruction
+schedule_of cs [] = cs
+schedule_of cs (i ∷ is) = commanded (schedule_of cs is) i
+
+-- these bytes, and so many lines of steps
 abbrev pub more_lines : ℕ → List ℕ → List ℕ
 more_lines zero bytes = bytes
 more_lines (suc k) bytes = more_lines k bytes ++ lines_of More
 
--- the lines of instructions
-abbrev pub lines_made : State → List Instruction → List ℕ
-lines_made start [] = []
-lines_made start (Turns n (Goes k) ∷ is) = more_lines k (lines_made start is)
-lines_made start (Turns n turn ∷ is) = lines_made start is ++ lines_of (told turn)
-lines_made start (Begins kind ∷ is) =
-    lines_made start is ++ lines_of (Begun (now start (run_of start is)).next_job)
-lines_made start (Loses j object stripe ∷ is) = lines_made start is ++ lines_of Replaced
-lines_made start (Reopens ∷ is) = lines_made start is ++ lines_of Opened
-lines_made start (Runs n turns last ∷ is) = lines_made start is ++ lines_of (told last)
+-- these bytes, and the lines of an instruction
+abbrev pub answered : State → List Moment → List ℕ → Instruction → List ℕ
+answered start ms bytes (Turns n (Goes k)) = more_lines k bytes
+answered start ms bytes (Turns n turn) = bytes ++ lines_of (told turn)
+answered start ms bytes (Begins kind) = bytes ++ lines_of (Begun (now start ms).next_job)
+answered start ms bytes (Loses j object stripe) = bytes ++ lines_of Replaced
+answered start ms bytes Reopens = bytes ++ lines_of Opened
+answered start ms bytes (Runs n turns last) = bytes ++ lines_of (told last)
+
+-- these bytes, and the lines of instructions
+abbrev pub lines_made : State → List Moment → List ℕ → List Instruction → List ℕ
+lines_made start ms bytes [] = bytes
+lines_made start ms bytes (i ∷ is) =
+    answered start (run_of start ms is) (lines_made start ms bytes is) i
