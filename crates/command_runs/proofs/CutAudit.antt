@@ -24,26 +24,29 @@ use Rattle.command_runs.proofs.Made.{after_turns, runs-so, doubt_at, four-each, 
 
 module _ (w : State) (n : ℕ) (count : w.handed ≡ 4) where
   abbrev v : State
-  v = formed byte_records (one_byte w.bytes) (holds 0) (holds 1) (empty_provider) (holds 3) w
+  v = formed byte_records (one_byte w.bytes) (holds 0) (holds 1) empty_provider (holds 3) w
 
   abbrev turns : List Turn
-  turns = (Goes 2) ∷ (Notes (AuditDone 1 0 counts)) ∷ (Heard (right 3)) ∷ (Heard None) ∷ (Heard (right 1)) ∷ (Heard (right 0)) ∷ (Goes 4) ∷ []
+  turns = Goes 2 ∷ Notes (AuditDone 1 0 counts) ∷ Heard (right 3) ∷ Heard None ∷ Heard (right 1)
+      ∷ Heard (right 0) ∷ Goes 4 ∷ []
 
   abbrev at_end : State
-  at_end = after_turns v n (AuditJob) turns
+  at_end = after_turns v n AuditJob turns
 
   abbrev last : State
-  last = after_step at_end 1 (Cut)
+  last = after_step at_end 1 Cut
 
-  ran-formed : RanAlone byte_records (AuditJob) (DiskFault) (damaged) (audit_cut) (answers_heard) 0 v n
+  ran-formed : RanAlone byte_records AuditJob DiskFault damaged audit_cut answers_heard 0 v n
   unfolding setup_in actions_of spelling
   ran-formed = record {
     last = last;
-    runs = runs-so v n (AuditJob) turns (DiskFault) last refl
-        (refusal-of v (AuditJob) refl refl refl
+    runs = runs-so v n AuditJob turns DiskFault last refl
+        (refusal-of v AuditJob refl refl refl
         (record { journal = refl; area = refl; unswitched = refl }) ∙ audit_begins)
-        (refl, refl, (refl, (refl, (refl, (sums, (sums, (sums, judged, refl), refl), refl))), (refl, (refl, (refl, same_first _ _ refl)), (refl, (refl, (refl, sym (no_answer _ refl))), (refl, (refl, (refl, same_first _ _ refl)), (refl, (refl, (refl, same_first _ _ refl)), (refl, refl, tt)))))))
-        (goes-so 8 n at_end 1 (Cut) (refl, (refl, refl)));
+        (refl, refl, (refl, (refl, (refl, (sums, (sums, (sums, judged, refl), refl), refl))), (refl, (refl,
+            (refl, same_first _ _ refl)), (refl, (refl, (refl, sym (no_answer _ refl))), (refl, (refl, (refl,
+            same_first _ _ refl)), (refl, (refl, (refl, same_first _ _ refl)), (refl, refl, tt)))))))
+        (goes-so 8 n at_end 1 Cut (refl, (refl, refl)));
     images = λ image is. inr
         (inl (record {
           doubt = doubt_at last;
@@ -51,7 +54,10 @@ module _ (w : State) (n : ℕ) (count : w.handed ≡ 4) where
           stands = (refl, new-sure.images image is);
         }));
     faults_are = refl;
-    handed = record { count = count; each = four-each (audit_cut).providers last.providers refl refl refl refl };
+    handed = record {
+      count = count;
+      each = four-each audit_cut.providers last.providers refl refl refl refl;
+    };
     past_text = record {
       next = Some (AuditDone 1 0 counts);
       is_next = (
@@ -65,16 +71,17 @@ module _ (w : State) (n : ℕ) (count : w.handed ≡ 4) where
   }
 
 -- the audit's job runs to a fault of the disk from every state just opened over the damaged store
-pub alone : RunsAlone byte_records (AuditJob) (DiskFault) (damaged) (audit_cut) (answers_heard)
-alone = alone-byte byte_records (holds 0) (holds 1) (empty_provider) (holds 3) (AuditJob) (DiskFault) (damaged) (audit_cut) (answers_heard)
+pub alone : RunsAlone byte_records AuditJob DiskFault damaged audit_cut answers_heard
+alone = alone-byte byte_records (holds 0) (holds 1) empty_provider (holds 3) AuditJob DiskFault damaged
+    audit_cut answers_heard
     (omega arith) refl refl ran-formed
 
 -- the audit ends with status 12, and has heard the answers
-pub answers : Answers (AuditAll) (damaged) (audit_cut) (ends_hearing 12 answers_heard)
+pub answers : Answers AuditAll damaged audit_cut (ends_hearing 12 answers_heard)
 answers = (
-  AnswersAlone.begun byte_records old-sure.known.opened (AnswersJob.ended (DiskFault) audit_begins alone
-      (left-alone byte_records (AuditJob) (DiskFault) (damaged) (audit_cut) (answers_heard)
-      tt (λ w last n O r. jobs-leave (AuditJob) w last n (DiskFault) (answers_heard) tt O r)
+  AnswersAlone.begun byte_records old-sure.known.opened (AnswersJob.ended DiskFault audit_begins alone
+      (left-alone byte_records AuditJob DiskFault damaged audit_cut answers_heard
+      tt (λ w last n O r. jobs-leave AuditJob w last n DiskFault answers_heard tt O r)
       old-sure.known.opened refl alone)
       (record { status_is = refl; place = refl; sink = refl })),
   (refl, refl),

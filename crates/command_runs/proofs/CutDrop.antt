@@ -25,23 +25,23 @@ module _ (w : State) (n : ℕ) (count : w.handed ≡ 4) where
   v = formed byte_records (one_byte w.bytes) (holds 0) (holds 1) (holds 2) (holds 3) w
 
   abbrev turns : List Turn
-  turns = (Goes 3) ∷ []
+  turns = Goes 3 ∷ []
 
   abbrev at_end : State
   at_end = after_turns v n (DropJob named) turns
 
   abbrev last : State
-  last = after_step at_end 1 (Cut)
+  last = after_step at_end 1 Cut
 
-  ran-formed : RanAlone byte_records (DropJob named) (DiskFault) (byte_kept) (drop_cut) ([]) 0 v n
+  ran-formed : RanAlone byte_records (DropJob named) DiskFault byte_kept drop_cut [] 0 v n
   unfolding setup_in actions_of spelling
   ran-formed = record {
     last = last;
-    runs = runs-so v n (DropJob named) turns (DiskFault) last refl
+    runs = runs-so v n (DropJob named) turns DiskFault last refl
         (refusal-of v (DropJob named) refl refl refl
         (record { journal = refl; area = refl; unswitched = refl }) ∙ drop_begins)
         (refl, refl, tt)
-        (goes-so 8 n at_end 1 (Cut) (refl, (refl, refl)));
+        (goes-so 8 n at_end 1 Cut (refl, (refl, refl)));
     images = λ image is. inr
         (inl (record {
           doubt = doubt_at last;
@@ -49,7 +49,10 @@ module _ (w : State) (n : ℕ) (count : w.handed ≡ 4) where
           stands = (refl, new-sure.images image is);
         }));
     faults_are = refl;
-    handed = record { count = count; each = four-each (drop_cut).providers last.providers refl refl refl refl };
+    handed = record {
+      count = count;
+      each = four-each drop_cut.providers last.providers refl refl refl refl;
+    };
     past_text = record {
       next = Some (Drop named);
       is_next =
@@ -59,16 +62,17 @@ module _ (w : State) (n : ℕ) (count : w.handed ≡ 4) where
   }
 
 -- the drop's job runs to a fault of the disk from every state just opened over the store
-pub alone : RunsAlone byte_records (DropJob named) (DiskFault) (byte_kept) (drop_cut) ([])
-alone = alone-byte byte_records (holds 0) (holds 1) (holds 2) (holds 3) (DropJob named) (DiskFault) (byte_kept) (drop_cut) ([])
+pub alone : RunsAlone byte_records (DropJob named) DiskFault byte_kept drop_cut []
+alone = alone-byte byte_records (holds 0) (holds 1) (holds 2) (holds 3) (DropJob named) DiskFault byte_kept
+    drop_cut []
     (omega arith) refl refl ran-formed
 
 -- the drop ends with status 12
-pub answers : Answers (DropOf named) (byte_kept) (drop_cut) (ends 12)
+pub answers : Answers (DropOf named) byte_kept drop_cut (ends 12)
 answers = (
-  AnswersAlone.begun byte_records old-sure.known.opened (AnswersJob.ended (DiskFault) drop_begins alone
-      (left-alone byte_records (DropJob named) (DiskFault) (byte_kept) (drop_cut) ([])
-      refl (λ w last n O r. jobs-leave (DropJob named) w last n (DiskFault) ([]) refl O r)
+  AnswersAlone.begun byte_records old-sure.known.opened (AnswersJob.ended DiskFault drop_begins alone
+      (left-alone byte_records (DropJob named) DiskFault byte_kept drop_cut []
+      refl (λ w last n O r. jobs-leave (DropJob named) w last n DiskFault [] refl O r)
       old-sure.known.opened refl alone)
       (record { status_is = refl; place = refl; sink = refl })),
   (refl, refl),

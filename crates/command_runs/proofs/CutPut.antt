@@ -24,7 +24,7 @@ use Rattle.command_runs.proofs.Stores.{put-old as old-sure, cut-new as new-sure}
 
 module _ (w : State) (n : ℕ) (count : w.handed ≡ 4) where
   abbrev v : State
-  v = formed four_records w.bytes (empty_provider) (empty_provider) (empty_provider) (empty_provider) w
+  v = formed four_records w.bytes empty_provider empty_provider empty_provider empty_provider w
 
   abbrev cut_at : State
   cut_at = after_turns v n (PutJob named byte) (Goes 11 ∷ [])
@@ -32,18 +32,21 @@ module _ (w : State) (n : ℕ) (count : w.handed ≡ 4) where
   abbrev last : State
   last = after_step cut_at 1 Cut
 
-  ran-formed : RanAlone four_records (PutJob named byte) (DiskFault) (to_put) (put_cut) ([]) 0 v n
+  ran-formed : RanAlone four_records (PutJob named byte) DiskFault to_put put_cut [] 0 v n
   unfolding setup_in actions_of spelling
   ran-formed = record {
     last = last;
-    runs = runs-so v n (PutJob named byte) (Goes 11 ∷ []) (DiskFault) last refl
+    runs = runs-so v n (PutJob named byte) (Goes 11 ∷ []) DiskFault last refl
         (refusal-of v (PutJob named byte) refl refl refl
         (record { journal = refl; area = refl; unswitched = refl }) ∙ put_begins) (refl, refl, tt)
         (goes-so 8 n cut_at 1 Cut (refl, (refl, refl)));
     images = λ image is. inr
         (inl (record { doubt = doubt_at last; in_doubt = refl; stands = (refl, new-sure.images image is) }));
     faults_are = refl;
-    handed = record { count = count; each = four-each (put_cut).providers last.providers refl refl refl refl };
+    handed = record {
+      count = count;
+      each = four-each put_cut.providers last.providers refl refl refl refl;
+    };
     past_text = record {
       next = Some (PutDone 1 1);
       is_next = record { done = PutStart 1 named ∷ []; rest = []; parts = refl; after_is = refl };
@@ -52,16 +55,16 @@ module _ (w : State) (n : ℕ) (count : w.handed ≡ 4) where
   }
 
 -- the put's job runs to a fault of the disk from every state just opened over the store
-pub alone : RunsAlone four_records (PutJob named byte) (DiskFault) (to_put) (put_cut) ([])
-alone = alone-over four_records (empty_provider) (empty_provider) (empty_provider) (empty_provider)
-    (PutJob named byte) (DiskFault) (to_put) (put_cut) ([]) (omega arith) refl ran-formed
+pub alone : RunsAlone four_records (PutJob named byte) DiskFault to_put put_cut []
+alone = alone-over four_records empty_provider empty_provider empty_provider empty_provider
+    (PutJob named byte) DiskFault to_put put_cut [] (omega arith) refl ran-formed
 
 -- the put ends with status 12
-pub answers : Answers (PutUnder named) (to_put) (put_cut) (ends 12)
+pub answers : Answers (PutUnder named) to_put put_cut (ends 12)
 answers = AnswersPut.begun four_records byte old-sure.known.opened
     (record { are_bytes = refl; front = refl; few = omega arith; end = λ l. refl })
-    (AnswersJob.ended (DiskFault) put_begins alone
-    (left-alone four_records (PutJob named byte) (DiskFault) (to_put) (put_cut) ([])
-    (refl, refl) (λ w last n O r. jobs-leave (PutJob named byte) w last n (DiskFault) ([]) (refl, refl) O r)
+    (AnswersJob.ended DiskFault put_begins alone
+    (left-alone four_records (PutJob named byte) DiskFault to_put put_cut []
+    (refl, refl) (λ w last n O r. jobs-leave (PutJob named byte) w last n DiskFault [] (refl, refl) O r)
     old-sure.known.opened refl alone)
     (record { status_is = refl; place = refl; sink = refl }))

@@ -25,26 +25,29 @@ use Rattle.command_runs.proofs.Made.{after_turns, runs-so, doubt_at, four-each, 
 
 module _ (w : State) (n : ℕ) (count : w.handed ≡ 4) where
   abbrev v : State
-  v = formed byte_audited_records (one_byte w.bytes) (holds 0) (holds 1) (empty_provider) (holds 3) w
+  v = formed byte_audited_records (one_byte w.bytes) (holds 0) (holds 1) empty_provider (holds 3) w
 
   abbrev turns : List Turn
-  turns = (Goes 4) ∷ (Works symbols) ∷ (Came (Some (own_block 3))) ∷ (Came None) ∷ (Came (Some (own_block 1))) ∷ (Came (Some (own_block 0))) ∷ []
+  turns = Goes 4 ∷ Works symbols ∷ Came (Some (own_block 3)) ∷ Came None ∷ Came (Some (own_block 1))
+      ∷ Came (Some (own_block 0)) ∷ []
 
   abbrev at_end : State
-  at_end = after_turns v n (RepairJob) turns
+  at_end = after_turns v n RepairJob turns
 
   abbrev last : State
-  last = after_step at_end 1 (Cut)
+  last = after_step at_end 1 Cut
 
-  ran-formed : RanAlone byte_audited_records (RepairJob) (DiskFault) (due) (repair_cut) ([]) 0 v n
+  ran-formed : RanAlone byte_audited_records RepairJob DiskFault due repair_cut [] 0 v n
   unfolding setup_in actions_of spelling
   ran-formed = record {
     last = last;
-    runs = runs-so v n (RepairJob) turns (DiskFault) last refl
-        (refusal-of v (RepairJob) refl refl refl
+    runs = runs-so v n RepairJob turns DiskFault last refl
+        (refusal-of v RepairJob refl refl refl
         (record { journal = refl; area = refl; unswitched = refl }) ∙ repair_begins)
-        (refl, refl, (refl, (refl, (refl, without_two_give)), (refl, (refl, (refl, block_sized 3)), (refl, (refl, (refl, refl)), (refl, (refl, (refl, block_sized 1)), (refl, (refl, (refl, block_sized 0)), tt))))))
-        (goes-so 8 n at_end 1 (Cut) (refl, (refl, refl)));
+        (refl, refl, (refl, (refl, (refl, without_two_give)), (refl, (refl, (refl, block_sized 3)), (refl,
+            (refl, (refl, refl)), (refl, (refl, (refl, block_sized 1)), (refl, (refl, (refl, block_sized 0)),
+            tt))))))
+        (goes-so 8 n at_end 1 Cut (refl, (refl, refl)));
     images = λ image is. inr
         (inl (record {
           doubt = doubt_at last;
@@ -52,7 +55,10 @@ module _ (w : State) (n : ℕ) (count : w.handed ≡ 4) where
           stands = (refl, new-sure.images image is);
         }));
     faults_are = refl;
-    handed = record { count = count; each = four-each (repair_cut).providers last.providers refl refl refl refl };
+    handed = record {
+      count = count;
+      each = four-each repair_cut.providers last.providers refl refl refl refl;
+    };
     past_text = record {
       next = Some (RepairDone 1);
       is_next = record { done = []; rest = []; parts = refl; after_is = refl };
@@ -61,17 +67,18 @@ module _ (w : State) (n : ℕ) (count : w.handed ≡ 4) where
   }
 
 -- the repair's job runs to a fault of the disk from every state just opened over the store
-pub alone : RunsAlone byte_audited_records (RepairJob) (DiskFault) (due) (repair_cut) ([])
-alone = alone-byte byte_audited_records (holds 0) (holds 1) (empty_provider) (holds 3) (RepairJob) (DiskFault) (due) (repair_cut) ([])
+pub alone : RunsAlone byte_audited_records RepairJob DiskFault due repair_cut []
+alone = alone-byte byte_audited_records (holds 0) (holds 1) empty_provider (holds 3) RepairJob DiskFault due
+    repair_cut []
     (omega arith) refl refl ran-formed
 
 -- the repair ends with status 12
-pub answers : Answers (RepairDue) (due) (repair_cut) (ends 12)
+pub answers : Answers RepairDue due repair_cut (ends 12)
 answers = (
   AnswersAlone.begun byte_audited_records old-sure.known.opened
-      (AnswersJob.ended (DiskFault) repair_begins alone
-      (left-alone byte_audited_records (RepairJob) (DiskFault) (due) (repair_cut) ([])
-      tt (λ w last n O r. jobs-leave (RepairJob) w last n (DiskFault) ([]) tt O r) old-sure.known.opened refl
+      (AnswersJob.ended DiskFault repair_begins alone
+      (left-alone byte_audited_records RepairJob DiskFault due repair_cut []
+      tt (λ w last n O r. jobs-leave RepairJob w last n DiskFault [] tt O r) old-sure.known.opened refl
       alone)
       (record { status_is = refl; place = refl; sink = refl })),
   (refl, refl),

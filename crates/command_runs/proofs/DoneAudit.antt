@@ -24,45 +24,53 @@ use Rattle.command_runs.proofs.Made.{after_turns, runs-so, four-each, alone-byte
 
 module _ (w : State) (n : ℕ) (count : w.handed ≡ 4) where
   abbrev v : State
-  v = formed byte_records (one_byte w.bytes) (holds 0) (holds 1) (empty_provider) (holds 3) w
+  v = formed byte_records (one_byte w.bytes) (holds 0) (holds 1) empty_provider (holds 3) w
 
   abbrev turns : List Turn
-  turns = (Goes 3) ∷ (Notes (AuditDone 1 0 counts)) ∷ (Heard (right 3)) ∷ (Heard None) ∷ (Heard (right 1)) ∷ (Heard (right 0)) ∷ (Goes 4) ∷ []
+  turns = Goes 3 ∷ Notes (AuditDone 1 0 counts) ∷ Heard (right 3) ∷ Heard None ∷ Heard (right 1)
+      ∷ Heard (right 0) ∷ Goes 4 ∷ []
 
   abbrev at_end : State
-  at_end = after_turns v n (AuditJob) turns
+  at_end = after_turns v n AuditJob turns
 
   abbrev last : State
   last = after_step at_end 1 (Gives (Audited 1 0 counts))
 
-  ran-formed : RanAlone byte_records (AuditJob) (Audited 1 0 counts) (damaged) (byte_audited)
-      (answers_heard) 0 v n
+  ran-formed : RanAlone byte_records AuditJob (Audited 1 0 counts) damaged byte_audited
+      answers_heard 0 v n
   unfolding setup_in actions_of spelling
   ran-formed = record {
     last = last;
-    runs = runs-so v n (AuditJob) turns (Audited 1 0 counts) last refl
-        (refusal-of v (AuditJob) refl refl refl
+    runs = runs-so v n AuditJob turns (Audited 1 0 counts) last refl
+        (refusal-of v AuditJob refl refl refl
         (record { journal = refl; area = refl; unswitched = refl }) ∙ audit_begins)
-        (refl, refl, (refl, (refl, (refl, (sums, (sums, (sums, judged, refl), refl), refl))), (refl, (refl, (refl, same_first _ _ refl)), (refl, (refl, (refl, sym (no_answer _ refl))), (refl, (refl, (refl, same_first _ _ refl)), (refl, (refl, (refl, same_first _ _ refl)), (refl, refl, tt)))))))
-        (goes-so 8 n at_end 1 (Gives (Audited 1 0 counts)) (refl, (refl, (refl, (sums, (sums, judged, refl), refl)))));
+        (refl, refl, (refl, (refl, (refl, (sums, (sums, (sums, judged, refl), refl), refl))), (refl, (refl,
+            (refl, same_first _ _ refl)), (refl, (refl, (refl, sym (no_answer _ refl))), (refl, (refl, (refl,
+            same_first _ _ refl)), (refl, (refl, (refl, same_first _ _ refl)), (refl, refl, tt)))))))
+        (goes-so 8 n at_end 1 (Gives (Audited 1 0 counts)) (refl, (refl, (refl, (sums, (sums, judged, refl),
+            refl)))));
     images = λ image is. inl (inl (refl, new-sure.images image is));
     faults_are = refl;
-    handed = record { count = count; each = four-each (byte_audited).providers last.providers refl refl refl refl };
+    handed = record {
+      count = count;
+      each = four-each byte_audited.providers last.providers refl refl refl refl;
+    };
     past_text = refl;
   }
 
 -- the audit's job runs to its counts from every state just opened over the damaged store
-pub alone : RunsAlone byte_records (AuditJob) (Audited 1 0 counts) (damaged) (byte_audited) (answers_heard)
-alone = alone-byte byte_records (holds 0) (holds 1) (empty_provider) (holds 3) (AuditJob) (Audited 1 0 counts) (damaged) (byte_audited) (answers_heard)
+pub alone : RunsAlone byte_records AuditJob (Audited 1 0 counts) damaged byte_audited answers_heard
+alone = alone-byte byte_records (holds 0) (holds 1) empty_provider (holds 3) AuditJob (Audited 1 0 counts)
+    damaged byte_audited answers_heard
     (omega arith) refl refl ran-formed
 
 -- the audit ends with status 0, and has heard the answers
-pub answers : Answers (AuditAll) (damaged) (byte_audited) (ends_hearing 0 answers_heard)
+pub answers : Answers AuditAll damaged byte_audited (ends_hearing 0 answers_heard)
 answers = (
   AnswersAlone.begun byte_records old-sure.known.opened
       (AnswersJob.ended (Audited 1 0 counts) audit_begins alone
-      (left-alone byte_records (AuditJob) (Audited 1 0 counts) (damaged) (byte_audited) (answers_heard)
-      tt (λ w last n O r. jobs-leave (AuditJob) w last n (Audited 1 0 counts) (answers_heard) tt O r)
+      (left-alone byte_records AuditJob (Audited 1 0 counts) damaged byte_audited answers_heard
+      tt (λ w last n O r. jobs-leave AuditJob w last n (Audited 1 0 counts) answers_heard tt O r)
       old-sure.known.opened refl alone)
       (record { written = inl (refl, refl); place = refl })),
   (refl, refl),

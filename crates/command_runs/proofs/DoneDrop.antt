@@ -24,7 +24,7 @@ module _ (w : State) (n : ℕ) (count : w.handed ≡ 4) where
   v = formed byte_records (one_byte w.bytes) (holds 0) (holds 1) (holds 2) (holds 3) w
 
   abbrev turns : List Turn
-  turns = (Goes 8) ∷ []
+  turns = Goes 8 ∷ []
 
   abbrev at_end : State
   at_end = after_turns v n (DropJob named) turns
@@ -32,32 +32,36 @@ module _ (w : State) (n : ℕ) (count : w.handed ≡ 4) where
   abbrev last : State
   last = after_step at_end 1 (Gives Dropped)
 
-  ran-formed : RanAlone byte_records (DropJob named) (Dropped) (byte_kept) (dropped) ([]) 0 v n
+  ran-formed : RanAlone byte_records (DropJob named) Dropped byte_kept dropped [] 0 v n
   unfolding setup_in actions_of spelling
   ran-formed = record {
     last = last;
-    runs = runs-so v n (DropJob named) turns (Dropped) last refl
+    runs = runs-so v n (DropJob named) turns Dropped last refl
         (refusal-of v (DropJob named) refl refl refl
         (record { journal = refl; area = refl; unswitched = refl }) ∙ drop_begins)
         (refl, refl, tt)
         (goes-so 8 n at_end 1 (Gives Dropped) (refl, (refl, tt)));
     images = λ image is. inl (inl (refl, new-sure.images image is));
     faults_are = refl;
-    handed = record { count = count; each = four-each (dropped).providers last.providers refl refl refl refl };
+    handed = record {
+      count = count;
+      each = four-each dropped.providers last.providers refl refl refl refl;
+    };
     past_text = refl;
   }
 
 -- the drop's job runs to its end from every state just opened over the store
-pub alone : RunsAlone byte_records (DropJob named) (Dropped) (byte_kept) (dropped) ([])
-alone = alone-byte byte_records (holds 0) (holds 1) (holds 2) (holds 3) (DropJob named) (Dropped) (byte_kept) (dropped) ([])
+pub alone : RunsAlone byte_records (DropJob named) Dropped byte_kept dropped []
+alone = alone-byte byte_records (holds 0) (holds 1) (holds 2) (holds 3) (DropJob named) Dropped byte_kept
+    dropped []
     (omega arith) refl refl ran-formed
 
 -- the drop ends with status 0
-pub answers : Answers (DropOf named) (byte_kept) (dropped) (ends 0)
+pub answers : Answers (DropOf named) byte_kept dropped (ends 0)
 answers = (
-  AnswersAlone.begun byte_records old-sure.known.opened (AnswersJob.ended (Dropped) drop_begins alone
-      (left-alone byte_records (DropJob named) (Dropped) (byte_kept) (dropped) ([])
-      refl (λ w last n O r. jobs-leave (DropJob named) w last n (Dropped) ([]) refl O r) old-sure.known.opened
+  AnswersAlone.begun byte_records old-sure.known.opened (AnswersJob.ended Dropped drop_begins alone
+      (left-alone byte_records (DropJob named) Dropped byte_kept dropped []
+      refl (λ w last n O r. jobs-leave (DropJob named) w last n Dropped [] refl O r) old-sure.known.opened
       refl alone)
       (record { written = inl (refl, refl); place = refl })),
   (refl, refl),

@@ -30,7 +30,8 @@ module _ (w : State) (n : ℕ) (count : w.handed ≡ 4) where
       (given_block 2 (fetched empty_provider)) (fetched (holds 3)) w
 
   abbrev turns : List Turn
-  turns = (Works symbols) ∷ (Came (Some (own_block 3))) ∷ (Came (Some (own_block 2))) ∷ (Came (Some (own_block 1))) ∷ (Came (Some (own_block 0))) ∷ []
+  turns = Works symbols ∷ Came (Some (own_block 3)) ∷ Came (Some (own_block 2)) ∷ Came (Some (own_block 1))
+      ∷ Came (Some (own_block 0)) ∷ []
 
   abbrev at_end : State
   at_end = after_turns v n (GetJob named) turns
@@ -38,34 +39,40 @@ module _ (w : State) (n : ℕ) (count : w.handed ≡ 4) where
   abbrev last : State
   last = after_step at_end 1 (Gives (Got byte))
 
-  ran-formed : RanAlone byte_repaired_records (GetJob named) (Got byte) (mended) (got)
-      (own_blocks_heard) 0 v n
+  ran-formed : RanAlone byte_repaired_records (GetJob named) (Got byte) mended got
+      own_blocks_heard 0 v n
   unfolding setup_in actions_of spelling
   ran-formed = record {
     last = last;
     runs = runs-so v n (GetJob named) turns (Got byte) last refl
         (refusal-of v (GetJob named) refl refl refl
         (record { journal = refl; area = refl; unswitched = refl }) ∙ begins-none)
-        (refl, (refl, (refl, own_work)), (refl, (refl, (refl, block_sized 3)), (refl, (refl, (refl, block_sized 2)), (refl, (refl, (refl, block_sized 1)), (refl, (refl, (refl, block_sized 0)), tt)))))
+        (refl, (refl, (refl, own_work)), (refl, (refl, (refl, block_sized 3)), (refl, (refl, (refl,
+            block_sized 2)), (refl, (refl, (refl, block_sized 1)), (refl, (refl, (refl, block_sized 0)),
+            tt)))))
         (goes-so 8 n at_end 1 (Gives (Got byte)) (refl, (refl, byte_back)));
     images = λ image is. inl (inl (refl, new-sure.images image is));
     faults_are = refl;
-    handed = record { count = count; each = four-each (got).providers last.providers refl refl refl refl };
+    handed = record {
+      count = count;
+      each = four-each got.providers last.providers refl refl refl refl;
+    };
     past_text = refl;
   }
 
 -- the get's job runs to the byte from every state just opened over the mended store
-pub alone : RunsAlone byte_repaired_records (GetJob named) (Got byte) (mended) (got) (own_blocks_heard)
-alone = alone-byte byte_repaired_records (fetched (holds 0)) (fetched (holds 1)) (given_block 2 (fetched empty_provider)) (fetched (holds 3)) (GetJob named) (Got byte) (mended) (got) (own_blocks_heard)
+pub alone : RunsAlone byte_repaired_records (GetJob named) (Got byte) mended got own_blocks_heard
+alone = alone-byte byte_repaired_records (fetched (holds 0)) (fetched (holds 1)) (given_block 2 (fetched
+    empty_provider)) (fetched (holds 3)) (GetJob named) (Got byte) mended got own_blocks_heard
     (omega arith) refl refl ran-formed
 
 -- the get ends with status 0 and the byte, and has heard all own blocks
-pub answers : Answers (GetOf named) (mended) (got) (ends_hearing 0 own_blocks_heard)
+pub answers : Answers (GetOf named) mended got (ends_hearing 0 own_blocks_heard)
 answers = (
   AnswersAlone.begun byte_repaired_records old-sure.known.opened
       (AnswersJob.ended (Got byte) begins-none alone
-      (left-alone byte_repaired_records (GetJob named) (Got byte) (mended) (got) (own_blocks_heard)
-      refl (λ w last n O r. jobs-leave (GetJob named) w last n (Got byte) (own_blocks_heard) refl O r)
+      (left-alone byte_repaired_records (GetJob named) (Got byte) mended got own_blocks_heard
+      refl (λ w last n O r. jobs-leave (GetJob named) w last n (Got byte) own_blocks_heard refl O r)
       old-sure.known.opened refl alone)
       (record { written = inl (refl, refl); place = refl })),
   (refl, refl),

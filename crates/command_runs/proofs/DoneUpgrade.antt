@@ -22,33 +22,36 @@ upgraded_records = Version ∷ four_records
 
 module _ (w : State) (n : ℕ) (count : w.handed ≡ 4) where
   abbrev v : State
-  v = formed four_records w.bytes (silent) (silent) (silent) (silent) w
+  v = formed four_records w.bytes silent silent silent silent w
 
   abbrev turns : List Turn
-  turns = (Goes 4) ∷ []
+  turns = Goes 4 ∷ []
 
   abbrev at_end : State
-  at_end = after_turns v n (UpgradeJob) turns
+  at_end = after_turns v n UpgradeJob turns
 
   abbrev last : State
   last = after_step at_end 1 (Gives Upgraded)
 
-  ran-formed : RanAlone four_records UpgradeJob (Upgraded) (all_hidden) (all_hidden) ([]) 0 v n
+  ran-formed : RanAlone four_records UpgradeJob Upgraded all_hidden all_hidden [] 0 v n
   unfolding setup_in actions_of
   ran-formed = record {
     last = last;
-    runs = runs-so v n (UpgradeJob) turns (Upgraded) last refl
-        (refusal-of v (UpgradeJob) refl refl refl
+    runs = runs-so v n UpgradeJob turns Upgraded last refl
+        (refusal-of v UpgradeJob refl refl refl
         (record { journal = refl; area = refl; unswitched = refl }) ∙ upgrade_begins)
         (refl, refl, tt)
         (goes-so 8 n at_end 1 (Gives Upgraded) (refl, (refl, tt)));
     images = tt;
     faults_are = refl;
-    handed = record { count = count; each = four-each (all_hidden).providers last.providers refl refl refl refl };
+    handed = record {
+      count = count;
+      each = four-each all_hidden.providers last.providers refl refl refl refl;
+    };
     past_text = refl;
   }
 
 -- the upgrade's job runs to its end from every state just opened over devices that tell nothing
-pub alone : RunsAlone four_records UpgradeJob (Upgraded) (all_hidden) (all_hidden) ([])
-alone = alone-over four_records (silent) (silent) (silent) (silent) UpgradeJob (Upgraded) (all_hidden) (all_hidden) ([])
+pub alone : RunsAlone four_records UpgradeJob Upgraded all_hidden all_hidden []
+alone = alone-over four_records silent silent silent silent UpgradeJob Upgraded all_hidden all_hidden []
     (omega arith) refl ran-formed

@@ -23,10 +23,10 @@ use Rattle.command_runs.proofs.Made.{after_turns, runs-so, four-each, alone-over
 
 module _ (w : State) (n : ℕ) (count : w.handed ≡ 4) where
   abbrev v : State
-  v = formed four_records w.bytes (empty_provider) (empty_provider) (empty_provider) (empty_provider) w
+  v = formed four_records w.bytes empty_provider empty_provider empty_provider empty_provider w
 
   abbrev turns : List Turn
-  turns = (Goes 4) ∷ []
+  turns = Goes 4 ∷ []
 
   abbrev at_end : State
   at_end = after_turns v n (PutJob named byte) turns
@@ -34,7 +34,7 @@ module _ (w : State) (n : ℕ) (count : w.handed ≡ 4) where
   abbrev last : State
   last = after_step at_end 1 (StoreFails 0)
 
-  ran-formed : RanAlone four_records (PutJob named byte) (ProviderFault 0) (to_put) (put_failed) ([]) 0 v n
+  ran-formed : RanAlone four_records (PutJob named byte) (ProviderFault 0) to_put put_failed [] 0 v n
   unfolding setup_in actions_of spelling
   ran-formed = record {
     last = last;
@@ -45,21 +45,25 @@ module _ (w : State) (n : ℕ) (count : w.handed ≡ 4) where
         (goes-so 8 n at_end 1 (StoreFails 0) (refl, (refl, refl)));
     images = λ image is. inl (inl (refl, new-sure.images image is));
     faults_are = refl;
-    handed = record { count = count; each = four-each (put_failed).providers last.providers refl refl refl refl };
+    handed = record {
+      count = count;
+      each = four-each put_failed.providers last.providers refl refl refl refl;
+    };
     past_text = refl;
   }
 
 -- the put's job runs to a failed store of provider 0 from every state just opened over the store
-pub alone : RunsAlone four_records (PutJob named byte) (ProviderFault 0) (to_put) (put_failed) ([])
-alone = alone-over four_records (empty_provider) (empty_provider) (empty_provider) (empty_provider) (PutJob named byte) (ProviderFault 0) (to_put) (put_failed) ([])
+pub alone : RunsAlone four_records (PutJob named byte) (ProviderFault 0) to_put put_failed []
+alone = alone-over four_records empty_provider empty_provider empty_provider empty_provider (PutJob named
+    byte) (ProviderFault 0) to_put put_failed []
     (omega arith) refl ran-formed
 
 -- the put ends with status 13, at provider 0
-pub answers : Answers (PutUnder named) (to_put) (put_failed) (ends 13)
+pub answers : Answers (PutUnder named) to_put put_failed (ends 13)
 answers = AnswersPut.begun four_records byte old-sure.known.opened
     (record { are_bytes = refl; front = refl; few = omega arith; end = λ l. refl })
     (AnswersJob.ended (ProviderFault 0) put_begins alone
-    (left-alone four_records (PutJob named byte) (ProviderFault 0) (to_put) (put_failed) ([])
-    (refl, refl) (λ w last n O r. jobs-leave (PutJob named byte) w last n (ProviderFault 0) ([])
+    (left-alone four_records (PutJob named byte) (ProviderFault 0) to_put put_failed []
+    (refl, refl) (λ w last n O r. jobs-leave (PutJob named byte) w last n (ProviderFault 0) []
     (refl, refl) O r) old-sure.known.opened refl alone)
     (record { status_is = refl; place = refl; sink = refl }))

@@ -23,44 +23,50 @@ use Rattle.command_runs.proofs.Made.{after_turns, runs-so, four-each, alone-byte
 
 module _ (w : State) (n : ℕ) (count : w.handed ≡ 4) where
   abbrev v : State
-  v = formed byte_audited_records (one_byte w.bytes) (holds 0) (holds 1) (empty_provider) (holds 3) w
+  v = formed byte_audited_records (one_byte w.bytes) (holds 0) (holds 1) empty_provider (holds 3) w
 
   abbrev turns : List Turn
-  turns = (Works symbols) ∷ (Came (Some (own_block 3))) ∷ (Came None) ∷ (Came (Some (own_block 1))) ∷ (Came (Some (own_block 0))) ∷ []
+  turns = Works symbols ∷ Came (Some (own_block 3)) ∷ Came None ∷ Came (Some (own_block 1))
+      ∷ Came (Some (own_block 0)) ∷ []
 
   abbrev at_end : State
-  at_end = after_turns v n (RepairJob) turns
+  at_end = after_turns v n RepairJob turns
 
   abbrev last : State
   last = after_step at_end 1 (StoreFails 2)
 
-  ran-formed : RanAlone byte_audited_records (RepairJob) (ProviderFault 2) (due) (repair_failed) ([]) 0 v n
+  ran-formed : RanAlone byte_audited_records RepairJob (ProviderFault 2) due repair_failed [] 0 v n
   unfolding setup_in actions_of spelling
   ran-formed = record {
     last = last;
-    runs = runs-so v n (RepairJob) turns (ProviderFault 2) last refl
-        (refusal-of v (RepairJob) refl refl refl
+    runs = runs-so v n RepairJob turns (ProviderFault 2) last refl
+        (refusal-of v RepairJob refl refl refl
         (record { journal = refl; area = refl; unswitched = refl }) ∙ repair_begins)
-        (refl, (refl, (refl, without_two_give)), (refl, (refl, (refl, block_sized 3)), (refl, (refl, (refl, refl)), (refl, (refl, (refl, block_sized 1)), (refl, (refl, (refl, block_sized 0)), tt)))))
+        (refl, (refl, (refl, without_two_give)), (refl, (refl, (refl, block_sized 3)), (refl, (refl, (refl,
+            refl)), (refl, (refl, (refl, block_sized 1)), (refl, (refl, (refl, block_sized 0)), tt)))))
         (goes-so 8 n at_end 1 (StoreFails 2) (refl, (refl, refl)));
     images = λ image is. inl (inl (refl, new-sure.images image is));
     faults_are = refl;
-    handed = record { count = count; each = four-each (repair_failed).providers last.providers refl refl refl refl };
+    handed = record {
+      count = count;
+      each = four-each repair_failed.providers last.providers refl refl refl refl;
+    };
     past_text = refl;
   }
 
 -- the repair's job runs to a failed store of provider 2 from every state just opened over the store
-pub alone : RunsAlone byte_audited_records (RepairJob) (ProviderFault 2) (due) (repair_failed) ([])
-alone = alone-byte byte_audited_records (holds 0) (holds 1) (empty_provider) (holds 3) (RepairJob) (ProviderFault 2) (due) (repair_failed) ([])
+pub alone : RunsAlone byte_audited_records RepairJob (ProviderFault 2) due repair_failed []
+alone = alone-byte byte_audited_records (holds 0) (holds 1) empty_provider (holds 3) RepairJob (ProviderFault
+    2) due repair_failed []
     (omega arith) refl refl ran-formed
 
 -- the repair ends with status 13, at provider 2
-pub answers : Answers (RepairDue) (due) (repair_failed) (ends_at 13 2)
+pub answers : Answers RepairDue due repair_failed (ends_at 13 2)
 answers = (
   AnswersAlone.begun byte_audited_records old-sure.known.opened
       (AnswersJob.ended (ProviderFault 2) repair_begins alone
-      (left-alone byte_audited_records (RepairJob) (ProviderFault 2) (due) (repair_failed) ([])
-      tt (λ w last n O r. jobs-leave (RepairJob) w last n (ProviderFault 2) ([]) tt O r) old-sure.known.opened
+      (left-alone byte_audited_records RepairJob (ProviderFault 2) due repair_failed []
+      tt (λ w last n O r. jobs-leave RepairJob w last n (ProviderFault 2) [] tt O r) old-sure.known.opened
       refl alone)
       (record { status_is = refl; place = refl; sink = refl })),
   (refl, refl),

@@ -22,10 +22,10 @@ use Rattle.command_runs.proofs.Made.{after_turns, runs-so, four-each, alone-byte
 
 module _ (w : State) (n : ℕ) (count : w.handed ≡ 4) where
   abbrev v : State
-  v = formed byte_records (one_byte w.bytes) (silent) (silent) (silent) (silent) w
+  v = formed byte_records (one_byte w.bytes) silent silent silent silent w
 
   abbrev turns : List Turn
-  turns = (Came None) ∷ (Came None) ∷ (Came None) ∷ (Came None) ∷ []
+  turns = Came None ∷ Came None ∷ Came None ∷ Came None ∷ []
 
   abbrev at_end : State
   at_end = after_turns v n (GetJob named) turns
@@ -33,32 +33,37 @@ module _ (w : State) (n : ℕ) (count : w.handed ≡ 4) where
   abbrev last : State
   last = after_step at_end 1 (LosesOne 0 0)
 
-  ran-formed : RanAlone byte_records (GetJob named) (Lost 0 0) (all_hidden) (hidden_fetched) (no_blocks) 0 v n
+  ran-formed : RanAlone byte_records (GetJob named) (Lost 0 0) all_hidden hidden_fetched no_blocks 0 v n
   unfolding setup_in actions_of spelling
   ran-formed = record {
     last = last;
     runs = runs-so v n (GetJob named) turns (Lost 0 0) last refl
         (refusal-of v (GetJob named) refl refl refl
         (record { journal = refl; area = refl; unswitched = refl }) ∙ get_begins)
-        (refl, (refl, (refl, tt)), (refl, (refl, (refl, tt)), (refl, (refl, (refl, tt)), (refl, (refl, (refl, tt)), tt))))
+        (refl, (refl, (refl, tt)), (refl, (refl, (refl, tt)), (refl, (refl, (refl, tt)), (refl, (refl, (refl,
+            tt)), tt))))
         (goes-so 8 n at_end 1 (LosesOne 0 0) (refl, (refl, (refl, none-lose four.master))));
     images = tt;
     faults_are = refl;
-    handed = record { count = count; each = four-each (hidden_fetched).providers last.providers refl refl refl refl };
+    handed = record {
+      count = count;
+      each = four-each hidden_fetched.providers last.providers refl refl refl refl;
+    };
     past_text = refl;
   }
 
 -- the get's job runs to a lost row from every state just opened over devices that tell nothing
-pub alone : RunsAlone byte_records (GetJob named) (Lost 0 0) (all_hidden) (hidden_fetched) (no_blocks)
-alone = alone-byte byte_records (silent) (silent) (silent) (silent) (GetJob named) (Lost 0 0) (all_hidden) (hidden_fetched) (no_blocks)
+pub alone : RunsAlone byte_records (GetJob named) (Lost 0 0) all_hidden hidden_fetched no_blocks
+alone = alone-byte byte_records silent silent silent silent (GetJob named) (Lost 0 0) all_hidden
+    hidden_fetched no_blocks
     (omega arith) refl refl ran-formed
 
 -- the get ends with status 4, and has heard no block
-pub answers : Answers (GetOf named) (all_hidden) (hidden_fetched) (ends_hearing 4 no_blocks)
+pub answers : Answers (GetOf named) all_hidden hidden_fetched (ends_hearing 4 no_blocks)
 answers = (
   AnswersAlone.begun byte_records hidden-opened (AnswersJob.ended (Lost 0 0) get_begins alone
-      (left-alone byte_records (GetJob named) (Lost 0 0) (all_hidden) (hidden_fetched) (no_blocks)
-      refl (λ w last n O r. jobs-leave (GetJob named) w last n (Lost 0 0) (no_blocks) refl O r) hidden-opened
+      (left-alone byte_records (GetJob named) (Lost 0 0) all_hidden hidden_fetched no_blocks
+      refl (λ w last n O r. jobs-leave (GetJob named) w last n (Lost 0 0) no_blocks refl O r) hidden-opened
       refl alone)
       (record { status_is = refl; place = refl; sink = refl })),
   (refl, refl),

@@ -22,10 +22,10 @@ use Rattle.command_runs.proofs.Made.{after_turns, runs-so, four-each, alone-over
 
 module _ (w : State) (n : ℕ) (count : w.handed ≡ 4) where
   abbrev v : State
-  v = formed four_records w.bytes (silent) (silent) (silent) (silent) w
+  v = formed four_records w.bytes silent silent silent silent w
 
   abbrev turns : List Turn
-  turns = (Goes 12) ∷ []
+  turns = Goes 12 ∷ []
 
   abbrev at_end : State
   at_end = after_turns v n (PutJob named byte) turns
@@ -33,32 +33,35 @@ module _ (w : State) (n : ℕ) (count : w.handed ≡ 4) where
   abbrev last : State
   last = after_step at_end 1 (Gives Put)
 
-  ran-formed : RanAlone four_records (PutJob named byte) (Put) (all_hidden) (all_hidden) ([]) 0 v n
+  ran-formed : RanAlone four_records (PutJob named byte) Put all_hidden all_hidden [] 0 v n
   unfolding setup_in actions_of spelling
   ran-formed = record {
     last = last;
-    runs = runs-so v n (PutJob named byte) turns (Put) last refl
+    runs = runs-so v n (PutJob named byte) turns Put last refl
         (refusal-of v (PutJob named byte) refl refl refl
         (record { journal = refl; area = refl; unswitched = refl }) ∙ put_begins)
         (refl, refl, tt)
         (goes-so 8 n at_end 1 (Gives Put) (refl, (refl, tt)));
     images = tt;
     faults_are = refl;
-    handed = record { count = count; each = four-each (all_hidden).providers last.providers refl refl refl refl };
+    handed = record {
+      count = count;
+      each = four-each all_hidden.providers last.providers refl refl refl refl;
+    };
     past_text = refl;
   }
 
 -- the put's job runs to its end from every state just opened over devices that tell nothing
-pub alone : RunsAlone four_records (PutJob named byte) (Put) (all_hidden) (all_hidden) ([])
-alone = alone-over four_records (silent) (silent) (silent) (silent) (PutJob named byte) (Put) (all_hidden) (all_hidden) ([])
+pub alone : RunsAlone four_records (PutJob named byte) Put all_hidden all_hidden []
+alone = alone-over four_records silent silent silent silent (PutJob named byte) Put all_hidden all_hidden []
     (omega arith) refl ran-formed
 
 -- the put ends with status 0
-pub answers : Answers (PutUnder named) (all_hidden) (all_hidden) (ends 0)
+pub answers : Answers (PutUnder named) all_hidden all_hidden (ends 0)
 answers = AnswersPut.begun four_records byte hidden-fresh
     (record { are_bytes = refl; front = refl; few = omega arith; end = λ l. tt })
-    (AnswersJob.ended (Put) put_begins alone
-    (left-alone four_records (PutJob named byte) (Put) (all_hidden) (all_hidden) ([])
-    (refl, refl) (λ w last n O r. jobs-leave (PutJob named byte) w last n (Put) ([]) (refl, refl) O r)
+    (AnswersJob.ended Put put_begins alone
+    (left-alone four_records (PutJob named byte) Put all_hidden all_hidden []
+    (refl, refl) (λ w last n O r. jobs-leave (PutJob named byte) w last n Put [] (refl, refl) O r)
     hidden-fresh refl alone)
     (record { written = inl (refl, refl); place = refl }))

@@ -26,4 +26,3 @@ pub mod CutDrop
 pub mod CutAudit
 pub mod CutRepair
 pub mod DoneRow
-pub mod Counting

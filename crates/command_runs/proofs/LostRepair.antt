@@ -24,45 +24,50 @@ use Rattle.command_runs.proofs.Made.{after_turns, runs-so, four-each, alone-byte
 
 module _ (w : State) (n : ℕ) (count : w.handed ≡ 4) where
   abbrev v : State
-  v = formed byte_audited_records (one_byte w.bytes) (empty_provider) (empty_provider) (empty_provider)
-      (empty_provider) w
+  v = formed byte_audited_records (one_byte w.bytes) empty_provider empty_provider empty_provider
+      empty_provider w
 
   abbrev turns : List Turn
-  turns = (Came None) ∷ (Came None) ∷ (Came None) ∷ (Came None) ∷ []
+  turns = Came None ∷ Came None ∷ Came None ∷ Came None ∷ []
 
   abbrev at_end : State
-  at_end = after_turns v n (RepairJob) turns
+  at_end = after_turns v n RepairJob turns
 
   abbrev last : State
   last = after_step at_end 1 (LosesOne 0 0)
 
-  ran-formed : RanAlone byte_audited_records (RepairJob) (Lost 0 0) (due_lost) (repair_lost) ([]) 0 v n
+  ran-formed : RanAlone byte_audited_records RepairJob (Lost 0 0) due_lost repair_lost [] 0 v n
   unfolding setup_in actions_of spelling
   ran-formed = record {
     last = last;
-    runs = runs-so v n (RepairJob) turns (Lost 0 0) last refl
-        (refusal-of v (RepairJob) refl refl refl
+    runs = runs-so v n RepairJob turns (Lost 0 0) last refl
+        (refusal-of v RepairJob refl refl refl
         (record { journal = refl; area = refl; unswitched = refl }) ∙ repair_begins)
-        (refl, (refl, (refl, refl)), (refl, (refl, (refl, refl)), (refl, (refl, (refl, refl)), (refl, (refl, (refl, refl)), tt))))
+        (refl, (refl, (refl, refl)), (refl, (refl, (refl, refl)), (refl, (refl, (refl, refl)), (refl, (refl,
+            (refl, refl)), tt))))
         (goes-so 8 n at_end 1 (LosesOne 0 0) (refl, (refl, (refl, none-lose four.master))));
     images = λ image is. inl (inl (refl, new-sure.images image is));
     faults_are = refl;
-    handed = record { count = count; each = four-each (repair_lost).providers last.providers refl refl refl refl };
+    handed = record {
+      count = count;
+      each = four-each repair_lost.providers last.providers refl refl refl refl;
+    };
     past_text = refl;
   }
 
 -- the repair's job runs to a lost row from every state just opened over the store
-pub alone : RunsAlone byte_audited_records (RepairJob) (Lost 0 0) (due_lost) (repair_lost) ([])
-alone = alone-byte byte_audited_records (empty_provider) (empty_provider) (empty_provider) (empty_provider) (RepairJob) (Lost 0 0) (due_lost) (repair_lost) ([])
+pub alone : RunsAlone byte_audited_records RepairJob (Lost 0 0) due_lost repair_lost []
+alone = alone-byte byte_audited_records empty_provider empty_provider empty_provider empty_provider RepairJob
+    (Lost 0 0) due_lost repair_lost []
     (omega arith) refl refl ran-formed
 
 -- the repair ends with status 4
-pub answers : Answers (RepairDue) (due_lost) (repair_lost) (ends 4)
+pub answers : Answers RepairDue due_lost repair_lost (ends 4)
 answers = (
   AnswersAlone.begun byte_audited_records old-sure.known.opened
       (AnswersJob.ended (Lost 0 0) repair_begins alone
-      (left-alone byte_audited_records (RepairJob) (Lost 0 0) (due_lost) (repair_lost) ([])
-      tt (λ w last n O r. jobs-leave (RepairJob) w last n (Lost 0 0) ([]) tt O r) old-sure.known.opened refl
+      (left-alone byte_audited_records RepairJob (Lost 0 0) due_lost repair_lost []
+      tt (λ w last n O r. jobs-leave RepairJob w last n (Lost 0 0) [] tt O r) old-sure.known.opened refl
       alone)
       (record { status_is = refl; place = refl; sink = refl })),
   (refl, refl),

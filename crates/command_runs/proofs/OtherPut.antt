@@ -28,7 +28,7 @@ module _ (w : State) (n : ℕ) (count : w.handed ≡ 4) where
   v = formed byte_records w.bytes (holds 0) (holds 1) (holds 2) (holds 3) w
 
   abbrev turns : List Turn
-  turns = (Goes 12) ∷ []
+  turns = Goes 12 ∷ []
 
   abbrev at_end : State
   at_end = after_turns v n (PutJob other_name byte) turns
@@ -36,32 +36,36 @@ module _ (w : State) (n : ℕ) (count : w.handed ≡ 4) where
   abbrev last : State
   last = after_step at_end 1 (Gives Put)
 
-  ran-formed : RanAlone byte_records (PutJob other_name byte) (Put) (to_put_other) (stored_other) ([]) 0 v n
+  ran-formed : RanAlone byte_records (PutJob other_name byte) Put to_put_other stored_other [] 0 v n
   unfolding setup_in actions_of spelling
   ran-formed = record {
     last = last;
-    runs = runs-so v n (PutJob other_name byte) turns (Put) last refl
+    runs = runs-so v n (PutJob other_name byte) turns Put last refl
         (refusal-of v (PutJob other_name byte) refl refl refl
         (record { journal = refl; area = refl; unswitched = refl }) ∙ begins-none)
         (refl, refl, tt)
         (goes-so 8 n at_end 1 (Gives Put) (refl, (refl, tt)));
     images = λ image is. inl (inl (refl, new-sure.images image is));
     faults_are = refl;
-    handed = record { count = count; each = four-each (stored_other).providers last.providers refl refl refl refl };
+    handed = record {
+      count = count;
+      each = four-each stored_other.providers last.providers refl refl refl refl;
+    };
     past_text = refl;
   }
 
 -- the other put's job runs to its end from every state just opened over the store with the file
-pub alone : RunsAlone byte_records (PutJob other_name byte) (Put) (to_put_other) (stored_other) ([])
-alone = alone-over byte_records (holds 0) (holds 1) (holds 2) (holds 3) (PutJob other_name byte) (Put) (to_put_other) (stored_other) ([])
+pub alone : RunsAlone byte_records (PutJob other_name byte) Put to_put_other stored_other []
+alone = alone-over byte_records (holds 0) (holds 1) (holds 2) (holds 3) (PutJob other_name byte) Put
+    to_put_other stored_other []
     (omega arith) refl ran-formed
 
 -- the other put ends with status 0
-pub answers : Answers (PutUnder other_name) (to_put_other) (stored_other) (ends 0)
+pub answers : Answers (PutUnder other_name) to_put_other stored_other (ends 0)
 answers = AnswersPut.begun byte_records byte old-sure.known.opened
     (record { are_bytes = refl; front = refl; few = omega arith; end = λ l. refl })
-    (AnswersJob.ended (Put) begins-none alone
-    (left-alone byte_records (PutJob other_name byte) (Put) (to_put_other) (stored_other) ([])
-    (refl, refl) (λ w last n O r. jobs-leave (PutJob other_name byte) w last n (Put) ([]) (refl, refl) O r)
+    (AnswersJob.ended Put begins-none alone
+    (left-alone byte_records (PutJob other_name byte) Put to_put_other stored_other []
+    (refl, refl) (λ w last n O r. jobs-leave (PutJob other_name byte) w last n Put [] (refl, refl) O r)
     old-sure.known.opened refl alone)
     (record { written = inl (refl, refl); place = refl }))
