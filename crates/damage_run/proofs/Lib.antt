@@ -1,5 +1,4 @@
 pub mod Values
-pub mod Steps
 pub mod Run
 pub mod CalmRun
 pub mod Points
