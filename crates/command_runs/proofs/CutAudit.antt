@@ -42,10 +42,36 @@ module _ (w : State) (n : ℕ) (count : w.handed ≡ 4) where
     last = last;
     runs = runs-so v n AuditJob turns DiskFault last refl
         (refusal-of v AuditJob refl refl refl
-        (record { journal = refl; area = refl; unswitched = refl }) ∙ audit_begins)
-        (refl, refl, (refl, (refl, (refl, (sums, (sums, (sums, judged, refl), refl), refl))), (refl, (refl,
-            (refl, same_first _ _ refl)), (refl, (refl, (refl, sym (no_answer _ refl))), (refl, (refl, (refl,
-            same_first _ _ refl)), (refl, (refl, (refl, same_first _ _ refl)), (refl, refl, tt)))))))
+        (record { journal = refl; area = refl; unswitched = refl }) ∙ audit_begins) (
+          refl,
+          refl,
+          (
+            refl,
+            (refl, (refl, (sums, (sums, (sums, judged, refl), refl), refl))),
+            (
+              refl,
+              (
+                refl,
+                (refl, same_first _ _ refl),
+              ),
+              (
+                refl,
+                (refl, (refl, sym (no_answer _ refl))),
+                (
+                  refl,
+                  (
+                    refl,
+                    (
+                      refl,
+                      same_first _ _ refl,
+                    ),
+                  ),
+                  (refl, (refl, (refl, same_first _ _ refl)), (refl, refl, tt)),
+                ),
+              ),
+            ),
+          ),
+        )
         (goes-so 8 n at_end 1 Cut (refl, (refl, refl)));
     images = λ image is. inr
         (inl (record {

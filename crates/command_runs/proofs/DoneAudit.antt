@@ -43,12 +43,50 @@ module _ (w : State) (n : ℕ) (count : w.handed ≡ 4) where
     last = last;
     runs = runs-so v n AuditJob turns (Audited 1 0 counts) last refl
         (refusal-of v AuditJob refl refl refl
-        (record { journal = refl; area = refl; unswitched = refl }) ∙ audit_begins)
-        (refl, refl, (refl, (refl, (refl, (sums, (sums, (sums, judged, refl), refl), refl))), (refl, (refl,
-            (refl, same_first _ _ refl)), (refl, (refl, (refl, sym (no_answer _ refl))), (refl, (refl, (refl,
-            same_first _ _ refl)), (refl, (refl, (refl, same_first _ _ refl)), (refl, refl, tt)))))))
-        (goes-so 8 n at_end 1 (Gives (Audited 1 0 counts)) (refl, (refl, (refl, (sums, (sums, judged, refl),
-            refl)))));
+        (record { journal = refl; area = refl; unswitched = refl }) ∙ audit_begins) (
+          refl,
+          refl,
+          (
+            refl,
+            (refl, (refl, (sums, (sums, (sums, judged, refl), refl), refl))),
+            (
+              refl,
+              (
+                refl,
+                (refl, same_first _ _ refl),
+              ),
+              (
+                refl,
+                (refl, (refl, sym (no_answer _ refl))),
+                (
+                  refl,
+                  (
+                    refl,
+                    (
+                      refl,
+                      same_first _ _ refl,
+                    ),
+                  ),
+                  (refl, (refl, (refl, same_first _ _ refl)), (refl, refl, tt)),
+                ),
+              ),
+            ),
+          ),
+        )
+        (goes-so 8 n at_end 1 (Gives (Audited 1 0 counts)) (
+          refl,
+          (
+            refl,
+            (
+              refl,
+              (
+                sums,
+                (sums, judged, refl),
+                refl,
+              ),
+            ),
+          ),
+        ));
     images = λ image is. inl (inl (refl, new-sure.images image is));
     faults_are = refl;
     handed = record {

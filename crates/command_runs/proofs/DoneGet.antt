@@ -46,10 +46,33 @@ module _ (w : State) (n : ℕ) (count : w.handed ≡ 4) where
     last = last;
     runs = runs-so v n (GetJob named) turns (Got byte) last refl
         (refusal-of v (GetJob named) refl refl refl
-        (record { journal = refl; area = refl; unswitched = refl }) ∙ begins-none)
-        (refl, (refl, (refl, own_work)), (refl, (refl, (refl, block_sized 3)), (refl, (refl, (refl,
-            block_sized 2)), (refl, (refl, (refl, block_sized 1)), (refl, (refl, (refl, block_sized 0)),
-            tt)))))
+        (record { journal = refl; area = refl; unswitched = refl }) ∙ begins-none) (
+          refl,
+          (refl, (refl, own_work)),
+          (
+            refl,
+            (refl, (refl, block_sized 3)),
+            (
+              refl,
+              (
+                refl,
+                (
+                  refl,
+                  block_sized 2,
+                ),
+              ),
+              (
+                refl,
+                (refl, (refl, block_sized 1)),
+                (
+                  refl,
+                  (refl, (refl, block_sized 0)),
+                  tt,
+                ),
+              ),
+            ),
+          ),
+        )
         (goes-so 8 n at_end 1 (Gives (Got byte)) (refl, (refl, byte_back)));
     images = λ image is. inl (inl (refl, new-sure.images image is));
     faults_are = refl;

@@ -42,10 +42,31 @@ module _ (w : State) (n : ℕ) (count : w.handed ≡ 4) where
     last = last;
     runs = runs-so v n RepairJob turns (Repaired 1) last refl
         (refusal-of v RepairJob refl refl refl
-        (record { journal = refl; area = refl; unswitched = refl }) ∙ repair_begins)
-        (refl, refl, (refl, (refl, (refl, without_two_give)), (refl, (refl, (refl, block_sized 3)), (refl,
-            (refl, (refl, refl)), (refl, (refl, (refl, block_sized 1)), (refl, (refl, (refl, block_sized 0)),
-            tt))))))
+        (record { journal = refl; area = refl; unswitched = refl }) ∙ repair_begins) (
+          refl,
+          refl,
+          (
+            refl,
+            (refl, (refl, without_two_give)),
+            (
+              refl,
+              (refl, (refl, block_sized 3)),
+              (
+                refl,
+                (refl, (refl, refl)),
+                (
+                  refl,
+                  (refl, (refl, block_sized 1)),
+                  (
+                    refl,
+                    (refl, (refl, block_sized 0)),
+                    tt,
+                  ),
+                ),
+              ),
+            ),
+          ),
+        )
         (goes-so 8 n at_end 1 (Gives (Repaired 1)) (refl, (refl, refl)));
     images = λ image is. inl (inl (refl, new-sure.images image is));
     faults_are = refl;

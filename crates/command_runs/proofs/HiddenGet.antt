@@ -39,9 +39,29 @@ module _ (w : State) (n : ℕ) (count : w.handed ≡ 4) where
     last = last;
     runs = runs-so v n (GetJob named) turns (Lost 0 0) last refl
         (refusal-of v (GetJob named) refl refl refl
-        (record { journal = refl; area = refl; unswitched = refl }) ∙ get_begins)
-        (refl, (refl, (refl, tt)), (refl, (refl, (refl, tt)), (refl, (refl, (refl, tt)), (refl, (refl, (refl,
-            tt)), tt))))
+        (record { journal = refl; area = refl; unswitched = refl }) ∙ get_begins) (
+          refl,
+          (refl, (refl, tt)),
+          (
+            refl,
+            (refl, (refl, tt)),
+            (
+              refl,
+              (refl, (refl, tt)),
+              (
+                refl,
+                (
+                  refl,
+                  (
+                    refl,
+                    tt,
+                  ),
+                ),
+                tt,
+              ),
+            ),
+          ),
+        )
         (goes-so 8 n at_end 1 (LosesOne 0 0) (refl, (refl, (refl, none-lose four.master))));
     images = tt;
     faults_are = refl;

@@ -42,9 +42,26 @@ module _ (w : State) (n : ℕ) (count : w.handed ≡ 4) where
     last = last;
     runs = runs-so v n RepairJob turns (Lost 0 0) last refl
         (refusal-of v RepairJob refl refl refl
-        (record { journal = refl; area = refl; unswitched = refl }) ∙ repair_begins)
-        (refl, (refl, (refl, refl)), (refl, (refl, (refl, refl)), (refl, (refl, (refl, refl)), (refl, (refl,
-            (refl, refl)), tt))))
+        (record { journal = refl; area = refl; unswitched = refl }) ∙ repair_begins) (
+          refl,
+          (refl, (refl, refl)),
+          (
+            refl,
+            (refl, (refl, refl)),
+            (
+              refl,
+              (refl, (refl, refl)),
+              (
+                refl,
+                (
+                  refl,
+                  (refl, refl),
+                ),
+                tt,
+              ),
+            ),
+          ),
+        )
         (goes-so 8 n at_end 1 (LosesOne 0 0) (refl, (refl, (refl, none-lose four.master))));
     images = λ image is. inl (inl (refl, new-sure.images image is));
     faults_are = refl;
