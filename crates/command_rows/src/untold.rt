@@ -49,8 +49,16 @@ fn columns_of_another_file_are_a_forgery(rt: HostRuntime) {
 /// A schedule with a loss, an audit that finds it, a repair, a stop and gets, over providers that do not tell:
 /// the lines are those over such as do.
 const REPLAYED: &[Rows] = &[
-    Rows::Untold(&[SIX, Done("replay", DAMAGED, DAMAGED_LINES), Heard(&[6, 24, 6])]),
-    Rows::Deeds(&[SIX, Done("replay", DAMAGED, DAMAGED_LINES), Heard(&[6, 24, 6])]),
+    Rows::Untold(&[
+        SIX,
+        Done("replay", DAMAGED, DAMAGED_LINES),
+        Heard(&[6, 24, 6]),
+    ]),
+    Rows::Deeds(&[
+        SIX,
+        Done("replay", DAMAGED, DAMAGED_LINES),
+        Heard(&[6, 24, 6]),
+    ]),
 ];
 
 /// Six providers, of which one loses its block.
