@@ -1,27 +1,25 @@
 -- The run is calm, and its audit missed no damage.
-use Rattle.std.proofs.Common.{◌≡◌, ℕ, zero, suc, ◌<◌, ◌==◌, Bool, true, false, ◌&&◌, ◌||◌, List, [], ◌∷◌, Option, Some, None, refl, ap, sym, subst, ◌∙◌, inl, inr, arith}
+use Rattle.std.proofs.Common.{◌≡◌, ℕ, zero, suc, ◌<◌, ◌==◌, Bool, true, false, ◌&&◌, ◌||◌, List, [], ◌∷◌, Some, None, refl, ap, sym, subst, ◌∙◌, inl, inr, arith}
 use Rattle.std.specs.Prelude.{not, nat_le, is_some, IsTrue, if◌then◌else◌}
 use Rattle.std.specs.List.{list_all}
 use Rattle.std.proofs.lemmas.Bool.{cases_Bool, and_parts, leb-true, false≢true}
 use Rattle.column_defs.specs.Columns.{columns, is_wrong}
 use Rattle.column_defs.specs.Verdicts.{is_flagged}
 use Rattle.column_laws.proofs.Worked.{column-right}
-use Rattle.record_defs.specs.Records.{Record, AuditDone}
 use Rattle.record_defs.specs.Table.{File, file_as}
 use Rattle.machine_defs.specs.Jobs.{Job, job_of}
 use Rattle.machine_defs.specs.States.{State, setup_in, file_in}
-use Rattle.machine_defs.specs.Actions.{actions_of}
-use Rattle.machine_defs.specs.Runs.{Moment, first_moments, now, came}
+use Rattle.machine_defs.specs.Runs.{Moment, first_moments}
 use Rattle.machine_defs.specs.Calm.{Mark, since, relies, replaced_count, IsCalm}
 use Rattle.machine_defs.specs.Scrubs.{AreScrubsCalm}
-use Rattle.machine_defs.specs.Missed.{is_wrong_told, is_wrong_now, MissesNone, NoneMissed}
+use Rattle.machine_defs.specs.Missed.{is_wrong_told, is_wrong_now, NoneMissed}
 use Rattle.machine_defs.specs.Examples.{set_up}
 use Rattle.record_defs.specs.Examples.{four}
 use Rattle.machine_defs.proofs.JobLists.{cond_true, cond_false, same_value}
 use Rattle.damage_run.specs.Schedule.{byte, IsOutright}
 use Rattle.damage_run.proofs.Values.{thing}
-use Rattle.damage_run.specs.Points.{counts}
-use Rattle.damage_run.proofs.Run.{until_21, moments, is_run, writes}
+use Rattle.damage_run.proofs.Steps.{counts, state_21}
+use Rattle.damage_run.proofs.Run.{moments, is_run, writes}
 
 -- a job that runs passes a test that all pass
 test_of : (test : Job → Bool) (js : List Job) (k : ℕ) (j : Job) → job_of js k ≡ Some j →
@@ -71,7 +69,7 @@ scrubs_by_test mark (m ∷ ms) h = (let p = and_parts (not (is_some m.state.alon
 
 -- the run is calm, counted from settled audits
 pub calm : IsCalm relies (since set_up) moments
-unfolding setup_in actions_of
+unfolding setup_in
 calm = calm_by_test (since set_up) moments refl
 
 -- the only file in effect is that of the put
@@ -87,78 +85,194 @@ right_then : (j : ℕ) →
 unfolding is_wrong
 right_then j = rw (column-right thing byte j 0) refl
 
--- the state at the audit's begin
-abbrev at_begin : State
-unfolding setup_in actions_of
-at_begin = now set_up until_21
-
--- so no provider that the audit leaves unflagged was wrong there
 unmissed : (j : ℕ) → j < 4 → is_flagged 0 counts j ≡ false → (name : List ℕ) (file : File) →
-    file_in at_begin name ≡ Some file → is_wrong_now at_begin file j ≡ true → ⊥
-unfolding setup_in actions_of
+    file_in state_21 name ≡ Some file → is_wrong_now state_21 file j ≡ true → ⊥
+unfolding setup_in
 unmissed j low flagged name file at wrong = go j low flagged
-    (subst (λ (f : File). is_wrong_told at_begin f j (at_begin.providers j).held ≡ true)
+    (subst (λ (f : File). is_wrong_told state_21 f j (state_21.providers j).held ≡ true)
     (only_file _ name file at) wrong)
   where
     go : (j : ℕ) → j < 4 → is_flagged 0 counts j ≡ false →
-        is_wrong_told at_begin (file_as name 1 1 0) j (at_begin.providers j).held ≡ true → ⊥
+        is_wrong_told state_21 (file_as name 1 1 0) j (state_21.providers j).held ≡ true → ⊥
     go zero low flagged wrong = false≢true (sym (right_then 0) ∙ wrong)
     go (suc zero) low flagged wrong = false≢true (sym (right_then 1) ∙ wrong)
     go (suc (suc zero)) low flagged wrong = false≢true (sym flagged)
     go (suc (suc (suc zero))) low flagged wrong = false≢true (sym (right_then 3) ∙ wrong)
     go (suc (suc (suc (suc j)))) low flagged wrong = omega (arith, low)
 
--- what came is no end of an audit, as a test
-abbrev pub is_other : Option Record → Bool
-is_other (Some (AuditDone number undecided wrong)) = false
-is_other came = true
-
--- the moments but for the newest, so many
-abbrev pub behind : ℕ → List Moment → List Moment
-behind zero ms = ms
-behind (suc k) [] = []
-behind (suc k) (m ∷ ms) = behind k ms
-
--- no audit ends in the newest moments, so many, as a test
-abbrev pub end_no_audit : State → ℕ → List Moment → Bool
-end_no_audit start zero ms = true
-end_no_audit start (suc k) [] = true
-end_no_audit start (suc k) (m ∷ ms) = is_other (came (now start ms) m.state) && end_no_audit start k ms
-
--- then none missed damage there
-pub none_ended : (start : State) (k : ℕ) (ms : List Moment) → end_no_audit start k ms ≡ true →
-    NoneMissed start (behind k ms) → NoneMissed start ms
-none_ended start zero ms h r = r
-none_ended start (suc k) [] h r = tt
-none_ended start (suc k) (m ∷ ms) h r =
-    (let p = and_parts (is_other (came (now start ms) m.state)) (end_no_audit start k ms) h in
-    (misses (came (now start ms) m.state) p.0, none_ended start k ms p.1 r))
-  where
-    misses : (r : Option Record) → is_other r ≡ true → MissesNone start ms m.state r
-    misses (Some (AuditDone number undecided wrong)) h = absurd (false≢true h)
-    misses r h = tt
-
--- the audit's record is in effect
-abbrev pub until_36 : List Moment
-unfolding setup_in actions_of
-until_36 = first_moments 36 moments
-
--- up to there no audit missed damage
-pub found_36 : NoneMissed set_up until_36
-unfolding setup_in actions_of
-found_36 = (
-  λ j h. unmissed j h.provider h.unflagged h.name h.file h.in_effect h.wrong,
-  none_ended set_up 35 (first_moments 35 moments) refl tt,
-)
-
 -- no audit of the run missed damage
 pub found : NoneMissed set_up moments
-unfolding setup_in actions_of
-found = none_ended set_up 21 moments refl found_36
+unfolding setup_in
+found = (
+  tt,
+  (
+    tt,
+    (
+      tt,
+      (
+        tt,
+        (
+          tt,
+          (
+            tt,
+            (
+              tt,
+              (
+                tt,
+                (
+                  tt,
+                  (
+                    tt,
+                    (
+                      tt,
+                      (
+                        tt,
+                        (
+                          tt,
+                          (
+                            tt,
+                            (
+                              tt,
+                              (
+                                tt,
+                                (
+                                  tt,
+                                  (
+                                    tt,
+                                    (
+                                      tt,
+                                      (
+                                        tt,
+                                        (
+                                          tt,
+                                          (
+                                            λ j h. unmissed j h.provider h.unflagged h.name h.file h.in_effect
+                                                h.wrong,
+                                            (
+                                              tt,
+                                              (
+                                                tt,
+                                                (
+                                                  tt,
+                                                  (
+                                                    tt,
+                                                    (
+                                                      tt,
+                                                      (
+                                                        tt,
+                                                        (
+                                                          tt,
+                                                          (
+                                                            tt,
+                                                            (
+                                                              tt,
+                                                              (
+                                                                tt,
+                                                                (
+                                                                  tt,
+                                                                  (
+                                                                    tt,
+                                                                    (
+                                                                      tt,
+                                                                      (
+                                                                        tt,
+                                                                        (
+                                                                          tt,
+                                                                          (
+                                                                            tt,
+                                                                            (
+                                                                              tt,
+                                                                              (
+                                                                                tt,
+                                                                                (
+                                                                                  tt,
+                                                                                  (
+                                                                                    tt,
+                                                                                    (
+                                                                                      tt,
+                                                                                      (
+                                                                                        tt,
+                                                                                        (
+                                                                                          tt,
+                                                                                          (
+                                                                                            tt,
+                                                                                            (
+                                                                                              tt,
+                                                                                              (
+                                                                                                tt,
+                                                                                                (
+                                                                                                  tt,
+                                                                                                  (
+                                                                                                    tt,
+                                                                                                    (
+                                                                                                      tt,
+                                                                                                      (
+                                                                                                        tt,
+                                                                                                        (
+                                                                                                          tt,
+                                                                                                          (
+                                                                                                            tt,
+                                                                                                            (
+                                                                                                              tt,
+                                                                                                              (tt, (tt, tt)),
+                                                                                                            ),
+                                                                                                          ),
+                                                                                                        ),
+                                                                                                      ),
+                                                                                                    ),
+                                                                                                  ),
+                                                                                                ),
+                                                                                              ),
+                                                                                            ),
+                                                                                          ),
+                                                                                        ),
+                                                                                      ),
+                                                                                    ),
+                                                                                  ),
+                                                                                ),
+                                                                              ),
+                                                                            ),
+                                                                          ),
+                                                                        ),
+                                                                      ),
+                                                                    ),
+                                                                  ),
+                                                                ),
+                                                              ),
+                                                            ),
+                                                          ),
+                                                        ),
+                                                      ),
+                                                    ),
+                                                  ),
+                                                ),
+                                              ),
+                                            ),
+                                          ),
+                                        ),
+                                      ),
+                                    ),
+                                  ),
+                                ),
+                              ),
+                            ),
+                          ),
+                        ),
+                      ),
+                    ),
+                  ),
+                ),
+              ),
+            ),
+          ),
+        ),
+      ),
+    ),
+  ),
+)
 
 -- the run carries out the schedule, is calm, and its audit missed no damage
 pub outright : IsOutright moments
-unfolding setup_in actions_of
 outright = record {
   clean = record {
     records = inr (four, refl, refl);

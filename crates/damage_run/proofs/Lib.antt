@@ -1,4 +1,5 @@
 pub mod Values
+pub mod Steps
 pub mod Run
 pub mod CalmRun
 pub mod Points

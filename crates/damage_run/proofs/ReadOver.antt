@@ -1,41 +1,37 @@
 -- A get over a damaged store is one.
-use Rattle.std.specs.Prelude.{◌≡◌, ℕ, List, [], ◌∷◌, ◌++◌}
-use Rattle.std.proofs.Common.{refl, subst, inl, arith}
-use Rattle.machine_defs.specs.Events.{Begun, More, Replaced}
+use Rattle.std.specs.Prelude.{◌≡◌, ℕ, List, [], ◌∷◌}
+use Rattle.std.proofs.Common.{refl, inl, arith}
+use Rattle.machine_defs.specs.Jobs.{GetJob}
+use Rattle.machine_defs.specs.Answers.{Got}
+use Rattle.machine_defs.specs.Events.{Begin, Step, Lose, Begun, More, Ended, Replaced}
+use Rattle.machine_defs.specs.Jobs.{AuditJob}
 use Rattle.machine_defs.specs.States.{setup_in}
-use Rattle.machine_defs.specs.Actions.{actions_of}
-use Rattle.machine_defs.specs.Runs.{Moment, IsRun, first_moments}
-use Rattle.machine_defs.specs.Examples.{set_up}
+use Rattle.machine_defs.specs.Runs.{Moment}
 use Rattle.machine_defs.specs.Damaged.{DamagesOnly}
 use Rattle.machine_defs.proofs.Damaged.{steps_damage_none, both_only}
+use Rattle.machine_defs.proofs.RunParts.{stepped}
 use Rattle.machine_defs.proofs.PutRun.{moments as stored, steps as put_steps}
 use Rattle.second_half_laws.proofs.ByteTold.{is_told, put_begin, reopening, put_goes_on}
+use Rattle.damage_run.specs.Schedule.{name, byte}
 use Rattle.damage_run.specs.ReadOver.{damaged, IsReadOver}
-use Rattle.damage_run.proofs.Run.{newest, until_25, is_until_25, moments}
+use Rattle.damage_run.proofs.Steps.{state_16, state_17, state_18, state_19, state_20, state_21, state_22, state_23, state_24, state_25}
+use Rattle.damage_run.proofs.Run.{is_until_25}
 use Rattle.damage_run.proofs.CalmRun.{outright}
-use Rattle.damage_run.proofs.Points.{last_of}
 
--- the get's begin
 abbrev pub begin : Moment
-unfolding setup_in actions_of
-begin = last_of (first_moments 16 moments)
+begin = record { event = Begin (GetJob name); outcome = Begun 2; state = state_16 }
 
--- its end
 abbrev pub end : Moment
-unfolding setup_in actions_of
-end = last_of until_25
+end = record { event = Step 2; outcome = Ended (Got byte); state = state_25 }
 
 -- the get's fetches, the loss, the audit's begin and a step of it, and the get's work
 abbrev pub gaps : List Moment
-unfolding setup_in actions_of
-gaps = newest 8 (first_moments 24 moments)
+gaps = stepped 2 state_24
+    ∷ stepped 3 state_23
+    ∷ record { event = Begin AuditJob; outcome = Begun 3; state = state_22 }
+    ∷ record { event = Lose 2 1 0; outcome = Replaced; state = state_21 }
+    ∷ stepped 2 state_20 ∷ stepped 2 state_19 ∷ stepped 2 state_18 ∷ stepped 2 state_17 ∷ []
 
--- behind the put they are the moments up to the get's end
-parted : until_25 ≡ end ∷ (gaps ++ begin ∷ stored)
-unfolding setup_in actions_of
-parted = refl
-
--- the put damages nothing
 damages_put : DamagesOnly damaged stored
 damages_put = (
   tt,
@@ -43,13 +39,12 @@ damages_put = (
       (steps_damage_none damaged 1 put_steps put_goes_on) (tt, (tt, tt)),
 )
 
--- the moments read over a damaged store
 pub is_read : IsReadOver stored gaps begin end
-unfolding setup_in actions_of
+unfolding setup_in
 is_read = record {
   clean = outright.clean;
   tell = outright.tell;
-  run = subst (IsRun 8 set_up) parted is_until_25;
+  run = is_until_25;
   stored = is_told;
   got = record {
     begin_event = refl;

@@ -5,12 +5,12 @@ use Rattle.machine_defs.specs.Answers.{Got, Dropped, Audited, Lost, ProviderFaul
 use Rattle.machine_defs.specs.Refusals as refusal
 use Rattle.machine_defs.specs.Events.{Begin, Step, Stop, Reopen, Continue, Refused, Opened, Begun, More, Ended, Stopped, Closed, Continued}
 use Rattle.machine_defs.specs.States.{setup_in}
-use Rattle.machine_defs.specs.Runs.{Moment, IsRun}
+use Rattle.machine_defs.specs.Runs.{Moment, IsRun, first_moments}
 use Rattle.machine_defs.specs.Examples.{set_up}
+use Rattle.run_laws.proofs.FirstHalf.{first_run}
 use Rattle.damage_run.specs.Schedule.{name, byte}
 use Rattle.damage_run.specs.Points.{counts}
-use Rattle.machine_defs.proofs.PutRun.{moments as stored}
-use Rattle.damage_run.proofs.Run.{is_stored}
+use Rattle.damage_run.proofs.Run.{moments as stored_and_more, is_run as is_more}
 use Rattle.fault_run.specs.Faults.{other}
 use Rattle.fault_run.proofs.Steps.{state_16, state_17, state_18, state_19, state_20, state_21, state_22, state_23, state_24, state_25, state_26, state_27, state_28, state_29, state_30, state_31, state_32, state_33, state_34, state_35, state_36, state_37, state_38, state_39, state_40, state_41, state_42, state_43, state_44, state_45, state_46, state_47, state_48, state_49, state_50, state_51, state_52, state_53, state_54, state_55, state_56, state_57, state_58, state_59, state_60, state_61, state_62, state_63, state_64, state_65, state_66, state_67, state_68, state_69, state_70, state_71, state_72, state_73, state_74, state_75, happens_15, happens_16, happens_17, happens_18, happens_19, happens_20, happens_21, happens_22, happens_23, happens_24, happens_25, happens_26, happens_27, happens_28, happens_29, happens_30, happens_31, happens_32, happens_33, happens_34, happens_35, happens_36, happens_37, happens_38, happens_39, happens_40, happens_41, happens_42, happens_43, happens_44, happens_45, happens_46, happens_47, happens_48, happens_49, happens_50, happens_51, happens_52, happens_53, happens_54, happens_55, happens_56, happens_57, happens_58, happens_59, happens_60, happens_61, happens_62, happens_63, happens_64, happens_65, happens_66, happens_67, happens_68, happens_69, happens_70, happens_71, happens_72, happens_73, happens_74}
 
@@ -38,10 +38,10 @@ small_7 = omega arith
 
 -- the put
 abbrev pub until_15 : List Moment
-until_15 = stored
+until_15 = first_moments 15 stored_and_more
 
 is_until_15 : IsRun 8 set_up until_15
-is_until_15 = is_stored
+is_until_15 = first_run 8 set_up 15 stored_and_more is_more
 
 -- a get, two of whose fetches fail
 abbrev pub until_16 : List Moment

@@ -9,13 +9,13 @@ use Rattle.machine_defs.specs.Actions.{Action, WriteBody, SyncBody, WriteGate, S
 use Rattle.machine_defs.specs.Answers.{DiskFault}
 use Rattle.machine_defs.specs.Events.{Step, Ended, Replaced}
 use Rattle.machine_defs.specs.Machine.{Happens}
-use Rattle.machine_defs.specs.States.{State, Append, Alone, ended, setup_in}
+use Rattle.machine_defs.specs.States.{State, Append, Alone, ended, given_up, setup_in}
 use Rattle.machine_defs.specs.Appends.{Moves, doubted, barred}
 use Rattle.machine_defs.specs.Replacements.{ReplacesIf}
 use Rattle.machine_defs.specs.Runs.{Moment, IsRun, now}
 use Rattle.machine_defs.specs.Steps.{Acts, ActsOrWaits, StepsOn, StepsJob, StepsOne, StepsOpen, Steps, next_action, holder_of}
 use Rattle.made_runs.specs.Steps.{fetched, is_at, by_flight, can_step}
-use Rattle.made_runs.specs.Turns.{Turn, Goes, Works, Notes, Came, Heard, NoneCame, Gives, LosesOne, StoreFails, Cut, told, faulted, can_fail, failed_at, store_failed, fetch_failed, Fits, after, FitsNext, FitsFound, FitsStep, after_next, after_found, after_step, gone_by, can_go_by, turned, FitsTurn, Instruction, Turns, Begins, Loses, Stops, Reopens, Runs, job_run, AreFitTurns, holds_block, without_one, lost, stopped, done, FitsOne, run_of, AreFit}
+use Rattle.made_runs.specs.Turns.{Turn, Goes, Works, Notes, Came, Heard, NoneCame, Gives, LosesOne, StoreFails, Cut, told, faulted, can_fail, failed_at, store_failed, fetch_failed, Fits, after, FitsNext, FitsFound, FitsStep, after_next, after_found, after_step, gone_by, can_go_by, turned, FitsTurn, Instruction, Turns, Begins, Loses, Reopens, Runs, job_run, AreFitTurns, holds_block, without_one, lost, done, FitsOne, run_of, AreFit}
 use Rattle.made_runs.proofs.Steps.{first, second, is-at, steps}
 
 -- ---- a move that fails
@@ -212,12 +212,10 @@ one limit start ms (Turns n turn) f r = turns limit start ms n turn f.0 f.1 r
 one limit start ms (Begins kind) f r = (f.0, (f.1, f.2, refl, refl), r)
 one limit start ms (Loses j object stripe) f r =
     (f.0, loses (now start ms) j object stripe (nat_lt j (now start ms).handed) f.1, r)
-one limit start ms (Stops picks) f r =
-    (f, ((now start ms).journal, (now start ms).area, inl (refl, refl), inl refl), r)
 one limit start ms Reopens f r = (
   tt,
   (
-    stopped (now start ms),
+    record (given_up (now start ms)) { is_switching = false; doubt = None },
     ((now start ms).journal, (now start ms).area, inl (refl, refl), inl refl),
     f.0,
     leb-true (setup_in (now start ms)).n (now start ms).handed f.1,

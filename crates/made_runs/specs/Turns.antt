@@ -7,7 +7,7 @@
 --   job_run start ms n turns == the moments ms with those of turns of job n before them
 --   AreFitTurns              == after them the job can go so in each, and each answers more
 --   Instruction              == a turn of a job, or its turns to its end; the begin of one; a block that is
---                               lost; a stop; a vault that opens
+--                               lost; a vault that opens
 --   run_of start ms is       == the moments ms with those of instructions before them
 --   AreFit limit start ms is == after them each can be carried out
 --   schedule_of cs is        == the commands cs with those of instructions before them
@@ -25,7 +25,7 @@ use Rattle.machine_defs.specs.Audits.{asked_challenge}
 use Rattle.machine_defs.specs.Jobs.{Kind, Job, Fetched, Answered, Worked, job_of, advanced_with}
 use Rattle.machine_defs.specs.Actions.{Action, WriteBody, SyncBody, WriteGate, SyncGate, Store, Fetch, Ask, Work, End}
 use Rattle.machine_defs.specs.Answers.{Answer, Lost, DiskFault, ProviderFault}
-use Rattle.machine_defs.specs.Events.{Step, Begin, Lose, Stop, Reopen, Stopped, Opened, Outcome, More, Ended, Begun, Replaced, IsSpelled}
+use Rattle.machine_defs.specs.Events.{Step, Begin, Lose, Reopen, Opened, Outcome, More, Ended, Begun, Replaced, IsSpelled}
 use Rattle.machine_defs.specs.States.{State, setup_in, worked_object, going_on, ended, given_up}
 use Rattle.machine_defs.specs.Given.{blocks_given}
 use Rattle.machine_defs.specs.Appends.{Writes, begun_append, doubted, barred}
@@ -196,8 +196,7 @@ pub data Instruction : Type 0 where
   Turns : (job : ℕ) (turn : Turn) → Instruction
   Begins : (kind : Kind) → Instruction
   Loses : (provider object stripe : ℕ) → Instruction
-  Stops : (picks : List ℕ) → Instruction  -- a record in doubt is then not in effect
-  Reopens : Instruction  -- nor is it here
+  Reopens : Instruction  -- a record in doubt is then not in effect
   Runs : (job : ℕ) (turns : List Turn) (last : Turn) → Instruction  -- to its end
 
 -- the block is there
@@ -214,13 +213,9 @@ without_one object stripe p (Some held) = record p { held = Some (without_block 
 abbrev pub lost : State → ℕ → ℕ → ℕ → State
 lost w j object stripe = called w j (without_one object stripe (w.providers j) (w.providers j).held)
 
--- the state after a stop
-abbrev pub stopped : State → State
-stopped w = record (given_up w) { is_switching = false; doubt = None }
-
 -- the state after a vault has opened
 abbrev pub reopened : State → State
-reopened w = record (stopped w) { is_open = true }
+reopened w = record (given_up w) { is_switching = false; doubt = None; is_open = true }
 
 -- these moments with those of turns of a job before them
 abbrev pub job_run : State → List Moment → ℕ → List Turn → List Moment
@@ -245,8 +240,6 @@ done start ms (Begins kind) =
 done start ms (Loses j object stripe) =
     record { event = Lose j object stripe; outcome = Replaced; state = lost (now start ms) j object stripe }
     ∷ ms
-done start ms (Stops picks) =
-    record { event = Stop picks; outcome = Stopped; state = stopped (now start ms) } ∷ ms
 done start ms Reopens = record { event = Reopen; outcome = Opened; state = reopened (now start ms) } ∷ ms
 done start ms (Runs n turns last) =
     step_of n (told last) (after_step (now start (job_run start ms n turns)) n last)
@@ -261,7 +254,6 @@ FitsOne limit start ms (Begins kind) =
 FitsOne limit start ms (Loses j object stripe) =
     IsSpelled (Lose j object stripe)
     × ((nat_lt j (now start ms).handed && holds_block object stripe ((now start ms).providers j).held) ≡ true)
-FitsOne limit start ms (Stops picks) = IsSpelled (Stop picks)
 FitsOne limit start ms Reopens =
     (is_some (setup_of (now start ms).records) ≡ true)
     × (nat_le (setup_in (now start ms)).n (now start ms).handed ≡ true)
@@ -292,7 +284,6 @@ commanded cs (Turns n (Goes k)) = once_each n k cs
 commanded cs (Turns n turn) = transcripts.Once (Step n) ∷ cs
 commanded cs (Begins kind) = transcripts.Once (Begin kind) ∷ cs
 commanded cs (Loses j object stripe) = transcripts.Once (Lose j object stripe) ∷ cs
-commanded cs (Stops picks) = transcripts.Once (Stop picks) ∷ cs
 commanded cs Reopens = transcripts.Once Reopen ∷ cs
 commanded cs (Runs n turns last) = transcripts.RunJob n ∷ cs
 
@@ -312,7 +303,6 @@ answered start ms bytes (Turns n (Goes k)) = more_lines k bytes
 answered start ms bytes (Turns n turn) = bytes ++ lines_of (told turn)
 answered start ms bytes (Begins kind) = bytes ++ lines_of (Begun (now start ms).next_job)
 answered start ms bytes (Loses j object stripe) = bytes ++ lines_of Replaced
-answered start ms bytes (Stops picks) = bytes ++ lines_of Stopped
 answered start ms bytes Reopens = bytes ++ lines_of Opened
 answered start ms bytes (Runs n turns last) = bytes ++ lines_of (told last)
 

@@ -1,80 +1,205 @@
--- An upgrade and a put, computed; then the states and steps up to a stop that cuts off a pack.
+-- The states and steps of the run.
 use Rattle.std.proofs.Common.{◌≡◌, ℕ, ◌+◌, ◌<◌, List, [], ◌∷◌, ◌++◌, Some, None, refl, ap, sym, inl, inr, arith}
+use Rattle.record_defs.specs.Records.{PutStart, PutDoneIn, Version}
 use Rattle.record_defs.specs.Packed.{packed}
 use Rattle.record_defs.specs.Areas.{B}
 use Rattle.device_defs.specs.Faults.{one_more}
 use Rattle.device_defs.specs.Providers.{Provider, with_block, with_symbol, Held}
 use Rattle.std.specs.Option.{option_map}
-use Rattle.machine_defs.specs.Jobs.{PutJob, UpgradeJob, Fetched, Worked}
+use Rattle.machine_defs.specs.Jobs.{PutJob, GetJob, UpgradeJob, Fetched, Worked, advanced_with}
 use Rattle.machine_defs.specs.Actions.{Action, Fetch, Work, Store, End, actions_of}
-use Rattle.machine_defs.specs.Answers.{Put, Upgraded, Scrubbed}
-use Rattle.machine_defs.specs.Events.{BeginAt, BeginScrub, BeginPack, Step, Alter, Stop, Begun, More, Ended, Replaced, Stopped}
-use Rattle.machine_defs.specs.States.{State, Scrub, Pack, Scrubbing, Packing, setup_in, with_provider}
+use Rattle.machine_defs.specs.Answers.{Put, Got, Upgraded, Scrubbed}
+use Rattle.machine_defs.specs.Events.{Begin, BeginAt, BeginScrub, BeginPack, Step, Alter, Stop, Reopen, Opened, Begun, More, Ended, Replaced, Stopped}
+use Rattle.machine_defs.specs.States.{State, Scrub, Pack, Scrubbing, Packing, setup_in, ended, going_on, given_up, with_provider}
 use Rattle.machine_defs.specs.Begins.{beginning}
+use Rattle.machine_defs.specs.Appends.{begun_append, done_append}
 use Rattle.machine_defs.specs.Alone.{new_scrub, new_pack, off_by, found_more, scrubbing, unalone, block_to_scrub, packing, switching}
 use Rattle.machine_defs.specs.Openings.{reread}
 use Rattle.machine_defs.specs.Machine.{Happens}
-use Rattle.machine_defs.specs.Runs.{Moment, IsRun, now}
 use Rattle.machine_defs.specs.Examples.{set_up}
-use Rattle.made_runs.specs.Turns.{Goes, Gives, Instruction, Begins, Reopens, Runs, run_of}
-use Rattle.made_runs.proofs.Turns.{are-run}
+use Rattle.machine_defs.proofs.RunParts.{reopened, begun, job_at, append_at, synced, gated, with_store, store_call}
 use Rattle.damage_run.specs.Schedule.{name, byte}
-use Rattle.upgrade_run.proofs.Values.{symbols, block, length-block, block_sized, altered, length-altered, differs_0, differs_not, damaged_give, one_store, one_symbol, one_block}
+use Rattle.upgrade_run.proofs.Values.{symbols, byte_back, block, length-block, block_sized, altered, length-altered, differs_0, differs_not, damaged_give, all_give, one_store, one_symbol, one_block}
 
--- an upgrade
-abbrev pub upgrades : List Instruction
-upgrades = Runs 1 (Goes 4 ∷ []) (Gives Upgraded) ∷ Begins UpgradeJob ∷ Reopens ∷ []
+abbrev pub state_0 : State
+state_0 = set_up
 
--- up to there
-abbrev pub until_7 : List Moment
+abbrev pub state_1 : State
+state_1 = reopened state_0
+
+-- the vault opens
+pub happens_0 : Happens 8 0 state_0 (Reopen) (Opened) state_1
 unfolding setup_in actions_of
-until_7 = run_of set_up [] upgrades
+happens_0 = (
+  record (given_up state_0) { doubt = None },
+  (state_0.journal, state_0.area, inl (refl, refl), inl refl),
+  refl,
+  omega arith,
+  (state_0.disk_faults, omega arith, refl),
+)
 
--- the state after it
+abbrev pub state_2 : State
+state_2 = begun state_1 1 UpgradeJob
+
+-- the upgrade begins as job 1
+pub happens_1 : Happens 8 1 state_1 (Begin UpgradeJob) (Begun 1) state_2
+unfolding setup_in actions_of
+happens_1 = (refl, refl, refl, refl)
+
+abbrev pub state_3 : State
+state_3 = begun_append state_2 (job_at state_2 1) (Version)
+
+-- the upgrade writes the body of its record
+pub happens_2 : Happens 8 2 state_2 (Step 1) (More) state_3
+unfolding setup_in actions_of
+happens_2 = (Version, refl, (state_2.disk_faults, omega arith, refl))
+
+abbrev pub state_4 : State
+state_4 = synced state_3 1
+
+-- the upgrade syncs the body
+pub happens_3 : Happens 8 3 state_3 (Step 1) (More) state_4
+unfolding setup_in actions_of
+happens_3 = ((refl, refl), (state_3.disk_faults, omega arith, refl))
+
+abbrev pub state_5 : State
+state_5 = gated state_4 1
+
+-- the upgrade writes the gate: its record is in doubt
+pub happens_4 : Happens 8 4 state_4 (Step 1) (More) state_5
+unfolding setup_in actions_of
+happens_4 = ((refl, refl), (state_4.disk_faults, omega arith, refl))
+
+abbrev pub state_6 : State
+state_6 = done_append state_5 (job_at state_5 1) (append_at state_5)
+
+-- the upgrade syncs the gate: the journal has its second version
+pub happens_5 : Happens 8 5 state_5 (Step 1) (More) state_6
+unfolding setup_in actions_of
+happens_5 = ((refl, refl), (state_5.disk_faults, omega arith, refl))
+
 abbrev pub state_7 : State
-state_7 = now set_up until_7
+state_7 = ended state_6 (job_at state_6 1)
 
--- a put of a file with a profile of its own begins
+-- the upgrade ends
+pub happens_6 : Happens 8 6 state_6 (Step 1) (Ended Upgraded) state_7
+unfolding setup_in actions_of
+happens_6 = (tt, refl)
+
 abbrev pub state_8 : State
 state_8 = record state_7 {
   jobs = state_7.jobs ++ beginning state_7 7 (PutJob name byte) (Some 1) ∷ [];
   next_job = state_7.next_job + 1;
 }
 
--- up to there
-abbrev pub until_8 : List Moment
-until_8 = record { event = BeginAt 1 name byte; outcome = Begun 2; state = state_8 } ∷ until_7
-
--- it is a run
-is_until_8 : IsRun 8 set_up until_8
+-- the put at profile 1 begins as job 2
+pub happens_7 : Happens 8 7 state_7 (BeginAt 1 name byte) (Begun 2) state_8
 unfolding setup_in actions_of
-is_until_8 = (
-  (omega arith, (refl, refl)),
-  (refl, refl, refl, refl),
-  are-run 8 set_up [] upgrades (
-    (omega arith, (refl, refl, tt), refl, (refl, (refl, tt))),
-    ((tt, refl, refl), ((refl, refl), tt)),
-  ) tt,
-)
+happens_7 = (refl, refl, refl, refl)
 
--- the put goes on to its end
-abbrev pub puts : List Instruction
-puts = Runs 2 (Goes 12 ∷ []) (Gives Put) ∷ []
+abbrev pub state_9 : State
+state_9 = begun_append state_8 (job_at state_8 2) (PutStart 1 name)
 
--- up to there
-abbrev pub until_21 : List Moment
+-- the put writes the body of its first record, and draws number 1
+pub happens_8 : Happens 8 8 state_8 (Step 2) (More) state_9
 unfolding setup_in actions_of
-until_21 = run_of set_up until_8 puts
+happens_8 = (PutStart 1 name, refl, (state_8.disk_faults, omega arith, refl))
 
--- it is a run
-pub is_until_21 : IsRun 8 set_up until_21
+abbrev pub state_10 : State
+state_10 = synced state_9 2
+
+-- the put syncs the body
+pub happens_9 : Happens 8 9 state_9 (Step 2) (More) state_10
 unfolding setup_in actions_of
-is_until_21 = are-run 8 set_up until_8 puts
-    ((omega arith, (refl, refl, tt), refl, (refl, (refl, tt))), tt) is_until_8
+happens_9 = ((refl, refl), (state_9.disk_faults, omega arith, refl))
 
--- the state after the put
+abbrev pub state_11 : State
+state_11 = gated state_10 2
+
+-- the put writes the gate: its first record is in doubt
+pub happens_10 : Happens 8 10 state_10 (Step 2) (More) state_11
+unfolding setup_in actions_of
+happens_10 = ((refl, refl), (state_10.disk_faults, omega arith, refl))
+
+abbrev pub state_12 : State
+state_12 = done_append state_11 (job_at state_11 2) (append_at state_11)
+
+-- the put syncs the gate: its first record is in effect
+pub happens_11 : Happens 8 11 state_11 (Step 2) (More) state_12
+unfolding setup_in actions_of
+happens_11 = ((refl, refl), (state_11.disk_faults, omega arith, refl))
+
+abbrev pub state_13 : State
+state_13 = with_store state_12 (job_at state_12 2) 0 0
+
+-- the put stores provider 0's block
+pub happens_12 : Happens 8 12 state_12 (Step 2) (More) state_13
+unfolding setup_in actions_of
+happens_12 = store_call state_12 (job_at state_12 2) 0 0
+
+abbrev pub state_14 : State
+state_14 = with_store state_13 (job_at state_13 2) 1 0
+
+-- the put stores provider 1's block
+pub happens_13 : Happens 8 13 state_13 (Step 2) (More) state_14
+unfolding setup_in actions_of
+happens_13 = store_call state_13 (job_at state_13 2) 1 0
+
+abbrev pub state_15 : State
+state_15 = with_store state_14 (job_at state_14 2) 2 0
+
+-- the put stores provider 2's block
+pub happens_14 : Happens 8 14 state_14 (Step 2) (More) state_15
+unfolding setup_in actions_of
+happens_14 = store_call state_14 (job_at state_14 2) 2 0
+
+abbrev pub state_16 : State
+state_16 = with_store state_15 (job_at state_15 2) 3 0
+
+-- the put stores provider 3's block
+pub happens_15 : Happens 8 15 state_15 (Step 2) (More) state_16
+unfolding setup_in actions_of
+happens_15 = store_call state_15 (job_at state_15 2) 3 0
+
+abbrev pub state_17 : State
+state_17 = begun_append state_16 (job_at state_16 2) (PutDoneIn 1 1 1)
+
+-- the put writes the body of its last record, which has the profile
+pub happens_16 : Happens 8 16 state_16 (Step 2) (More) state_17
+unfolding setup_in actions_of
+happens_16 = (PutDoneIn 1 1 1, refl, (state_16.disk_faults, omega arith, refl))
+
+abbrev pub state_18 : State
+state_18 = synced state_17 2
+
+-- the put syncs the body
+pub happens_17 : Happens 8 17 state_17 (Step 2) (More) state_18
+unfolding setup_in actions_of
+happens_17 = ((refl, refl), (state_17.disk_faults, omega arith, refl))
+
+abbrev pub state_19 : State
+state_19 = gated state_18 2
+
+-- the put writes the gate: its last record is in doubt
+pub happens_18 : Happens 8 18 state_18 (Step 2) (More) state_19
+unfolding setup_in actions_of
+happens_18 = ((refl, refl), (state_18.disk_faults, omega arith, refl))
+
+abbrev pub state_20 : State
+state_20 = done_append state_19 (job_at state_19 2) (append_at state_19)
+
+-- the put syncs the gate: the file is in effect
+pub happens_19 : Happens 8 19 state_19 (Step 2) (More) state_20
+unfolding setup_in actions_of
+happens_19 = ((refl, refl), (state_19.disk_faults, omega arith, refl))
+
 abbrev pub state_21 : State
-state_21 = now set_up until_21
+state_21 = ended state_20 (job_at state_20 2)
+
+-- the put ends
+pub happens_20 : Happens 8 20 state_20 (Step 2) (Ended Put) state_21
+unfolding setup_in actions_of
+happens_20 = (tt, refl)
 
 -- what a provider holds that has stored its block
 abbrev stored : ℕ → Held
@@ -225,19 +350,19 @@ abbrev off : ℕ → ℕ
 off j = off_by state_27 scrub_27 1 0 symbols j
 
 off_0 : off 0 ≡ 1
-unfolding setup_in actions_of
+unfolding setup_in
 off_0 = differs_0
 
 off_1 : off 1 ≡ 0
-unfolding setup_in actions_of
+unfolding setup_in
 off_1 = differs_not 1
 
 off_2 : off 2 ≡ 0
-unfolding setup_in actions_of
+unfolding setup_in
 off_2 = differs_not 2
 
 off_3 : off 3 ≡ 0
-unfolding setup_in actions_of
+unfolding setup_in
 off_3 = differs_not 3
 
 abbrev scrub_with : List Action → Scrub
@@ -340,3 +465,133 @@ state_35 = record (reread state_34 (packed state_34.journal) B) { doubt = None }
 pub happens_34 : Happens 8 34 state_34 (Stop []) (Stopped) state_35
 unfolding setup_in actions_of
 happens_34 = (packed state_34.journal, B, inr (refl, refl, refl), inl refl)
+
+abbrev pub state_36 : State
+state_36 = reopened state_35
+
+-- the vault opens again
+pub happens_35 : Happens 8 35 state_35 (Reopen) (Opened) state_36
+unfolding setup_in actions_of
+happens_35 = (
+  record (given_up state_35) { doubt = None },
+  (state_35.journal, B, inl (refl, refl), inl refl),
+  refl,
+  omega arith,
+  (state_35.disk_faults, omega arith, refl),
+)
+
+abbrev pub state_37 : State
+state_37 = begun state_36 36 (GetJob name)
+
+-- the get begins as job 5
+pub happens_36 : Happens 8 36 state_36 (Begin (GetJob name)) (Begun 5) state_37
+unfolding setup_in actions_of
+happens_36 = (refl, refl, refl, refl)
+
+abbrev fetched_37 : Provider
+fetched_37 = record (state_37.providers 0) { fetches = one_more (state_37.providers 0).fetches }
+
+abbrev pub state_38 : State
+state_38 = record (going_on state_37 (advanced_with (job_at state_37 5) (Fetched 0 1 0 (Some (block 0)))))
+    { providers = with_provider state_37.providers 0 fetched_37 }
+
+-- the get fetches provider 0's block
+pub happens_37 : Happens 8 37 state_37 (Step 5) (More) state_38
+unfolding setup_in actions_of
+happens_37 = (
+  Some (block 0),
+  (
+    fetched_37,
+    record {
+      held = refl;
+      counts = record { store_faults = refl; other_faults = omega arith; fetches = refl };
+      gives = inl (block_sized (block 0) (length-block 0));
+    },
+    refl,
+  ),
+)
+
+abbrev fetched_38 : Provider
+fetched_38 = record (state_38.providers 1) { fetches = one_more (state_38.providers 1).fetches }
+
+abbrev pub state_39 : State
+state_39 = record (going_on state_38 (advanced_with (job_at state_38 5) (Fetched 1 1 0 (Some (block 1)))))
+    { providers = with_provider state_38.providers 1 fetched_38 }
+
+-- the get fetches provider 1's block
+pub happens_38 : Happens 8 38 state_38 (Step 5) (More) state_39
+unfolding setup_in actions_of
+happens_38 = (
+  Some (block 1),
+  (
+    fetched_38,
+    record {
+      held = refl;
+      counts = record { store_faults = refl; other_faults = omega arith; fetches = refl };
+      gives = inl (block_sized (block 1) (length-block 1));
+    },
+    refl,
+  ),
+)
+
+abbrev fetched_39 : Provider
+fetched_39 = record (state_39.providers 2) { fetches = one_more (state_39.providers 2).fetches }
+
+abbrev pub state_40 : State
+state_40 = record (going_on state_39 (advanced_with (job_at state_39 5) (Fetched 2 1 0 (Some (block 2)))))
+    { providers = with_provider state_39.providers 2 fetched_39 }
+
+-- the get fetches provider 2's block
+pub happens_39 : Happens 8 39 state_39 (Step 5) (More) state_40
+unfolding setup_in actions_of
+happens_39 = (
+  Some (block 2),
+  (
+    fetched_39,
+    record {
+      held = refl;
+      counts = record { store_faults = refl; other_faults = omega arith; fetches = refl };
+      gives = inl (block_sized (block 2) (length-block 2));
+    },
+    refl,
+  ),
+)
+
+abbrev fetched_40 : Provider
+fetched_40 = record (state_40.providers 3) { fetches = one_more (state_40.providers 3).fetches }
+
+abbrev pub state_41 : State
+state_41 = record (going_on state_40 (advanced_with (job_at state_40 5) (Fetched 3 1 0 (Some (block 3)))))
+    { providers = with_provider state_40.providers 3 fetched_40 }
+
+-- the get fetches provider 3's block
+pub happens_40 : Happens 8 40 state_40 (Step 5) (More) state_41
+unfolding setup_in actions_of
+happens_40 = (
+  Some (block 3),
+  (
+    fetched_40,
+    record {
+      held = refl;
+      counts = record { store_faults = refl; other_faults = omega arith; fetches = refl };
+      gives = inl (block_sized (block 3) (length-block 3));
+    },
+    refl,
+  ),
+)
+
+abbrev pub state_42 : State
+state_42 = going_on state_41 (advanced_with (job_at state_41 5) (Worked 1 0 symbols))
+
+-- the get's work on the stripe gives its symbols
+pub happens_41 : Happens 8 41 state_41 (Step 5) (More) state_42
+unfolding setup_in actions_of
+happens_41 = (symbols, all_give, refl)
+
+abbrev pub state_43 : State
+state_43 = ended state_42 (job_at state_42 5)
+
+-- the get ends with the byte
+pub happens_42 : Happens 8 42 state_42 (Step 5) (Ended (Got byte)) state_43
+unfolding setup_in actions_of
+happens_42 = (byte_back, refl)

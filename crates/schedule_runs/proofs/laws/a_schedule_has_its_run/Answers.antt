@@ -1,8 +1,6 @@
 use Rattle.std.proofs.Common.{List, refl}
 use Rattle.std.specs.Prelude.{take}
 use Rattle.machine_defs.specs.Examples.{set_up}
-use Rattle.machine_defs.specs.Actions.{actions_of}
-use Rattle.machine_defs.specs.States.{setup_in}
 use Rattle.machine_defs.specs.Runs.{Moment, now, first_moments}
 use Rattle.damage_run.specs.Schedule.{name}
 use Rattle.damage_run.proofs.Points.{last_of}
@@ -24,7 +22,6 @@ pub returns-clause-bad_line : goal.returns-clause-bad_line
 returns-clause-bad_line c = first-bad
 
 pub returns-clause-run : goal.returns-clause-run
-unfolding setup_in actions_of
 returns-clause-run c = (
   stopped_moments,
   is_stopped,
@@ -32,7 +29,6 @@ returns-clause-run c = (
 )
 
 pub returns-clause-used : goal.returns-clause-used
-unfolding setup_in actions_of
 returns-clause-used c = (
   stopped_moments,
   is_stopped,

@@ -1,8 +1,6 @@
 use Rattle.std.proofs.Common.{List, [], refl, sym, subst}
 use Rattle.std.specs.Prelude.{take, IsSome}
 use Rattle.machine_defs.specs.Examples.{set_up}
-use Rattle.machine_defs.specs.Actions.{actions_of}
-use Rattle.machine_defs.specs.States.{setup_in}
 use Rattle.machine_defs.specs.Runs.{Moment, now, first_moments}
 use Rattle.hail_client.specs.Examples.{fresh}
 use Rattle.hail_client.specs.Start.{start_of}
@@ -43,7 +41,6 @@ returns-clause-trial c = λ start ms number old new end starts run first is does
     (subst (AreLeft start ms) (sym is) (c.runs_leave_devices.ensures.each start ms starts run first))
 
 pub returns-clause-damaged : goal.returns-clause-damaged
-unfolding setup_in actions_of
 returns-clause-damaged c = (
   damage,
   outright,

@@ -1,7 +1,5 @@
 use Rattle.std.proofs.Common.{refl, arith}
 use Rattle.machine_defs.specs.Examples.{set_up}
-use Rattle.machine_defs.specs.Actions.{actions_of}
-use Rattle.machine_defs.specs.States.{setup_in}
 use Rattle.machine_defs.specs.Runs.{now}
 use Rattle.damage_run.proofs.Run.{moments as damage}
 use Rattle.damage_run.proofs.CalmRun.{outright}
@@ -27,7 +25,6 @@ returns-clause-fresh c =
     (let at = c.a_fresh_disk_has_a_start.ensures.start in record { starts = at.0; run = tt; devices = at.1 })
 
 pub returns-clause-damaged : goal.returns-clause-damaged
-unfolding setup_in actions_of
 returns-clause-damaged c =
     (damage, outright, returns-clause-each c set_up damage outright.clean outright.run refl)
 
