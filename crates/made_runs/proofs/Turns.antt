@@ -1,22 +1,18 @@
--- So do turns, and what is computed from a list of them is a run.
+-- A step that can go as a turn says happens.
 use Rattle.std.specs.Prelude.{◌≡◌, ℕ, zero, suc, ◌+◌, ◌<◌, ◌^◌, ◌&&◌, Bool, true, false, not, List, [], ◌∷◌, length, Option, None, Some, IsSome, is_some, nat_lt}
 use Rattle.std.proofs.Common.{refl, arith, inl, inr}
-use Rattle.std.proofs.lemmas.Bool.{false≢true, leb-true}
-use Rattle.device_defs.specs.Providers.{Held, without_block}
-use Rattle.device_defs.specs.ProviderCalls.{Replaces}
+use Rattle.std.proofs.lemmas.Bool.{false≢true}
 use Rattle.machine_defs.specs.Jobs.{Job, job_of}
 use Rattle.machine_defs.specs.Actions.{Action, WriteBody, SyncBody, WriteGate, SyncGate, Store, Fetch, Ask, Work, Remove, End}
 use Rattle.machine_defs.specs.Answers.{DiskFault}
-use Rattle.machine_defs.specs.Events.{Step, Ended, Replaced}
+use Rattle.machine_defs.specs.Events.{Step, Ended}
 use Rattle.machine_defs.specs.Machine.{Happens}
-use Rattle.machine_defs.specs.States.{State, Append, Alone, ended, given_up, setup_in}
+use Rattle.machine_defs.specs.States.{State, Append, Alone, ended}
 use Rattle.machine_defs.specs.Appends.{Moves, doubted, barred}
-use Rattle.machine_defs.specs.Replacements.{ReplacesIf}
-use Rattle.machine_defs.specs.Runs.{Moment, IsRun, now}
 use Rattle.machine_defs.specs.Steps.{Acts, ActsOrWaits, StepsOn, StepsJob, StepsOne, StepsOpen, Steps, next_action, holder_of}
-use Rattle.made_runs.specs.Steps.{fetched, is_at, by_flight, can_step}
-use Rattle.made_runs.specs.Turns.{Turn, Goes, Works, Notes, Came, Heard, NoneCame, Gives, LosesOne, StoreFails, Cut, told, faulted, can_fail, failed_at, store_failed, fetch_failed, Fits, after, FitsNext, FitsFound, FitsStep, after_next, after_found, after_step, gone_by, can_go_by, turned, FitsTurn, Instruction, Turns, Begins, Loses, Reopens, Runs, job_run, AreFitTurns, holds_block, without_one, lost, done, FitsOne, run_of, AreFit}
-use Rattle.made_runs.proofs.Steps.{first, second, is-at, steps}
+use Rattle.made_runs.specs.Steps.{fetched, is_at, by_flight}
+use Rattle.made_runs.specs.Turns.{Turn, Works, Notes, Came, Heard, NoneCame, Gives, LosesOne, StoreFails, Cut, told, faulted, can_fail, failed_at, store_failed, fetch_failed, Fits, after, FitsNext, FitsFound, FitsStep, after_next, after_found, after_step}
+use Rattle.made_runs.proofs.Steps.{is-at}
 
 -- ---- a move that fails
 
@@ -155,83 +151,3 @@ opened w n turn false c f = absurd (false≢true c)
 pub goes-so : (limit m : ℕ) (w : State) (n : ℕ) (turn : Turn) → FitsStep w n turn →
     Happens limit m w (Step n) (told turn) (after_step w n turn)
 goes-so limit m w n turn f = opened w n turn w.is_open f.0 f.1
-
--- ---- a run
-
--- plain steps go on a run
-plain : (limit : ℕ) (start : State) (ms : List Moment) (n k : ℕ) → n < 2 ^ 32 →
-    can_go_by start ms n k ≡ true → IsRun limit start ms → IsRun limit start (gone_by start ms n k)
-plain limit start ms n zero l c r = r
-plain limit start ms n (suc k) l c r = (
-  l,
-  steps limit (length (gone_by start ms n k)) (now start (gone_by start ms n k)) n
-      (first (can_step (now start (gone_by start ms n k)) n) (can_go_by start ms n k) c),
-  plain limit start ms n k l
-      (second (can_step (now start (gone_by start ms n k)) n) (can_go_by start ms n k) c) r,
-)
-
--- so does a turn
-turns : (limit : ℕ) (start : State) (ms : List Moment) (n : ℕ) (turn : Turn) → n < 2 ^ 32 →
-    FitsTurn start ms n turn → IsRun limit start ms → IsRun limit start (turned start ms n turn)
-turns limit start ms n (Goes k) l f r = plain limit start ms n k l f r
-turns limit start ms n turn l f r = (l, goes-so limit (length ms) (now start ms) n turn f, r)
-
--- a provider loses a block that it holds
-replaced : (object stripe : ℕ) (held : Option Held) (a b c : ℕ) → holds_block object stripe held ≡ true →
-    Replaces (λ h. IsSome (h object stripe)) (without_block object stripe) true
-    (record { held = held; store_faults = a; other_faults = b; fetches = c })
-    (without_one object stripe (record { held = held; store_faults = a; other_faults = b; fetches = c }) held)
-replaced object stripe None a b c t = absurd (false≢true t)
-replaced object stripe (Some held) a b c t = ((λ u. t, λ u. refl), refl)
-
--- of a provider that is handed in
-loses : (w : State) (j object stripe : ℕ) (handed : Bool) →
-    (handed && holds_block object stripe (w.providers j).held) ≡ true →
-    ReplacesIf handed w j (λ held. IsSome (held object stripe)) (without_block object stripe) Replaced
-    (lost w j object stripe)
-loses w j object stripe true c = (
-  without_one object stripe (w.providers j) (w.providers j).held,
-  replaced object stripe (w.providers j).held (w.providers j).store_faults (w.providers j).other_faults
-      (w.providers j).fetches c,
-  refl,
-)
-loses w j object stripe false c = absurd (false≢true c)
-
--- turns of a job
-all_turns : (limit : ℕ) (start : State) (ms : List Moment) (n : ℕ) (ts : List Turn) → n < 2 ^ 32 →
-    AreFitTurns start ms n ts → IsRun limit start ms → IsRun limit start (job_run start ms n ts)
-all_turns limit start ms n [] l f r = r
-all_turns limit start ms n (t ∷ ts) l f r =
-    turns limit start (job_run start ms n ts) n t l f.1 (all_turns limit start ms n ts l f.2 r)
-
--- what an instruction makes goes on the run
-one : (limit : ℕ) (start : State) (ms : List Moment) (i : Instruction) → FitsOne limit start ms i →
-    IsRun limit start ms → IsRun limit start (done start ms i)
-unfolding setup_in
-one limit start ms (Turns n turn) f r = turns limit start ms n turn f.0 f.1 r
-one limit start ms (Begins kind) f r = (f.0, (f.1, f.2, refl, refl), r)
-one limit start ms (Loses j object stripe) f r =
-    (f.0, loses (now start ms) j object stripe (nat_lt j (now start ms).handed) f.1, r)
-one limit start ms Reopens f r = (
-  tt,
-  (
-    record (given_up (now start ms)) { is_switching = false; doubt = None },
-    ((now start ms).journal, (now start ms).area, inl (refl, refl), inl refl),
-    f.0,
-    leb-true (setup_in (now start ms)).n (now start ms).handed f.1,
-    ((now start ms).disk_faults, omega arith, refl),
-  ),
-  r,
-)
-one limit start ms (Runs n ts last) f r = (
-  f.0,
-  goes-so limit (length (job_run start ms n ts)) (now start (job_run start ms n ts)) n last f.3,
-  all_turns limit start ms n ts f.0 f.1 r,
-)
-
--- moments of a run with those of instructions that can be carried out before them are a run
-pub are-run : (limit : ℕ) (start : State) (ms : List Moment) (is : List Instruction) →
-    AreFit limit start ms is → IsRun limit start ms → IsRun limit start (run_of start ms is)
-are-run limit start ms [] f r = r
-are-run limit start ms (i ∷ is) f r =
-    one limit start (run_of start ms is) i f.0 (are-run limit start ms is f.1 r)

@@ -1,39 +1,28 @@
--- How the steps of a job go, as functions of the state; and runs that are computed from instructions.
--- Moments, turns and instructions stand the newest first.
+-- How the steps of a job go, as functions of the state; moments and turns stand the newest first.
 --
 --   Turn                     == how steps of a job go: so many plain ones, or one with a choice or a fault
 --   turned start ms n turn   == the moments ms with those of a turn of job n before them
 --   FitsTurn start ms n turn == after them the job can go so
 --   job_run start ms n turns == the moments ms with those of turns of job n before them
 --   AreFitTurns              == after them the job can go so in each, and each answers more
---   Instruction              == a turn of a job, or its turns to its end; the begin of one; a block that is
---                               lost; a vault that opens
---   run_of start ms is       == the moments ms with those of instructions before them
---   AreFit limit start ms is == after them each can be carried out
---   schedule_of cs is        == the commands cs with those of instructions before them
---   lines_made start ms bytes is
---                            == these bytes and the lines that instructions write
 use Rattle.std.specs.Prelude.{◌≡◌, ℕ, zero, suc, ◌+◌, ◌<◌, ◌^◌, ◌&&◌, Bool, true, false, not, List, [], ◌∷◌, ◌++◌, length, Option, None, Some, is_some, nat_lt, nat_le}
 use Rattle.column_defs.specs.Challenges.{honest_answer}
 use Rattle.column_defs.specs.Opened.{GivesSymbols, LosesRow}
 use Rattle.record_defs.specs.Records.{Record}
-use Rattle.record_defs.specs.Table.{setup_of}
 use Rattle.device_defs.specs.Faults.{one_more}
-use Rattle.device_defs.specs.Providers.{Held, Provider, without_block}
+use Rattle.device_defs.specs.Providers.{Provider}
 use Rattle.device_defs.specs.ProviderCalls.{FetchGives, AskGives}
 use Rattle.machine_defs.specs.Audits.{asked_challenge}
 use Rattle.machine_defs.specs.Jobs.{Kind, Job, Fetched, Answered, Worked, job_of, advanced_with}
 use Rattle.machine_defs.specs.Actions.{Action, WriteBody, SyncBody, WriteGate, SyncGate, Store, Fetch, Ask, Work, End}
 use Rattle.machine_defs.specs.Answers.{Answer, Lost, DiskFault, ProviderFault}
-use Rattle.machine_defs.specs.Events.{Step, Begin, Lose, Reopen, Opened, Outcome, More, Ended, Begun, Replaced, IsSpelled}
-use Rattle.machine_defs.specs.States.{State, setup_in, worked_object, going_on, ended, given_up}
+use Rattle.machine_defs.specs.Events.{Step, Outcome, More, Ended}
+use Rattle.machine_defs.specs.States.{State, setup_in, worked_object, going_on, ended}
 use Rattle.machine_defs.specs.Given.{blocks_given}
 use Rattle.machine_defs.specs.Appends.{Writes, begun_append, doubted, barred}
-use Rattle.machine_defs.specs.Begins.{new_job, refusal_of_begin}
+use Rattle.machine_defs.specs.Begins.{new_job}
 use Rattle.machine_defs.specs.Runs.{Moment, now}
 use Rattle.machine_defs.specs.Steps.{Ends, next_action, holder_of}
-use Rattle.machine_defs.specs.Lines.{lines_of}
-use Rattle.machine_defs.specs.Transcripts as transcripts
 use Rattle.made_runs.specs.Steps.{called, fetched, can_step, stepped, is_at, by_flight}
 
 -- how steps of a job go
@@ -191,32 +180,6 @@ FitsTurn start ms n turn = FitsStep (now start ms) n turn
 abbrev pub begun : State → ℕ → Kind → State
 begun w moment kind = record w { jobs = w.jobs ++ new_job w moment kind ∷ []; next_job = w.next_job + 1 }
 
--- what is done
-pub data Instruction : Type 0 where
-  Turns : (job : ℕ) (turn : Turn) → Instruction
-  Begins : (kind : Kind) → Instruction
-  Loses : (provider object stripe : ℕ) → Instruction
-  Reopens : Instruction  -- a record in doubt is then not in effect
-  Runs : (job : ℕ) (turns : List Turn) (last : Turn) → Instruction  -- to its end
-
--- the block is there
-abbrev pub holds_block : ℕ → ℕ → Option Held → Bool
-holds_block object stripe None = false
-holds_block object stripe (Some held) = is_some (held object stripe)
-
--- a provider without it
-abbrev pub without_one : ℕ → ℕ → Provider → Option Held → Provider
-without_one object stripe p None = p
-without_one object stripe p (Some held) = record p { held = Some (without_block object stripe held) }
-
--- the state after a block of provider j is lost
-abbrev pub lost : State → ℕ → ℕ → ℕ → State
-lost w j object stripe = called w j (without_one object stripe (w.providers j) (w.providers j).held)
-
--- the state after a vault has opened
-abbrev pub reopened : State → State
-reopened w = record (given_up w) { is_switching = false; doubt = None; is_open = true }
-
 -- these moments with those of turns of a job before them
 abbrev pub job_run : State → List Moment → ℕ → List Turn → List Moment
 job_run start ms n [] = ms
@@ -227,87 +190,3 @@ abbrev pub AreFitTurns : State → List Moment → ℕ → List Turn → Type 0
 AreFitTurns start ms n [] = Unit {0}
 AreFitTurns start ms n (turn ∷ turns) =
     (is_more turn ≡ true) × FitsTurn start (job_run start ms n turns) n turn × AreFitTurns start ms n turns
-
--- these moments with those of an instruction before them
-abbrev pub done : State → List Moment → Instruction → List Moment
-done start ms (Turns n turn) = turned start ms n turn
-done start ms (Begins kind) =
-    record {
-      event = Begin kind;
-      outcome = Begun (now start ms).next_job;
-      state = begun (now start ms) (length ms) kind;
-    } ∷ ms
-done start ms (Loses j object stripe) =
-    record { event = Lose j object stripe; outcome = Replaced; state = lost (now start ms) j object stripe }
-    ∷ ms
-done start ms Reopens = record { event = Reopen; outcome = Opened; state = reopened (now start ms) } ∷ ms
-done start ms (Runs n turns last) =
-    step_of n (told last) (after_step (now start (job_run start ms n turns)) n last)
-    ∷ job_run start ms n turns
-
--- it can be carried out
-abbrev pub FitsOne : ℕ → State → List Moment → Instruction → Type 0
-FitsOne limit start ms (Turns n turn) = (n < 2 ^ 32) × FitsTurn start ms n turn
-FitsOne limit start ms (Begins kind) =
-    IsSpelled (Begin kind) × ((now start ms).is_open ≡ true)
-    × (refusal_of_begin limit (now start ms) kind None ≡ None)
-FitsOne limit start ms (Loses j object stripe) =
-    IsSpelled (Lose j object stripe)
-    × ((nat_lt j (now start ms).handed && holds_block object stripe ((now start ms).providers j).held) ≡ true)
-FitsOne limit start ms Reopens =
-    (is_some (setup_of (now start ms).records) ≡ true)
-    × (nat_le (setup_in (now start ms)).n (now start ms).handed ≡ true)
-FitsOne limit start ms (Runs n turns last) =
-    (n < 2 ^ 32) × AreFitTurns start ms n turns × (is_more last ≡ false)
-    × FitsStep (now start (job_run start ms n turns)) n last
-
--- these moments with those of instructions before them
-abbrev pub run_of : State → List Moment → List Instruction → List Moment
-run_of start ms [] = ms
-run_of start ms (i ∷ is) = done start (run_of start ms is) i
-
--- after these moments each can be carried out
-abbrev pub AreFit : ℕ → State → List Moment → List Instruction → Type 0
-AreFit limit start ms [] = Unit {0}
-AreFit limit start ms (i ∷ is) = FitsOne limit start (run_of start ms is) i × AreFit limit start ms is
-
--- ---- what they write
-
--- so many steps, one by one
-abbrev pub once_each : ℕ → ℕ → List transcripts.Instruction → List transcripts.Instruction
-once_each n zero cs = cs
-once_each n (suc k) cs = transcripts.Once (Step n) ∷ once_each n k cs
-
--- these commands with that of an instruction before them
-abbrev pub commanded : List transcripts.Instruction → Instruction → List transcripts.Instruction
-commanded cs (Turns n (Goes k)) = once_each n k cs
-commanded cs (Turns n turn) = transcripts.Once (Step n) ∷ cs
-commanded cs (Begins kind) = transcripts.Once (Begin kind) ∷ cs
-commanded cs (Loses j object stripe) = transcripts.Once (Lose j object stripe) ∷ cs
-commanded cs Reopens = transcripts.Once Reopen ∷ cs
-commanded cs (Runs n turns last) = transcripts.RunJob n ∷ cs
-
--- these commands with those of instructions before them
-abbrev pub schedule_of : List transcripts.Instruction → List Instruction → List transcripts.Instruction
-schedule_of cs [] = cs
-schedule_of cs (i ∷ is) = commanded (schedule_of cs is) i
-
--- these bytes, and so many lines of steps
-abbrev pub more_lines : ℕ → List ℕ → List ℕ
-more_lines zero bytes = bytes
-more_lines (suc k) bytes = more_lines k bytes ++ lines_of More
-
--- these bytes, and the lines of an instruction
-abbrev pub answered : State → List Moment → List ℕ → Instruction → List ℕ
-answered start ms bytes (Turns n (Goes k)) = more_lines k bytes
-answered start ms bytes (Turns n turn) = bytes ++ lines_of (told turn)
-answered start ms bytes (Begins kind) = bytes ++ lines_of (Begun (now start ms).next_job)
-answered start ms bytes (Loses j object stripe) = bytes ++ lines_of Replaced
-answered start ms bytes Reopens = bytes ++ lines_of Opened
-answered start ms bytes (Runs n turns last) = bytes ++ lines_of (told last)
-
--- these bytes, and the lines of instructions
-abbrev pub lines_made : State → List Moment → List ℕ → List Instruction → List ℕ
-lines_made start ms bytes [] = bytes
-lines_made start ms bytes (i ∷ is) =
-    answered start (run_of start ms is) (lines_made start ms bytes is) i
