@@ -1,0 +1,11 @@
+mod Digits
+mod Marks
+mod Refusals
+mod Answers
+mod Outcomes
+mod OneLine
+mod LastLines
+mod OfLines
+mod Happened
+mod Read
+mod Samples
