@@ -17,7 +17,7 @@ pub record Parts (own others : List Instruction) (ms : List Moment) (lines : Lis
   pub rest : CarriesOut others older before
 
 -- commands behind others are carried out behind these
-pub parts : (own others : List Instruction) (ms : List Moment) (lines : List ℕ) →
+unfoldable pub parts : (own others : List Instruction) (ms : List Moment) (lines : List ℕ) →
     CarriesOut (own ++ others) ms lines → Parts own others ms lines
 parts [] others ms lines C = record {
   later = [];

@@ -31,48 +31,60 @@ module _ (begin_none : (name : List ℕ) (commands : List Instruction) (ms : Lis
     GotRight start ms (g ∷ (gaps ++ c ∷ ms)) get name bytes got)
     (front middle : List Instruction) (name bytes : List ℕ) (p g : ℕ) (start : State) (ms : List Moment)
     (old new : Seen) (end : Ending) (asks : NoneAsksOn name middle) where
-  -- a get that was carried out, and the moments that it ends
+  module _ (later : List Moment) (lines : List ℕ)
+      (C : CarriesOut (got_behind (middle ++ put_of front name bytes p) name g) later lines)
+      (written : new.sink ≡ told_then old.sink lines)
+      (left_is : AreLeft start (later ++ called_behind start ms) (devices_of_seen new))
+      (heard : end.heard ≡ heard_in start (later ++ called_behind start ms)) where
+    -- a get that moments carried out, and that they end with it
+    unfoldable pub got-of : (G : IsGot start old new end p g name bytes)
+        × (later ++ called_behind start ms ≡ G.last ∷ (G.gaps ++ G.begin ∷ G.before))
+    got-of =
+        (let B = C.6 in
+        let called : List Moment = called_behind start ms in
+        let before : List Moment = B.1 ++ called in
+        let put : PutsFile before B.2 p name bytes =
+        puts-file begin_none steps_none front middle name bytes p B.1 called B.2 B.5 asks in
+        let split : later ++ called ≡ C.0 ∷ (C.1 ++ B.0 ∷ before) =
+        ap (λ l. l ++ called) (C.4 ∙ ap (λ l. C.0 ∷ (C.1 ++ l)) B.3)
+        ∙ ap (λ l. C.0 ∷ l) (append_assoc C.1 (B.0 ∷ B.1) called) in
+        let there : AreLeft start (C.0 ∷ (C.1 ++ B.0 ∷ before)) (devices_of_seen new) =
+        subst (λ l. AreLeft start l (devices_of_seen new)) split left_is in
+        let ends : (how : Answer) → B.0.outcome ≡ Begun g → C.0.outcome ≡ Ended how →
+        GetEnds B.0 C.1 C.0 g name how = λ how begun ended. record {
+          begin_event = B.4;
+          begun = begun;
+          none = (steps_none g g name C.1 C.5.before).0;
+          end_event = C.5.step;
+          ended = ended;
+        } in (
+          record {
+            before = before;
+            begin = B.0;
+            gaps = C.1;
+            last = C.0;
+            lines = B.2;
+            put = put;
+            left = there;
+            written = written
+                ∙ ap (told_then old.sink) (C.7 ∙ ap (λ l. l ++ lines_of C.0.outcome) B.6);
+            ends = ends;
+            right = λ got put_begun put_ended get_begun get_ended.
+                subst (λ h. (got ≡ bytes) ⊎ ((file : File) × (file_in (now start before) name ≡ Some file)
+                × HoldsForgery (file_object (now start before) file) bytes g h))
+                (sym (heard ∙ ap (heard_in start) split))
+                (got_right 8 start before C.1 B.0 C.0 g name bytes got there.starts there.run
+                (put.stored put_begun put_ended) (ends (Got got) get_begun get_ended));
+          },
+          split,
+        ))
+
+  -- so it is of a replay
   pub is-got : (W : WentOn start ms (reverse (got_behind (middle ++ put_of front name bytes p) name g)) old
       new end) → (G : IsGot start old new end p g name bytes)
       × (W.later ++ called_behind start ms ≡ G.last ∷ (G.gaps ++ G.begin ∷ G.before))
   is-got W =
-      (let all = got_behind (middle ++ put_of front name bytes p) name g in
-      let G = subst (λ cs. CarriesOut cs W.later W.lines) (reverse-reverse all) W.carried_out in
-      let B = G.6 in
-      let called : List Moment = called_behind start ms in
-      let before : List Moment = B.1 ++ called in
-      let put : PutsFile before B.2 p name bytes =
-      puts-file begin_none steps_none front middle name bytes p B.1 called B.2 B.5 asks in
-      let split : W.later ++ called ≡ G.0 ∷ (G.1 ++ B.0 ∷ before) =
-      ap (λ l. l ++ called) (G.4 ∙ ap (λ l. G.0 ∷ (G.1 ++ l)) B.3)
-      ∙ ap (λ l. G.0 ∷ l) (append_assoc G.1 (B.0 ∷ B.1) called) in
-      let there : AreLeft start (G.0 ∷ (G.1 ++ B.0 ∷ before)) (devices_of_seen new) =
-      subst (λ l. AreLeft start l (devices_of_seen new)) split W.left in
-      let ends : (how : Answer) → B.0.outcome ≡ Begun g → G.0.outcome ≡ Ended how →
-      GetEnds B.0 G.1 G.0 g name how = λ how begun ended. record {
-        begin_event = B.4;
-        begun = begun;
-        none = (steps_none g g name G.1 G.5.before).0;
-        end_event = G.5.step;
-        ended = ended;
-      } in (
-        record {
-          before = before;
-          begin = B.0;
-          gaps = G.1;
-          last = G.0;
-          lines = B.2;
-          put = put;
-          left = there;
-          written = W.written
-              ∙ ap (told_then old.sink) (G.7 ∙ ap (λ l. l ++ lines_of G.0.outcome) B.6);
-          ends = ends;
-          right = λ got put_begun put_ended get_begun get_ended.
-              subst (λ h. (got ≡ bytes) ⊎ ((file : File) × (file_in (now start before) name ≡ Some file)
-              × HoldsForgery (file_object (now start before) file) bytes g h))
-              (sym (W.heard ∙ ap (heard_in start) split))
-              (got_right 8 start before G.1 B.0 G.0 g name bytes got there.starts there.run
-              (put.stored put_begun put_ended) (ends (Got got) get_begun get_ended));
-        },
-        split,
-      ))
+      got-of W.later W.lines
+      (subst (λ cs. CarriesOut cs W.later W.lines)
+      (reverse-reverse (got_behind (middle ++ put_of front name bytes p) name g)) W.carried_out)
+      W.written W.left W.heard

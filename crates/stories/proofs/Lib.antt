@@ -3,3 +3,8 @@ mod Carried
 mod Puts
 mod Gets
 mod Other
+mod Asked
+mod ByteText
+mod ByteRun
+mod ByteReplay
+mod DamagedGet

@@ -13,7 +13,7 @@ module _ (begin_none : (name : List ℕ) (commands : List Instruction) (ms : Lis
     (steps_none : (job number : ℕ) (name : List ℕ) (ms : List Moment) → GoOn job ms →
     NoneBegan number ms × NoneBeganOn name ms) where
   -- its file is stored
-  pub puts-file : (front middle : List Instruction) (name bytes : List ℕ) (p : ℕ) (ms base : List Moment)
+  unfoldable pub puts-file : (front middle : List Instruction) (name bytes : List ℕ) (p : ℕ) (ms base : List Moment)
       (lines : List ℕ) → CarriesOut (middle ++ put_of front name bytes p) ms lines → NoneAsksOn name middle →
       PutsFile (ms ++ base) lines p name bytes
   puts-file front middle name bytes p ms base lines C asks =

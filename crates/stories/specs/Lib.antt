@@ -1,2 +1,3 @@
 pub mod Went
 pub mod Files
+pub mod Instances

@@ -2,5 +2,6 @@
 #![tactic(auto)]
 
 pub mod commands;
+pub mod instances;
 pub mod laws;
 pub mod schedules;

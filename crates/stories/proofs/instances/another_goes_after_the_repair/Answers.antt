@@ -1,0 +1,44 @@
+use Rattle.std.proofs.Common.{refl, inl, arith}
+use Rattle.command_defs.specs.Forms.{GetOf, AuditAll, RepairDue}
+use Rattle.command_runs.specs.Devices.{named}
+use Rattle.command_runs.proofs.Meets.{first, second, three-tell, robbed-untouched, repair-steady, get-steady, flagged-second}
+use Rattle.hail_top.proofs.Words.{command-words}
+use Rattle.stories.proofs.Asked.{falls, four-idle}
+use Rattle.stories.proofs.instances.another_goes_after_the_repair.Goals as goal
+
+pub returns-clause-audit : goal.returns-clause-audit
+returns-clause-audit c = λ words spells.
+    command-words words AuditAll _ _ _ spells
+    (λ other also. c.words_spell_one_command.ensures words AuditAll other spells also)
+    c.commands_end.ensures.audit tt (falls _ _ four-idle refl refl refl refl)
+
+pub returns-clause-repair : goal.returns-clause-repair
+returns-clause-repair c = λ words spells.
+    command-words words RepairDue _ _ _ spells
+    (λ other also. c.words_spell_one_command.ensures words RepairDue other spells also)
+    c.commands_end.ensures.repair tt (falls _ _ four-idle refl refl refl refl)
+
+pub returns-clause-get : goal.returns-clause-get
+returns-clause-get c = λ words spells.
+    command-words words (GetOf named) _ _ _ spells
+    (λ other also. c.words_spell_one_command.ensures words (GetOf named) other spells also)
+    c.commands_end.ensures.get tt (falls _ _ four-idle refl refl refl refl)
+
+pub returns-clause-between : goal.returns-clause-between
+returns-clause-between c = (
+  record { disk = inl refl; handed = refl },
+  record { disk = inl refl; handed = refl },
+  record { disk = inl refl; handed = refl },
+  robbed-untouched,
+  (λ j l s. refl),
+  repair-steady second,
+)
+
+pub returns-clause-told : goal.returns-clause-told
+returns-clause-told c = record { written = inl (refl, refl); place = refl }
+
+pub returns-clause-flagged : goal.returns-clause-flagged
+returns-clause-flagged c = λ j l f. three-tell j l
+
+pub returns-clause-later : goal.returns-clause-later
+returns-clause-later c = ((λ j s. flagged-second j), (λ j l s. refl), get-steady first, omega arith)

@@ -1,0 +1,79 @@
+-- A replay over a store that was set up: a file of one byte is put and got; and a get where one block is lost.
+--
+--   byte_text, byte_lines == the text of that schedule, and what it writes
+--   get_of_byte           == the commands of the get, the newest first
+--   before_byte, behind_byte, byte_heard, byte_end
+--                         == what is seen before the replay and behind it, what its jobs heard, and how it ends
+--   first_state           == the state before the first event over these devices
+--   damaged_got           == what a get leaves over the store in which one block is lost
+--   three_heard           == what it heard
+--   other_byte            == another byte
+use Rattle.std.specs.Prelude.{ℕ, List, [], ◌∷◌, codes, Some, None}
+use Rattle.std.specs.List.{flat_map}
+use Rattle.machine_defs.specs.Events.{Begin}
+use Rattle.machine_defs.specs.Examples.{empty_provider}
+use Rattle.machine_defs.specs.Heard.{Entry}
+use Rattle.machine_defs.specs.Jobs.{GetJob, Fetched}
+use Rattle.machine_defs.specs.Lines.{line}
+use Rattle.machine_defs.specs.States.{State}
+use Rattle.machine_defs.specs.Transcripts.{Instruction, Once, RunJob}
+use Rattle.command_defs.specs.Seen.{Seen, Ending}
+use Rattle.command_laws.specs.Instances.{with_sink}
+use Rattle.command_runs.specs.Devices.{with_source, reading_devices, four_records, byte_records, none_hold, holds, fetched, named, own_block, heard, ends_hearing}
+use Rattle.damage_run.specs.Schedule.{byte}
+use Rattle.hail_client.specs.Start.{start_of}
+use Rattle.hail_replay.specs.Answers.{devices_of_seen}
+
+-- the text: a file of one byte is put and got
+abbrev pub byte_text : List ℕ
+byte_text = flat_map line (codes "reopen" ∷ codes "begin put a 6f" ∷ codes "run 1" ∷ codes "begin get a"
+    ∷ codes "run 2" ∷ [])
+
+-- the commands of the get, the newest first
+abbrev pub get_of_byte : List Instruction
+get_of_byte = RunJob 2 ∷ Once (Begin (GetJob named)) ∷ []
+
+-- what the replay writes
+abbrev pub byte_lines : List ℕ
+byte_lines = flat_map line (codes "opened" ∷ codes "job 1" ∷ codes "put" ∷ codes "job 2"
+    ∷ codes "got 6f" ∷ [])
+
+-- what is seen before the replay
+abbrev pub before_byte : Seen
+before_byte = with_source (reading_devices four_records none_hold) byte_text
+
+-- and behind it
+abbrev pub behind_byte : Seen
+behind_byte = with_sink (reading_devices byte_records
+    (fetched (holds 0) ∷ fetched (holds 1) ∷ fetched (holds 2) ∷ fetched (holds 3) ∷ [])) byte_lines
+
+-- job 2 heard each provider's own block
+abbrev pub byte_heard : List Entry
+byte_heard =
+    record { job = 2; given = Fetched 0 1 0 (Some (own_block 0)) }
+    ∷ record { job = 2; given = Fetched 1 1 0 (Some (own_block 1)) }
+    ∷ record { job = 2; given = Fetched 2 1 0 (Some (own_block 2)) }
+    ∷ record { job = 2; given = Fetched 3 1 0 (Some (own_block 3)) } ∷ []
+
+-- how the replay ends
+abbrev pub byte_end : Ending
+byte_end = ends_hearing 0 byte_heard
+
+-- the state before the first event
+abbrev pub first_state : State
+first_state = start_of (devices_of_seen before_byte) four_records
+
+-- what a get heard where one block is lost
+abbrev pub three_heard : List Entry
+three_heard =
+    heard (Fetched 0 1 0 (Some (own_block 0))) ∷ heard (Fetched 1 1 0 (Some (own_block 1)))
+    ∷ heard (Fetched 2 1 0 None) ∷ heard (Fetched 3 1 0 (Some (own_block 3))) ∷ []
+
+-- what it leaves
+abbrev pub damaged_got : Seen
+damaged_got = with_sink (reading_devices byte_records
+    (fetched (holds 0) ∷ fetched (holds 1) ∷ fetched empty_provider ∷ fetched (holds 3) ∷ [])) byte
+
+-- another byte
+abbrev pub other_byte : List ℕ
+other_byte = 112 ∷ []

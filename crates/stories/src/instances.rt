@@ -1,0 +1,121 @@
+//! Instances: what the laws of the other modules suppose, met by values.
+ghost use Rattle.std.specs.Prelude.{◌≡◌, ◌≢◌, ◌≤◌, ◌<◌, ◌==◌, ◌&&◌, ◌++◌, ℕ, not, true, false, List, [], ◌∷◌, length, String, Some, is_some, reverse};
+ghost use Rattle.std.specs.declared.alloc.Global.{Global};
+ghost use Rattle.column_defs.specs.Verdicts.{is_flagged};
+ghost use Rattle.machine_defs.specs.Damaged.{DamagesOnly, AsksDamageOf};
+ghost use Rattle.machine_defs.specs.Events.{AreBytes, Begun, Ended};
+ghost use Rattle.machine_defs.specs.Answers.{Put, Got};
+ghost use Rattle.machine_defs.specs.Halves.{AllTell};
+ghost use Rattle.machine_defs.specs.Untouched.{NoneAsksOn};
+ghost use Rattle.command_defs.specs.Forms.{PutUnder, GetOf, AuditAll, RepairDue, IsForm};
+ghost use Rattle.command_defs.specs.Jobs.{IsTold};
+ghost use Rattle.command_defs.specs.Lines.{audit_lines};
+ghost use Rattle.command_defs.specs.Opens.{setup_in_effect};
+ghost use Rattle.command_defs.specs.Seen.{provider_at};
+ghost use Rattle.command_laws.specs.After.{Follows, HasRightFile, IsUntouched, IsSteady, spoilt_below};
+ghost use Rattle.command_laws.specs.Ends.{IsKnown};
+ghost use Rattle.command_laws.specs.Instances.{ends};
+ghost use Rattle.command_runs.specs.Devices.{named, four_records, byte_records, to_put, byte_stored, damaged, byte_audited, answers_heard, due, repaired, mended, got, own_blocks_heard, ends_hearing};
+ghost use Rattle.damage_run.specs.Points.{counts};
+ghost use Rattle.damage_run.specs.Schedule.{byte};
+ghost use Rattle.record_defs.specs.Table.{next_audit};
+ghost use Rattle.schedule_text.specs.Schedules.{IsSchedule};
+ghost use Rattle.hail_replay.specs.Answers.{devices_of_seen};
+ghost use Rattle.hail_replay.specs.Forms.{IsReplayForm};
+ghost use Rattle.hail_replay.specs.Starts.{AreLeft};
+ghost use Rattle.hail_top.specs.Answered.{AnswersWords};
+ghost use Rattle.stories.specs.Files.{put_of, got_behind, IsGot};
+ghost use Rattle.stories.specs.Instances.{byte_text, get_of_byte, before_byte, behind_byte, byte_end, first_state, damaged_got, three_heard, other_byte};
+
+use command_runs::runs::commands_end;
+use command_words::laws::words_spell_one_command;
+use hail_client::laws::told_providers_tell;
+use machine_defs::laws::commands_begin_none;
+use run_laws::laws::what_was_put_is_got;
+use state_laws::laws::runs_are_sound;
+
+/// Words that spell a replay, over a store that was set up, where the source has a schedule that puts a file
+/// of one byte and gets it: it ends with status 0. The devices before it are left by the run of no event; all
+/// providers tell, and no command of it damages one. The put is job 1 and ends well, and job 2 gets the byte.
+pub fn a_byte_is_put_and_got()
+    ensures replay { (words : List (String Global)) → IsReplayForm words
+        → AnswersWords words before_byte behind_byte byte_end }
+    ensures spells { IsSchedule byte_text (reverse (got_behind ([] ++ put_of [] named byte 1) named 2)) }
+    ensures survives { IsSchedule byte_text (reverse (get_of_byte ++ put_of [] named byte 1)) }
+    ensures asks { NoneAsksOn named [] × NoneAsksOn named get_of_byte }
+    ensures left { AreLeft first_state [] (devices_of_seen before_byte) }
+    ensures got { (G : IsGot first_state before_byte behind_byte byte_end 1 2 named byte)
+        × (G.put.begin.outcome ≡ Begun 1) × (G.put.end.outcome ≡ Ended Put)
+        × (G.begin.outcome ≡ Begun 2) × (G.last.outcome ≡ Ended (Got byte)) }
+    ensures calm { AllTell first_state × DamagesOnly [] []
+        × AsksDamageOf [] ([] ++ put_of [] named byte 1) }
+{
+    runs_are_sound();
+    told_providers_tell();
+    commands_begin_none();
+    what_was_put_is_got();
+}
+
+/// A put of that file, and a get by the next command, where provider 2 has lost its block in between. Both end
+/// with status 0, and the get writes the byte.
+pub fn the_next_command_gets_a_byte()
+    ensures put { (words : List (String Global)) → IsForm words (PutUnder named)
+        → AnswersWords words to_put byte_stored (ends 0) }
+    ensures get { (words : List (String Global)) → IsForm words (GetOf named)
+        → AnswersWords words damaged damaged_got (ends_hearing 0 three_heard) }
+    ensures store { IsKnown to_put four_records × (to_put.source ≡ Some byte)
+        × ((j : ℕ) → j < (setup_in_effect four_records).n
+        → is_some (provider_at to_put.providers j).held ≡ true) }
+    ensures between { Follows byte_stored damaged
+        × IsUntouched (setup_in_effect four_records).n (λ j. j == 2) byte_stored damaged
+        × IsSteady (setup_in_effect four_records).n (λ j. j == 2) damaged damaged_got
+        × (spoilt_below (setup_in_effect four_records).n (λ j. j == 2)
+        ≤ (setup_in_effect four_records).b) }
+{
+    words_spell_one_command();
+    commands_end();
+}
+
+/// Behind that put and that loss an audit flags provider 2, and a repair writes its block anew; then provider
+/// 0 may go, and a get writes the byte. All end with status 0.
+pub fn another_goes_after_the_repair()
+    ensures audit { (words : List (String Global)) → IsForm words AuditAll
+        → AnswersWords words damaged byte_audited (ends_hearing 0 answers_heard) }
+    ensures repair { (words : List (String Global)) → IsForm words RepairDue
+        → AnswersWords words due repaired (ends 0) }
+    ensures get { (words : List (String Global)) → IsForm words (GetOf named)
+        → AnswersWords words mended got (ends_hearing 0 own_blocks_heard) }
+    ensures between { Follows byte_stored damaged × Follows byte_audited due × Follows repaired mended
+        × IsUntouched (setup_in_effect four_records).n (λ j. j == 2) byte_stored damaged
+        × IsUntouched (setup_in_effect four_records).n (λ j. j == 2) byte_audited due
+        × IsSteady (setup_in_effect four_records).n (λ j. j == 2) due repaired }
+    ensures told { IsTold (audit_lines (setup_in_effect four_records).tolerance (next_audit four_records) 0
+        counts) damaged byte_audited (ends_hearing 0 answers_heard) }
+    ensures flagged { (j : ℕ) → j < (setup_in_effect four_records).n
+        → is_flagged (setup_in_effect four_records).tolerance counts j ≡ true
+        → is_some (provider_at due.providers j).held ≡ true }
+    ensures later { ((j : ℕ) → (j == 0) ≡ false
+        → ((j == 2) && not (is_flagged (setup_in_effect four_records).tolerance counts j)) ≡ false)
+        × IsUntouched (setup_in_effect four_records).n (λ j. j == 0) repaired mended
+        × IsSteady (setup_in_effect four_records).n (λ j. j == 0) mended got
+        × (spoilt_below (setup_in_effect four_records).n (λ j. j == 0)
+        ≤ (setup_in_effect four_records).b) }
+{
+    words_spell_one_command();
+    commands_end();
+}
+
+/// A get of status 0 over a store in which providers 0, 1 and 3 hold the blocks of that byte, and provider 2
+/// holds none, where another byte was put: it writes theirs.
+pub fn three_of_four_collude()
+    ensures get { (words : List (String Global)) → IsForm words (GetOf named)
+        → AnswersWords words damaged damaged_got (ends_hearing 0 three_heard) }
+    ensures theirs { IsKnown damaged byte_records
+        × HasRightFile damaged byte_records named byte (λ j. j == 2) }
+    ensures put { AreBytes other_byte × (length other_byte ≡ length byte) × (other_byte ≢ byte) }
+    ensures few { IsSteady (setup_in_effect byte_records).n (λ j. j == 2) damaged damaged_got
+        × (spoilt_below (setup_in_effect byte_records).n (λ j. j == 2) ≤ (setup_in_effect byte_records).b)
+        × (is_some damaged.sink ≡ true) }
+{
+    words_spell_one_command();
+}
