@@ -88,7 +88,8 @@ module _ (start : State) (before : List Moment) (L : AreLeft start before (devic
   ]
 
   settles : SettlesOn w four_records
-  settles = settles-by (settled-by w sound (reads cells) (L.devices.images (reads cells) (IsImage-reads cells)))
+  settles = settles-by
+      (settled-by w sound (reads cells) (L.devices.images (reads cells) (IsImage-reads cells)))
 
   over : IsOpenedOver opened four_records 0 none_hold
   over = record {

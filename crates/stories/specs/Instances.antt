@@ -1,9 +1,10 @@
--- A replay over a store that was set up: a file of one byte is put and got; and a get where one block is lost.
+-- A replay over a store that was set up, which puts a file of one byte and gets it; and a get where one block
+-- is lost.
 --
 --   byte_text, byte_lines == the text of that schedule, and what it writes
 --   get_of_byte           == the commands of the get, the newest first
 --   before_byte, behind_byte, byte_heard, byte_end
---                         == what is seen before the replay and behind it, what its jobs heard, and how it ends
+--                         == what is seen before and behind it, what its jobs heard, and how it ends
 --   first_state           == the state before the first event over these devices
 --   damaged_got           == what a get leaves over the store in which one block is lost
 --   three_heard           == what it heard

@@ -56,8 +56,8 @@ pub fn a_byte_is_put_and_got()
     what_was_put_is_got();
 }
 
-/// A put of that file, and a get by the next command, where provider 2 has lost its block in between. Both end
-/// with status 0, and the get writes the byte.
+/// A put of that file, and a get by the next command, where provider 2 has lost its block in between. Both
+/// end with status 0, and the get writes the byte.
 pub fn the_next_command_gets_a_byte()
     ensures put { (words : List (String Global)) → IsForm words (PutUnder named)
         → AnswersWords words to_put byte_stored (ends 0) }
