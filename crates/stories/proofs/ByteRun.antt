@@ -19,7 +19,7 @@ use Rattle.job_laws.proofs.BeginRefusals.{refusal-of}
 use Rattle.command_runs.specs.Devices.{named, four_records, started_records, byte_records, own_block, given_block, fetched}
 use Rattle.damage_run.specs.Schedule.{byte}
 use Rattle.command_runs.proofs.Shape.{formed}
-use Rattle.command_runs.proofs.Counting.{store-counts, fetch-counts}
+use Rattle.stories.proofs.Counting.{store-counts, fetch-counts}
 use Rattle.command_runs.proofs.Begins.{put_begins, get_begins}
 use Rattle.stories.specs.Instances.{behind_byte}
 

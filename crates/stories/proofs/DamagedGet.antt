@@ -24,7 +24,7 @@ use Rattle.job_laws.proofs.BeginRefusals.{refusal-of}
 use Rattle.command_runs.specs.Devices.{named, byte_records, own_block, holds, fetched, ends_hearing, damaged}
 use Rattle.damage_run.specs.Schedule.{byte}
 use Rattle.command_runs.proofs.Shape.{formed, form-is, one_byte, one_byte-is}
-use Rattle.command_runs.proofs.Counting.{fetch-counts}
+use Rattle.stories.proofs.Counting.{fetch-counts}
 use Rattle.command_runs.proofs.Stores.{damaged-sure}
 use Rattle.command_runs.proofs.Begins.{get_begins}
 use Rattle.stories.specs.Instances.{damaged_got, three_heard}

@@ -4,6 +4,7 @@ mod Puts
 mod Gets
 mod Other
 mod Asked
+mod Counting
 mod ByteText
 mod ByteRun
 mod ByteReplay
