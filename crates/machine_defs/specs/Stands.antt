@@ -1,7 +1,7 @@
 -- What the images of a disk stand for.
 --
---   StandsIn area image rs   == an image stands for records in an area; while no journal may hold the second
---                               version, as a journal of before, which is in area A
+--   StandsIn area image rs   == an image stands for records in an area; while no journal may hold what is
+--                               packed, as a journal of before, which is in area A
 --   StandsForState told w    == each image of a disk that tells stands for the journal, or for it with the
 --                               record in doubt added, or, while the switch is under way, for the packed
 --                               journal in the other area; where no record is in effect, an image of at most
@@ -9,7 +9,7 @@
 --   IsFresh cells records    == a disk before its first use: it reads nothing, or a journal whose only
 --                               record is a setup, and no byte is loose
 use Rattle.std.specs.Prelude.{◌≡◌, ◌⊎◌, ℕ, ◌≤◌, Bool, true, false, List, [], ◌∷◌, length, Option, Some}
-use Rattle.record_defs.specs.Records.{Setup, Record, SetUp, holds_second_version}
+use Rattle.record_defs.specs.Records.{Setup, Record, SetUp, holds_packed_records}
 use Rattle.record_defs.specs.Journal.{StandsFor}
 use Rattle.record_defs.specs.Areas.{Area, A, other_area, StandsActive}
 use Rattle.record_defs.specs.Packed.{packed}
@@ -17,14 +17,14 @@ use Rattle.device_defs.specs.Cells.{Cells, reads, loose_offsets}
 use Rattle.device_defs.specs.Images.{EachImage}
 use Rattle.machine_defs.specs.States.{State, Doubt}
 
--- an image stands for records in an area, by whether journals may hold the second version
+-- an image stands for records in an area, by whether journals may hold what is packed
 abbrev pub StandsAs : Bool → Area → List ℕ → List Record → Type 0
 StandsAs false area image rs = (area ≡ A) × StandsFor image rs
 StandsAs true area image rs = StandsActive image area rs
 
 -- an image stands for records in an area
 abbrev pub StandsIn : Area → List ℕ → List Record → Type 0
-StandsIn area image rs = StandsAs holds_second_version area image rs
+StandsIn area image rs = StandsAs holds_packed_records area image rs
 
 -- an image stands for the journal; where there is no record, at most nine bytes stand for none too
 abbrev pub StandsPlain : State → List ℕ → Type 0

@@ -16,9 +16,8 @@ const LARGEST_FILE: u32 = 1 << 22;
 
 const PROFILES: u8 = 5;
 
-/// Whether a journal may hold the kinds of its second version: off until journals of that version are
-/// written.
-const HOLDS_SECOND_VERSION: bool = false;
+/// Whether a journal may hold the kinds of a packed one: off until journals are packed.
+const HOLDS_PACKED_RECORDS: bool = false;
 
 fn u32_at(bytes: &[u8]) -> Option<(u32, &[u8])>
     ensures { option_map (λ x. (x.0, x.1.now)) result ≡ number_at w32 bytes.now }
@@ -356,11 +355,7 @@ impl Record {
         ensures { result ≡ is_held (entry_of self.now) }
     {
         match self {
-            Record::PutDoneIn { .. }
-            | Record::Version
-            | Record::Resume { .. }
-            | Record::File { .. }
-            | Record::Due { .. } => HOLDS_SECOND_VERSION,
+            Record::Resume { .. } | Record::File { .. } | Record::Due { .. } => HOLDS_PACKED_RECORDS,
             _ => true,
         }
     }

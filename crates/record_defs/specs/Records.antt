@@ -6,8 +6,9 @@
 --   is_setup s      == every number of a setup is within its limits; of the master key it says nothing
 --   is_master key   == 32 bytes
 --   is_spelled r    == each field is within its limits, so that the record has a spelling
---   is_held r       == a journal may hold the record's kind; the second version's kinds are out while
---                      holds_second_version is off
+--   is_appended r   == a job appends records of this kind; the other kinds come in a packed journal alone
+--   is_held r       == a journal may hold the record's kind; those of a packed journal are out while
+--                      holds_packed_records is off
 --   is_in_grammar r == the record has a spelling, and a journal may hold its kind
 --   record_size r   == how many bytes the record takes, its kind included
 --
@@ -112,10 +113,24 @@ is_spelled (InEffect id size profile name) =
     nat_lt id (2 ^ 64) && nat_le size largest_file && nat_lt profile all_profiles && is_name name
 is_spelled (RepairDue number counts) = nat_lt number (2 ^ 64) && are_counts counts
 
--- whether a journal may hold the kinds of the second version: one switch, off until journals of that
--- version are written
-abbrev pub holds_second_version : Bool
-holds_second_version = false
+-- whether a journal may hold what is packed: one switch, off until journals are packed
+abbrev pub holds_packed_records : Bool
+holds_packed_records = false
+
+-- whether a job appends records of this kind; the others come in a packed journal alone
+abbrev pub is_appended : Record → Bool
+is_appended (SetUp s) = true
+is_appended (PutStart id name) = true
+is_appended (PutDone id size) = true
+is_appended (Drop name) = true
+is_appended (AuditStart number) = true
+is_appended (AuditDone number undecided counts) = true
+is_appended (RepairDone number) = true
+is_appended (PutDoneIn id size profile) = true
+is_appended Version = true
+is_appended (Resume id audit) = false
+is_appended (InEffect id size profile name) = false
+is_appended (RepairDue number counts) = false
 
 -- whether a journal may hold the kind of a record
 abbrev pub is_held : Record → Bool
@@ -126,11 +141,11 @@ is_held (Drop name) = true
 is_held (AuditStart number) = true
 is_held (AuditDone number undecided counts) = true
 is_held (RepairDone number) = true
-is_held (PutDoneIn id size profile) = holds_second_version
-is_held Version = holds_second_version
-is_held (Resume id audit) = holds_second_version
-is_held (InEffect id size profile name) = holds_second_version
-is_held (RepairDue number counts) = holds_second_version
+is_held (PutDoneIn id size profile) = true
+is_held Version = true
+is_held (Resume id audit) = holds_packed_records
+is_held (InEffect id size profile name) = holds_packed_records
+is_held (RepairDue number counts) = holds_packed_records
 
 -- a record is in the grammar: it has a spelling, and a journal may hold its kind
 abbrev pub is_in_grammar : Record → Bool
@@ -141,12 +156,12 @@ is_in_grammar (Drop name) = is_spelled (Drop name)
 is_in_grammar (AuditStart number) = is_spelled (AuditStart number)
 is_in_grammar (AuditDone number undecided counts) = is_spelled (AuditDone number undecided counts)
 is_in_grammar (RepairDone number) = is_spelled (RepairDone number)
-is_in_grammar (PutDoneIn id size profile) = holds_second_version && is_spelled (PutDoneIn id size profile)
-is_in_grammar Version = holds_second_version && is_spelled Version
-is_in_grammar (Resume id audit) = holds_second_version && is_spelled (Resume id audit)
+is_in_grammar (PutDoneIn id size profile) = is_spelled (PutDoneIn id size profile)
+is_in_grammar Version = is_spelled Version
+is_in_grammar (Resume id audit) = holds_packed_records && is_spelled (Resume id audit)
 is_in_grammar (InEffect id size profile name) =
-    holds_second_version && is_spelled (InEffect id size profile name)
-is_in_grammar (RepairDue number counts) = holds_second_version && is_spelled (RepairDue number counts)
+    holds_packed_records && is_spelled (InEffect id size profile name)
+is_in_grammar (RepairDue number counts) = holds_packed_records && is_spelled (RepairDue number counts)
 
 -- how many bytes a record takes
 abbrev pub record_size : Record → ℕ

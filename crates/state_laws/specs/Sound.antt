@@ -13,7 +13,7 @@
 --   IsLimit limit            == a limit of running jobs
 --   IsWholeJournal w         == the disk holds the whole history, in area A
 --   IsSoundJournal w         == the journal that the disk holds is accepted, and its table is that of the
---                               history; before the second version it is the whole history
+--                               history; with no packed record it is the whole history
 --   IsSwitchable w           == what holds while the byte that names the area may name the other one
 --   IsSound limit w          == a sound state, with this limit of running jobs
 --   IsAtRest w               == a state in which nothing runs, is appended or in doubt, over the whole
@@ -21,7 +21,7 @@
 --                               files have their bytes
 use Rattle.std.specs.Prelude.{◌≡◌, ℕ, ◌+◌, ◌-◌, ◌^◌, ◌<◌, ◌≤◌, ◌==◌, Bool, true, false, IsTrue, List, [], ◌∷◌, length, sum_by, Option, None, Some, if◌then◌else◌}
 use Rattle.std.specs.List.{list_all}
-use Rattle.record_defs.specs.Records.{is_spelled, is_in_grammar, largest_journal, most_files}
+use Rattle.record_defs.specs.Records.{is_spelled, is_in_grammar, is_appended, largest_journal, most_files}
 use Rattle.record_defs.specs.Journal.{text_size}
 use Rattle.record_defs.specs.Table.{version_of, next_id, next_audit, started_as}
 use Rattle.record_defs.specs.Acceptance.{AreAccepted}
@@ -86,14 +86,14 @@ pub record IsWholeJournal (w : State) : Type 0 where
   pub unswitched : w.is_switching ≡ false
 
 -- the journal that the disk holds is accepted, its table is that of the history, and what is started in it is
--- so in the history; before the second version it is the whole history
+-- so in the history; with no packed record it is the whole history
 pub record IsSoundJournal (w : State) : Type 0 where
   pub accepted : AreAccepted w.journal
   pub spelled : IsTrue (list_all is_spelled w.journal)
   pub alike : AreAlike w.journal w.records
   pub started : (id : ℕ) (name : List ℕ) → started_as w.journal id ≡ Some name
       → started_as w.records id ≡ Some name
-  pub whole : version_of w.records ≡ 1 → IsWholeJournal w
+  pub whole : IsTrue (list_all is_appended w.journal) → IsWholeJournal w
 
 -- while the byte that names the area may name the other one, the journal has its second version, nothing is
 -- in doubt and no job runs; where a vault goes on, it is a pack after its third move that does
