@@ -1,21 +1,24 @@
 -- How each command ends.
 --
---   AnswersRow of Row              == `row`; it looks at no device but the sink
---   AnswersInit of Inits           == `init`
---   AnswersPut name old new end    == `put`: it opens the store, reads its source, and runs its job
---   AnswersAlone kind old new end  == `get`, `drop`, `audit`, `repair`: they open the store and run their job
---   AnswersList old new end        == `list`: it opens the store and writes the files in effect
---   Answers command old new end    == how a command ends, by its words
---   IsUsage old new end            == words that are no form of a command: status 2, or that of no memory
-use Rattle.std.specs.Prelude.{◌≡◌, ℕ, ◌+◌, List, []}
+--   AnswersRow of Row               == `row`; it looks at no device but the sink
+--   AnswersInit of Inits            == `init`
+--   AnswersPut name own old new end == `put`, with the profile that it names: it opens the store, reads its
+--                                      source, and runs its job
+--   AnswersAlone kind old new end   == `get`, `drop`, `audit`, `repair`, `upgrade`: they open the store and
+--                                      run their job
+--   AnswersList old new end         == `list`: it opens the store and writes the files in effect
+--   Answers command old new end     == how a command ends, by its words
+--   IsUsage old new end             == words that are no form of a command: status 2, or that of no memory
+use Rattle.std.specs.Prelude.{◌≡◌, ℕ, ◌+◌, false, IsTrue, List, [], Option, None, Some}
 use Rattle.device_defs.specs.Faults.{Rose}
 use Rattle.record_defs.specs.Records.{Record, largest_file}
 use Rattle.record_defs.specs.Table.{files_of}
-use Rattle.machine_defs.specs.Jobs.{Kind, PutJob, GetJob, DropJob, AuditJob, RepairJob}
-use Rattle.command_defs.specs.Forms.{Command, RowOf, InitWith, PutUnder, GetOf, DropOf, ListAll, AuditAll, RepairDue}
+use Rattle.machine_defs.specs.Jobs.{Kind, PutJob, GetJob, DropJob, AuditJob, RepairJob, UpgradeJob}
+use Rattle.command_defs.specs.Forms.{Command, RowOf, InitWith, PutUnder, PutAt, GetOf, DropOf, ListAll, AuditAll, RepairDue, UpgradeJournal}
 use Rattle.command_defs.specs.Seen.{Seen, Ending, IsSynced, SameSource, ReadsAtMost, ReadsUpTo, IsRefused, sinking}
 use Rattle.command_defs.specs.Sinking.{Refuses, WritesLine}
 use Rattle.command_defs.specs.Opens.{IsOpened, Unstarted}
+use Rattle.command_defs.specs.Refusals.{is_unknown}
 use Rattle.command_defs.specs.Lines.{list_lines}
 use Rattle.command_defs.specs.Row.{AnswersRow}
 use Rattle.command_defs.specs.Jobs.{AnswersJob}
@@ -30,23 +33,25 @@ pub record TouchesSink (old new : Seen) (end : Ending) : Type 0 where
   pub place : end.at ≡ 0
   pub heard : end.heard ≡ []
 
--- a `put`
-pub data AnswersPut (name : List ℕ) (old new : Seen) (end : Ending) : Type 0 where
-  unstarted : Unstarted old new end → SameSource old new → AnswersPut name old new end
-  source_fault : (records : List Record) → IsOpened old records → Rose old.source_faults new.source_faults
-      → IsSynced old new →
+-- a `put`, with the profile that it names; where there is none of its number, the source is not read
+pub data AnswersPut (name : List ℕ) (own : Option ℕ) (old new : Seen) (end : Ending) : Type 0 where
+  unstarted : Unstarted old new end → SameSource old new → AnswersPut name own old new end
+  bad_profile : (records : List Record) → IsOpened old records → IsTrue (is_unknown own)
+      → IsSynced old new → SameSource old new → IsRefused 20 0 old new end → AnswersPut name own old new end
+  source_fault : (records : List Record) → IsOpened old records → is_unknown own ≡ false
+      → Rose old.source_faults new.source_faults → IsSynced old new →
       ReadsAtMost (largest_file + 1) old.source new.source → IsRefused 14 0 old new end
-      → AnswersPut name old new end
+      → AnswersPut name own old new end
   no_memory : ReadsAtMost (largest_file + 1) old.source new.source → IsRefused 70 0 old new end
-      → AnswersPut name old new end
-  begun : (records : List Record) (bytes : List ℕ) → IsOpened old records
+      → AnswersPut name own old new end
+  begun : (records : List Record) (bytes : List ℕ) → IsOpened old records → is_unknown own ≡ false
       → ReadsUpTo (largest_file + 1) old.source new.source bytes →
-      AnswersJob (PutJob name bytes) records old new end → AnswersPut name old new end
+      AnswersJob (PutJob name bytes) own records old new end → AnswersPut name own old new end
 
 -- a command that runs a job and reads no source
 pub data AnswersAlone (kind : Kind) (old new : Seen) (end : Ending) : Type 0 where
   unstarted : Unstarted old new end → AnswersAlone kind old new end
-  begun : (records : List Record) → IsOpened old records → AnswersJob kind records old new end
+  begun : (records : List Record) → IsOpened old records → AnswersJob kind None records old new end
       → AnswersAlone kind old new end
 
 -- the files in effect are written, or a part of them
@@ -69,12 +74,14 @@ abbrev pub Answers : Command → Seen → Seen → Ending → Type 0
 Answers (RowOf n l b seen) old new end =
     AnswersRow n l b seen end.status (sinking old new) × TouchesSink old new end
 Answers (InitWith numbers) old new end = AnswersInit numbers old new end
-Answers (PutUnder name) old new end = AnswersPut name old new end
+Answers (PutUnder name) old new end = AnswersPut name None old new end
+Answers (PutAt name profile) old new end = AnswersPut name (Some profile) old new end
 Answers (GetOf name) old new end = AnswersAlone (GetJob name) old new end × SameSource old new
 Answers (DropOf name) old new end = AnswersAlone (DropJob name) old new end × SameSource old new
 Answers ListAll old new end = AnswersList old new end × SameSource old new
 Answers AuditAll old new end = AnswersAlone AuditJob old new end × SameSource old new
 Answers RepairDue old new end = AnswersAlone RepairJob old new end × SameSource old new
+Answers UpgradeJournal old new end = AnswersAlone UpgradeJob old new end × SameSource old new
 
 -- the words are no command
 pub record IsUsage (old new : Seen) (end : Ending) : Type 0 where

@@ -4,10 +4,12 @@
 --   IsInitForm words numbers                    == the words are `init` and the seven numbers: n, l, b,
 --                                                  profile, rounds, picks, tolerance
 --   IsPutForm words name, IsGetForm, IsDropForm == the words are the command and a name, whatever it is
---   IsListForm words, IsAuditForm, IsRepairForm == the one word is the command
+--   IsPutAtForm words name profile              == `put`, a name and a number below 256
+--   IsListForm words, IsAuditForm, IsRepairForm, IsUpgradeForm
+--                                               == the one word is the command
 --   Command                                     == a command as plain data
 --   IsForm words command                        == the words spell the command
-use Rattle.std.specs.Prelude.{◌≡◌, ℕ, List, [], ◌∷◌, codes, Option, String}
+use Rattle.std.specs.Prelude.{◌≡◌, ℕ, ◌<◌, List, [], ◌∷◌, codes, Option, String}
 use Rattle.std.specs.String.{string_bytes}
 use Rattle.std.specs.declared.alloc.Global.{Global}
 use Rattle.command_defs.specs.Words.{IsNumberWord}
@@ -52,6 +54,13 @@ IsBareForm command words = ⊥
 abbrev pub IsPutForm : List (String Global) → List ℕ → Type 0
 IsPutForm words name = IsNamedForm (codes "put") words name
 
+-- `put`, a name and the number of a profile
+abbrev pub IsPutAtForm : List (String Global) → List ℕ → ℕ → Type 0
+IsPutAtForm (first ∷ second ∷ third ∷ []) name profile =
+    (string_bytes first ≡ codes "put") × (string_bytes second ≡ name)
+    × IsNumberWord (string_bytes third) profile × (profile < 256)
+IsPutAtForm words name profile = ⊥
+
 -- `get` and a name
 abbrev pub IsGetForm : List (String Global) → List ℕ → Type 0
 IsGetForm words name = IsNamedForm (codes "get") words name
@@ -72,24 +81,32 @@ IsAuditForm words = IsBareForm (codes "audit") words
 abbrev pub IsRepairForm : List (String Global) → Type 0
 IsRepairForm words = IsBareForm (codes "repair") words
 
+-- `upgrade`
+abbrev pub IsUpgradeForm : List (String Global) → Type 0
+IsUpgradeForm words = IsBareForm (codes "upgrade") words
+
 -- a command
 pub data Command : Type 0 where
   RowOf : (n l b : ℕ) (seen : List (Option ℕ)) → Command
   InitWith : (numbers : Numbers) → Command
   PutUnder : (name : List ℕ) → Command
+  PutAt : (name : List ℕ) (profile : ℕ) → Command
   GetOf : (name : List ℕ) → Command
   DropOf : (name : List ℕ) → Command
   ListAll : Command
   AuditAll : Command
   RepairDue : Command
+  UpgradeJournal : Command
 
 -- the words spell a command
 abbrev pub IsForm : List (String Global) → Command → Type 0
 IsForm words (RowOf n l b seen) = IsRowForm words n l b seen
 IsForm words (InitWith numbers) = IsInitForm words numbers
 IsForm words (PutUnder name) = IsPutForm words name
+IsForm words (PutAt name profile) = IsPutAtForm words name profile
 IsForm words (GetOf name) = IsGetForm words name
 IsForm words (DropOf name) = IsDropForm words name
 IsForm words ListAll = IsListForm words
 IsForm words AuditAll = IsAuditForm words
 IsForm words RepairDue = IsRepairForm words
+IsForm words UpgradeJournal = IsUpgradeForm words

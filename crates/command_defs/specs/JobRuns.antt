@@ -2,15 +2,16 @@
 --
 --   AreSteps w moment job ms               == steps of the job that all answered more, from this state on,
 --                                             after so many events; the newest first
---   RunsJob w moment kind answer heard new == the job of this kind begins in the state, after so many events,
---                                             and its steps come to this answer and leave the new state; it
---                                             heard these entries
-use Rattle.std.specs.Prelude.{◌≡◌, ℕ, ◌+◌, List, [], ◌∷◌, length}
+--   RunsJob w moment kind own answer heard new
+--                                          == the job of this kind begins in the state, after so many events,
+--                                             of a put also with a profile of its own, and its steps come to
+--                                             this answer and leave the new state; it heard these entries
+use Rattle.std.specs.Prelude.{◌≡◌, ℕ, ◌+◌, List, [], ◌∷◌, length, Option}
 use Rattle.machine_defs.specs.Jobs.{Kind, job_of}
 use Rattle.machine_defs.specs.Answers.{Answer}
 use Rattle.machine_defs.specs.Events.{Step, More, Begun, Ended}
 use Rattle.machine_defs.specs.States.{State}
-use Rattle.machine_defs.specs.Begins.{Begins}
+use Rattle.machine_defs.specs.Begins.{BeginsAt}
 use Rattle.machine_defs.specs.Machine.{Happens}
 use Rattle.machine_defs.specs.Runs.{Moment, now}
 use Rattle.machine_defs.specs.Heard.{Entry, heard_by}
@@ -31,9 +32,9 @@ pub record GoesOnTo (w : State) (moment job : ℕ) (answer : Answer) (heard : Li
   pub heard_is : heard ≡ heard_by (job_of (now w steps).jobs job)
 
 -- a job begins in a state, after so many events, and goes on to its end
-pub record RunsJob (w : State) (moment : ℕ) (kind : Kind) (answer : Answer) (heard : List Entry)
-    (new : State) : Type 0 where
+pub record RunsJob (w : State) (moment : ℕ) (kind : Kind) (own : Option ℕ) (answer : Answer)
+    (heard : List Entry) (new : State) : Type 0 where
   pub begun : State
   pub job : ℕ
-  pub begins : Begins 8 moment w kind (Begun job) begun
+  pub begins : BeginsAt 8 moment w kind own (Begun job) begun
   pub goes_on : GoesOnTo begun (moment + 1) job answer heard new

@@ -1,16 +1,21 @@
 -- What a command leaves and says that runs one job.
 --
---   Leaves x kind answer                        == what a job of this kind leaves that ended with this answer
---   SamePast kind answer before after old new   == past the text of the records in effect, with the one that
---                                                  was being appended where the job was cut short, the disk
---                                                  reads as before
---   RunsAlone records kind answer old new heard == a job of this kind ran alone over these records and
---                                                  devices, as a run of the machine
---   LeftAlone records kind answer old new heard == the same without its run: the records then in effect, what
---                                                  is left and heard
---   EndsByAnswer text answer old new end        == how the command ends: the answer is told by its text, or
---                                                  by the status of its fault
---   AnswersJob kind records old new end         == the job is refused, or ends, over these records
+--   Leaves x kind own answer                  == what a job of this kind leaves that ended with this answer
+--   SamePast kind own answer before after old new
+--                                             == past the text of the records in effect, with the one that
+--                                                was being appended where the job was cut short, the disk
+--                                                reads as before
+--   RunsAlone records kind own answer old new heard
+--                                             == a job of this kind ran alone over these records and devices,
+--                                                as a run of the machine
+--   LeftAlone records kind own answer old new heard
+--                                             == the same without its run: the records then in effect, what
+--                                                is left and heard
+--   EndsByAnswer text answer old new end      == how the command ends: the answer is told by its text, or by
+--                                                the status of its fault
+--   AnswersJob kind own records old new end   == the job is refused, or ends, over these records
+--
+-- own is the profile that a put names; None where it has the setup's, and of every other job.
 use Rattle.std.specs.Prelude.{◌≡◌, ◌⊎◌, ℕ, ◌≤◌, List, [], ◌∷◌, ◌++◌, length, reverse, drop, Option, None, Some, IfSome, IsSomeAnd}
 use Rattle.std.specs.Option.{option_map}
 use Rattle.device_defs.specs.Cells.{Cells, reads}
@@ -42,17 +47,18 @@ use Rattle.command_defs.specs.Upgrades.{UpgradeLeaves}
 
 -- what a job leaves and hears, by its kind; only gets and audits hear anything, and only gets and repairs
 -- fetch
-abbrev pub LeavesBy : Ran → Kind → Answer → Type 0
-LeavesBy x (PutJob name bytes) answer = PutLeaves x name bytes answer × NoFetches x × (x.heard ≡ [])
-LeavesBy x (GetJob name) answer = GetLeaves x name answer
-LeavesBy x (DropJob name) answer = DropLeaves x name answer × NoFetches x × (x.heard ≡ [])
-LeavesBy x AuditJob answer = AuditLeaves x answer
-LeavesBy x RepairJob answer = RepairLeaves x answer × (x.heard ≡ [])
-LeavesBy x UpgradeJob answer = UpgradeLeaves x answer × NoFetches x × (x.heard ≡ [])
+abbrev pub LeavesBy : Ran → Kind → Option ℕ → Answer → Type 0
+LeavesBy x (PutJob name bytes) own answer =
+    PutLeaves x own name bytes answer × NoFetches x × (x.heard ≡ [])
+LeavesBy x (GetJob name) own answer = GetLeaves x name answer
+LeavesBy x (DropJob name) own answer = DropLeaves x name answer × NoFetches x × (x.heard ≡ [])
+LeavesBy x AuditJob own answer = AuditLeaves x answer
+LeavesBy x RepairJob own answer = RepairLeaves x answer × (x.heard ≡ [])
+LeavesBy x UpgradeJob own answer = UpgradeLeaves x answer × NoFetches x × (x.heard ≡ [])
 
 -- what a job leaves: providers that it does not use stay as they are
-pub record Leaves (x : Ran) (kind : Kind) (answer : Answer) : Type 0 where
-  pub by_kind : LeavesBy x kind answer
+pub record Leaves (x : Ran) (kind : Kind) (own : Option ℕ) (answer : Answer) : Type 0 where
+  pub by_kind : LeavesBy x kind own answer
   pub counts : CountsRise x
   pub others : (j : ℕ) → (setup_at_begin x).n ≤ j → x.new j ≡ x.old j
 
@@ -69,17 +75,17 @@ pub record IsNextRecord (own before after : List Record) (next : Record) : Type 
   pub after_is : after ≡ reverse done ++ before
 
 -- the record of a job that comes next; a get appends none
-abbrev pub IsNext : Kind → List Record → List Record → Record → Type 0
-IsNext (PutJob name bytes) before after next =
-    IsNextRecord (put_records before name (length bytes)) before after next
-IsNext (GetJob name) before after next = ⊥
-IsNext (DropJob name) before after next = IsNextRecord (Drop name ∷ []) before after next
-IsNext AuditJob before after next =
+abbrev pub IsNext : Kind → Option ℕ → List Record → List Record → Record → Type 0
+IsNext (PutJob name bytes) own before after next =
+    IsNextRecord (put_records before name (length bytes) own) before after next
+IsNext (GetJob name) own before after next = ⊥
+IsNext (DropJob name) own before after next = IsNextRecord (Drop name ∷ []) before after next
+IsNext AuditJob own before after next =
     (undecided : ℕ) × (counts : List ℕ) × (length counts ≡ (setup_in_effect before).n)
     × IsNextRecord (audit_records before undecided counts) before after next
-IsNext RepairJob before after next =
+IsNext RepairJob own before after next =
     IsNextRecord (RepairDone (due_number (due_of before)) ∷ []) before after next
-IsNext UpgradeJob before after next = IsNextRecord (Version ∷ []) before after next
+IsNext UpgradeJob own before after next = IsNextRecord (Version ∷ []) before after next
 
 -- the records in effect, with the one that was being appended
 abbrev pub with_next : Option Record → List Record → List Record
@@ -88,51 +94,53 @@ with_next (Some next) after = next ∷ after
 
 -- the disk reads as before past the text of the records in effect, with the job's next one where that was
 -- being appended
-pub record SameBehind (kind : Kind) (before after : List Record) (old new : Option Cells) : Type 0 where
+pub record SameBehind (kind : Kind) (own : Option ℕ) (before after : List Record)
+    (old new : Option Cells) : Type 0 where
   pub next : Option Record
-  pub is_next : IfSome next (IsNext kind before after)
+  pub is_next : IfSome next (IsNext kind own before after)
   pub same : option_map (past (with_next next after)) new ≡ option_map (past (with_next next after)) old
 
 -- the disk reads as before past the text of the records in effect; where the job ended in a fault of the
 -- disk or for want of memory, past that text with the record that was being appended
-abbrev pub SamePast : Kind → Answer → List Record → List Record → Option Cells → Option Cells → Type 0
-SamePast kind DiskFault before after old new = SameBehind kind before after old new
-SamePast kind Memory before after old new = SameBehind kind before after old new
-SamePast kind answer before after old new = option_map (past after) new ≡ option_map (past after) old
+abbrev pub SamePast : Kind → Option ℕ → Answer → List Record → List Record → Option Cells → Option Cells →
+    Type 0
+SamePast kind own DiskFault before after old new = SameBehind kind own before after old new
+SamePast kind own Memory before after old new = SameBehind kind own before after old new
+SamePast kind own answer before after old new = option_map (past after) new ≡ option_map (past after) old
 
 -- a job that ran alone, whatever bytes of the recorded lengths the files have: it is a run of the machine
 -- from any state just opened over these records and devices, after any number of events, and the devices
 -- are those of its last state; past the text of its records, with the one that was being appended where it
 -- was cut short, the disk reads as before
-pub record RanAlone (records : List Record) (kind : Kind) (answer : Answer) (old new : Seen)
-    (heard : List Entry) (faults : ℕ) (w : State) (moment : ℕ) : Type 0 where
+pub record RanAlone (records : List Record) (kind : Kind) (own : Option ℕ) (answer : Answer)
+    (old new : Seen) (heard : List Entry) (faults : ℕ) (w : State) (moment : ℕ) : Type 0 where
   pub last : State
-  pub runs : RunsJob w moment kind answer heard last
+  pub runs : RunsJob w moment kind own answer heard last
   pub images : StandsForState new.disk last
   pub faults_are : last.disk_faults ≡ new.disk_faults
   pub handed : AreHanded new.providers last
-  pub past_text : SamePast kind answer records last.records old.disk new.disk
+  pub past_text : SamePast kind own answer records last.records old.disk new.disk
 
 -- so it is from every such state and moment, with what the disk's count of faults was once it was opened
-pub record RunsAlone (records : List Record) (kind : Kind) (answer : Answer) (old new : Seen)
-    (heard : List Entry) : Type 0 where
+pub record RunsAlone (records : List Record) (kind : Kind) (own : Option ℕ) (answer : Answer)
+    (old new : Seen) (heard : List Entry) : Type 0 where
   pub faults : ℕ
   pub before : old.disk_faults ≤ faults
   pub ran : (w : State) (moment : ℕ) → IsOpenedOver w records faults old.providers
-      → RanAlone records kind answer old new heard faults w moment
+      → RanAlone records kind own answer old new heard faults w moment
 
 -- what a job left that ran alone over these records, without its run: the records then in effect, and the
 -- one in doubt, for which the disk's images stand
-pub record LeftAlone (records : List Record) (kind : Kind) (answer : Answer) (old new : Seen)
-    (heard : List Entry) : Type 0 where
+pub record LeftAlone (records : List Record) (kind : Kind) (own : Option ℕ) (answer : Answer)
+    (old new : Seen) (heard : List Entry) : Type 0 where
   pub faults : ℕ
   pub before : old.disk_faults ≤ faults
   pub after : List Record
   pub doubt : Option Record
-  pub leaves : Leaves (ran_alone records old new heard faults after doubt) kind answer
+  pub leaves : Leaves (ran_alone records old new heard faults after doubt) kind own answer
   pub images : EachImage new.disk (λ image. StandsOrIsEmpty image after ⊎ IsSomeAnd doubt
       (λ entry. StandsFor image (entry ∷ after)))
-  pub past_text : SamePast kind answer records after old.disk new.disk
+  pub past_text : SamePast kind own answer records after old.disk new.disk
 
 -- nothing was written
 pub record IsSilent (status at : ℕ) (old new : Seen) (end : Ending) : Type 0 where
@@ -154,13 +162,14 @@ EndsByAnswer text Memory old new end = IsSilent 70 0 old new end
 EndsByAnswer text answer old new end = IsTold text old new end
 
 -- a command whose begin comes over these records
-pub data AnswersJob (kind : Kind) (records : List Record) (old new : Seen) (end : Ending) : Type 0 where
-  refused : (why : Refusal) → refusal_over records kind ≡ Some why → IsSynced old new
+pub data AnswersJob (kind : Kind) (own : Option ℕ) (records : List Record) (old new : Seen)
+    (end : Ending) : Type 0 where
+  refused : (why : Refusal) → refusal_over records kind own ≡ Some why → IsSynced old new
       → IsRefused (status_of why) 0 old new end →
-      AnswersJob kind records old new end
-  no_memory : IsSynced old new → IsRefused 70 0 old new end → AnswersJob kind records old new end
-  ended : (answer : Answer) → refusal_over records kind ≡ None
-      → RunsAlone records kind answer old new end.heard →
-      LeftAlone records kind answer old new end.heard
+      AnswersJob kind own records old new end
+  no_memory : IsSynced old new → IsRefused 70 0 old new end → AnswersJob kind own records old new end
+  ended : (answer : Answer) → refusal_over records kind own ≡ None
+      → RunsAlone records kind own answer old new end.heard →
+      LeftAlone records kind own answer old new end.heard
       → EndsByAnswer (text_of (setup_in_effect records).tolerance kind answer) answer old new end
-      → AnswersJob kind records old new end
+      → AnswersJob kind own records old new end

@@ -8,13 +8,14 @@
 --                                                    or `.. flagged` for each provider: flagged where its
 --                                                    count exceeds the tolerance
 --   repaired_line number                          == `repaired NUMBER`
+--   upgraded_line                                 == `upgraded`
 --   text_of tolerance kind answer                 == what a job of this kind writes that ended with this
 --                                                    answer; nothing at a fault
 use Rattle.std.specs.Prelude.{ℕ, ◌+◌, List, [], ◌∷◌, ◌++◌, length, codes, nat_lt, if◌then◌else◌}
 use Rattle.std.specs.List.{flat_map}
 use Rattle.record_defs.specs.Table.{File}
-use Rattle.machine_defs.specs.Jobs.{Kind, PutJob, GetJob, DropJob, AuditJob, RepairJob}
-use Rattle.machine_defs.specs.Answers.{Answer, Put, Got, Dropped, Audited, Repaired}
+use Rattle.machine_defs.specs.Jobs.{Kind, PutJob, GetJob, DropJob, AuditJob, RepairJob, UpgradeJob}
+use Rattle.machine_defs.specs.Answers.{Answer, Put, Got, Dropped, Audited, Repaired, Upgraded}
 use Rattle.machine_defs.specs.Lines.{line, then_number, file_line}
 
 -- after an init
@@ -55,6 +56,10 @@ audit_lines tolerance number undecided counts =
 abbrev pub repaired_line : ℕ → List ℕ
 repaired_line number = line (codes "repaired" ++ then_number number)
 
+-- after an upgrade
+abbrev pub upgraded_line : List ℕ
+upgraded_line = line (codes "upgraded")
+
 -- what a job writes that ended with an answer
 abbrev pub text_of : ℕ → Kind → Answer → List ℕ
 text_of tolerance (PutJob name bytes) Put = stored_line name (length bytes)
@@ -62,4 +67,5 @@ text_of tolerance (GetJob name) (Got bytes) = bytes
 text_of tolerance (DropJob name) Dropped = dropped_line name
 text_of tolerance AuditJob (Audited number undecided counts) = audit_lines tolerance number undecided counts
 text_of tolerance RepairJob (Repaired number) = repaired_line number
+text_of tolerance UpgradeJob Upgraded = upgraded_line
 text_of tolerance kind answer = []

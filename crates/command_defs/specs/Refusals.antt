@@ -1,12 +1,14 @@
 -- Why a command is refused whose job would be the only one. Records have the newest first.
 --
---   takes_too_much records kind == the records of such a job find no room in the journal
---   has_no_number records kind  == the numbers that such a job draws come to their end
---   causes_of records kind      == the causes for which the begin is refused, in order
---   refusal_over records kind   == the first one that applies; None where the job begins
---   status_of refusal           == the status that tells of it
-use Rattle.std.specs.Prelude.{ℕ, ◌+◌, ◌-◌, ◌^◌, ◌==◌, ◌&&◌, ◌||◌, Bool, false, not, List, [], ◌∷◌, length, sum, Option, is_some, nat_le, nat_lt}
-use Rattle.record_defs.specs.Records.{Record, is_name, largest_file, largest_journal, most_files}
+--   takes_too_much records kind   == the records of such a job find no room in the journal
+--   has_no_number records kind    == the numbers that such a job draws come to their end
+--   causes_of records kind own    == the causes for which the begin is refused, in order
+--   refusal_over records kind own == the first one that applies; None where the job begins
+--   status_of refusal             == the status that tells of it
+--
+-- own is the profile that a put names; None where it names none, and of every other job.
+use Rattle.std.specs.Prelude.{ℕ, ◌+◌, ◌-◌, ◌^◌, ◌==◌, ◌&&◌, ◌||◌, Bool, false, not, List, [], ◌∷◌, length, sum, Option, None, Some, is_some, nat_le, nat_lt}
+use Rattle.record_defs.specs.Records.{Record, is_name, largest_file, largest_journal, most_files, all_profiles}
 use Rattle.record_defs.specs.Journal.{text_size}
 use Rattle.record_defs.specs.Table.{version_of, next_id, next_audit, file_of, files_of, due_of}
 use Rattle.machine_defs.specs.Sights.{names_in, is_name_among}
@@ -38,33 +40,40 @@ is_crowded_by records name =
     nat_le most_files (length (names_in (files_of records)))
     && not (is_name_among (names_in (files_of records)) name)
 
+-- a put names a profile that there is none of
+abbrev pub is_unknown : Option ℕ → Bool
+is_unknown None = false
+is_unknown (Some own) = nat_le all_profiles own
+
 -- the causes of a refusal, in order; a get has no record
-abbrev pub causes_of : List Record → Kind → List Cause
-causes_of records (PutJob name bytes) =
+abbrev pub causes_of : List Record → Kind → Option ℕ → List Cause
+causes_of records (PutJob name bytes) own =
     record { applies = not (is_name name); refusal = refusal.BadName }
+    ∷ record { applies = is_unknown own; refusal = refusal.BadProfile }
     ∷ record { applies = nat_lt largest_file (length bytes); refusal = refusal.TooLong }
+    ∷ record { applies = is_some own && version_of records == 1; refusal = refusal.OldVersion }
     ∷ record { applies = is_crowded_by records name; refusal = refusal.TooManyFiles }
     ∷ record { applies = is_full_for records (PutJob name bytes); refusal = refusal.JournalFull } ∷ []
-causes_of records (GetJob name) =
+causes_of records (GetJob name) own =
     record { applies = not (is_name name); refusal = refusal.BadName }
     ∷ record { applies = not (is_some (file_of records name)); refusal = refusal.NoSuchName } ∷ []
-causes_of records (DropJob name) =
+causes_of records (DropJob name) own =
     record { applies = not (is_name name); refusal = refusal.BadName }
     ∷ record { applies = not (is_some (file_of records name)); refusal = refusal.NoSuchName }
     ∷ record { applies = is_full_for records (DropJob name); refusal = refusal.JournalFull } ∷ []
-causes_of records AuditJob =
+causes_of records AuditJob own =
     record { applies = is_some (due_of records); refusal = refusal.RepairDue }
     ∷ record { applies = is_full_for records AuditJob; refusal = refusal.JournalFull } ∷ []
-causes_of records RepairJob =
+causes_of records RepairJob own =
     record { applies = not (is_some (due_of records)); refusal = refusal.NothingDue }
     ∷ record { applies = is_full_for records RepairJob; refusal = refusal.JournalFull } ∷ []
-causes_of records UpgradeJob =
+causes_of records UpgradeJob own =
     record { applies = version_of records == 2; refusal = refusal.NewVersion }
     ∷ record { applies = is_full_for records UpgradeJob; refusal = refusal.JournalFull } ∷ []
 
 -- why a begin is refused
-abbrev pub refusal_over : List Record → Kind → Option Refusal
-refusal_over records kind = first_refusal (causes_of records kind)
+abbrev pub refusal_over : List Record → Kind → Option ℕ → Option Refusal
+refusal_over records kind own = first_refusal (causes_of records kind own)
 
 -- the status that tells of a refusal; the others do not come where one job runs alone
 abbrev pub status_of : Refusal → ℕ
@@ -74,5 +83,8 @@ status_of refusal.NothingDue = 7
 status_of refusal.JournalFull = 11
 status_of refusal.TooLong = 16
 status_of refusal.BadName = 17
+status_of refusal.BadProfile = 20
 status_of refusal.TooManyFiles = 21
+status_of refusal.OldVersion = 23
+status_of refusal.NewVersion = 24
 status_of why = 70

@@ -53,7 +53,11 @@ pub fn grammar()
     ensures two_of_five { is_setup (record four { n = 5; l = 2; b = 2 }) ≡ false }
     ensures no_profile { is_setup (record four { profile = 5 }) ≡ false }
     ensures spelled { is_spelled Version ≡ true }
-    ensures held { is_in_grammar Version ≡ false }
+    ensures held { is_in_grammar Version ≡ true }
+    ensures profile { is_in_grammar (PutDoneIn 1 4194304 4) ≡ true }
+    ensures sixth_profile { is_in_grammar (PutDoneIn 1 0 5) ≡ false }
+    ensures not_packed { is_in_grammar (Resume 1 1) ≡ false }
+    ensures spelled_packed { is_spelled (Resume 1 1) ≡ true }
     ensures tolerance { is_setup (record four { tolerance = 4097 }) ≡ false }
 {}
 

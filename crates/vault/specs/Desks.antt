@@ -4,7 +4,7 @@
 --   IsFlight f flight rs told     == no append is in flight, and the disk has the text with a closed gate; or
 --                                    that of the machine is, and the disk is as after its moves so far
 --   DeskStands v d w              == the desk and the devices stand for a state in which a vault is open, and
---                                    the journal has its first version
+--                                    no record of the journal is a packed one
 --   IsAtWork v                    == the desk stands for some state, over some devices of which the disk
 --                                    tells nothing: what its parts owe each other, whatever devices it was
 --                                    lent
@@ -13,19 +13,19 @@
 --                                    have done; a disk that tells nothing carries every desk
 --   Comes c job action            == what comes next for a job, by its core
 --   DeskMakesStep, DeskMakesBegin == a step and a begin are events of the machine
-use Rattle.std.specs.Prelude.{◌≡◌, ◌≢◌, ℕ, false, List, Option, Some, None, Result, IfSome}
+use Rattle.std.specs.Prelude.{◌≡◌, ◌≢◌, ℕ, false, IsTrue, List, Option, Some, None, Result, IfSome}
+use Rattle.std.specs.List.{list_all}
 use Rattle.code_defs.specs.Profiles.{profile_of}
 use Rattle.device_defs.specs.Cells.{Cells}
 use Rattle.device_defs.specs.Providers.{Provider}
-use Rattle.record_defs.specs.Records.{Record}
+use Rattle.record_defs.specs.Records.{Record, is_appended}
 use Rattle.record_defs.specs.Journal.{before_gate, text_size}
-use Rattle.record_defs.specs.Table.{version_of}
 use Rattle.machine_defs.specs.Actions.{Action}
 use Rattle.machine_defs.specs.Jobs.{Kind, job_of}
 use Rattle.machine_defs.specs.Answers as answers
 use Rattle.machine_defs.specs.Events.{Step, Ended}
 use Rattle.machine_defs.specs.Heard.{heard_by}
-use Rattle.machine_defs.specs.Begins.{Begins}
+use Rattle.machine_defs.specs.Begins.{BeginsAt}
 use Rattle.machine_defs.specs.States.{State, setup_in}
 use Rattle.machine_defs.specs.States as states
 use Rattle.machine_defs.specs.Machine.{Happens}
@@ -64,7 +64,7 @@ IsFlight f flight rs told = ⊥
 pub record DeskStands (v : Desk) (d : Devices) (w : State) : Type 0 where
   pub devices : AreDevices d w
   pub core : CoreIs v.core w
-  pub first : version_of w.records ≡ 1
+  pub appended : IsTrue (list_all is_appended w.journal)
   pub setup : setup_in w ≡ with_master v.setup v.master.0
   pub shaped : IsShaped v
   pub jobs : AreRunning (setup_in w) v.jobs.items w.jobs
@@ -86,11 +86,11 @@ DeskCarries v told =
     (rs : List Record) × IsFoldOf rs v.core.table × (v.core.end ≡ text_size rs)
     × CarriesText v.flight rs told
 
--- a begin is one of the machine
-pub record DeskMakesBegin (w : State) (moment : ℕ) (kind : Kind) (result : Result ℕ BeginFault) (v : Desk)
-    (d : Devices) : Type 0 where
+-- a begin is one of the machine, of a put also with a profile of its own
+pub record DeskMakesBegin (w : State) (moment : ℕ) (kind : Kind) (own : Option ℕ)
+    (result : Result ℕ BeginFault) (v : Desk) (d : Devices) : Type 0 where
   pub state : State
-  pub begins : Begins 8 moment w kind (begin_outcome result) state
+  pub begins : BeginsAt 8 moment w kind own (begin_outcome result) state
   pub stands : DeskStands v d state
 
 -- a step is one of the machine; past the text with the record in flight the disk reads as before, and where

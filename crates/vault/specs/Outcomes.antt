@@ -32,6 +32,7 @@ machine_answer (answer.Got bytes) = answers.Got bytes
 machine_answer answer.Dropped = answers.Dropped
 machine_answer (answer.Audited number undecided counts) = answers.Audited number undecided (counted counts)
 machine_answer (answer.Repaired number) = answers.Repaired number
+machine_answer answer.Upgraded = answers.Upgraded
 machine_answer (answer.Lost stripe row) = answers.Lost stripe row
 machine_answer (answer.ProviderFault provider) = answers.ProviderFault provider
 machine_answer answer.DiskFault = answers.DiskFault

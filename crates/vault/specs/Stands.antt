@@ -23,9 +23,9 @@ Stands v d w = DeskStands v.desk d w
 abbrev pub Carries : Vault → Option Cells → Type 0
 Carries v told = DeskCarries v.desk told
 
--- a begin is one of the machine
-abbrev pub MakesBegin : State → ℕ → Kind → Result ℕ BeginFault → Vault → Devices → Type 0
-MakesBegin w moment kind result v d = DeskMakesBegin w moment kind result v.desk d
+-- a begin is one of the machine, of a put also with a profile of its own
+abbrev pub MakesBegin : State → ℕ → Kind → Option ℕ → Result ℕ BeginFault → Vault → Devices → Type 0
+MakesBegin w moment kind own result v d = DeskMakesBegin w moment kind own result v.desk d
 
 -- a step is one of the machine
 abbrev pub MakesStep : State → ℕ → ℕ → Turn → Vault → Devices → Devices → Type 0

@@ -7,7 +7,7 @@
 --   HasFetched o s c blocks given      == the last c blocks are what the fetches of the stripe in work gave
 --   IsInWork phase blocks rows given   == the same where a stripe is fetched; where it is opened the rows are
 --                                         its symbols
---   IsPutTask, IsGet, IsDrop, IsAudit, IsRepair s task job rest
+--   IsPutTask, IsGet, IsDrop, IsAudit, IsRepair, IsUpgrade s task job rest
 --                                      == what a job of this kind works with
 --   IsTask s job rest task             == one of these
 --   AreRunning s running jobs          == the running jobs, in order, with what they work with
@@ -20,7 +20,7 @@ use Rattle.record_defs.specs.Records.{Setup}
 use Rattle.record_codec.specs.Entries.{counted, IsPadded}
 use Rattle.file_layout.specs.Files as layout
 use Rattle.column_codec.specs.PresentBlocks.{present_blocks}
-use Rattle.machine_defs.specs.Jobs.{PutJob, GetJob, DropJob, AuditJob, RepairJob, Pinned, Given, Fetched, Answered, Job}
+use Rattle.machine_defs.specs.Jobs.{PutJob, GetJob, DropJob, AuditJob, RepairJob, UpgradeJob, Pinned, Given, Fetched, Answered, Job}
 use Rattle.machine_defs.specs.Setups.{object_of, pinned_stripes}
 use Rattle.machine_defs.specs.Given.{symbols_given}
 use Rattle.machine_defs.specs.Actions.{Action, actions_left}
@@ -117,6 +117,10 @@ pub record IsGet (s : Setup) (t : GetTask) (job : Job) (rest : List Action) : Ty
   pub room_bytes : vec_len t.bytes + works_left rest * (16 * stripe_symbols (bench_object t.bench))
       ≤ vec_capacity t.bytes
 
+-- an upgrade works with nothing
+abbrev pub IsUpgrade : Job → Type 0
+IsUpgrade job = job.kind ≡ UpgradeJob
+
 -- a drop works with nothing
 pub record IsDrop (job : Job) : Type 0 where
   pub name : List ℕ
@@ -180,6 +184,7 @@ IsTask s job rest (task.Get t) = IsGet s t job rest
 IsTask s job rest task.Drop = IsDrop job
 IsTask s job rest (task.Audit t) = IsAudit s t job rest
 IsTask s job rest (task.Repair t) = IsRepair s t job rest
+IsTask s job rest task.Upgrade = IsUpgrade job
 
 -- a running job with what it works with
 pub record IsRunning (s : Setup) (r : Running) (job : Job) : Type 0 where

@@ -1,7 +1,7 @@
 ghost use Rattle.std.specs.Prelude.{◌≡◌, ◌∷◌, ◌<◌, ◌-◌, ◌^◌, ◌||◌, None, Some, not, nat_le, length, List, ℕ, IfOk, IfErr, OnOk, OnErr, IsTrue};
 ghost use Rattle.record_defs.specs.Records.{is_name};
 ghost use Rattle.machine_defs.specs.Actions.{actions_left};
-ghost use Rattle.machine_defs.specs.Begins.{begin_refusal, new_job};
+ghost use Rattle.machine_defs.specs.Begins.{refusal_of_begin, beginning};
 ghost use Rattle.machine_defs.specs.Sights.{sight_of, is_shut};
 ghost use Rattle.machine_defs.specs.Events.{AreBytes, IsSpelledKind};
 ghost use Rattle.machine_defs.specs.Jobs.{Kind};
@@ -47,17 +47,16 @@ impl Desk {
     }
 
     /// Takes a job in with what it works with, where its begin is accepted. Conditions: a number is left for
-    /// the job, and a put has at most 2^22 bytes and names no profile of its own.
+    /// the job, and a put has at most 2^22 bytes.
     pub(crate) fn admit(&mut self, wish: Wish, task: Task) -> Result<u32, BeginFault>
         requires number { self.old.core.next_job < 2 ^ 32 - 1 }
         requires size { IsShort wish }
-        requires plain { profile_named wish ≡ None }
         ensures machine { (w : State) (d : Devices) (moment : ℕ) (kind : Kind) → DeskStands self.old d w
             → IsKindOf wish kind → IsSpelledKind kind
-            → (begin_refusal 8 w kind ≡ None
-            → IsTask (setup_in w) (new_job w moment kind)
-            (actions_left (setup_in w) (new_job w moment kind)) task)
-            → DeskMakesBegin w moment kind result self.new d }
+            → (refusal_of_begin 8 w kind (profile_named wish) ≡ None
+            → IsTask (setup_in w) (beginning w moment kind (profile_named wish))
+            (actions_left (setup_in w) (beginning w moment kind (profile_named wish))) task)
+            → DeskMakesBegin w moment kind (profile_named wish) result self.new d }
         ensures unchanged { OnErr result (IsSameDesk self.old self.new) }
     {
         if self.jobs.reserve(1).is_err() {

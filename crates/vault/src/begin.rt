@@ -1,5 +1,5 @@
-ghost use Rattle.std.specs.Prelude.{◌≡◌, ◌<◌, ◌-◌, ◌^◌, ℕ, OnErr};
-ghost use Rattle.machine_defs.specs.Jobs.{PutJob, GetJob, DropJob, AuditJob, RepairJob};
+ghost use Rattle.std.specs.Prelude.{◌≡◌, ◌<◌, ◌-◌, ◌^◌, ℕ, None, OnErr};
+ghost use Rattle.machine_defs.specs.Jobs.{PutJob, GetJob, DropJob, AuditJob, RepairJob, UpgradeJob};
 ghost use Rattle.machine_defs.specs.States.{State};
 ghost use Rattle.vault_open.specs.Devices.{Devices};
 ghost use Rattle.vault.specs.Seen.{next_job_of, IsUnchanged};
@@ -19,11 +19,17 @@ const LARGEST_FILE: usize = 1 << 22;
 const MOST_FILES: usize = 1024;
 
 impl Vault {
-    /// Begins to put a file under a name. All that its steps work with is reserved here.
-    pub fn begin_put(&mut self, name: &[u8], bytes: Bytes) -> Result<u32, BeginFault>
+    /// Begins to put a file under a name, where it names none with the setup's profile; to name one takes the
+    /// journal's second version. All that its steps work with is reserved here.
+    pub fn begin_put(
+        &mut self,
+        name: &[u8],
+        bytes: Bytes,
+        profile: Option<u8>,
+    ) -> Result<u32, BeginFault>
         requires { next_job_of self.old < 2 ^ 32 - 1 }
         ensures machine { (w : State) (d : Devices) (moment : ℕ) → Stands self.old d w
-            → MakesBegin w moment (PutJob name.now bytes) result self.new d }
+            → MakesBegin w moment (PutJob name.now bytes) profile result self.new d }
         ensures unchanged { OnErr result (IsUnchanged self.old self.new) }
     {
         let name = self.desk.checked_name(name)?;
@@ -36,7 +42,7 @@ impl Vault {
         let wish = Wish::Put {
             name,
             length: length as u32,
-            profile: None,
+            profile,
         };
         let task = PutTask {
             bytes,
@@ -50,7 +56,7 @@ impl Vault {
     pub fn begin_get(&mut self, name: &[u8]) -> Result<u32, BeginFault>
         requires { next_job_of self.old < 2 ^ 32 - 1 }
         ensures machine { (w : State) (d : Devices) (moment : ℕ) → Stands self.old d w
-            → MakesBegin w moment (GetJob name.now) result self.new d }
+            → MakesBegin w moment (GetJob name.now) None result self.new d }
         ensures unchanged { OnErr result (IsUnchanged self.old self.new) }
     {
         let name = self.desk.checked_name(name)?;
@@ -70,7 +76,7 @@ impl Vault {
     pub fn begin_drop(&mut self, name: &[u8]) -> Result<u32, BeginFault>
         requires { next_job_of self.old < 2 ^ 32 - 1 }
         ensures machine { (w : State) (d : Devices) (moment : ℕ) → Stands self.old d w
-            → MakesBegin w moment (DropJob name.now) result self.new d }
+            → MakesBegin w moment (DropJob name.now) None result self.new d }
         ensures unchanged { OnErr result (IsUnchanged self.old self.new) }
     {
         let name = self.desk.checked_name(name)?;
@@ -81,7 +87,7 @@ impl Vault {
     pub fn begin_audit(&mut self) -> Result<u32, BeginFault>
         requires { next_job_of self.old < 2 ^ 32 - 1 }
         ensures machine { (w : State) (d : Devices) (moment : ℕ) → Stands self.old d w
-            → MakesBegin w moment AuditJob result self.new d }
+            → MakesBegin w moment AuditJob None result self.new d }
         ensures unchanged { OnErr result (IsUnchanged self.old self.new) }
     {
         let files = self.desk.core.table().count().min(MOST_FILES);
@@ -98,7 +104,7 @@ impl Vault {
     pub fn begin_repair(&mut self) -> Result<u32, BeginFault>
         requires { next_job_of self.old < 2 ^ 32 - 1 }
         ensures machine { (w : State) (d : Devices) (moment : ℕ) → Stands self.old d w
-            → MakesBegin w moment RepairJob result self.new d }
+            → MakesBegin w moment RepairJob None result self.new d }
         ensures unchanged { OnErr result (IsUnchanged self.old self.new) }
     {
         let bench = self.desk.bench_for(0, LARGEST_FILE as u32)?;
@@ -112,5 +118,15 @@ impl Vault {
                 Err(BeginFault::Memory)
             }
         }
+    }
+
+    /// Begins to bring the journal's second version into effect, which takes a vault with no other job.
+    pub fn begin_upgrade(&mut self) -> Result<u32, BeginFault>
+        requires { next_job_of self.old < 2 ^ 32 - 1 }
+        ensures machine { (w : State) (d : Devices) (moment : ℕ) → Stands self.old d w
+            → MakesBegin w moment UpgradeJob None result self.new d }
+        ensures unchanged { OnErr result (IsUnchanged self.old self.new) }
+    {
+        self.desk.admit(Wish::Upgrade, Task::Upgrade)
     }
 }

@@ -130,6 +130,7 @@ impl Task {
                 drop(repair);
                 quiet(Answer::Repaired { number })
             }
+            Task::Upgrade => quiet(Answer::Upgraded),
         }
     }
 }

@@ -52,6 +52,7 @@ pub enum Task {
     Drop,
     Audit(AuditTask),
     Repair(RepairTask),
+    Upgrade,
 }
 
 /// A running job and what it works with.

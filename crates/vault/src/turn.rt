@@ -24,6 +24,8 @@ pub enum Answer {
     Repaired {
         number: u64,
     },
+    /// The journal has its second version.
+    Upgraded,
     /// The lowest row of a stripe that is not accepted.
     Lost {
         stripe: u32,
