@@ -355,7 +355,8 @@ impl Record {
         ensures { result ≡ is_held (entry_of self.now) }
     {
         match self {
-            Record::Resume { .. } | Record::File { .. } | Record::Due { .. } => HOLDS_PACKED_RECORDS,
+            Record::Resume { .. } | Record::File { .. } | Record::Due { .. } =>
+                HOLDS_PACKED_RECORDS,
             _ => true,
         }
     }

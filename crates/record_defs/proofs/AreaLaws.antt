@@ -1,13 +1,11 @@
 -- Texts in the two areas of a disk.
-use Rattle.std.specs.Prelude.{◌≡◌, ◌⊎◌, ℕ, suc, IsTrue, List, [], ◌∷◌, ◌++◌, length, take, drop}
-use Rattle.std.specs.List.{list_all}
-use Rattle.std.proofs.Common.{refl, sym, ap, ◌∙◌, arith, inl, inr, append_assoc, length-append, take-append-drop}
+use Rattle.std.specs.Prelude.{◌≡◌, ◌⊎◌, ℕ, suc, List, [], ◌∷◌, ◌++◌, length, take, drop}
+use Rattle.std.proofs.Common.{refl, sym, ap, ◌∙◌, arith, inl, inr, append_assoc, take-append-drop}
 use Rattle.std.proofs.lemmas.List.{drop-drop}
-use Rattle.record_defs.specs.Records.{Record, is_in_grammar}
+use Rattle.record_defs.specs.Records.{Record}
 use Rattle.record_defs.specs.Spellings.{spelling}
 use Rattle.record_defs.specs.Journal.{magic, before_gate, text_size, StandsFor}
-use Rattle.record_defs.specs.Areas.{Area, A, B, other_area, base_of, magic_front, area_of, entries, entries_size, end_in, HoldsIn, StandsActive}
-use Rattle.record_defs.proofs.Sizes.{length-spelling}
+use Rattle.record_defs.specs.Areas.{Area, A, B, other_area, base_of, magic_front, area_of, entries, end_in, HoldsIn, StandsActive}
 
 -- what stands before the closing gate is the magic and then the entries
 pub before_gate-entries : (rs : List Record) → before_gate rs ≡ magic ++ entries rs

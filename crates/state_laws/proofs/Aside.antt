@@ -26,7 +26,7 @@ use Rattle.state_laws.specs.Follows.{AreHeld}
 use Rattle.state_laws.specs.Sound.{IsDoubtOf, starts_left, IsSoundJournal, IsSwitchable, IsSound}
 use Rattle.state_laws.proofs.NamesTaken.{taken_by, length-names_in}
 use Rattle.state_laws.proofs.Records.{AreSpelled, version-either}
-use Rattle.state_laws.proofs.Packs.{journal-same, journal-second, journal-packed, switched-room}
+use Rattle.state_laws.proofs.Packs.{journal-same, journal-packed, switched-room}
 use Rattle.state_laws.proofs.Begun.{none-applies}
 
 -- what a begin and a step of what runs alone leave
@@ -106,7 +106,7 @@ module _ (limit : ℕ) (old : State) (S : IsSound limit old) (opened : old.is_op
   calm : (new : State) → IsBeside old new → new.journal ≡ old.journal → new.area ≡ old.area →
       new.is_switching ≡ old.is_switching → old.is_switching ≡ false →
       ((p : Pack) → new.alone ≡ Some (Packing p) → version_of old.records ≡ 2) → IsSound limit new
-  calm new B ej ea es still packing = beside-sound new B (journal-same old new B.records ej ea es S.journal)
+  calm new B ej ea es still packing = beside-sound new B (journal-same old new B.records ej ea S.journal)
       (same-room new ej ea) packing (λ e. absurd (false≢true (sym (es ∙ still) ∙ e)))
 
   -- the byte that names the area is in doubt only after the third move of a pack
@@ -217,7 +217,7 @@ module _ (limit : ℕ) (old : State) (S : IsSound limit old) (opened : old.is_op
         (ap (λ (w : State). w.is_switching) is) (still-at (λ e. omega (arith, e, at))) (λ p e. second)
     packs (suc (suc zero)) More new at B (faults, low, is) =
         (let ej = ap (λ (w : State). w.journal) is in
-        beside-sound new B (journal-second old new B.records ej second S.journal)
+        beside-sound new B (journal-same old new B.records ej (ap (λ (w : State). w.area) is) S.journal)
         (same-room new ej (ap (λ (w : State). w.area) is)) (λ p e. second)
         (λ e. switchable new B
         (λ o b. (
@@ -227,7 +227,7 @@ module _ (limit : ℕ) (old : State) (S : IsSound limit old) (opened : old.is_op
         ))))
     packs (suc (suc zero)) (Ended answer.DiskFault) new at B (faults, low, rose, is) =
         (let ej = ap (λ (w : State). w.journal) is in
-        beside-sound new B (journal-second old new B.records ej second S.journal)
+        beside-sound new B (journal-same old new B.records ej (ap (λ (w : State). w.area) is) S.journal)
         (same-room new ej (ap (λ (w : State). w.area) is)) (λ p e. second)
         (λ e. switchable new B (λ o b. absurd (false≢true (sym b ∙ ap (λ (w : State). w.is_barred) is)))))
     packs (suc (suc zero)) (Ended answer.Memory) new at B (faults, low, is) =
@@ -243,7 +243,7 @@ module _ (limit : ℕ) (old : State) (S : IsSound limit old) (opened : old.is_op
         (λ p e. second) (λ e. absurd (false≢true (sym (ap (λ (w : State). w.is_switching) is) ∙ e))))
     packs (suc (suc (suc zero))) (Ended answer.DiskFault) new at B (faults, low, rose, is) =
         (let ej = ap (λ (w : State). w.journal) is in
-        beside-sound new B (journal-second old new B.records ej second S.journal)
+        beside-sound new B (journal-same old new B.records ej (ap (λ (w : State). w.area) is) S.journal)
         (same-room new ej (ap (λ (w : State). w.area) is)) (λ p e. second)
         (λ e. switchable new B (λ o b. absurd (false≢true (sym b ∙ ap (λ (w : State). w.is_barred) is)))))
     packs (suc (suc (suc (suc zero)))) (Ended (answer.Packed before after)) new at B (b, a, is) =

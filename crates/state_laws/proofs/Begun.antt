@@ -468,7 +468,7 @@ module _ (limit moment : ℕ) (old : State) (S : IsSound limit old) (kind : Kind
   begun-job fits = record {
     accepted = S.accepted;
     spelled = S.spelled;
-    journal = journal-same old begun_state refl refl refl refl S.journal;
+    journal = journal-same old begun_state refl refl refl S.journal;
     room = added-room;
     files = S.files;
     names = added-names;

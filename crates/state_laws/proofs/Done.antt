@@ -645,7 +645,7 @@ module _ (limit : ℕ) (old : State) (S : IsSound limit old) (job : Job)
   done-sound = record {
     accepted = accepted;
     spelled = spelled-more a.entry old.records (S.append a flight).follows.spelled S.spelled;
-    journal = journal-brought old new a.entry refl refl refl refl (S.append a flight).follows.spelled
+    journal = journal-brought old new a.entry refl refl refl (S.append a flight).follows.spelled
         (S.append a flight).follows.in_journal S.journal;
     room = (let e = ap (λ t. sum_by (reserved (version_of rs_now) t) (with_job old.jobs after)) setup-stays in
         let r = done-room in let d = done-reserved in omega (arith, e, r, d));

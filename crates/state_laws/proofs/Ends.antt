@@ -58,7 +58,7 @@ module _ (limit : ℕ) (old : State) (S : IsSound limit old) (job : Job)
   ended-sound flight doubt barred others append bars undoubted doubts = record {
     accepted = S.accepted;
     spelled = S.spelled;
-    journal = journal-same old (left_by old job flight doubt barred) refl refl refl refl S.journal;
+    journal = journal-same old (left_by old job flight doubt barred) refl refl refl S.journal;
     room = (let a = sum-without (reserved (version_of old.records) (setup_in old)) old.jobs job.number job
         runs in let c = S.room in omega (arith, a, c));
     files = S.files;

@@ -41,7 +41,7 @@ unfolding setup_in
 devices-sound limit w providers faults S = record {
   accepted = S.accepted;
   spelled = S.spelled;
-  journal = journal-same w (record w { providers = providers; disk_faults = faults }) refl refl refl refl
+  journal = journal-same w (record w { providers = providers; disk_faults = faults }) refl refl refl
       S.journal;
   room = S.room;
   files = S.files;

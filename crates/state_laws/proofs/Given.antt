@@ -1,10 +1,11 @@
 -- What sound states give: their setup, their files, and the next actions of their jobs.
 use Rattle.std.proofs.Common.{◌≡◌, ℕ, ◌-◌, ◌<◌, ◌≤◌, ◌^◌, true, false, Some, refl, ap, sym, ◌∙◌, inl, inr, arith}
 use Rattle.std.specs.Prelude.{IsTrue, nat_lt, slice_get}
+use Rattle.std.specs.List.{list_all}
 use Rattle.std.proofs.lemmas.Bool.{cases_Bool, and_parts, ltb-true}
 use Rattle.hail_field.specs.Shape.{IsShape}
-use Rattle.record_defs.specs.Records.{Setup, SetUp, is_setup, is_master, is_in_grammar}
-use Rattle.record_defs.specs.Table.{version_of, next_id, next_audit}
+use Rattle.record_defs.specs.Records.{Setup, SetUp, is_setup, is_master, is_appended, is_in_grammar}
+use Rattle.record_defs.specs.Table.{next_id, next_audit}
 use Rattle.machine_defs.specs.Jobs.{Kind, PutJob, GetJob, DropJob, AuditJob, RepairJob, UpgradeJob, aim_of, Job, job_of}
 use Rattle.machine_defs.specs.Actions.{Action, End, actions_of, actions_left}
 use Rattle.machine_defs.specs.Appends.{IsAt}
@@ -25,29 +26,29 @@ valid-shape s h = let good : is_setup s ≡ true =
     (and_parts (is_setup s) (is_master s.master) h).0 in grind (arith, good)
 
 module _ (limit : ℕ) (w : State) (S : IsSound limit w) where
-  -- until the second version no begin is refused for want of numbers
-  pub numbers-left : (kind : Kind) → version_of w.records ≡ 1 →
+  -- while nothing is packed no begin is refused for want of numbers
+  pub numbers-left : (kind : Kind) → IsTrue (list_all is_appended w.journal) →
       are_numbers_used_up (sight_of w) (aim_of kind) ≡ false
-  numbers-left (PutJob name bytes) first =
-      not-above (next_id w.records) (let a = ids-small limit w S first in omega (arith, a))
+  numbers-left (PutJob name bytes) appended =
+      not-above (next_id w.records) (let a = ids-small limit w S appended in omega (arith, a))
     where
       not-above : (n : ℕ) → n ≤ 2 ^ 64 - 32 → nat_lt (2 ^ 64 - 32) n ≡ false
       not-above n l = elim (cases_Bool (nat_lt (2 ^ 64 - 32) n)) [
         | inl t ↦ absurd (let a = ltb-true (2 ^ 64 - 32) n t in omega (arith, a, l))
         | inr f ↦ f
       ]
-  numbers-left AuditJob first =
-      not-above (next_audit w.records) (let a = audits-small limit w S first in omega (arith, a))
+  numbers-left AuditJob appended =
+      not-above (next_audit w.records) (let a = audits-small limit w S appended in omega (arith, a))
     where
       not-above : (n : ℕ) → n ≤ 2 ^ 64 - 32 → nat_lt (2 ^ 64 - 32) n ≡ false
       not-above n l = elim (cases_Bool (nat_lt (2 ^ 64 - 32) n)) [
         | inl t ↦ absurd (let a = ltb-true (2 ^ 64 - 32) n t in omega (arith, a, l))
         | inr f ↦ f
       ]
-  numbers-left (GetJob name) first = refl
-  numbers-left (DropJob name) first = refl
-  numbers-left RepairJob first = refl
-  numbers-left UpgradeJob first = refl
+  numbers-left (GetJob name) appended = refl
+  numbers-left (DropJob name) appended = refl
+  numbers-left RepairJob appended = refl
+  numbers-left UpgradeJob appended = refl
 
   -- a job that runs has a next action
   pub next-some : (number : ℕ) (job : Job) → job_of w.jobs number ≡ Some job →

@@ -1,12 +1,13 @@
 -- The journal that a pack writes has a spelling and fits in either area; and what links a journal to its
 -- history goes on with one record more.
-use Rattle.std.proofs.Common.{◌≡◌, ℕ, ◌+◌, ◌*◌, ◌^◌, ◌<◌, ◌≤◌, ◌==◌, true, false, cond, ◌&&◌, List, [], ◌∷◌, length, Option, Some, None, refl, ap, sym, subst, ◌∙◌, inl, inr, arith}
+use Rattle.std.proofs.Common.{◌≡◌, ℕ, ◌+◌, ◌*◌, ◌^◌, ◌<◌, ◌≤◌, ◌==◌, true, cond, ◌&&◌, List, [], ◌∷◌, length, Option, Some, None, refl, ap, sym, subst, ◌∙◌, inl, inr, arith}
 use Rattle.std.specs.Prelude.{is_some, not, IsTrue, nat_lt, nat_le}
-use Rattle.std.proofs.lemmas.Bool.{cases_Bool, and_from, lt-ltb}
+use Rattle.std.specs.List.{list_all}
+use Rattle.std.proofs.lemmas.Bool.{cases_Bool, false≢true, and_from, lt-ltb}
 use Rattle.std.proofs.lemmas.Bool.Decides.{nat_tests}
 use Rattle.algebra_laws.specs.Lists.{In}
 use Rattle.algebra_laws.proofs.Options.{some-not-none}
-use Rattle.record_defs.specs.Records.{Setup, Record, SetUp, PutStart, PutDone, Drop, AuditStart, AuditDone, RepairDone, PutDoneIn, Version, Resume, InEffect, RepairDue, is_name, is_spelled, largest_file, largest_journal, most_files, all_profiles}
+use Rattle.record_defs.specs.Records.{Setup, Record, SetUp, PutStart, PutDone, Drop, AuditStart, AuditDone, RepairDone, PutDoneIn, Version, Resume, InEffect, RepairDue, is_name, is_appended, is_spelled, largest_file, largest_journal, most_files, all_profiles}
 use Rattle.record_defs.specs.Table.{File, Due, setup_of, version_of, next_id, next_audit, started_as, with_put, file_of, files_of, find_file, due_of}
 use Rattle.record_defs.specs.Acceptance as no
 use Rattle.record_defs.specs.Acceptance.{refused, put_done_refused, is_crowded, AreAccepted}
@@ -20,7 +21,7 @@ use Rattle.machine_defs.proofs.Journals.{StartsAlike, alike-more, packed-alike}
 use Rattle.machine_defs.proofs.RecordFacts.{listed_file}
 use Rattle.machine_defs.proofs.JobLists.{cond_true, cond_false, same_value}
 use Rattle.state_laws.specs.Sound.{IsWholeJournal, IsSoundJournal}
-use Rattle.state_laws.proofs.Records.{is_some-at, AreSpelled, spelled-more, IsFit, file-spelled, due-spelled, setup-spelled, second-set_up, sound-accepted, version-before}
+use Rattle.state_laws.proofs.Records.{is_some-at, AreSpelled, spelled-more, IsFit, file-spelled, due-spelled, setup-spelled, second-set_up, sound-accepted, AreAppended, appended-first, appended-rest}
 
 -- ---- the packed journal is spelled
 
@@ -214,55 +215,54 @@ started-any rs qs (RepairDue number counts) f k name h = f k name h
 -- ---- what a state has of both
 
 -- a state with the same records, journal and area
-pub journal-kept : (old new : State) → new.records ≡ old.records → new.journal ≡ old.journal →
-    new.area ≡ old.area → (old.is_switching ≡ false → new.is_switching ≡ false) → IsSoundJournal old →
-    IsSoundJournal new
-journal-kept old new er ej ea es J = record {
-  accepted = subst AreAccepted (sym ej) J.accepted;
-  spelled = subst AreSpelled (sym ej) J.spelled;
-  alike = subst (λ l. AreAlike l new.records) (sym ej) (subst (λ l. AreAlike old.journal l) (sym er) J.alike);
-  started = λ id name h. ap (λ l. started_as l id) er
-      ∙ J.started id name (sym (ap (λ l. started_as l id) ej) ∙ h);
-  whole = λ v. (let W = J.whole (sym (ap version_of er) ∙ v) in
-      record { journal = ej ∙ (W.journal ∙ sym er); area = ea ∙ W.area; unswitched = es W.unswitched });
-}
-
--- a state with the same records, journal, area and byte that names it has a sound journal too
 pub journal-same : (old new : State) → new.records ≡ old.records → new.journal ≡ old.journal →
-    new.area ≡ old.area → new.is_switching ≡ old.is_switching → IsSoundJournal old → IsSoundJournal new
-journal-same old new er ej ea es J = journal-kept old new er ej ea (λ f. es ∙ f) J
-
--- the same of the second version, wherever the disk holds it
-pub journal-second : (old new : State) → new.records ≡ old.records → new.journal ≡ old.journal →
-    version_of old.records ≡ 2 → IsSoundJournal old → IsSoundJournal new
-journal-second old new er ej second J = record {
+    new.area ≡ old.area → IsSoundJournal old → IsSoundJournal new
+journal-same old new er ej ea J = record {
   accepted = subst AreAccepted (sym ej) J.accepted;
   spelled = subst AreSpelled (sym ej) J.spelled;
   alike = subst (λ l. AreAlike l new.records) (sym ej) (subst (λ l. AreAlike old.journal l) (sym er) J.alike);
   started = λ id name h. ap (λ l. started_as l id) er
       ∙ J.started id name (sym (ap (λ l. started_as l id) ej) ∙ h);
-  whole = λ v. absurd (let e = ap version_of er in omega (arith, v, e, second));
+  whole = λ v. (let W = J.whole (sym (ap (list_all is_appended) ej) ∙ v) in
+      record { journal = ej ∙ (W.journal ∙ sym er); area = ea ∙ W.area });
 }
 
 -- one more record on both
 pub journal-brought : (old new : State) (r : Record) → new.records ≡ r ∷ old.records →
-    new.journal ≡ r ∷ old.journal → new.area ≡ old.area → new.is_switching ≡ old.is_switching →
-    IsTrue (is_spelled r) → refused old.journal r ≡ None → IsSoundJournal old → IsSoundJournal new
-journal-brought old new r er ej ea es g a J = record {
+    new.journal ≡ r ∷ old.journal → new.area ≡ old.area → IsTrue (is_spelled r) →
+    refused old.journal r ≡ None → IsSoundJournal old → IsSoundJournal new
+journal-brought old new r er ej ea g a J = record {
   accepted = subst AreAccepted (sym ej) (a, J.accepted);
   spelled = subst AreSpelled (sym ej) (spelled-more r old.journal g J.spelled);
   alike = subst (λ l. AreAlike l new.records) (sym ej) (subst (λ l. AreAlike (r ∷ old.journal) l) (sym er)
       (alike-any old.journal old.records r (starts-alike old.journal old.records r a J.started) J.alike));
   started = λ id name h. ap (λ l. started_as l id) er
       ∙ started-any old.journal old.records r J.started id name (sym (ap (λ l. started_as l id) ej) ∙ h);
-  whole = λ v. (let W = J.whole (version-before r old.records (sym (ap version_of er) ∙ v)) in
-      record {
-        journal = ej ∙ (ap (λ l. r ∷ l) W.journal ∙ sym er);
-        area = ea ∙ W.area;
-        unswitched = es
-            ∙ W.unswitched;
-      });
+  whole = λ v. (let W = J.whole (appended-rest r old.journal (sym (ap (list_all is_appended) ej) ∙ v)) in
+      record { journal = ej ∙ (ap (λ l. r ∷ l) W.journal ∙ sym er); area = ea ∙ W.area });
 }
+
+-- with files on top of records that are not all appended there are such still
+files-not-appended : (fs : List File) (rs : List Record) → (AreAppended rs → ⊥) →
+    AreAppended (with_files fs rs) → ⊥
+files-not-appended [] rs none h = none h
+files-not-appended (f ∷ fs) rs none h =
+    files-not-appended fs (as_record f ∷ rs) (λ a. none (appended-rest (as_record f) rs a)) h
+
+due-not-appended : (due : Option Due) (rs : List Record) → (AreAppended rs → ⊥) →
+    AreAppended (with_due due rs) → ⊥
+due-not-appended None rs none h = none h
+due-not-appended (Some due) rs none h = none (appended-rest (RepairDue due.number due.counts) rs h)
+
+-- a packed journal has a record that no job appends
+pub packed-not-appended : (rs : List Record) → AreAppended (packed rs) → ⊥
+packed-not-appended rs = due-not-appended (due_of rs) (with_files (files_of rs) lowest)
+    (files-not-appended (files_of rs) lowest
+    (λ a. false≢true (appended-first (Resume (next_id rs) (next_audit rs))
+    (Version ∷ with_setup (setup_of rs)) a)))
+  where
+    lowest : List Record
+    lowest = Resume (next_id rs) (next_audit rs) ∷ Version ∷ with_setup (setup_of rs)
 
 -- the packed journal in place of that of the second version
 pub journal-packed : (old new : State) → new.records ≡ old.records → new.journal ≡ packed old.journal →
@@ -278,7 +278,7 @@ journal-packed old new er ej second J =
           (packed-alike old.journal old.records s.0 J.accepted s.1 second_too J.alike));
       started = λ id name h. absurd
           (some-not-none _ name h (ap (λ l. started_as l id) ej ∙ (packed_is_idle old.journal).0 id));
-      whole = λ v. absurd (let e = ap version_of er in omega (arith, v, e, second));
+      whole = λ v. absurd (packed-not-appended old.journal (sym (ap (list_all is_appended) ej) ∙ v));
     })
 
 -- a disk that holds the whole history
@@ -290,7 +290,7 @@ journal-whole w W a g = record {
   alike = subst (λ l. AreAlike l w.records) (sym W.journal)
       (record { setup = refl; version = refl; id = refl; audit = refl; files = refl; due = refl });
   started = λ id name h. ap (λ l. started_as l id) (sym W.journal) ∙ h;
-  whole = λ v. W;
+  whole = λ v. record { journal = W.journal; area = W.area };
 }
 
 -- what a disk may hold that is read again fits in its area

@@ -5,12 +5,12 @@ use Rattle.std.specs.List.{list_all}
 use Rattle.std.proofs.lemmas.Bool.{cases_Bool, false≢true, and_parts, and_from}
 use Rattle.std.proofs.lemmas.Bool.Decides.{nat_tests}
 use Rattle.algebra_laws.proofs.Options.{some-not-none}
-use Rattle.record_defs.specs.Records.{Setup, Record, SetUp, PutStart, PutDone, Drop, AuditStart, AuditDone, RepairDone, is_name, is_held, is_spelled, is_in_grammar, largest_file, all_profiles, PutDoneIn, Version, Resume, InEffect, RepairDue}
+use Rattle.record_defs.specs.Records.{Setup, Record, SetUp, PutStart, PutDone, Drop, AuditStart, AuditDone, RepairDone, is_name, is_appended, is_spelled, is_in_grammar, largest_file, all_profiles, PutDoneIn, Version, Resume, InEffect, RepairDue}
 use Rattle.record_defs.specs.Journal.{text_size}
 use Rattle.record_defs.specs.Table.{File, Due, file_as, profile_in, setup_of, version_of, next_id, next_audit, started_as, is_same_name, is_start_of, file_of, due_of, exceeds}
 use Rattle.record_defs.specs.Acceptance as no
 use Rattle.record_defs.proofs.FilesLaws.{same-eq}
-use Rattle.record_defs.proofs.Grammar.{grammar-spelled, grammar-from}
+use Rattle.record_defs.proofs.Grammar.{grammar-spelled}
 use Rattle.record_defs.specs.Acceptance.{refused, AreAccepted, Refused}
 use Rattle.record_defs.proofs.SoundLaws.{are_sound, next_id-more}
 use Rattle.machine_defs.specs.Events.{AreBytes}
@@ -57,26 +57,65 @@ all-spelled [] g = refl
 all-spelled (r ∷ rs) g =
     spelled-more r rs (grammar-spelled r (grammar-first r rs g)) (all-spelled rs (grammar-rest r rs g))
 
--- records in the grammar are of the first version
-version-more : (r : Record) (rs : List Record) → IsTrue (is_in_grammar r) →
-    version_of (r ∷ rs) ≡ version_of rs
-version-more (SetUp s) rs g = refl
-version-more (PutStart id name) rs g = refl
-version-more (PutDone id size) rs g = refl
-version-more (Drop name) rs g = refl
-version-more (AuditStart number) rs g = refl
-version-more (AuditDone number undecided counts) rs g = refl
-version-more (RepairDone number) rs g = refl
-version-more (PutDoneIn id size profile) rs g = refl
-version-more Version rs g = absurd (false≢true g)
-version-more (Resume next audit) rs g = refl
-version-more (InEffect id size profile kept) rs g = refl
-version-more (RepairDue number counts) rs g = refl
+-- each record is one that a job appends
+abbrev pub AreAppended : List Record → Type 0
+AreAppended rs = IsTrue (list_all is_appended rs)
 
--- a journal in the grammar of today has its first version
-pub version-first : (rs : List Record) → AreInGrammar rs → version_of rs ≡ 1
-version-first [] g = refl
-version-first (r ∷ rs) g = version-more r rs (grammar-first r rs g) ∙ version-first rs (grammar-rest r rs g)
+-- of such records the newest is one
+pub appended-first : (r : Record) (rs : List Record) → AreAppended (r ∷ rs) → IsTrue (is_appended r)
+appended-first r rs h = (and_parts (is_appended r) (list_all is_appended rs) h).0
+
+-- of such records those before the newest are such too
+pub appended-rest : (r : Record) (rs : List Record) → AreAppended (r ∷ rs) → AreAppended rs
+appended-rest r rs h = (and_parts (is_appended r) (list_all is_appended rs) h).1
+
+-- such records, and one more of them
+pub appended-more : (r : Record) (rs : List Record) → IsTrue (is_appended r) → AreAppended rs →
+    AreAppended (r ∷ rs)
+appended-more r rs g h = and_from (is_appended r) (list_all is_appended rs) g h
+
+-- what a journal may hold today is appended
+pub grammar-appended : (r : Record) → IsTrue (is_in_grammar r) → IsTrue (is_appended r)
+grammar-appended (SetUp s) g = refl
+grammar-appended (PutStart id name) g = refl
+grammar-appended (PutDone id size) g = refl
+grammar-appended (Drop name) g = refl
+grammar-appended (AuditStart number) g = refl
+grammar-appended (AuditDone number undecided counts) g = refl
+grammar-appended (RepairDone number) g = refl
+grammar-appended (PutDoneIn id size profile) g = refl
+grammar-appended Version g = refl
+grammar-appended (Resume id audit) g = g
+grammar-appended (InEffect id size profile name) g = g
+grammar-appended (RepairDue number counts) g = g
+
+-- so it is with all records of a journal of today
+pub all-appended : (rs : List Record) → AreInGrammar rs → AreAppended rs
+all-appended [] g = refl
+all-appended (r ∷ rs) g = appended-more r rs (grammar-appended r (grammar-first r rs g))
+    (all-appended rs (grammar-rest r rs g))
+
+-- an appended record that has a spelling is in the grammar
+pub appended-grammar : (r : Record) → IsTrue (is_appended r) → IsTrue (is_spelled r) → IsTrue (is_in_grammar r)
+appended-grammar (SetUp s) h g = g
+appended-grammar (PutStart id name) h g = g
+appended-grammar (PutDone id size) h g = g
+appended-grammar (Drop name) h g = g
+appended-grammar (AuditStart number) h g = g
+appended-grammar (AuditDone number undecided counts) h g = g
+appended-grammar (RepairDone number) h g = g
+appended-grammar (PutDoneIn id size profile) h g = g
+appended-grammar Version h g = g
+appended-grammar (Resume id audit) h g = h
+appended-grammar (InEffect id size profile name) h g = h
+appended-grammar (RepairDue number counts) h g = h
+
+-- appended records that have spellings are in the grammar
+pub all-grammar : (rs : List Record) → AreAppended rs → AreSpelled rs → AreInGrammar rs
+all-grammar [] h g = refl
+all-grammar (r ∷ rs) h g = and_from (is_in_grammar r) (list_all is_in_grammar rs)
+    (appended-grammar r (appended-first r rs h) (spelled-first r rs g))
+    (all-grammar rs (appended-rest r rs h) (spelled-rest r rs g))
 
 -- the first version now was so before
 pub version-before : (r : Record) (rs : List Record) → version_of (r ∷ rs) ≡ 1 → version_of rs ≡ 1
@@ -239,27 +278,26 @@ sound-accepted rs a =
 
 -- ---- records of the first version
 
-first-held : (r : Record) (rs : List Record) → version_of (r ∷ rs) ≡ 1 → refused rs r ≡ None →
-    IsTrue (is_held r)
-first-held (SetUp s) rs v h = refl
-first-held (PutStart id name) rs v h = refl
-first-held (PutDone id size) rs v h = refl
-first-held (Drop name) rs v h = refl
-first-held (AuditStart number) rs v h = refl
-first-held (AuditDone number undecided counts) rs v h = refl
-first-held (RepairDone number) rs v h = refl
-first-held (PutDoneIn id size profile) rs v h = absurd (grind (arith, nat_tests, v, h))
-first-held Version rs v h = absurd (omega (arith, v))
-first-held (Resume next audit) rs v h = absurd (grind (arith, nat_tests, v, h))
-first-held (InEffect id size profile kept) rs v h = absurd (grind (arith, nat_tests, v, h))
-first-held (RepairDue number counts) rs v h = absurd (grind (arith, nat_tests, v, h))
+first-appended-one : (r : Record) (rs : List Record) → version_of (r ∷ rs) ≡ 1 → refused rs r ≡ None →
+    IsTrue (is_appended r)
+first-appended-one (SetUp s) rs v h = refl
+first-appended-one (PutStart id name) rs v h = refl
+first-appended-one (PutDone id size) rs v h = refl
+first-appended-one (Drop name) rs v h = refl
+first-appended-one (AuditStart number) rs v h = refl
+first-appended-one (AuditDone number undecided counts) rs v h = refl
+first-appended-one (RepairDone number) rs v h = refl
+first-appended-one (PutDoneIn id size profile) rs v h = refl
+first-appended-one Version rs v h = refl
+first-appended-one (Resume next audit) rs v h = absurd (grind (arith, nat_tests, v, h))
+first-appended-one (InEffect id size profile kept) rs v h = absurd (grind (arith, nat_tests, v, h))
+first-appended-one (RepairDue number counts) rs v h = absurd (grind (arith, nat_tests, v, h))
 
--- accepted records of the first version are in the grammar of today
-pub first-grammar : (rs : List Record) → AreAccepted rs → AreSpelled rs → version_of rs ≡ 1 → AreInGrammar rs
-first-grammar [] a g v = refl
-first-grammar (r ∷ rs) a g v = and_from (is_in_grammar r) (list_all is_in_grammar rs)
-    (grammar-from r (first-held r rs v a.0) (spelled-first r rs g))
-    (first-grammar rs a.1 (spelled-rest r rs g) (version-before r rs v))
+-- accepted records of the first version are appended ones
+pub first-appended : (rs : List Record) → AreAccepted rs → version_of rs ≡ 1 → AreAppended rs
+first-appended [] a v = refl
+first-appended (r ∷ rs) a v = appended-more r rs (first-appended-one r rs v a.0)
+    (first-appended rs a.1 (version-before r rs v))
 
 -- records of the second version have a setup
 pub second-set_up : (rs : List Record) → AreAccepted rs → version_of rs ≡ 2 → is_some (setup_of rs) ≡ true
@@ -442,11 +480,12 @@ file-plain (r ∷ rs) name file a v h = elim (file-came r rs name file h) [
     | Came.done is started profile ↦ profile
         ∙ ap profile_in (sym (subst (λ x. setup_of (x ∷ rs) ≡ setup_of rs) (sym is) refl))
     | Came.done_in is started ↦
-        absurd (let k : IsTrue (is_held (PutDoneIn file.id file.size file.profile)) =
-        subst (λ x. IsTrue (is_held x)) is (first-held r rs v a.0) in false≢true k)
+        absurd (let e : refused rs (PutDoneIn file.id file.size file.profile) ≡ None =
+        sym (ap (refused rs) is) ∙ a.0 in
+        let k = version-before r rs v in grind (arith, nat_tests, e, k))
     | Came.brought is ↦ absurd
-        (let k : IsTrue (is_held (InEffect file.id file.size file.profile name)) =
-        subst (λ x. IsTrue (is_held x)) is (first-held r rs v a.0) in false≢true k)
+        (let k : IsTrue (is_appended (InEffect file.id file.size file.profile name)) =
+        subst (λ x. IsTrue (is_appended x)) is (first-appended-one r rs v a.0) in false≢true k)
   ]
 ]
   where

@@ -22,8 +22,8 @@ use Rattle.state_laws.specs.Orders.{AreNumbered}
 use Rattle.state_laws.specs.Follows.{AreHeld, MayFollow, MayFollowIn}
 use Rattle.state_laws.specs.Sound.{IsDoubtOf, IsIdle, starts_left, IsWholeJournal, IsSoundJournal, IsSwitchable, IsSound, IsAtRest}
 use Rattle.state_laws.proofs.NamesTaken.{taken_by, length-names_in}
-use Rattle.state_laws.proofs.Records.{AreSpelled, none-set_up, second-set_up, all-spelled, spelled-more, held-more}
-use Rattle.state_laws.proofs.Packs.{journal-kept, journal-same, journal-brought, journal-packed, journal-whole, switched-room}
+use Rattle.state_laws.proofs.Records.{AreSpelled, none-set_up, second-set_up, all-spelled, spelled-more, held-more, first-appended}
+use Rattle.state_laws.proofs.Packs.{journal-same, journal-brought, journal-packed, journal-whole, switched-room}
 
 -- what is kept of a state whatever runs: its records and its journal, with what may be in doubt
 pub record IsKept (w : State) : Type 0 where
@@ -44,7 +44,7 @@ kept-brought w v r er ej ea es eb none still m K = record {
   spelled = subst AreSpelled (sym er) (spelled-more r w.records m.spelled K.spelled);
   files = subst (λ b. AreHeld b v.records) (sym eb)
       (subst (AreHeld w.bytes) (sym er) (held-more w.bytes r w.records m.held K.files));
-  journal = journal-brought w v r er ej ea es m.spelled m.in_journal K.journal;
+  journal = journal-brought w v r er ej ea m.spelled m.in_journal K.journal;
   room = (let e = ap (λ area. end_in area v.journal) ea ∙ ap (end_in w.area) ej in let a = m.room in
       omega (arith, a, e));
   switching = λ e. absurd (still (sym es ∙ e));
@@ -59,7 +59,8 @@ setup-follows w s K none valid = record {
   accepted = cond_false (is_some (setup_of w.records)) _ _ none;
   in_journal = cond_false (is_some (setup_of w.journal)) _ _ (ap is_some K.journal.alike.setup ∙ none);
   room = (let empty = none-set_up w.records K.accepted none in
-      let W = K.journal.whole (ap version_of empty) in
+      let W = K.journal.whole (first-appended w.journal K.journal.accepted
+      (K.journal.alike.version ∙ ap version_of empty)) in
       let e : journal_end w ≡ end_in A [] = ap (λ area. end_in area w.journal) W.area
       ∙ ap (end_in A) (W.journal ∙ empty) in omega (arith, e));
   held = tt;
@@ -173,7 +174,7 @@ module _ (limit : ℕ) where
       accepted = subst AreAccepted (sym er) S.accepted;
       spelled = subst AreSpelled (sym er) S.spelled;
       files = subst (λ b. AreHeld b v.records) (sym eb) (subst (AreHeld old.bytes) (sym er) S.files);
-      journal = journal-same old v er ej ea es S.journal;
+      journal = journal-same old v er ej ea S.journal;
       room = (let e = ap (λ area. end_in area v.journal) ea ∙ ap (end_in old.area) ej in let a = S.room in
           omega (arith, a, e));
       switching = λ e. (let s = S.switching (sym es ∙ e) in
@@ -201,7 +202,7 @@ module _ (limit : ℕ) where
       accepted = S.accepted;
       spelled = S.spelled;
       files = S.files;
-      journal = journal-kept old (reread old journal area) refl ej ea (λ f. refl) S.journal;
+      journal = journal-same old (reread old journal area) refl ej ea S.journal;
       room = (let e = ap (λ a. end_in a journal) ea ∙ ap (end_in old.area) ej in let a = S.room in
           omega (arith, a, e));
       switching = λ e. absurd (false≢true e);
@@ -243,7 +244,7 @@ module _ (limit : ℕ) where
         accepted = K.accepted;
         spelled = K.spelled;
         files = K.files;
-        journal = journal-same left (record left { doubt = None }) refl refl refl refl K.journal;
+        journal = journal-same left (record left { doubt = None }) refl refl refl K.journal;
         room = K.room;
         switching = λ e. (let s = K.switching e in
             record { version = s.version; undoubted = refl; jobs = s.jobs; packing = s.packing });
@@ -268,7 +269,7 @@ module _ (limit : ℕ) where
       accepted = K.accepted;
       spelled = K.spelled;
       files = K.files;
-      journal = journal-same w (record w { disk_faults = faults }) refl refl refl refl K.journal;
+      journal = journal-same w (record w { disk_faults = faults }) refl refl refl K.journal;
       room = K.room;
       switching = λ e. (let s = K.switching e in
           record { version = s.version; undoubted = s.undoubted; jobs = s.jobs; packing = s.packing });
@@ -317,7 +318,7 @@ module _ (limit : ℕ) where
       accepted = K.accepted;
       spelled = K.spelled;
       files = K.files;
-      journal = journal-same mid (record mid { is_open = true; disk_faults = faults }) refl refl refl refl
+      journal = journal-same mid (record mid { is_open = true; disk_faults = faults }) refl refl refl
           K.journal;
       room = K.room;
       switching = λ e. absurd (false≢true (sym still ∙ e));
@@ -380,7 +381,7 @@ module _ (limit : ℕ) where
       accepted = S.accepted;
       spelled = S.spelled;
       files = S.files;
-      journal = journal-same old (record old { doubt = doubt; disk_faults = faults }) refl refl refl refl
+      journal = journal-same old (record old { doubt = doubt; disk_faults = faults }) refl refl refl
           S.journal;
       room = kept.room;
       switching = λ e. (let s = S.switching e in

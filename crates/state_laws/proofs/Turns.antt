@@ -216,7 +216,7 @@ module _ (limit : ℕ) (old : State) (S : IsSound limit old) (job : Job)
       record {
         accepted = S.accepted;
         spelled = S.spelled;
-        journal = journal-same old (gone_on old next flight doubt now began) refl refl refl refl S.journal;
+        journal = journal-same old (gone_on old next flight doubt now began) refl refl refl S.journal;
         room = (let a = sum-with (reserved (version_of old.records) (setup_in old)) old.jobs next job found in
             let b = room-same (version_of old.records) (setup_in old) job next kind count in let c = S.room in
             omega (arith, a, b, c));

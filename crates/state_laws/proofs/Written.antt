@@ -12,7 +12,7 @@ use Rattle.record_defs.specs.Table.{File, setup_of, version_of, profile_in, next
 use Rattle.record_defs.specs.Acceptance as no
 use Rattle.record_defs.specs.Acceptance.{refused, put_done_refused, is_crowded}
 use Rattle.record_defs.specs.Packed.{AreAlike}
-use Rattle.record_defs.specs.Areas.{A, end_in}
+use Rattle.record_defs.specs.Areas.{end_in}
 use Rattle.record_defs.proofs.FilesLaws.{same-eq, same-refl}
 use Rattle.record_defs.proofs.OrderLaws.{next_id-fits, next_audit-fits}
 use Rattle.record_defs.proofs.AreaLaws.{text_size-end}
@@ -33,11 +33,11 @@ use Rattle.machine_defs.proofs.JobLists.{cond_true, cond_false, found_none}
 use Rattle.state_laws.specs.Orders.{moves_made, IsInOrder}
 use Rattle.state_laws.specs.Follows.{IsHeld, BringsHeld, MayFollowIn}
 use Rattle.state_laws.specs.SoundJobs.{IsWish, IsReady, IsSoundJob, HasDrawn}
-use Rattle.state_laws.specs.Sound.{starts_left, IsWholeJournal, IsSound}
+use Rattle.state_laws.specs.Sound.{starts_left, IsUnpacked, IsSound}
 use Rattle.state_laws.proofs.Orders.{in_order-step, next-left, appends-cons, appends_in, appends-order, drop_rest, drop-body}
 use Rattle.state_laws.proofs.JobLists.{sum-member}
 use Rattle.state_laws.proofs.NamesTaken.{fewer, once-files, listed-files_of, listed-taken, length-names_in, are_put, puts_name, taken_by}
-use Rattle.state_laws.proofs.Records.{AreInGrammar, next_id-le, next_audit-le, first-grammar, setup-spelled, file-plain}
+use Rattle.state_laws.proofs.Records.{AreInGrammar, AreAppended, all-grammar, next_id-le, next_audit-le, first-appended, setup-spelled, file-plain}
 use Rattle.state_laws.proofs.Packs.{file-alike, crowded-alike}
 use Rattle.state_laws.proofs.SumsLaws.{AreSmall, sums-small}
 use Rattle.state_laws.proofs.Rooms.{room_of, room-step, put-writes_first, put-writes_later, audit-writes_first, audit-writes_later}
@@ -166,9 +166,9 @@ starts-on job next kind place = elim (cases_lt next.place 4) [
         by RepairJob e = rw (kind ∙ e, e) refl
         by UpgradeJob e = rw (kind ∙ e, e) refl
 
--- the end of a whole journal is that of the history's text
-pub whole-end : (w : State) → IsWholeJournal w → journal_end w ≡ text_size w.records
-whole-end w W = (λ i. end_in (W.area i) (W.journal i)) ∙ text_size-end w.records
+-- the end of an unpacked journal is that of the history's text
+pub unpacked-end : (w : State) → IsUnpacked w → journal_end w ≡ text_size w.records
+unpacked-end w W = (λ i. end_in (W.area i) (W.journal i)) ∙ text_size-end w.records
 
 module _ (limit : ℕ) (w : State) (S : IsSound limit w) where
   -- a job runs while a vault is open
@@ -444,35 +444,43 @@ module _ (limit : ℕ) (w : State) (S : IsSound limit w) where
           held = f.3;
         })
 
+  -- ---- while nothing in the journal is packed
+
+  module _ (appended : AreAppended w.journal) where
+    -- while nothing is packed the disk holds the whole history
+    pub unpacked-now : IsUnpacked w
+    unpacked-now = S.journal.whole appended
+
+    -- while nothing is packed each record is in the grammar of today
+    pub grammar-now : AreInGrammar w.records
+    grammar-now = all-grammar w.records
+        (subst (λ (rs : List Record). AreAppended rs) unpacked-now.journal appended) S.spelled
+
+    -- while nothing is packed the journal ends where the text of the history does
+    pub end-now : journal_end w ≡ text_size w.records
+    end-now = unpacked-end w unpacked-now
+
+    -- while nothing is packed the journal has room for all that running jobs have still to write
+    pub room-now : text_size w.records + sum_by (reserved (version_of w.records) (setup_in w)) w.jobs
+        ≤ largest_journal
+    room-now = (let r = S.room in let e = end-now in omega (arith, r, e))
+
+    -- while nothing is packed the next object number is at most the largest length of a journal
+    pub ids-small : next_id w.records ≤ largest_journal
+    ids-small = (let a = next_id-le w.records grammar-now in let b = room-now in omega (arith, a, b))
+
+    -- while nothing is packed the next audit number is at most the largest length of a journal
+    pub audits-small : next_audit w.records ≤ largest_journal
+    audits-small = (let a = next_audit-le w.records grammar-now in let b = room-now in omega (arith, a, b))
+
   -- ---- until the journal has its second version
 
   module _ (first : version_of w.records ≡ 1) where
-    -- until the second version the disk holds the whole history
-    pub whole-first : IsWholeJournal w
-    whole-first = S.journal.whole first
+    -- until the second version nothing in the journal is packed
+    pub first-journal : AreAppended w.journal
+    first-journal = first-appended w.journal S.journal.accepted (S.journal.alike.version ∙ first)
 
-    -- until the second version each record is in the grammar of today
-    pub grammar-now : AreInGrammar w.records
-    grammar-now = first-grammar w.records S.accepted S.spelled first
-
-    -- until the second version the journal ends where the text of the history does
-    pub end-first : journal_end w ≡ text_size w.records
-    end-first = whole-end w whole-first
-
-    -- until the second version the journal has room for all that running jobs have still to write
-    pub room-first : text_size w.records + sum_by (reserved 1 (setup_in w)) w.jobs ≤ largest_journal
-    room-first = (let r = S.room in let e = end-first in
-        let v = ap (λ n. sum_by (reserved n (setup_in w)) w.jobs) first in omega (arith, r, e, v))
-
-    -- until the second version the next object number is at most the largest length of a journal
-    pub ids-small : next_id w.records ≤ largest_journal
-    ids-small = (let a = next_id-le w.records grammar-now in let b = room-first in omega (arith, a, b))
-
-    -- until the second version the next audit number is at most the largest length of a journal
-    pub audits-small : next_audit w.records ≤ largest_journal
-    audits-small = (let a = next_audit-le w.records grammar-now in let b = room-first in omega (arith, a, b))
-
-    -- each file in effect has the setup's profile
+    -- until the second version each file in effect has the setup's profile
     pub file-first : (name : List ℕ) (file : File) → file_in w name ≡ Some file →
         file.profile ≡ (setup_in w).profile
     unfolding setup_in

@@ -11,7 +11,8 @@
 --   starts_left job          == how many object numbers a job has still to draw: 1 for a put whose first
 --                               append is not done
 --   IsLimit limit            == a limit of running jobs
---   IsWholeJournal w         == the disk holds the whole history, in area A
+--   IsUnpacked w             == what the disk holds is the whole history, in area A
+--   IsWholeJournal w         == the same, and the byte that names the area is not in doubt
 --   IsSoundJournal w         == the journal that the disk holds is accepted, and its table is that of the
 --                               history; with no packed record it is the whole history
 --   IsSwitchable w           == what holds while the byte that names the area may name the other one
@@ -79,7 +80,12 @@ starts_left job = by_kind job.kind
 abbrev pub IsLimit : ℕ → Type 0
 IsLimit limit = (1 ≤ limit) × (limit ≤ 31)
 
--- the disk holds the whole history, in area A
+-- what the disk holds is the whole history, in area A
+pub record IsUnpacked (w : State) : Type 0 where
+  pub journal : w.journal ≡ w.records
+  pub area : w.area ≡ A
+
+-- the disk holds the whole history, in area A, and the byte that names the area is not in doubt
 pub record IsWholeJournal (w : State) : Type 0 where
   pub journal : w.journal ≡ w.records
   pub area : w.area ≡ A
@@ -93,7 +99,7 @@ pub record IsSoundJournal (w : State) : Type 0 where
   pub alike : AreAlike w.journal w.records
   pub started : (id : ℕ) (name : List ℕ) → started_as w.journal id ≡ Some name
       → started_as w.records id ≡ Some name
-  pub whole : IsTrue (list_all is_appended w.journal) → IsWholeJournal w
+  pub whole : IsTrue (list_all is_appended w.journal) → IsUnpacked w
 
 -- while the byte that names the area may name the other one, the journal has its second version, nothing is
 -- in doubt and no job runs; where a vault goes on, it is a pack after its third move that does

@@ -3,7 +3,7 @@ ghost use Rattle.std.specs.Prelude.{◌≡◌, ℕ, ◌+◌, ◌^◌, ◌<◌, �
 ghost use Rattle.std.specs.List.{All, list_all};
 ghost use Rattle.hail_field.specs.Shape.{IsShape};
 ghost use Rattle.column_defs.specs.Verdicts.{Sums};
-ghost use Rattle.record_defs.specs.Records.{Record, Setup, SetUp, Version, Resume, is_name, is_in_grammar, record_size, largest_file, largest_journal, most_files};
+ghost use Rattle.record_defs.specs.Records.{Record, Setup, SetUp, Version, Resume, is_name, is_appended, is_in_grammar, record_size, largest_file, largest_journal, most_files};
 ghost use Rattle.record_defs.specs.Journal.{text_size};
 ghost use Rattle.record_defs.specs.Table.{File, setup_of, version_of, next_id, next_audit, files_of};
 ghost use Rattle.record_defs.specs.Acceptance.{AreAccepted};
@@ -25,7 +25,7 @@ ghost use Rattle.machine_defs.specs.Examples.{set_up};
 ghost use Rattle.state_laws.specs.Orders.{moves_before};
 ghost use Rattle.state_laws.specs.Follows.{MayFollowIn};
 ghost use Rattle.state_laws.specs.SoundJobs.{IsPlainJob};
-ghost use Rattle.state_laws.specs.Sound.{IsLimit, IsWholeJournal, IsSound, IsAtRest};
+ghost use Rattle.state_laws.specs.Sound.{IsLimit, IsUnpacked, IsSound, IsAtRest};
 
 /// A state before the first event is sound.
 pub fn start_is_sound()
@@ -75,17 +75,17 @@ pub fn files_are_fit()
     ensures few { (limit : ℕ) (w : State) → IsSound limit w → length (files_of w.records) ≤ most_files }
 {}
 
-/// The next object number and the next audit number fit 64 bits. Until a journal has its second version they
-/// are far from their end: no begin is refused for them.
+/// The next object number and the next audit number fit 64 bits. While no record of a journal is a packed one
+/// they are far from their end: no begin is refused for them.
 pub fn numbers_are_small()
     ensures objects { (limit : ℕ) (w : State) → IsSound limit w → next_id w.records < 2 ^ 64 }
     ensures audits { (limit : ℕ) (w : State) → IsSound limit w → next_audit w.records < 2 ^ 64 }
-    ensures first_objects { (limit : ℕ) (w : State) → IsSound limit w → version_of w.records ≡ 1
-        → next_id w.records ≤ largest_journal }
-    ensures first_audits { (limit : ℕ) (w : State) → IsSound limit w → version_of w.records ≡ 1
-        → next_audit w.records ≤ largest_journal }
-    ensures unused { (limit : ℕ) (w : State) (kind : Kind) → IsSound limit w → version_of w.records ≡ 1
-        → are_numbers_used_up (sight_of w) (aim_of kind) ≡ false }
+    ensures appended_objects { (limit : ℕ) (w : State) → IsSound limit w
+        → IsTrue (list_all is_appended w.journal) → next_id w.records ≤ largest_journal }
+    ensures appended_audits { (limit : ℕ) (w : State) → IsSound limit w
+        → IsTrue (list_all is_appended w.journal) → next_audit w.records ≤ largest_journal }
+    ensures unused { (limit : ℕ) (w : State) (kind : Kind) → IsSound limit w
+        → IsTrue (list_all is_appended w.journal) → are_numbers_used_up (sight_of w) (aim_of kind) ≡ false }
 {}
 
 /// A job that runs has a next action, and runs while a vault is open; a move of an append but the first is
@@ -134,23 +134,26 @@ pub fn journals_are_alike()
         → IsRun limit start ms → AreAlike (now start ms).journal (now start ms).records }
 {}
 
-/// Until a journal has its second version, the disk holds the whole history, in area A and with that text's
-/// end; each record may stand in a journal of today, and each job and each file that it works on has the
-/// setup's profile.
-pub fn first_journals_are_whole()
-    ensures whole { (limit : ℕ) (w : State) → IsSound limit w → version_of w.records ≡ 1
-        → IsWholeJournal w }
-    ensures end { (limit : ℕ) (w : State) → IsSound limit w → version_of w.records ≡ 1
+/// While no record of a journal is a packed one, the disk holds the whole history, in area A and with that
+/// text's end, and each record is in the grammar; and so it is with all that the grammar of today holds. Until
+/// the second version nothing is packed, and each job and each file that it works on has the setup's profile.
+pub fn unpacked_journals_are_whole()
+    ensures whole { (limit : ℕ) (w : State) → IsSound limit w → IsTrue (list_all is_appended w.journal)
+        → IsUnpacked w }
+    ensures end { (limit : ℕ) (w : State) → IsSound limit w → IsTrue (list_all is_appended w.journal)
         → journal_end w ≡ text_size w.records }
-    ensures in_grammar { (limit : ℕ) (w : State) → IsSound limit w → version_of w.records ≡ 1
+    ensures in_grammar { (limit : ℕ) (w : State) → IsSound limit w → IsTrue (list_all is_appended w.journal)
         → IsTrue (list_all is_in_grammar w.records) }
-    ensures room { (limit : ℕ) (w : State) → IsSound limit w → version_of w.records ≡ 1
-        → text_size w.records + sum_by (reserved 1 (setup_in w)) w.jobs ≤ largest_journal }
+    ensures room { (limit : ℕ) (w : State) → IsSound limit w → IsTrue (list_all is_appended w.journal)
+        → text_size w.records + sum_by (reserved (version_of w.records) (setup_in w)) w.jobs
+        ≤ largest_journal }
+    ensures held { (rs : List Record) → IsTrue (list_all is_in_grammar rs) → IsTrue (list_all is_appended rs) }
+    ensures first { (limit : ℕ) (w : State) → IsSound limit w → version_of w.records ≡ 1
+        → IsTrue (list_all is_appended w.journal) }
     ensures files { (limit : ℕ) (w : State) (name : List ℕ) (file : File) → IsSound limit w
         → version_of w.records ≡ 1 → file_in w name ≡ Some file → file.profile ≡ (setup_in w).profile }
     ensures jobs { (limit number : ℕ) (w : State) (job : Job) → IsSound limit w → version_of w.records ≡ 1
         → job_of w.jobs number ≡ Some job → IsPlainJob (setup_in w) job }
-    ensures held { (rs : List Record) → IsTrue (list_all is_in_grammar rs) → version_of rs ≡ 1 }
 {}
 
 /// An instance: a store that was set up is opened, gets its second version and is packed. In that run each
@@ -159,5 +162,6 @@ pub fn packed_run_is_sound()
     ensures run { (ms : List Moment) × IsRun 8 set_up ms × IsSound 8 (now set_up ms)
         × ((now set_up ms).records ≡ Version ∷ SetUp four ∷ [])
         × ((now set_up ms).journal ≡ Resume 1 1 ∷ Version ∷ SetUp four ∷ []) × ((now set_up ms).area ≡ B) }
-    ensures start { IsStart set_up × IsSound 8 set_up × (version_of set_up.records ≡ 1) }
+    ensures start { IsStart set_up × IsSound 8 set_up × (version_of set_up.records ≡ 1)
+        × IsTrue (list_all is_appended set_up.journal) }
 {}

@@ -8,11 +8,11 @@ returns-clause-objects c = ids-fit
 pub returns-clause-audits : goal.returns-clause-audits
 returns-clause-audits c = audits-fit
 
-pub returns-clause-first_objects : goal.returns-clause-first_objects
-returns-clause-first_objects c = ids-small
+pub returns-clause-appended_objects : goal.returns-clause-appended_objects
+returns-clause-appended_objects c = ids-small
 
-pub returns-clause-first_audits : goal.returns-clause-first_audits
-returns-clause-first_audits c = audits-small
+pub returns-clause-appended_audits : goal.returns-clause-appended_audits
+returns-clause-appended_audits c = audits-small
 
 pub returns-clause-unused : goal.returns-clause-unused
-returns-clause-unused c limit w kind S first = numbers-left limit w S kind first
+returns-clause-unused c limit w kind S appended = numbers-left limit w S kind appended

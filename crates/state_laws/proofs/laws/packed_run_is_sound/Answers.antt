@@ -9,4 +9,4 @@ returns-clause-run c =
     (moments, is_run, run-sound 8 set_up moments (omega arith, omega arith) starts is_run, refl, refl, refl)
 
 pub returns-clause-start : goal.returns-clause-start
-returns-clause-start c = (starts, run-sound 8 set_up [] (omega arith, omega arith) starts tt, refl)
+returns-clause-start c = (starts, run-sound 8 set_up [] (omega arith, omega arith) starts tt, refl, refl)
