@@ -13,7 +13,7 @@ use Rattle.device_defs.specs.Told.{Goes}
 use Rattle.device_defs.specs.Providers.{Provider}
 use Rattle.record_defs.specs.Records.{Setup, Record, SetUp, PutStart, PutDone, Drop, AuditStart, AuditDone, RepairDone, PutDoneIn, Version, Resume, InEffect, RepairDue, is_setup, is_in_grammar, largest_journal}
 use Rattle.record_defs.specs.Journal.{before_gate, text, text_size, StandsFor}
-use Rattle.record_defs.specs.Table.{setup_of, version_of}
+use Rattle.record_defs.specs.Table.{setup_of}
 use Rattle.record_defs.specs.Acceptance.{NoSetup, AreAccepted}
 use Rattle.machine_defs.specs.Events as events
 use Rattle.machine_defs.specs.Events.{Outcome, Init}
@@ -23,8 +23,9 @@ use Rattle.machine_defs.specs.Openings.{LeavesDoubt, Inits, InitsBy, InitsClosed
 use Rattle.machine_defs.specs.Machine.{Happens}
 use Rattle.journal_core.specs.Moves.{MayStandFor}
 use Rattle.journal_core.proofs.Meanings.{one_meaning, bad_is_none}
-use Rattle.state_laws.specs.Sound.{IsSound, IsWholeJournal}
-use Rattle.state_laws.proofs.Written.{whole-first, end-first}
+use Rattle.state_laws.specs.Sound.{IsSound, IsUnpacked}
+use Rattle.state_laws.proofs.Records.{AreAppended}
+use Rattle.state_laws.proofs.Written.{unpacked-now, end-now}
 use Rattle.vault_open.specs.declared.fault.InitFault.{InitFault}
 use Rattle.vault_open.specs.declared.fault.InitFault.TheVariants as init_fault
 use Rattle.vault_open.specs.Devices.{Devices, devices, AreDevices}
@@ -33,7 +34,7 @@ use Rattle.vault_open.specs.Causes.{IsInitFault, IsNoWrite}
 use Rattle.vault_open.specs.Inits.{MayInit, MakesInit}
 use Rattle.vault_open.specs.Faults.{init_answer}
 use Rattle.vault_open.specs.Preparing.{IsBlank, IsReadied, IsHalfReady}
-use Rattle.vault_open.proofs.FirstVersion.{ShowsFirst, FirstStands, shows-first, images-first, version-shown}
+use Rattle.vault_open.proofs.FirstVersion.{ShowsFirst, FirstStands, shows-first, images-first, appended-shown}
 use Rattle.vault_open.proofs.Texts.{short-none}
 use Rattle.device_defs.proofs.PickLaws.{IsImage-reads}
 use Rattle.device_defs.proofs.Lasting.{image-firm, each_image-mono}
@@ -149,18 +150,18 @@ module _ (w : State) (providers : List Provider) (old : Cells) (f0 : ℕ) (may :
   sound : IsSound 8 w
   sound = may.sound
 
-  -- the disk holds a journal of the first version
-  first : version_of w.records ≡ 1
-  first = version-shown 8 w (reads old) sound (are.images (reads old) (IsImage-reads old))
+  -- nothing in the journal of the disk is packed
+  appended : AreAppended w.journal
+  appended = appended-shown 8 w (reads old) sound (are.images (reads old) (IsImage-reads old))
 
-  whole_journal : IsWholeJournal w
-  whole_journal = whole-first 8 w sound first
+  unpacked : IsUnpacked w
+  unpacked = unpacked-now 8 w sound appended
 
   end_is : journal_end w ≡ text_size w.records
-  end_is = end-first 8 w sound first
+  end_is = end-now 8 w sound appended
 
   read : ShowsFirst w (reads old)
-  read = shows-first w (reads old) whole_journal (are.images (reads old) (IsImage-reads old))
+  read = shows-first w (reads old) unpacked (are.images (reads old) (IsImage-reads old))
 
   -- a disk that has no record stands for none
   free-read : length (reads old) ≤ 9 ⊎ StandsFor (journal_read old) [] → ShowsFirst w (reads old) →
@@ -196,11 +197,10 @@ module _ (s : Setup) (w : State) (moment : ℕ) (providers : List Provider) (old
     (may : MayInit w (Some old)) (are : AreDevices (devices (Some old) f0 providers) w)
     (valid : is_setup s ≡ true)
     (new : Option Cells) (f1 : ℕ) (never : f0 ≤ f1) where
-  whole-at : (doubt : Option Doubt) → IsWholeJournal (left_at s w moment providers doubt f1)
+  whole-at : (doubt : Option Doubt) → IsUnpacked (left_at s w moment providers doubt f1)
   whole-at doubt = record {
-    journal = (whole_journal w providers old f0 may are).journal;
-    area = (whole_journal w providers old f0 may are).area;
-    unswitched = (whole_journal w providers old f0 may are).unswitched;
+    journal = (unpacked w providers old f0 may are).journal;
+    area = (unpacked w providers old f0 may are).area;
   }
 
   devices-at : (doubt : Option Doubt) → FirstStands new (left_at s w moment providers doubt f1) →
@@ -244,7 +244,7 @@ module _ (s : Setup) (w : State) (moment : ℕ) (providers : List Provider) (old
   still : EachImage new (IsImage old) → FirstStands new (left_at s w moment providers w.doubt f1)
   still = each_image-mono new (IsImage old) _
       (λ image is. same image
-      (shows-first w image (whole_journal w providers old f0 may are) (are.images image is)))
+      (shows-first w image (unpacked w providers old f0 may are) (are.images image is)))
     where
       same : (image : List ℕ) → ShowsFirst w image →
           ShowsFirst (left_at s w moment providers w.doubt f1) image
@@ -332,9 +332,8 @@ module _ (s : Setup) (w : State) (moment : ℕ) (providers : List Provider) (old
         devices = record {
           images = images-first (Some (synced old)) (left_at s w moment providers None f1)
               (record {
-                journal = (whole_journal w providers old f0 may are).journal;
-                area = (whole_journal w providers old f0 may are).area;
-                unswitched = (whole_journal w providers old f0 may are).unswitched;
+                journal = (unpacked w providers old f0 may are).journal;
+                area = (unpacked w providers old f0 may are).area;
               }) (only _ same);
           faults = refl;
           providers = record { count = are.providers.count; each = are.providers.each };
@@ -355,9 +354,8 @@ module _ (s : Setup) (w : State) (moment : ℕ) (providers : List Provider) (old
               (record (record (brought w d.doubt.entry) { doubt = None }) { disk_faults = f1 })
               (record {
                 journal = ap (λ (l : List Record). d.doubt.entry ∷ l)
-                    (whole_journal w providers old f0 may are).journal;
-                area = (whole_journal w providers old f0 may are).area;
-                unswitched = (whole_journal w providers old f0 may are).unswitched;
+                    (unpacked w providers old f0 may are).journal;
+                area = (unpacked w providers old f0 may are).area;
               }) (only _ same);
           faults = refl;
           providers = record { count = are.providers.count; each = are.providers.each };
@@ -410,9 +408,8 @@ module _ (s : Setup) (w : State) (moment : ℕ) (providers : List Provider) (old
           images = images-first (Some new) set_up_at
               (record {
                 journal = ap (λ (l : List Record). SetUp s ∷ l)
-                    (whole_journal w providers old f0 may are).journal;
-                area = (whole_journal w providers old f0 may are).area;
-                unswitched = (whole_journal w providers old f0 may are).unswitched;
+                    (unpacked w providers old f0 may are).journal;
+                area = (unpacked w providers old f0 may are).area;
               }) (shown none);
           faults = refl;
           providers = record { count = are.providers.count; each = are.providers.each };
