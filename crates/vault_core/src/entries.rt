@@ -11,7 +11,7 @@ use record_codec::{Counts, Record};
 pub fn put_done(version: u8, id: u64, length: u32, profile: u8) -> Record
     ensures value { entry_of result ≡ done_record version id length profile }
     ensures spelled { length ≤ 2 ^ 22 → IsTrue (nat_lt profile all_profiles) → HasSpelling result }
-    ensures in_grammar { length ≤ 2 ^ 22 → version ≡ 1 → IsInGrammar result }
+    ensures in_grammar { length ≤ 2 ^ 22 → IsTrue (nat_lt profile all_profiles) → IsInGrammar result }
 {
     if version == 2 {
         Record::PutDoneIn {
@@ -55,6 +55,7 @@ pub fn repair_done(number: u64) -> Record
 /// The record of an upgrade: from it on the journal has its second version.
 pub fn second_version() -> Record
     ensures value { entry_of result ≡ Version }
+    ensures in_grammar { IsInGrammar result }
     ensures spelled { HasSpelling result }
 {
     Record::Version

@@ -8,7 +8,6 @@ ghost use Rattle.vault_core.specs.Coming.{seen_action, action_next, entry_of_job
 ghost use Rattle.vault_core.specs.Rest.{call_of, rest_of};
 ghost use Rattle.vault_core.specs.Parts.{core_job, plan_kept, sums_kept, IsSet, IsSteady, IsJobKept, has_append};
 ghost use Rattle.vault_core.specs.Wished.{aim_of_wish};
-ghost use Rattle.machine_defs.specs.Sights.{is_upgrade};
 
 use crate::action::Action;
 use crate::cursor::{Cursor, Move, Spot};
@@ -128,8 +127,7 @@ impl Job {
         ensures there { has_append self.now.wish ≡ true → IsSome result }
         ensures spelled { (n : ℕ) → 4 ≤ n → n ≤ 16 → IsSet n self.now
             → IfSome result (λ entry. HasSpelling entry) }
-        ensures in_grammar { (n : ℕ) → 4 ≤ n → n ≤ 16 → IsSet n self.now → table.now.version ≡ 1
-            → is_upgrade (aim_of_wish self.now.wish) ≡ false
+        ensures in_grammar { (n : ℕ) → 4 ≤ n → n ≤ 16 → IsSet n self.now
             → IfSome result (λ entry. IsInGrammar entry) }
     {
         let first = self.appends == 2;
@@ -163,8 +161,7 @@ impl Job {
             → is_move (action_next s table.now (core_job self.now)) ≡ true → IsSome result }
         ensures spelled { (n : ℕ) → 4 ≤ n → n ≤ 16 → IsSet n self.now
             → IfSome result (λ entry. HasSpelling entry) }
-        ensures in_grammar { (n : ℕ) → 4 ≤ n → n ≤ 16 → IsSet n self.now → table.now.version ≡ 1
-            → is_upgrade (aim_of_wish self.now.wish) ≡ false
+        ensures in_grammar { (n : ℕ) → 4 ≤ n → n ≤ 16 → IsSet n self.now
             → IfSome result (λ entry. IsInGrammar entry) }
     {
         match self.action_over(table) {

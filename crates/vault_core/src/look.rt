@@ -12,7 +12,7 @@ ghost use Rattle.machine_defs.specs.Refusals.{first_refusal};
 ghost use Rattle.column_defs.specs.Verdicts.{Sums};
 ghost use Rattle.record_codec.specs.Entries.{entry_of, counted, HasSpelling, IsInGrammar, IsPadded};
 ghost use Rattle.vault_core.specs.View.{job_in, CoreJob};
-ghost use Rattle.vault_core.specs.Coming.{seen_next, waits_or_acts, next_in, left_in, entry_in, is_last_ask_of, is_upgrade_of, called_provider, calls_disk};
+ghost use Rattle.vault_core.specs.Coming.{seen_next, waits_or_acts, next_in, left_in, entry_in, is_last_ask_of, called_provider, calls_disk};
 ghost use Rattle.vault_core.specs.Reserves.{Reserves};
 ghost use Rattle.vault_core.specs.Parts.{core_job, IsJobKept};
 ghost use Rattle.vault_core.specs.Carried.{CoreIs, refusal_of, IsNextOf, IsEntryOf};
@@ -158,8 +158,7 @@ impl Core {
         ensures value { option_map entry_of result ≡ entry_in self.now job }
         ensures there { calls_disk (next_in self.now job) ≡ true → IsSome result }
         ensures spelled { IfSome result (λ entry. HasSpelling entry) }
-        ensures in_grammar { self.now.table.version ≡ 1 → is_upgrade_of (job_in self.now.jobs job) ≡ false
-            → IfSome result (λ entry. IsInGrammar entry) }
+        ensures in_grammar { IfSome result (λ entry. IsInGrammar entry) }
         ensures room { IfSome result (λ entry. self.now.end + (1 + record_size (entry_of entry)) ≤ 2 ^ 24) }
     {
         let running = self.find(job)?;
@@ -172,8 +171,7 @@ impl Core {
         ensures there { calls_disk (next_in self.now job) ≡ true → IsSome result }
         ensures machine { (w : State) → CoreIs self.now w → IsEntryOf w job (option_map entry_of result) }
         ensures spelled { IfSome result (λ entry. HasSpelling entry) }
-        ensures in_grammar { self.now.table.version ≡ 1 → is_upgrade_of (job_in self.now.jobs job) ≡ false
-            → IfSome result (λ entry. IsInGrammar entry) }
+        ensures in_grammar { IfSome result (λ entry. IsInGrammar entry) }
         ensures room { IfSome result (λ entry. self.now.end + (1 + record_size (entry_of entry)) ≤ 2 ^ 24) }
     {
         self.writing(job)

@@ -1,7 +1,7 @@
-use Rattle.std.proofs.Common.{◌≡◌, ◌∙◌, ap, true, subst, sym}
+use Rattle.std.proofs.Common.{◌≡◌, ap, true, subst, sym}
 use Rattle.vault_core.proofs.Fits.{writing_room}
 use Rattle.vault_core.proofs.own.Core.writing.Goals as goal
-use Rattle.vault_core.specs.Coming.{action_next, is_move, is_upgrade_of}
+use Rattle.vault_core.specs.Coming.{action_next, is_move}
 use Rattle.vault_core.specs.Parts.{core_job}
 use Rattle.vault_core.specs.View.{CoreView}
 use Rattle.vault_core.proofs.NextMoves.{moves-job}
@@ -28,7 +28,6 @@ returns-clause-spelled c = c.entry_over.ensures.spelled c.args.self.now.setup.n
     c.in_ok-running.ensures.kept.steady.stays
 
 pub returns-clause-in_grammar : goal.returns-clause-in_grammar
-returns-clause-in_grammar c = λ first plain. c.entry_over.ensures.in_grammar c.args.self.now.setup.n
+returns-clause-in_grammar c = c.entry_over.ensures.in_grammar c.args.self.now.setup.n
     c.in_ok-running.ensures.providers.0 c.in_ok-running.ensures.providers.1
-    c.in_ok-running.ensures.kept.steady.stays (ap (λ (v : CoreView). v.table.version) c.self.view_is ∙ first)
-    (ap is_upgrade_of c.in_ok-running.ensures.found ∙ plain)
+    c.in_ok-running.ensures.kept.steady.stays
