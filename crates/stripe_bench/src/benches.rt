@@ -1,0 +1,77 @@
+//! Benches for files of several shapes and profiles, one for each of these.
+ghost use Rattle.std.specs.Prelude.{◌≡◌, ◌++◌, ◌∷◌, [], ℕ, Some, IfSome, IfOk, OnOk, OnErr, map, slice_get};
+ghost use Rattle.column_defs.specs.Objects.{Object};
+ghost use Rattle.stripe_bench.specs.Bench.{bench_kind, file_kind};
+
+use crate::bench::Bench;
+use file_layout::FileShape;
+use hail_field::Memory;
+use key_schedule::Master;
+use std::alloc::Global;
+
+impl Bench {
+    ghost use Rattle.std.specs.Prelude.{◌≡◌};
+    ghost use Rattle.std.specs.Bool.{OnTrue};
+    ghost use Rattle.stripe_bench.specs.Bench.{bench_kind, file_kind};
+
+    /// The bench serves this file's object, once it is turned to its number.
+    fn fits(&self, master: &Master, file: &FileShape) -> bool
+        ensures { OnTrue result (bench_kind self.now ≡ file_kind master.now.0 file.now) }
+    {
+        self.keys.master == *master
+            && self.keys.file.shape == file.shape
+            && self.keys.file.profile == file.profile
+    }
+}
+
+/// The place of a bench that serves a file's object.
+fn place_of(benches: &[Bench], master: &Master, file: &FileShape) -> Option<usize>
+    ensures { IfSome result (λ place. slice_get (map bench_kind benches.now) place
+        ≡ Some (file_kind master.now.0 file.now)) }
+{
+    for place in 0..benches.len() {
+        if benches[place].fits(master, file) {
+            return Some(place);
+        }
+    }
+    None
+}
+
+/// Makes a bench that serves a file's object, and puts it behind the others.
+fn add_bench(
+    alloc: Global,
+    benches: &mut Vec<Bench>,
+    master: &Master,
+    file: &FileShape,
+) -> Result<(), Memory>
+    ensures ok { OnOk result (map bench_kind benches.new.items
+        ≡ map bench_kind benches.old.items ++ file_kind master.now.0 file.now ∷ []) }
+    ensures err { OnErr result (benches.new.items ≡ benches.old.items) }
+{
+    benches.reserve(1)?;
+    let bench = Bench::made(alloc, master, file)?;
+    benches.push_reserved(bench);
+    Ok(())
+}
+
+/// The place of a bench that serves a file's object, among these: where there is none, one is made.
+pub fn bench_place(
+    alloc: Global,
+    benches: &mut Vec<Bench>,
+    master: &Master,
+    file: &FileShape,
+) -> Result<usize, Memory>
+    ensures place { IfOk result (λ place. slice_get (map bench_kind benches.new.items) place
+        ≡ Some (file_kind master.now.0 file.now)) }
+    ensures stays { (place : ℕ) (kind : Object) → slice_get (map bench_kind benches.old.items) place
+        ≡ Some kind → slice_get (map bench_kind benches.new.items) place ≡ Some kind }
+{
+    if let Some(place) = place_of(benches, master, file) {
+        return Ok(place);
+    }
+    let place = benches.len();
+    match add_bench(alloc, benches, master, file) {
+        Ok(()) => Ok(place),
+        Err(memory) => Err(memory),
+    }
+}
