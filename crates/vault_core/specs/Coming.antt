@@ -9,7 +9,6 @@
 --   core_left c number             == the same; 0 where there is none
 --   written_in c number            == the record that the job's append writes, whether or not it is in one
 --   entry_in c number              == the same; None outside an append
---   is_upgrade_of job              == a job that runs is an upgrade
 --   called_provider coming         == the provider that the next action calls: of a store, a fetch, an ask, a
 --                                     removal
 --   calls_disk coming              == what comes next is a move of an append, the only action that calls the
@@ -33,7 +32,7 @@ use Rattle.vault_core.specs.declared.action.Next.{Next}
 use Rattle.vault_core.specs.declared.action.Next.TheVariants as next
 use Rattle.vault_core.specs.declared.reply.Reply.{Reply}
 use Rattle.vault_core.specs.declared.reply.Reply.TheVariants as reply
-use Rattle.vault_core.specs.View.{CoreJob, CoreView, is_upgrading, planned, rest_in, appends_in, job_in}
+use Rattle.vault_core.specs.View.{CoreJob, CoreView, planned, rest_in, appends_in, job_in}
 
 -- the action of the machine
 abbrev pub seen_action : ActionValue → Action
@@ -184,11 +183,6 @@ is_last_ask actions = asks_next (slice_get actions 0) && begins_append (slice_ge
 abbrev pub is_last_ask_of : Setup → Option CoreJob → Bool
 is_last_ask_of s None = false
 is_last_ask_of s (Some j) = is_last_ask (rest_in s j)
-
--- the job of a number is an upgrade
-abbrev pub is_upgrade_of : Option CoreJob → Bool
-is_upgrade_of None = false
-is_upgrade_of (Some j) = is_upgrading j
 
 -- A reply is one that an action of a job has; the last ask of an audit has a verdict. A sync may be told
 -- Memory, though none takes any: so one function makes all moves of an append.
