@@ -35,7 +35,7 @@ use Rattle.command_laws.proofs.Known.{known-once}
 use Rattle.command_laws.proofs.GetEnds.{shape-at}
 use Rattle.command_laws.proofs.JobEnds.{repair-done}
 use Rattle.record_defs.specs.Acceptance.{AreAccepted}
-use Rattle.job_laws.proofs.Plain.{numbered-file}
+use Rattle.job_laws.proofs.Profiles.{numbered-file}
 
 -- ---- elements of lists
 

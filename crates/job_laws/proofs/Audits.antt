@@ -33,15 +33,15 @@ use Rattle.machine_defs.proofs.NextActions.{next_stands}
 use Rattle.command_defs.specs.Audits.{Question, files_by_number, questions, challenge_at, answer_heard, answer_entries, HearsRounds, JudgesOne, no_sums, CountsHeard, audit_records, AuditIsCut, AuditGives, AuditLeaves}
 use Rattle.command_defs.specs.JobRuns.{RunsJob}
 use Rattle.command_defs.specs.Jobs.{Leaves}
-use Rattle.command_defs.specs.Ran.{Ran, ran_from, IsWhole}
+use Rattle.command_defs.specs.Ran.{Ran, ran_from, object_at_begin, IsWhole}
 use Rattle.command_defs.specs.Truthful.{IsTruthful}
 use Rattle.state_laws.specs.Orders.{moves_made, IsInOrder}
 use Rattle.state_laws.proofs.Given.{valid-shape}
 use Rattle.state_laws.proofs.Orders.{audit_rest, audit-list, audit-first, audit-later, appends_in, appends-cons}
 use Rattle.state_laws.proofs.Written.{setup-valid}
-use Rattle.lone_laws.specs.Made.{With, Made}
+use Rattle.lone_laws.specs.Made.{With, Made, object_made}
 use Rattle.opening_defs.specs.Opened.{IsOpenAtRest}
-use Rattle.lone_laws.specs.Walked.{RecordsAre, with_job_of, Walked}
+use Rattle.lone_laws.specs.Walked.{MayName, RecordsAre, with_job_of, Walked}
 use Rattle.lone_laws.proofs.Lists.{made-append, made-split, made-one}
 use Rattle.lone_laws.proofs.Walk.{Wrote, wrote, runs, left-start, opened-sound, first-body}
 use Rattle.job_laws.proofs.Runs.{Ends, job-ends}
@@ -52,7 +52,7 @@ use Rattle.job_laws.proofs.Lasts.{Faults, move-faults, NoRoom, move-memory, none
 use Rattle.job_laws.proofs.Moving.{IsMove, IsUnmoved, move-is, moved-first, moved-second}
 use Rattle.job_laws.proofs.Leaving.{counts-rise, others-stay}
 use Rattle.job_laws.proofs.Asked.{pinned-by_number, asks_of, asks-questions, distinct-asks, entries-questions, each-by_number}
-use Rattle.job_laws.proofs.Plain.{plain-files, made-plain}
+use Rattle.job_laws.proofs.Profiles.{made-numbered, numbered-file}
 use Rattle.job_laws.proofs.Judged.{sums-one, files-questions}
 use Rattle.job_laws.proofs.Truth.{IsQuiet, asks-told}
 use Rattle.job_laws.proofs.Questions.{each-in, each-both, all-each, each-question, sizes-pinned, Fits, told-questions, lacks-questions}
@@ -370,42 +370,44 @@ module _ (start : State) (O : IsOpenAtRest start 1) (w : State) (job : Job)
       abbrev honest : Held → Question → Option ℕ
       honest held q = honest_answer (challenge_at ran job.subject q) (held q.file.id)
 
-      files-known : Each (λ (q : Question). (pinned_size x.pinned q.file.id ≡ q.file.size) ×
-          (q.file.profile ≡ s.profile)) asked
-      files-known = each-question s
-          (λ (f : File). (pinned_size x.pinned f.id ≡ f.size) × (f.profile ≡ s.profile))
+      -- the object that it asks of is the file's
+      abbrev IsMade : File → Type 0
+      IsMade f = object_made x f.id ≡ object_at_begin ran f
+
+      files-made : Each IsMade files
+      files-made = each-in IsMade files (λ f i. made-numbered start O AuditJob job ran refl refl f.id
+          ∙ numbered-file ran O.rest.accepted f i)
+
+      files-known : Each (λ (q : Question). (pinned_size x.pinned q.file.id ≡ q.file.size) × IsMade q.file)
+          asked
+      files-known = each-question s (λ (f : File). (pinned_size x.pinned f.id ≡ f.size) × IsMade f)
           (files_by_number files)
-          (each-both (λ (f : File). pinned_size x.pinned f.id ≡ f.size) (λ (f : File). f.profile ≡ s.profile)
-          (files_by_number files)
+          (each-both (λ (f : File). pinned_size x.pinned f.id ≡ f.size) IsMade (files_by_number files)
           (subst (λ ps. Each (λ (f : File). pinned_size ps f.id ≡ f.size) (files_by_number files))
           (sym (pinned-by_number start files))
           (sizes-pinned start (files_by_number files)
           (each-by_number (λ (f : File). length (start.bytes f.id) ≡ f.size) files sizes)))
-          (each-by_number (λ (f : File). f.profile ≡ s.profile) files (plain-files start O)))
+          (each-by_number IsMade files files-made))
 
       fits : (held : Held) (j : ℕ) (below : j < s.n) →
           Each (Fits x job.given held j s.n below (gave j) (honest held)) asked
       unfolding setup_in
       fits held j below = known asked files-known
         where
-          one : (q : Question) → (pinned_size x.pinned q.file.id ≡ q.file.size) ×
-              (q.file.profile ≡ s.profile) → Fits x job.given held j s.n below (gave j) (honest held) q
+          one : (q : Question) → (pinned_size x.pinned q.file.id ≡ q.file.size) × IsMade q.file →
+              Fits x job.given held j s.n below (gave j) (honest held) q
           one q e = (
             answer-heard 1 job.given q.file.id q.round j,
-            ap (λ p. honest_answer
-                (challenge_of (object_of (profiled s p) q.file.id) q.file.size s.picks job.subject q.round)
-                (held q.file.id)) e.1
-                ∙ (ap (λ size. honest_answer
-                (challenge_of (object_of s q.file.id) size s.picks job.subject q.round) (held q.file.id))
-                (sym e.0)
+            ap (λ size. honest_answer
+                (challenge_of (object_at_begin ran q.file) size s.picks job.subject q.round)
+                (held q.file.id)) (sym e.0)
                 ∙ ap (λ (z : Object). honest_answer
                 (challenge_of z (pinned_size x.pinned q.file.id) s.picks job.subject q.round)
-                (held q.file.id)) (sym (made-plain start O AuditJob job q.file.id))),
+                (held q.file.id)) (sym e.1),
           )
 
           known : (qs : List Question) →
-              Each (λ (q : Question). (pinned_size x.pinned q.file.id ≡ q.file.size) ×
-              (q.file.profile ≡ s.profile)) qs →
+              Each (λ (q : Question). (pinned_size x.pinned q.file.id ≡ q.file.size) × IsMade q.file) qs →
               Each (Fits x job.given held j s.n below (gave j) (honest held)) qs
           known [] h = tt
           known (q ∷ qs) h = (one q h.0, known qs h.1)
@@ -488,7 +490,7 @@ module _ (start : State) (O : IsOpenAtRest start 1) (w : State) (job : Job)
 -- ---- all ends of an audit
 
 module _ (start new : State) (how : Answer) (heard : List Entry) (O : IsOpenAtRest start 1)
-    (E : Ends start AuditJob how heard new) where
+    (E : Ends start AuditJob None how heard new) where
   abbrev w : State
   w = E.before
 
@@ -685,13 +687,13 @@ module _ (start new : State) (how : Answer) (heard : List Entry) (O : IsOpenAtRe
 
 -- an audit leaves its records, what it heard and its counts, and providers hold what they held
 pub audits-leave : (start new : State) (moment : ℕ) (how : Answer) (heard : List Entry) →
-    IsOpenAtRest start 1 → RunsJob start moment AuditJob how heard new →
-    Leaves (ran_from start new heard) AuditJob how
+    IsOpenAtRest start 1 → RunsJob start moment AuditJob None how heard new →
+    Leaves (ran_from start new heard) AuditJob None how
 unfolding setup_in
 audits-leave start new moment how heard O r =
-    (let E = job-ends start new moment AuditJob how heard O tt r in
+    (let E = job-ends start new moment AuditJob None how heard O tt (MayName.none refl) r in
     record {
       by_kind = audit-leaves start new how heard O E;
-      counts = counts-rise start new AuditJob how heard O E;
-      others = others-stay start new AuditJob how heard O E;
+      counts = counts-rise start new AuditJob None how heard O E;
+      others = others-stay start new AuditJob None how heard O E;
     })

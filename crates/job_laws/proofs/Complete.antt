@@ -289,15 +289,16 @@ module _ (x : Ran) (name bytes : List ℕ) (file : File)
 
 -- a put that ended otherwise than for want of memory stored the file, unless a count of the disk or of a
 -- store rose
-pub put-end : (x : Ran) (name bytes : List ℕ) (how : Answer) → PutLeaves x name bytes how →
+pub put-end : (x : Ran) (own : Option ℕ) (name bytes : List ℕ) (how : Answer) →
+    PutLeaves x own name bytes how →
     (Rose x.disk_before x.disk_after → ⊥) →
     ((j : ℕ) → j < (setup_at_begin x).n → Rose (x.old j).store_faults (x.new j).store_faults → ⊥) →
     (how ≡ answer.Put) ⊎ (how ≡ answer.Memory)
-put-end x name bytes answer.Put L disk stores = inl refl
-put-end x name bytes answer.Memory L disk stores = inr refl
-put-end x name bytes (answer.ProviderFault j) L disk stores = absurd (stores j L.0 L.1)
-put-end x name bytes answer.DiskFault L disk stores = absurd (disk L.0)
-put-end x name bytes how L disk stores = absurd L
+put-end x own name bytes answer.Put L disk stores = inl refl
+put-end x own name bytes answer.Memory L disk stores = inr refl
+put-end x own name bytes (answer.ProviderFault j) L disk stores = absurd (stores j L.0 L.1)
+put-end x own name bytes answer.DiskFault L disk stores = absurd (disk L.0)
+put-end x own name bytes how L disk stores = absurd L
 
 -- a drop with no fault of the disk is done, or found no memory
 pub drop-end : (x : Ran) (name : List ℕ) (how : Answer) → DropLeaves x name how →

@@ -91,7 +91,7 @@ not-idle w job name f h = elim (cases_Bool (is_idle_drop w job (DropJob name))) 
 -- ---- the drop
 
 module _ (start new : State) (name : List ℕ) (how : Answer) (heard : List Entry) (O : IsOpenAtRest start 1)
-    (E : Ends start (DropJob name) how heard new) (file : File)
+    (E : Ends start (DropJob name) None how heard new) (file : File)
     (in_effect : file_in start name ≡ Some file) where
   abbrev drop_with : With
   drop_with = with_job_of start (DropJob name) E.job
@@ -374,10 +374,10 @@ module _ (start new : State) (name : List ℕ) (how : Answer) (heard : List Entr
       (writing-drop (setup_in start) E.job name E.walked.kind_is)) E.walked.made
 
   -- a drop leaves its record, and takes its file away from each provider; or it was cut off
-  pub drop-leaves : Leaves ran (DropJob name) how
+  pub drop-leaves : Leaves ran (DropJob name) None how
   unfolding setup_in
   drop-leaves = record {
     by_kind = (by-action E.action refl E.acts, no-fetches, nothing-heard);
-    counts = counts-rise start new (DropJob name) how heard O E;
-    others = others-stay start new (DropJob name) how heard O E;
+    counts = counts-rise start new (DropJob name) None how heard O E;
+    others = others-stay start new (DropJob name) None how heard O E;
   }

@@ -49,7 +49,7 @@ use Rattle.job_laws.proofs.Providers.{Called, made-keeps}
 use Rattle.job_laws.proofs.Heard.{IsOver, AreDistinct, block-later, block-newest, symbols-later, distinct-append, distinct-range, distinct-map, entry_for, entries-made, IsNot}
 use Rattle.job_laws.proofs.Truth.{call-hit, call-miss, made-rises, lacks, range-hit, lacks-same, lacks-few}
 use Rattle.job_laws.proofs.Questions.{all-each, each-at}
-use Rattle.job_laws.proofs.Plain.{profiled-same, plain-file, made-plain, worked-plain}
+use Rattle.job_laws.proofs.Profiles.{made-got, worked-made}
 use Rattle.job_laws.proofs.Lasts.{none-moving}
 use Rattle.job_laws.proofs.Leaving.{counts-rise, others-stay}
 
@@ -473,7 +473,7 @@ unfolding actions_of
 get-list s job name kind = ap (actions_by s job) kind
 
 module _ (start new : State) (name : List ℕ) (how : Answer) (heard : List Entry) (O : IsOpenAtRest start 1)
-    (E : Ends start (GetJob name) how heard new) where
+    (E : Ends start (GetJob name) None how heard new) where
   abbrev s : Setup
   s = setup_in start
 
@@ -540,13 +540,8 @@ module _ (start new : State) (name : List ℕ) (how : Answer) (heard : List Entr
     abbrev count : ℕ
     count = stripes_of (profiled (setup_in start) file.profile) (length (start.bytes file.id))
 
-    -- its object is that of the setup
-    plain-is : object_of (setup_in start) file.id ≡ o
-    plain-is = ap (λ (t : Setup). object_of t file.id)
-        (sym (profiled-same (setup_in start) file.profile (plain-file start O name file in_effect)))
-
     o-is : object_made x file.id ≡ o
-    o-is = made-plain start O (GetJob name) E.job file.id ∙ plain-is
+    o-is = made-got start O name E.job file in_effect
 
     size-is : length (start.bytes file.id) ≡ file.size
     size-is = (O.rest.files name file in_effect).1
@@ -762,7 +757,7 @@ module _ (start new : State) (name : List ℕ) (how : Answer) (heard : List Entr
         lost : LosesRow (object_at_begin ran file) t (blocks_heard ran file.id t) row
         lost = heard-blocks (λ bs. LosesRow o t bs row) t
             (subst (λ (z : Object). LosesRow z t (blocks_given E.job.given (setup_in start).n file.id t) row)
-            (worked-plain start O (GetJob name) E.before E.job E.walked file.id ∙ plain-is)
+            (worked-made start O (GetJob name) E.before E.job E.walked file.id ∙ o-is)
             (subst (λ n. LosesRow (worked_object E.before E.job file.id) t
             (blocks_given E.job.given n file.id t) row) (ap (λ (u : Setup). u.n) E.walked.setup)
             (subst (λ i. LosesRow (worked_object E.before E.job file.id) i
@@ -852,10 +847,10 @@ module _ (start new : State) (name : List ℕ) (how : Answer) (heard : List Entr
       by_file (Some file) e = leaves-file file e
 
   -- a get leaves records and providers as they were, and gives what its fetches open to
-  pub all-leaves : Leaves ran (GetJob name) how
+  pub all-leaves : Leaves ran (GetJob name) None how
   unfolding setup_in
   all-leaves = record {
     by_kind = get-leaves;
-    counts = counts-rise start new (GetJob name) how heard O E;
-    others = others-stay start new (GetJob name) how heard O E;
+    counts = counts-rise start new (GetJob name) None how heard O E;
+    others = others-stay start new (GetJob name) None how heard O E;
   }

@@ -16,11 +16,11 @@ use Rattle.state_laws.proofs.Orders.{appends-order}
 use Rattle.state_laws.proofs.JobLists.{mine}
 use Rattle.state_laws.proofs.Written.{body-left}
 use Rattle.opening_defs.specs.Opened.{IsOpenAtRest}
-use Rattle.lone_laws.specs.Walked.{Walked}
+use Rattle.lone_laws.specs.Walked.{WalkedAt}
 use Rattle.lone_laws.proofs.Walk.{runs}
 
-module _ (start : State) (O : IsOpenAtRest start 1) (kind : Kind) (w : State) (job : Job)
-    (W : Walked start kind w job) where
+module _ (start : State) (O : IsOpenAtRest start 1) (kind : Kind) {profile : ℕ} (w : State) (job : Job)
+    (W : WalkedAt start kind profile w job) where
   -- the append in flight is the job's
   own-append : (a : Append) → w.append ≡ Some a → (a.job ≡ job.number) × Writes w job job.kind a.entry
   own-append a flight =

@@ -16,13 +16,14 @@ use Rattle.machine_defs.specs.Answers.{Answer}
 use Rattle.machine_defs.specs.Events.{Ended}
 use Rattle.machine_defs.specs.States.{State, Append, setup_in}
 use Rattle.machine_defs.specs.Heard.{Entry}
+use Rattle.machine_defs.specs.Begins.{chosen}
 use Rattle.machine_defs.specs.Appends.{Moves}
 use Rattle.machine_defs.specs.Steps.{Acts}
 use Rattle.machine_defs.proofs.NextActions.{next_stands}
 use Rattle.command_defs.specs.Ran.{ran_from, CountsRise}
-use Rattle.lone_laws.specs.Made.{CallsOne, Made}
+use Rattle.lone_laws.specs.Made.{With, CallsOne, Made}
 use Rattle.opening_defs.specs.Opened.{IsOpenAtRest}
-use Rattle.lone_laws.specs.Walked.{with_job_of}
+use Rattle.lone_laws.specs.Walked.{with_job_at}
 use Rattle.job_laws.proofs.Runs.{Ends}
 use Rattle.job_laws.proofs.Providers.{calls-at, Rises, rises-same, rises-more, IsBelow, called-below, each-upto, made-keeps}
 use Rattle.job_laws.proofs.Truth.{made-rises}
@@ -209,8 +210,11 @@ module _ (w : State) (job : Job) (new : State) where
 
 -- ---- the whole run
 
-module _ (start new : State) (kind : Kind) (how : Answer) (heard : List Entry) (O : IsOpenAtRest start 1)
-    (E : Ends start kind how heard new) where
+module _ (start new : State) (kind : Kind) (own : Option ℕ) (how : Answer) (heard : List Entry)
+    (O : IsOpenAtRest start 1) (E : Ends start kind own how heard new) where
+  abbrev with_all : With
+  with_all = with_job_at start kind (chosen (setup_in start) own) E.job
+
   L : LastCall E.action E.before new × (E.before.disk_faults ≤ new.disk_faults)
   L = last-call E.before E.job new E.action how E.acts
 
@@ -218,7 +222,7 @@ module _ (start new : State) (kind : Kind) (how : Answer) (heard : List Entry) (
   taken-below = each_take (IsBelow (setup_in start).n) (actions_of (setup_in start) E.job) E.job.place
       (below (setup_in start) E.job)
 
-  made-all : Made (with_job_of start kind E.job) (take E.job.place (actions_of (setup_in start) E.job))
+  made-all : Made with_all (take E.job.place (actions_of (setup_in start) E.job))
       start.providers E.before.providers [] E.job.given
   made-all = E.walked.made
 
@@ -233,7 +237,7 @@ module _ (start new : State) (kind : Kind) (how : Answer) (heard : List Entry) (
 
   rises : (j : ℕ) → Rises (start.providers j) (new.providers j)
   rises j = rises-more (start.providers j) (E.before.providers j) (new.providers j)
-      (made-rises (with_job_of start kind E.job) (take E.job.place (actions_of (setup_in start) E.job))
+      (made-rises with_all (take E.job.place (actions_of (setup_in start) E.job))
       start.providers E.before.providers [] E.job.given j made-all) (rises-last j L.0)
 
   -- in the run of a job no count of faults falls
@@ -245,10 +249,10 @@ module _ (start new : State) (kind : Kind) (how : Answer) (heard : List Entry) (
   }
 
   others-before : (j : ℕ) → (setup_in start).n ≤ j → E.before.providers j ≡ start.providers j
-  others-before j l = made-keeps (with_job_of start kind E.job) j (λ p q. q ≡ p) (IsBelow (setup_in start).n)
+  others-before j l = made-keeps with_all j (λ p q. q ≡ p) (IsBelow (setup_in start).n)
       (λ p. refl) (λ p q r a b. b ∙ a)
       (λ a given now p q b c. absurd
-      (called-below (with_job_of start kind E.job) (setup_in start).n a given now j p q b l c))
+      (called-below with_all (setup_in start).n a given now j p q b l c))
       (take E.job.place (actions_of (setup_in start) E.job)) start.providers E.before.providers
       [] E.job.given taken-below made-all
 

@@ -9,7 +9,7 @@ pub mod Asked
 pub mod Judged
 pub mod Truth
 pub mod Questions
-pub mod Plain
+pub mod Profiles
 pub mod Whole
 pub mod Audits
 pub mod Leaving

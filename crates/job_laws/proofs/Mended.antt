@@ -31,7 +31,7 @@ use Rattle.command_defs.specs.Truthful.{missing, IsTruthful}
 use Rattle.job_laws.specs.Failing.{has_risen, is_bad_with, is_bad_for, bad_count}
 use Rattle.job_laws.proofs.Asked.{each-by_number}
 use Rattle.job_laws.proofs.Questions.{each-in}
-use Rattle.job_laws.proofs.Plain.{numbered-file}
+use Rattle.job_laws.proofs.Profiles.{numbered-file}
 use Rattle.job_laws.proofs.Complete.{block_at-map, wrong-sized, not-wrong-each, not-risen}
 
 -- ---- the last of what was asked

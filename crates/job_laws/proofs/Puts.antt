@@ -10,14 +10,14 @@ use Rattle.algebra_laws.proofs.Each.{each_get, each_append, each_map, each_flat,
 use Rattle.algebra_laws.proofs.Lists.{drop-get}
 use Rattle.code_defs.specs.Points.{upto}
 use Rattle.column_defs.specs.Columns.{columns}
-use Rattle.column_defs.specs.Objects.{stripes}
+use Rattle.column_defs.specs.Objects.{Object, stripes}
 use Rattle.device_defs.specs.Faults.{Rose}
 use Rattle.device_defs.specs.Told.{Goes}
 use Rattle.device_defs.specs.Providers.{Held, Provider, with_block}
 use Rattle.device_defs.specs.ProviderCalls.{Stores}
 use Rattle.device_defs.proofs.Lasting.{rose-before}
-use Rattle.record_defs.specs.Records.{Setup, Record, PutStart, PutDone}
-use Rattle.record_defs.specs.Table.{File, file_of, next_id}
+use Rattle.record_defs.specs.Records.{Setup, Record, PutStart}
+use Rattle.record_defs.specs.Table.{File, version_of, file_of, next_id}
 use Rattle.machine_defs.specs.Jobs.{PutJob, Pinned, Given, Job}
 use Rattle.machine_defs.specs.Setups.{profiled, object_of, stripes_of}
 use Rattle.machine_defs.specs.Actions.{Action, WriteBody, SyncBody, WriteGate, SyncGate, Store, Fetch, Ask, Work, Remove, End, append_actions, on_each_provider, store_actions, remove_actions, actions_of, actions_left, appends_left}
@@ -26,7 +26,8 @@ use Rattle.machine_defs.specs.Answers.{Answer}
 use Rattle.machine_defs.specs.Events.{Ended}
 use Rattle.machine_defs.specs.Heard.{Entry, heard_by_kind}
 use Rattle.machine_defs.specs.States.{State, Doubt, setup_in}
-use Rattle.machine_defs.specs.Appends.{Moves}
+use Rattle.machine_defs.specs.Begins.{chosen}
+use Rattle.machine_defs.specs.Appends.{done_record, Moves}
 use Rattle.machine_defs.specs.Steps as step
 use Rattle.machine_defs.specs.Steps.{holder_of, Acts}
 use Rattle.machine_defs.proofs.JobLists.{cond_true, cond_false}
@@ -34,7 +35,7 @@ use Rattle.machine_defs.proofs.ActionLists.{split_get}
 use Rattle.machine_defs.proofs.Numbers.{next_by, next_is_by}
 use Rattle.machine_defs.proofs.NextActions.{next_stands}
 use Rattle.command_defs.specs.Blocks.{StoredOn, PartlyStored, DroppedFrom}
-use Rattle.command_defs.specs.Puts.{put_records, StoresFile, StoresAll, PutIsCut, StoresPart, PutLeaves}
+use Rattle.command_defs.specs.Puts.{put_done, put_records, StoresFile, StoresAll, PutIsCut, StoresPart, PutLeaves}
 use Rattle.command_defs.specs.Jobs.{Leaves}
 use Rattle.command_defs.specs.Ran.{Ran, ran_from, NoFetches}
 use Rattle.state_laws.specs.Orders.{moves_made, IsInOrder}
@@ -42,13 +43,12 @@ use Rattle.state_laws.proofs.Orders.{put_rest, put-list, put-first, put-later, a
 use Rattle.state_laws.proofs.Records.{sound-accepted}
 use Rattle.lone_laws.specs.Made.{With, Made}
 use Rattle.opening_defs.specs.Opened.{IsOpenAtRest}
-use Rattle.lone_laws.specs.Walked.{RecordsAre, with_job_of}
+use Rattle.lone_laws.specs.Walked.{RecordsAre, with_job_at}
 use Rattle.lone_laws.proofs.Lists.{made-append, made-split, made-one}
 use Rattle.lone_laws.proofs.Walk.{Wrote, wrote, runs, left-start, first-body}
 use Rattle.job_laws.proofs.Runs.{Ends}
 use Rattle.job_laws.proofs.Providers.{Called, IsBelow, made-keeps}
 use Rattle.job_laws.proofs.Truth.{made-rises}
-use Rattle.job_laws.proofs.Plain.{done-plain}
 use Rattle.job_laws.proofs.Lasts.{Faults, move-faults, NoRoom, move-memory, none-moving}
 use Rattle.job_laws.proofs.Moving.{IsMove, IsUnmoved, move-is, moved-first, moved-second}
 use Rattle.job_laws.proofs.Leaving.{below, LastCall, last-call, counts-rise, others-stay}
@@ -73,12 +73,16 @@ with_block-cases o t block p i u = elim (cases_Bool ((i == o) && (u == t))) [
 
 -- ---- the stores of a file, for one provider
 
-module _ (s : Setup) (name bytes : List ℕ) (subject id : ℕ) (pinned : List Pinned) (j : ℕ) where
+module _ (s : Setup) (profile : ℕ) (name bytes : List ℕ) (subject id : ℕ) (pinned : List Pinned)
+    (j : ℕ) where
+  abbrev made : Object
+  made = object_of (profiled s profile) id
+
   abbrev x : With
-  x = record { setup = s; kind = PutJob name bytes; profile = s.profile; subject = subject; pinned = pinned }
+  x = record { setup = s; kind = PutJob name bytes; profile = profile; subject = subject; pinned = pinned }
 
   abbrev block : ℕ → List ℕ
-  block t = columns (object_of s id) bytes j t
+  block t = columns made bytes j t
 
   abbrev pub stripe_stores : ℕ → List Action
   stripe_stores t = on_each_provider s (λ k. Store k id t)
@@ -121,7 +125,7 @@ module _ (s : Setup) (name bytes : List ℕ) (subject id : ℕ) (pinned : List P
   stores-go (suc n) a old new given now below m =
       (let p = made-split x (stripe_stores a) (flat_map stripe_stores (range_with_len (a + 1) n)) old new
       given now m in
-      let one = row-hit x (λ k. Store k id a) (λ k. Stores id a (columns (object_of s id) bytes k a))
+      let one = row-hit x (λ k. Store k id a) (λ k. Stores id a (columns made bytes k a))
       (λ k b c g h did. did.0) j 0 s.n old p.0 given p.1 (omega arith) (omega (arith, below)) p.2 in
       goes-more (λ h k. k ≡ with_block id a (block a) h) (StoresRange (a + 1) n) (StoresRange a (suc n))
       (λ h k r e R. range-more a n h r (subst (λ z. StoresRange (a + 1) n z r) e R)) (old j).held (p.0 j).held
@@ -143,7 +147,7 @@ module _ (s : Setup) (name bytes : List ℕ) (subject id : ℕ) (pinned : List P
   IsStoring action = Unit {0}
 
   abbrev pub Partly : Held → Held → Type 0
-  Partly = PartlyStored (object_of s id) bytes j
+  Partly = PartlyStored made bytes j
 
   partly-same : (p : Held) → Partly p p
   partly-same p = record { stored = λ t. inl refl; others = λ o t n. refl }
@@ -174,11 +178,11 @@ module _ (s : Setup) (name bytes : List ℕ) (subject id : ℕ) (pinned : List P
       now e m
     where
       stored : (k o t : ℕ) (p q : Provider) → j ≡ k → o ≡ id →
-          Stores o t (columns (object_of s o) bytes k t) p q → Goes Partly p.held q.held
+          Stores o t (columns (object_of (profiled s profile) o) bytes k t) p q → Goes Partly p.held q.held
       stored k o t p q at is c = goes-map Partly (with_block id t (block t)) (partly-store t) p.held q.held
-          (subst (λ i. q.held ≡ option_map (with_block id t (columns (object_of s id) bytes i t)) p.held)
+          (subst (λ i. q.held ≡ option_map (with_block id t (columns made bytes i t)) p.held)
           (sym at)
-          (subst (λ i. q.held ≡ option_map (with_block i t (columns (object_of s i) bytes k t)) p.held) is
+          (subst (λ i. q.held ≡ option_map (with_block i t (columns (object_of (profiled s profile) i) bytes k t)) p.held) is
           c.held))
 
       one : (a : Action) (given now : List Given) (p q : Provider) → IsStoring a →
@@ -196,10 +200,14 @@ module _ (s : Setup) (name bytes : List ℕ) (subject id : ℕ) (pinned : List P
 
 -- ---- a file that is stored whole, and an older one taken away
 
-module _ (s : Setup) (name bytes : List ℕ) (subject id count : ℕ) (pinned : List Pinned) (j : ℕ) where
-  whole-none : (rose : Type 0) (p q r : Held) → count ≡ stripes (object_of s id) (length bytes) →
-      StoresRange s name bytes subject id pinned j 0 count p q → r ≡ q →
-      StoredOn (object_of s id) bytes None rose j p r
+module _ (s : Setup) (profile : ℕ) (name bytes : List ℕ) (subject id count : ℕ) (pinned : List Pinned)
+    (j : ℕ) where
+  abbrev whole_made : Object
+  whole_made = object_of (profiled s profile) id
+
+  whole-none : (rose : Type 0) (p q r : Held) → count ≡ stripes whole_made (length bytes) →
+      StoresRange s profile name bytes subject id pinned j 0 count p q → r ≡ q →
+      StoredOn whole_made bytes None rose j p r
   whole-none rose p q r size R same = record {
     stored = λ t l. ap (λ (h : Held). h id t) same ∙ R.stored t (omega arith) (omega (arith, l, size));
     removed = tt;
@@ -207,9 +215,9 @@ module _ (s : Setup) (name bytes : List ℕ) (subject id count : ℕ) (pinned : 
         ∙ R.others o t (λ e. inr (let l = n.stored e in omega (arith, l, size)));
   }
 
-  whole-some : (rose : Type 0) (f : File) (p q r : Held) → count ≡ stripes (object_of s id) (length bytes) →
-      (f.id ≡ id → ⊥) → StoresRange s name bytes subject id pinned j 0 count p q → DroppedFrom f.id rose q r →
-      StoredOn (object_of s id) bytes (Some f) rose j p r
+  whole-some : (rose : Type 0) (f : File) (p q r : Held) → count ≡ stripes whole_made (length bytes) →
+      (f.id ≡ id → ⊥) → StoresRange s profile name bytes subject id pinned j 0 count p q → DroppedFrom f.id rose q r →
+      StoredOn whole_made bytes (Some f) rose j p r
   whole-some rose f p q r size apart R D = record {
     stored = λ t l. D.others id t (λ e. apart (sym e)) ∙ R.stored t (omega arith) (omega (arith, l, size));
     removed = λ t. elim (D.gone t)
@@ -310,24 +318,33 @@ store-place s job bytes (suc (suc (suc (suc q)))) k o t h = (
 
 -- ---- the put
 
-module _ (start new : State) (name bytes : List ℕ) (how : Answer) (heard : List Entry)
-    (O : IsOpenAtRest start 1) (E : Ends start (PutJob name bytes) how heard new) where
-  abbrev s : Setup
-  s = setup_in start
-
-  abbrev id : ℕ
-  id = next_id start.records
+module _ (start new : State) (name bytes : List ℕ) (own : Option ℕ) (how : Answer) (heard : List Entry)
+    (O : IsOpenAtRest start 1) (E : Ends start (PutJob name bytes) own how heard new) where
+  -- the profile of the file
+  abbrev its : ℕ
+  its = chosen (setup_in start) own
 
   abbrev put_with : With
-  put_with = with_job_of start (PutJob name bytes) E.job
+  put_with = with_job_at start (PutJob name bytes) its E.job
+
+  -- its object
+  abbrev stored_as : Object
+  stored_as = object_of (profiled (setup_in start) its) (next_id start.records)
 
   abbrev ran : Ran
   ran = ran_from start new heard
 
-  -- the stripes are those of the setup's profile
+  -- the stripes are those of its profile
   count-same : stripes_of (profiled (setup_in start) E.job.profile) (length bytes)
-      ≡ stripes (object_of (setup_in start) (next_id start.records)) (length bytes)
+      ≡ stripes stored_as (length bytes)
   count-same = ap (λ p. stripes_of (profiled (setup_in start) p) (length bytes)) E.walked.profile_is
+
+  -- its last record
+  ends-with : done_record (version_of start.records) (next_id start.records) (length bytes) E.job.profile
+      ≡ put_done start.records (length bytes) own
+  unfolding setup_in
+  ends-with = ap (λ p. done_record (version_of start.records) (next_id start.records) (length bytes) p)
+      E.walked.profile_is
 
   nothing-heard : heard ≡ []
   nothing-heard = E.heard_is ∙ ap (heard_by_kind E.job) E.walked.kind_is
@@ -349,7 +366,7 @@ module _ (start new : State) (name bytes : List ℕ) (how : Answer) (heard : Lis
   subject-is : 1 ≤ E.job.place → E.job.subject ≡ next_id start.records
   subject-is l = E.walked.subject l
 
-  storing-front : Each (IsStoring (setup_in start) name bytes E.job.subject E.job.subject [] 0)
+  storing-front : Each (IsStoring (setup_in start) its name bytes E.job.subject E.job.subject [] 0)
       (put_front (setup_in start) E.job bytes)
   storing-front = (
     tt,
@@ -359,12 +376,12 @@ module _ (start new : State) (name bytes : List ℕ) (how : Answer) (heard : Lis
         tt,
         (
           tt,
-          each_append (IsStoring (setup_in start) name bytes E.job.subject E.job.subject [] 0)
+          each_append (IsStoring (setup_in start) its name bytes E.job.subject E.job.subject [] 0)
               (store_actions (setup_in start) E.job bytes) append_actions
-              (each_flat (IsStoring (setup_in start) name bytes E.job.subject E.job.subject [] 0)
+              (each_flat (IsStoring (setup_in start) its name bytes E.job.subject E.job.subject [] 0)
               (λ t. on_each_provider (setup_in start) (λ k. Store k E.job.subject t))
               (upto (stripes_of (profiled (setup_in start) E.job.profile) (length bytes)))
-              (λ t. each_map (IsStoring (setup_in start) name bytes E.job.subject E.job.subject [] 0)
+              (λ t. each_map (IsStoring (setup_in start) its name bytes E.job.subject E.job.subject [] 0)
               (λ k. Store k E.job.subject t) (upto (setup_in start).n) (λ k. refl)))
               (tt, (tt, (tt, (tt, tt)))),
         ),
@@ -373,30 +390,30 @@ module _ (start new : State) (name bytes : List ℕ) (how : Answer) (heard : Lis
   )
 
   storing-taken : (action : Action) → E.action ≡ action → (action ≡ End → ⊥) → (IsTail action → ⊥) →
-      Each (IsStoring (setup_in start) name bytes E.job.subject (next_id start.records) [] 0)
+      Each (IsStoring (setup_in start) its name bytes E.job.subject (next_id start.records) [] 0)
       (take E.job.place (actions_of (setup_in start) E.job))
   storing-taken action at n m = elim (cases_eq E.job.place 0) [
     | inl first ↦ subst (λ p. Each
-        (IsStoring (setup_in start) name bytes E.job.subject (next_id start.records) [] 0)
+        (IsStoring (setup_in start) its name bytes E.job.subject (next_id start.records) [] 0)
         (take p (actions_of (setup_in start) E.job))) (sym first) tt
-    | inr later ↦ subst (λ i. Each (IsStoring (setup_in start) name bytes E.job.subject i [] 0)
+    | inr later ↦ subst (λ i. Each (IsStoring (setup_in start) its name bytes E.job.subject i [] 0)
         (take E.job.place (actions_of (setup_in start) E.job))) (subject-is (omega (arith, later)))
-        (subst (λ xs. Each (IsStoring (setup_in start) name bytes E.job.subject E.job.subject [] 0)
+        (subst (λ xs. Each (IsStoring (setup_in start) its name bytes E.job.subject E.job.subject [] 0)
         (take E.job.place xs)) (sym (put-parts (setup_in start) E.job name bytes E.walked.kind_is)) front)
   ]
     where
-      front : Each (IsStoring (setup_in start) name bytes E.job.subject E.job.subject [] 0)
+      front : Each (IsStoring (setup_in start) its name bytes E.job.subject E.job.subject [] 0)
           (take E.job.place (put_front (setup_in start) E.job
           bytes ++ (remove_actions (setup_in start) E.job ++ End ∷ [])))
       front = elim (split_get (put_front (setup_in start) E.job bytes)
           (remove_actions (setup_in start) E.job ++ End ∷ []) E.job.place action
           (ap (λ xs. slice_get xs E.job.place)
           (sym (put-parts (setup_in start) E.job name bytes E.walked.kind_is)) ∙ listed action at n)) [
-            | inl a ↦ subst (Each (IsStoring (setup_in start) name bytes E.job.subject E.job.subject [] 0))
+            | inl a ↦ subst (Each (IsStoring (setup_in start) its name bytes E.job.subject E.job.subject [] 0))
                 (sym (take-within (put_front (setup_in start) E.job bytes)
                 (remove_actions (setup_in start) E.job ++ End ∷ []) E.job.place
                 (let l = a.0 in omega (arith, l))))
-                (each_take (IsStoring (setup_in start) name bytes E.job.subject E.job.subject [] 0)
+                (each_take (IsStoring (setup_in start) its name bytes E.job.subject E.job.subject [] 0)
                 (put_front (setup_in start) E.job bytes) E.job.place storing-front)
             | inr b ↦ absurd (m (each_get IsTail (remove_actions (setup_in start) E.job ++ End ∷ [])
                 (E.job.place - length (put_front (setup_in start) E.job bytes)) action
@@ -404,12 +421,12 @@ module _ (start new : State) (name bytes : List ℕ) (how : Answer) (heard : Lis
           ]
 
   stores-part : (action : Action) → E.action ≡ action → (action ≡ End → ⊥) → (IsTail action → ⊥) →
-      StoresPart ran bytes
+      StoresPart ran own bytes
   unfolding setup_in
   stores-part action at n m =
-      λ j l. subst (λ h. Goes (PartlyStored (object_of (setup_in start) (next_id start.records)) bytes j)
+      λ j l. subst (λ h. Goes (PartlyStored stored_as bytes j)
       (start.providers j).held h) (sym (last-keeps E.action E.before new j L.0).0)
-      (partly-goes (setup_in start) name bytes E.job.subject (next_id start.records) [] j
+      (partly-goes (setup_in start) its name bytes E.job.subject (next_id start.records) [] j
       (take E.job.place (actions_of (setup_in start) E.job)) start.providers E.before.providers
       [] E.job.given (storing-taken action at n m) E.walked.made)
 
@@ -432,7 +449,7 @@ module _ (start new : State) (name bytes : List ℕ) (how : Answer) (heard : Lis
 
   abbrev Doubtful : Option Doubt → Type 0
   Doubtful doubt = (done : List Record) × (next : Record) × (rest : List Record)
-      × (put_records start.records name (length bytes) ≡ done ++ next ∷ rest) ×
+      × (put_records start.records name (length bytes) own ≡ done ++ next ∷ rest) ×
       (E.before.records ≡ reverse done ++ start.records)
       × (option_map (λ (d : Doubt). d.entry) doubt ≡ None)
 
@@ -441,14 +458,14 @@ module _ (start new : State) (name bytes : List ℕ) (how : Answer) (heard : Lis
     | Stand.at_first l is ↦ (
       [],
       PutStart (next_id start.records) name,
-      PutDone (next_id start.records) (length bytes) ∷ [],
+      put_done start.records (length bytes) own ∷ [],
       refl,
       is,
       ap (option_map (λ (d : Doubt). d.entry)) none,
     )
     | Stand.at_second l is ↦ (
       PutStart (next_id start.records) name ∷ [],
-      PutDone (next_id start.records) (length bytes),
+      put_done start.records (length bytes) own,
       [],
       refl,
       is,
@@ -457,7 +474,7 @@ module _ (start new : State) (name bytes : List ℕ) (how : Answer) (heard : Lis
   ]
 
   abbrev Gives : Answer → Type 0
-  Gives a = PutLeaves ran name bytes a
+  Gives a = PutLeaves ran own name bytes a
 
   -- ---- a move of an append that failed
 
@@ -516,16 +533,16 @@ module _ (start new : State) (name bytes : List ℕ) (how : Answer) (heard : Lis
         unmoved-tail start.providers E.before.providers E.job.given here made-so-far l
 
     all-goes : 4 ≤ E.job.place → (j : ℕ) → j < (setup_in start).n →
-        Goes (StoredOn (object_of (setup_in start) (next_id start.records)) bytes None ⊥ j)
+        Goes (StoredOn stored_as bytes None ⊥ j)
         (start.providers j).held (E.before.providers j).held
     all-goes l j below = goes-mono
-        (StoresRange (setup_in start) name bytes E.job.subject (next_id start.records) [] j 0
+        (StoresRange (setup_in start) its name bytes E.job.subject (next_id start.records) [] j 0
         (stripes_of (profiled (setup_in start) E.job.profile) (length bytes)))
-        (StoredOn (object_of (setup_in start) (next_id start.records)) bytes None ⊥ j)
-        (λ h k R. whole-none (setup_in start) name bytes E.job.subject (next_id start.records)
+        (StoredOn stored_as bytes None ⊥ j)
+        (λ h k R. whole-none (setup_in start) its name bytes E.job.subject (next_id start.records)
         (stripes_of (profiled (setup_in start) E.job.profile) (length bytes))
         [] j ⊥ h k k count-same R refl) (start.providers j).held (E.before.providers j).held
-        (stores-go (setup_in start) name bytes E.job.subject (next_id start.records) [] j
+        (stores-go (setup_in start) its name bytes E.job.subject (next_id start.records) [] j
         (stripes_of (profiled (setup_in start) E.job.profile) (length bytes)) 0 start.providers
         E.before.providers [] E.job.given below
         (subst (λ i. Made put_with
@@ -533,11 +550,11 @@ module _ (start new : State) (name bytes : List ℕ) (how : Answer) (heard : Lis
         (upto (stripes_of (profiled (setup_in start) E.job.profile) (length bytes)))) start.providers
         E.before.providers [] E.job.given) (subject-is (omega (arith, l))) (stores-made l)))
 
-    stores-all : 4 ≤ E.job.place → new.providers ≡ E.before.providers → StoresAll ran bytes
+    stores-all : 4 ≤ E.job.place → new.providers ≡ E.before.providers → StoresAll ran own bytes
     unfolding setup_in
     stores-all l same j below =
         subst (λ (f : ℕ → Provider). Goes
-        (StoredOn (object_of (setup_in start) (next_id start.records)) bytes None ⊥ j)
+        (StoredOn stored_as bytes None ⊥ j)
         (start.providers j).held (f j).held) (sym same) (all-goes l j below)
 
     doubt-first : appends_left (setup_in E.before) E.job ≡ 2 →
@@ -554,7 +571,7 @@ module _ (start new : State) (name bytes : List ℕ) (how : Answer) (heard : Lis
 
     doubt-second : appends_left (setup_in E.before) E.job ≡ 1 →
         (F : Faults start O (PutJob name bytes) E.before E.job E.walked new) →
-        (ran.doubt ≡ None) ⊎ (ran.doubt ≡ Some (PutDone (next_id start.records) (length bytes)))
+        (ran.doubt ≡ None) ⊎ (ran.doubt ≡ Some (put_done start.records (length bytes) own))
     doubt-second one F = elim F.doubt [
       | inl none ↦ inl (ap (option_map (λ (d : Doubt). d.entry)) none)
       | inr (d, in_doubt, writes) ↦
@@ -562,7 +579,7 @@ module _ (start new : State) (name bytes : List ℕ) (how : Answer) (heard : Lis
             | Wrote.first l is entry ↦ absurd (omega (arith, l, one))
             | Wrote.second l is sec ↦
                 inr (ap (option_map (λ (z : Doubt). z.entry)) in_doubt
-                ∙ ap Some (sec ∙ done-plain start O (next_id start.records) (length bytes) E.job.profile))
+                ∙ ap Some (sec ∙ ends-with))
           ]
     ]
 
@@ -577,7 +594,7 @@ module _ (start new : State) (name bytes : List ℕ) (how : Answer) (heard : Lis
       ],
     )
 
-  no-room : StoresPart ran bytes → NoRoom start O (PutJob name bytes) E.before E.job E.walked new →
+  no-room : StoresPart ran own bytes → NoRoom start O (PutJob name bytes) E.before E.job E.walked new →
       Gives answer.Memory
   no-room part N =
       (let d = cut-at new.doubt N.left N.doubt in
@@ -654,7 +671,7 @@ module _ (start new : State) (name bytes : List ℕ) (how : Answer) (heard : Lis
     store-ends answer.Memory (p, made, is) = (
       record {
         done = PutStart (next_id start.records) name ∷ [];
-        next = PutDone (next_id start.records) (length bytes);
+        next = put_done start.records (length bytes) own;
         rest = [];
         parts = refl;
         after = ap (λ (v : State). v.records) is ∙ started;
@@ -754,9 +771,9 @@ module _ (start new : State) (name bytes : List ℕ) (how : Answer) (heard : Lis
     count = stripes_of (profiled (setup_in start) E.job.profile) (length bytes)
 
     range-go : (j : ℕ) → j < (setup_in start).n →
-        Goes (StoresRange (setup_in start) name bytes E.job.subject (next_id start.records) [] j 0 count)
+        Goes (StoresRange (setup_in start) its name bytes E.job.subject (next_id start.records) [] j 0 count)
         (start.providers j).held (stored.mid j).held
-    range-go j l = stores-go (setup_in start) name bytes E.job.subject (next_id start.records)
+    range-go j l = stores-go (setup_in start) its name bytes E.job.subject (next_id start.records)
         [] j count 0 start.providers stored.mid stored.given stored.now l
         (subst (λ i. Made put_with
         (flat_map (λ t. on_each_provider (setup_in start) (λ k. Store k i t)) (upto count))
@@ -765,27 +782,27 @@ module _ (start new : State) (name bytes : List ℕ) (how : Answer) (heard : Lis
     stored-on : (o : Option File) (j : ℕ) (p q : Provider) →
         ((f : File) → o ≡ Some f → f.id ≡ next_id start.records → ⊥) → (rose : Type 0) →
         (Rose p.other_faults q.other_faults → rose) →
-        Goes (StoresRange (setup_in start) name bytes E.job.subject (next_id start.records) [] j 0 count)
+        Goes (StoresRange (setup_in start) its name bytes E.job.subject (next_id start.records) [] j 0 count)
         (start.providers j).held p.held → OlderGoes o p q →
-        Goes (StoredOn (object_of (setup_in start) (next_id start.records)) bytes o rose j)
+        Goes (StoredOn stored_as bytes o rose j)
         (start.providers j).held q.held
     stored-on None j p q apart rose up range older =
-        subst (Goes (StoredOn (object_of (setup_in start) (next_id start.records)) bytes None rose j)
+        subst (Goes (StoredOn stored_as bytes None rose j)
         (start.providers j).held) (sym older)
-        (goes-mono (StoresRange (setup_in start) name bytes E.job.subject (next_id start.records)
-        [] j 0 count) (StoredOn (object_of (setup_in start) (next_id start.records)) bytes None rose j)
-        (λ h k R. whole-none (setup_in start) name bytes E.job.subject (next_id start.records) count
+        (goes-mono (StoresRange (setup_in start) its name bytes E.job.subject (next_id start.records)
+        [] j 0 count) (StoredOn stored_as bytes None rose j)
+        (λ h k R. whole-none (setup_in start) its name bytes E.job.subject (next_id start.records) count
         [] j rose h k k count-same R refl) (start.providers j).held p.held range)
     stored-on (Some f) j p q apart rose up range older =
-        goes-more (StoresRange (setup_in start) name bytes E.job.subject (next_id start.records) [] j 0 count)
+        goes-more (StoresRange (setup_in start) its name bytes E.job.subject (next_id start.records) [] j 0 count)
         (DroppedFrom f.id (Rose p.other_faults q.other_faults))
-        (StoredOn (object_of (setup_in start) (next_id start.records)) bytes (Some f) rose j)
-        (λ h k r R D. whole-some (setup_in start) name bytes E.job.subject (next_id start.records) count
+        (StoredOn stored_as bytes (Some f) rose j)
+        (λ h k r R D. whole-some (setup_in start) its name bytes E.job.subject (next_id start.records) count
         [] j rose f h k r count-same (apart f refl) R
         (dropped-over f.id (Rose p.other_faults q.other_faults) rose k r up D))
         (start.providers j).held p.held q.held range older
 
-    stores-file : new.providers ≡ E.before.providers → StoresFile ran name bytes
+    stores-file : new.providers ≡ E.before.providers → StoresFile ran own name bytes
     unfolding setup_in
     stores-file providers j l =
         (let same : new.providers j ≡ E.before.providers j = ap (λ (f : ℕ → Provider). f j) providers in
@@ -794,7 +811,7 @@ module _ (start new : State) (name bytes : List ℕ) (how : Answer) (heard : Lis
         let more = made-rises put_with (remove_actions (setup_in start) E.job) stored.mid E.before.providers
         stored.later stored.last j stored.removes in
         subst (λ (q : Provider). Goes
-        (StoredOn (object_of (setup_in start) (next_id start.records)) bytes (file_of start.records name)
+        (StoredOn stored_as bytes (file_of start.records name)
         (Rose (start.providers j).other_faults q.other_faults) j) (start.providers j).held q.held)
         (sym same)
         (stored-on (file_of start.records name) j (stored.mid j) (E.before.providers j)
@@ -808,19 +825,19 @@ module _ (start new : State) (name bytes : List ℕ) (how : Answer) (heard : Lis
         (file_of start.records name) stored.mid E.before.providers stored.later stored.last j
         O.rest.idle.0 (E.walked.older no-append) l stored.removes)))
 
-    whole-records : E.before.records ≡ PutDone (next_id start.records) (length bytes) ∷ PutStart
+    whole-records : E.before.records ≡ put_done start.records (length bytes) own ∷ PutStart
         (next_id start.records) name ∷ start.records
     whole-records = by_records E.before.records refl E.walked.records
       where
         by_records : (rs : List Record) → E.before.records ≡ rs →
             RecordsAre start (PutJob name bytes) E.job rs →
-            E.before.records ≡ PutDone (next_id start.records) (length bytes) ∷ PutStart
+            E.before.records ≡ put_done start.records (length bytes) own ∷ PutStart
             (next_id start.records) name ∷ start.records
         by_records rs e (RecordsAre.none l is) = absurd (let c = no-append in omega (arith, l, c))
         by_records rs e (RecordsAre.one l is) = absurd (let c = no-append in omega (arith, l, c))
         by_records rs e (RecordsAre.two entry l sec is) = e
             ∙ (is ∙ ap (λ (r : Record). r ∷ PutStart (next_id start.records) name ∷ start.records)
-            (sec ∙ done-plain start O (next_id start.records) (length bytes) E.job.profile))
+            (sec ∙ ends-with))
 
     end-sure : E.before.doubt ≡ None
     end-sure = (none-moving start O (PutJob name bytes) E.before E.job E.walked end-order.0).1
@@ -863,10 +880,10 @@ module _ (start new : State) (name bytes : List ℕ) (how : Answer) (heard : Lis
       (writing-put (setup_in start) E.job name bytes E.walked.kind_is)) E.walked.made
 
   -- a put leaves its records and stores its file on each provider; or it failed or was cut off
-  pub put-leaves : Leaves ran (PutJob name bytes) how
+  pub put-leaves : Leaves ran (PutJob name bytes) own how
   unfolding setup_in
   put-leaves = record {
     by_kind = (by-action E.action refl E.acts, no-fetches, nothing-heard);
-    counts = counts-rise start new (PutJob name bytes) how heard O E;
-    others = others-stay start new (PutJob name bytes) how heard O E;
+    counts = counts-rise start new (PutJob name bytes) own how heard O E;
+    others = others-stay start new (PutJob name bytes) own how heard O E;
   }

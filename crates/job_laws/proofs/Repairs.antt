@@ -47,12 +47,12 @@ use Rattle.state_laws.proofs.Orders.{appends_in, appends-cons}
 use Rattle.state_laws.proofs.Records.{is_some-at}
 use Rattle.lone_laws.specs.Made.{With, Made, object_made}
 use Rattle.opening_defs.specs.Opened.{IsOpenAtRest}
-use Rattle.lone_laws.specs.Walked.{RecordsAre, with_job_of, Walked}
+use Rattle.lone_laws.specs.Walked.{MayName, RecordsAre, with_job_of, Walked}
 use Rattle.lone_laws.proofs.Prefixes.{repair-list, audit-within}
 use Rattle.lone_laws.proofs.Walk.{Wrote, wrote, runs, left-start}
 use Rattle.job_laws.proofs.Runs.{Ends, job-ends}
 use Rattle.job_laws.proofs.Providers.{Called, calls-at, made-keeps}
-use Rattle.job_laws.proofs.Plain.{made-plain, worked-plain, numbered-plain}
+use Rattle.job_laws.proofs.Profiles.{made-numbered, worked-made}
 use Rattle.job_laws.proofs.Lasts.{InDoubt, Faults, move-faults, NoRoom, move-memory, none-moving}
 use Rattle.job_laws.proofs.Truth.{made-rises}
 use Rattle.job_laws.proofs.Leaving.{counts-rise, others-stay}
@@ -187,13 +187,12 @@ module _ (start : State) (O : IsOpenAtRest start 1) (w : State) (job : Job)
     abbrev symbols : Place → List ℕ
     symbols p = symbols_given job.given p.object p.stripe
 
-    abbrev plain : ℕ → Object
-    plain = object_made x
+    abbrev made : ℕ → Object
+    made = object_made x
 
-    -- the objects of the files are those of the setup
-    objects-are : plain ≡ object_numbered ran
-    unfolding setup_in
-    objects-are i id = (made-plain start O RepairJob job id ∙ sym (numbered-plain start O ran refl id)) i
+    -- the objects that it works on are those of the files in effect
+    objects-are : made ≡ object_numbered ran
+    objects-are i id = made-numbered start O RepairJob job ran refl refl id i
 
     -- the flagged providers are those of the due audit
     flagged-is : (j : ℕ) → job.flagged j ≡ flags ran due j
@@ -218,7 +217,7 @@ module _ (start : State) (O : IsOpenAtRest start 1) (w : State) (job : Job)
             (λ p. sized (objs p.object).profile.size (held p.object p.stripe)) ps
             (start.providers j).other_faults (new.providers j).other_faults) objects-are
             (let t = told j held e in record {
-              each = all-each (λ p. (gave j p ≡ sized (plain p.object).profile.size
+              each = all-each (λ p. (gave j p ≡ sized (made p.object).profile.size
                   (held p.object p.stripe)) ⊎ (gave j p ≡ None)) ps
                   (told-places x refl job.given j held below ps acts f t.told);
               few = λ l. (let same = count-same j in let c = t.count (omega (arith, l, same)) in
@@ -235,7 +234,7 @@ module _ (start : State) (O : IsOpenAtRest start 1) (w : State) (job : Job)
     unfolding setup_in
     opened ps o = subst (λ (objs : ℕ → Object). All
         (λ p. GivesSymbols (objs p.object) p.stripe (blocks_at ran gave p) (symbols p)) ps) objects-are
-        (all-each (λ p. GivesSymbols (plain p.object) p.stripe (blocks_at ran gave p) (symbols p)) ps
+        (all-each (λ p. GivesSymbols (made p.object) p.stripe (blocks_at ran gave p) (symbols p)) ps
         (gives-places x job.given ps acts o
         (works-opened x acts start.providers w.providers [] job.given ordered-acts made-acts)))
 
@@ -272,7 +271,7 @@ module _ (start : State) (O : IsOpenAtRest start 1) (w : State) (job : Job)
     rewritten-part ps st =
         subst (λ (objs : ℕ → Object). EachHeldGoes ran
         (λ j. IfFlagged (flags ran due j) (PartlyRewrittenOn objs symbols ps j))) objects-are
-        (goes-by (λ j. IfFlagged (flags ran due j) (PartlyRewrittenOn plain symbols ps j))
+        (goes-by (λ j. IfFlagged (flags ran due j) (PartlyRewrittenOn made symbols ps j))
         (λ j held below. by_flag j held (flags ran due j) (flagged-is j)))
       where
         each-place : (j : ℕ) (held : Held) (qs : List Place) →
@@ -284,7 +283,7 @@ module _ (start : State) (O : IsOpenAtRest start 1) (w : State) (job : Job)
             (after-either x job.given j acts held p.object p.stripe, each-place j held qs)
 
         by_flag : (j : ℕ) (held : Held) (b : Bool) → job.flagged j ≡ b →
-            IfFlagged b (PartlyRewrittenOn plain symbols ps j) held (after x job.given j acts held)
+            IfFlagged b (PartlyRewrittenOn made symbols ps j) held (after x job.given j acts held)
         by_flag j held true f = record {
           stored = all-each (λ (p : Place). (after x job.given j acts held p.object p.stripe
               ≡ held p.object p.stripe) ⊎
@@ -320,7 +319,7 @@ module _ (start : State) (O : IsOpenAtRest start 1) (w : State) (job : Job)
       gives = opened all opens;
       held = subst (λ (objs : ℕ → Object). EachHeldGoes ran
           (λ j. IfFlagged (flags ran due j) (RewrittenOn objs symbols all j))) objects-are
-          (goes-by (λ j. IfFlagged (flags ran due j) (RewrittenOn plain symbols all j))
+          (goes-by (λ j. IfFlagged (flags ran due j) (RewrittenOn made symbols all j))
           (λ j held below. by_flag j held below (flags ran due j) (flagged-is j)));
     }
       where
@@ -335,7 +334,7 @@ module _ (start : State) (O : IsOpenAtRest start 1) (w : State) (job : Job)
             (stores-all s job all) b)
 
         by_flag : (j : ℕ) (held : Held) → j < s.n → (b : Bool) → job.flagged j ≡ b →
-            IfFlagged b (RewrittenOn plain symbols all j) held (after x job.given j acts held)
+            IfFlagged b (RewrittenOn made symbols all j) held (after x job.given j acts held)
         by_flag j held below true f = record {
           stored = all-each (λ (p : Place). after x job.given j acts held p.object p.stripe
               ≡ Some (column_at x job.given j p.object p.stripe)) all
@@ -387,7 +386,7 @@ IsNoWork (Work o t) = ⊥
 IsNoWork action = Unit {0}
 
 module _ (start new : State) (how : Answer) (heard : List Entry) (O : IsOpenAtRest start 1)
-    (E : Ends start RepairJob how heard new) (due : Due) (is-due : due_of start.records ≡ Some due) where
+    (E : Ends start RepairJob None how heard new) (due : Due) (is-due : due_of start.records ≡ Some due) where
   abbrev Gives : Answer → Type 0
   Gives a = RepairGives (ran_from start new heard) due a
 
@@ -524,13 +523,13 @@ module _ (start new : State) (how : Answer) (heard : List Entry) (O : IsOpenAtRe
             stripe_is = sym c.2;
             loses = subst (λ m. LosesRow (object_numbered (ran_from start new heard) place.object) t
                 (blocks_given E.job.given sx.n place.object m) row) c.2
-                (subst (λ (z : Object). LosesRow z t (blocks_given E.job.given sx.n place.object t) row)
-                (sym (numbered-plain start O (ran_from start new heard) refl place.object))
-                (subst (λ n. LosesRow (object_of sx n) t (blocks_given E.job.given sx.n n t) row) c.1
+                (subst (λ n. LosesRow (object_numbered (ran_from start new heard) n) t
+                (blocks_given E.job.given sx.n n t) row) c.1
                 (subst (λ (z : Object). LosesRow z t (blocks_given E.job.given sx.n o t) row)
-                (worked-plain start O RepairJob E.before E.job E.walked o)
+                (worked-made start O RepairJob E.before E.job E.walked o
+                ∙ made-numbered start O RepairJob E.job (ran_from start new heard) refl refl o)
                 (subst (λ n. LosesRow (worked_object E.before E.job o) t (blocks_given E.job.given n o t) row)
-                (ap (λ (u : Setup). u.n) E.walked.setup) loses))));
+                (ap (λ (u : Setup). u.n) E.walked.setup) loses)));
           })
     ]
 
@@ -799,11 +798,11 @@ module _ (start new : State) (how : Answer) (heard : List Entry) (O : IsOpenAtRe
 
 -- a repair leaves flagged providers rewritten in all places, or in some where it failed or was cut
 pub repairs-leave : (start new : State) (moment : ℕ) (how : Answer) (heard : List Entry) →
-    IsOpenAtRest start 1 → RunsJob start moment RepairJob how heard new →
-    Leaves (ran_from start new heard) RepairJob how
+    IsOpenAtRest start 1 → RunsJob start moment RepairJob None how heard new →
+    Leaves (ran_from start new heard) RepairJob None how
 unfolding setup_in
 repairs-leave start new moment how heard O r =
-    (let E = job-ends start new moment RepairJob how heard O tt r in
+    (let E = job-ends start new moment RepairJob None how heard O tt (MayName.none refl) r in
     let due = is_some-at (due_of start.records) (begun-repair 8 start RepairJob None r.begins.1 refl) in
     record {
       by_kind = (
@@ -814,6 +813,6 @@ repairs-leave start new moment how heard O r =
         },
         repair-silent start new how heard O E due.0 due.1,
       );
-      counts = counts-rise start new RepairJob how heard O E;
-      others = others-stay start new RepairJob how heard O E;
+      counts = counts-rise start new RepairJob None how heard O E;
+      others = others-stay start new RepairJob None how heard O E;
     })

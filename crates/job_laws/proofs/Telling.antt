@@ -24,6 +24,7 @@ use Rattle.opening_defs.proofs.Opened.{opened-over, has-setup, state_with, opene
 use Rattle.command_defs.specs.JobRuns.{RunsJob}
 use Rattle.command_defs.specs.Jobs.{Leaves, LeftAlone, RanAlone, RunsAlone}
 use Rattle.state_laws.specs.Sound.{IsWholeJournal}
+use Rattle.lone_laws.specs.Walked.{MayName}
 use Rattle.job_laws.proofs.Runs.{job-ends}
 use Rattle.job_laws.proofs.Whole.{runs-whole}
 use Rattle.job_laws.proofs.Audits.{audits-leave}
@@ -67,22 +68,22 @@ state-over records faults providers accepted =
 
 -- ---- what is left of the run
 
-module _ (records : List Record) (kind : Kind) (answer : Answer) (old new : Seen) (heard : List Entry)
-    (spelled : IsSpelledKind kind)
-    (law : (w last : State) (moment : ℕ) → IsOpenAtRest w 1 → RunsJob w moment kind answer heard last →
-    Leaves (ran_from w last heard) kind answer)
+module _ (records : List Record) (kind : Kind) (own : Option ℕ) (answer : Answer) (old new : Seen)
+    (heard : List Entry) (spelled : IsSpelledKind kind) (named : MayName kind own)
+    (law : (w last : State) (moment : ℕ) → IsOpenAtRest w 1 → RunsJob w moment kind own answer heard last →
+    Leaves (ran_from w last heard) kind own answer)
     (R : opens.IsOpened old records) (same : length new.providers ≡ length old.providers)
-    (A : RunsAlone records kind answer old new heard) where
+    (A : RunsAlone records kind own answer old new heard) where
   abbrev w : State
   w = opened_state records A.faults old.providers
 
   over : IsOpenedOver w records A.faults old.providers
   over = state-over records A.faults old.providers R.read.accepted
 
-  ran : RanAlone records kind answer old new heard A.faults w 1
+  ran : RanAlone records kind own answer old new heard A.faults w 1
   ran = A.ran w 1 over
 
-  left-by : Leaves (ran_from w ran.last heard) kind answer
+  left-by : Leaves (ran_from w ran.last heard) kind own answer
   left-by = law w ran.last 1 (over-opened w old records A.faults R over) ran.runs
 
   provider-is : (j : ℕ) → ran.last.providers j ≡ provider_at new.providers j
@@ -99,8 +100,8 @@ module _ (records : List Record) (kind : Kind) (answer : Answer) (old new : Seen
 
   -- the disk holds the whole history
   whole : IsWholeJournal ran.last
-  whole = runs-whole w (over-opened w old records A.faults R over) kind ran.last 1 answer heard spelled
-      ran.runs
+  whole = runs-whole w (over-opened w old records A.faults R over) kind own ran.last 1 answer heard spelled
+      named ran.runs
 
   image-stands : (image : List ℕ) → StandsPlain ran.last image ⊎
       (StandsWithDoubt ran.last image ⊎ StandsSwitched ran.last image) →
@@ -124,7 +125,7 @@ module _ (records : List Record) (kind : Kind) (answer : Answer) (old new : Seen
   images-stand (Some cells) h = λ image is. image-stands image (h image is)
 
   -- what a command tells of its job's run leaves what a job of its kind leaves
-  pub left-alone : LeftAlone records kind answer old new heard
+  pub left-alone : LeftAlone records kind own answer old new heard
   left-alone = record {
     faults = A.faults;
     before = A.before;
@@ -132,9 +133,9 @@ module _ (records : List Record) (kind : Kind) (answer : Answer) (old new : Seen
     doubt = option_map (λ (d : Doubt). d.entry) ran.last.doubt;
     leaves = subst (λ n. Leaves
         (record (ran_alone records old new heard A.faults ran.last.records
-        (option_map (λ (d : Doubt). d.entry) ran.last.doubt)) { disk_after = n }) kind answer)
+        (option_map (λ (d : Doubt). d.entry) ran.last.doubt)) { disk_after = n }) kind own answer)
         ran.faults_are
-        (subst (λ (f : ℕ → Provider). Leaves (record (ran_from w ran.last heard) { new = f }) kind answer)
+        (subst (λ (f : ℕ → Provider). Leaves (record (ran_from w ran.last heard) { new = f }) kind own answer)
         (λ i j. provider-is j i) left-by);
     images = images-stand new.disk ran.images;
     past_text = ran.past_text;
@@ -142,20 +143,40 @@ module _ (records : List Record) (kind : Kind) (answer : Answer) (old new : Seen
 
 -- ---- each kind of job
 
+-- only a put names a profile
+others-name-none : (kind : Kind) (p : ℕ) → MayName kind (Some p) →
+    ((name bytes : List ℕ) → kind ≡ PutJob name bytes → ⊥) → ⊥
+others-name-none kind p (MayName.none e) other = absurd (let f : Some p ≡ None = e in cc)
+others-name-none kind p (MayName.put name bytes e) other = other name bytes e
+
 -- a job of each kind that runs alone leaves what its kind says
-pub jobs-leave : (kind : Kind) (w last : State) (moment : ℕ) (answer : Answer) (heard : List Entry) →
-    IsSpelledKind kind → IsOpenAtRest w 1 → RunsJob w moment kind answer heard last →
-    Leaves (ran_from w last heard) kind answer
-jobs-leave (PutJob name bytes) w last moment answer heard spelled O r =
-    put-leaves w last name bytes answer heard O
-    (job-ends w last moment (PutJob name bytes) answer heard O spelled r)
-jobs-leave (GetJob name) w last moment answer heard spelled O r =
-    all-leaves w last name answer heard O (job-ends w last moment (GetJob name) answer heard O spelled r)
-jobs-leave (DropJob name) w last moment answer heard spelled O r =
+pub jobs-leave : (kind : Kind) (own : Option ℕ) (w last : State) (moment : ℕ) (answer : Answer)
+    (heard : List Entry) → IsSpelledKind kind → MayName kind own → IsOpenAtRest w 1 →
+    RunsJob w moment kind own answer heard last → Leaves (ran_from w last heard) kind own answer
+jobs-leave (PutJob name bytes) own w last moment answer heard spelled named O r =
+    put-leaves w last name bytes own answer heard O
+    (job-ends w last moment (PutJob name bytes) own answer heard O spelled named r)
+jobs-leave (GetJob name) None w last moment answer heard spelled named O r =
+    all-leaves w last name answer heard O
+    (job-ends w last moment (GetJob name) None answer heard O spelled named r)
+jobs-leave (DropJob name) None w last moment answer heard spelled named O r =
     (let f = drop-has 8 w name r.begins.1 in
     drop-leaves w last name answer heard O
-    (job-ends w last moment (DropJob name) answer heard O spelled r) f.0 f.1)
-jobs-leave AuditJob w last moment answer heard spelled O r = audits-leave w last moment answer heard O r
-jobs-leave RepairJob w last moment answer heard spelled O r = repairs-leave w last moment answer heard O r
-jobs-leave UpgradeJob w last moment answer heard spelled O r =
-    upgrade-leaves w last answer heard O (job-ends w last moment UpgradeJob answer heard O spelled r)
+    (job-ends w last moment (DropJob name) None answer heard O spelled named r) f.0 f.1)
+jobs-leave AuditJob None w last moment answer heard spelled named O r =
+    audits-leave w last moment answer heard O r
+jobs-leave RepairJob None w last moment answer heard spelled named O r =
+    repairs-leave w last moment answer heard O r
+jobs-leave UpgradeJob None w last moment answer heard spelled named O r =
+    upgrade-leaves w last answer heard O
+    (job-ends w last moment UpgradeJob None answer heard O spelled named r)
+jobs-leave (GetJob name) (Some p) w last moment answer heard spelled named O r =
+    absurd (others-name-none (GetJob name) p named (λ n b e. cc))
+jobs-leave (DropJob name) (Some p) w last moment answer heard spelled named O r =
+    absurd (others-name-none (DropJob name) p named (λ n b e. cc))
+jobs-leave AuditJob (Some p) w last moment answer heard spelled named O r =
+    absurd (others-name-none AuditJob p named (λ n b e. cc))
+jobs-leave RepairJob (Some p) w last moment answer heard spelled named O r =
+    absurd (others-name-none RepairJob p named (λ n b e. cc))
+jobs-leave UpgradeJob (Some p) w last moment answer heard spelled named O r =
+    absurd (others-name-none UpgradeJob p named (λ n b e. cc))

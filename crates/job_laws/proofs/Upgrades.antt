@@ -47,7 +47,7 @@ IsStill (Remove k o) = ⊥
 IsStill action = Unit {0}
 
 module _ (start new : State) (how : Answer) (heard : List Entry) (O : IsOpenAtRest start 1)
-    (E : Ends start UpgradeJob how heard new) where
+    (E : Ends start UpgradeJob None how heard new) where
   abbrev upgrade_with : With
   upgrade_with = with_job_of start UpgradeJob E.job
 
@@ -230,10 +230,10 @@ module _ (start new : State) (how : Answer) (heard : List Entry) (O : IsOpenAtRe
       (listed (Work o t) at (λ e. cc)))
 
   -- an upgrade leaves its record, and providers as they were; or it was cut off
-  pub upgrade-leaves : Leaves ran UpgradeJob how
+  pub upgrade-leaves : Leaves ran UpgradeJob None how
   unfolding setup_in
   upgrade-leaves = record {
     by_kind = (by-action E.action refl E.acts, no-fetches, nothing-heard);
-    counts = counts-rise start new UpgradeJob how heard O E;
-    others = others-stay start new UpgradeJob how heard O E;
+    counts = counts-rise start new UpgradeJob None how heard O E;
+    others = others-stay start new UpgradeJob None how heard O E;
   }

@@ -6,15 +6,15 @@ use Rattle.machine_defs.specs.Answers as answer
 use Rattle.machine_defs.specs.Answers.{Answer}
 use Rattle.machine_defs.specs.Events.{IsSpelledKind, Outcome, More, Ended, Waiting}
 use Rattle.machine_defs.specs.Heard.{Entry}
-use Rattle.machine_defs.specs.States.{State, Append}
-use Rattle.machine_defs.specs.Begins.{new_job}
+use Rattle.machine_defs.specs.States.{State, Append, setup_in}
+use Rattle.machine_defs.specs.Begins.{chosen, beginning}
 use Rattle.machine_defs.specs.Appends.{Moves}
 use Rattle.machine_defs.specs.Steps.{Acts}
 use Rattle.machine_defs.specs.Runs.{Moment, now}
 use Rattle.opening_defs.specs.Opened.{IsOpenAtRest}
 use Rattle.command_defs.specs.JobRuns.{AreSteps, GoesOnTo, RunsJob}
 use Rattle.state_laws.specs.Sound.{IsWholeJournal}
-use Rattle.lone_laws.specs.Walked.{Walked}
+use Rattle.lone_laws.specs.Walked.{MayName, WalkedAt}
 use Rattle.lone_laws.proofs.Walk.{walk-begin, step-acts}
 use Rattle.job_laws.proofs.Runs.{walk-steps}
 
@@ -83,21 +83,22 @@ module _ (old : State) (job : Job) (new : State) where
             ∙ W.unswitched;
       })
 
-module _ (start : State) (O : IsOpenAtRest start 1) (kind : Kind) where
-  steps-whole : (w : State) (job : Job) (moment : ℕ) (ms : List Moment) → Walked start kind w job →
+module _ (start : State) (O : IsOpenAtRest start 1) (kind : Kind) (own : Option ℕ) where
+  steps-whole : (w : State) (job : Job) (moment : ℕ) (ms : List Moment) →
+      WalkedAt start kind (chosen (setup_in start) own) w job →
       AreSteps w moment 1 ms → IsWholeJournal w → IsWholeJournal (now w ms)
   steps-whole w job moment [] W h whole = whole
   steps-whole w job moment (m ∷ ms) W (event, outcome, happens, rest) whole =
-      (let r = walk-steps start w kind job moment ms O W rest in
+      (let r = walk-steps start w kind (chosen (setup_in start) own) job moment ms O W rest in
       let a = step-acts start O kind (now w ms) r.0 r.1 More m.state
       (λ n e. absurd (let f : More ≡ Waiting n = e in cc)) happens in
       acts-whole (now w ms) r.0 m.state a.0 More a.3 (steps-whole w job moment ms W rest whole))
 
   -- a job that runs alone leaves the disk with the whole history
   pub runs-whole : (new : State) (moment : ℕ) (how : Answer) (heard : List Entry) → IsSpelledKind kind →
-      RunsJob start moment kind how heard new → IsWholeJournal new
-  runs-whole new moment how heard spelled r =
-      (let b = walk-begin moment r.job start r.begun kind O spelled r.begins in
+      MayName kind own → RunsJob start moment kind own how heard new → IsWholeJournal new
+  runs-whole new moment how heard spelled named r =
+      (let b = walk-begin moment r.job start r.begun kind own named O spelled r.begins in
       let g : GoesOnTo r.begun (moment + 1) 1 how heard new =
       subst (λ n. GoesOnTo r.begun (moment + 1) n how heard new) b.0 r.goes_on in
       let begun : IsWholeJournal r.begun = subst IsWholeJournal (sym r.begins.3)
@@ -106,9 +107,9 @@ module _ (start : State) (O : IsOpenAtRest start 1) (kind : Kind) where
         area = O.rest.whole.area;
         unswitched = O.rest.whole.unswitched;
       }) in
-      let last = walk-steps start r.begun kind (new_job start moment kind)
-      (moment + 1) g.steps O b.1 g.are_steps in
+      let last = walk-steps start r.begun kind (chosen (setup_in start) own)
+      (beginning start moment kind own) (moment + 1) g.steps O b.1 g.are_steps in
       let a = step-acts start O kind (now r.begun g.steps) last.0 last.1 (Ended how) new
       (λ n e. absurd (let f : Ended how ≡ Waiting n = e in cc)) g.ends in
       acts-whole (now r.begun g.steps) last.0 new a.0 (Ended how) a.3
-      (steps-whole r.begun (new_job start moment kind) (moment + 1) g.steps b.1 g.are_steps begun))
+      (steps-whole r.begun (beginning start moment kind own) (moment + 1) g.steps b.1 g.are_steps begun))

@@ -1,5 +1,5 @@
 //! What the job of a command leaves, by the run that the command tells of.
-ghost use Rattle.std.specs.Prelude.{◌≡◌, ℕ, List, length};
+ghost use Rattle.std.specs.Prelude.{◌≡◌, ℕ, List, length, Option};
 ghost use Rattle.device_defs.specs.Providers.{Provider};
 ghost use Rattle.record_defs.specs.Records.{Record};
 ghost use Rattle.record_defs.specs.Acceptance.{AreAccepted};
@@ -11,6 +11,7 @@ ghost use Rattle.machine_defs.specs.Heard.{Entry};
 ghost use Rattle.command_defs.specs.Seen.{Seen};
 ghost use Rattle.command_defs.specs.Opens as opens;
 ghost use Rattle.opening_defs.specs.Opened.{IsOpenedOver, IsOpenAtRest};
+ghost use Rattle.lone_laws.specs.Walked.{MayName};
 ghost use Rattle.command_defs.specs.Jobs.{RunsAlone, LeftAlone};
 
 /// A state that was opened over records which a start has read, with enough providers, is one from which the
@@ -26,9 +27,9 @@ pub fn opened_states()
 
 /// What a job of any kind leaves whose command tells of its run.
 pub fn told_jobs_leave()
-    ensures { (records : List Record) (kind : Kind) (answer : Answer) (old new : Seen) (heard : List Entry)
-        → opens.IsOpened old records →
-        IsSpelledKind kind → length new.providers ≡ length old.providers
-        → RunsAlone records kind answer old new heard →
-        LeftAlone records kind answer old new heard }
+    ensures { (records : List Record) (kind : Kind) (own : Option ℕ) (answer : Answer) (old new : Seen)
+        (heard : List Entry) → opens.IsOpened old records →
+        IsSpelledKind kind → MayName kind own → length new.providers ≡ length old.providers
+        → RunsAlone records kind own answer old new heard →
+        LeftAlone records kind own answer old new heard }
 {}

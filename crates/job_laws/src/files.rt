@@ -1,6 +1,6 @@
 //! What gets, puts, drops and upgrades leave that run alone, and when jobs end well, from a state whose vault
 //! was just opened.
-ghost use Rattle.std.specs.Prelude.{◌≡◌, ◌⊎◌, ℕ, ◌+◌, ◌<◌, ◌≤◌, List, length, Some};
+ghost use Rattle.std.specs.Prelude.{◌≡◌, ◌⊎◌, ℕ, ◌+◌, ◌<◌, ◌≤◌, List, length, Option, None, Some};
 ghost use Rattle.device_defs.specs.Faults.{Rose};
 ghost use Rattle.record_defs.specs.Table.{File};
 ghost use Rattle.machine_defs.specs.Jobs.{PutJob, GetJob, DropJob, AuditJob, RepairJob, UpgradeJob};
@@ -18,16 +18,16 @@ ghost use Rattle.job_laws.specs.Failing.{bad_count};
 pub fn gets_leave()
     ensures { (w new : State) (moment : ℕ) (name : List ℕ) (answer : Answer) (heard : List Entry)
         → IsOpenAtRest w 1 → IsSpelledKind (GetJob name) →
-        RunsJob w moment (GetJob name) answer heard new → Leaves (ran_from w new heard) (GetJob name) answer }
+        RunsJob w moment (GetJob name) None answer heard new → Leaves (ran_from w new heard) (GetJob name) None answer }
 {}
 
-/// What a put leaves, however it ends: the file on every provider, or a part of it under a number that is not
-/// used again.
+/// What a put leaves, however it ends, with the profile that it names or else the setup's: the file on every
+/// provider, or a part of it under a number that is not used again.
 pub fn puts_leave()
-    ensures { (w new : State) (moment : ℕ) (name bytes : List ℕ) (answer : Answer) (heard : List Entry)
-        → IsOpenAtRest w 1 → IsSpelledKind (PutJob name bytes) →
-        RunsJob w moment (PutJob name bytes) answer heard new
-        → Leaves (ran_from w new heard) (PutJob name bytes) answer }
+    ensures { (w new : State) (moment : ℕ) (name bytes : List ℕ) (own : Option ℕ) (answer : Answer)
+        (heard : List Entry) → IsOpenAtRest w 1 → IsSpelledKind (PutJob name bytes) →
+        RunsJob w moment (PutJob name bytes) own answer heard new
+        → Leaves (ran_from w new heard) (PutJob name bytes) own answer }
 {}
 
 /// What a drop leaves, however it ends: the file on no provider, but for blocks that stay where a count of
@@ -35,16 +35,16 @@ pub fn puts_leave()
 pub fn drops_leave()
     ensures { (w new : State) (moment : ℕ) (name : List ℕ) (answer : Answer) (heard : List Entry)
         → IsOpenAtRest w 1 → IsSpelledKind (DropJob name) →
-        RunsJob w moment (DropJob name) answer heard new
-        → Leaves (ran_from w new heard) (DropJob name) answer }
+        RunsJob w moment (DropJob name) None answer heard new
+        → Leaves (ran_from w new heard) (DropJob name) None answer }
 {}
 
 /// What an upgrade leaves, however it ends: the journal has its second version, and providers hold what they
 /// held.
 pub fn upgrades_leave()
     ensures { (w new : State) (moment : ℕ) (answer : Answer) (heard : List Entry) → IsOpenAtRest w 1
-        → RunsJob w moment UpgradeJob answer heard new →
-        Leaves (ran_from w new heard) UpgradeJob answer }
+        → RunsJob w moment UpgradeJob None answer heard new →
+        Leaves (ran_from w new heard) UpgradeJob None answer }
 {}
 
 /// What follows for a get from how many providers are wrong for the file, or failed, as the run began and
@@ -52,19 +52,19 @@ pub fn upgrades_leave()
 pub fn few_bad_providers_give_file()
     ensures complete { (w new : State) (moment : ℕ) (name bytes : List ℕ) (answer : Answer)
         (heard : List Entry) (file : File) → IsOpenAtRest w 1 →
-        IsSpelledKind (GetJob name) → RunsJob w moment (GetJob name) answer heard new
+        IsSpelledKind (GetJob name) → RunsJob w moment (GetJob name) None answer heard new
         → file_in w name ≡ Some file → AreBytes bytes →
         length bytes ≡ file.size → bad_count (ran_from w new heard) file bytes ≤ (setup_in w).b
         → answer ≡ Got bytes }
     ensures right { (w new : State) (moment : ℕ) (name bytes got : List ℕ) (heard : List Entry)
         (file : File) → IsOpenAtRest w 1 →
-        IsSpelledKind (GetJob name) → RunsJob w moment (GetJob name) (Got got) heard new
+        IsSpelledKind (GetJob name) → RunsJob w moment (GetJob name) None (Got got) heard new
         → file_in w name ≡ Some file → AreBytes bytes →
         length bytes ≡ file.size → bad_count (ran_from w new heard) file bytes ≤ (setup_in w).b + 1
         → got ≡ bytes }
     ensures forged { (w new : State) (moment : ℕ) (name bytes got : List ℕ) (heard : List Entry)
         (file : File) → IsOpenAtRest w 1 →
-        IsSpelledKind (GetJob name) → RunsJob w moment (GetJob name) (Got got) heard new
+        IsSpelledKind (GetJob name) → RunsJob w moment (GetJob name) None (Got got) heard new
         → file_in w name ≡ Some file → AreBytes bytes →
         length bytes ≡ file.size → (got ≡ bytes) ⊎ HoldsForgery (file_object w file) bytes 1 heard }
 {}
@@ -72,9 +72,9 @@ pub fn few_bad_providers_give_file()
 /// A put stores the file, or found no memory, unless a count of faults rose: the disk's, or that of a
 /// provider's stores.
 pub fn puts_end_well()
-    ensures { (w new : State) (moment : ℕ) (name bytes : List ℕ) (answer : Answer) (heard : List Entry)
-        → IsOpenAtRest w 1 → IsSpelledKind (PutJob name bytes) →
-        RunsJob w moment (PutJob name bytes) answer heard new → (Rose w.disk_faults new.disk_faults → ⊥) →
+    ensures { (w new : State) (moment : ℕ) (name bytes : List ℕ) (own : Option ℕ) (answer : Answer)
+        (heard : List Entry) → IsOpenAtRest w 1 → IsSpelledKind (PutJob name bytes) →
+        RunsJob w moment (PutJob name bytes) own answer heard new → (Rose w.disk_faults new.disk_faults → ⊥) →
         ((j : ℕ) → j < (setup_in w).n → Rose (w.providers j).store_faults (new.providers j).store_faults
         → ⊥) →
         (answer ≡ Put) ⊎ (answer ≡ Memory) }
@@ -84,7 +84,7 @@ pub fn puts_end_well()
 pub fn drops_end_well()
     ensures { (w new : State) (moment : ℕ) (name : List ℕ) (answer : Answer) (heard : List Entry)
         → IsOpenAtRest w 1 → IsSpelledKind (DropJob name) →
-        RunsJob w moment (DropJob name) answer heard new → (Rose w.disk_faults new.disk_faults → ⊥)
+        RunsJob w moment (DropJob name) None answer heard new → (Rose w.disk_faults new.disk_faults → ⊥)
         → (answer ≡ Dropped) ⊎ (answer ≡ Memory) }
 {}
 
@@ -92,7 +92,7 @@ pub fn drops_end_well()
 /// rose.
 pub fn upgrades_end_well()
     ensures { (w new : State) (moment : ℕ) (answer : Answer) (heard : List Entry) → IsOpenAtRest w 1
-        → RunsJob w moment UpgradeJob answer heard new →
+        → RunsJob w moment UpgradeJob None answer heard new →
         (Rose w.disk_faults new.disk_faults → ⊥) → (answer ≡ Upgraded) ⊎ (answer ≡ Memory) }
 {}
 
@@ -100,7 +100,7 @@ pub fn upgrades_end_well()
 /// do.
 pub fn audits_end_well()
     ensures { (w new : State) (moment : ℕ) (answer : Answer) (heard : List Entry) → IsOpenAtRest w 1
-        → RunsJob w moment AuditJob answer heard new →
+        → RunsJob w moment AuditJob None answer heard new →
         (Rose w.disk_faults new.disk_faults → ⊥)
         → ((number undecided : ℕ) × (counts : List ℕ) × (answer ≡ Audited number undecided counts))
         ⊎ (answer ≡ Memory) }
@@ -111,7 +111,7 @@ pub fn audits_end_well()
 /// provider's stores.
 pub fn repairs_end_well()
     ensures { (w new : State) (moment : ℕ) (answer : Answer) (heard : List Entry) (bytes : ℕ → List ℕ)
-        → IsOpenAtRest w 1 → RunsJob w moment RepairJob answer heard new →
+        → IsOpenAtRest w 1 → RunsJob w moment RepairJob None answer heard new →
         (Rose w.disk_faults new.disk_faults → ⊥) →
         ((j : ℕ) → j < (setup_in w).n → Rose (w.providers j).store_faults (new.providers j).store_faults
         → ⊥) →

@@ -1,5 +1,5 @@
 //! What a job leaves that runs alone, from a state whose vault was just opened.
-ghost use Rattle.std.specs.Prelude.{◌≡◌, ℕ, ◌≤◌, true, IsTrue, List, length, is_some};
+ghost use Rattle.std.specs.Prelude.{◌≡◌, ℕ, ◌≤◌, true, IsTrue, List, length, Option, None, is_some};
 ghost use Rattle.std.specs.List.{list_all};
 ghost use Rattle.device_defs.specs.Providers.{Provider};
 ghost use Rattle.record_defs.specs.Records.{Record, is_in_grammar, largest_journal};
@@ -14,6 +14,7 @@ ghost use Rattle.machine_defs.specs.Heard.{Entry};
 ghost use Rattle.command_defs.specs.Opens.{setup_in_effect};
 ghost use Rattle.command_defs.specs.Ran.{ran_from};
 ghost use Rattle.opening_defs.specs.Opened.{IsOpenedOver, IsOpenAtRest};
+ghost use Rattle.lone_laws.specs.Walked.{MayName};
 ghost use Rattle.command_defs.specs.JobRuns.{RunsJob};
 ghost use Rattle.command_defs.specs.Jobs.{Leaves};
 
@@ -30,20 +31,20 @@ pub fn opened_states_are_opened()
 /// What an audit leaves, however it ends.
 pub fn audits_leave()
     ensures { (w new : State) (moment : ℕ) (answer : Answer) (heard : List Entry) → IsOpenAtRest w 1
-        → RunsJob w moment AuditJob answer heard new →
-        Leaves (ran_from w new heard) AuditJob answer }
+        → RunsJob w moment AuditJob None answer heard new →
+        Leaves (ran_from w new heard) AuditJob None answer }
 {}
 
 /// What a repair leaves, however it ends.
 pub fn repairs_leave()
     ensures { (w new : State) (moment : ℕ) (answer : Answer) (heard : List Entry) → IsOpenAtRest w 1
-        → RunsJob w moment RepairJob answer heard new →
-        Leaves (ran_from w new heard) RepairJob answer }
+        → RunsJob w moment RepairJob None answer heard new →
+        Leaves (ran_from w new heard) RepairJob None answer }
 {}
 
 /// What a job of any kind leaves, however it ends.
 pub fn jobs_leave()
-    ensures { (w new : State) (moment : ℕ) (kind : Kind) (answer : Answer) (heard : List Entry)
-        → IsOpenAtRest w 1 → IsSpelledKind kind →
-        RunsJob w moment kind answer heard new → Leaves (ran_from w new heard) kind answer }
+    ensures { (w new : State) (moment : ℕ) (kind : Kind) (own : Option ℕ) (answer : Answer)
+        (heard : List Entry) → IsOpenAtRest w 1 → IsSpelledKind kind → MayName kind own →
+        RunsJob w moment kind own answer heard new → Leaves (ran_from w new heard) kind own answer }
 {}

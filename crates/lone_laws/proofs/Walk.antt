@@ -21,7 +21,7 @@ use Rattle.machine_defs.specs.Given.{blocks_given, symbols_given, pinned_size, p
 use Rattle.machine_defs.specs.Answers as answer
 use Rattle.machine_defs.specs.Events.{Step, Begun, More, Ended, Waiting, IsSpelledKind, Outcome}
 use Rattle.machine_defs.specs.States.{State, Append, Doubt, Alone, worked_object, setup_in, file_in, with_provider, going_on}
-use Rattle.machine_defs.specs.Begins.{Begins, BeginsAt, pinned_for, chosen, beginning, new_job}
+use Rattle.machine_defs.specs.Begins.{BeginsAt, pinned_for, chosen, beginning}
 use Rattle.machine_defs.specs.Appends.{Writes, done_record, is_pinned, removable, taken_out, subject_drawn, is_first_append, begun_append, done_append, Moves}
 use Rattle.machine_defs.specs.Steps.{block_to_store, next_action, holder_of, Acts, ActsOrWaits, StepsOn, StepsJob, StepsOne, StepsOpen, Steps}
 use Rattle.machine_defs.specs.Machine.{Happens}
@@ -43,7 +43,7 @@ use Rattle.state_laws.proofs.Resting.{rest-sound}
 use Rattle.state_laws.proofs.Events.{events-sound}
 use Rattle.lone_laws.specs.Made.{object_made, block_stored, challenge_made, Did, Made}
 use Rattle.opening_defs.specs.Opened.{IsOpenAtRest}
-use Rattle.lone_laws.specs.Walked.{appends_of, first_record, IsSecondRecord, HasSubject, RecordsAre, with_job_at, TakesAway, WalkedAt, Walked}
+use Rattle.lone_laws.specs.Walked.{MayName, appends_of, first_record, IsSecondRecord, HasSubject, RecordsAre, with_job_at, TakesAway, WalkedAt}
 use Rattle.lone_laws.proofs.Lists.{take-more, made-append, made-one}
 use Rattle.lone_laws.proofs.Prefixes.{same-front, appends-whole, audit-over}
 
@@ -53,16 +53,22 @@ use Rattle.lone_laws.proofs.Prefixes.{same-front, appends-whole, audit-over}
 pub opened-sound : (start : State) → IsOpenAtRest start 1 → IsSound 8 start
 opened-sound start O = rest-sound 8 start O.rest
 
--- a begin, of a put also with a profile of its own
-walk-begin_at : (moment number : ℕ) (start new : State) (kind : Kind) (wish : Option ℕ) →
-    ((p : ℕ) → wish ≡ Some p → (name : List ℕ) × (bytes : List ℕ) × (kind ≡ PutJob name bytes)) →
-    IsOpenAtRest start 1 → IsSpelledKind kind → BeginsAt 8 moment start kind wish (Begun number) new →
+-- only a put names a profile
+only-put : (kind : Kind) (own : Option ℕ) → MayName kind own → (p : ℕ) → own ≡ Some p →
+    (name : List ℕ) × (bytes : List ℕ) × (kind ≡ PutJob name bytes)
+only-put kind own (MayName.none none) p e = absurd (let f : None ≡ Some p = sym none ∙ e in cc)
+only-put kind own (MayName.put name bytes is) p e = (name, bytes, is)
+
+-- a job that begins in a state just opened is job 1, and stands at its begin; a put may name a profile
+pub walk-begin : (moment number : ℕ) (start new : State) (kind : Kind) (wish : Option ℕ) →
+    MayName kind wish → IsOpenAtRest start 1 → IsSpelledKind kind →
+    BeginsAt 8 moment start kind wish (Begun number) new →
     (number ≡ 1) × WalkedAt start kind (chosen (setup_in start) wish) new (beginning start moment kind wish)
-walk-begin_at moment number start new kind wish named O spelled (opened, allowed, is_number, is) = (
+walk-begin moment number start new kind wish named O spelled (opened, allowed, is_number, is) = (
   is_number ∙ O.next,
   subst (λ (w : State). WalkedAt start kind (chosen (setup_in start) wish) w
       (beginning start moment kind wish)) (sym is) (record {
-        sound = begun-job 8 moment start (opened-sound start O) kind wish named opened allowed spelled
+        sound = begun-job 8 moment start (opened-sound start O) kind wish (only-put kind wish named) opened allowed spelled
             (omega arith, omega arith);
         opened = opened;
         unbarred = O.rest.idle.2;
@@ -105,14 +111,6 @@ walk-begin_at moment number start new kind wish named O spelled (opened, allowed
     older AuditJob = tt
     older RepairJob = tt
     older UpgradeJob = tt
-
--- a job that begins in a state just opened is job 1, and stands at its begin
-pub walk-begin : (moment number : ℕ) (start new : State) (kind : Kind) → IsOpenAtRest start 1 →
-    IsSpelledKind kind → Begins 8 moment start kind (Begun number) new →
-    (number ≡ 1) × Walked start kind new (new_job start moment kind)
-walk-begin moment number start new kind O spelled h =
-    walk-begin_at moment number start new kind None
-    (λ p e. absurd (let f : None ≡ Some p = e in cc)) O spelled h
 
 -- ---- steps
 

@@ -1,5 +1,6 @@
 -- A job that runs alone: where it stands after some of its steps.
 --
+--   MayName kind own                  == a put may name a profile of its own, and no other job
 --   appends_of w kind                 == how many records a job of this kind appends
 --   first_record w kind               == the first one, over the records of this state
 --   IsSecondRecord w job kind entry   == the second one: a put's end, or an audit's end with the sums of all
@@ -15,7 +16,7 @@
 --   WalkedAt start kind profile w job == this is the state, and the job in it, after some steps that went on,
 --                                        since the job began in `start`, with this profile
 --   Walked start kind w job           == the same of a job with the setup's profile
-use Rattle.std.specs.Prelude.{◌≡◌, ℕ, ◌+◌, ◌≤◌, true, false, List, [], ◌∷◌, length, take}
+use Rattle.std.specs.Prelude.{◌≡◌, ℕ, ◌+◌, ◌≤◌, true, false, List, [], ◌∷◌, length, take, Option, None}
 use Rattle.column_defs.specs.Verdicts.{Sums}
 use Rattle.record_defs.specs.Records.{Record, PutStart, Drop, AuditStart, AuditDone, RepairDone, Version}
 use Rattle.record_defs.specs.Table.{version_of, next_id, next_audit, due_of}
@@ -28,6 +29,11 @@ use Rattle.machine_defs.specs.Audits.{HasSums}
 use Rattle.machine_defs.specs.Appends.{done_record, removable}
 use Rattle.state_laws.specs.Sound.{IsSound}
 use Rattle.lone_laws.specs.Made.{With, Made}
+
+-- a put may name a profile of its own, and no other job
+pub data MayName (kind : Kind) (own : Option ℕ) : Type 0 where
+  none : own ≡ None → MayName kind own
+  put : (name bytes : List ℕ) → kind ≡ PutJob name bytes → MayName kind own
 
 -- how many records a job of this kind appends
 abbrev pub appends_of : State → Kind → ℕ

@@ -1,4 +1,5 @@
 use Rattle.machine_defs.specs.Jobs.{DropJob}
+use Rattle.lone_laws.specs.Walked.{MayName}
 use Rattle.job_laws.proofs.Runs.{job-ends}
 use Rattle.job_laws.proofs.Drops.{drop-leaves}
 use Rattle.job_laws.proofs.Refused.{drop-has}
@@ -7,5 +8,5 @@ use Rattle.job_laws.proofs.files.drops_leave.Goals as goal
 pub returns : goal.returns
 returns c w new moment name answer heard O spelled r =
     (let f = drop-has 8 w name r.begins.1 in
-    drop-leaves w new name answer heard O (job-ends w new moment (DropJob name) answer heard O spelled r)
+    drop-leaves w new name answer heard O (job-ends w new moment (DropJob name) None answer heard O spelled (MayName.none refl) r)
     f.0 f.1)

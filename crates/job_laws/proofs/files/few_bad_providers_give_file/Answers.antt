@@ -2,6 +2,7 @@ use Rattle.machine_defs.specs.Jobs.{GetJob}
 use Rattle.machine_defs.specs.Answers.{Got}
 use Rattle.machine_defs.specs.States.{setup_in}
 use Rattle.command_defs.specs.Ran.{ran_from}
+use Rattle.lone_laws.specs.Walked.{MayName}
 use Rattle.job_laws.proofs.Runs.{job-ends}
 use Rattle.job_laws.proofs.Gets.{all-leaves}
 use Rattle.job_laws.proofs.Complete.{shape-of, get-complete, get-right, get-forged}
@@ -12,18 +13,18 @@ unfolding setup_in
 returns-clause-complete c w new moment name bytes answer heard file O spelled r in_effect fits size few =
     get-complete (ran_from w new heard) name bytes file (shape-of w new heard O) in_effect fits size answer
     (all-leaves w new name answer heard O
-    (job-ends w new moment (GetJob name) answer heard O spelled r)).by_kind few
+    (job-ends w new moment (GetJob name) None answer heard O spelled (MayName.none refl) r)).by_kind few
 
 pub returns-clause-right : goal.returns-clause-right
 unfolding setup_in
 returns-clause-right c w new moment name bytes got heard file O spelled r in_effect fits size few =
     get-right (ran_from w new heard) name bytes file (shape-of w new heard O) in_effect fits size got
     (all-leaves w new name (Got got) heard O
-    (job-ends w new moment (GetJob name) (Got got) heard O spelled r)).by_kind few
+    (job-ends w new moment (GetJob name) None (Got got) heard O spelled (MayName.none refl) r)).by_kind few
 
 pub returns-clause-forged : goal.returns-clause-forged
 unfolding setup_in
 returns-clause-forged c w new moment name bytes got heard file O spelled r in_effect fits size =
     get-forged (ran_from w new heard) name bytes file (shape-of w new heard O) in_effect fits size got
     (all-leaves w new name (Got got) heard O
-    (job-ends w new moment (GetJob name) (Got got) heard O spelled r)).by_kind
+    (job-ends w new moment (GetJob name) None (Got got) heard O spelled (MayName.none refl) r)).by_kind

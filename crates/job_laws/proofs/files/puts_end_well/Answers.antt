@@ -1,6 +1,7 @@
 use Rattle.machine_defs.specs.Jobs.{PutJob}
 use Rattle.machine_defs.specs.States.{setup_in}
 use Rattle.command_defs.specs.Ran.{ran_from}
+use Rattle.lone_laws.specs.Walked.{MayName}
 use Rattle.job_laws.proofs.Runs.{job-ends}
 use Rattle.job_laws.proofs.Puts.{put-leaves}
 use Rattle.job_laws.proofs.Complete.{put-end}
@@ -8,7 +9,8 @@ use Rattle.job_laws.proofs.files.puts_end_well.Goals as goal
 
 pub returns : goal.returns
 unfolding setup_in
-returns c w new moment name bytes answer heard O spelled r disk stores =
-    put-end (ran_from w new heard) name bytes answer
-    (put-leaves w new name bytes answer heard O
-    (job-ends w new moment (PutJob name bytes) answer heard O spelled r)).by_kind.0 disk stores
+returns c w new moment name bytes own answer heard O spelled r disk stores =
+    put-end (ran_from w new heard) own name bytes answer
+    (put-leaves w new name bytes own answer heard O
+    (job-ends w new moment (PutJob name bytes) own answer heard O spelled
+    (MayName.put name bytes refl) r)).by_kind.0 disk stores

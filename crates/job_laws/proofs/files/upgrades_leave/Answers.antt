@@ -1,8 +1,9 @@
 use Rattle.machine_defs.specs.Jobs.{UpgradeJob}
+use Rattle.lone_laws.specs.Walked.{MayName}
 use Rattle.job_laws.proofs.Runs.{job-ends}
 use Rattle.job_laws.proofs.Upgrades.{upgrade-leaves}
 use Rattle.job_laws.proofs.files.upgrades_leave.Goals as goal
 
 pub returns : goal.returns
 returns c w new moment answer heard O r =
-    upgrade-leaves w new answer heard O (job-ends w new moment UpgradeJob answer heard O tt r)
+    upgrade-leaves w new answer heard O (job-ends w new moment UpgradeJob None answer heard O tt (MayName.none refl) r)
