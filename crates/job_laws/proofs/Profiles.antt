@@ -1,12 +1,12 @@
 -- The object of a number among the files that a job works on, or among those in effect, is that of its file.
-use Rattle.std.proofs.Common.{◌≡◌, ℕ, ◌==◌, true, false, cond, List, [], ◌∷◌, map, Option, Some, refl, ap, sym, subst, ◌∙◌, inl, inr}
+use Rattle.std.proofs.Common.{◌≡◌, ℕ, ◌==◌, true, false, cond, List, [], ◌∷◌, map, Option, Some, refl, ap, sym, ◌∙◌, inl, inr}
 use Rattle.std.specs.Prelude.{nat_lt}
 use Rattle.std.proofs.lemmas.Bool.{cases_Bool, eqb-true, eq-eqb}
 use Rattle.algebra_laws.specs.Lists.{Each, In}
 use Rattle.record_defs.specs.Records.{Setup, Record}
 use Rattle.record_defs.specs.Table.{File, files_of, file_of}
 use Rattle.record_defs.specs.Acceptance.{AreAccepted}
-use Rattle.machine_defs.specs.Jobs.{Kind, GetJob, Pinned, Job}
+use Rattle.machine_defs.specs.Jobs.{Kind, GetJob, Job}
 use Rattle.machine_defs.specs.Setups.{profiled, object_of}
 use Rattle.machine_defs.specs.Begins.{pinned_file, pin_found, pin_all, pinned_for}
 use Rattle.machine_defs.specs.Given.{pinned_profile}

@@ -182,7 +182,8 @@ module _ (s : Setup) (profile : ℕ) (name bytes : List ℕ) (subject id : ℕ) 
       stored k o t p q at is c = goes-map Partly (with_block id t (block t)) (partly-store t) p.held q.held
           (subst (λ i. q.held ≡ option_map (with_block id t (columns made bytes i t)) p.held)
           (sym at)
-          (subst (λ i. q.held ≡ option_map (with_block i t (columns (object_of (profiled s profile) i) bytes k t)) p.held) is
+          (subst (λ i. q.held
+          ≡ option_map (with_block i t (columns (object_of (profiled s profile) i) bytes k t)) p.held) is
           c.held))
 
       one : (a : Action) (given now : List Given) (p q : Provider) → IsStoring a →
@@ -216,7 +217,8 @@ module _ (s : Setup) (profile : ℕ) (name bytes : List ℕ) (subject id count :
   }
 
   whole-some : (rose : Type 0) (f : File) (p q r : Held) → count ≡ stripes whole_made (length bytes) →
-      (f.id ≡ id → ⊥) → StoresRange s profile name bytes subject id pinned j 0 count p q → DroppedFrom f.id rose q r →
+      (f.id ≡ id → ⊥) → StoresRange s profile name bytes subject id pinned j 0 count p q →
+      DroppedFrom f.id rose q r →
       StoredOn whole_made bytes (Some f) rose j p r
   whole-some rose f p q r size apart R D = record {
     stored = λ t l. D.others id t (λ e. apart (sym e)) ∙ R.stored t (omega arith) (omega (arith, l, size));
@@ -409,7 +411,8 @@ module _ (start new : State) (name bytes : List ℕ) (own : Option ℕ) (how : A
           (remove_actions (setup_in start) E.job ++ End ∷ []) E.job.place action
           (ap (λ xs. slice_get xs E.job.place)
           (sym (put-parts (setup_in start) E.job name bytes E.walked.kind_is)) ∙ listed action at n)) [
-            | inl a ↦ subst (Each (IsStoring (setup_in start) its name bytes E.job.subject E.job.subject [] 0))
+            | inl a ↦ subst
+                (Each (IsStoring (setup_in start) its name bytes E.job.subject E.job.subject [] 0))
                 (sym (take-within (put_front (setup_in start) E.job bytes)
                 (remove_actions (setup_in start) E.job ++ End ∷ []) E.job.place
                 (let l = a.0 in omega (arith, l))))
@@ -794,7 +797,8 @@ module _ (start new : State) (name bytes : List ℕ) (own : Option ℕ) (how : A
         (λ h k R. whole-none (setup_in start) its name bytes E.job.subject (next_id start.records) count
         [] j rose h k k count-same R refl) (start.providers j).held p.held range)
     stored-on (Some f) j p q apart rose up range older =
-        goes-more (StoresRange (setup_in start) its name bytes E.job.subject (next_id start.records) [] j 0 count)
+        goes-more
+        (StoresRange (setup_in start) its name bytes E.job.subject (next_id start.records) [] j 0 count)
         (DroppedFrom f.id (Rose p.other_faults q.other_faults))
         (StoredOn stored_as bytes (Some f) rose j)
         (λ h k r R D. whole-some (setup_in start) its name bytes E.job.subject (next_id start.records) count

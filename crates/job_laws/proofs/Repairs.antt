@@ -19,7 +19,6 @@ use Rattle.device_defs.proofs.Lasting.{rose-before}
 use Rattle.record_defs.specs.Records.{Setup, Record, RepairDone}
 use Rattle.record_defs.specs.Table.{File, Due, files_of, due_of}
 use Rattle.machine_defs.specs.Jobs.{RepairJob, Given, Job}
-use Rattle.machine_defs.specs.Setups.{object_of}
 use Rattle.machine_defs.specs.Actions.{Action, WriteBody, SyncBody, WriteGate, SyncGate, Store, Fetch, Ask, Work, Remove, End, append_actions, open_actions, rewrite_actions, repair_actions, actions_of, appends_left}
 use Rattle.machine_defs.specs.Answers as answer
 use Rattle.machine_defs.specs.Answers.{Answer}

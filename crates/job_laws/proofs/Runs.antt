@@ -1,23 +1,15 @@
 -- The job of a command walks to its last step.
-use Rattle.std.proofs.Common.{◌≡◌, ℕ, ◌+◌, ◌≤◌, true, List, [], ◌∷◌, length, Option, Some, None, ap, sym, subst, ◌∙◌}
-use Rattle.std.specs.Prelude.{is_some, IsTrue}
-use Rattle.std.specs.List.{list_all}
+use Rattle.std.proofs.Common.{◌≡◌, ℕ, ◌+◌, List, [], ◌∷◌, length, Option, Some, None, ap, subst, ◌∙◌}
 use Rattle.machine_defs.specs.Jobs.{Kind, Job}
 use Rattle.machine_defs.specs.Actions.{Action}
 use Rattle.machine_defs.specs.Answers.{Answer}
 use Rattle.machine_defs.specs.Events.{Ended, IsSpelledKind}
 use Rattle.machine_defs.specs.States.{State, setup_in}
-use Rattle.device_defs.specs.Providers.{Provider}
-use Rattle.record_defs.specs.Records.{Record, is_in_grammar, largest_journal}
-use Rattle.record_defs.specs.Journal.{text_size}
-use Rattle.record_defs.specs.Table.{setup_of, file_of}
-use Rattle.record_defs.specs.Acceptance.{AreAccepted}
-use Rattle.command_defs.specs.Opens.{setup_in_effect}
 use Rattle.machine_defs.specs.Begins.{chosen, beginning}
 use Rattle.machine_defs.specs.Steps.{next_action, holder_of, Acts}
 use Rattle.machine_defs.specs.Runs.{Moment, now}
 use Rattle.machine_defs.specs.Heard.{Entry, heard_by}
-use Rattle.opening_defs.specs.Opened.{IsOpenedOver, IsOpenAtRest}
+use Rattle.opening_defs.specs.Opened.{IsOpenAtRest}
 use Rattle.command_defs.specs.JobRuns.{AreSteps, GoesOnTo, RunsJob}
 use Rattle.lone_laws.specs.Walked.{MayName, WalkedAt}
 use Rattle.lone_laws.proofs.Walk.{walk-begin, walk-step, walk-last, found}

@@ -18,7 +18,8 @@ ghost use Rattle.job_laws.specs.Failing.{bad_count};
 pub fn gets_leave()
     ensures { (w new : State) (moment : ℕ) (name : List ℕ) (answer : Answer) (heard : List Entry)
         → IsOpenAtRest w 1 → IsSpelledKind (GetJob name) →
-        RunsJob w moment (GetJob name) None answer heard new → Leaves (ran_from w new heard) (GetJob name) None answer }
+        RunsJob w moment (GetJob name) None answer heard new
+        → Leaves (ran_from w new heard) (GetJob name) None answer }
 {}
 
 /// What a put leaves, however it ends, with the profile that it names or else the setup's: the file on every

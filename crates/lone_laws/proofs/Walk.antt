@@ -68,7 +68,8 @@ walk-begin moment number start new kind wish named O spelled (opened, allowed, i
   is_number ∙ O.next,
   subst (λ (w : State). WalkedAt start kind (chosen (setup_in start) wish) w
       (beginning start moment kind wish)) (sym is) (record {
-        sound = begun-job 8 moment start (opened-sound start O) kind wish (only-put kind wish named) opened allowed spelled
+        sound = begun-job 8 moment start (opened-sound start O) kind wish (only-put kind wish named) opened
+            allowed spelled
             (omega arith, omega arith);
         opened = opened;
         unbarred = O.rest.idle.2;

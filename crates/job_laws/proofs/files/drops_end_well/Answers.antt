@@ -1,3 +1,4 @@
+use Rattle.std.proofs.Common.{None, refl}
 use Rattle.machine_defs.specs.Jobs.{DropJob}
 use Rattle.command_defs.specs.Ran.{ran_from}
 use Rattle.lone_laws.specs.Walked.{MayName}
@@ -11,5 +12,6 @@ pub returns : goal.returns
 returns c w new moment name answer heard O spelled r disk =
     (let f = drop-has 8 w name r.begins.1 in
     drop-end (ran_from w new heard) name answer
-    (drop-leaves w new name answer heard O (job-ends w new moment (DropJob name) None answer heard O spelled (MayName.none refl) r) f.0
+    (drop-leaves w new name answer heard O
+    (job-ends w new moment (DropJob name) None answer heard O spelled (MayName.none refl) r) f.0
     f.1).by_kind.0 disk)

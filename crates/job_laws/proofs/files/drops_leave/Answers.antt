@@ -1,3 +1,4 @@
+use Rattle.std.proofs.Common.{None, refl}
 use Rattle.machine_defs.specs.Jobs.{DropJob}
 use Rattle.lone_laws.specs.Walked.{MayName}
 use Rattle.job_laws.proofs.Runs.{job-ends}
@@ -8,5 +9,6 @@ use Rattle.job_laws.proofs.files.drops_leave.Goals as goal
 pub returns : goal.returns
 returns c w new moment name answer heard O spelled r =
     (let f = drop-has 8 w name r.begins.1 in
-    drop-leaves w new name answer heard O (job-ends w new moment (DropJob name) None answer heard O spelled (MayName.none refl) r)
+    drop-leaves w new name answer heard O
+    (job-ends w new moment (DropJob name) None answer heard O spelled (MayName.none refl) r)
     f.0 f.1)

@@ -1,3 +1,4 @@
+use Rattle.std.proofs.Common.{None, refl}
 use Rattle.machine_defs.specs.Jobs.{GetJob}
 use Rattle.machine_defs.specs.Answers.{Got}
 use Rattle.machine_defs.specs.States.{setup_in}

@@ -1,3 +1,4 @@
+use Rattle.std.proofs.Common.{None, refl}
 use Rattle.machine_defs.specs.Jobs.{GetJob}
 use Rattle.lone_laws.specs.Walked.{MayName}
 use Rattle.job_laws.proofs.Runs.{job-ends}
@@ -6,4 +7,5 @@ use Rattle.job_laws.proofs.files.gets_leave.Goals as goal
 
 pub returns : goal.returns
 returns c w new moment name answer heard O spelled r =
-    all-leaves w new name answer heard O (job-ends w new moment (GetJob name) None answer heard O spelled (MayName.none refl) r)
+    all-leaves w new name answer heard O
+    (job-ends w new moment (GetJob name) None answer heard O spelled (MayName.none refl) r)

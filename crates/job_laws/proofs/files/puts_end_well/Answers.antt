@@ -1,3 +1,4 @@
+use Rattle.std.proofs.Common.{refl}
 use Rattle.machine_defs.specs.Jobs.{PutJob}
 use Rattle.machine_defs.specs.States.{setup_in}
 use Rattle.command_defs.specs.Ran.{ran_from}

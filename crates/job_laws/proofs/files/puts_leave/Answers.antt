@@ -1,3 +1,4 @@
+use Rattle.std.proofs.Common.{refl}
 use Rattle.machine_defs.specs.Jobs.{PutJob}
 use Rattle.lone_laws.specs.Walked.{MayName}
 use Rattle.job_laws.proofs.Runs.{job-ends}

@@ -1,3 +1,4 @@
+use Rattle.std.proofs.Common.{None, refl}
 use Rattle.machine_defs.specs.Jobs.{UpgradeJob}
 use Rattle.command_defs.specs.Ran.{ran_from}
 use Rattle.lone_laws.specs.Walked.{MayName}
@@ -8,5 +9,6 @@ use Rattle.job_laws.proofs.files.upgrades_end_well.Goals as goal
 
 pub returns : goal.returns
 returns c w new moment answer heard O r disk = upgrade-end (ran_from w new heard) answer
-    (upgrade-leaves w new answer heard O (job-ends w new moment UpgradeJob None answer heard O tt (MayName.none refl) r)).by_kind.0
+    (upgrade-leaves w new answer heard O
+    (job-ends w new moment UpgradeJob None answer heard O tt (MayName.none refl) r)).by_kind.0
     disk

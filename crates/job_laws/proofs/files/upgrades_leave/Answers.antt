@@ -1,3 +1,4 @@
+use Rattle.std.proofs.Common.{None, refl}
 use Rattle.machine_defs.specs.Jobs.{UpgradeJob}
 use Rattle.lone_laws.specs.Walked.{MayName}
 use Rattle.job_laws.proofs.Runs.{job-ends}
@@ -6,4 +7,5 @@ use Rattle.job_laws.proofs.files.upgrades_leave.Goals as goal
 
 pub returns : goal.returns
 returns c w new moment answer heard O r =
-    upgrade-leaves w new answer heard O (job-ends w new moment UpgradeJob None answer heard O tt (MayName.none refl) r)
+    upgrade-leaves w new answer heard O
+    (job-ends w new moment UpgradeJob None answer heard O tt (MayName.none refl) r)
