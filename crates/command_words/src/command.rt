@@ -5,6 +5,7 @@ ghost use Rattle.command_words.specs.Commands.{command_of, BeginWithRow};
 
 use crate::init::{Numbers, read_init};
 use crate::row::{Row, read_row};
+use crate::word::read_number;
 use hail_field::Memory;
 use std::alloc::Global;
 
@@ -16,8 +17,9 @@ pub enum Command<'a> {
     Row(Row),
     /// `init` with the numbers of a setup.
     Init(Numbers),
-    /// `put` with a name.
-    Put { name: &'a [u8] },
+    /// `put` with a name, and the number of a profile where a word gives one. There may be no profile of this
+    /// number.
+    Put { name: &'a [u8], profile: Option<u8> },
     /// `get` with a name.
     Get { name: &'a [u8] },
     /// `drop` with a name.
@@ -28,6 +30,8 @@ pub enum Command<'a> {
     Audit,
     /// `repair`.
     Repair,
+    /// `upgrade`.
+    Upgrade,
 }
 
 /// The command that one word spells, or `None` where it spells none.
@@ -40,6 +44,7 @@ fn read_bare<'a>(word: &'a String) -> Option<Command<'a>>
         "list" => Some(Command::List),
         "audit" => Some(Command::Audit),
         "repair" => Some(Command::Repair),
+        "upgrade" => Some(Command::Upgrade),
         _ => None,
     }
 }
@@ -52,11 +57,32 @@ fn read_named<'a>(word: &'a String, name: &'a String) -> Option<Command<'a>>
 {
     let name = name.as_bytes();
     match word.as_str() {
-        "put" => Some(Command::Put { name }),
+        "put" => Some(Command::Put { name, profile: None }),
         "get" => Some(Command::Get { name }),
         "drop" => Some(Command::Drop { name }),
         _ => None,
     }
+}
+
+/// The put that a word, a name and the number of a profile spell, or `None` where they spell none.
+fn read_put_at<'a>(
+    word: &'a String,
+    name: &'a String,
+    profile: &'a String,
+) -> Option<Command<'a>>
+    ensures { MatchOption result
+        ((command : _) → IsForm (word.now ∷ name.now ∷ profile.now ∷ []) command → ⊥)
+        (λ command. IsForm (word.now ∷ name.now ∷ profile.now ∷ []) (command_of command)) }
+{
+    if word.as_str() != "put" {
+        return None;
+    }
+    let number = read_number(profile.as_str())?;
+    let profile = u8::try_from(number).ok()?;
+    Some(Command::Put {
+        name: name.as_bytes(),
+        profile: Some(profile),
+    })
 }
 
 /// The command that the words spell, or `None` where they are no form of a command. Only words that begin
@@ -70,6 +96,7 @@ pub fn read_command<'a>(alloc: Global, words: &'a [String]) -> Result<Option<Com
     match words {
         [word] => return Ok(read_bare(word)),
         [word, name] => return Ok(read_named(word, name)),
+        [word, name, profile] => return Ok(read_put_at(word, name, profile)),
         _ => {}
     }
     if let Some(numbers) = read_init(words) {

@@ -88,6 +88,10 @@ SpellsCommand ws (Once (Begin (GetJob name))) = ws ≡ codes "begin" ∷ codes "
 SpellsCommand ws (Once (Begin (DropJob name))) = ws ≡ codes "begin" ∷ codes "drop" ∷ name ∷ []
 SpellsCommand ws (Once (Begin AuditJob)) = ws ≡ codes "begin" ∷ codes "audit" ∷ []
 SpellsCommand ws (Once (Begin RepairJob)) = ws ≡ codes "begin" ∷ codes "repair" ∷ []
+SpellsCommand ws (Once (Begin UpgradeJob)) = ws ≡ codes "begin" ∷ codes "upgrade" ∷ []
+SpellsCommand ws (Once (BeginAt profile name bytes)) =
+    (digits number : Word) × (ws ≡ codes "begin" ∷ codes "put" ∷ name ∷ digits ∷ number ∷ [])
+    × IsHex digits bytes × IsNumber 8 number profile
 SpellsCommand ws (Once (Step job)) =
     (number : Word) × (ws ≡ codes "step" ∷ number ∷ []) × IsNumber 32 number job
 SpellsCommand ws (RunJob job) = (number : Word) × (ws ≡ codes "run" ∷ number ∷ []) × IsNumber 32 number job
@@ -98,8 +102,6 @@ SpellsCommand ws (Once (Stop picks)) =
     (digits : Word) × (ws ≡ codes "stop" ∷ digits ∷ []) × IsHex digits picks
 SpellsCommand ws (Once Names) = ws ≡ codes "list" ∷ []
 SpellsCommand ws (Once Continue) = ⊥
-SpellsCommand ws (Once (Begin UpgradeJob)) = ⊥
-SpellsCommand ws (Once (BeginAt profile name bytes)) = ⊥
 SpellsCommand ws (Once BeginScrub) = ⊥
 SpellsCommand ws (Once BeginPack) = ⊥
 

@@ -6,12 +6,13 @@ use Rattle.std.specs.Str.Parse.{digits_value}
 use Rattle.hex.specs.Hex.{decode_of}
 use Rattle.record_defs.specs.Records.{Setup}
 use Rattle.record_codec.specs.Reading.{◌>>=◌}
-use Rattle.machine_defs.specs.Jobs.{PutJob, GetJob, DropJob, AuditJob, RepairJob}
+use Rattle.machine_defs.specs.Jobs.{GetJob, DropJob, AuditJob, RepairJob, UpgradeJob}
 use Rattle.machine_defs.specs.Events.{Init, Begin, Step, Alter, Lose, Stop, Reopen, Names}
 use Rattle.machine_defs.specs.Transcripts.{Instruction, Once, RunJob}
 use Rattle.schedule_text.specs.declared.fault.LineFault.{LineFault}
 use Rattle.schedule_text.specs.declared.fault.LineFault.TheVariants as faults
 use Rattle.schedule_text.specs.Grammar.{Word}
+use Rattle.schedule_text.specs.Events.{put_command}
 
 -- what a reader answers is what reading gives, unless memory ran out
 abbrev pub FailsToRead : {Y : Type 0} → LineFault → Option Y → Type 0
@@ -74,6 +75,13 @@ number_word_at bits ws = do
   number ← numeral_at ws
   only_if (nat_lt number.0 (2 ^ bits)) number
 
+-- the number of a profile, where there is a word for it
+unfoldable pub profile_at : List Word → Option (Option ℕ × List Word)
+profile_at [] = Some (None, [])
+profile_at (word ∷ ws) = do
+  number ← number_word_at 8 (word ∷ ws)
+  Some (Some number.0, number.1)
+
 -- the hexadecimal digits of bytes
 unfoldable pub bytes_at : List Word → Option (List ℕ × List Word)
 bytes_at ws = do
@@ -119,12 +127,13 @@ init_at ws = do
   key ← key_at setup.1
   only_command (Once (Init (record setup.0 { master = key.0 }))) key.1
 
--- the words behind `put`: a name and the bytes of a file
+-- the words behind `put`: a name, the bytes of a file, and its profile where there is one
 unfoldable pub put_at : List Word → Option Instruction
 put_at ws = do
   name ← word_at ws
   bytes ← bytes_at name.1
-  only_command (Once (Begin (PutJob name.0 bytes.0))) bytes.1
+  profile ← profile_at bytes.1
+  only_command (put_command name.0 bytes.0 profile.0) profile.1
 
 -- the words behind `get`: a name
 unfoldable pub get_at : List Word → Option Instruction
@@ -146,6 +155,7 @@ begun_at kind ws =
     else if bytes_eq kind (codes "drop") then drop_words_at ws
     else if bytes_eq kind (codes "audit") then only_command (Once (Begin AuditJob)) ws
     else if bytes_eq kind (codes "repair") then only_command (Once (Begin RepairJob)) ws
+    else if bytes_eq kind (codes "upgrade") then only_command (Once (Begin UpgradeJob)) ws
     else None
 
 -- the words behind `begin`: what is begun, and its words

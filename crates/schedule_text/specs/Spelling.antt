@@ -22,21 +22,21 @@ IsInWord b = (b ≢ 32) × (b ≢ 10)
 abbrev pub IsName : List ℕ → Type 0
 IsName name = (0 < length name) × AllByRecursion IsInWord name
 
--- the name of a begin is a word; the begin of an upgrade has no line
+-- the name of a begin is a word
 abbrev pub IsNamed : Kind → Type 0
 IsNamed (PutJob name bytes) = IsName name
 IsNamed (GetJob name) = IsName name
 IsNamed (DropJob name) = IsName name
 IsNamed AuditJob = Unit {0}
 IsNamed RepairJob = Unit {0}
-IsNamed UpgradeJob = ⊥
+IsNamed UpgradeJob = Unit {0}
 
 -- the command has a line
 abbrev pub CanBeSpelled : Instruction → Type 0
 CanBeSpelled (RunJob job) = job < 2 ^ 32
 CanBeSpelled (Once (Begin kind)) = IsSpelled (Begin kind) × IsNamed kind
 CanBeSpelled (Once Continue) = ⊥
-CanBeSpelled (Once (BeginAt profile name bytes)) = ⊥
+CanBeSpelled (Once (BeginAt profile name bytes)) = IsSpelled (BeginAt profile name bytes) × IsName name
 CanBeSpelled (Once BeginScrub) = ⊥
 CanBeSpelled (Once BeginPack) = ⊥
 CanBeSpelled (Once event) = IsSpelled event
@@ -60,7 +60,7 @@ begin_words (GetJob name) = codes "begin" ∷ codes "get" ∷ name ∷ []
 begin_words (DropJob name) = codes "begin" ∷ codes "drop" ∷ name ∷ []
 begin_words AuditJob = codes "begin" ∷ codes "audit" ∷ []
 begin_words RepairJob = codes "begin" ∷ codes "repair" ∷ []
-begin_words UpgradeJob = []
+begin_words UpgradeJob = codes "begin" ∷ codes "upgrade" ∷ []
 
 -- the words of a command's line
 abbrev pub words_of : Instruction → List Word
@@ -76,7 +76,8 @@ words_of (Once (Lose provider object stripe)) =
 words_of (Once (Stop picks)) = codes "stop" ∷ hex_of picks ∷ []
 words_of (Once Names) = codes "list" ∷ []
 words_of (Once Continue) = []
-words_of (Once (BeginAt profile name bytes)) = []
+words_of (Once (BeginAt profile name bytes)) =
+    codes "begin" ∷ codes "put" ∷ name ∷ hex_of bytes ∷ decimal profile ∷ []
 words_of (Once BeginScrub) = []
 words_of (Once BeginPack) = []
 

@@ -7,7 +7,7 @@ ghost use Rattle.schedule_text.specs.Reading.{Gives, put_at, get_at, drop_words_
 
 use crate::event::Event;
 use crate::fault::LineFault;
-use crate::field::take_bytes;
+use crate::field::{take_bytes, take_profile};
 use crate::word::{ended, take_word};
 use std::alloc::Global;
 use stream_model::Bytes;
@@ -20,7 +20,13 @@ fn read_put(alloc: Global, line: &[u8]) -> Result<Event, LineFault>
     let (name, left) = take_word(line)?;
     let (bytes, left) = take_bytes(alloc, left)?;
     let name = Bytes::from_slice(alloc, name)?;
-    ended(Event::BeginPut { name, bytes }, left)
+    let (profile, left) = take_profile(left)?;
+    let put = Event::BeginPut {
+        name,
+        bytes,
+        profile,
+    };
+    ended(put, left)
 }
 
 /// The begin of a get.
@@ -60,6 +66,8 @@ fn read_begun(alloc: Global, kind: &[u8], line: &[u8]) -> Result<Event, LineFaul
         ended(Event::BeginAudit, line)
     } else if kind == b"repair".as_slice() {
         ended(Event::BeginRepair, line)
+    } else if kind == b"upgrade".as_slice() {
+        ended(Event::BeginUpgrade, line)
     } else {
         Err(LineFault::Bad)
     }

@@ -12,9 +12,12 @@ pub enum Event {
         setup: Setup,
         master: Master,
     },
+    /// The begin of a put; with a profile where the line names one by its number, and there may be none of
+    /// this number.
     BeginPut {
         name: Bytes,
         bytes: Bytes,
+        profile: Option<u8>,
     },
     BeginGet {
         name: Bytes,
@@ -24,6 +27,7 @@ pub enum Event {
     },
     BeginAudit,
     BeginRepair,
+    BeginUpgrade,
     /// One step of a job.
     Step {
         job: u32,

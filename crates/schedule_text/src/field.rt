@@ -2,10 +2,10 @@
 ghost use Rattle.std.specs.Prelude.{◌≡◌, MatchOption, IfOk, IfErr, None, Some};
 ghost use Rattle.std.specs.Option.{option_map};
 ghost use Rattle.schedule_text.specs.Grammar.{words};
-ghost use Rattle.schedule_text.specs.Reading.{Gives, number_in, bytes_in, key_in, numeral_at, number_word_at, bytes_at, key_at};
+ghost use Rattle.schedule_text.specs.Reading.{Gives, number_in, bytes_in, key_in, numeral_at, number_word_at, profile_at, bytes_at, key_at};
 
 use crate::fault::LineFault;
-use crate::word::take_word;
+use crate::word::{take_word, without_spaces};
 use command_words::read_number;
 use hex::FromHexError;
 use key_schedule::Master;
@@ -107,6 +107,19 @@ pub(crate) fn take_u64(line: &[u8]) -> Result<(u64, &[u8]), LineFault>
         Ok(number) => Ok((number, left)),
         Err(_) => Err(LineFault::Bad),
     }
+}
+
+/// The number of a profile, where a word is left for it.
+#[tactic(auto, unfolding(crate::specs::Reading::profile_at))]
+pub(crate) fn take_profile(line: &[u8]) -> Result<(Option<u8>, &[u8]), LineFault>
+    ensures read { Gives (λ x. (x.0, words x.1.now)) result (profile_at (words line.now)) }
+    ensures bad { IfErr result (λ fault. fault ≡ LineFault.Bad) }
+{
+    if without_spaces(line).is_empty() {
+        return Ok((None, line));
+    }
+    let (number, left) = take_u8(line)?;
+    Ok((Some(number), left))
 }
 
 /// The bytes of a word of hexadecimal digits.

@@ -9,7 +9,7 @@ use crate::fault::LineFault;
 use memchr::memchr;
 
 /// What is left of a line once the spaces at its front are taken.
-fn without_spaces(line: &[u8]) -> &[u8]
+pub(crate) fn without_spaces(line: &[u8]) -> &[u8]
     ensures same { words result.now ≡ words line.now }
     ensures front { (length result.now ≡ 0) ⊎ (slice_index result.now 0 ≢ 32) }
 {
