@@ -6,7 +6,7 @@ use Rattle.std.specs.Str.{bytes_eq}
 use Rattle.std.specs.Str.Parse.{IsNumeral, digits_value}
 use Rattle.std.specs.String.{string_bytes}
 use Rattle.command_defs.specs.Words.{IsSymbolWord, AreSymbolWords}
-use Rattle.command_defs.specs.Forms.{Numbers, Command, RowOf, InitWith, PutUnder, GetOf, DropOf, ListAll, AuditAll, RepairDue, IsForm, IsInitForm, AreNumbers, IsNamedForm, IsBareForm}
+use Rattle.command_defs.specs.Forms.{Numbers, Command, RowOf, InitWith, PutUnder, PutAt, GetOf, DropOf, ListAll, AuditAll, RepairDue, UpgradeJournal, IsForm, IsInitForm, IsPutAtForm, AreNumbers, IsNamedForm, IsBareForm}
 use Rattle.command_defs.specs.Row.{IsRowForm}
 use Rattle.command_words.proofs.RowWords.{Word}
 
@@ -46,17 +46,24 @@ abbrev named : (List ℕ → Command) → List Word → Option Command
 named made (name ∷ []) = Some (made (string_bytes name))
 named made words = None
 
+-- the put of a name, or of a name and the number of a profile
+abbrev put : List Word → Option Command
+put (name ∷ []) = Some (PutUnder (string_bytes name))
+put (name ∷ profile ∷ []) = Some (PutAt (string_bytes name) (number profile))
+put words = None
+
 -- the command of a first word and the words behind it
 abbrev by_word : List ℕ → List Word → Option Command
 by_word first words =
     if bytes_eq first (codes "row") then row words
     else if bytes_eq first (codes "init") then init words
-    else if bytes_eq first (codes "put") then named (λ name. PutUnder name) words
+    else if bytes_eq first (codes "put") then put words
     else if bytes_eq first (codes "get") then named (λ name. GetOf name) words
     else if bytes_eq first (codes "drop") then named (λ name. DropOf name) words
     else if bytes_eq first (codes "list") then Some ListAll
     else if bytes_eq first (codes "audit") then Some AuditAll
     else if bytes_eq first (codes "repair") then Some RepairDue
+    else if bytes_eq first (codes "upgrade") then Some UpgradeJournal
     else None
 
 -- the command of the words
@@ -131,13 +138,25 @@ spelled-init (c ∷ words) numbers form =
 -- a command word and a name
 spelled-named : (words : List Word) (word name : List ℕ) (made : List ℕ → Command) →
     IsNamedForm word words name
-    → ((rest : List Word) → by_word word rest ≡ named made rest) → spelled words ≡ Some (made name)
+    → ((n : Word) → by_word word (n ∷ []) ≡ Some (made (string_bytes n))) → spelled words ≡ Some (made name)
 spelled-named (c ∷ n ∷ []) word name made form by =
-    ap (λ (text : List ℕ). by_word text (n ∷ [])) form.0 ∙ by (n ∷ [])
+    ap (λ (text : List ℕ). by_word text (n ∷ [])) form.0 ∙ by n
     ∙ ap (λ (text : List ℕ). Some (made text)) form.1
 spelled-named [] word name made form by = absurd form
 spelled-named (c ∷ []) word name made form by = absurd form
 spelled-named (c ∷ n ∷ more ∷ words) word name made form by = absurd form
+
+-- `put`, a name and the number of a profile
+spelled-put_at : (words : List Word) (name : List ℕ) (profile : ℕ) → IsPutAtForm words name profile →
+    spelled words ≡ Some (PutAt name profile)
+spelled-put_at (c ∷ n ∷ p ∷ []) name profile form =
+    ap (λ (text : List ℕ). by_word text (n ∷ p ∷ [])) form.0
+    ∙ ap (λ (text : List ℕ). Some (PutAt text (number p))) form.1
+    ∙ ap (λ (k : ℕ). Some (PutAt name k)) form.2.value
+spelled-put_at [] name profile form = absurd form
+spelled-put_at (c ∷ []) name profile form = absurd form
+spelled-put_at (c ∷ n ∷ []) name profile form = absurd form
+spelled-put_at (c ∷ n ∷ p ∷ more ∷ words) name profile form = absurd form
 
 -- a command word alone
 spelled-bare : (words : List Word) (word : List ℕ) (command : Command) → IsBareForm word words →
@@ -151,14 +170,16 @@ spelled-IsForm : (words : List Word) (command : Command) → IsForm words comman
 spelled-IsForm words (RowOf n l b seen) form = spelled-row words n l b seen form
 spelled-IsForm words (InitWith numbers) form = spelled-init words numbers form
 spelled-IsForm words (PutUnder name) form =
-    spelled-named words (codes "put") name (λ n. PutUnder n) form (λ rest. refl)
+    spelled-named words (codes "put") name (λ n. PutUnder n) form (λ n. refl)
+spelled-IsForm words (PutAt name profile) form = spelled-put_at words name profile form
 spelled-IsForm words (GetOf name) form =
-    spelled-named words (codes "get") name (λ n. GetOf n) form (λ rest. refl)
+    spelled-named words (codes "get") name (λ n. GetOf n) form (λ n. refl)
 spelled-IsForm words (DropOf name) form =
-    spelled-named words (codes "drop") name (λ n. DropOf n) form (λ rest. refl)
+    spelled-named words (codes "drop") name (λ n. DropOf n) form (λ n. refl)
 spelled-IsForm words ListAll form = spelled-bare words (codes "list") ListAll form refl
 spelled-IsForm words AuditAll form = spelled-bare words (codes "audit") AuditAll form refl
 spelled-IsForm words RepairDue form = spelled-bare words (codes "repair") RepairDue form refl
+spelled-IsForm words UpgradeJournal form = spelled-bare words (codes "upgrade") UpgradeJournal form refl
 
 -- words spell one command at most
 pub IsForm-once : (words : List Word) (command other : Command) → IsForm words command → IsForm words other →

@@ -9,8 +9,8 @@ use Rattle.machine_defs.specs.Jobs.{PutJob, GetJob, DropJob, AuditJob, RepairJob
 use Rattle.machine_defs.specs.Events.{Init, Begin, BeginAt, BeginScrub, BeginPack, Step, Alter, Lose, Stop, Reopen, Names, Continue}
 use Rattle.machine_defs.specs.Transcripts.{Instruction, Once, RunJob}
 use Rattle.schedule_text.specs.Grammar.{Word, IsNumber, IsHex, IsKey, SpellsCommand, SpellsInit, IsSkipped}
-use Rattle.schedule_text.specs.Reading.{setup_words_at, init_at, put_at, get_at, drop_words_at, begun_at, begin_at, step_at, run_at, alter_at, lose_at, stop_at, apart_at, behind_at, line_at}
-use Rattle.schedule_text.proofs.Fields.{numeral-again, number-again, bytes-again, key-again}
+use Rattle.schedule_text.specs.Reading.{setup_words_at, init_at, profile_at, put_at, get_at, drop_words_at, begun_at, begin_at, step_at, run_at, alter_at, lose_at, stop_at, apart_at, behind_at, line_at}
+use Rattle.schedule_text.proofs.Fields.{numeral-again, number-again, profile-again, bytes-again, key-again}
 use Rattle.schedule_text.proofs.Forms.{behind-takes}
 
 -- a line that is not skipped, by its first word
@@ -61,8 +61,16 @@ run-again number job is = rw (number-again 32 number [] job is) refl
 
 put-again : (name digits : Word) (bytes : List ℕ) → IsHex digits bytes →
     behind_at (codes "begin") (codes "put" ∷ name ∷ digits ∷ []) ≡ Some (Once (Begin (PutJob name bytes)))
-unfolding behind_at begin_at begun_at put_at
+unfolding behind_at begin_at begun_at put_at profile_at
 put-again name digits bytes is = rw (bytes-again digits [] bytes is) refl
+
+put_at-again : (name digits number : Word) (bytes : List ℕ) (profile : ℕ) → IsHex digits bytes →
+    IsNumber 8 number profile
+    → behind_at (codes "begin") (codes "put" ∷ name ∷ digits ∷ number ∷ [])
+    ≡ Some (Once (BeginAt profile name bytes))
+unfolding behind_at begin_at begun_at put_at
+put_at-again name digits number bytes profile is_hex is_number =
+    rw (bytes-again digits (number ∷ []) bytes is_hex, profile-again number [] profile is_number) refl
 
 stop-again : (digits : Word) (picks : List ℕ) → IsHex digits picks →
     behind_at (codes "stop") (digits ∷ []) ≡ Some (Once (Stop picks))
@@ -112,6 +120,10 @@ repair-again : line_at (codes "begin" ∷ codes "repair" ∷ []) ≡ Some (Some 
 unfolding line_at behind_at begin_at begun_at
 repair-again = refl
 
+upgrade-again : line_at (codes "begin" ∷ codes "upgrade" ∷ []) ≡ Some (Some (Once (Begin UpgradeJob)))
+unfolding line_at behind_at begin_at begun_at
+upgrade-again = refl
+
 get-again : (name : Word) → line_at (codes "begin" ∷ codes "get" ∷ name ∷ [])
     ≡ Some (Some (Once (Begin (GetJob name))))
 unfolding line_at behind_at begin_at begun_at get_at
@@ -135,6 +147,11 @@ line-spelled ws (Once (Begin (GetJob name))) is = ap (λ (t : List Word). line_a
 line-spelled ws (Once (Begin (DropJob name))) is = ap (λ (t : List Word). line_at t) is ∙ drop-again name
 line-spelled ws (Once (Begin AuditJob)) is = ap (λ (t : List Word). line_at t) is ∙ audit-again
 line-spelled ws (Once (Begin RepairJob)) is = ap (λ (t : List Word). line_at t) is ∙ repair-again
+line-spelled ws (Once (Begin UpgradeJob)) is = ap (λ (t : List Word). line_at t) is ∙ upgrade-again
+line-spelled ws (Once (BeginAt profile name bytes)) is =
+    ap (λ (t : List Word). line_at t) is.2
+    ∙ line-again (codes "begin") (codes "put" ∷ name ∷ is.0 ∷ is.1 ∷ []) (Once (BeginAt profile name bytes))
+    refl (put_at-again name is.0 is.1 bytes profile is.3 is.4)
 line-spelled ws (Once (Step job)) is =
     ap (λ (t : List Word). line_at t) is.1
     ∙ line-again (codes "step") (is.0 ∷ []) (Once (Step job)) refl (step-again is.0 job is.2)
@@ -155,8 +172,6 @@ line-spelled ws (Once (Stop picks)) is =
     ∙ line-again (codes "stop") (is.0 ∷ []) (Once (Stop picks)) refl (stop-again is.0 picks is.2)
 line-spelled ws (Once Names) is = ap (λ (t : List Word). line_at t) is ∙ list-again
 line-spelled ws (Once Continue) is = absurd is
-line-spelled ws (Once (Begin UpgradeJob)) is = absurd is
-line-spelled ws (Once (BeginAt profile name bytes)) is = absurd is
 line-spelled ws (Once BeginScrub) is = absurd is
 line-spelled ws (Once BeginPack) is = absurd is
 

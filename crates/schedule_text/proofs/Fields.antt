@@ -11,7 +11,7 @@ use Rattle.record_codec.proofs.Fields.{bind_some, some_is, done}
 use Rattle.machine_defs.specs.Transcripts.{Instruction}
 use Rattle.command_defs.specs.Words.{IsNumberWord}
 use Rattle.schedule_text.specs.Grammar.{Word, IsNumber, IsHex, IsKey}
-use Rattle.schedule_text.specs.Reading.{only_if, found_in, word_at, only_command, number_in, bytes_in, key_in, numeral_at, number_word_at, bytes_at, key_at}
+use Rattle.schedule_text.specs.Reading.{only_if, found_in, word_at, only_command, number_in, bytes_in, key_in, numeral_at, number_word_at, profile_at, bytes_at, key_at}
 use Rattle.schedule_text.proofs.Numbers.{word-number_in, number_in-word}
 
 -- what passed a test is what was tested
@@ -60,6 +60,22 @@ number-took bits ws x e =
     let word = numeral-took ws a.0 a.1 in
     subst (Took (IsNumber bits) ws) b.1 (word.0, word.1, (word.2, ltb-true _ _ b.0))
 
+-- no word was taken, or one that spells the number of a profile
+abbrev pub TookProfile : List Word → Option ℕ → List Word → Type 0
+TookProfile ws None behind = ws ≡ behind
+TookProfile ws (Some profile) behind = Took (IsNumber 8) ws (profile, behind)
+
+-- a profile that is taken is that of the first word, where there is one
+pub profile-took : (ws : List Word) (x : Option ℕ × List Word) → profile_at ws ≡ Some x →
+    TookProfile ws x.0 x.1
+unfolding profile_at
+profile-took [] x e =
+    subst (λ (y : Option ℕ × List Word). TookProfile [] y.0 y.1) (some_is (None, []) x e) refl
+profile-took (word ∷ ws) x e =
+    let a = bind_some (number_word_at 8 (word ∷ ws)) (λ number. Some (Some number.0, number.1)) x e in
+    subst (λ (y : Option ℕ × List Word). TookProfile (word ∷ ws) y.0 y.1)
+    (some_is (Some a.0.0, a.0.1) x a.2) (number-took 8 (word ∷ ws) a.0 a.1)
+
 -- bytes, and keys
 found-in : {A E : Type 0} (decoded : Result A E) (value : A) → found_in decoded ≡ Some value →
     decoded ≡ Ok value
@@ -102,6 +118,18 @@ pub number-again : (bits : ℕ) (word : Word) (ws : List Word) (number : ℕ) �
     number_word_at bits (word ∷ ws) ≡ Some (number, ws)
 unfolding number_word_at
 number-again bits word ws number is = rw (numeral-again word ws number is.0, lt-ltb _ _ is.1) refl
+
+-- the number of a profile is taken from its word
+pub profile-again : (word : Word) (ws : List Word) (profile : ℕ) → IsNumber 8 word profile →
+    profile_at (word ∷ ws) ≡ Some (Some profile, ws)
+unfolding profile_at
+profile-again word ws profile is = rw (number-again 8 word ws profile is) refl
+
+-- where a word is left, what is read as a number is read as a profile
+pub profile-first : (ws : List Word) (word : Word) (more : List Word) → ws ≡ word ∷ more →
+    profile_at ws ≡ (number_word_at 8 ws >>= λ number. Some (Some number.0, number.1))
+unfolding profile_at
+profile-first ws word more is = rw is refl
 
 -- bytes are taken from their word
 pub bytes-again : (word : Word) (ws : List Word) (bytes : List ℕ) → IsHex word bytes →

@@ -1,17 +1,18 @@
 -- What is read is what the words spell.
-use Rattle.std.proofs.Common.{◌≡◌, true, List, [], ◌∷◌, ◌++◌, Some, None, sym, ap, subst, ◌∙◌, inl, inr}
+use Rattle.std.proofs.Common.{◌≡◌, ℕ, true, List, [], ◌∷◌, ◌++◌, Option, Some, None, sym, ap, subst, ◌∙◌, inl, inr}
 use Rattle.std.specs.Prelude.{codes}
 use Rattle.std.specs.Str.{bytes_eq}
 use Rattle.std.proofs.lemmas.Slice.Eq.{bytes_eq-Decides}
 use Rattle.algebra_laws.proofs.Options.{cond-cases}
 use Rattle.record_defs.specs.Records.{Setup}
 use Rattle.record_codec.proofs.Fields.{bind_some, some_is}
-use Rattle.machine_defs.specs.Jobs.{PutJob, GetJob, DropJob, AuditJob, RepairJob}
+use Rattle.machine_defs.specs.Jobs.{GetJob, DropJob, AuditJob, RepairJob, UpgradeJob}
 use Rattle.machine_defs.specs.Events.{Init, Begin, Step, Alter, Lose, Stop, Reopen, Names}
 use Rattle.machine_defs.specs.Transcripts.{Instruction, Once, RunJob}
-use Rattle.schedule_text.specs.Grammar.{Word, IsNumber, SpellsCommand}
+use Rattle.schedule_text.specs.Grammar.{Word, IsNumber, IsHex, SpellsCommand}
+use Rattle.schedule_text.specs.Events.{put_command}
 use Rattle.schedule_text.specs.Reading.{only_command, setup_words_at, init_at, put_at, get_at, drop_words_at, begun_at, begin_at, step_at, run_at, alter_at, lose_at, stop_at, apart_at, behind_at}
-use Rattle.schedule_text.proofs.Fields.{word-took, ended-took, numeral-took, number-took, bytes-took, key-took}
+use Rattle.schedule_text.proofs.Fields.{TookProfile, word-took, ended-took, numeral-took, number-took, profile-took, bytes-took, key-took}
 
 -- ---- what was read is spelled
 
@@ -150,6 +151,15 @@ stop-takes ws command e =
     let none = ended-took (Once (Stop a.0.0)) command a.0.1 a.2 in
     subst (SpellsCommand (codes "stop" ∷ ws)) none.1 (word.0, cc, word.2)
 
+-- the words of a put, with the word of a profile or without one
+put-spelled : (ws : List Word) (name digits : Word) (bytes : List ℕ) (behind : List Word)
+    (profile : Option ℕ) (left : List Word) → ws ≡ name ∷ digits ∷ behind → IsHex digits bytes
+    → TookProfile behind profile left → left ≡ []
+    → SpellsCommand (codes "begin" ∷ codes "put" ∷ ws) (put_command name bytes profile)
+put-spelled ws name digits bytes behind None left is hex took none = (digits, cc (is, took, none), hex)
+put-spelled ws name digits bytes behind (Some profile) left is hex took none =
+    (digits, took.0, cc (is, took.1, none), hex, took.2)
+
 put-takes : (ws : List Word) (command : Instruction) → put_at ws ≡ Some command →
     SpellsCommand (codes "begin" ∷ codes "put" ∷ ws) command
 unfolding put_at
@@ -158,8 +168,11 @@ put-takes ws command e =
     let b = bind_some _ _ command a.2 in
     let name = word-took ws a.0 a.1 in
     let digits = bytes-took a.0.1 b.0 b.1 in
-    let none = ended-took (Once (Begin (PutJob a.0.0 b.0.0))) command b.0.1 b.2 in
-    subst (SpellsCommand (codes "begin" ∷ codes "put" ∷ ws)) none.1 (digits.0, cc, digits.2)
+    let d = bind_some _ _ command b.2 in
+    let none = ended-took (put_command a.0.0 b.0.0 d.0.0) command d.0.1 d.2 in
+    subst (SpellsCommand (codes "begin" ∷ codes "put" ∷ ws)) none.1
+    (put-spelled ws a.0.0 digits.0 b.0.0 b.0.1 d.0.0 d.0.1
+    (name ∙ ap (λ (t : List Word). a.0.0 ∷ t) digits.1) digits.2 (profile-took b.0.1 d.0 d.1) none.0)
 
 get-takes : (ws : List Word) (command : Instruction) → get_at ws ≡ Some command →
     SpellsCommand (codes "begin" ∷ codes "get" ∷ ws) command
@@ -216,7 +229,13 @@ begun-takes kind ws command e = elim (cond-cases (bytes_eq kind (codes "put")) _
               (is_word kind _ repair.0)
               (bare-takes (Once (Begin RepairJob)) command (codes "begin" ∷ codes "repair" ∷ []) ws repair.1
               (λ rest none. ap (λ (t : List Word). codes "begin" ∷ codes "repair" ∷ t) none))
-          | inr e ↦ absurd (nothing e.1)
+          | inr e ↦ elim (cond-cases (bytes_eq kind (codes "upgrade")) _ _ _ e.1) [
+            | inl upgrade ↦ subst (λ (k : Word). SpellsCommand (codes "begin" ∷ k ∷ ws) command)
+                (is_word kind _ upgrade.0)
+                (bare-takes (Once (Begin UpgradeJob)) command (codes "begin" ∷ codes "upgrade" ∷ []) ws
+                upgrade.1 (λ rest none. ap (λ (t : List Word). codes "begin" ∷ codes "upgrade" ∷ t) none))
+            | inr e ↦ absurd (nothing e.1)
+          ]
         ]
       ]
     ]

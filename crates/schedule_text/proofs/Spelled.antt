@@ -193,7 +193,38 @@ job_spelling RepairJob can = record {
   some = omega arith;
   spells = refl;
 }
-job_spelling UpgradeJob can = absurd can.1
+job_spelling UpgradeJob can = record {
+  plain = (
+    plain_by_test (codes "begin") (omega arith) refl,
+    (plain_by_test (codes "upgrade") (omega arith) refl, tt),
+  );
+  some = omega arith;
+  spells = refl;
+}
+
+-- those of the begin of a put with a profile
+put_at_spelling : (profile : ℕ) (name bytes : List ℕ) → CanBeSpelled (Once (BeginAt profile name bytes)) →
+    IsSpelling (Once (BeginAt profile name bytes)) (words_of (Once (BeginAt profile name bytes)))
+put_at_spelling profile name bytes can = record {
+  plain = (
+    plain_by_test (codes "begin") (omega arith) refl,
+    (
+      plain_by_test (codes "put") (omega arith) refl,
+      (
+        plain-name name can.1,
+        (plain-hex_of bytes, (plain-decimal profile (omega (arith, can.0.0)), tt)),
+      ),
+    ),
+  );
+  some = omega arith;
+  spells = (
+    hex_of bytes,
+    decimal profile,
+    refl,
+    hex-hex_of bytes can.0.2,
+    number-decimal 8 profile can.0.0 (omega (arith, can.0.0)),
+  );
+}
 
 -- those of a symbol that is altered
 alter_spelling : (provider object stripe place symbol : ℕ) →
@@ -288,7 +319,7 @@ word_spelling (Once (Stop picks)) can = record {
   spells = (hex_of picks, refl, hex-hex_of picks can);
 }
 word_spelling (Once Continue) can = absurd can
-word_spelling (Once (BeginAt profile name bytes)) can = absurd can
+word_spelling (Once (BeginAt profile name bytes)) can = put_at_spelling profile name bytes can
 word_spelling (Once BeginScrub) can = absurd can
 word_spelling (Once BeginPack) can = absurd can
 
