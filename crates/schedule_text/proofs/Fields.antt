@@ -1,6 +1,7 @@
 -- A field that was read is one word, which spells it; and what a word spells is read.
-use Rattle.std.proofs.Common.{◌≡◌, ℕ, ◌^◌, Bool, true, false, cond, ltb, List, [], ◌∷◌, length, Option, Some, None, refl, sym, ap, subst, inl, inr}
+use Rattle.std.proofs.Common.{◌≡◌, ℕ, ◌^◌, Bool, true, false, cond, ltb, List, [], ◌∷◌, length, Option, Some, None, refl, sym, ap, subst, ◌∙◌, inl, inr}
 use Rattle.std.specs.Prelude.{codes, ◌==◌, Result, Ok, Err}
+use Rattle.std.specs.Result.{IsErrAnd}
 use Rattle.std.specs.Str.{bytes_eq}
 use Rattle.std.proofs.lemmas.Bool.{eqb-true, lt-ltb, ltb-true, eq-eqb}
 use Rattle.std.proofs.lemmas.Slice.Eq.{bytes_eq-Decides}
@@ -10,8 +11,10 @@ use Rattle.record_codec.specs.Reading.{◌>>=◌}
 use Rattle.record_codec.proofs.Fields.{bind_some, some_is, done}
 use Rattle.machine_defs.specs.Transcripts.{Instruction}
 use Rattle.command_defs.specs.Words.{IsNumberWord}
+use Rattle.schedule_text.specs.declared.fault.LineFault.{LineFault}
+use Rattle.schedule_text.specs.declared.fault.LineFault.TheVariants as faults
 use Rattle.schedule_text.specs.Grammar.{Word, IsNumber, IsHex, IsKey}
-use Rattle.schedule_text.specs.Reading.{only_if, found_in, word_at, only_command, number_in, bytes_in, key_in, numeral_at, number_word_at, profile_at, bytes_at, key_at}
+use Rattle.schedule_text.specs.Reading.{Gives, FailsToRead, only_if, found_in, word_at, only_command, number_in, bytes_in, key_in, numeral_at, number_word_at, profile_at, bytes_at, key_at}
 use Rattle.schedule_text.proofs.Numbers.{word-number_in, number_in-word}
 
 -- what passed a test is what was tested
@@ -130,6 +133,20 @@ pub profile-first : (ws : List Word) (word : Word) (more : List Word) → ws ≡
     profile_at ws ≡ (number_word_at 8 ws >>= λ number. Some (Some number.0, number.1))
 unfolding profile_at
 profile-first ws word more is = rw is refl
+
+-- where a word is left, a fault of its number is one of the profile
+pub profile-fails : {X : Type 0} (view : X → Option ℕ × List Word) (result : Result X LineFault)
+    (fault : LineFault) (ws : List Word) (word : Word) (more : List Word) → ws ≡ word ∷ more
+    → IsErrAnd result (λ e. e ≡ fault) → FailsToRead fault (number_word_at 8 ws)
+    → Gives view result (profile_at ws)
+profile-fails view (Ok x) fault ws word more is same fails = absurd same
+profile-fails view (Err e) fault ws word more is same fails =
+    subst (λ (f : LineFault). FailsToRead f (profile_at ws)) (sym same) (none fault fails)
+  where
+    none : (fault : LineFault) → FailsToRead fault (number_word_at 8 ws) → FailsToRead fault (profile_at ws)
+    none faults.Memory fails = tt
+    none faults.Bad fails = profile-first ws word more is
+        ∙ ap (λ (read : Option (ℕ × List Word)). read >>= λ number. Some (Some number.0, number.1)) fails
 
 -- bytes are taken from their word
 pub bytes-again : (word : Word) (ws : List Word) (bytes : List ℕ) → IsHex word bytes →

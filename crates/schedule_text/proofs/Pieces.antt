@@ -120,3 +120,10 @@ words-some (b ∷ line) some front =
           (cond test ([] ∷ pieces 32 line) (begun_piece b (pieces 32 line)))) (differ b 32 front)
           ∙ ap (λ (ps : List (List ℕ)). filter has_bytes (begun_piece b ps)) rest.2,
     )
+
+-- a line of which more than spaces is left has a word
+pub words-left : (line left : List ℕ) → words left ≡ words line → (length left ≡ 0) ⊎ (slice_index left 0 ≢ 32)
+    → 0 < length left → (word : List ℕ) × (others : List (List ℕ)) × (words line ≡ word ∷ others)
+words-left line left same front some =
+    let word = words-some left some (front_is left some front) in
+    (word.0, word.1, sym same ∙ word.2)

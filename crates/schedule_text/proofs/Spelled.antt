@@ -221,7 +221,7 @@ put_at_spelling profile name bytes can = record {
     hex_of bytes,
     decimal profile,
     refl,
-    hex-hex_of bytes can.0.2,
+    hex-hex_of bytes can.0.1.1,
     number-decimal 8 profile can.0.0 (omega (arith, can.0.0)),
   );
 }
