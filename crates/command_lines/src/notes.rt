@@ -1,6 +1,6 @@
 // One line of its own for each command that changes something.
 ghost use Rattle.std.specs.Prelude.{◌≡◌, IfOk};
-ghost use Rattle.command_defs.specs.Lines.{ready_line, stored_line, dropped_line, repaired_line};
+ghost use Rattle.command_defs.specs.Lines.{ready_line, stored_line, dropped_line, repaired_line, upgraded_line};
 
 use crate::pieces::{numbered_line, push_line};
 use std::alloc::Global;
@@ -37,4 +37,11 @@ pub fn repaired_line(alloc: Global, number: u64) -> Result<Bytes, Memory>
     ensures { IfOk result (λ line. line ≡ repaired_line number) }
 {
     numbered_line(alloc, b"repaired", number)
+}
+
+/// The line after an upgrade.
+pub fn upgraded_line() -> &'static [u8]
+    ensures { result.now ≡ upgraded_line }
+{
+    b"upgraded\n"
 }

@@ -15,6 +15,7 @@ enum Line {
     Dropped(&'static [u8]),
     /// A repair of this number.
     Repaired(u64),
+    Upgraded,
     /// Decoded values of these numbers.
     Values(&'static [u128]),
     /// An audit with these counts: its tolerance, its number, and how many rounds were undecided.
@@ -55,6 +56,7 @@ fn told(alloc: Global, what: Line) -> Result<Bytes, Memory> {
         Line::Put(name, length) => stored_line(alloc, name, length),
         Line::Dropped(name) => dropped_line(alloc, name),
         Line::Repaired(number) => repaired_line(alloc, number),
+        Line::Upgraded => Bytes::from_slice(alloc, upgraded_line()),
         Line::Values(numbers) => values_of(alloc, numbers),
         Line::Audit(tolerance, number, undecided) => {
             audit_lines(alloc, tolerance, number, undecided, &COUNTS)
@@ -77,13 +79,14 @@ fn first_other(alloc: Global, rows: &[Row]) -> Option<usize> {
     None
 }
 
-static CHANGES: [Row; 6] = [
+static CHANGES: [Row; 7] = [
     (Line::Ready, "ready\n"),
     (Line::Put(b"notes.txt", 100), "stored notes.txt 100\n"),
     (Line::Put(b"a", 0), "stored a 0\n"),
     (Line::Dropped(b"notes.txt"), "dropped notes.txt\n"),
     (Line::Repaired(1), "repaired 1\n"),
     (Line::Repaired(u64::MAX), "repaired 18446744073709551615\n"),
+    (Line::Upgraded, "upgraded\n"),
 ];
 
 #[test]

@@ -17,11 +17,19 @@ fn one_shown(alloc: Global, word: &str, bytes: &[u8]) -> Result<String, AllocErr
     format!(in alloc; "{word} {bytes}")
 }
 
-/// A put with its name and its bytes as digits.
-fn put_shown(alloc: Global, name: &[u8], bytes: &[u8]) -> Result<String, AllocError> {
+/// A put with its name and its bytes as digits, and with its profile where it names one.
+fn put_shown(
+    alloc: Global,
+    name: &[u8],
+    bytes: &[u8],
+    profile: Option<u8>,
+) -> Result<String, AllocError> {
     let name = digits(alloc, name)?;
     let bytes = digits(alloc, bytes)?;
-    format!(in alloc; "put {name} {bytes}")
+    match profile {
+        Some(number) => format!(in alloc; "put {name} {bytes} {number}"),
+        None => format!(in alloc; "put {name} {bytes}"),
+    }
 }
 
 /// A set-up, its key as digits.
@@ -59,11 +67,16 @@ fn lose_shown(
 fn shown(alloc: Global, event: &Event) -> Result<String, AllocError> {
     match event {
         Event::Init { setup, master } => init_shown(alloc, setup, &master.0),
-        Event::BeginPut { name, bytes } => put_shown(alloc, name.as_slice(), bytes.as_slice()),
+        Event::BeginPut {
+            name,
+            bytes,
+            profile,
+        } => put_shown(alloc, name.as_slice(), bytes.as_slice(), *profile),
         Event::BeginGet { name } => one_shown(alloc, "get", name.as_slice()),
         Event::BeginDrop { name } => one_shown(alloc, "drop", name.as_slice()),
         Event::BeginAudit => String::from_str(alloc, "audit"),
         Event::BeginRepair => String::from_str(alloc, "repair"),
+        Event::BeginUpgrade => String::from_str(alloc, "upgrade"),
         Event::Step { job } => number_shown(alloc, "step", *job),
         Event::Run { job } => number_shown(alloc, "run", *job),
         Event::Alter {
@@ -163,17 +176,22 @@ fn first_read(alloc: Global, lines: &[&str]) -> Option<usize> {
     None
 }
 
-static LINES: [Row; 19] = [
+static LINES: [Row; 24] = [
     ("reopen", "reopen;"),
     ("list", "list;"),
     ("begin put a/b 00", "put 612f62 00;"),
     ("begin put a 00fFAb", "put 61 00ffab;"),
     ("begin put put -", "put 707574 -;"),
+    ("begin put a 00 0", "put 61 00 0;"),
+    ("begin put a - 5", "put 61 - 5;"),
+    ("begin put a 0fFF 255", "put 61 0fff 255;"),
+    ("begin  put  a  00  4  ", "put 61 00 4;"),
     ("begin get #", "get 23;"),
     ("begin get é\t", "get c3a909;"),
     ("begin drop trial", "drop 747269616c;"),
     ("begin audit", "audit;"),
     ("begin repair", "repair;"),
+    ("begin upgrade", "upgrade;"),
     ("step 0", "step 0;"),
     ("step 4294967295", "step 4294967295;"),
     ("run 1", "run 1;"),
@@ -227,7 +245,7 @@ fn lines_are_cut_at_newlines(rt: HostRuntime) {
     no_other(&rt, first_misread(rt.alloc(), &CUTS));
 }
 
-static NO_LINES: [&str; 42] = [
+static NO_LINES: [&str; 50] = [
     "fly",
     "Reopen",
     "init",
@@ -251,12 +269,20 @@ static NO_LINES: [&str; 42] = [
     "begin put a 0",
     "begin put a 0g",
     "begin put a 00 00",
+    "begin put a 00 01",
+    "begin put a 00 256",
+    "begin put a 00 -",
+    "begin put a 00 +1",
+    "begin put a 00 0 0",
+    "begin put a 0 0",
     "begin put a --",
     "begin get",
     "begin get a b",
     "begin drop",
     "begin audit 1",
     "begin repair 1",
+    "begin upgrade now",
+    "begin upgrades",
     "begin scrub",
     "alter 0 1 0 0",
     "alter 0 1 0 0 5 6",

@@ -23,6 +23,7 @@ enum End {
     /// An audit with these counts: its number, and how many rounds were undecided.
     Audited(u64, u32),
     Repaired(u64),
+    Upgraded,
     Lost(u32, u64),
     ProviderFault(u32),
     DiskFault,
@@ -91,6 +92,7 @@ fn answer_of(end: End) -> Answer {
             counts: COUNTS,
         },
         End::Repaired(number) => Answer::Repaired { number },
+        End::Upgraded => Answer::Upgraded,
         End::Lost(stripe, row) => Answer::Lost { stripe, row },
         End::ProviderFault(provider) => Answer::ProviderFault { provider },
         End::DiskFault => Answer::DiskFault,
@@ -285,7 +287,7 @@ fn a_step_tells_whether_its_job_goes_on(rt: HostRuntime) {
     no_other(&rt, first_other(rt.alloc(), &STEPS));
 }
 
-static ENDS: [Row; 8] = [
+static ENDS: [Row; 9] = [
     (Line::End(End::Put), "put\n"),
     (Line::End(End::Dropped), "dropped\n"),
     (
@@ -293,6 +295,7 @@ static ENDS: [Row; 8] = [
         "audited 1 undecided 2 counts 4 0 0 0 0 4294967295\n",
     ),
     (Line::End(End::Repaired(1)), "repaired 1\n"),
+    (Line::End(End::Upgraded), "upgraded\n"),
     (Line::End(End::Lost(56, 7)), "lost 56 7\n"),
     (Line::End(End::ProviderFault(3)), "provider fault 3\n"),
     (Line::End(End::DiskFault), "disk fault\n"),

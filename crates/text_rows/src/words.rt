@@ -19,11 +19,14 @@ fn words(alloc: Global, line: &str) -> Option<Vec<String>> {
 enum Wanted {
     Init([u128; 7]),
     Put(&'static [u8]),
+    /// A name and the number of a profile.
+    PutAt(&'static [u8], u8),
     Get(&'static [u8]),
     Drop(&'static [u8]),
     List,
     Audit,
     Repair,
+    Upgrade,
     /// Providers, primaries, bad ones, and what is seen of each.
     Row([u128; 3], &'static [Option<u128>]),
 }
@@ -65,12 +68,18 @@ fn is_row(row: &Row, numbers: [u128; 3], seen: &[Option<u128>]) -> bool {
 fn is(command: &Command, wanted: Wanted) -> bool {
     match (command, wanted) {
         (Command::Init(found), Wanted::Init(all)) => *found == numbers(all),
-        (Command::Put { name }, Wanted::Put(wanted)) => *name == wanted,
+        (Command::Put { name, profile }, Wanted::Put(wanted)) => {
+            *name == wanted && profile.is_none()
+        }
+        (Command::Put { name, profile }, Wanted::PutAt(wanted, number)) => {
+            *name == wanted && *profile == Some(number)
+        }
         (Command::Get { name }, Wanted::Get(wanted)) => *name == wanted,
         (Command::Drop { name }, Wanted::Drop(wanted)) => *name == wanted,
         (Command::List, Wanted::List) => true,
         (Command::Audit, Wanted::Audit) => true,
         (Command::Repair, Wanted::Repair) => true,
+        (Command::Upgrade, Wanted::Upgrade) => true,
         (Command::Row(row), Wanted::Row(numbers, seen)) => is_row(row, numbers, seen),
         _ => false,
     }
@@ -122,7 +131,7 @@ fn first_read(alloc: Global, lines: &[&str]) -> Option<usize> {
     None
 }
 
-static COMMANDS: [(&str, Wanted); 10] = [
+static COMMANDS: [(&str, Wanted); 16] = [
     ("init 6 3 1 2 4 8 0", Wanted::Init([6, 3, 1, 2, 4, 8, 0])),
     (
         "init 256 3 1 2 4 8 340282366920938463463374607431768211455",
@@ -131,11 +140,17 @@ static COMMANDS: [(&str, Wanted); 10] = [
     ("put a", Wanted::Put(b"a")),
     ("put put", Wanted::Put(b"put")),
     ("put -/é", Wanted::Put(b"-/\xc3\xa9")),
+    ("put 256", Wanted::Put(b"256")),
+    ("put a 0", Wanted::PutAt(b"a", 0)),
+    ("put a 5", Wanted::PutAt(b"a", 5)),
+    ("put 0 255", Wanted::PutAt(b"0", 255)),
     ("get trial", Wanted::Get(b"trial")),
     ("drop trial", Wanted::Drop(b"trial")),
     ("list", Wanted::List),
     ("audit", Wanted::Audit),
     ("repair", Wanted::Repair),
+    ("upgrade", Wanted::Upgrade),
+    ("put upgrade", Wanted::Put(b"upgrade")),
 ];
 
 #[test]
@@ -157,18 +172,30 @@ fn rows_are_read(rt: HostRuntime) {
     no_other(&rt, first_misread(rt.alloc(), &ROWS));
 }
 
-static NO_COMMANDS: [&str; 31] = [
+static NO_COMMANDS: [&str; 43] = [
     "",
     "fly",
     "get",
     "get a b",
     "GET a",
     "put",
+    "put a 256",
+    "put a -",
+    "put a 05",
+    "put a +5",
+    "put a five",
+    "put a 340282366920938463463374607431768211456",
+    "put a 5 5",
+    "get a 0",
+    "drop a 0",
     "drop",
     "list a",
     "lists",
     "audit 1",
     "repair all",
+    "upgrade now",
+    "upgrade 2",
+    "upgrades",
     "init",
     "init 6 3 1 2 4 8",
     "init 6 3 1 2 4 8 0 0",

@@ -78,7 +78,12 @@ fn push_opening(
     push(events, Event::Reopen)?;
     let name = Bytes::from_slice(alloc, b"trial")?;
     let bytes = Bytes::from_slice(alloc, &drawn.bytes)?;
-    push_whole(events, Event::BeginPut { name, bytes }, 1)?;
+    let put = Event::BeginPut {
+        name,
+        bytes,
+        profile: None,
+    };
+    push_whole(events, put, 1)?;
     Ok(())
 }
 
