@@ -15,6 +15,21 @@ stop() {
     exit "$1"
 }
 
+# The words of a companion that takes -v and a home: sets `home`, and `verbose`, which is 0 without -v.
+read_words() {
+    verbose=0
+    [ "${1-}" != -v ] || { verbose=1 && shift; }
+    [ $# -eq 1 ] || { echo "usage: ${0##*/} [-v] HOME" >&2; exit 2; }
+    home=$1
+}
+
+# Where -v asks for it: tells the version of the journal that was read, and which files have another profile than the setup's.
+tell_version() {
+    [ "$verbose" -ne 0 ] || return 0
+    echo "journal version $version"
+    awk -v profile="$profile" '$1 == "file" && $4 != profile { print $6 ": profile " $4 }' "$scratch/standing" | LC_ALL=C sort || stop 4 "$no_room"
+}
+
 # The places of the providers' folders.
 places() {
     seq 0 15
@@ -56,13 +71,27 @@ records() {
     head -c 16777216 -- "$1" | od -An -v -tu1 -w32 | LC_ALL=C awk -f "$tools/journal.awk"
 }
 
-# Of a journal what a companion needs, kept in the scratch folder: no single record, but of a file out of effect or a put cut off.
+# The symbols of a block at the profiles, and those of them that are a file's own.
+symbols=(6 16 32 64 128)
+kept=(2 8 24 48 96)
+
+# Of a journal what a companion needs, kept in the scratch folder: no single record, but of a file out of effect or a put cut off. Where a
+# line has the profile of a file, the number of its stripes stands behind that: file ID LENGTH PROFILE STRIPES NAME.
 read_journal() {
-    records "$1" | awk '!/^(start|done|drop|audit-start|audit-done|repair-done) /' >"$scratch/standing"
+    records "$1" | awk -v kept="${kept[*]}" '
+        BEGIN { split(kept, kept_at, " ") }
+        /^(start|done|drop|audit-start|audit-done|repair-done|upgrade)( |$)/ { next }
+        $1 == "setup" { primary = $3 }
+        $1 == "file" || $1 == "past" {
+            own = 16 * primary * kept_at[$4 + 1]
+            $4 = $4 " " (own ? int(($3 + own - 1) / own) : 0)
+        }
+        { print }' >"$scratch/standing"
     local ended=("${PIPESTATUS[@]}")
     [ "${ended[1]}" -eq 0 ] || stop 4 "$no_room"
     [ "${ended[0]}" -eq 0 ] || return 1
     read -r n l b profile _ < <(sed -n 's/^setup //p' "$scratch/standing")
+    read -r version < <(sed -n 's/^version //p' "$scratch/standing")
     read -r next_id _ < <(sed -n 's/^next //p' "$scratch/standing")
     [ -n "$n" ]
 }
@@ -71,19 +100,11 @@ read_journal() {
 hail_agrees() {
     ln -sfn -- "$1" "$scratch/lent/journal"
     "$HAIL" "$scratch/lent" list </dev/null >"$scratch/list" 2>"$scratch/err" || return 1
-    awk '$1 == "file" { print $4, $3 } END { print "end" }' "$scratch/standing" | LC_ALL=C sort >"$scratch/read" || stop 4 "$no_room"
+    awk '$1 == "file" { print $6, $3 } END { print "end" }' "$scratch/standing" | LC_ALL=C sort >"$scratch/read" || stop 4 "$no_room"
     { cat "$scratch/list" && echo end; } | LC_ALL=C sort | cmp -s - "$scratch/read" || {
         echo 'its files are others than hail lists' >"$scratch/err"
         return 1
     }
-}
-
-# The symbols of a block, and those of them that are a file's own, at a profile.
-symbols_of() {
-    echo 6 16 32 64 128 | cut -d ' ' -f $(($1 + 1))
-}
-kept_of() {
-    echo 2 8 24 48 96 | cut -d ' ' -f $(($1 + 1))
 }
 
 # Of all blocks of a home that find takes a line PLACE NUMBER STRIPE, and the size in bytes where the format `%f %s` asks for it. A folder

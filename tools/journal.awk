@@ -2,20 +2,23 @@
 # in effect, and of the last 100,000 puts those that are not done.
 #
 #   setup N L B PROFILE ROUNDS PICKS TOLERANCE
-#   start ID NAME, done ID LENGTH, drop NAME, audit-start NUMBER, audit-done NUMBER UNDECIDED COUNT .., repair-done NUMBER
-#   past ID LENGTH NAME     behind the record that took a file out of effect: its number, length and name
-#   cut ID NAME             behind a start stands another record than its end: a command never writes the end later. It is not told where
-#                           that record is the start of an audit with the same number, which may be the end, altered
+#   start ID NAME, done ID LENGTH PROFILE, drop NAME, audit-start NUMBER, audit-done NUMBER UNDECIDED COUNT .., repair-done NUMBER, upgrade
+#   past ID LENGTH PROFILE NAME    behind the record that took a file out of effect: its number, length, profile and name
+#   cut ID NAME                    behind a start stands another record than its end: a command never writes the end later. It is not told
+#                                  where that record is one of an audit or a repair with the same number, which may be the end, altered
+#
+# The profile of a file is that which its end names, or the setup's where that names none.
 #
 # After the closed gate:
 #
-#   file ID LENGTH NAME     a file in effect, in no order
-#   cut ID NAME             the last record is a start
-#   next ID NUMBER          the number of the next put and of the next audit
-#   end BYTES               the length of the text: magic, records and the closed gate
-#   beyond ID               behind the end stands the end of this put, as a stop leaves it, or a gate that was altered
-#   odd                     some end does not stand right behind its start, or behind the text stands what is no record: which puts were
-#                           cut off is not sure
+#   file ID LENGTH PROFILE NAME    a file in effect, in no order
+#   cut ID NAME                    the last record is a start
+#   version NUMBER                 2 behind an upgrade, else 1
+#   next ID NUMBER                 the number of the next put and of the next audit
+#   end BYTES                      the length of the text: magic, records and the closed gate
+#   beyond ID                      behind the end stands the end of this put, as a stop leaves it, or a gate that was altered
+#   odd                            some end does not stand right behind its start, or behind the text stands what is no record: which puts
+#                                  were cut off is not sure
 #
 # Ends with 1 where the bytes are no journal. It judges spellings alone; whether a record may follow those before it, the program says.
 # Numbers of 8 bytes are told exactly below 2^53.
@@ -68,7 +71,11 @@ function tell(line) {
 
 function setup(    i, line) {
     line = "setup"
-    for (i = 0; i < 6; i++) line = line " " byte()
+    for (i = 0; i < 6; i++) {
+        field[i] = byte()
+        line = line " " field[i]
+    }
+    if (!beyond) profile_of_setup = field[3]
     line = line " " number(2)
     for (i = 0; i < 32; i++) byte()
     tell(line)
@@ -76,9 +83,10 @@ function setup(    i, line) {
 
 # A file goes out of effect, if the name has one.
 function forget(text) {
-    if (text in of_name) tell("past " of_name[text] " " length_of[text] " " text)
+    if (text in of_name) tell("past " of_name[text] " " length_of[text] " " profile_of[text] " " text)
     delete of_name[text]
     delete length_of[text]
+    delete profile_of[text]
 }
 
 function started(    text) {
@@ -90,10 +98,18 @@ function started(    text) {
     tell("start " last " " text)
 }
 
-function done(before,    id, size, text) {
+# The profile that the end of a put names.
+function own_profile(    own) {
+    own = byte()
+    if (own > 4) bad("a profile is unknown")
+    return own
+}
+
+function done(before, kind,    id, size, profile, text) {
     id = number(8)
     size = number(4)
-    tell("done " id " " size)
+    profile = kind == 8 ? own_profile() : profile_of_setup
+    tell("done " id " " size " " profile)
     if (id != before || !(id in begun)) odd = 1
     if (beyond) print "beyond " id
     if (!(id in begun)) return
@@ -102,6 +118,7 @@ function done(before,    id, size, text) {
     forget(text)
     of_name[text] = id
     length_of[text] = size
+    profile_of[text] = profile
 }
 
 function dropped(    text) {
@@ -110,18 +127,39 @@ function dropped(    text) {
     forget(text)
 }
 
-function audit_started(before,    number_of) {
+function cut_off(before) {
+    if (before) tell("cut " before " " begun[before])
+}
+
+# The number that a record of an audit or a repair begins with.
+function number_but(before,    number_of) {
     number_of = number(8)
-    if (before && before != number_of) tell("cut " before " " begun[before])
+    if (before != number_of) cut_off(before)
+    return number_of
+}
+
+function audit_started(before,    number_of) {
+    number_of = number_but(before)
     next_audit = number_of + 1
     tell("audit-start " number_of)
 }
 
-function audited(    i, n, line) {
-    line = "audit-done " number(8) " " number(4)
+function audited(before,    i, n, line) {
+    line = "audit-done " number_but(before) " " number(4)
     n = byte()
     for (i = 0; i < n; i++) line = line " " number(4)
     tell(line)
+}
+
+function repaired(before,    number_of) {
+    number_of = number_but(before)
+    tell("repair-done " number_of)
+}
+
+function upgraded() {
+    if (byte() != 2) bad("a version is unknown")
+    if (!beyond) version = 2
+    tell("upgrade")
 }
 
 # The put whose start was the record before, or 0, is told as cut off where another record follows than its end.
@@ -129,21 +167,23 @@ function one_record(    kind, before) {
     kind = byte()
     before = last
     last = 0
-    if (kind == 3) { done(before); return }
+    if (kind == 3 || kind == 8) { done(before, kind); return }
     if (kind == 5) { audit_started(before); return }
-    if (before) tell("cut " before " " begun[before])
+    if (kind == 6) { audited(before); return }
+    if (kind == 7) { repaired(before); return }
+    cut_off(before)
     if (kind == 1) setup()
     else if (kind == 2) started()
     else if (kind == 4) dropped()
-    else if (kind == 6) audited()
-    else if (kind == 7) tell("repair-done " number(8))
+    else if (kind == 9) upgraded()
     else { at--; bad("a kind of record is unknown") }
 }
 
 # Tells what follows from the records. The gate behind them is read.
 function tell_end(    text) {
-    for (text in of_name) print "file " of_name[text] " " length_of[text] " " text
+    for (text in of_name) print "file " of_name[text] " " length_of[text] " " profile_of[text] " " text
     if (last) print "cut " last " " begun[last]
+    print "version " version
     print "next " next_id " " next_audit
     print "end " at
 }
@@ -151,7 +191,7 @@ function tell_end(    text) {
 BEGIN {
     for (at = 0; at < 256; at++) letters[at] = sprintf("%c", at)
     split("72 65 73 76 74 82 78 49", magic, " ")
-    next_id = next_audit = 1
+    next_id = next_audit = version = 1
     for (at = 0; at < 8;) if (byte() != magic[at]) { at = 0; bad("it does not begin as one") }
     gate = byte()
     if (!more()) bad("no store is set up")

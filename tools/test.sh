@@ -45,16 +45,18 @@ spoil() {
     head -c "$(stat -c %s "home/$1")" /dev/urandom >random && mv random "home/$1"
 }
 
-# A put of so many bytes under a name fails at this provider, for which a file stands in the place of its folder.
+# A put of so many bytes under a name, and at a profile if one is named, fails at this provider: a file stands in the place of its folder.
 put_fails() {
     mv "home/provider-$1" away && : >"home/provider-$1"
-    head -c "$3" /dev/zero | "$HAIL" home put "$2" >out 2>err
+    head -c "$3" /dev/zero | "$HAIL" home put "$2" ${4-} >out 2>err
     [ "$(cat err)" = "hail: provider fault $1" ] || wrong "a put of $2 says $(cat out err)"
     rm "home/provider-$1" && mv away "home/provider-$1"
 }
 
 words() {
     says 2 '' hail-watch nowhere
+    says 2 '' hail-watch -v
+    says 2 '' hail-verify -w home
     says 2 '' hail-gc home all
     says 2 '' hail-gc home remove 1a
     says 2 '' hail-verify
@@ -301,13 +303,15 @@ flip_some() {
     for ((at = $1; at < ${#bytes[@]}; at += 4)); do flip_one "worker-$1" "$at"; done >"flipped-$1"
 }
 
-# A journal of ten files, 1 to 10; the first is dropped, 3 replaced by 11, and two puts failed. Whichever byte of it is altered, what the
-# intact one has in effect stays.
+# A journal of ten files, 1 to 10, with an upgrade behind the first five, and profiles of their own behind that; the first is dropped, 3
+# replaced by 11, and two puts failed. Whichever byte of it is altered, what the intact one has in effect stays.
 flipping() {
     local name worker
     rm -rf home
     head -c 32 /dev/urandom | od -An -v -tx1 | tr -d ' \n' | "$tools/hail-init" home 6 3 1 0 1 1 0 >out
-    for name in 0 1 2 3 4 5 6 7 8 9; do echo "$name" | "$HAIL" home put "$name" >out; done
+    for name in 0 1 2 3 4; do echo "$name" | "$HAIL" home put "$name" >out; done
+    "$HAIL" home upgrade >out </dev/null
+    for name in 5 6 7 8 9; do echo "$name" | "$HAIL" home put "$name" $((name - 5)) >out; done
     "$HAIL" home drop 0 >out
     echo new | "$HAIL" home put 2 >out
     put_fails 5 3 10
@@ -322,7 +326,7 @@ provider-3/12-0
 provider-4/12-0' hail-gc home
     cp home/journal journal
     mapfile -t bytes < <(od -An -v -tu1 -w1 journal | tr -d ' ')
-    [ "${#bytes[@]}" -eq 365 ] || wrong "the journal has ${#bytes[@]} bytes"
+    [ "${#bytes[@]}" -eq 374 ] || wrong "the journal has ${#bytes[@]} bytes"
     for worker in 0 1 2 3; do flip_some "$worker" & done
     wait
     [ -z "$(cat flipped-*)" ] || wrong "with an altered journal hail-gc lists $(cat flipped-* | head -n 5)"
@@ -330,6 +334,96 @@ provider-4/12-0' hail-gc home
     says 0 '' hail-verify home
     printf '\377' | dd of=home/journal bs=1 seek=100 conv=notrunc 2>/dev/null
     says 4 '' hail-gc home remove
+}
+
+# The journal of a store at 4 1 1 and profile 1 whose bytes behind the setup printf spells.
+journal_is() {
+    rm -rf home
+    mkdir home
+    { printf 'HAILJRN1\1\1\4\1\1\1\1\1\0\0' && head -c 32 /dev/zero && printf "$1"; } >home/journal
+}
+
+# What bytes of a journal tell: a file put before the upgrade, one behind it, and one that replaces the first. Other bytes are no journal.
+reading() {
+    local start='\1\2\1\0\0\0\0\0\0\0\1a' upgrade='\1\11\2' done='\1\10\1\0\0\0\0\0\0\0\144\0\0\0'
+    journal_is "$start"'\1\3\1\0\0\0\0\0\0\0\144\0\0\0'"$upgrade"'\1\2\2\0\0\0\0\0\0\0\1b\1\10\2\0\0\0\0\0\0\0\0\4\0\0\2\1\2\3\0\0\0\0\0\0\0\1a\1\10\3\0\0\0\0\0\0\0\144\0\0\0\4\0'
+    od -An -v -tu1 home/journal | LC_ALL=C awk -f "$(dirname "$(readlink -f "$tools/hail-gc")")/journal.awk" | LC_ALL=C sort >out
+    [ "$(cat out)" = 'done 1 100 1
+done 2 1024 2
+done 3 100 4
+end 134
+file 2 1024 2 b
+file 3 100 4 a
+next 4 1
+past 1 100 1 a
+setup 4 1 1 1 1 1 0
+start 1 a
+start 2 b
+start 3 a
+upgrade
+version 2' ] || wrong "a journal of the second version is read as $(cat out)"
+    journal_is "$upgrade$start$done"'\5\0'
+    says 4 '' hail-gc home
+    told 'no journal: a profile is unknown'
+    journal_is '\1\11\1\0'
+    says 4 '' hail-gc home
+    told 'no journal: a version is unknown'
+    journal_is '\1\12\0'
+    says 2 '' hail-watch home
+    told 'no journal: a kind of record is unknown at byte 51'
+    journal_is "$start$done"'\1\0'
+    says 4 '' hail-gc home
+    told 'hail does not take the journal, and nothing is done: hail: bad journal at 63'
+}
+
+# Files at profiles of their own, behind an upgrade, are looked at by their own blocks and stripes; those put before keep the setup's.
+own_profiles() {
+    local place stripe
+    new_home 6 3 1 1 4 8 0
+    says 0 'journal version 1' hail-watch -v home
+    says 0 'journal version 1' hail-verify -v home
+    [ "$("$HAIL" home upgrade </dev/null)" = upgraded ] || wrong 'there is no upgrade'
+    seq 1 200 | "$HAIL" home put tiny 0 >out
+    seq 1 400 | "$HAIL" home put wide 4 >out
+    seq 1 300 | "$HAIL" home put other >out
+    says 0 'journal version 2
+tiny: profile 0
+wide: profile 4' hail-watch -v home
+    says 0 'journal version 2
+tiny: profile 0
+wide: profile 4' hail-verify -v home
+    says 0 '1 4 1536 notes 1492
+3 3 1152 third 1092
+4 8 768 tiny 692
+5 1 4608 wide 1492
+6 3 1152 other 1092' hail-salvage home 3
+    spoil provider-2/4-7
+    spoil provider-4/5-0
+    says 1 'tiny: comes back; wrong blocks at provider 2
+wide: comes back; wrong blocks at provider 4' hail-verify home
+    "$HAIL" home get tiny >tiny && "$HAIL" home put tiny 0 <tiny >out || wrong 'tiny is not stored anew'
+    rm -r home/provider-4
+    says 1 'provider 4 is flagged' hail-watch home
+    [ "$("$HAIL" home repair </dev/null)" = 'repaired 3' ] || wrong 'provider 4 is not repaired'
+    says 0 '' hail-verify home
+    says 0 '' hail-gc home
+    put_fails 5 fourth 600 4
+    says 0 'provider-0/8-0
+provider-1/8-0
+provider-2/8-0
+provider-3/8-0
+provider-4/8-0' hail-gc home
+    for place in 0 1 2 3 4 5; do for stripe in 0 1 2 3 4 5 6; do : >"home/provider-$place/4-$stripe"; done; done
+    says 0 '' hail-gc home remove
+    [ -z "$(cat err)$(find home -name '[48]-*')" ] || wrong "hail-gc leaves $(find home -name '[48]-*') and says $(cat err)"
+    cp home/journal copy && sha256sum copy >copy.sum
+    rm home/journal home/provider-1/7-7 home/provider-3/7-7
+    says 1 'restored: the next put has number 13
+tiny: too few blocks: it was dropped or replaced since the copy, or providers are away' hail-restore home copy 4
+    says 1 'journal version 2
+tiny: profile 0
+wide: profile 4
+tiny: lost from stripe 7 on; blocks are missing at provider 1 3' hail-verify -v home
 }
 
 # A copy is restored only where it is whole, shorter than no sound journal, and not further behind than was said; no number comes again.
@@ -418,8 +512,8 @@ run() {
     exit $failed
 }
 
-all='setting_up words watching verifying_one stuck_repair verifying_two verifying_three no_key_is_left collecting flipping restoring salvaging
-    long_journal'
+all='setting_up words watching verifying_one stuck_repair verifying_two verifying_three no_key_is_left collecting flipping reading
+    own_profiles restoring salvaging long_journal'
 running=()
 for test in ${*:-$all}; do
     run "$test" &
