@@ -1,5 +1,6 @@
 #!/bin/bash
-# Kills the program at random moments of puts, drops, audits and repairs over a real home: kill.sh [KILLS [SEED]]
+# Kills the program at random moments of puts, drops, audits, repairs and an upgrade over a real home: kill.sh [KILLS [SEED]]
+# After half of the kills the journal is upgraded, and behind that each put names a profile.
 # One provider at a time loses its folder. After each kill the home is looked at: each acknowledged file must come back byte for
 # byte, and what the killed command was about as it was before or as it was to be. It prints 'N kills, L lost, W wrong', ends
 # with 0 exactly where L and W are 0, and leaves nothing behind.
@@ -16,6 +17,7 @@ trap 'rm -rf "$scratch"' EXIT
 cd "$scratch" || exit 1
 
 killed=0 lost=0 wrong=0 turns=0
+upgraded=''    # not empty once the journal has its second version
 names=(a b c d e f)
 declare -A content    # by name the file with its bytes; a name that is not in effect has none
 declare -A lasts      # by command how many microseconds it took when it was not killed
@@ -94,12 +96,17 @@ settle() {
 turn() {
     local name=${names[RANDOM % 6]} file kind=$((RANDOM % 8)) spoken='' later=''
     source=/dev/null
+    [ -n "$upgraded" ] || [ $killed -lt $((kills / 2)) ] || kind=upgrade
     case $kind in
+        upgrade)
+            cut upgrade
+            [ $status -ne 0 ] && [ $status -ne 24 ] || upgraded=yes
+            ;;
         0 | 1 | 2 | 3)
             file=file$turns
             head -c $((RANDOM % 3000)) /dev/urandom >"$file"
             source=$file spoken=$name later=$file
-            cut put "$name"
+            cut put "$name" ${upgraded:+$((RANDOM % 5))}
             ;;
         4)
             spoken=$name
@@ -119,6 +126,7 @@ turn() {
         137) ;;
         3) [ -z "${content[$spoken]:-}" ] || note_wrong "$spoken is not there for its drop" ;;
         6 | 7) ;;
+        24) [ "$kind" = upgrade ] || note_wrong "command $kind ends with 24" ;;
         *) note_wrong "command $kind ends with $status ($(cat err))" ;;
     esac
     look "$spoken" "$later"

@@ -1,10 +1,10 @@
 #!/bin/bash
 # Refuses one allocation a run, over a real home: memory.sh [RUNS]
-# It goes through init, put, get, audit, repair and list, and refuses of each command the first allocation, then the second and so on,
-# at most RUNS of them, spread over all that the command makes. Such a run must end with 70, with a counted fault of a device where an
-# allocation of a call without an answer for want of memory was refused, or as it would have ended; where its very words found none it
-# may tell them as no command. Then the same command, over the home that the run left, must end well, or as where its work was done,
-# and the file must come back byte for byte.
+# It goes through init, put, get, audit, repair, list, upgrade and a put at a profile, and refuses of each command the first allocation,
+# then the second and so on, at most RUNS of them, spread over all that the command makes. Such a run must end with 70, with a counted fault
+# of a device where an allocation of a call without an answer for want of memory was refused, or as it would have ended; where its very
+# words found none it may tell them as no command. Then the same command, over the home that the run left, must end well, or as where its
+# work was done, and the file must come back byte for byte.
 # It prints 'N runs, W wrong', ends with 0 exactly where W is 0, and leaves nothing behind. Without a C compiler it tries nothing.
 set -u
 
@@ -85,6 +85,7 @@ when_done() {
         init) echo 10 ;;
         audit) echo 6 ;;
         repair) echo 7 ;;
+        upgrade) echo 24 ;;
         *) echo 0 ;;
     esac
 }
@@ -149,5 +150,7 @@ goes_on audit
 goes_on repair
 goes_on get a
 goes_on list
+goes_on upgrade
+source=text && goes_on put a 2
 echo "$tried runs, $wrong wrong"
 [ "$wrong" -eq 0 ]

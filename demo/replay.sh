@@ -77,6 +77,70 @@ row 0 "$told" schedule home replay
 row 0 'b 5' empty home list
 row 0 stone empty home get b
 
+# An upgrade runs alone. Behind it a put may name a profile; one that was put before keeps the setup's, and both come back.
+{
+    echo "init 4 1 1 0 2 2 0 $digits"
+    cat <<'SCHEDULE'
+reopen
+begin put a/b 00 5
+begin put a 00 5
+begin put a 00 0
+begin put a 6f6c64
+begin upgrade
+run 1
+begin upgrade
+begin get a
+step 2
+run 2
+begin upgrade
+begin put b 6e6577 3
+run 3
+lose 1 1 0
+lose 2 2 0
+begin get a
+run 4
+begin get b
+run 5
+stop -
+reopen
+list
+SCHEDULE
+} >schedule
+told='ready
+opened
+refused BadName
+refused BadProfile
+refused OldVersion
+job 1
+refused Busy
+put
+job 2
+refused Busy
+more
+upgraded
+refused NewVersion
+job 3
+put
+replaced
+replaced
+job 4
+got 6f6c64
+job 5
+got 6e6577
+stopped
+opened
+names 2
+a 3
+b 3'
+row 0 "$told" schedule - replay
+new_home
+row 0 "$told" schedule home replay
+[ "$(stat -c %s home/provider-0/1-0 home/provider-0/2-0 | tr '\n' ' ')" = '96 1024 ' ] || wrong 'a file has blocks of another profile'
+for line in 'begin put a 00 256' 'begin put a 00 01' 'begin upgrade 2'; do
+    echo "$line" >bad
+    row 19 'hail: bad schedule line 1' bad - replay
+done
+
 # The longest file at profile 2: 3,641 stripes of 1,152 bytes, so that block 3,640 is the last. With that one lost it still comes back.
 seq 1 700000 | head -c 4194304 | od -An -v -tx1 | tr -d ' \n' >hex
 {

@@ -151,8 +151,86 @@ rm -rf home
 mkdir -p home/journal
 row 12 'hail: disk fault' empty list
 
+# The journal of a new store at 4 1 1 has these bytes behind the setup, as printf spells them: 50 bytes stand before them.
+journal_ends() {
+    set_up 4 1 1 0 1 1 0
+    head -c -1 home/journal >front
+    { cat front && printf "$1"; } >home/journal
+}
+
+# The journal's second version. A put that names a profile is refused before the upgrade, and one whose profile there is none of at any time.
+# Behind it each file may have its own: at profile 0 each provider holds two blocks of six symbols for 100 bytes.
+set_up 6 3 1 1 4 8 0
+row 23 'hail: old journal version' empty put x 0
+row 20 'hail: bad setup' empty put x 5
+row 2 'hail: usage' empty put x 256
+row 2 'hail: usage' empty put x 0 0
+row 2 'hail: usage' empty upgrade 2
+[ "$(journal_from 50)" = 00 ] || wrong 'a put that was refused left a record'
+row 0 upgraded empty upgrade
+[ "$(journal_from 50)" = 01090200 ] || wrong 'the record of an upgrade has other bytes'
+row 24 'hail: new journal version' empty upgrade
+row 20 'hail: bad setup' empty put x 5
+[ "$(journal_from 50)" = 01090200 ] || wrong 'an upgrade that was refused left a record'
+row 0 'stored notes.txt 100' notes put notes.txt 0
+[ "$(journal_from 53)" = 01020100000000000000096e6f7465732e747874010801000000000000006400000000"00" ] || wrong 'the records of a put at a profile have other bytes'
+[ "$(stat -c %s home/journal)" -eq 89 ] || wrong 'the journal has another length'
+for provider in 0 1 2 3 4 5; do
+    [ "$(stat -c '%n %s' home/provider-$provider/* | tr '\n' ' ')" = "home/provider-$provider/1-0 96 home/provider-$provider/1-1 96 " ] ||
+        wrong "provider $provider holds other blocks"
+done
+row 0 "$(cat notes)" empty get notes.txt
+row 0 'stored notes.txt 100' notes put notes.txt
+[ "$(journal_from 88)" = 01020200000000000000096e6f7465732e747874010802000000000000006400000001"00" ] || wrong 'a put without a profile has not the one of the setup'
+[ "$(ls home/provider-5)" = 2-0 ] || wrong 'blocks of the older file are left'
+
+# A file that was put before the upgrade keeps its profile: it is read, audited and repaired beside one of its own.
+set_up 6 3 1 1 4 8 0
+row 0 'stored before 100' notes put before
+row 0 upgraded empty upgrade
+row 0 'stored behind 100' notes put behind 4
+[ "$(stat -c %s home/provider-2/* | tr '\n' ' ')" = '256 2048 ' ] || wrong 'a file has blocks of another profile'
+rm -rf kept && cp -r home kept
+rm -r home/provider-2
+row 0 "$(cat notes)" empty get before
+row 0 "$(cat notes)" empty get behind
+row 0 "audit 1 undecided 0
+$(echo "$all_ok" | sed 's/2 count 0 ok/2 count 8 flagged/')" empty audit
+row 0 'repaired 1' empty repair
+diff -r -x journal kept home || wrong 'a repair of two profiles leaves other blocks'
+row 0 "audit 2 undecided 0
+$all_ok" empty audit
+row 0 'dropped before' empty drop before
+[ "$(ls home/provider-2)" = 2-0 ] || wrong 'blocks of a dropped file are left'
+rm -r kept
+
+# Records of the one version in a journal of the other, a second upgrade, one before the setup, and bytes that are no such record.
+start='\001\002\001\000\000\000\000\000\000\000\001a' upgrade='\001\011\002' number='\001\000\000\000\000\000\000\000'
+journal_is 'HAILJRN1\001\011\002\000'
+row 8 'hail: bad journal at 9' empty list
+journal_ends "$upgrade$upgrade"'\000'
+row 8 'hail: bad journal at 54' empty list
+journal_ends "$start"'\001\010'"$number"'\000\000\000\000\001\000'
+row 8 'hail: bad journal at 63' empty list
+journal_ends "$upgrade$start"'\001\003'"$number"'\000\000\000\000\000'
+row 8 'hail: bad journal at 66' empty list
+journal_ends "$start$upgrade"'\001\010'"$number"'\000\000\000\000\004\000'
+row 0 'a 0' empty list
+for bytes in '\001\011\001\000' '\001\011\003\000' '\001\011' '\001\012'"$number"; do
+    journal_ends "$bytes"
+    row 8 'hail: bad journal at 51' empty list
+done
+for bytes in '\000\000\000\000\005\000' '\001\000\100\000\004\000' '\000\000\000\000'; do
+    journal_ends "$upgrade$start"'\001\010'"$number$bytes"
+    row 8 'hail: bad journal at 66' empty list
+done
+
 # A journal of 16,777,190 bytes has room for the records of a put under a name of one byte, and one of 16,777,191 has not.
 # It gets the start of a put under a name of so many bytes, and 1,677,712 starts of audits.
+LC_ALL=C awk 'BEGIN {
+    for (k = 1; k <= 1677712; k++)
+        printf "%c%c%c%c%c%c%c%c%c%c", 1, 5, k % 256, int(k / 256) % 256, int(k / 65536), 0, 0, 0, 0, 0
+}' >starts
 fill_journal() {
     head -c -1 home/journal >front
     {
@@ -160,10 +238,7 @@ fill_journal() {
         printf '\001\002\001\000\000\000\000\000\000\000'
         printf "\\$(printf %03o "$1")"
         head -c "$1" /dev/zero | tr '\0' a
-        LC_ALL=C awk 'BEGIN {
-            for (k = 1; k <= 1677712; k++)
-                printf "%c%c%c%c%c%c%c%c%c%c", 1, 5, k % 256, int(k / 256) % 256, int(k / 65536), 0, 0, 0, 0, 0
-        }'
+        cat starts
         printf '\000'
     } >home/journal
 }
@@ -174,6 +249,23 @@ row 0 'stored a 0' empty put a
 set_up 4 1 1 0 1 1 0
 fill_journal 9
 row 11 'hail: journal full' empty put a
+
+# An upgrade takes three bytes, and behind it a put one more than before it.
+set_up 4 1 1 0 1 1 0
+fill_journal 31
+row 0 upgraded empty upgrade
+set_up 4 1 1 0 1 1 0
+fill_journal 32
+row 11 'hail: journal full' empty upgrade
+set_up 4 1 1 0 1 1 0
+row 0 upgraded empty upgrade
+fill_journal 4
+row 0 'stored a 0' empty put a 3
+set_up 4 1 1 0 1 1 0
+row 0 upgraded empty upgrade
+fill_journal 5
+row 11 'hail: journal full' empty put a
+rm starts
 
 # With 1,024 names in effect a further one is refused, and one of them is not.
 set_up 4 1 1 0 1 1 0
