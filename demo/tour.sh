@@ -1,8 +1,8 @@
 #!/bin/sh
 # A tour: three files are stored over six folders; one folder is lost, the loss is found and mended; it is lost again and another is
-# altered, and the files come back; another folder lies, and is found and mended too. It shows each command with its answer, ends with 0 exactly where each answer
-# was the one due, and leaves nothing behind. docs/tour.txt is a recording
-# of it. HAIL names another program than the one of this repository.
+# altered, and the files come back; another folder lies, and is found and mended too; a file gets a profile of its own. It shows each command
+# with its answer, ends with 0 exactly where each answer was the one due, and leaves nothing behind. docs/tour.txt is a recording of it. HAIL
+# names another program than the one of this repository.
 set -eu
 
 root=$(CDPATH='' cd -P -- "$(dirname "$0")/.." && pwd -P)
@@ -132,4 +132,12 @@ audits 5 1 16
 answers 0 'repaired 5' /dev/null repair
 comes_back numbers
 audits 6
+
+echo '# The journal gets its second version. From then on a file may have a profile of its own; those stored before keep theirs.'
+answers 0 upgraded /dev/null upgrade
+answers 0 'stored notes.txt 111' notes.txt put notes.txt 2
+[ "$(stat -c %s home/provider-5/4-0)" -eq 512 ] || fail 'the file has blocks of another profile'
+comes_back notes.txt
+comes_back numbers
+audits 7
 echo '# The tour is done.'
