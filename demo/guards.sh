@@ -108,6 +108,8 @@ closed_streams() {
         "$hail" home audit >out </dev/null || wrong 'audit'
         closed "${streams#* }" "${streams% *}" repair
     done
+    closed 15 out upgrade
+    closed 24 in upgrade
 }
 
 # What stands in the place of the next block, or of one that is there, is not followed, not waited for, and not written to.
