@@ -33,7 +33,7 @@ use Rattle.vault_open.specs.Causes.{IsStartFault, LiesInJournal}
 use Rattle.vault.specs.Seen.{provider_count}
 use Rattle.vault.specs.Stands.{Stands}
 use Rattle.state_laws.proofs.Written.{whole-end}
-use Rattle.vault_open.proofs.FirstVersion.{Shows, ShowsFirst, shows-first, version-shown}
+use Rattle.vault_open.proofs.FirstVersion.{Shows, ShowsFirst, shows-first, appended-shown}
 use Rattle.hail_client.specs.declared.client.Client.{Client}
 use Rattle.hail_client.specs.Outcomes.{start_refusal}
 use Rattle.hail_client.specs.Start.{anyone}
@@ -134,7 +134,7 @@ module _ (w : State) (moment next : ℕ) (old : Cells) (f0 f1 : ℕ) (ps : List 
   -- the disk holds the whole history
   whole_journal : IsWholeJournal w
   whole_journal = sound.journal.whole
-      (version-shown 8 w (reads old) sound (are.images (reads old) (IsImage-reads old)))
+      (appended-shown 8 w (reads old) sound (are.images (reads old) (IsImage-reads old)))
 
   read : ShowsFirst w (reads old)
   read = shows-first w (reads old) whole_journal (are.images (reads old) (IsImage-reads old))

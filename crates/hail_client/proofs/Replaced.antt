@@ -81,7 +81,7 @@ module _ (holds : Option Cells) (faults : ℕ) (ps qs : List Provider) (w : Stat
           append = S.core.append;
           barred = S.core.barred;
         };
-        first = S.first;
+        appended = S.appended;
         setup = same ∙ S.setup;
         shaped = S.shaped;
         jobs = S.jobs;

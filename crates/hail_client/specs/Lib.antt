@@ -1,3 +1,4 @@
+pub mod Begins
 pub mod Client
 pub mod Outcomes
 pub mod Stands

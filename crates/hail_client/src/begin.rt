@@ -1,8 +1,9 @@
-ghost use Rattle.std.specs.Prelude.{◌≡◌, ◌<◌, ◌-◌, ◌^◌, ℕ};
+ghost use Rattle.std.specs.Prelude.{◌≡◌, ◌<◌, ◌-◌, ◌^◌, ℕ, IfSome};
 ghost use Rattle.machine_defs.specs.Events.{Begin, AreBytes};
-ghost use Rattle.machine_defs.specs.Jobs.{PutJob, GetJob, DropJob, AuditJob, RepairJob};
+ghost use Rattle.machine_defs.specs.Jobs.{GetJob, DropJob, AuditJob, RepairJob, UpgradeJob};
 ghost use Rattle.machine_defs.specs.States.{State};
 ghost use Rattle.vault_open.specs.Devices.{Devices};
+ghost use Rattle.hail_client.specs.Begins.{put_event};
 ghost use Rattle.hail_client.specs.Client.{client_next_job, IsSame};
 ghost use Rattle.hail_client.specs.Outcomes.{client_begin_outcome, UnlessBegun};
 ghost use Rattle.hail_client.specs.Stands.{ClientStands, MakesEvent};
@@ -16,18 +17,30 @@ pub(crate) fn bytes_are_bytes(bytes: &[u8])
     ensures { AreBytes bytes.now }
 {}
 
+/// The number of a profile fits its type.
+fn profiles_fit(profile: Option<u8>)
+    ensures { IfSome profile (λ number. number < 256) }
+{}
+
 impl Client {
-    /// Begins to put a file under a name; None where no vault is open, as at each begin.
-    pub fn begin_put(&mut self, name: &[u8], bytes: Bytes) -> Option<Result<u32, BeginFault>>
+    /// Begins to put a file under a name, where it names none with the setup's profile; None where no vault is
+    /// open, as at each begin.
+    pub fn begin_put(
+        &mut self,
+        name: &[u8],
+        bytes: Bytes,
+        profile: Option<u8>,
+    ) -> Option<Result<u32, BeginFault>>
         requires { client_next_job self.old < 2 ^ 32 - 1 }
         ensures machine { (w : State) (d : Devices) (moment : ℕ) → ClientStands self.old d w
-            → MakesEvent w moment (Begin (PutJob name.now bytes)) (client_begin_outcome result) self.new d }
+            → MakesEvent w moment (put_event profile name.now bytes) (client_begin_outcome result) self.new d }
         ensures unchanged { UnlessBegun result (IsSame self.old self.new) }
     {
         bytes_are_bytes(name);
         bytes_are_bytes(bytes.as_slice());
+        profiles_fit(profile);
         match &mut self.vault {
-            Some(vault) => Some(vault.begin_put(name, bytes)),
+            Some(vault) => Some(vault.begin_put(name, bytes, profile)),
             None => None,
         }
     }
@@ -82,6 +95,19 @@ impl Client {
     {
         match &mut self.vault {
             Some(vault) => Some(vault.begin_repair()),
+            None => None,
+        }
+    }
+
+    /// Begins to bring the journal's second version into effect.
+    pub fn begin_upgrade(&mut self) -> Option<Result<u32, BeginFault>>
+        requires { client_next_job self.old < 2 ^ 32 - 1 }
+        ensures machine { (w : State) (d : Devices) (moment : ℕ) → ClientStands self.old d w
+            → MakesEvent w moment (Begin UpgradeJob) (client_begin_outcome result) self.new d }
+        ensures unchanged { UnlessBegun result (IsSame self.old self.new) }
+    {
+        match &mut self.vault {
+            Some(vault) => Some(vault.begin_upgrade()),
             None => None,
         }
     }

@@ -4,8 +4,7 @@ use Rattle.std.specs.Prelude.{OnOk, is_ok, is_some}
 use Rattle.std.proofs.lemmas.Bool.{cases_Bool, false≢true}
 use Rattle.device_defs.specs.Cells.{Cells}
 use Rattle.device_defs.specs.Providers.{Provider}
-use Rattle.machine_defs.specs.Events.{Event, Begin, Step, Outcome}
-use Rattle.machine_defs.specs.Jobs.{Kind}
+use Rattle.machine_defs.specs.Events.{Event, Step, Outcome}
 use Rattle.machine_defs.specs.Machine.{Happens}
 use Rattle.machine_defs.specs.Runs.{Moment, now}
 use Rattle.machine_defs.specs.States.{State}
@@ -19,7 +18,7 @@ use Rattle.hail_client.specs.Client.{is_open, client_next_job, next_job_by, clie
 use Rattle.hail_client.specs.Stands.{ClientStands, MakesEvent, IsStanding, IsReached, RunsJobOn, OpensOver}
 use Rattle.vault_core.specs.Coming.{IsNoJob}
 use Rattle.hail_replay.specs.Performed.{StandsWhereOpen, NoCountFell, KeepsStanding}
-use Rattle.hail_replay.proofs.Same.{Same, steps, begins, both, going, step_of}
+use Rattle.hail_replay.proofs.Same.{Same, OneMore, steps, both, going, step_of}
 use Rattle.hail_replay.proofs.Counts.{none-fell, fell, onward-over}
 use Rattle.hail_replay.proofs.Behind.{open-same}
 use Rattle.hail_replay.proofs.Standing.{standing-closed}
@@ -45,13 +44,14 @@ numbers c d w S = next-of c.vault c.next_job d w S
 -- ---- begins
 
 -- a begin that is an event of each state keeps what a client stands for
-pub begun-kept : (c next : Client) (d : Devices) (kind : Kind) (outcome : Outcome) → StandsWhereOpen c d
+pub begun-kept : (c next : Client) (d : Devices) (event : Event) (outcome : Outcome)
+    → ((w u : State) → Happens 8 0 w event outcome u → OneMore w u) → StandsWhereOpen c d
     → ((w : State) (there : Devices) (moment : ℕ) → ClientStands c there w →
-    MakesEvent w moment (Begin kind) outcome next there) → KeepsStanding c next d d
-begun-kept c next d kind outcome S makes =
+    MakesEvent w moment event outcome next there) → KeepsStanding c next d d
+begun-kept c next d event outcome leaves S makes =
     (let X = somewhere c d S in
     let M = makes X.state X.there 0 X.stands in
-    let B = begins X.state 8 0 kind outcome M.state M.happens in
+    let B = leaves X.state M.state M.happens in
     let was : is_open next ≡ is_open c = sym (open-same next X.there M.state M.stands) ∙ B.is_open
     ∙ open-same c X.there X.state X.stands in
     let a = numbers c X.there X.state X.stands in

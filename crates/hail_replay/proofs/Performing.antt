@@ -4,20 +4,22 @@ use Rattle.std.specs.Prelude.{IfSome, is_some}
 use Rattle.std.proofs.lemmas.Bool.{cases_Bool}
 use Rattle.device_defs.specs.Cells.{Cells}
 use Rattle.device_defs.specs.Providers.{Provider}
-use Rattle.machine_defs.specs.Events.{Event, Begin, Step, Names}
+use Rattle.machine_defs.specs.Events.{Event, Begin, BeginAt, Step, Names}
 use Rattle.machine_defs.specs.Heard.{Entry, heard_by, heard_at, reported_after}
-use Rattle.machine_defs.specs.Jobs.{Kind, job_of}
+use Rattle.machine_defs.specs.Jobs.{Kind, PutJob, job_of}
 use Rattle.machine_defs.specs.Machine.{Happens}
 use Rattle.machine_defs.specs.Runs.{Moment}
 use Rattle.machine_defs.specs.States.{State}
 use Rattle.machine_defs.specs.Transcripts.{Once, RunJob}
 use Rattle.schedule_text.specs.declared.event.Event.{Event as Read}
+use Rattle.schedule_text.specs.declared.event.Event.TheVariants as read
 use Rattle.schedule_text.specs.Events.{event_command}
 use Rattle.vault_core.specs.declared.wish.BeginFault.{BeginFault}
 use Rattle.vault.specs.declared.turn.Turn.{Turn}
 use Rattle.vault_open.specs.Devices.{Devices, devices}
 use Rattle.vault.specs.Outcomes.{IfEnded}
 use Rattle.hail_client.specs.declared.client.Client.{Client}
+use Rattle.hail_client.specs.Begins.{put_event}
 use Rattle.hail_client.specs.Client.{is_open, client_coming, IsSame}
 use Rattle.hail_client.specs.Outcomes.{client_begin_outcome, step_outcome, replace_outcome}
 use Rattle.hail_client.specs.Stands.{ClientStands, MakesEvent, IsReached, RunsJobOn}
@@ -25,7 +27,7 @@ use Rattle.vault_core.specs.Coming.{IsNoJob}
 use Rattle.hail_replay.specs.declared.came.Came.{Came}
 use Rattle.hail_replay.specs.declared.came.Came.TheVariants as came
 use Rattle.hail_replay.specs.Performed.{StandsWhereOpen, KeepsStanding, IsPerformed}
-use Rattle.hail_replay.proofs.Same.{Same}
+use Rattle.hail_replay.proofs.Same.{Same, OneMore, begins}
 use Rattle.hail_replay.proofs.Arms.{begun-kept, closed-kept, closed-coming, step-kept, run-kept, replaced-kept, same-kept}
 use Rattle.hail_replay.proofs.Behind.{once, run, not-run, turn-heard}
 use Rattle.hail_replay.proofs.Standing.{lists}
@@ -36,17 +38,42 @@ pub performed-as : (event other : Read) (came : Option Came) (c next : Client) (
 performed-as event other came c next d e is P =
     subst (λ (x : Read). IsPerformed (event_command x) came c next d e) (sym is) P
 
+-- a call that begins a job, where the event draws at most one number and tells of no job
+begun-by : (event : Event) (c next : Client) (d : Devices) (result : Option (Result ℕ BeginFault))
+    → ((w u : State) → Happens 8 0 w event (client_begin_outcome result) u → OneMore w u)
+    → ((w : State) (es : List Entry)
+    → reported_after event es ++ heard_at w event (client_begin_outcome result) ≡ es ++ [])
+    → StandsWhereOpen c d
+    → ((w : State) (there : Devices) (moment : ℕ) → ClientStands c there w →
+    MakesEvent w moment event (client_begin_outcome result) next there)
+    → IsPerformed (Once event) (Some (came.Begun result)) c next d d
+begun-by event c next d result leaves quiet S makes = record {
+  machine = λ start ms told R. once event (Some (came.Begun result)) c next d d
+      (λ w moment T. makes w d moment T) (λ w es T. quiet w es) start ms R;
+  kept = begun-kept c next d event (client_begin_outcome result) leaves S makes;
+}
+
 -- a begin
 pub begun : (c next : Client) (d : Devices) (kind : Kind) (result : Option (Result ℕ BeginFault)) →
     StandsWhereOpen c d
     → ((w : State) (there : Devices) (moment : ℕ) → ClientStands c there w →
     MakesEvent w moment (Begin kind) (client_begin_outcome result) next there)
     → IsPerformed (Once (Begin kind)) (Some (came.Begun result)) c next d d
-begun c next d kind result S makes = record {
-  machine = λ start ms told R. once (Begin kind) (Some (came.Begun result)) c next d d
-      (λ w moment T. makes w d moment T) (λ w es T. refl) start ms R;
-  kept = begun-kept c next d kind (client_begin_outcome result) S makes;
-}
+begun c next d kind result S makes =
+    begun-by (Begin kind) c next d result
+    (λ w u h. begins w 8 0 kind None (client_begin_outcome result) u h) (λ w es. refl) S makes
+
+-- the begin of a put
+pub put-begun : (c next : Client) (d : Devices) (name bytes : List ℕ) (own : Option ℕ)
+    (result : Option (Result ℕ BeginFault)) → StandsWhereOpen c d
+    → ((w : State) (there : Devices) (moment : ℕ) → ClientStands c there w →
+    MakesEvent w moment (put_event own name bytes) (client_begin_outcome result) next there)
+    → IsPerformed (event_command (read.BeginPut name bytes own)) (Some (came.Begun result)) c next d d
+put-begun c next d name bytes None result S makes = begun c next d (PutJob name bytes) result S makes
+put-begun c next d name bytes (Some profile) result S makes =
+    begun-by (BeginAt profile name bytes) c next d result
+    (λ w u h. begins w 8 0 (PutJob name bytes) (Some profile) (client_begin_outcome result) u h)
+    (λ w es. refl) S makes
 
 -- a step, which does nothing where no vault is open
 pub stepped : (job : ℕ) (c next : Client) (d e : Devices) (t : Option Turn) → StandsWhereOpen c d →

@@ -8,7 +8,7 @@ use Rattle.machine_defs.specs.Refusals as refusal
 use Rattle.machine_defs.specs.Answers as answer
 use Rattle.machine_defs.specs.Events.{Event, Step, Outcome, Refused, Begun, More, Waiting, Ended, Replaced, NothingHeld, Closed}
 use Rattle.machine_defs.specs.States.{State, Append, Alone}
-use Rattle.machine_defs.specs.Begins.{Begins}
+use Rattle.machine_defs.specs.Begins.{BeginsAt}
 use Rattle.machine_defs.specs.Appends.{Moves}
 use Rattle.machine_defs.specs.Steps.{next_action, holder_of, Acts, ActsOrWaits, StepsOn, StepsJob, StepsMine, StepsOne, StepsOpen, Steps}
 use Rattle.machine_defs.specs.Alone.{number_alone}
@@ -144,12 +144,12 @@ module _ (old : State) where
   }
 
   -- so does a begin, which may give one number more
-  pub begins : (limit moment : ℕ) (kind : Kind) (r : Outcome) (new : State) →
-      Begins limit moment old kind r new → OneMore new
-  begins limit moment kind Closed new h = one_more old new h.1 refl (omega arith)
-  begins limit moment kind (Refused why) new h = one_more old new h.2 refl (omega arith)
-  begins limit moment kind (Begun job) new h = one_more _ new h.3 refl (omega arith)
-  begins limit moment kind r new h = absurd h
+  pub begins : (limit moment : ℕ) (kind : Kind) (own : Option ℕ) (r : Outcome) (new : State) →
+      BeginsAt limit moment old kind own r new → OneMore new
+  begins limit moment kind own Closed new h = one_more old new h.1 refl (omega arith)
+  begins limit moment kind own (Refused why) new h = one_more old new h.2 refl (omega arith)
+  begins limit moment kind own (Begun job) new h = one_more _ new h.3 refl (omega arith)
+  begins limit moment kind own r new h = absurd h
 
 -- a step of a run
 pub step_of : (start : State) (ms : List Moment) (m : Moment) (job : ℕ) → m.event ≡ Step job →

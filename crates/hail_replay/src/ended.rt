@@ -102,6 +102,7 @@ pub fn answer_line(alloc: Global, answer: &Answer) -> Result<Bytes, Memory>
             counts,
         } => audited_line(alloc, *number, *undecided, counts),
         Answer::Repaired { number } => numbered_line(alloc, b"repaired", *number),
+        Answer::Upgraded => Bytes::from_slice(alloc, b"upgraded\n"),
         Answer::Lost { stripe, row } => lost_line(alloc, *stripe, *row),
         Answer::ProviderFault { provider } => {
             numbered_line(alloc, b"provider fault", u64::from(*provider))

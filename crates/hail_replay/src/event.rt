@@ -55,13 +55,16 @@ pub fn perform<D: Disk, P: Tamper>(
             Some(Came::Inited(client.init(alloc, &setup, &master, disk)))
         }
         Event::Reopen => Some(Came::Reopened(client.reopen(alloc, disk, providers.len()))),
-        Event::BeginPut { name, bytes } => {
-            Some(Came::Begun(client.begin_put(name.as_slice(), bytes)))
-        }
+        Event::BeginPut {
+            name,
+            bytes,
+            profile,
+        } => Some(Came::Begun(client.begin_put(name.as_slice(), bytes, profile))),
         Event::BeginGet { name } => Some(Came::Begun(client.begin_get(name.as_slice()))),
         Event::BeginDrop { name } => Some(Came::Begun(client.begin_drop(name.as_slice()))),
         Event::BeginAudit => Some(Came::Begun(client.begin_audit())),
         Event::BeginRepair => Some(Came::Begun(client.begin_repair())),
+        Event::BeginUpgrade => Some(Came::Begun(client.begin_upgrade())),
         Event::Step { job } => Some(Came::Stepped(client.step(job, disk, providers))),
         Event::Run { job } => Some(Came::Stepped(run_job(client, job, disk, providers))),
         Event::Alter {

@@ -4,7 +4,7 @@ use Rattle.std.proofs.lemmas.List.{length-map}
 use Rattle.device_defs.specs.Providers.{HasPlace, with_symbol, without_block}
 use Rattle.device_defs.proofs.Lasting.{is_some-goes}
 use Rattle.machine_defs.specs.Events.{Init, Alter, Lose, Stop, Reopen}
-use Rattle.machine_defs.specs.Jobs.{PutJob, GetJob, DropJob, AuditJob, RepairJob}
+use Rattle.machine_defs.specs.Jobs.{GetJob, DropJob, AuditJob, RepairJob, UpgradeJob}
 use Rattle.record_codec.specs.Entries.{with_master}
 use Rattle.vault_open.specs.Devices.{devices}
 use Rattle.provider_model.specs.Seen.{provider_seen}
@@ -13,7 +13,7 @@ use Rattle.hail_replay.specs.declared.came.Came.TheVariants as came
 use Rattle.hail_replay.proofs.Same.{replaces_if}
 use Rattle.hail_replay.proofs.Arms.{init-kept, reopen-kept, stop-kept}
 use Rattle.hail_replay.proofs.Behind.{once}
-use Rattle.hail_replay.proofs.Performing.{performed-as, begun, stepped, replaced, listed}
+use Rattle.hail_replay.proofs.Performing.{performed-as, begun, put-begun, stepped, replaced, listed}
 use Rattle.hail_replay.proofs.event.perform.Goals as goal
 
 pub returns-in-Init : goal.returns-in-Init
@@ -48,8 +48,8 @@ pub returns-in-BeginPut : goal.returns-in-BeginPut
 returns-in-BeginPut g c =
     record {
       performed = performed-as _ _ _ _ _ _ _ c.in-BeginPut.is
-          (begun _ _ _ (PutJob c.in-BeginPut.name c.in-BeginPut.bytes) c.begin_put.result c.requires.standing
-          (rw c.as_slice.ensures at c.begin_put.ensures.machine));
+          (put-begun _ _ _ c.in-BeginPut.name c.in-BeginPut.bytes c.in-BeginPut.profile c.begin_put.result
+          c.requires.standing (rw c.as_slice.ensures at c.begin_put.ensures.machine));
     }
 
 pub returns-in-BeginGet : goal.returns-in-BeginGet
@@ -80,6 +80,13 @@ returns-in-BeginRepair g c =
     record {
       performed = performed-as _ _ _ _ _ _ _ c.in-BeginRepair.is
           (begun _ _ _ RepairJob c.begin_repair.result c.requires.standing c.begin_repair.ensures.machine);
+    }
+
+pub returns-in-BeginUpgrade : goal.returns-in-BeginUpgrade
+returns-in-BeginUpgrade g c =
+    record {
+      performed = performed-as _ _ _ _ _ _ _ c.in-BeginUpgrade.is
+          (begun _ _ _ UpgradeJob c.begin_upgrade.result c.requires.standing c.begin_upgrade.ensures.machine);
     }
 
 pub returns-in-Step : goal.returns-in-Step
