@@ -1,6 +1,7 @@
 -- The begin of a put as an event.
 --
---   put_event profile name bytes == the begin of a put, of a file with a profile of its own where one is named
+--   put_event profile name bytes == the begin of a put, of a file with a profile of its own where one is
+--                                   named
 use Rattle.std.specs.Prelude.{ℕ, List, Option, None, Some}
 use Rattle.machine_defs.specs.Events.{Event, Begin, BeginAt}
 use Rattle.machine_defs.specs.Jobs.{PutJob}

@@ -23,8 +23,8 @@ fn profiles_fit(profile: Option<u8>)
 {}
 
 impl Client {
-    /// Begins to put a file under a name, where it names none with the setup's profile; None where no vault is
-    /// open, as at each begin.
+    /// Begins to put a file under a name, with the setup's profile where it names none; None where no vault
+    /// is open, as at each begin.
     pub fn begin_put(
         &mut self,
         name: &[u8],
@@ -33,7 +33,8 @@ impl Client {
     ) -> Option<Result<u32, BeginFault>>
         requires { client_next_job self.old < 2 ^ 32 - 1 }
         ensures machine { (w : State) (d : Devices) (moment : ℕ) → ClientStands self.old d w
-            → MakesEvent w moment (put_event profile name.now bytes) (client_begin_outcome result) self.new d }
+            → MakesEvent w moment (put_event profile name.now bytes) (client_begin_outcome result) self.new
+            d }
         ensures unchanged { UnlessBegun result (IsSame self.old self.new) }
     {
         bytes_are_bytes(name);

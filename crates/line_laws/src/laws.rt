@@ -1,5 +1,5 @@
 //! From a text back to the outcomes that wrote it.
-ghost use Rattle.std.specs.Prelude.{◌≡◌, ◌++◌, ℕ, List};
+ghost use Rattle.std.specs.Prelude.{◌≡◌, ◌++◌, ℕ, List, length};
 ghost use Rattle.std.specs.List.{AllByRecursion};
 ghost use Rattle.machine_defs.specs.Events.{Event, Outcome};
 ghost use Rattle.machine_defs.specs.Lines.{line, lines_of};
@@ -39,10 +39,16 @@ pub fn runs_write_lines()
 {}
 
 /// Where a run carries out commands of one line each, and what it has written is what told outcomes write,
-/// the commands ended with these outcomes.
+/// the commands ended with these outcomes. So it is behind any text of whole lines, where there are as many
+/// outcomes as commands; and what stands before them is that text.
 pub fn texts_tell_outcomes()
-    ensures { (limit : ℕ) (start : State) (base ms : List Moment) (commands : List Instruction)
+    ensures whole { (limit : ℕ) (start : State) (base ms : List Moment) (commands : List Instruction)
         (bytes : List ℕ) (outcomes : List Outcome) → IsRun limit start (ms ++ base) → AskForOneLine commands
         → CarriesOut commands ms bytes → AllByRecursion IsToldByLine outcomes → bytes ≡ lines_of_all outcomes
         → EndsAs commands ms outcomes }
+    ensures behind { (limit : ℕ) (start : State) (base ms : List Moment) (commands : List Instruction)
+        (bytes front other : List ℕ) (outcomes : List Outcome) → IsRun limit start (ms ++ base)
+        → AskForOneLine commands → CarriesOut commands ms bytes → AllByRecursion IsToldByLine outcomes
+        → length outcomes ≡ length commands → IsOfLines front → IsOfLines other
+        → front ++ bytes ≡ other ++ lines_of_all outcomes → (front ≡ other) × EndsAs commands ms outcomes }
 {}
