@@ -4,8 +4,8 @@ mod Refusals
 mod Answers
 mod Outcomes
 mod OneLine
-mod LastLines
-mod OfLines
-mod Happened
-mod Read
+pub mod LastLines
+pub mod OfLines
+pub mod Happened
+pub mod Read
 mod Samples

@@ -47,13 +47,15 @@ apart how e = absurd cc
 
 -- ---- the lines
 
-abbrev opened_line : List ℕ
+-- of the opening
+abbrev pub opened_line : List ℕ
 opened_line = [] ++ lines_of Opened
 
 abbrev begun_lines : List ℕ
 begun_lines = opened_line ++ lines_of (Begun 1)
 
-abbrev put_lines : List ℕ
+-- up to the end of the put
+abbrev pub put_lines : List ℕ
 put_lines = begun_lines ++ lines_of (Ended Put)
 
 abbrev taken_lines : List ℕ
@@ -62,7 +64,8 @@ taken_lines = put_lines ++ lines_of (Begun 2)
 abbrev pub all_lines : List ℕ
 all_lines = taken_lines ++ lines_of (Ended (Got byte))
 
-lines-are : all_lines ≡ byte_lines
+-- they are those that were written
+pub lines-are : all_lines ≡ byte_lines
 unfolding digits
 lines-are = refl
 

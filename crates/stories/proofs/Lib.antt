@@ -1,5 +1,6 @@
 mod Went
 mod Carried
+mod Said
 mod Puts
 mod Gets
 mod Other

@@ -3,19 +3,21 @@
 --   put_of front name bytes p  == commands that open a store and put a file by the job of this number, behind
 --                                 any others
 --   got_behind commands name g == a get of the file by the job of this number, behind commands
---   PutsFile ms lines p name bytes
+--   PutsFile middle ms lines p name bytes
 --                              == the put began and ended at two of these moments, whose lines are among
---                                 these; where they came to `job` and `put`, the file is stored
---   IsGot start old new end p g name bytes
+--                                 these, and behind them those of the commands up to the get; where they came
+--                                 to `job` and `put`, the file is stored; they did where the lines say so
+--   IsGot middle start old new end p g name bytes
 --                              == a get began and ended behind the put; their lines are written last; where
---                                 all four moments came to what they should, the bytes that were got are those
---                                 that were put, or the report holds a forgery against them
---   IsGotWhole start old new end p g ps name bytes
+--                                 all four moments came to what they should, the bytes that were got are
+--                                 those that were put, or the report holds a forgery against them; they did
+--                                 where what was written says so
+--   IsGotWhole middle start old new end p g ps name bytes
 --                              == and where these providers are at most b, the get gave the bytes that were
 --                                 put, whatever its answer, or is lost by calls that failed
---   Survives start old new p name bytes
+--   Survives middle start old new p name bytes
 --                              == where the put came to `job` and `put`, each image of the disk has a file of
---                                 so many bytes under the name
+--                                 so many bytes under the name; and it did where what was written says so
 use Rattle.std.specs.Prelude.{◌≡◌, ◌⊎◌, ◌≤◌, ℕ, List, ◌∷◌, ◌++◌, Some, length}
 use Rattle.device_defs.specs.Images.{EachImage}
 use Rattle.device_defs.specs.Told.{told_then}
@@ -34,6 +36,7 @@ use Rattle.command_defs.specs.Seen.{Seen, Ending}
 use Rattle.hail_client.specs.Stands.{ImageHasFile}
 use Rattle.hail_replay.specs.Answers.{devices_of_seen}
 use Rattle.hail_replay.specs.Starts.{AreLeft}
+use Rattle.stories.specs.Said.{SaysPut, SaysGot}
 
 -- a store is opened, and a file put, behind any commands
 abbrev pub put_of : List Instruction → List ℕ → List ℕ → ℕ → List Instruction
@@ -44,22 +47,25 @@ abbrev pub got_behind : List Instruction → List ℕ → ℕ → List Instructi
 got_behind commands name g = RunJob g ∷ Once (Begin (GetJob name)) ∷ commands
 
 -- the put began and ended at two of these moments, whose lines are among these
-pub record PutsFile (ms : List Moment) (lines : List ℕ) (p : ℕ) (name bytes : List ℕ) : Type 0 where
+pub record PutsFile (middle : List Instruction) (ms : List Moment) (lines : List ℕ) (p : ℕ)
+    (name bytes : List ℕ) : Type 0 where
   pub begin : Moment
   pub end : Moment
   pub front : List ℕ
   pub rest : List ℕ
   pub lines_are : lines ≡ ((front ++ lines_of begin.outcome) ++ lines_of end.outcome) ++ rest
   pub stored : begin.outcome ≡ Begun p → end.outcome ≡ Ended Put → Stored ms name bytes
+  pub said : SaysPut lines p middle → (begin.outcome ≡ Begun p) × (end.outcome ≡ Ended Put)
 
 -- a get began and ended behind the put, with their lines written last, and gave the bytes that were put
-pub record IsGot (start : State) (old new : Seen) (end : Ending) (p g : ℕ) (name bytes : List ℕ) : Type 0 where
+pub record IsGot (middle : List Instruction) (start : State) (old new : Seen) (end : Ending) (p g : ℕ)
+    (name bytes : List ℕ) : Type 0 where
   pub before : List Moment  -- the begin of the get
   pub begin : Moment
   pub gaps : List Moment
   pub last : Moment
   pub lines : List ℕ
-  pub put : PutsFile before lines p name bytes
+  pub put : PutsFile middle before lines p name bytes
   pub left : AreLeft start (last ∷ (gaps ++ begin ∷ before)) (devices_of_seen new)
   pub written : new.sink ≡ told_then old.sink ((lines ++ lines_of begin.outcome) ++ lines_of last.outcome)
   pub ends : (how : Answer) → begin.outcome ≡ Begun g → last.outcome ≡ Ended how
@@ -68,11 +74,14 @@ pub record IsGot (start : State) (old new : Seen) (end : Ending) (p g : ℕ) (na
       → begin.outcome ≡ Begun g → last.outcome ≡ Ended (Got got)
       → (got ≡ bytes) ⊎ ((file : File) × (file_in (now start before) name ≡ Some file)
       × HoldsForgery (file_object (now start before) file) bytes g end.heard)
+  pub said : (taken text : List ℕ) (how : Answer) → old.sink ≡ Some taken → new.sink ≡ Some (taken ++ text)
+      → SaysGot text p g middle how → (put.begin.outcome ≡ Begun p) × (put.end.outcome ≡ Ended Put)
+      × (begin.outcome ≡ Begun g) × (last.outcome ≡ Ended how)
 
 -- a get behind the put gave its bytes, where so many providers are at most b, or is lost by failed calls
-pub record IsGotWhole (start : State) (old new : Seen) (end : Ending) (p g : ℕ) (ps : List ℕ)
-    (name bytes : List ℕ) : Type 0 where
-  pub got : IsGot start old new end p g name bytes
+pub record IsGotWhole (middle : List Instruction) (start : State) (old new : Seen) (end : Ending) (p g : ℕ)
+    (ps : List ℕ) (name bytes : List ℕ) : Type 0 where
+  pub got : IsGot middle start old new end p g name bytes
   pub whole : (how : Answer)
       → length ps ≤ (setup_in (now start (got.last ∷ (got.gaps ++ got.begin ∷ got.before)))).b
       → got.put.begin.outcome ≡ Begun p → got.put.end.outcome ≡ Ended Put
@@ -80,12 +89,15 @@ pub record IsGotWhole (start : State) (old new : Seen) (end : Ending) (p g : ℕ
       → (how ≡ Got bytes) ⊎ IsLostByFaults (now start got.before) got.last.state how
 
 -- the put is on each image of the disk
-pub record Survives (start : State) (old new : Seen) (p : ℕ) (name bytes : List ℕ) : Type 0 where
+pub record Survives (middle : List Instruction) (start : State) (old new : Seen) (p : ℕ)
+    (name bytes : List ℕ) : Type 0 where
   pub ms : List Moment
   pub lines : List ℕ
-  pub put : PutsFile ms lines p name bytes
+  pub put : PutsFile middle ms lines p name bytes
   pub left : AreLeft start ms (devices_of_seen new)
   pub written : new.sink ≡ told_then old.sink lines
   pub kept : put.begin.outcome ≡ Begun p → put.end.outcome ≡ Ended Put
       → (file : File) × (file.size ≡ length bytes) × ((now start ms).bytes file.id ≡ bytes)
       × EachImage new.disk (ImageHasFile name file)
+  pub said : (taken text : List ℕ) → old.sink ≡ Some taken → new.sink ≡ Some (taken ++ text)
+      → SaysPut text p middle → (put.begin.outcome ≡ Begun p) × (put.end.outcome ≡ Ended Put)

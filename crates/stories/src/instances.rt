@@ -25,7 +25,8 @@ ghost use Rattle.hail_replay.specs.Forms.{IsReplayForm};
 ghost use Rattle.hail_replay.specs.Starts.{AreLeft};
 ghost use Rattle.hail_top.specs.Answered.{AnswersWords};
 ghost use Rattle.stories.specs.Files.{put_of, got_behind, IsGot};
-ghost use Rattle.stories.specs.Instances.{byte_text, get_of_byte, before_byte, behind_byte, byte_end, first_state, damaged_got, three_heard, other_byte};
+ghost use Rattle.stories.specs.Said.{SaysPut, SaysGot};
+ghost use Rattle.stories.specs.Instances.{byte_text, byte_lines, get_of_byte, before_byte, behind_byte, byte_end, first_state, damaged_got, three_heard, other_byte};
 
 use command_runs::runs::commands_end;
 use command_words::laws::words_spell_one_command;
@@ -36,7 +37,8 @@ use state_laws::laws::runs_are_sound;
 
 /// Words that spell a replay, over a store that was set up, where the source has a schedule that puts a file
 /// of one byte and gets it: it ends with status 0. The devices before it are left by the run of no event; all
-/// providers tell, and no command of it damages one. The put is job 1 and ends well, and job 2 gets the byte.
+/// providers tell, and no command of it damages one. The put is job 1 and ends well, and job 2 gets the byte;
+/// what it writes says so.
 pub fn a_byte_is_put_and_got()
     ensures replay { (words : List (String Global)) → IsReplayForm words
         → AnswersWords words before_byte behind_byte byte_end }
@@ -44,9 +46,11 @@ pub fn a_byte_is_put_and_got()
     ensures survives { IsSchedule byte_text (reverse (get_of_byte ++ put_of [] named byte 1)) }
     ensures asks { NoneAsksOn named [] × NoneAsksOn named get_of_byte }
     ensures left { AreLeft first_state [] (devices_of_seen before_byte) }
-    ensures got { (G : IsGot first_state before_byte behind_byte byte_end 1 2 named byte)
+    ensures got { (G : IsGot [] first_state before_byte behind_byte byte_end 1 2 named byte)
         × (G.put.begin.outcome ≡ Begun 1) × (G.put.end.outcome ≡ Ended Put)
         × (G.begin.outcome ≡ Begun 2) × (G.last.outcome ≡ Ended (Got byte)) }
+    ensures said { (before_byte.sink ≡ Some []) × (behind_byte.sink ≡ Some ([] ++ byte_lines))
+        × SaysGot byte_lines 1 2 [] (Got byte) × ((before : List ℕ) × SaysPut before 1 []) }
     ensures calm { AllTell first_state × DamagesOnly [] []
         × AsksDamageOf [] ([] ++ put_of [] named byte 1) }
 {

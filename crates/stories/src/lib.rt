@@ -5,3 +5,4 @@ pub mod commands;
 pub mod instances;
 pub mod laws;
 pub mod schedules;
+pub mod texts;

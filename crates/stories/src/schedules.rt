@@ -32,7 +32,7 @@ pub fn what_is_put_is_got()
         → AnswersWords words old new end → IsReplayForm words → old.source ≡ Some text
         → IsSchedule text (reverse (got_behind (middle ++ put_of front name bytes p) name g))
         → NoneAsksOn name middle → end.status ≡ 0 → is_some old.disk ≡ true
-        → AreLeft start ms (devices_of_seen old) → IsGot start old new end p g name bytes }
+        → AreLeft start ms (devices_of_seen old) → IsGot middle start old new end p g name bytes }
 {
     replays_go_on();
     commands_begin_none();
@@ -50,7 +50,7 @@ pub fn few_damaged_providers_do_no_harm()
         → NoneAsksOn name middle → end.status ≡ 0 → is_some old.disk ≡ true
         → AreLeft start ms (devices_of_seen old) → AllTell start → DamagesOnly ps ms
         → AsksDamageOf ps (middle ++ put_of front name bytes p)
-        → IsGotWhole start old new end p g ps name bytes }
+        → IsGotWhole middle start old new end p g ps name bytes }
 {
     replays_go_on();
     commands_begin_none();
@@ -69,7 +69,7 @@ pub fn what_is_put_survives()
         → AnswersWords words old new end → IsReplayForm words → old.source ≡ Some text
         → IsSchedule text (reverse (middle ++ put_of front name bytes p)) → NoneAsksOn name middle
         → end.status ≡ 0 → is_some old.disk ≡ true → AreLeft start ms (devices_of_seen old)
-        → Survives start old new p name bytes }
+        → Survives middle start old new p name bytes }
 {
     replays_go_on();
     commands_begin_none();

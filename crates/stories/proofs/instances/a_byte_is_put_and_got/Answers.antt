@@ -1,4 +1,5 @@
-use Rattle.std.proofs.Common.{[], refl, inr, arith}
+use Rattle.std.proofs.Common.{[], refl, sym, inr, arith, append-nil}
+use Rattle.std.specs.Prelude.{codes}
 use Rattle.machine_defs.specs.Stands.{IsFresh}
 use Rattle.record_defs.specs.Journal.{text}
 use Rattle.record_defs.specs.Spellings.{spelling}
@@ -16,7 +17,8 @@ use Rattle.damage_run.specs.Schedule.{byte}
 use Rattle.stories.proofs.Carried.{parts}
 use Rattle.stories.proofs.Puts.{puts-file}
 use Rattle.stories.proofs.Gets.{got-of}
-use Rattle.stories.proofs.ByteReplay.{later, run, all_lines, carried, written, left-behind, byte-replayed, four-stands}
+use Rattle.stories.specs.Said.{SaysPut}
+use Rattle.stories.proofs.ByteReplay.{later, run, opened_line, put_lines, all_lines, lines-are, carried, written, left-behind, byte-replayed, four-stands}
 use Rattle.stories.proofs.ByteText.{spelled}
 use Rattle.stories.proofs.Asked.{falls, four-idle, none-tell}
 use Rattle.stories.proofs.instances.a_byte_is_put_and_got.Goals as goal
@@ -71,6 +73,26 @@ returns-clause-got c =
       refl,
       refl,
     ))
+
+-- what was written says that the put ended well
+put-says : SaysPut put_lines 1 []
+put-says = record {
+  front = opened_line;
+  outcomes = [];
+  text_is = sym (append-nil put_lines);
+  whole = inr (codes "opened", refl);
+  one_each = tt;
+  as_many = refl;
+  told = tt;
+}
+
+pub returns-clause-said : goal.returns-clause-said
+returns-clause-said c = (
+  refl,
+  refl,
+  record { before = put_lines; text_is = sym lines-are; put = put-says; told = tt },
+  (put_lines, put-says),
+)
 
 pub returns-clause-calm : goal.returns-clause-calm
 returns-clause-calm c = (

@@ -1,11 +1,13 @@
-use Rattle.std.proofs.Common.{◌++◌, subst, arith}
+use Rattle.std.proofs.Common.{◌++◌, sym, subst, arith}
 use Rattle.std.proofs.lemmas.List.{reverse-reverse}
 use Rattle.std.specs.Prelude.{reverse}
 use Rattle.machine_defs.specs.Transcripts.{CarriesOut}
 use Rattle.hail_replay.specs.Answers.{devices_of_seen}
 use Rattle.hail_replay.specs.Starts.{called_behind}
 use Rattle.stories.specs.Files.{put_of, PutsFile}
+use Rattle.stories.specs.Said.{SaysPut}
 use Rattle.stories.proofs.Puts.{puts-file}
+use Rattle.stories.proofs.Said.{written-as}
 use Rattle.stories.proofs.schedules.what_is_put_survives.Goals as goal
 
 pub returns : goal.returns
@@ -15,10 +17,11 @@ returns c =
     (let all = middle ++ put_of front name bytes p in
     let W = c.replays_go_on.ensures words text (reverse all) start ms old new end answers form source spells
     ok told left in
-    let put : PutsFile (W.later ++ called_behind start ms) W.lines p name bytes =
+    let put : PutsFile middle (W.later ++ called_behind start ms) W.lines p name bytes =
     puts-file c.commands_begin_none.ensures.commands c.commands_begin_none.ensures.steps front middle name
     bytes p W.later (called_behind start ms) W.lines
-    (subst (λ cs. CarriesOut cs W.later W.lines) (reverse-reverse all) W.carried_out) asks in
+    (subst (λ cs. CarriesOut cs W.later W.lines) (reverse-reverse all) W.carried_out) asks start
+    W.left.run in
     record {
       ms = W.later ++ called_behind start ms;
       lines = W.lines;
@@ -35,4 +38,7 @@ returns c =
                 (c.runs_are_sound.ensures 8 start (W.later ++ called_behind start ms) (omega arith, omega arith)
                 left.starts W.left.run) K.kept,
           ));
+      said = λ taken text taken_is text_said says.
+          (let same = written-as old.sink new.sink W.lines taken text W.written taken_is text_said in
+          put.said (subst (λ l. SaysPut l p middle) (sym same) says));
     })

@@ -1,0 +1,99 @@
+-- What a text says of a put and of a get behind it is so.
+use Rattle.std.proofs.Common.{◌≡◌, ℕ, ◌<◌, ◌^◌, List, ◌∷◌, ◌++◌, length, Option, Some, sym, ap, subst, ◌∙◌, arith}
+use Rattle.std.proofs.lemmas.List.{append_cancel_left}
+use Rattle.device_defs.specs.Told.{told_then}
+use Rattle.machine_defs.specs.Answers.{Answer, Put}
+use Rattle.machine_defs.specs.Events.{Event, Step, Begun, Ended, IsSpelled}
+use Rattle.machine_defs.specs.Lines.{lines_of}
+use Rattle.machine_defs.specs.Runs.{Moment, now, IsRun}
+use Rattle.machine_defs.specs.States.{State}
+use Rattle.machine_defs.specs.Transcripts.{Instruction, CarriesOut}
+use Rattle.machine_defs.proofs.Given.{run_part}
+use Rattle.line_laws.specs.Read.{lines_of_all}
+use Rattle.line_laws.specs.Told.{IsToldAnswer, AsksForOneLine, WritesOneLine, IsOfLines}
+use Rattle.line_laws.proofs.Happened.{happened}
+use Rattle.line_laws.proofs.LastLines.{last-told}
+use Rattle.line_laws.proofs.OfLines.{joined, outcome-lines}
+use Rattle.line_laws.proofs.Read.{written-lines, text-behind}
+use Rattle.stories.specs.Said.{SaysPut, SaysGot}
+
+-- what was written behind what a sink had taken
+pub written-as : (old new : Option (List ℕ)) (lines taken text : List ℕ) → new ≡ told_then old lines →
+    old ≡ Some taken → new ≡ Some (taken ++ text) → lines ≡ text
+written-as old new lines taken text written is same =
+    (let e : Some (taken ++ lines) ≡ Some (taken ++ text) =
+    ap (λ (o : Option (List ℕ)). told_then o lines) (sym is) ∙ (sym written ∙ same) in
+    append_cancel_left taken lines text cc)
+
+-- three texts behind each other
+three-lines : (x y z : List ℕ) → IsOfLines x → IsOfLines y → IsOfLines z → IsOfLines ((x ++ y) ++ z)
+three-lines x y z a b c = joined (x ++ y) z (joined x y a b) c
+
+-- a text that says so is of whole lines
+says-lines : (text : List ℕ) (p : ℕ) (middle : List Instruction) → SaysPut text p middle → IsOfLines text
+says-lines text p middle S = subst IsOfLines (sym S.text_is)
+    (joined ((S.front ++ lines_of (Begun p)) ++ lines_of (Ended Put)) (lines_of_all S.outcomes)
+    (three-lines S.front (lines_of (Begun p)) (lines_of (Ended Put)) S.whole (outcome-lines (Begun p))
+    (outcome-lines (Ended Put))) (written-lines S.outcomes))
+
+module _ (limit : ℕ) (start : State) where
+  one-line-by : (m : Moment) (ms : List Moment) (event : Event) → m.event ≡ event → AsksForOneLine event →
+      IsRun limit start (m ∷ ms) → WritesOneLine m.outcome
+  one-line-by m ms event is asks run = happened (now start ms) m.state limit (length ms) m.event m.outcome
+      (subst AsksForOneLine (sym is) asks) run.1
+
+  -- the number of a job that was stepped is short
+  short : (m : Moment) (ms : List Moment) (job : ℕ) → m.event ≡ Step job → IsRun limit start (m ∷ ms) →
+      job < 2 ^ 64
+  short m ms job is run = (let s : job < 2 ^ 32 = subst IsSpelled is run.0 in omega (arith, s))
+
+  -- the two moments of a job behind a front of whole lines: what stands before the last two lines is that
+  -- front, and the two lines are theirs
+  pub two-said : (begin end : Moment) (steps older : List Moment) (event : Event) (job : ℕ) (how : Answer)
+      (front other : List ℕ) → IsRun limit start (end ∷ (steps ++ begin ∷ older)) → begin.event ≡ event →
+      AsksForOneLine event → end.event ≡ Step job → IsToldAnswer how → IsOfLines front → IsOfLines other →
+      (front ++ lines_of begin.outcome) ++ lines_of end.outcome
+      ≡ (other ++ lines_of (Begun job)) ++ lines_of (Ended how) →
+      (front ≡ other) × (begin.outcome ≡ Begun job) × (end.outcome ≡ Ended how)
+  two-said begin end steps older event job how front other run begun asks ended told whole ahead same =
+      let last = last-told end.outcome (Ended how) (front ++ lines_of begin.outcome)
+      (other ++ lines_of (Begun job)) (one-line-by end (steps ++ begin ∷ older) (Step job) ended tt run) told
+      (joined front (lines_of begin.outcome) whole (outcome-lines begin.outcome))
+      (joined other (lines_of (Begun job)) ahead (outcome-lines (Begun job))) same in
+      let first = last-told begin.outcome (Begun job) front other
+      (one-line-by begin older event begun asks (run_part limit start steps (begin ∷ older) run.2))
+      (short end (steps ++ begin ∷ older) job ended run) whole ahead last.0 in
+      (first.0, first.1, last.1)
+
+  -- a put with commands behind it
+  pub put-said : (begin end : Moment) (later steps older : List Moment) (event : Event) (p : ℕ)
+      (front rest : List ℕ) (middle : List Instruction) →
+      IsRun limit start (later ++ end ∷ (steps ++ begin ∷ older)) → begin.event ≡ event →
+      AsksForOneLine event → end.event ≡ Step p → IsOfLines front → CarriesOut middle later rest →
+      SaysPut (((front ++ lines_of begin.outcome) ++ lines_of end.outcome) ++ rest) p middle →
+      (begin.outcome ≡ Begun p) × (end.outcome ≡ Ended Put)
+  put-said begin end later steps older event p front rest middle run begun asks ended whole owns S =
+      let B = text-behind limit start (end ∷ (steps ++ begin ∷ older)) middle later rest
+      ((front ++ lines_of begin.outcome) ++ lines_of end.outcome)
+      ((S.front ++ lines_of (Begun p)) ++ lines_of (Ended Put)) S.outcomes run S.one_each owns S.told
+      S.as_many
+      (three-lines front (lines_of begin.outcome) (lines_of end.outcome) whole
+      (outcome-lines begin.outcome) (outcome-lines end.outcome))
+      (three-lines S.front (lines_of (Begun p)) (lines_of (Ended Put)) S.whole (outcome-lines (Begun p))
+      (outcome-lines (Ended Put))) S.text_is in
+      let two = two-said begin end steps older event p Put front S.front
+      (run_part limit start later (end ∷ (steps ++ begin ∷ older)) run) begun asks ended tt whole S.whole
+      B.0 in
+      (two.1, two.2)
+
+  -- a get behind lines
+  pub got-said : (begin end : Moment) (gaps before : List Moment) (event : Event) (g : ℕ) (how : Answer)
+      (lines text : List ℕ) (p : ℕ) (middle : List Instruction) →
+      IsRun limit start (end ∷ (gaps ++ begin ∷ before)) → begin.event ≡ event → AsksForOneLine event →
+      end.event ≡ Step g → IsOfLines lines →
+      (lines ++ lines_of begin.outcome) ++ lines_of end.outcome ≡ text → SaysGot text p g middle how →
+      SaysPut lines p middle × (begin.outcome ≡ Begun g) × (end.outcome ≡ Ended how)
+  got-said begin end gaps before event g how lines text p middle run begun asks ended whole same S =
+      let two = two-said begin end gaps before event g how lines S.before run begun asks ended S.told whole
+      (says-lines S.before p middle S.put) (same ∙ S.text_is) in
+      (subst (λ l. SaysPut l p middle) (sym two.0) S.put, two.1, two.2)

@@ -1,0 +1,70 @@
+//! A file over a replay, read from two texts: the schedule's, and what was written.
+ghost use Rattle.std.specs.Prelude.{◌≡◌, ◌⊎◌, ◌≤◌, ◌++◌, ℕ, List, ◌∷◌, String, Some, true, is_some, length, reverse};
+ghost use Rattle.std.specs.declared.alloc.Global.{Global};
+ghost use Rattle.device_defs.specs.Images.{EachImage};
+ghost use Rattle.record_defs.specs.Table.{File};
+ghost use Rattle.machine_defs.specs.Answers.{Answer, Got};
+ghost use Rattle.machine_defs.specs.Damaged.{DamagesOnly, AsksDamageOf};
+ghost use Rattle.machine_defs.specs.Halves.{AllTell};
+ghost use Rattle.machine_defs.specs.Heard.{HoldsForgery};
+ghost use Rattle.machine_defs.specs.Runs.{Moment, now};
+ghost use Rattle.machine_defs.specs.States.{State, setup_in, file_in, file_object};
+ghost use Rattle.machine_defs.specs.Transcripts.{Instruction};
+ghost use Rattle.machine_defs.specs.Untouched.{NoneAsksOn};
+ghost use Rattle.command_defs.specs.Seen.{Seen, Ending};
+ghost use Rattle.schedule_text.specs.Schedules.{IsSchedule};
+ghost use Rattle.second_half_laws.specs.Sharp.{IsLostByFaults};
+ghost use Rattle.hail_client.specs.Stands.{ImageHasFile};
+ghost use Rattle.hail_replay.specs.Answers.{devices_of_seen};
+ghost use Rattle.hail_replay.specs.Forms.{IsReplayForm};
+ghost use Rattle.hail_replay.specs.Starts.{AreLeft};
+ghost use Rattle.hail_top.specs.Answered.{AnswersWords};
+ghost use Rattle.stories.specs.Files.{put_of, got_behind, IsGot, IsGotWhole};
+ghost use Rattle.stories.specs.Said.{SaysPut, SaysGot};
+
+use crate::schedules::{
+    few_damaged_providers_do_no_harm, what_is_put_is_got, what_is_put_survives,
+};
+
+/// The stories of a file over a replay, where what was written says that its put ended well, and its get with
+/// an answer: bytes that were got are those that were put, or the report holds a forgery; while at most b
+/// providers are damaged they are those bytes, or the get is lost by calls that failed; and each image that a
+/// stop may leave of the disk has the file.
+pub fn texts_tell_the_stories()
+    ensures got { (words : List (String Global)) (text : List ℕ) (front middle : List Instruction)
+        (name bytes : List ℕ) (p g : ℕ) (start : State) (ms : List Moment) (old new : Seen) (end : Ending)
+        (taken said got : List ℕ)
+        → AnswersWords words old new end → IsReplayForm words → old.source ≡ Some text
+        → IsSchedule text (reverse (got_behind (middle ++ put_of front name bytes p) name g))
+        → NoneAsksOn name middle → end.status ≡ 0 → is_some old.disk ≡ true
+        → AreLeft start ms (devices_of_seen old)
+        → old.sink ≡ Some taken → new.sink ≡ Some (taken ++ said) → SaysGot said p g middle (Got got)
+        → (G : IsGot middle start old new end p g name bytes) × ((got ≡ bytes) ⊎ ((file : File)
+        × (file_in (now start G.before) name ≡ Some file)
+        × HoldsForgery (file_object (now start G.before) file) bytes g end.heard)) }
+    ensures whole { (words : List (String Global)) (text : List ℕ) (front middle : List Instruction)
+        (name bytes : List ℕ) (p g : ℕ) (ps : List ℕ) (start : State) (ms : List Moment) (old new : Seen)
+        (end : Ending) (taken said : List ℕ) (how : Answer)
+        → AnswersWords words old new end → IsReplayForm words → old.source ≡ Some text
+        → IsSchedule text (reverse (got_behind (middle ++ put_of front name bytes p) name g))
+        → NoneAsksOn name middle → end.status ≡ 0 → is_some old.disk ≡ true
+        → AreLeft start ms (devices_of_seen old) → AllTell start → DamagesOnly ps ms
+        → AsksDamageOf ps (middle ++ put_of front name bytes p)
+        → old.sink ≡ Some taken → new.sink ≡ Some (taken ++ said) → SaysGot said p g middle how
+        → (W : IsGotWhole middle start old new end p g ps name bytes)
+        × (length ps
+        ≤ (setup_in (now start (W.got.last ∷ (W.got.gaps ++ W.got.begin ∷ W.got.before)))).b
+        → (how ≡ Got bytes) ⊎ IsLostByFaults (now start W.got.before) W.got.last.state how) }
+    ensures survives { (words : List (String Global)) (text : List ℕ) (front middle : List Instruction)
+        (name bytes : List ℕ) (p : ℕ) (start : State) (ms : List Moment) (old new : Seen) (end : Ending)
+        (taken said : List ℕ)
+        → AnswersWords words old new end → IsReplayForm words → old.source ≡ Some text
+        → IsSchedule text (reverse (middle ++ put_of front name bytes p)) → NoneAsksOn name middle
+        → end.status ≡ 0 → is_some old.disk ≡ true → AreLeft start ms (devices_of_seen old)
+        → old.sink ≡ Some taken → new.sink ≡ Some (taken ++ said) → SaysPut said p middle
+        → (file : File) × (file.size ≡ length bytes) × EachImage new.disk (ImageHasFile name file) }
+{
+    what_is_put_is_got();
+    few_damaged_providers_do_no_harm();
+    what_is_put_survives();
+}
