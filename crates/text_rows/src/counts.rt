@@ -109,10 +109,11 @@ fn other_ends_are_seen(rt: HostRuntime) {
     let right = [
         is_seen(rt.alloc(), &Answer::Put, [false; 4], &[]),
         is_seen(rt.alloc(), &lost, [false; 4], &[]),
+        is_seen(rt.alloc(), &Answer::Upgraded, [false; 4], &[]),
         is_seen(rt.alloc(), &repaired, [false, false, false, true], &[]),
         is_seen(rt.alloc(), &audited, [false, false, true, false], &[2, 5]),
         is_seen_by(rt.alloc(), 1, &audited, [false, false, true, false], &[2]),
         is_seen_by(rt.alloc(), 4, &audited, [false, false, true, false], &[]),
     ];
-    assert_eq!(rt; right, [true; 6]);
+    assert_eq!(rt; right, [true; 7]);
 }
