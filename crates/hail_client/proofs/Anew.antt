@@ -19,7 +19,7 @@ use Rattle.machine_defs.specs.Refusals as refusal
 use Rattle.machine_defs.specs.States.{State, setup_in}
 use Rattle.machine_defs.specs.Openings.{IsSetUp, Rereads, Reopens}
 use Rattle.machine_defs.specs.Stands.{StandsForState}
-use Rattle.state_laws.specs.Sound.{IsWholeJournal, IsSound, IsAtRest}
+use Rattle.state_laws.specs.Sound.{IsUnpacked, IsSound, IsAtRest}
 use Rattle.state_laws.proofs.Resting.{rest-sound}
 use Rattle.vault_open.specs.declared.fault.StartFault.{StartFault}
 use Rattle.vault_open.specs.declared.fault.StartFault.TheVariants as start_fault
@@ -174,22 +174,22 @@ module _ (told : Option Cells) (rs : List Record) (is_read : IsRead told rs) (v 
     sound : IsSound 8 start
     sound = rest-sound 8 start (rest next f ps)
 
-    whole : IsWholeJournal start
-    whole = record { journal = refl; area = refl; unswitched = refl }
+    unpacked : IsUnpacked start
+    unpacked = record { journal = refl; area = refl }
 
     is-up : IsSetUp start
     is-up = has-setup start sound is_read.some
 
     -- the vault that was opened has as many providers as the setup that it read
     pub uses-as : provider_count v ≡ (setup_in start).n
-    uses-as = count-is start rs sound whole is_read.in_grammar
+    uses-as = count-is start rs sound unpacked is_read.in_grammar
         (inl refl) is_read.some v holds g next refl stands
 
     -- with enough providers, the vault that was opened stands for an open state over them
     pub stands-open : provider_count v ≤ length ps →
         Stands v (devices holds g ps) (opened start rs (provider_or_empty ps) (length ps) g)
     stands-open enough =
-        stands-opened start rs sound whole is_read.in_grammar
+        stands-opened start rs sound unpacked is_read.in_grammar
         (inl refl) is_read.some v holds g next refl stands (provider_or_empty ps) ps
         (record { count = refl; each = each-at ps })
         (let e = uses-as in omega (arith, enough, e))

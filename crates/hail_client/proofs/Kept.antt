@@ -8,7 +8,7 @@ use Rattle.machine_defs.specs.States.{State}
 use Rattle.machine_defs.specs.Stands.{StandsForState}
 use Rattle.machine_defs.specs.Survival.{IsKept}
 use Rattle.state_laws.specs.Sound.{IsSound}
-use Rattle.vault_open.proofs.FirstVersion.{ShowsFirst, shows-first, appended-shown}
+use Rattle.vault_open.proofs.FirstVersion.{ShowsFirst, shows-first, unpacked-shown}
 use Rattle.hail_client.specs.Stands.{ImageHasFile}
 
 empty-has-none : (rs : List Record) (name : List ℕ) (file : File) → rs ≡ [] → file_of rs name ≡ Some file → ⊥
@@ -34,5 +34,4 @@ pub images-have : (holds : Option Cells) (w : State) (name : List ℕ) (file : F
 images-have None w name file sound stands kept = tt
 images-have (Some cells) w name file sound stands kept = λ image is.
     image-has w name file image kept
-    (shows-first w image (sound.journal.whole (appended-shown 8 w image sound (stands image is)))
-    (stands image is))
+    (shows-first w image (unpacked-shown 8 w image sound (stands image is)) (stands image is))

@@ -20,7 +20,7 @@ use Rattle.machine_defs.specs.Refusals as refusal
 use Rattle.machine_defs.specs.States.{State, setup_in, given_up}
 use Rattle.machine_defs.specs.Stands.{StandsForState}
 use Rattle.machine_defs.specs.Openings.{Reopens, IsSetUp}
-use Rattle.state_laws.specs.Sound.{IsWholeJournal, IsSound, IsAtRest}
+use Rattle.state_laws.specs.Sound.{IsUnpacked, IsSound, IsAtRest}
 use Rattle.state_laws.proofs.Events.{events-sound}
 use Rattle.state_laws.proofs.Records.{none-set_up}
 use Rattle.vault_open.specs.declared.fault.StartFault.{StartFault}
@@ -32,13 +32,13 @@ use Rattle.opening_defs.specs.Journals.{journal_read, IsRead, IsResynced}
 use Rattle.vault_open.specs.Causes.{IsStartFault, LiesInJournal}
 use Rattle.vault.specs.Seen.{provider_count}
 use Rattle.vault.specs.Stands.{Stands}
-use Rattle.state_laws.proofs.Written.{whole-end}
-use Rattle.vault_open.proofs.FirstVersion.{Shows, ShowsFirst, shows-first, appended-shown}
+use Rattle.state_laws.proofs.Written.{unpacked-end}
+use Rattle.vault_open.proofs.FirstVersion.{Shows, ShowsFirst, shows-first, unpacked-shown}
 use Rattle.hail_client.specs.declared.client.Client.{Client}
 use Rattle.hail_client.specs.Outcomes.{start_refusal}
 use Rattle.hail_client.specs.Start.{anyone}
 use Rattle.hail_client.specs.Stands.{StandsClosed, MakesEvent}
-use Rattle.hail_client.proofs.Settled.{AreKept, settled, settled-whole, rereads, settled-sound, same-images, read-kept, kept-accepted, kept-fits, firm-stands, short-read, whole-read}
+use Rattle.hail_client.proofs.Settled.{AreKept, settled, settled-unpacked, rereads, settled-sound, same-images, read-kept, kept-accepted, kept-fits, firm-stands, short-read, whole-read}
 use Rattle.opening_defs.proofs.Readings.{bad-none}
 use Rattle.device_defs.proofs.PickLaws.{IsImage-reads}
 use Rattle.device_defs.proofs.Lasting.{image-firm}
@@ -61,7 +61,7 @@ abbrev pub opened : State → List Record → (ℕ → Provider) → ℕ → ℕ
 opened w rs providers handed faults =
     record (settled w rs) { is_open = true; providers = providers; handed = handed; disk_faults = faults }
 
-module _ (w : State) (rs : List Record) (sound : IsSound 8 w) (whole : IsWholeJournal w)
+module _ (w : State) (rs : List Record) (sound : IsSound 8 w) (whole : IsUnpacked w)
     (good : IsTrue (list_all is_in_grammar rs)) (kept : AreKept w rs) (some : rs ≢ []) where
   mid : IsSound 8 (settled w rs)
   mid = settled-sound w rs sound whole kept
@@ -78,7 +78,7 @@ module _ (w : State) (rs : List Record) (sound : IsSound 8 w) (whole : IsWholeJo
     whole = record { journal = refl; area = whole.area; unswitched = refl };
     accepted = mid.accepted;
     in_grammar = good;
-    room = (let a = mid.room in let e = whole-end (settled w rs) (settled-whole w rs whole) in
+    room = (let a = mid.room in let e = unpacked-end (settled w rs) (settled-unpacked w rs whole) in
         omega (arith, a, e));
     files = mid.files;
     set_up = λ is. up;
@@ -98,7 +98,7 @@ module _ (w : State) (rs : List Record) (sound : IsSound 8 w) (whole : IsWholeJo
           handed = handed;
         })
 
-    -- a vault opened over a whole journal stands for the machine's state once it is open
+    -- a vault opened over such a journal stands for the machine's state once it is open
     pub stands-opened : (providers : ℕ → Provider) (ps : List Provider) →
         AreHanded ps (record (settled w rs) { providers = providers; handed = length ps }) →
         (setup_in (settled w rs)).n ≤ length ps →
@@ -132,12 +132,11 @@ module _ (w : State) (moment next : ℕ) (old : Cells) (f0 f1 : ℕ) (ps : List 
   le = (let e = are.faults in omega (arith, e, never))
 
   -- the disk holds the whole history
-  whole_journal : IsWholeJournal w
-  whole_journal = sound.journal.whole
-      (appended-shown 8 w (reads old) sound (are.images (reads old) (IsImage-reads old)))
+  unpacked : IsUnpacked w
+  unpacked = unpacked-shown 8 w (reads old) sound (are.images (reads old) (IsImage-reads old))
 
   read : ShowsFirst w (reads old)
-  read = shows-first w (reads old) whole_journal (are.images (reads old) (IsImage-reads old))
+  read = shows-first w (reads old) unpacked (are.images (reads old) (IsImage-reads old))
 
   -- a state in which no vault is open, and job numbers go on
   closed-at : (new : Option Cells) (u : State) → Reopens w events.Opened u ⊎
@@ -203,8 +202,8 @@ module _ (w : State) (moment next : ℕ) (old : Cells) (f0 f1 : ℕ) (ps : List 
   not-bad at (long, bad) = by_read read
     where
       none : (rs : List Record) → AreKept w rs → StandsFor (reads old) rs → ⊥
-      none rs kept stands = bad-none (journal_read old) at rs (kept-accepted w rs sound whole_journal kept)
-          (stands-take largest_journal (reads old) rs stands (kept-fits w rs sound whole_journal kept)) bad
+      none rs kept stands = bad-none (journal_read old) at rs (kept-accepted w rs sound unpacked kept)
+          (stands-take largest_journal (reads old) rs stands (kept-fits w rs sound unpacked kept)) bad
 
       by_read : ShowsFirst w (reads old) → ⊥
       by_read (inl (inl stands)) = none w.records (inl refl) stands
@@ -233,8 +232,8 @@ module _ (w : State) (moment next : ℕ) (old : Cells) (f0 f1 : ℕ) (ps : List 
   fault-event new start_fault.NotSetUp goes is lies rose =
       (let kept = read-kept w (reads old) [] (free-read is) read in
       refused-at new refusal.NotSetUp (record (settled w []) { disk_faults = f1 })
-      (settled w [], rereads w [] whole_journal kept, refl, (f1, le, refl))
-      (synced-images new (record (settled w []) { disk_faults = f1 }) (lies tt) whole_journal.area
+      (settled w [], rereads w [] unpacked kept, refl, (f1, le, refl))
+      (synced-images new (record (settled w []) { disk_faults = f1 }) (lies tt) unpacked.area
       (free-read is)) refl refl (λ j. refl) refl refl)
   fault-event new (start_fault.BadJournal at) goes is lies rose = absurd (not-bad at is)
 
@@ -250,7 +249,7 @@ module _ (w : State) (moment next : ℕ) (old : Cells) (f0 f1 : ℕ) (ps : List 
     kept = read-kept w (reads old) rs whole read
 
     uses-as : provider_count v ≡ (setup_in (settled w rs)).n
-    uses-as = count-is w rs sound whole_journal is_read.in_grammar kept is_read.some v new f1 next is_next
+    uses-as = count-is w rs sound unpacked is_read.in_grammar kept is_read.some v new f1 next is_next
         stands
 
     -- a start with too few providers is a reopening that the machine refuses
@@ -263,12 +262,12 @@ module _ (w : State) (moment next : ℕ) (old : Cells) (f0 f1 : ℕ) (ps : List 
         (let e = uses-as in omega (arith, count, few, e)) in
         refused-at new refusal.TooFewProviders (record (settled w rs) { disk_faults = f1 }) (
           settled w rs,
-          rereads w rs whole_journal kept,
-          up w rs sound whole_journal is_read.in_grammar kept is_read.some,
+          rereads w rs unpacked kept,
+          up w rs sound unpacked is_read.in_grammar kept is_read.some,
           fewer,
           (f1, le, refl),
         )
-        (synced-images new (record (settled w rs) { disk_faults = f1 }) is_synced whole_journal.area whole)
+        (synced-images new (record (settled w rs) { disk_faults = f1 }) is_synced unpacked.area whole)
         refl refl (λ j. refl) refl refl)
 
     -- a start with enough providers is a reopening that the machine makes
@@ -284,12 +283,12 @@ module _ (w : State) (moment next : ℕ) (old : Cells) (f0 f1 : ℕ) (ps : List 
           spelled = tt;
           happens = (
             settled w rs,
-            rereads w rs whole_journal kept,
-            up w rs sound whole_journal is_read.in_grammar kept is_read.some,
+            rereads w rs unpacked kept,
+            up w rs sound unpacked is_read.in_grammar kept is_read.some,
             many_handed,
             (f1, le, refl),
           );
           stands = subst (λ (k : ℕ). Stands v (devices new f1 ps) (opened w rs w.providers k f1)) (sym count)
-              (stands-opened w rs sound whole_journal is_read.in_grammar kept is_read.some v new f1 next
+              (stands-opened w rs sound unpacked is_read.in_grammar kept is_read.some v new f1 next
               is_next stands w.providers ps (record { count = refl; each = are.providers.each }) many);
         })

@@ -13,12 +13,12 @@ use Rattle.machine_defs.specs.States.{State, Doubt, Settles}
 use Rattle.machine_defs.specs.Openings.{reread, Rereads}
 use Rattle.machine_defs.specs.Stands.{StandsIn, StandsPlain, StandsForState}
 use Rattle.journal_core.proofs.Meanings.{one_meaning}
-use Rattle.state_laws.specs.Sound.{IsWholeJournal, IsSound}
+use Rattle.state_laws.specs.Sound.{IsUnpacked, IsSound}
 use Rattle.state_laws.proofs.Events.{events-sound}
 use Rattle.opening_defs.specs.Journals.{journal_read}
 use Rattle.vault_open.proofs.Texts.{short-none}
 use Rattle.vault_open.proofs.FirstVersion.{Shows, ShowsFirst}
-use Rattle.state_laws.proofs.Written.{whole-end}
+use Rattle.state_laws.proofs.Written.{unpacked-end}
 
 -- ---- what bytes stand for
 
@@ -86,14 +86,14 @@ pub left-sound : (w : State) (rs js : List Record) → IsSound 8 w → AreLeft w
 left-sound w rs js sound left = events-sound 8 0 w sound (omega arith, omega arith) (Stop []) Stopped
     (left_with w rs js) refl (left-rereads w rs js left)
 
--- ---- where the disk holds the whole history
+-- ---- where what the disk holds is the whole history, in area A
 
 -- the records in effect, or these with the one in doubt
 abbrev pub AreKept : State → List Record → Type 0
 AreKept w rs = (rs ≡ w.records) ⊎ ((d : Doubt) × (w.doubt ≡ Some d) × (rs ≡ d.entry ∷ w.records))
 
--- a journal that holds the whole history leaves just the records that it reads
-pub kept-left : (w : State) (rs : List Record) → IsWholeJournal w → AreKept w rs → AreLeft w rs rs
+-- such a journal leaves just the records that it reads
+pub kept-left : (w : State) (rs : List Record) → IsUnpacked w → AreKept w rs → AreLeft w rs rs
 kept-left w rs whole (inl e) = inl (e, e ∙ sym whole.journal)
 kept-left w rs whole (inr (d, in_doubt, e)) =
     inr (d, in_doubt, e, e ∙ ap (λ (l : List Record). d.entry ∷ l) (sym whole.journal))
@@ -102,16 +102,16 @@ kept-left w rs whole (inr (d, in_doubt, e)) =
 abbrev pub settled : State → List Record → State
 settled w rs = left_with w rs rs
 
--- a journal that holds the whole history holds it still once nothing is in doubt
-pub settled-whole : (w : State) (rs : List Record) → IsWholeJournal w → IsWholeJournal (settled w rs)
-settled-whole w rs whole = record { journal = refl; area = whole.area; unswitched = refl }
+-- such a journal is one still once nothing is in doubt
+pub settled-unpacked : (w : State) (rs : List Record) → IsUnpacked w → IsUnpacked (settled w rs)
+settled-unpacked w rs whole = record { journal = refl; area = whole.area }
 
--- a whole journal that is read again settles the record in doubt
-pub rereads : (w : State) (rs : List Record) → IsWholeJournal w → AreKept w rs → Rereads w (settled w rs)
+-- such a journal that is read again settles the record in doubt
+pub rereads : (w : State) (rs : List Record) → IsUnpacked w → AreKept w rs → Rereads w (settled w rs)
 rereads w rs whole kept = left-rereads w rs rs (kept-left w rs whole kept)
 
--- a sound state with a whole journal is sound once nothing is in doubt
-pub settled-sound : (w : State) (rs : List Record) → IsSound 8 w → IsWholeJournal w → AreKept w rs →
+-- a sound state with such a journal is sound once nothing is in doubt
+pub settled-sound : (w : State) (rs : List Record) → IsSound 8 w → IsUnpacked w → AreKept w rs →
     IsSound 8 (settled w rs)
 settled-sound w rs sound whole kept = left-sound w rs rs sound (kept-left w rs whole kept)
 
@@ -128,16 +128,16 @@ read-kept w bytes rs is read =
     (let k = image-kept w bytes read in subst (AreKept w) (one-reading bytes k.0 rs k.2 is) k.1)
 
 -- both are accepted and fit the journal
-pub kept-accepted : (w : State) (rs : List Record) → IsSound 8 w → IsWholeJournal w → AreKept w rs →
+pub kept-accepted : (w : State) (rs : List Record) → IsSound 8 w → IsUnpacked w → AreKept w rs →
     AreAccepted rs
 kept-accepted w rs sound whole kept = (settled-sound w rs sound whole kept).accepted
 
--- the records that a whole journal reads fit into the largest journal
-pub kept-fits : (w : State) (rs : List Record) → IsSound 8 w → IsWholeJournal w → AreKept w rs →
+-- the records that such a journal reads fit into the largest journal
+pub kept-fits : (w : State) (rs : List Record) → IsSound 8 w → IsUnpacked w → AreKept w rs →
     text_size rs ≤ largest_journal
 kept-fits w rs sound whole kept =
     (let a = (settled-sound w rs sound whole kept).room in
-    let e = whole-end (settled w rs) (settled-whole w rs whole) in omega (arith, a, e))
+    let e = unpacked-end (settled w rs) (settled-unpacked w rs whole) in omega (arith, a, e))
 
 -- the bytes that are looked at are as many as are read, where these are few
 pub short-read : (cells : Cells) → length (journal_read cells) ≤ 9 → length (reads cells) ≤ 9

@@ -15,7 +15,7 @@ use Rattle.hail_client.specs.declared.client.Client.{Client}
 use Rattle.hail_client.specs.Client.{client_next_job}
 use Rattle.hail_client.specs.Stands.{StandsClosed, ClientStands, MakesEvent}
 use Rattle.hail_client.proofs.Standing.{devices-of, sound-of, next-of}
-use Rattle.vault_open.proofs.FirstVersion.{shows-first, appended-shown}
+use Rattle.vault_open.proofs.FirstVersion.{shows-first, unpacked-shown}
 use Rattle.hail_client.proofs.Settled.{AreLeft, left_with, left-rereads, left-sound, kept-left, settled, image-kept, firm-stands}
 
 -- the vault is given up over devices that stand for the state with these records and nothing in doubt
@@ -41,7 +41,7 @@ stopped-left w None None sound goes stands =
 stopped-left w None (Some new) sound goes stands = absurd goes
 stopped-left w (Some old) None sound goes stands = absurd goes
 stopped-left w (Some old) (Some new) sound (image, is, new_is) stands =
-    let whole = sound.journal.whole (appended-shown 8 w image sound (stands image is)) in
+    let whole = unpacked-shown 8 w image sound (stands image is) in
     let k = image-kept w image (shows-first w image whole (stands image is)) in
     record {
       records = k.0;
