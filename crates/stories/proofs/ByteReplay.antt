@@ -132,7 +132,7 @@ module _ (start : State) (before : List Moment) (L : AreLeft start before (devic
   run = run-on opened called start reopens (tt, refl, L.run)
 
   -- the put is carried out
-  abbrev put-carried : CarriesOut (put_of [] named byte 1) putting put_lines
+  abbrev put-carried : CarriesOut (put_of [] named byte None 1) putting put_lines
   put-carried = (
     put_end opened called,
     put_steps opened called,
@@ -153,12 +153,12 @@ module _ (start : State) (before : List Moment) (L : AreLeft start before (devic
   )
 
   -- and the get is begun
-  abbrev begun-carried : CarriesOut (Once (Begin (GetJob named)) ∷ put_of [] named byte 1)
+  abbrev begun-carried : CarriesOut (Once (Begin (GetJob named)) ∷ put_of [] named byte None 1)
       (get_begin opened called ∷ putting) taken_lines
   begun-carried = (get_begin opened called, putting, put_lines, refl, refl, put-carried, refl)
 
   -- and carried out
-  abbrev pub carried : CarriesOut (got_behind (put_of [] named byte 1) named 2) later all_lines
+  abbrev pub carried : CarriesOut (got_behind (put_of [] named byte None 1) named 2) later all_lines
   carried = (
     get_end opened called,
     get_steps opened called,
@@ -182,10 +182,10 @@ module _ (start : State) (before : List Moment) (L : AreLeft start before (devic
   }
 
   -- the whole replay
-  pub replayed : Replays start before (reverse (got_behind (put_of [] named byte 1) named 2)) 0
+  pub replayed : Replays start before (reverse (got_behind (put_of [] named byte None 1) named 2)) 0
       (sinking before_byte behind_byte) byte_heard (devices_of_seen behind_byte)
   replayed = record {
-    done = got_behind (put_of [] named byte 1) named 2;
+    done = got_behind (put_of [] named byte None 1) named 2;
     left = [];
     order = refl;
     whole = λ ok. refl;
@@ -219,7 +219,7 @@ pub byte-replayed : ((start : State) (before : List Moment) →
 byte-replayed sound = AnswersReplay.done byte_text
     (record { are_bytes = refl; front = refl; few = few (omega arith); end = λ l. refl }) (few (omega arith))
     (record {
-      commands = reverse (got_behind (put_of [] named byte 1) named 2);
+      commands = reverse (got_behind (put_of [] named byte None 1) named 2);
       schedule = spelled;
       ends = inl refl;
       place = refl;

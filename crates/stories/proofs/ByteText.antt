@@ -1,5 +1,5 @@
 -- The text of the replay spells its commands.
-use Rattle.std.proofs.Common.{ℕ, ◌^◌, ◌<◌, [], refl, inl, inr, arith}
+use Rattle.std.proofs.Common.{ℕ, ◌^◌, ◌<◌, [], None, refl, inl, inr, arith}
 use Rattle.std.specs.Prelude.{codes}
 use Rattle.std.specs.Fmt.{decimal, digits}
 use Rattle.hex.specs.Hex.{decode_pairs}
@@ -24,7 +24,7 @@ unfolding decode_pairs
 hex-byte = inr refl
 
 -- the lines spell a reopening, a put with its steps, and a get with its steps
-pub spelled : IsSchedule byte_text (reverse (got_behind (put_of [] named byte 1) named 2))
+pub spelled : IsSchedule byte_text (reverse (got_behind (put_of [] named byte None 1) named 2))
 unfolding digits
 spelled =
     inr (

@@ -1,5 +1,5 @@
 -- A get behind a put that a replay carried out.
-use Rattle.std.proofs.Common.{◌≡◌, ◌⊎◌, ℕ, List, ◌∷◌, ◌++◌, Some, ap, sym, subst, ◌∙◌, append_assoc}
+use Rattle.std.proofs.Common.{◌≡◌, ◌⊎◌, ℕ, List, ◌∷◌, ◌++◌, Option, Some, ap, sym, subst, ◌∙◌, append_assoc}
 use Rattle.std.proofs.lemmas.List.{reverse-reverse}
 use Rattle.std.specs.Prelude.{reverse}
 use Rattle.device_defs.specs.Told.{told_then}
@@ -33,10 +33,11 @@ module _ (begin_none : (name : List ℕ) (commands : List Instruction) (ms : Lis
     (name bytes got : List ℕ) → IsStart start → IsRun limit start (g ∷ (gaps ++ c ∷ ms)) →
     Stored ms name bytes → GetEnds c gaps g get name (Got got) →
     GotRight start ms (g ∷ (gaps ++ c ∷ ms)) get name bytes got)
-    (front middle : List Instruction) (name bytes : List ℕ) (p g : ℕ) (start : State) (ms : List Moment)
+    (front middle : List Instruction) (name bytes : List ℕ) (own : Option ℕ) (p g : ℕ) (start : State)
+    (ms : List Moment)
     (old new : Seen) (end : Ending) (asks : NoneAsksOn name middle) where
   module _ (later : List Moment) (lines : List ℕ)
-      (C : CarriesOut (got_behind (middle ++ put_of front name bytes p) name g) later lines)
+      (C : CarriesOut (got_behind (middle ++ put_of front name bytes own p) name g) later lines)
       (written : new.sink ≡ told_then old.sink lines)
       (left_is : AreLeft start (later ++ called_behind start ms) (devices_of_seen new))
       (heard : end.heard ≡ heard_in start (later ++ called_behind start ms)) where
@@ -53,7 +54,7 @@ module _ (begin_none : (name : List ℕ) (commands : List Instruction) (ms : Lis
         let there : AreLeft start (C.0 ∷ (C.1 ++ B.0 ∷ before)) (devices_of_seen new) =
         subst (λ l. AreLeft start l (devices_of_seen new)) split left_is in
         let put : PutsFile middle before B.2 p name bytes =
-        puts-file begin_none steps_none front middle name bytes p B.1 called B.2 B.5 asks start
+        puts-file begin_none steps_none front middle name bytes own p B.1 called B.2 B.5 asks start
         (run_part 8 start C.1 (B.0 ∷ before) there.run.2).2 in
         let text_is : new.sink ≡ told_then old.sink ((B.2 ++ lines_of B.0.outcome) ++ lines_of C.0.outcome) =
         written ∙ ap (told_then old.sink) (C.7 ∙ ap (λ l. l ++ lines_of C.0.outcome) B.6) in
@@ -83,7 +84,7 @@ module _ (begin_none : (name : List ℕ) (commands : List Instruction) (ms : Lis
                 (put.stored put_begun put_ended) (ends (Got got) get_begun get_ended));
             said = λ taken text how taken_is text_said says.
                 (let X = got-said 8 start B.0 C.0 C.1 before (Begin (GetJob name)) g how B.2 text p middle
-                there.run B.4 tt C.5.step (run-lines (middle ++ put_of front name bytes p) B.1 B.2 B.5)
+                there.run B.4 tt C.5.step (run-lines (middle ++ put_of front name bytes own p) B.1 B.2 B.5)
                 (written-as old.sink new.sink ((B.2 ++ lines_of B.0.outcome) ++ lines_of C.0.outcome) taken
                 text text_is taken_is text_said) says in
                 let Y = put.said X.0 in
@@ -93,11 +94,11 @@ module _ (begin_none : (name : List ℕ) (commands : List Instruction) (ms : Lis
         ))
 
   -- so it is of a replay
-  pub is-got : (W : WentOn start ms (reverse (got_behind (middle ++ put_of front name bytes p) name g)) old
-      new end) → (G : IsGot middle start old new end p g name bytes)
+  pub is-got : (W : WentOn start ms (reverse (got_behind (middle ++ put_of front name bytes own p) name g))
+      old new end) → (G : IsGot middle start old new end p g name bytes)
       × (W.later ++ called_behind start ms ≡ G.last ∷ (G.gaps ++ G.begin ∷ G.before))
   is-got W =
       got-of W.later W.lines
       (subst (λ cs. CarriesOut cs W.later W.lines)
-      (reverse-reverse (got_behind (middle ++ put_of front name bytes p) name g)) W.carried_out)
+      (reverse-reverse (got_behind (middle ++ put_of front name bytes own p) name g)) W.carried_out)
       W.written W.left W.heard

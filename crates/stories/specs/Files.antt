@@ -1,7 +1,8 @@
 -- A file that is put, kept and got, over a replay. Commands and moments have the newest first.
 --
---   put_of front name bytes p  == commands that open a store and put a file by the job of this number, behind
---                                 any others
+--   put_of front name bytes own p
+--                              == commands that open a store and put a file by the job of this number, with a
+--                                 profile of its own where one is named, behind any others
 --   got_behind commands name g == a get of the file by the job of this number, behind commands
 --   PutsFile middle ms lines p name bytes
 --                              == the put began and ended at two of these moments, whose lines are among
@@ -18,14 +19,14 @@
 --   Survives middle start old new p name bytes
 --                              == where the put came to `job` and `put`, each image of the disk has a file of
 --                                 so many bytes under the name; and it did where what was written says so
-use Rattle.std.specs.Prelude.{◌≡◌, ◌⊎◌, ◌≤◌, ℕ, List, ◌∷◌, ◌++◌, Some, length}
+use Rattle.std.specs.Prelude.{◌≡◌, ◌⊎◌, ◌≤◌, ℕ, List, ◌∷◌, ◌++◌, Option, Some, length}
 use Rattle.device_defs.specs.Images.{EachImage}
 use Rattle.device_defs.specs.Told.{told_then}
 use Rattle.record_defs.specs.Table.{File}
 use Rattle.machine_defs.specs.Answers.{Answer, Put, Got}
 use Rattle.machine_defs.specs.Events.{Begin, Reopen, Begun, Ended}
 use Rattle.machine_defs.specs.Heard.{HoldsForgery}
-use Rattle.machine_defs.specs.Jobs.{PutJob, GetJob}
+use Rattle.machine_defs.specs.Jobs.{GetJob}
 use Rattle.machine_defs.specs.Lines.{lines_of}
 use Rattle.machine_defs.specs.Runs.{Moment, now}
 use Rattle.machine_defs.specs.States.{State, setup_in, file_in, file_object}
@@ -33,14 +34,15 @@ use Rattle.machine_defs.specs.Transcripts.{Instruction, Once, RunJob}
 use Rattle.run_laws.specs.Stories.{Stored, GetEnds}
 use Rattle.second_half_laws.specs.Sharp.{IsLostByFaults}
 use Rattle.command_defs.specs.Seen.{Seen, Ending}
+use Rattle.schedule_text.specs.Events.{put_command}
 use Rattle.hail_client.specs.Stands.{ImageHasFile}
 use Rattle.hail_replay.specs.Answers.{devices_of_seen}
 use Rattle.hail_replay.specs.Starts.{AreLeft}
 use Rattle.stories.specs.Said.{SaysPut, SaysGot}
 
 -- a store is opened, and a file put, behind any commands
-abbrev pub put_of : List Instruction → List ℕ → List ℕ → ℕ → List Instruction
-put_of front name bytes p = RunJob p ∷ Once (Begin (PutJob name bytes)) ∷ Once Reopen ∷ front
+abbrev pub put_of : List Instruction → List ℕ → List ℕ → Option ℕ → ℕ → List Instruction
+put_of front name bytes own p = RunJob p ∷ put_command name bytes own ∷ Once Reopen ∷ front
 
 -- a file is got behind commands
 abbrev pub got_behind : List Instruction → List ℕ → ℕ → List Instruction

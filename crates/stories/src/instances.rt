@@ -1,5 +1,5 @@
 //! Instances: what the laws of the other modules suppose, met by values.
-ghost use Rattle.std.specs.Prelude.{◌≡◌, ◌≢◌, ◌≤◌, ◌<◌, ◌==◌, ◌&&◌, ◌++◌, ℕ, not, true, false, List, [], ◌∷◌, length, String, Some, is_some, reverse};
+ghost use Rattle.std.specs.Prelude.{◌≡◌, ◌≢◌, ◌≤◌, ◌<◌, ◌==◌, ◌&&◌, ◌++◌, ℕ, not, true, false, List, [], ◌∷◌, length, String, Some, None, is_some, reverse};
 ghost use Rattle.std.specs.declared.alloc.Global.{Global};
 ghost use Rattle.column_defs.specs.Verdicts.{is_flagged};
 ghost use Rattle.machine_defs.specs.Damaged.{DamagesOnly, AsksDamageOf};
@@ -42,8 +42,8 @@ use state_laws::laws::runs_are_sound;
 pub fn a_byte_is_put_and_got()
     ensures replay { (words : List (String Global)) → IsReplayForm words
         → AnswersWords words before_byte behind_byte byte_end }
-    ensures spells { IsSchedule byte_text (reverse (got_behind ([] ++ put_of [] named byte 1) named 2)) }
-    ensures survives { IsSchedule byte_text (reverse (get_of_byte ++ put_of [] named byte 1)) }
+    ensures spells { IsSchedule byte_text (reverse (got_behind ([] ++ put_of [] named byte None 1) named 2)) }
+    ensures survives { IsSchedule byte_text (reverse (get_of_byte ++ put_of [] named byte None 1)) }
     ensures asks { NoneAsksOn named [] × NoneAsksOn named get_of_byte }
     ensures left { AreLeft first_state [] (devices_of_seen before_byte) }
     ensures got { (G : IsGot [] first_state before_byte behind_byte byte_end 1 2 named byte)
@@ -52,7 +52,7 @@ pub fn a_byte_is_put_and_got()
     ensures said { (before_byte.sink ≡ Some []) × (behind_byte.sink ≡ Some ([] ++ byte_lines))
         × SaysGot byte_lines 1 2 [] (Got byte) × ((before : List ℕ) × SaysPut before 1 []) }
     ensures calm { AllTell first_state × DamagesOnly [] []
-        × AsksDamageOf [] ([] ++ put_of [] named byte 1) }
+        × AsksDamageOf [] ([] ++ put_of [] named byte None 1) }
 {
     runs_are_sound();
     told_providers_tell();

@@ -1,5 +1,5 @@
 //! A file over a replay: what is put is got, and survives every stop.
-ghost use Rattle.std.specs.Prelude.{◌≡◌, ◌++◌, ℕ, List, String, Some, true, is_some, reverse};
+ghost use Rattle.std.specs.Prelude.{◌≡◌, ◌++◌, ℕ, List, String, Option, Some, true, is_some, reverse};
 ghost use Rattle.std.specs.declared.alloc.Global.{Global};
 ghost use Rattle.machine_defs.specs.Damaged.{DamagesOnly, AsksDamageOf};
 ghost use Rattle.machine_defs.specs.Halves.{AllTell};
@@ -28,9 +28,10 @@ use state_laws::laws::runs_are_sound;
 /// bytes, these are the bytes that were put, or what the get heard holds a forgery against them.
 pub fn what_is_put_is_got()
     ensures { (words : List (String Global)) (text : List ℕ) (front middle : List Instruction)
-        (name bytes : List ℕ) (p g : ℕ) (start : State) (ms : List Moment) (old new : Seen) (end : Ending)
+        (name bytes : List ℕ) (own : Option ℕ) (p g : ℕ) (start : State) (ms : List Moment)
+        (old new : Seen) (end : Ending)
         → AnswersWords words old new end → IsReplayForm words → old.source ≡ Some text
-        → IsSchedule text (reverse (got_behind (middle ++ put_of front name bytes p) name g))
+        → IsSchedule text (reverse (got_behind (middle ++ put_of front name bytes own p) name g))
         → NoneAsksOn name middle → end.status ≡ 0 → is_some old.disk ≡ true
         → AreLeft start ms (devices_of_seen old) → IsGot middle start old new end p g name bytes }
 {
@@ -44,12 +45,13 @@ pub fn what_is_put_is_got()
 /// ends gives the bytes that were put, or is lost, and then a call of a provider failed since its begin.
 pub fn few_damaged_providers_do_no_harm()
     ensures { (words : List (String Global)) (text : List ℕ) (front middle : List Instruction)
-        (name bytes : List ℕ) (p g : ℕ) (ps : List ℕ) (start : State) (ms : List Moment) (old new : Seen)
-        (end : Ending) → AnswersWords words old new end → IsReplayForm words → old.source ≡ Some text
-        → IsSchedule text (reverse (got_behind (middle ++ put_of front name bytes p) name g))
+        (name bytes : List ℕ) (own : Option ℕ) (p g : ℕ) (ps : List ℕ) (start : State) (ms : List Moment)
+        (old new : Seen) (end : Ending)
+        → AnswersWords words old new end → IsReplayForm words → old.source ≡ Some text
+        → IsSchedule text (reverse (got_behind (middle ++ put_of front name bytes own p) name g))
         → NoneAsksOn name middle → end.status ≡ 0 → is_some old.disk ≡ true
         → AreLeft start ms (devices_of_seen old) → AllTell start → DamagesOnly ps ms
-        → AsksDamageOf ps (middle ++ put_of front name bytes p)
+        → AsksDamageOf ps (middle ++ put_of front name bytes own p)
         → IsGotWhole middle start old new end p g ps name bytes }
 {
     replays_go_on();
@@ -65,9 +67,10 @@ pub fn few_damaged_providers_do_no_harm()
 /// file, and its number stands for the bytes that were put.
 pub fn what_is_put_survives()
     ensures { (words : List (String Global)) (text : List ℕ) (front middle : List Instruction)
-        (name bytes : List ℕ) (p : ℕ) (start : State) (ms : List Moment) (old new : Seen) (end : Ending)
+        (name bytes : List ℕ) (own : Option ℕ) (p : ℕ) (start : State) (ms : List Moment)
+        (old new : Seen) (end : Ending)
         → AnswersWords words old new end → IsReplayForm words → old.source ≡ Some text
-        → IsSchedule text (reverse (middle ++ put_of front name bytes p)) → NoneAsksOn name middle
+        → IsSchedule text (reverse (middle ++ put_of front name bytes own p)) → NoneAsksOn name middle
         → end.status ≡ 0 → is_some old.disk ≡ true → AreLeft start ms (devices_of_seen old)
         → Survives middle start old new p name bytes }
 {

@@ -1,5 +1,5 @@
 //! A file over a replay, read from two texts: the schedule's, and what was written.
-ghost use Rattle.std.specs.Prelude.{◌≡◌, ◌⊎◌, ◌≤◌, ◌++◌, ℕ, List, ◌∷◌, String, Some, true, is_some, length, reverse};
+ghost use Rattle.std.specs.Prelude.{◌≡◌, ◌⊎◌, ◌≤◌, ◌++◌, ℕ, List, ◌∷◌, String, Option, Some, true, is_some, length, reverse};
 ghost use Rattle.std.specs.declared.alloc.Global.{Global};
 ghost use Rattle.device_defs.specs.Images.{EachImage};
 ghost use Rattle.record_defs.specs.Table.{File};
@@ -32,10 +32,11 @@ use crate::schedules::{
 /// stop may leave of the disk has the file.
 pub fn texts_tell_the_stories()
     ensures got { (words : List (String Global)) (text : List ℕ) (front middle : List Instruction)
-        (name bytes : List ℕ) (p g : ℕ) (start : State) (ms : List Moment) (old new : Seen) (end : Ending)
+        (name bytes : List ℕ) (own : Option ℕ) (p g : ℕ) (start : State) (ms : List Moment)
+        (old new : Seen) (end : Ending)
         (taken said got : List ℕ)
         → AnswersWords words old new end → IsReplayForm words → old.source ≡ Some text
-        → IsSchedule text (reverse (got_behind (middle ++ put_of front name bytes p) name g))
+        → IsSchedule text (reverse (got_behind (middle ++ put_of front name bytes own p) name g))
         → NoneAsksOn name middle → end.status ≡ 0 → is_some old.disk ≡ true
         → AreLeft start ms (devices_of_seen old)
         → old.sink ≡ Some taken → new.sink ≡ Some (taken ++ said) → SaysGot said p g middle (Got got)
@@ -43,23 +44,24 @@ pub fn texts_tell_the_stories()
         × (file_in (now start G.before) name ≡ Some file)
         × HoldsForgery (file_object (now start G.before) file) bytes g end.heard)) }
     ensures whole { (words : List (String Global)) (text : List ℕ) (front middle : List Instruction)
-        (name bytes : List ℕ) (p g : ℕ) (ps : List ℕ) (start : State) (ms : List Moment) (old new : Seen)
-        (end : Ending) (taken said : List ℕ) (how : Answer)
+        (name bytes : List ℕ) (own : Option ℕ) (p g : ℕ) (ps : List ℕ) (start : State) (ms : List Moment)
+        (old new : Seen) (end : Ending) (taken said : List ℕ) (how : Answer)
         → AnswersWords words old new end → IsReplayForm words → old.source ≡ Some text
-        → IsSchedule text (reverse (got_behind (middle ++ put_of front name bytes p) name g))
+        → IsSchedule text (reverse (got_behind (middle ++ put_of front name bytes own p) name g))
         → NoneAsksOn name middle → end.status ≡ 0 → is_some old.disk ≡ true
         → AreLeft start ms (devices_of_seen old) → AllTell start → DamagesOnly ps ms
-        → AsksDamageOf ps (middle ++ put_of front name bytes p)
+        → AsksDamageOf ps (middle ++ put_of front name bytes own p)
         → old.sink ≡ Some taken → new.sink ≡ Some (taken ++ said) → SaysGot said p g middle how
         → (W : IsGotWhole middle start old new end p g ps name bytes)
         × (length ps
         ≤ (setup_in (now start (W.got.last ∷ (W.got.gaps ++ W.got.begin ∷ W.got.before)))).b
         → (how ≡ Got bytes) ⊎ IsLostByFaults (now start W.got.before) W.got.last.state how) }
     ensures survives { (words : List (String Global)) (text : List ℕ) (front middle : List Instruction)
-        (name bytes : List ℕ) (p : ℕ) (start : State) (ms : List Moment) (old new : Seen) (end : Ending)
+        (name bytes : List ℕ) (own : Option ℕ) (p : ℕ) (start : State) (ms : List Moment)
+        (old new : Seen) (end : Ending)
         (taken said : List ℕ)
         → AnswersWords words old new end → IsReplayForm words → old.source ≡ Some text
-        → IsSchedule text (reverse (middle ++ put_of front name bytes p)) → NoneAsksOn name middle
+        → IsSchedule text (reverse (middle ++ put_of front name bytes own p)) → NoneAsksOn name middle
         → end.status ≡ 0 → is_some old.disk ≡ true → AreLeft start ms (devices_of_seen old)
         → old.sink ≡ Some taken → new.sink ≡ Some (taken ++ said) → SaysPut said p middle
         → (file : File) × (file.size ≡ length bytes) × EachImage new.disk (ImageHasFile name file) }

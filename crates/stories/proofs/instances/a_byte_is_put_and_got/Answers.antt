@@ -1,4 +1,4 @@
-use Rattle.std.proofs.Common.{[], refl, sym, inr, arith, append-nil}
+use Rattle.std.proofs.Common.{[], None, refl, sym, inr, arith, append-nil}
 use Rattle.std.specs.Prelude.{codes}
 use Rattle.machine_defs.specs.Stands.{IsFresh}
 use Rattle.record_defs.specs.Journal.{text}
@@ -15,7 +15,7 @@ use Rattle.hail_replay.specs.Starts.{AreLeft}
 use Rattle.hail_client.proofs.Fresh.{is-start, are-devices}
 use Rattle.damage_run.specs.Schedule.{byte}
 use Rattle.stories.proofs.Carried.{parts}
-use Rattle.stories.proofs.Puts.{puts-file}
+use Rattle.stories.proofs.Puts.{puts-file, put-begun}
 use Rattle.stories.proofs.Gets.{got-of}
 use Rattle.stories.specs.Said.{SaysPut}
 use Rattle.stories.proofs.ByteReplay.{later, run, opened_line, put_lines, all_lines, lines-are, carried, written, left-behind, byte-replayed, four-stands}
@@ -54,11 +54,11 @@ pub returns-clause-left : goal.returns-clause-left
 returns-clause-left c = first-left
 
 pub returns-clause-got : goal.returns-clause-got
-unfolding got-of puts-file parts
+unfolding got-of puts-file put-begun parts
 returns-clause-got c =
     (let sound = c.runs_are_sound.ensures 8 first_state [] (omega arith, omega arith) first-left.starts tt in
     let G = got-of c.commands_begin_none.ensures.commands c.commands_begin_none.ensures.steps
-    c.what_was_put_is_got.ensures [] [] named byte 1 2 first_state [] before_byte behind_byte byte_end tt
+    c.what_was_put_is_got.ensures [] [] named byte None 1 2 first_state [] before_byte behind_byte byte_end tt
     (later first_state [] first-left sound) all_lines (carried first_state [] first-left sound)
     (written first_state [] first-left sound)
     (record {

@@ -10,13 +10,13 @@ use Rattle.stories.proofs.schedules.few_damaged_providers_do_no_harm.Goals as go
 
 pub returns : goal.returns
 returns c =
-    λ words text front middle name bytes p g ps start ms old new end answers form source spells asks ok told
-    left tell before names.
-    (let all = got_behind (middle ++ put_of front name bytes p) name g in
+    λ words text front middle name bytes own p g ps start ms old new end answers form source spells asks ok
+    told left tell before names.
+    (let all = got_behind (middle ++ put_of front name bytes own p) name g in
     let W = c.replays_go_on.ensures words text (reverse all) start ms old new end answers form source spells
     ok told left in
     let P = is-got c.commands_begin_none.ensures.commands c.commands_begin_none.ensures.steps
-    c.what_was_put_is_got.ensures front middle name bytes p g start ms old new end asks W in
+    c.what_was_put_is_got.ensures front middle name bytes own p g start ms old new end asks W in
     let G = P.0 in
     let damages = subst (DamagesOnly ps) P.1
     (c.commands_damage_only.ensures.both ps W.later (called_behind start ms)

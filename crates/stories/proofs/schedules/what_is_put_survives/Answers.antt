@@ -12,14 +12,14 @@ use Rattle.stories.proofs.schedules.what_is_put_survives.Goals as goal
 
 pub returns : goal.returns
 returns c =
-    λ words text front middle name bytes p start ms old new end answers form source spells asks ok told
+    λ words text front middle name bytes own p start ms old new end answers form source spells asks ok told
     left.
-    (let all = middle ++ put_of front name bytes p in
+    (let all = middle ++ put_of front name bytes own p in
     let W = c.replays_go_on.ensures words text (reverse all) start ms old new end answers form source spells
     ok told left in
     let put : PutsFile middle (W.later ++ called_behind start ms) W.lines p name bytes =
     puts-file c.commands_begin_none.ensures.commands c.commands_begin_none.ensures.steps front middle name
-    bytes p W.later (called_behind start ms) W.lines
+    bytes own p W.later (called_behind start ms) W.lines
     (subst (λ cs. CarriesOut cs W.later W.lines) (reverse-reverse all) W.carried_out) asks start
     W.left.run in
     record {
