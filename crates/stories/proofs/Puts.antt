@@ -49,8 +49,8 @@ put-begun name bytes (Some profile) others ms lines (m, older, before, is, here,
   lines_are = lines_are;
 }
 
--- it writes one line
-put-asks : (event : Event) (name bytes : List ℕ) → IsPutBegin event name bytes → AsksForOneLine event
+-- and writes one line
+pub put-asks : (event : Event) (name bytes : List ℕ) → IsPutBegin event name bytes → AsksForOneLine event
 put-asks event name bytes (inl is) = subst AsksForOneLine (sym is) tt
 put-asks event name bytes (inr (profile, is)) = subst AsksForOneLine (sym is) tt
 
