@@ -40,7 +40,7 @@ module _ (w : State) (base : List Moment) where
   pub begins1 : Happens 8 n v (Begin (PutJob named byte)) (Begun 1) s0
   begins1 = (
     refl,
-    refusal-of v (PutJob named byte) refl refl refl
+    refusal-of v (PutJob named byte) None refl refl refl
         (record { journal = refl; area = refl; unswitched = refl }) ∙ put_begins,
     refl,
     refl,
@@ -323,7 +323,7 @@ module _ (w : State) (base : List Moment) where
   pub begins2 : Happens 8 k s13 (Begin (GetJob named)) (Begun 2) t0
   begins2 = (
     refl,
-    refusal-of s13 (GetJob named) refl refl refl
+    refusal-of s13 (GetJob named) None refl refl refl
         (record { journal = refl; area = refl; unswitched = refl }) ∙ get_begins,
     refl,
     refl,

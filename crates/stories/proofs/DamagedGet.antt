@@ -19,6 +19,7 @@ use Rattle.command_defs.specs.JobRuns.{AreSteps}
 use Rattle.command_defs.specs.Jobs.{RanAlone, RunsAlone, AnswersJob}
 use Rattle.command_defs.specs.Commands.{AnswersAlone, Answers}
 use Rattle.command_laws.specs.Pieces.{moment}
+use Rattle.lone_laws.specs.Walked.{MayName}
 use Rattle.job_laws.proofs.Telling.{left-alone, jobs-leave}
 use Rattle.job_laws.proofs.BeginRefusals.{refusal-of}
 use Rattle.command_runs.specs.Devices.{named, byte_records, own_block, holds, fetched, ends_hearing, damaged}
@@ -180,8 +181,7 @@ module _ (w : State) (n : ℕ) (count : w.handed ≡ 4) where
   each (suc (suc (suc zero))) l = refl
   each (suc (suc (suc (suc j)))) l = absurd (omega (arith, l))
 
-  ran-formed : RanAlone byte_records (GetJob named) (Got byte) damaged damaged_got
-      three_heard 0 v n
+  ran-formed : RanAlone byte_records (GetJob named) None (Got byte) damaged damaged_got three_heard 0 v n
   unfolding steps spelling
   ran-formed = record {
     last = s6;
@@ -190,7 +190,7 @@ module _ (w : State) (n : ℕ) (count : w.handed ≡ 4) where
       job = 1;
       begins = (
         refl,
-        refusal-of v (GetJob named) refl refl refl
+        refusal-of v (GetJob named) None refl refl refl
             (record { journal = refl; area = refl; unswitched = refl }) ∙ get_begins,
         refl,
         refl,
@@ -204,12 +204,12 @@ module _ (w : State) (n : ℕ) (count : w.handed ≡ 4) where
   }
 
 -- the get's job runs to the byte from every state just opened over that store
-pub alone : RunsAlone byte_records (GetJob named) (Got byte) damaged damaged_got three_heard
+pub alone : RunsAlone byte_records (GetJob named) None (Got byte) damaged damaged_got three_heard
 alone = record {
   faults = 0;
   before = omega arith;
-  ran = λ w n V. subst (λ u. RanAlone byte_records (GetJob named) (Got byte) damaged damaged_got
-      three_heard 0 u n)
+  ran = λ w n V. subst (λ u. RanAlone byte_records (GetJob named) None (Got byte) damaged
+      damaged_got three_heard 0 u n)
       (form-is byte_records (one_byte w.bytes) (holds 0) (holds 1) empty_provider (holds 3) w
       (one_byte-is w.bytes (V.bytes named (record { name = named; id = 1; size = 1; profile = 0 }) refl).1) V)
       (ran-formed w n V.handed.count);
@@ -220,9 +220,10 @@ pub answers : Answers (GetOf named) damaged damaged_got (ends_hearing 0 three_he
 answers = (
   AnswersAlone.begun byte_records damaged-sure.known.opened
       (AnswersJob.ended (Got byte) get_begins alone
-      (left-alone byte_records (GetJob named) (Got byte) damaged damaged_got three_heard
-      refl (λ w last n O r. jobs-leave (GetJob named) w last n (Got byte) three_heard refl O r)
-      damaged-sure.known.opened refl alone)
+      (left-alone byte_records (GetJob named) None (Got byte) damaged damaged_got three_heard
+      refl (MayName.none refl)
+      (λ w last n O r. jobs-leave (GetJob named) None w last n (Got byte) three_heard refl (MayName.none refl)
+      O r) damaged-sure.known.opened refl alone)
       (record { written = inl (refl, refl); place = refl })),
   (refl, refl),
 )
