@@ -17,7 +17,7 @@ use Rattle.machine_defs.proofs.JobLists.{cond_true, cond_false, same_value}
 use Rattle.state_laws.specs.Orders.{moves_before}
 use Rattle.state_laws.proofs.Given.{holder}
 use Rattle.opening_defs.specs.Opened.{IsOpenAtRest}
-use Rattle.lone_laws.specs.Walked.{Walked}
+use Rattle.lone_laws.specs.Walked.{WalkedAt}
 use Rattle.lone_laws.proofs.Walk.{found, none-alone}
 use Rattle.vault.specs.Devices.{records_in_flight}
 
@@ -137,8 +137,8 @@ acts-grow w job action new free h = moves-grow w job action w.append new refl fr
 
 -- ---- the only job
 
-module _ (start : State) (O : IsOpenAtRest start 1) (kind : Kind) (w : State) (job : Job)
-    (W : Walked start kind w job) where
+module _ (start : State) (O : IsOpenAtRest start 1) (kind : Kind) {profile : ℕ} (w : State) (job : Job)
+    (W : WalkedAt start kind profile w job) where
   -- with an append in flight the next action is a later move of it
   in-flight : (a : Append) (action : Action) → w.append ≡ Some a → next_action w job ≡ Some action →
       1 ≤ moves_before action

@@ -10,7 +10,7 @@ use Rattle.machine_defs.specs.Jobs.{Kind}
 use Rattle.machine_defs.specs.Answers as answer
 use Rattle.machine_defs.specs.Answers.{Answer}
 use Rattle.machine_defs.specs.Events.{IsSpelledKind}
-use Rattle.machine_defs.specs.Begins.{new_job}
+use Rattle.machine_defs.specs.Begins.{beginning}
 use Rattle.machine_defs.specs.Heard.{Entry}
 use Rattle.machine_defs.specs.Refusals as refusal
 use Rattle.machine_defs.specs.Refusals.{Refusal}
@@ -23,6 +23,7 @@ use Rattle.command_defs.specs.Refusals as commands
 use Rattle.opening_defs.specs.Opened.{AreHanded, IsOpenedOver, IsOpenAtRest}
 use Rattle.command_defs.specs.JobRuns.{GoesOnTo}
 use Rattle.command_defs.specs.Jobs.{past, with_next, SameBehind, SamePast, RanAlone, RunsAlone, LeftAlone}
+use Rattle.lone_laws.specs.Walked.{MayName}
 use Rattle.lone_laws.proofs.Walk.{walk-begin}
 use Rattle.vault_core.specs.declared.wish.BeginFault.{BeginFault}
 use Rattle.vault_core.specs.declared.wish.BeginFault.TheVariants as begin_fault
@@ -41,9 +42,9 @@ use Rattle.command_jobs.proofs.Fresh.{OpensAll, ThereIsOne, over-opened, just-op
 
 -- what the laws on commands say of what is left
 abbrev pub LeavesAll : Type 0
-LeavesAll = (records : List Record) (kind : Kind) (answer : Answer) (old new : Seen) (heard : List Entry) →
-    opens.IsOpened old records → IsSpelledKind kind → length new.providers ≡ length old.providers →
-    RunsAlone records kind answer old new heard → LeftAlone records kind answer old new heard
+LeavesAll = (records : List Record) (kind : Kind) (own : Option ℕ) (answer : Answer) (old new : Seen) (heard : List Entry) →
+    opens.IsOpened old records → IsSpelledKind kind → MayName kind own → length new.providers ≡ length old.providers →
+    RunsAlone records kind own answer old new heard → LeftAlone records kind own answer old new heard
 
 -- ---- what the disk reads past the text, from the time before the opening on
 
@@ -56,59 +57,59 @@ past-of rs a b e = sym (through b) ∙ (ap (option_map (drop (text_size rs))) e 
     through None = refl
     through (Some cells) = refl
 
-behind-before : (kind : Kind) (before after : List Record) (a b c : Option Cells) →
-    option_map reads b ≡ option_map reads a → SameBehind kind before after b c →
-    SameBehind kind before after a c
-behind-before kind before after a b c e h =
+behind-before : (kind : Kind) (own : Option ℕ) (before after : List Record) (a b c : Option Cells) →
+    option_map reads b ≡ option_map reads a → SameBehind kind own before after b c →
+    SameBehind kind own before after a c
+behind-before kind own before after a b c e h =
     record { next = h.next; is_next = h.is_next; same = h.same ∙ past-of (with_next h.next after) a b e }
 
-past-before : (kind : Kind) (how : Answer) (before after : List Record) (a b c : Option Cells) →
-    option_map reads b ≡ option_map reads a → SamePast kind how before after b c →
-    SamePast kind how before after a c
-past-before kind answer.Put before after a b c e h = h ∙ past-of after a b e
-past-before kind (answer.Got bytes) before after a b c e h = h ∙ past-of after a b e
-past-before kind answer.Dropped before after a b c e h = h ∙ past-of after a b e
-past-before kind (answer.Audited number undecided counts) before after a b c e h = h ∙ past-of after a b e
-past-before kind (answer.Repaired number) before after a b c e h = h ∙ past-of after a b e
-past-before kind (answer.Lost stripe row) before after a b c e h = h ∙ past-of after a b e
-past-before kind (answer.ProviderFault j) before after a b c e h = h ∙ past-of after a b e
-past-before kind answer.DiskFault before after a b c e h = behind-before kind before after a b c e h
-past-before kind answer.Memory before after a b c e h = behind-before kind before after a b c e h
-past-before kind answer.Upgraded before after a b c e h = h ∙ past-of after a b e
-past-before kind (answer.Scrubbed stripes symbols blocks) before after a b c e h = h ∙ past-of after a b e
-past-before kind (answer.Packed length_before length_after) before after a b c e h = h ∙ past-of after a b e
+past-before : (kind : Kind) (own : Option ℕ) (how : Answer) (before after : List Record) (a b c : Option Cells) →
+    option_map reads b ≡ option_map reads a → SamePast kind own how before after b c →
+    SamePast kind own how before after a c
+past-before kind own answer.Put before after a b c e h = h ∙ past-of after a b e
+past-before kind own (answer.Got bytes) before after a b c e h = h ∙ past-of after a b e
+past-before kind own answer.Dropped before after a b c e h = h ∙ past-of after a b e
+past-before kind own (answer.Audited number undecided counts) before after a b c e h = h ∙ past-of after a b e
+past-before kind own (answer.Repaired number) before after a b c e h = h ∙ past-of after a b e
+past-before kind own (answer.Lost stripe row) before after a b c e h = h ∙ past-of after a b e
+past-before kind own (answer.ProviderFault j) before after a b c e h = h ∙ past-of after a b e
+past-before kind own answer.DiskFault before after a b c e h = behind-before kind own before after a b c e h
+past-before kind own answer.Memory before after a b c e h = behind-before kind own before after a b c e h
+past-before kind own answer.Upgraded before after a b c e h = h ∙ past-of after a b e
+past-before kind own (answer.Scrubbed stripes symbols blocks) before after a b c e h = h ∙ past-of after a b e
+past-before kind own (answer.Packed length_before length_after) before after a b c e h = h ∙ past-of after a b e
 
 -- ---- the begin
 
 -- what the vault says of its begin
-abbrev pub BeginsAs : Vault → Kind → ℕ → Vault → Type 0
-BeginsAs old kind number new =
-    (w : State) (d : Devices) (moment : ℕ) → Stands old d w → MakesBegin w moment kind (Ok number) new d
+abbrev pub BeginsAs : Vault → Kind → Option ℕ → ℕ → Vault → Type 0
+BeginsAs old kind own number new =
+    (w : State) (d : Devices) (moment : ℕ) → Stands old d w → MakesBegin w moment kind own (Ok number) new d
 
-abbrev pub RefusesAs : Vault → Kind → BeginFault → Vault → Type 0
-RefusesAs old kind why new =
-    (w : State) (d : Devices) (moment : ℕ) → Stands old d w → MakesBegin w moment kind (Err why) new d
+abbrev pub RefusesAs : Vault → Kind → Option ℕ → BeginFault → Vault → Type 0
+RefusesAs old kind own why new =
+    (w : State) (d : Devices) (moment : ℕ) → Stands old d w → MakesBegin w moment kind own (Err why) new d
 
 -- a job that began over a state just opened
-record HasBegun (w : State) (moment : ℕ) (kind : Kind) (number : ℕ) (v : Vault) (d : Devices) : Type 0 where
-  made : MakesBegin w moment kind (Ok number) v d
+record HasBegun (w : State) (moment : ℕ) (kind : Kind) (own : Option ℕ) (number : ℕ) (v : Vault) (d : Devices) : Type 0 where
+  made : MakesBegin w moment kind own (Ok number) v d
   spelled : IsSpelledKind kind
   first : number ≡ 1
-  only : IsOnly w kind made.state
-  unrefused : commands.refusal_over w.records kind ≡ None
+  only : IsOnly w kind own made.state
+  unrefused : commands.refusal_over w.records kind own ≡ None
 
-has-begun : (w : State) (moment : ℕ) (kind : Kind) (number : ℕ) (old new : Vault) (d : Devices) →
-    IsOpenAtRest w 1 → Stands old d w → BeginsAs old kind number new → HasBegun w moment kind number new d
-has-begun w moment kind number old new d O stands begins =
+has-begun : (w : State) (moment : ℕ) (kind : Kind) (own : Option ℕ) (number : ℕ) (old new : Vault)
+    (d : Devices) → MayName kind own → IsOpenAtRest w 1 → Stands old d w → BeginsAs old kind own number new → HasBegun w moment kind own number new d
+has-begun w moment kind own number old new d named O stands begins =
     (let M = begins w d moment stands in
-    let s = spelled-begun w M.state moment kind number O.rest.idle.0 M.begins M.stands.core.sound in
-    let b = walk-begin moment number w M.state kind O s M.begins in
+    let s = spelled-begun w M.state moment kind own number O.rest.idle.0 M.begins M.stands.core.sound in
+    let b = walk-begin moment number w M.state kind own named O s M.begins in
     record {
       made = M;
       spelled = s;
       first = b.0;
-      only = record { opened = O; job = new_job w moment kind; walked = b.1 };
-      unrefused = sym (refusal-of w kind O.rest.idle.0 O.rest.idle.3 O.rest.idle.2 O.rest.whole) ∙ M.begins.1;
+      only = record { opened = O; job = beginning w moment kind own; walked = b.1 };
+      unrefused = sym (refusal-of w kind own O.rest.idle.0 O.rest.idle.3 O.rest.idle.2 O.rest.whole) ∙ M.begins.1;
     })
 
 -- ---- over a vault that was just opened
@@ -137,17 +138,18 @@ module _ (law : OpensAll) (there : ThereIsOne) (v : Vault) (records : List Recor
       (let x = there records faults providers F.read.accepted in (x.0, opened-at providers x.0 enough x.1))
 
   -- the one job that was begun has number 1 and is under way
-  pub under-way : (next : Vault) (kind : Kind) (number : ℕ) (providers : List Provider) →
-      (setup_in_effect records).n ≤ length providers → BeginsAs v kind number next →
+  pub under-way : (next : Vault) (kind : Kind) (own : Option ℕ) (number : ℕ) (providers : List Provider) →
+      MayName kind own → (setup_in_effect records).n ≤ length providers → BeginsAs v kind own number next →
       (number ≡ 1) × IsUnderWay next (devices holds faults providers)
-  under-way next kind number providers enough begins =
+  under-way next kind own number providers named enough begins =
       (let x = opened-one providers enough in
-      let h = has-begun x.0 1 kind number v next (devices holds faults providers) x.1.opened x.1.stands
+      let h = has-begun x.0 1 kind own number v next (devices holds faults providers) named x.1.opened x.1.stands
       begins in (
         h.first,
         record {
           start = x.0;
           kind = kind;
+          own = own;
           state = h.made.state;
           only = h.only;
           stands = h.made.stands;
@@ -170,9 +172,9 @@ module _ (law : OpensAll) (there : ThereIsOne) (v : Vault) (records : List Recor
   memory-is begin_fault.Memory e = refl
 
   -- a begin is refused for the first cause over what the journal holds
-  pub refused-over : (next : Vault) (kind : Kind) (why : BeginFault) → RefusesAs v kind why next →
-      IsRefusedOver records kind why
-  refused-over next kind why refuses =
+  pub refused-over : (next : Vault) (kind : Kind) (own : Option ℕ) (why : BeginFault) → RefusesAs v kind own why next →
+      IsRefusedOver records kind own why
+  refused-over next kind own why refuses =
       (let ps : List Provider = replicate (setup_in_effect records).n nobody in
       let few : (setup_in_effect records).n ≤ length ps =
       (let e = length-replicate (setup_in_effect records).n nobody in omega (arith, e)) in
@@ -180,17 +182,18 @@ module _ (law : OpensAll) (there : ThereIsOne) (v : Vault) (records : List Recor
       let O = x.1.opened in
       let M = refuses x.0 (devices holds faults ps) 1 x.1.stands in
       elim M.begins.1 [
-        | inl e ↦ inr (subst (λ rs. commands.refusal_over rs kind ≡ Some (refusal_of why)) x.1.over.records
-            (sym (refusal-of x.0 kind O.rest.idle.0 O.rest.idle.3 O.rest.idle.2 O.rest.whole) ∙ e))
+        | inl e ↦ inr (subst (λ rs. commands.refusal_over rs kind own ≡ Some (refusal_of why)) x.1.over.records
+            (sym (refusal-of x.0 kind own O.rest.idle.0 O.rest.idle.3 O.rest.idle.2 O.rest.whole) ∙ e))
         | inr e ↦ inl (memory-is why e)
       ])
 
-  module _ (leaves : LeavesAll) (next last : Vault) (kind : Kind) (number : ℕ) (ended : Ended)
+  module _ (leaves : LeavesAll) (next last : Vault) (kind : Kind) (own : Option ℕ) (number : ℕ)
+      (ended : Ended) (named : MayName kind own)
       (providers after : List Provider) (new_holds : Option Cells) (new_faults : ℕ)
-      (begins : BeginsAs v kind number next)
-      (goes : (start w : State) (kind : Kind) (moment : ℕ) → IsOnly start kind w →
+      (begins : BeginsAs v kind own number next)
+      (goes : (start w : State) (kind : Kind) (own : Option ℕ) (moment : ℕ) → IsOnly start kind own w →
       Stands next (devices holds faults providers) w →
-      GoesToEnd start kind w moment ended last (devices holds faults providers)
+      GoesToEnd start kind own w moment ended last (devices holds faults providers)
       (devices new_holds new_faults after))
       (same : length after ≡ length providers)
       (old new : Seen) (R : opens.IsOpened old records)
@@ -200,12 +203,12 @@ module _ (law : OpensAll) (there : ThereIsOne) (v : Vault) (records : List Recor
     enough = subst (λ (ps : List Provider). (setup_in_effect records).n ≤ length ps) B.providers R.enough
 
     ran-alone : (w : State) (moment : ℕ) → IsOpenedOver w records faults providers →
-        RanAlone records kind (machine_answer ended.answer) old new ended.heard faults w moment
+        RanAlone records kind own (machine_answer ended.answer) old new ended.heard faults w moment
     ran-alone w moment over =
         (let x = opened-at providers w enough over in
-        let h = has-begun w moment kind number v next
-        (devices holds faults providers) x.opened x.stands begins in
-        let G = goes w h.made.state kind (moment + 1) h.only h.made.stands in
+        let h = has-begun w moment kind own number v next
+        (devices holds faults providers) named x.opened x.stands begins in
+        let G = goes w h.made.state kind own (moment + 1) h.only h.made.stands in
         record {
           last = G.last;
           runs = record {
@@ -219,15 +222,15 @@ module _ (law : OpensAll) (there : ThereIsOne) (v : Vault) (records : List Recor
           faults_are = G.stands.devices.faults ∙ sym A.faults;
           handed = subst (λ (ps : List Provider). AreHanded ps G.last)
               (sym A.providers) G.stands.devices.providers;
-          past_text = subst (λ told. SamePast kind (machine_answer ended.answer) records G.last.records
+          past_text = subst (λ told. SamePast kind own (machine_answer ended.answer) records G.last.records
               old.disk told) (sym A.disk)
-              (past-before kind (machine_answer ended.answer) records G.last.records old.disk holds new_holds
+              (past-before kind own (machine_answer ended.answer) records G.last.records old.disk holds new_holds
               B.reads
-              (subst (λ rs. SamePast kind (machine_answer ended.answer) rs G.last.records holds new_holds)
+              (subst (λ rs. SamePast kind own (machine_answer ended.answer) rs G.last.records holds new_holds)
               over.records G.past_text));
         })
 
-    runs-alone : RunsAlone records kind (machine_answer ended.answer) old new ended.heard
+    runs-alone : RunsAlone records kind own (machine_answer ended.answer) old new ended.heard
     runs-alone = record {
       faults = faults;
       before = B.faults;
@@ -236,24 +239,24 @@ module _ (law : OpensAll) (there : ThereIsOne) (v : Vault) (records : List Recor
     }
 
     begun-one : (w : State) ×
-        (HasBegun w 1 kind number next (devices holds faults providers) × (w.records ≡ records))
+        (HasBegun w 1 kind own number next (devices holds faults providers) × (w.records ≡ records))
     begun-one = (let x = opened-one providers enough in (
       x.0,
       (
-        has-begun x.0 1 kind number v next (devices holds faults providers) x.1.opened x.1.stands
+        has-begun x.0 1 kind own number v next (devices holds faults providers) named x.1.opened x.1.stands
             begins,
         x.1.over.records,
       ),
     ))
 
-    left-alone : LeftAlone records kind (machine_answer ended.answer) old new ended.heard
-    left-alone = leaves records kind (machine_answer ended.answer) old new ended.heard R begun-one.1.0.spelled
+    left-alone : LeftAlone records kind own (machine_answer ended.answer) old new ended.heard
+    left-alone = leaves records kind own (machine_answer ended.answer) old new ended.heard R begun-one.1.0.spelled named
         (ap length A.providers ∙ (same ∙ sym (ap length B.providers))) runs-alone
 
     -- how the one job ended, over what the journal held
-    pub ends-over : EndsOver records kind ended old new
+    pub ends-over : EndsOver records kind own ended old new
     ends-over = record {
-      unrefused = subst (λ rs. commands.refusal_over rs kind ≡ None) begun-one.1.1 begun-one.1.0.unrefused;
+      unrefused = subst (λ rs. commands.refusal_over rs kind own ≡ None) begun-one.1.1 begun-one.1.0.unrefused;
       runs = runs-alone;
       left = left-alone;
       counts = record {

@@ -1,20 +1,35 @@
--- The begin of a job that is the only one: its words.
-use Rattle.std.proofs.Common.{◌≡◌, ℕ, ◌==◌, [], ◌∷◌, ◌++◌, Some, None, refl, ap, ◌∙◌}
+-- The begin of a job that is the only one: its words, and the profile that it names.
+use Rattle.std.proofs.Common.{◌≡◌, ℕ, ◌==◌, [], ◌∷◌, ◌++◌, Option, Some, None, refl, ap, ◌∙◌}
 use Rattle.std.proofs.lemmas.Bool.{eq-eqb}
 use Rattle.machine_defs.specs.Jobs.{Kind, job_of}
 use Rattle.machine_defs.specs.Events.{Begun, IsSpelledKind}
 use Rattle.machine_defs.specs.States.{State}
-use Rattle.machine_defs.specs.Begins.{Begins, new_job}
+use Rattle.machine_defs.specs.Begins.{BeginsAt, beginning}
 use Rattle.machine_defs.proofs.JobLists.{cond_true}
 use Rattle.state_laws.specs.Sound.{IsSound}
+use Rattle.lone_laws.specs.Walked.{MayName}
+use Rattle.command_jobs.specs.Kinds.{kind_of, own_of}
+use Rattle.command_jobs.specs.declared.job.Job.{Job}
+use Rattle.command_jobs.specs.declared.job.Job.TheVariants as job
+
+-- ---- the profile
+
+-- only a put names one
+pub may-name : (j : Job) → MayName (kind_of j) (own_of j)
+may-name (job.Put name bytes profile) = MayName.put name.now bytes refl
+may-name (job.Get name) = MayName.none refl
+may-name (job.Drop name) = MayName.none refl
+may-name job.Audit = MayName.none refl
+may-name job.Repair = MayName.none refl
+may-name job.Upgrade = MayName.none refl
 
 -- ---- words
 
 -- the words of a job that began are bytes
-pub spelled-begun : (w new : State) (moment : ℕ) (kind : Kind) (number : ℕ) → w.jobs ≡ [] →
-    Begins 8 moment w kind (Begun number) new → IsSound 8 new → IsSpelledKind kind
-spelled-begun w new moment kind number none (opened, allowed, is_number, is) sound =
-    (sound.jobs w.next_job (new_job w moment kind) (ap (λ (v : State). job_of v.jobs w.next_job) is
-    ∙ (ap (λ js. job_of (js ++ new_job w moment kind ∷ []) w.next_job) none
-    ∙ cond_true (w.next_job == w.next_job) (Some (new_job w moment kind)) None
+pub spelled-begun : (w new : State) (moment : ℕ) (kind : Kind) (own : Option ℕ) (number : ℕ) →
+    w.jobs ≡ [] → BeginsAt 8 moment w kind own (Begun number) new → IsSound 8 new → IsSpelledKind kind
+spelled-begun w new moment kind own number none (opened, allowed, is_number, is) sound =
+    (sound.jobs w.next_job (beginning w moment kind own) (ap (λ (v : State). job_of v.jobs w.next_job) is
+    ∙ (ap (λ js. job_of (js ++ beginning w moment kind own ∷ []) w.next_job) none
+    ∙ cond_true (w.next_job == w.next_job) (Some (beginning w moment kind own)) None
     (eq-eqb w.next_job w.next_job refl)))).spelled

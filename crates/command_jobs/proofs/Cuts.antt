@@ -2,28 +2,29 @@
 use Rattle.std.proofs.Common.{◌≡◌, ℕ, ◌<◌, ◌⊎◌, true, [], ◌∷◌, length, replicate, Option, Some, None, refl, ap, sym, subst, ◌∙◌, inl, inr, arith}
 use Rattle.std.proofs.lemmas.List.{length-replicate}
 use Rattle.column_defs.specs.Verdicts.{Sums}
-use Rattle.record_defs.specs.Records.{Setup, Record, PutStart, PutDone, AuditStart, AuditDone}
-use Rattle.record_defs.specs.Table.{next_id, next_audit}
+use Rattle.record_defs.specs.Records.{Setup, Record, PutStart, AuditStart, AuditDone}
+use Rattle.record_defs.specs.Table.{version_of, next_id, next_audit}
 use Rattle.machine_defs.specs.Jobs.{Kind, PutJob, GetJob, DropJob, AuditJob, RepairJob, UpgradeJob, Job, job_of}
 use Rattle.machine_defs.specs.Actions.{Action, WriteBody, SyncBody, WriteGate, SyncGate, Store, Fetch, Ask, Work, Remove, End, actions_left, appends_left}
 use Rattle.machine_defs.specs.Answers as answer
 use Rattle.machine_defs.specs.Audits.{HasSums}
 use Rattle.machine_defs.specs.Events.{Step, Ended}
 use Rattle.machine_defs.specs.States.{State, Append, setup_in}
+use Rattle.machine_defs.specs.Begins.{chosen}
 use Rattle.machine_defs.specs.Appends.{done_record, Writes, Moves}
 use Rattle.machine_defs.specs.Steps.{next_action, Acts}
 use Rattle.machine_defs.specs.Machine.{Happens}
 use Rattle.machine_defs.proofs.JobLists.{same_value}
 use Rattle.command_defs.specs.Opens.{setup_in_effect}
 use Rattle.command_defs.specs.Jobs.{IsNext}
+use Rattle.command_defs.specs.Puts.{put_done}
 use Rattle.state_laws.specs.Orders.{moves_made, moves_before}
 use Rattle.state_laws.proofs.Events.{moves-next}
 use Rattle.state_laws.proofs.Given.{holder}
 use Rattle.state_laws.proofs.Orders.{appends-order}
-use Rattle.state_laws.proofs.Records.{version-first}
 use Rattle.state_laws.proofs.Written.{body-left, small-sums}
 use Rattle.opening_defs.specs.Opened.{IsOpenAtRest}
-use Rattle.lone_laws.specs.Walked.{first_record, IsSecondRecord, Walked}
+use Rattle.lone_laws.specs.Walked.{first_record, IsSecondRecord, WalkedAt}
 use Rattle.lone_laws.proofs.Walk.{found, runs, Wrote, wrote}
 use Rattle.vault_core.specs.Carried.{IsWriting}
 use Rattle.vault_core.specs.Coming.{is_move}
@@ -67,8 +68,8 @@ acts-memory w job End new (ends, is) =
     (ap (λ (v : State). v.records) is, inl (refl, ap (λ (v : State). v.append) is))
 acts-memory w job action new h = moves-memory w job action w.append new h
 
-module _ (start : State) (O : IsOpenAtRest start 1) (kind : Kind) (w : State) (job : Job)
-    (W : Walked start kind w job) where
+module _ (start : State) (O : IsOpenAtRest start 1) (kind : Kind) (own : Option ℕ) (w : State)
+    (job : Job) (W : WalkedAt start kind (chosen (setup_in start) own) w job) where
   -- a step that ended in a fault of the disk leaves the records
   pub fault-records : (moment : ℕ) (new : State) → Happens 8 moment w (Step 1) (Ended answer.DiskFault) new →
       new.records ≡ w.records
@@ -109,12 +110,12 @@ module _ (start : State) (O : IsOpenAtRest start 1) (kind : Kind) (w : State) (j
   -- ---- the record that comes next
 
   next-first : (entry : Record) (kd : Kind) → kind ≡ kd → Writes w job kd entry → w.records ≡ start.records →
-      entry ≡ first_record start kd → IsNext kd start.records w.records entry
+      entry ≡ first_record start kd → IsNext kd own start.records w.records entry
   next-first entry (PutJob name bytes) e h same is =
       record {
         done = [];
-        rest = PutDone (next_id start.records) (length bytes) ∷ [];
-        parts = ap (λ (r : Record). r ∷ PutDone (next_id start.records) (length bytes) ∷ []) (sym is);
+        rest = put_done start.records (length bytes) own ∷ [];
+        parts = ap (λ (r : Record). r ∷ put_done start.records (length bytes) own ∷ []) (sym is);
         after_is = same;
       }
   next-first entry (GetJob name) e h same is = h
@@ -150,10 +151,10 @@ module _ (start : State) (O : IsOpenAtRest start 1) (kind : Kind) (w : State) (j
       a ∙ ap (λ (s : Setup). s.n) (W.setup ∙ setup-at))
 
   next-second : (entry : Record) (kd : Kind) → w.records ≡ first_record start kd ∷ start.records →
-      IsSecondRecord start job kd entry → IsNext kd start.records w.records entry
+      IsSecondRecord start job kd entry → IsNext kd own start.records w.records entry
   next-second entry (PutJob name bytes) same is =
-      (let first = ap (λ n. done_record n (next_id start.records) (length bytes) job.profile)
-      (version-first start.records O.rest.in_grammar) in
+      (let first = ap (done_record (version_of start.records) (next_id start.records) (length bytes))
+      (W.profile_is ∙ ap (λ (s : Setup). chosen s own) setup-at) in
       record {
         done = PutStart (next_id start.records) name ∷ [];
         rest = [];
@@ -178,17 +179,17 @@ module _ (start : State) (O : IsOpenAtRest start 1) (kind : Kind) (w : State) (j
   next-second entry UpgradeJob same is = absurd is
 
   next-wrote : (entry : Record) → Writes w job kind entry → Wrote start O kind w job W entry →
-      IsNext kind start.records w.records entry
+      IsNext kind own start.records w.records entry
   next-wrote entry h (Wrote.first left same is) = next-first entry kind refl h same is
   next-wrote entry h (Wrote.second left same is) = next-second entry kind same is
 
   next-by : (entry : Record) → 0 < appends_left (setup_in w) job → Writes w job job.kind entry →
-      IsNext kind start.records w.records entry
+      IsNext kind own start.records w.records entry
   next-by entry left h = next-wrote entry (subst (λ (k : Kind). Writes w job k entry) W.kind_is h)
       (wrote start O kind w job W entry left h)
 
   -- the record that the job's append writes
-  pub next-written : (entry : Record) → IsWriting w 1 entry → IsNext kind start.records w.records entry
+  pub next-written : (entry : Record) → IsWriting w 1 entry → IsNext kind own start.records w.records entry
   next-written entry writing =
       (let same : writing.job ≡ job = same_value (job_of w.jobs 1) writing.job job writing.runs
       (found start O kind w job W) in
@@ -203,7 +204,7 @@ module _ (start : State) (O : IsOpenAtRest start 1) (kind : Kind) (w : State) (j
       by_action (Some action) e move = before-move action e move
 
   -- the record in flight
-  pub next-flight : (a : Append) → w.append ≡ Some a → IsNext kind start.records w.records a.entry
+  pub next-flight : (a : Append) → w.append ≡ Some a → IsNext kind own start.records w.records a.entry
   next-flight a flight =
       (let sound = W.sound.append a flight in
       let h = holder 8 w W.sound a flight in

@@ -68,23 +68,23 @@ past-same rs None (Some b) h = absurd h
 past-same rs (Some a) None h = absurd h
 
 -- past the text it reads as before, by how the job ended
-same-past : (kind : Kind) (how : Answer) (before after : List Record) (a b : Option Cells) →
+same-past : (kind : Kind) (own : Option ℕ) (how : Answer) (before after : List Record) (a b : Option Cells) →
     ((how ≡ answer.DiskFault → ⊥) → (how ≡ answer.Memory → ⊥) →
     option_map (past after) b ≡ option_map (past after) a)
-    → (how ≡ answer.DiskFault → SameBehind kind before after a b) →
-    (how ≡ answer.Memory → SameBehind kind before after a b) → SamePast kind how before after a b
-same-past kind answer.Put before after a b h d m = h (λ e. cc) (λ e. cc)
-same-past kind (answer.Got bytes) before after a b h d m = h (λ e. cc) (λ e. cc)
-same-past kind answer.Dropped before after a b h d m = h (λ e. cc) (λ e. cc)
-same-past kind (answer.Audited number undecided counts) before after a b h d m = h (λ e. cc) (λ e. cc)
-same-past kind (answer.Repaired number) before after a b h d m = h (λ e. cc) (λ e. cc)
-same-past kind (answer.Lost stripe row) before after a b h d m = h (λ e. cc) (λ e. cc)
-same-past kind (answer.ProviderFault j) before after a b h d m = h (λ e. cc) (λ e. cc)
-same-past kind answer.DiskFault before after a b h d m = d refl
-same-past kind answer.Memory before after a b h d m = m refl
-same-past kind answer.Upgraded before after a b h d m = h (λ e. cc) (λ e. cc)
-same-past kind (answer.Scrubbed stripes symbols blocks) before after a b h d m = h (λ e. cc) (λ e. cc)
-same-past kind (answer.Packed length_before length_after) before after a b h d m = h (λ e. cc) (λ e. cc)
+    → (how ≡ answer.DiskFault → SameBehind kind own before after a b) →
+    (how ≡ answer.Memory → SameBehind kind own before after a b) → SamePast kind own how before after a b
+same-past kind own answer.Put before after a b h d m = h (λ e. cc) (λ e. cc)
+same-past kind own (answer.Got bytes) before after a b h d m = h (λ e. cc) (λ e. cc)
+same-past kind own answer.Dropped before after a b h d m = h (λ e. cc) (λ e. cc)
+same-past kind own (answer.Audited number undecided counts) before after a b h d m = h (λ e. cc) (λ e. cc)
+same-past kind own (answer.Repaired number) before after a b h d m = h (λ e. cc) (λ e. cc)
+same-past kind own (answer.Lost stripe row) before after a b h d m = h (λ e. cc) (λ e. cc)
+same-past kind own (answer.ProviderFault j) before after a b h d m = h (λ e. cc) (λ e. cc)
+same-past kind own answer.DiskFault before after a b h d m = d refl
+same-past kind own answer.Memory before after a b h d m = m refl
+same-past kind own answer.Upgraded before after a b h d m = h (λ e. cc) (λ e. cc)
+same-past kind own (answer.Scrubbed stripes symbols blocks) before after a b h d m = h (λ e. cc) (λ e. cc)
+same-past kind own (answer.Packed length_before length_after) before after a b h d m = h (λ e. cc) (λ e. cc)
 
 -- the record in flight, if one is
 abbrev flying : Option Append → Option Record
@@ -106,18 +106,18 @@ flying-le rs entry (Some a) same =
 -- ---- the job on its way
 
 -- the job has made these steps, and vault and devices stand for the state after them
-pub record OnWay (start : State) (kind : Kind) (w : State) (moment : ℕ) (v : Vault)
+pub record OnWay (start : State) (kind : Kind) (own : Option ℕ) (w : State) (moment : ℕ) (v : Vault)
     (old new : Devices) : Type 0 where
   pub steps : List Moment
   pub are_steps : AreSteps w moment 1 steps
-  pub only : IsOnly start kind (now w steps)
+  pub only : IsOnly start kind own (now w steps)
   pub stands : Stands v new (now w steps)
   pub beyond : IsSameBeyond (now w steps) old new
 
 -- before its first step a job is on its way
-pub no-steps : (start : State) (kind : Kind) (w : State) (moment : ℕ) (v : Vault) (d : Devices) →
-    IsOnly start kind w → Stands v d w → OnWay start kind w moment v d d
-no-steps start kind w moment v d only stands =
+pub no-steps : (start : State) (kind : Kind) (own : Option ℕ) (w : State) (moment : ℕ) (v : Vault) (d : Devices) →
+    IsOnly start kind own w → Stands v d w → OnWay start kind own w moment v d d
+no-steps start kind own w moment v d only stands =
     record {
       steps = [];
       are_steps = tt;
@@ -127,21 +127,21 @@ no-steps start kind w moment v d only stands =
     }
 
 -- a step goes on, or ends the job
-pub steps-turn : (start : State) (kind : Kind) (w : State) (moment number : ℕ) (result : Turn) (v : Vault)
-    (old new : Devices) → IsOnly start kind w → number ≡ 1 → MakesStep w moment number result v old new →
+pub steps-turn : (start : State) (kind : Kind) (own : Option ℕ) (w : State) (moment number : ℕ) (result : Turn) (v : Vault)
+    (old new : Devices) → IsOnly start kind own w → number ≡ 1 → MakesStep w moment number result v old new →
     (outcome_of result ≡ More) ⊎ ((how : Answer) × (outcome_of result ≡ Ended how))
-steps-turn start kind w moment number result v old new only first M =
+steps-turn start kind own w moment number result v old new only first M =
     step-turn start only.opened kind w only.job only.walked moment (outcome_of result) M.state
     (subst (λ n. Happens 8 moment w (Step n) (outcome_of result) M.state) first M.happens)
 
-module _ (start : State) (kind : Kind) (w : State) (moment number : ℕ) (first : number ≡ 1) (v next : Vault)
-    (old mid new : Devices) (way : OnWay start kind w moment v old mid) where
+module _ (start : State) (kind : Kind) (own : Option ℕ) (w : State) (moment number : ℕ) (first : number ≡ 1) (v next : Vault)
+    (old mid new : Devices) (way : OnWay start kind own w moment v old mid) where
   abbrev here : State
   here = now w way.steps
 
   -- one more step, and it is still on its way
   pub one-more : MakesStep here (moment + length way.steps) number turn.More next mid new →
-      OnWay start kind w moment next old new
+      OnWay start kind own w moment next old new
   one-more M =
       (let happens : Happens 8 (moment + length way.steps) here (Step 1) More M.state =
       subst (λ n. Happens 8 (moment + length way.steps) here (Step n) More M.state) first M.happens in
@@ -193,17 +193,17 @@ module _ (start : State) (kind : Kind) (w : State) (moment number : ℕ) (first 
         (λ (x : Answer). Happens 8 (moment + length way.steps) here (Step 1) (Ended x) M.state) e happens
 
     past_fault : machine_answer ended.answer ≡ answer.DiskFault →
-        SameBehind kind start.records M.state.records old.holds new.holds
+        SameBehind kind own start.records M.state.records old.holds new.holds
     past_fault e =
         (let T = M.torn (ap Ended e) in
-        let same = fault-records start way.only.opened kind here way.only.job way.only.walked
+        let same = fault-records start way.only.opened kind own here way.only.job way.only.walked
         (moment + length way.steps) M.state (one_end answer.DiskFault e) in
-        let next = next-written start way.only.opened kind here way.only.job way.only.walked T.entry
+        let next = next-written start way.only.opened kind own here way.only.job way.only.walked T.entry
         (subst (λ n. IsWriting here n T.entry) first T.writing) in
         let both = goes-on-same (text_size (records_in_flight here.records here.append))
         (text_size (T.entry ∷ here.records)) old.holds mid.holds new.holds
         (flying-le here.records T.entry here.append T.in_flight) way.beyond T.same in
-        subst (λ rs. SameBehind kind start.records rs old.holds new.holds) (sym same)
+        subst (λ rs. SameBehind kind own start.records rs old.holds new.holds) (sym same)
         (record {
           next = Some T.entry;
           is_next = next;
@@ -211,15 +211,15 @@ module _ (start : State) (kind : Kind) (w : State) (moment number : ℕ) (first 
         }))
 
     past_memory : machine_answer ended.answer ≡ answer.Memory →
-        SameBehind kind start.records M.state.records old.holds new.holds
+        SameBehind kind own start.records M.state.records old.holds new.holds
     past_memory e =
-        (let c = memory-clears start way.only.opened kind here way.only.job way.only.walked
+        (let c = memory-clears start way.only.opened kind own here way.only.job way.only.walked
         (moment + length way.steps) M.state (one_end answer.Memory e) in
         let last : Goes (SameFrom (text_size here.records)) mid.holds new.holds =
         subst (λ rs. Goes (SameFrom (text_size rs)) mid.holds new.holds) c.0
         (subst (λ (o : Option Append). Goes (SameFrom (text_size (records_in_flight M.state.records o)))
         mid.holds new.holds) c.1 (M.beyond (λ f. no_fault (machine_answer ended.answer) e f))) in
-        subst (λ rs. SameBehind kind start.records rs old.holds new.holds) (sym c.0)
+        subst (λ rs. SameBehind kind own start.records rs old.holds new.holds) (sym c.0)
         (by_flight here.append refl last))
       where
         no_fault : (a : Answer) → a ≡ answer.Memory → Ended a ≡ Ended answer.DiskFault → ⊥
@@ -231,14 +231,14 @@ module _ (start : State) (kind : Kind) (w : State) (moment number : ℕ) (first 
         flight-le (Some a) = omega arith
 
         flight-next : (o : Option Append) → here.append ≡ o →
-            IfSome (flying o) (IsNext kind start.records here.records)
+            IfSome (flying o) (IsNext kind own start.records here.records)
         flight-next None is = tt
         flight-next (Some a) is =
-            next-flight start way.only.opened kind here way.only.job way.only.walked a is
+            next-flight start way.only.opened kind own here way.only.job way.only.walked a is
 
         by_flight : (o : Option Append) → here.append ≡ o →
             Goes (SameFrom (text_size here.records)) mid.holds new.holds →
-            SameBehind kind start.records here.records old.holds new.holds
+            SameBehind kind own start.records here.records old.holds new.holds
         by_flight o is last =
             (let beyond : Goes (SameFrom (text_size (records_in_flight here.records o))) old.holds
             mid.holds = subst (λ (x : Option Append). Goes
@@ -258,7 +258,7 @@ module _ (start : State) (kind : Kind) (w : State) (moment number : ℕ) (first 
             })
 
     -- the step that ends it brings it to its end
-    pub at-end : GoesToEnd start kind w moment ended next old new
+    pub at-end : GoesToEnd start kind own w moment ended next old new
     at-end = record {
       last = M.state;
       goes = record {
@@ -268,7 +268,7 @@ module _ (start : State) (kind : Kind) (w : State) (moment number : ℕ) (first 
         heard_is = subst (λ n. ended.heard ≡ heard_by (job_of here.jobs n)) first M.heard;
       };
       stands = M.stands;
-      past_text = same-past kind (machine_answer ended.answer) start.records M.state.records old.holds
+      past_text = same-past kind own (machine_answer ended.answer) start.records M.state.records old.holds
           new.holds
           past_end past_fault past_memory;
     }

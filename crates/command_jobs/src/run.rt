@@ -1,4 +1,4 @@
-ghost use Rattle.std.specs.Prelude.{◌≡◌, ◌<◌, ◌≤◌, ◌-◌, ◌^◌, ℕ, List, IfOk, IfErr, OnErr, is_some, length, map};
+ghost use Rattle.std.specs.Prelude.{◌≡◌, ◌<◌, ◌≤◌, ◌-◌, ◌^◌, ℕ, List, Option, IfOk, IfErr, OnErr, is_some, length, map};
 ghost use Rattle.machine_defs.specs.Jobs.{Kind};
 ghost use Rattle.machine_defs.specs.States.{State};
 ghost use Rattle.record_defs.specs.Records.{Record};
@@ -10,7 +10,7 @@ ghost use Rattle.vault.specs.Outcomes.{HasPaddedCounts};
 ghost use Rattle.vault.specs.Seen.{next_job_of};
 ghost use Rattle.vault.specs.Stands.{Stands, MakesBegin};
 ghost use Rattle.command_jobs.specs.Opened.{IsFreshOver, IsFreshFor};
-ghost use Rattle.command_jobs.specs.Kinds.{kind_of};
+ghost use Rattle.command_jobs.specs.Kinds.{kind_of, own_of};
 ghost use Rattle.command_jobs.specs.Going.{IsOnly, IsUnderWay, GoesToEnd};
 ghost use Rattle.command_jobs.specs.Ends.{IsSeenBefore, IsSeenAfter, IsRefusedOver, EndsOver};
 
@@ -33,11 +33,11 @@ pub fn run_job<D: Disk, P: Provider>(
         → IsFreshOver vault records (D.holds disk.old) (D.faults disk.old) → opens.IsOpened old records
         → IsSeenBefore old (devices_seen D.Disk P.Provider disk.old providers.old)
         → IsSeenAfter new (devices_seen D.Disk P.Provider disk.new providers.new)
-        → EndsOver records (kind_of job.entry) ended old new) }
+        → EndsOver records (kind_of job.entry) (own_of job.entry) ended old new) }
     ensures padded { IfOk result (λ ended. HasPaddedCounts ended.answer) }
     ensures refused { IfErr result (λ why. (records : List Record)
         → IsFreshOver vault records (D.holds disk.old) (D.faults disk.old)
-        → IsRefusedOver records (kind_of job.entry) why) }
+        → IsRefusedOver records (kind_of job.entry) (own_of job.entry) why) }
     ensures tells { is_some (D.holds disk.new) ≡ is_some (D.holds disk.old) }
     ensures untouched { OnErr result ((disk.new ≡ disk.old) × (providers.new ≡ providers.old)) }
 {
@@ -60,14 +60,19 @@ pub fn run_job<D: Disk, P: Provider>(
 fn begin(vault: &mut Vault, job: Job) -> Result<u32, BeginFault>
     requires { next_job_of vault.old < 2 ^ 32 - 1 }
     ensures { (w : State) (d : Devices) (moment : ℕ) → Stands vault.old d w
-        → MakesBegin w moment (kind_of job.entry) result vault.new d }
+        → MakesBegin w moment (kind_of job.entry) (own_of job.entry) result vault.new d }
 {
     match job {
-        Job::Put { name, bytes } => vault.begin_put(name, bytes),
+        Job::Put {
+            name,
+            bytes,
+            profile,
+        } => vault.begin_put(name, bytes, profile),
         Job::Get { name } => vault.begin_get(name),
         Job::Drop { name } => vault.begin_drop(name),
         Job::Audit => vault.begin_audit(),
         Job::Repair => vault.begin_repair(),
+        Job::Upgrade => vault.begin_upgrade(),
     }
 }
 
@@ -80,9 +85,9 @@ fn finish<D: Disk, P: Provider>(
 ) -> Ended
     requires first { number ≡ 1 }
     requires under_way { IsUnderWay vault.old (devices_seen D.Disk P.Provider disk.old providers.old) }
-    ensures ended { (start w : State) (kind : Kind) (moment : ℕ) → IsOnly start kind w
+    ensures ended { (start w : State) (kind : Kind) (own : Option ℕ) (moment : ℕ) → IsOnly start kind own w
         → Stands vault.old (devices_seen D.Disk P.Provider disk.old providers.old) w
-        → GoesToEnd start kind w moment result vault.new
+        → GoesToEnd start kind own w moment result vault.new
         (devices_seen D.Disk P.Provider disk.old providers.old)
         (devices_seen D.Disk P.Provider disk.new providers.new) }
     ensures tells { is_some (D.holds disk.new) ≡ is_some (D.holds disk.old) }

@@ -4,7 +4,7 @@ use Rattle.device_defs.specs.Told.{TakesFront}
 use Rattle.code_defs.specs.Points.{upto, values_at}
 use Rattle.opening_defs.proofs.Resyncs.{resynced-same}
 use Rattle.command_defs.specs.Forms.{Command as Spelled}
-use Rattle.command_defs.specs.Forms.{RowOf, InitWith, PutUnder, GetOf, DropOf, ListAll, AuditAll, RepairDue}
+use Rattle.command_defs.specs.Forms.{RowOf, InitWith, PutUnder, PutAt, GetOf, DropOf, ListAll, AuditAll, RepairDue, UpgradeJournal}
 use Rattle.command_defs.specs.Keys.{longest_key}
 use Rattle.command_defs.specs.Seen.{Seen, Ending, IsRefused, sinking}
 use Rattle.command_defs.specs.Line.{values_line, no_row_line}
@@ -59,8 +59,10 @@ no_memory-told command same end is =
     )
     by_command (InitWith numbers) = inits.no_memory (none-taken longest_key same.source) refused
     by_command (PutUnder name) = commands.unstarted (opens.no_memory refused) (refl, refl)
+    by_command (PutAt name profile) = commands.unstarted (opens.no_memory refused) (refl, refl)
     by_command (GetOf name) = (commands.unstarted (opens.no_memory refused), (refl, refl))
     by_command (DropOf name) = (commands.unstarted (opens.no_memory refused), (refl, refl))
     by_command ListAll = (commands.no_memory refused, (refl, refl))
     by_command AuditAll = (commands.unstarted (opens.no_memory refused), (refl, refl))
     by_command RepairDue = (commands.unstarted (opens.no_memory refused), (refl, refl))
+    by_command UpgradeJournal = (commands.unstarted (opens.no_memory refused), (refl, refl))

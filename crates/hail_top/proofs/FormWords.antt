@@ -8,7 +8,7 @@ use Rattle.std.specs.declared.alloc.Global.{Global}
 use Rattle.std.proofs.lemmas.Bool.{false≢true}
 use Rattle.command_defs.specs.Seen.{Seen, Ending}
 use Rattle.command_defs.specs.Row.{IsRowForm}
-use Rattle.command_defs.specs.Forms.{Numbers, Command as Spelled, RowOf, InitWith, PutUnder, GetOf, DropOf, ListAll, AuditAll, RepairDue, IsForm, IsInitForm, IsNamedForm, IsBareForm}
+use Rattle.command_defs.specs.Forms.{Numbers, Command as Spelled, RowOf, InitWith, PutUnder, PutAt, GetOf, DropOf, ListAll, AuditAll, RepairDue, UpgradeJournal, IsForm, IsInitForm, IsNamedForm, IsPutAtForm, IsBareForm}
 use Rattle.hail_replay.specs.Forms.{IsReplayForm, IsTrialForm, IsFormOf}
 use Rattle.hail_replay.specs.declared.forms.Form.{Form}
 use Rattle.hail_replay.specs.declared.forms.Form.TheVariants as forms
@@ -54,11 +54,13 @@ abbrev pub command-word : Spelled → List ℕ
 command-word (RowOf n l b seen) = codes "row"
 command-word (InitWith numbers) = codes "init"
 command-word (PutUnder name) = codes "put"
+command-word (PutAt name profile) = codes "put"
 command-word (GetOf name) = codes "get"
 command-word (DropOf name) = codes "drop"
 command-word ListAll = codes "list"
 command-word AuditAll = codes "audit"
 command-word RepairDue = codes "repair"
+command-word UpgradeJournal = codes "upgrade"
 
 abbrev pub form-word : Form → List ℕ
 form-word forms.Replay = codes "replay"
@@ -84,6 +86,14 @@ named-first command (c ∷ []) name form = absurd form
 named-first command (c ∷ n ∷ []) name form = form.0
 named-first command (c ∷ n ∷ more ∷ words) name form = absurd form
 
+put_at-first : (words : List (String Global)) (name : List ℕ) (profile : ℕ) →
+    IsPutAtForm words name profile → first-word words ≡ codes "put"
+put_at-first [] name profile form = absurd form
+put_at-first (c ∷ []) name profile form = absurd form
+put_at-first (c ∷ n ∷ []) name profile form = absurd form
+put_at-first (c ∷ n ∷ p ∷ []) name profile form = form.0
+put_at-first (c ∷ n ∷ p ∷ more ∷ words) name profile form = absurd form
+
 bare-first : (command : List ℕ) (words : List (String Global)) → IsBareForm command words →
     first-word words ≡ command
 bare-first command [] form = absurd form
@@ -103,11 +113,13 @@ pub command-first : (words : List (String Global)) (command : Spelled) → IsFor
 command-first words (RowOf n l b seen) form = row-first words n l b seen form
 command-first words (InitWith numbers) form = init-first words numbers form
 command-first words (PutUnder name) form = named-first (codes "put") words name form
+command-first words (PutAt name profile) form = put_at-first words name profile form
 command-first words (GetOf name) form = named-first (codes "get") words name form
 command-first words (DropOf name) form = named-first (codes "drop") words name form
 command-first words ListAll form = bare-first (codes "list") words form
 command-first words AuditAll form = bare-first (codes "audit") words form
 command-first words RepairDue form = bare-first (codes "repair") words form
+command-first words UpgradeJournal form = bare-first (codes "upgrade") words form
 
 -- the first word tells the form
 pub form-first : (words : List (String Global)) (form : Form) → IsFormOf words form →
@@ -119,21 +131,25 @@ replay-apart : (command : Spelled) → bytes_eq (command-word command) (codes "r
 replay-apart (RowOf n l b seen) = refl
 replay-apart (InitWith numbers) = refl
 replay-apart (PutUnder name) = refl
+replay-apart (PutAt name profile) = refl
 replay-apart (GetOf name) = refl
 replay-apart (DropOf name) = refl
 replay-apart ListAll = refl
 replay-apart AuditAll = refl
 replay-apart RepairDue = refl
+replay-apart UpgradeJournal = refl
 
 trial-apart : (command : Spelled) → bytes_eq (command-word command) (codes "trial") ≡ false
 trial-apart (RowOf n l b seen) = refl
 trial-apart (InitWith numbers) = refl
 trial-apart (PutUnder name) = refl
+trial-apart (PutAt name profile) = refl
 trial-apart (GetOf name) = refl
 trial-apart (DropOf name) = refl
 trial-apart ListAll = refl
 trial-apart AuditAll = refl
 trial-apart RepairDue = refl
+trial-apart UpgradeJournal = refl
 
 words-apart : (command : Spelled) (form : Form) → bytes_eq (command-word command) (form-word form) ≡ false
 words-apart command forms.Replay = replay-apart command

@@ -3,7 +3,7 @@ use Rattle.std.proofs.Common.{◌≡◌, ℕ, List, [], ◌∷◌, length, Optio
 use Rattle.std.specs.declared.alloc.Global.{Global}
 use Rattle.command_defs.specs.Words.{AreSymbolWords}
 use Rattle.command_defs.specs.Row.{IsRowForm}
-use Rattle.command_defs.specs.Forms.{Command, RowOf, InitWith, PutUnder, GetOf, DropOf, ListAll, AuditAll, RepairDue, IsForm}
+use Rattle.command_defs.specs.Forms.{Command, RowOf, InitWith, PutUnder, PutAt, GetOf, DropOf, ListAll, AuditAll, RepairDue, UpgradeJournal, IsForm}
 use Rattle.hail_top.specs.Rows.{HasItsSymbols}
 
 length-AreSymbolWords : (words : List (String Global)) (symbols : List (Option ℕ)) →
@@ -27,8 +27,10 @@ pub HasItsSymbols-IsForm : (words : List (String Global)) (command : Command) �
 HasItsSymbols-IsForm words (RowOf n l b seen) form = length-IsRowForm words n l b seen form
 HasItsSymbols-IsForm words (InitWith numbers) form = tt
 HasItsSymbols-IsForm words (PutUnder name) form = tt
+HasItsSymbols-IsForm words (PutAt name profile) form = tt
 HasItsSymbols-IsForm words (GetOf name) form = tt
 HasItsSymbols-IsForm words (DropOf name) form = tt
 HasItsSymbols-IsForm words ListAll form = tt
 HasItsSymbols-IsForm words AuditAll form = tt
 HasItsSymbols-IsForm words RepairDue form = tt
+HasItsSymbols-IsForm words UpgradeJournal form = tt

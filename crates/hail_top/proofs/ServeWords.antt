@@ -5,7 +5,7 @@ use Rattle.std.specs.Str.{bytes_eq}
 use Rattle.std.specs.declared.alloc.Global.{Global}
 use Rattle.std.proofs.lemmas.Bool.{false≢true}
 use Rattle.command_defs.specs.Seen.{Seen, Ending}
-use Rattle.command_defs.specs.Forms.{Command as Spelled, RowOf, InitWith, PutUnder, GetOf, DropOf, ListAll, AuditAll, RepairDue, IsForm}
+use Rattle.command_defs.specs.Forms.{Command as Spelled, RowOf, InitWith, PutUnder, PutAt, GetOf, DropOf, ListAll, AuditAll, RepairDue, UpgradeJournal, IsForm}
 use Rattle.hail_replay.specs.Forms.{IsFormOf}
 use Rattle.hail_replay.specs.declared.forms.Form.{Form}
 use Rattle.hail_replay.specs.declared.forms.Form.TheVariants as forms
@@ -49,11 +49,13 @@ command-apart : (command : Spelled) → bytes_eq (command-word command) (codes "
 command-apart (RowOf n l b seen) = refl
 command-apart (InitWith numbers) = refl
 command-apart (PutUnder name) = refl
+command-apart (PutAt name profile) = refl
 command-apart (GetOf name) = refl
 command-apart (DropOf name) = refl
 command-apart ListAll = refl
 command-apart AuditAll = refl
 command-apart RepairDue = refl
+command-apart UpgradeJournal = refl
 
 form-apart : (form : Form) → bytes_eq (form-word form) (codes "serve") ≡ false
 form-apart forms.Replay = refl

@@ -1,9 +1,11 @@
 -- What came of a command over a vault that was just opened, with what is seen of all devices.
 --
---   AnswersOver kind records old new end == the command ends as one does whose begin comes over these
---                                           records, and no count of faults fell
---   PutsOver name old new end            == the same of a put, which reads its source first
-use Rattle.std.specs.Prelude.{ℕ, List}
+--   AnswersOver kind own records old new end == the command ends as one does whose begin comes over these
+--                                               records, and no count of faults fell
+--   PutsOver name own old new end            == the same of a put, which reads its source first
+--
+-- own is the profile that a put names; None where it has the setup's, and of every other job.
+use Rattle.std.specs.Prelude.{ℕ, List, Option}
 use Rattle.record_defs.specs.Records.{Record}
 use Rattle.machine_defs.specs.Jobs.{Kind}
 use Rattle.command_defs.specs.Seen.{Seen, Ending}
@@ -12,11 +14,12 @@ use Rattle.command_defs.specs.Commands.{AnswersPut}
 use Rattle.command_jobs.specs.Ends.{NoFaultUndone}
 
 -- a job was refused over these records, or ended, and no count of faults fell
-pub record AnswersOver (kind : Kind) (records : List Record) (old new : Seen) (end : Ending) : Type 0 where
-  pub answers : AnswersJob kind records old new end
+pub record AnswersOver (kind : Kind) (own : Option ℕ) (records : List Record) (old new : Seen)
+    (end : Ending) : Type 0 where
+  pub answers : AnswersJob kind own records old new end
   pub counts : NoFaultUndone old new
 
 -- a put ended, and no count of faults fell
-pub record PutsOver (name : List ℕ) (old new : Seen) (end : Ending) : Type 0 where
-  pub answers : AnswersPut name old new end
+pub record PutsOver (name : List ℕ) (own : Option ℕ) (old new : Seen) (end : Ending) : Type 0 where
+  pub answers : AnswersPut name own old new end
   pub counts : NoFaultUndone old new

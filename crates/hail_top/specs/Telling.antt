@@ -10,8 +10,8 @@
 --   TellsAnswer s answer status at sink == the text of the answer is written or cut off, or its fault is told
 use Rattle.std.specs.Prelude.{◌≡◌, ◌⊎◌, ℕ, List, length}
 use Rattle.machine_defs.specs.Jobs.{Kind, PutJob, GetJob, DropJob, AuditJob, RepairJob, UpgradeJob}
-use Rattle.machine_defs.specs.Answers.{Answer, Put, Got, Dropped, Audited, Repaired, Lost, ProviderFault, DiskFault}
-use Rattle.command_defs.specs.Lines.{stored_line, dropped_line, audit_lines, repaired_line}
+use Rattle.machine_defs.specs.Answers.{Answer, Put, Got, Dropped, Audited, Repaired, Upgraded, Lost, ProviderFault, DiskFault}
+use Rattle.command_defs.specs.Lines.{stored_line, dropped_line, audit_lines, repaired_line, upgraded_line}
 use Rattle.command_defs.specs.Seen.{Ending}
 use Rattle.command_defs.specs.Sinking.{Sinking, WritesLine}
 use Rattle.command_jobs.specs.declared.open.Unopened.{Unopened}
@@ -55,6 +55,7 @@ IsTextOf s (Got bytes) text = text ≡ bytes
 IsTextOf s Dropped text = text ≡ dropped_line s.name.now
 IsTextOf s (Audited number undecided counts) text = text ≡ audit_lines s.tolerance number undecided counts
 IsTextOf s (Repaired number) text = text ≡ repaired_line number
+IsTextOf s Upgraded text = text ≡ upgraded_line
 IsTextOf s answer text = ⊥
 
 -- the status of a fault, and the place that it speaks of; for any other answer, want of memory for its text

@@ -5,6 +5,7 @@ ghost use Rattle.device_defs.specs.Disks.{synced};
 ghost use Rattle.record_defs.specs.Records.{Record};
 ghost use Rattle.command_defs.specs.Seen.{Seen, NoCountFalls};
 ghost use Rattle.command_defs.specs.Opens.{IsOpened};
+ghost use Rattle.command_defs.specs.Refusals as commands;
 ghost use Rattle.command_defs.specs.Commands.{AnswersPut};
 ghost use Rattle.vault.specs.Devices.{devices_seen};
 ghost use Rattle.command_jobs.specs.Opened.{IsFreshOver, IsFreshFor};
@@ -15,7 +16,7 @@ ghost use Rattle.hail_top.specs.Jobs.{PutsOver};
 use crate::alone::answer_job;
 use crate::reading::read_up_to;
 use crate::refusals::{unopened, unread};
-use crate::report::Report;
+use crate::report::{BAD_SETUP, Report};
 use command_jobs::{Job, open_vault};
 use disk_model::Disk;
 use provider_model::Provider;
@@ -26,10 +27,25 @@ use vault::Vault;
 /// How many bytes of a source are read for a file: one more than the longest file has.
 const PAST_LONGEST: usize = (1 << 22) + 1;
 
-/// Reads the file, and puts it into a vault that was just opened.
+/// How many profiles there are.
+const PROFILES: u8 = 5;
+
+/// Whether a put names a profile that there is none of.
+fn is_unknown(profile: Option<u8>) -> bool
+    ensures { result ≡ commands.is_unknown profile }
+{
+    match profile {
+        Some(number) => number >= PROFILES,
+        None => false,
+    }
+}
+
+/// Reads the file, and puts it into a vault that was just opened. Where it is to have a profile that there is
+/// none of, the source is not read.
 fn put_read<D: Disk, P: Provider, S: Source, K: Sink>(
     alloc: Global,
     name: &[u8],
+    profile: Option<u8>,
     vault: Vault,
     disk: &mut D,
     providers: &mut [P],
@@ -43,17 +59,25 @@ fn put_read<D: Disk, P: Provider, S: Source, K: Sink>(
         → D.holds disk.old ≡ option_map synced old.disk → old.source ≡ S.left source.old
         → old.source_faults ≡ S.faults source.old
         → old.sink ≡ K.written sink.old → old.sink_faults ≡ K.faults sink.old
-        → PutsOver name.now old
+        → PutsOver name.now profile old
         (seen_of D.Disk P.Provider S.Source K.Sink disk.new providers.new source.new sink.new)
         (ending_of result) }
     ensures source_count { S.faults source.old ≤ S.faults source.new }
     ensures sink_count { K.faults sink.old ≤ K.faults sink.new }
     ensures tells { is_some (D.holds disk.new) ≡ is_some (D.holds disk.old) }
 {
+    if is_unknown(profile) {
+        vault.close();
+        return Report::of(BAD_SETUP);
+    }
     match read_up_to(alloc, PAST_LONGEST, source) {
         Ok(bytes) => answer_job(
             alloc,
-            Job::Put { name, bytes },
+            Job::Put {
+                name,
+                bytes,
+                profile,
+            },
             vault,
             disk,
             providers,
@@ -66,16 +90,18 @@ fn put_read<D: Disk, P: Provider, S: Source, K: Sink>(
     }
 }
 
-/// Opens the store, and puts the file that the source gives under a name.
+/// Opens the store, and puts the file that the source gives under a name, with the profile of a number, or
+/// else the setup's.
 pub fn put<D: Disk, P: Provider, S: Source, K: Sink>(
     alloc: Global,
     name: &[u8],
+    profile: Option<u8>,
     disk: &mut D,
     providers: &mut [P],
     source: &mut S,
     sink: &mut K,
 ) -> Report
-    ensures answers { AnswersPut name.now
+    ensures answers { AnswersPut name.now profile
         (seen_of D.Disk P.Provider S.Source K.Sink disk.old providers.old source.old sink.old)
         (seen_of D.Disk P.Provider S.Source K.Sink disk.new providers.new source.new sink.new)
         (ending_of result) }
@@ -85,7 +111,7 @@ pub fn put<D: Disk, P: Provider, S: Source, K: Sink>(
     ensures tells { is_some (D.holds disk.new) ≡ is_some (D.holds disk.old) }
 {
     match open_vault(alloc, disk, providers.len()) {
-        Ok(vault) => put_read(alloc, name, vault, disk, providers, source, sink),
+        Ok(vault) => put_read(alloc, name, profile, vault, disk, providers, source, sink),
         Err(why) => unopened(why),
     }
 }

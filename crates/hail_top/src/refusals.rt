@@ -7,8 +7,9 @@ ghost use Rattle.hail_top.specs.Telling.{unread_ending, unopened_ending};
 
 use crate::reading::ReadFault;
 use crate::report::{
-    BAD_JOURNAL, BAD_NAME, DISK_FAULT, JOURNAL_FULL, NO_MEMORY, NO_SUCH_NAME, NOT_SET_UP,
-    NOTHING_DUE, REPAIR_DUE, Report, SOURCE_FAULT, TOO_FEW_PROVIDERS, TOO_LONG, TOO_MANY_FILES,
+    BAD_JOURNAL, BAD_NAME, BAD_SETUP, DISK_FAULT, JOURNAL_FULL, NEW_VERSION, NO_MEMORY,
+    NO_SUCH_NAME, NOT_SET_UP, NOTHING_DUE, OLD_VERSION, REPAIR_DUE, Report, SOURCE_FAULT,
+    TOO_FEW_PROVIDERS, TOO_LONG, TOO_MANY_FILES,
 };
 use command_jobs::Unopened;
 use vault::BeginFault;
@@ -36,8 +37,7 @@ pub fn unopened(why: Unopened) -> Report
     }
 }
 
-/// Tells that a job was refused. Where one job runs alone, the vault is open and not busy; no command names a
-/// profile or upgrades.
+/// Tells that a job was refused. Where one job runs alone, the vault is open and not busy.
 pub fn refused(why: BeginFault) -> Report
     ensures { ending_of result ≡ ending_with (status_of (refusal_of why)) 0 }
 {
@@ -48,12 +48,10 @@ pub fn refused(why: BeginFault) -> Report
         BeginFault::JournalFull => Report::of(JOURNAL_FULL),
         BeginFault::TooLong => Report::of(TOO_LONG),
         BeginFault::BadName => Report::of(BAD_NAME),
+        BeginFault::BadProfile => Report::of(BAD_SETUP),
         BeginFault::TooManyFiles => Report::of(TOO_MANY_FILES),
-        BeginFault::MustReopen
-        | BeginFault::Busy
-        | BeginFault::BadProfile
-        | BeginFault::OldVersion
-        | BeginFault::NewVersion
-        | BeginFault::Memory => Report::of(NO_MEMORY),
+        BeginFault::OldVersion => Report::of(OLD_VERSION),
+        BeginFault::NewVersion => Report::of(NEW_VERSION),
+        BeginFault::MustReopen | BeginFault::Busy | BeginFault::Memory => Report::of(NO_MEMORY),
     }
 }

@@ -55,7 +55,7 @@ pub const BAD_KEY: u8 = 18;
 /// A line of the schedule is outside the grammar.
 pub const BAD_SCHEDULE: u8 = 19;
 
-/// The numbers are no setup, or no shape has them.
+/// The numbers are no setup, or no shape has them; or there is no profile of the number that a put names.
 pub const BAD_SETUP: u8 = 20;
 
 /// No further name fits in beside those in effect.
@@ -63,6 +63,12 @@ pub const TOO_MANY_FILES: u8 = 21;
 
 /// Fewer providers were handed in than the setup has.
 pub const TOO_FEW_PROVIDERS: u8 = 22;
+
+/// A put names a profile, and the journal has its first version.
+pub const OLD_VERSION: u8 = 23;
+
+/// The journal has its second version already.
+pub const NEW_VERSION: u8 = 24;
 
 /// The bytes from an offset on begin no request.
 pub const BAD_FRAME: u8 = 25;

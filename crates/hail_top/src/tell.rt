@@ -7,7 +7,9 @@ ghost use Rattle.hail_top.specs.Telling.{TellsOf, IsTextOf, IsFaultEnd, TellsAns
 
 use crate::report::{DISK_FAULT, LOST_ROW, NO_MEMORY, PROVIDER_FAULT, Report};
 use command_jobs::Job;
-use command_lines::{audit_lines, dropped_line, repaired_line, stored_line, write_text};
+use command_lines::{
+    audit_lines, dropped_line, repaired_line, stored_line, upgraded_line, write_text,
+};
 use hail_replay::HeardLists;
 use std::alloc::Global;
 use stream_model::{Bytes, Memory, Sink};
@@ -28,9 +30,9 @@ impl<'a> Subject<'a> {
         ensures { TellsOf result tolerance (kind_of job.now) }
     {
         let (name, length): (&'a [u8], usize) = match job {
-            Job::Put { name, bytes } => (*name, bytes.as_slice().len()),
+            Job::Put { name, bytes, .. } => (*name, bytes.as_slice().len()),
             Job::Get { name } | Job::Drop { name } => (*name, 0),
-            Job::Audit | Job::Repair => (&[], 0),
+            Job::Audit | Job::Repair | Job::Upgrade => (&[], 0),
         };
         Subject {
             name,
@@ -73,6 +75,7 @@ fn text(alloc: Global, subject: &Subject, answer: Answer) -> Result<Bytes, Fault
             counts,
         } => Ok(audit_lines(alloc, subject.tolerance, number, undecided, &counts)?),
         Answer::Repaired { number } => Ok(repaired_line(alloc, number)?),
+        Answer::Upgraded => Ok(upgraded_line(alloc)?),
         Answer::Lost { row, .. } => Err(Fault {
             status: LOST_ROW,
             at: row,

@@ -53,12 +53,15 @@ fn answer<D: Disk, P: Tamper, S: Source, K: Sink>(
     match command {
         Command::Row(row) => Report::of(answer_row(alloc, &row, sink)),
         Command::Init(numbers) => set_up(alloc, &numbers, providers.len(), disk, source, sink),
-        Command::Put { name } => put(alloc, name, disk, providers, source, sink),
+        Command::Put { name, profile } => {
+            put(alloc, name, profile, disk, providers, source, sink)
+        }
         Command::Get { name } => alone(alloc, Job::Get { name }, disk, providers, sink),
         Command::Drop { name } => alone(alloc, Job::Drop { name }, disk, providers, sink),
         Command::List => list(alloc, providers.len(), disk, sink),
         Command::Audit => alone(alloc, Job::Audit, disk, providers, sink),
         Command::Repair => alone(alloc, Job::Repair, disk, providers, sink),
+        Command::Upgrade => alone(alloc, Job::Upgrade, disk, providers, sink),
     }
 }
 

@@ -28,7 +28,9 @@ status_text status =
     (if status == 20 then codes "hail: bad setup" else
     (if status == 21 then codes "hail: too many files" else
     (if status == 22 then codes "hail: too few providers" else
-    (if status == 25 then codes "hail: bad frame at" else codes "hail: no memory"))))))))))))))))))))
+    (if status == 23 then codes "hail: old journal version" else
+    (if status == 24 then codes "hail: new journal version" else
+    (if status == 25 then codes "hail: bad frame at" else codes "hail: no memory"))))))))))))))))))))))
 
 -- a place follows the text
 abbrev pub speaks_of_place : ℕ → Bool

@@ -4,8 +4,9 @@ ghost use Rattle.program_words.specs.Text.{status_text, speaks_of_place};
 
 use hail_top::{
     ALREADY_SET_UP, BAD_FRAME, BAD_JOURNAL, BAD_KEY, BAD_NAME, BAD_SCHEDULE, BAD_SETUP, DISK_FAULT,
-    JOURNAL_FULL, LOST_ROW, NO_SUCH_NAME, NOT_SET_UP, NOTHING_DUE, PROVIDER_FAULT, REPAIR_DUE,
-    SINK_FAULT, SOURCE_FAULT, TOO_FEW_PROVIDERS, TOO_LONG, TOO_MANY_FILES, USAGE,
+    JOURNAL_FULL, LOST_ROW, NEW_VERSION, NO_SUCH_NAME, NOT_SET_UP, NOTHING_DUE, OLD_VERSION,
+    PROVIDER_FAULT, REPAIR_DUE, SINK_FAULT, SOURCE_FAULT, TOO_FEW_PROVIDERS, TOO_LONG,
+    TOO_MANY_FILES, USAGE,
 };
 
 /// The text of a status other than 0.
@@ -33,6 +34,8 @@ pub fn text_of(status: u8) -> &'static str
         BAD_SETUP => "hail: bad setup",
         TOO_MANY_FILES => "hail: too many files",
         TOO_FEW_PROVIDERS => "hail: too few providers",
+        OLD_VERSION => "hail: old journal version",
+        NEW_VERSION => "hail: new journal version",
         BAD_FRAME => "hail: bad frame at",
         _ => "hail: no memory",
     }

@@ -14,3 +14,6 @@ returns-in-Audit c = rw c.in-Audit.is c.begin_audit.ensures.machine
 
 pub returns-in-Repair : goal.returns-in-Repair
 returns-in-Repair c = rw c.in-Repair.is c.begin_repair.ensures.machine
+
+pub returns-in-Upgrade : goal.returns-in-Upgrade
+returns-in-Upgrade c = rw c.in-Upgrade.is c.begin_upgrade.ensures.machine

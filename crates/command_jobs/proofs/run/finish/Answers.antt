@@ -9,30 +9,30 @@ use Rattle.command_jobs.proofs.run.finish.Goals as goal
 pub step-requires : goal.step-requires
 step-requires g c =
     let u = c.requires.under_way in
-    let way = c.loop-ended.invariant.0 u.start u.state u.kind 0 u.only u.stands in
+    let way = c.loop-ended.invariant.0 u.start u.state u.kind u.own 0 u.only u.stands in
     let few = stands-enough c.loop-ended.vault _ _ way.stands in
     let e = length-map c.loop-ended.providers (provider_seen g.P.Provider) in
     omega (arith, few, e)
 
 pub loop-ended-preserved : goal.loop-ended-preserved
 loop-ended-preserved g c = (
-  λ start w kind moment only stands.
-      let way = c.loop-ended.invariant.0 start w kind moment only stands in
-      one-more start kind w moment c.args.number c.requires.first c.loop-ended.vault c.step.new.self _ _ _ way
+  λ start w kind own moment only stands.
+      let way = c.loop-ended.invariant.0 start w kind own moment only stands in
+      one-more start kind own w moment c.args.number c.requires.first c.loop-ended.vault c.step.new.self _ _ _ way
       (c.in-More.ensures.machine (now w way.steps) (moment + length way.steps) way.stands),
   c.step.ensures.tells ∙ c.loop-ended.invariant.1,
 )
 
 pub returns-in-Done-clause-ended : goal.returns-in-Done-clause-ended
-returns-in-Done-clause-ended g c = λ start w kind moment only stands.
-    let way = c.loop-ended.invariant.0 start w kind moment only stands in
-    at-end start kind w moment c.args.number c.requires.first c.loop-ended.vault c.step.new.self _ _ _ way
+returns-in-Done-clause-ended g c = λ start w kind own moment only stands.
+    let way = c.loop-ended.invariant.0 start w kind own moment only stands in
+    at-end start kind own w moment c.args.number c.requires.first c.loop-ended.vault c.step.new.self _ _ _ way
     c.in-Done.ended (c.in-Done.ensures.machine (now w way.steps) (moment + length way.steps) way.stands)
 
 pub unreachable-requires : goal.unreachable-requires
 unreachable-requires g c =
     let u = c.requires.under_way in
-    let way = c.loop-ended.invariant.0 u.start u.state u.kind 0 u.only u.stands in
+    let way = c.loop-ended.invariant.0 u.start u.state u.kind u.own 0 u.only u.stands in
     never-stops c.step.result c.in-Waiting.is
-    (steps-turn u.start u.kind (now u.state way.steps) 0 c.args.number c.step.result c.step.new.self _ _
+    (steps-turn u.start u.kind u.own (now u.state way.steps) 0 c.args.number c.step.result c.step.new.self _ _
     way.only c.requires.first (c.step.ensures.machine (now u.state way.steps) 0 way.stands))

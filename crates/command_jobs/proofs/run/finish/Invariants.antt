@@ -1,4 +1,4 @@
-use Rattle.std.proofs.Common.{◌≡◌, ℕ}
+use Rattle.std.proofs.Common.{◌≡◌, ℕ, Option}
 use Rattle.std.specs.Prelude.{is_some}
 use Rattle.machine_defs.specs.Jobs.{Kind}
 use Rattle.machine_defs.specs.States.{State}
@@ -10,9 +10,10 @@ use Rattle.command_jobs.proofs.Goings.{OnWay}
 use Rattle.command_jobs.proofs.run.finish.Given as goal
 
 abbrev pub invariant-loop-ended : goal.invariant-loop-ended
-invariant-loop-ended g l = ((start w : State) (kind : Kind) (moment : ℕ) → IsOnly start kind w
+invariant-loop-ended g l = ((start w : State) (kind : Kind) (own : Option ℕ) (moment : ℕ)
+    → IsOnly start kind own w
     → Stands l.initial.vault (devices_seen g.D.Disk g.P.Provider l.initial.disk l.initial.providers) w
-    → OnWay start kind w moment l.vault
+    → OnWay start kind own w moment l.vault
     (devices_seen g.D.Disk g.P.Provider l.initial.disk l.initial.providers)
     (devices_seen g.D.Disk g.P.Provider l.disk l.providers))
     × (is_some (g.D.Disk.holds l.disk) ≡ is_some (g.D.Disk.holds l.initial.disk))
