@@ -16,6 +16,9 @@ impl<P: Holder + Drop> Store<P> {
             Deed::Lacks(provider, object) => !self.holds(provider, object),
             Deed::Holders(count) => self.holders() == count,
             Deed::Block(provider, len, zero) => self.is_block(provider, len, zero),
+            Deed::Blocks(providers, object, stripes, symbols) => self.are_blocks(
+                providers, object, stripes, symbols,
+            ),
             Deed::Mended => self.is_mended(),
             _ => false,
         }

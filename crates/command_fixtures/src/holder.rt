@@ -10,8 +10,8 @@ pub trait Holder: Tamper {
     /// A provider that holds nothing. Want of memory is the one refusal.
     fn of(alloc: Global, kind: Self::Kind) -> Option<Self>;
 
-    /// The first block of an object.
-    fn block(&self, object: u64) -> Option<&[Symbol]>;
+    /// The block of an object and a stripe.
+    fn block(&self, object: u64, stripe: u32) -> Option<&[Symbol]>;
 }
 
 /// The kind is the number of the call that fails.
@@ -22,8 +22,8 @@ impl Holder for MemProvider {
         MemProvider::new(alloc, &[kind]).ok()
     }
 
-    fn block(&self, object: u64) -> Option<&[Symbol]> {
-        self.held(object, 0)
+    fn block(&self, object: u64, stripe: u32) -> Option<&[Symbol]> {
+        self.held(object, stripe)
     }
 }
 
@@ -35,8 +35,8 @@ impl Holder for Liar {
         Some(Liar::new(alloc, Symbol(kind)))
     }
 
-    fn block(&self, object: u64) -> Option<&[Symbol]> {
-        self.held(object, 0)
+    fn block(&self, object: u64, stripe: u32) -> Option<&[Symbol]> {
+        self.held(object, stripe)
     }
 }
 
@@ -47,8 +47,8 @@ impl<P: Holder + Drop> Holder for Untold<P> {
         Some(Untold::new(P::of(alloc, kind)?))
     }
 
-    fn block(&self, object: u64) -> Option<&[Symbol]> {
-        self.inner.block(object)
+    fn block(&self, object: u64, stripe: u32) -> Option<&[Symbol]> {
+        self.inner.block(object, stripe)
     }
 }
 

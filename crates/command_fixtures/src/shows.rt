@@ -14,14 +14,14 @@ fn are_zero(block: &[Symbol]) -> bool {
 }
 
 impl<P: Holder + Drop> Store<P> {
-    /// The first block of an object that a provider holds.
-    fn block(&self, provider: usize, object: u64) -> Option<&[Symbol]> {
-        self.providers.get(provider)?.block(object)
+    /// The block of an object and a stripe that a provider holds.
+    fn block(&self, provider: usize, object: u64, stripe: u32) -> Option<&[Symbol]> {
+        self.providers.get(provider)?.block(object, stripe)
     }
 
     /// Whether a provider holds the first block of an object.
     pub fn holds(&self, provider: usize, object: u64) -> bool {
-        self.block(provider, object).is_some()
+        self.block(provider, object, 0).is_some()
     }
 
     /// How many providers hold the first block of the object 1.
@@ -37,17 +37,47 @@ impl<P: Holder + Drop> Store<P> {
 
     /// Whether a provider's first block of the object 1 has so many symbols, and whether all are zero.
     pub fn is_block(&self, provider: usize, len: usize, zero: bool) -> bool {
-        match self.block(provider, 1) {
+        match self.block(provider, 1, 0) {
             Some(block) => block.len() == len && are_zero(block) == zero,
             None => false,
         }
+    }
+
+    /// Whether a provider holds the blocks of an object and so many stripes, of so many symbols each, and not
+    /// that of the next stripe.
+    fn has_blocks(&self, provider: usize, object: u64, stripes: u32, symbols: usize) -> bool {
+        for stripe in 0..stripes {
+            match self.block(provider, object, stripe) {
+                Some(block) if block.len() == symbols => {}
+                _ => return false,
+            }
+        }
+        self.block(provider, object, stripes).is_none()
+    }
+
+    /// Whether so many providers, the first ones, hold the blocks of an object and so many stripes, of so many
+    /// symbols each, and the others none of it.
+    pub fn are_blocks(
+        &self,
+        providers: usize,
+        object: u64,
+        stripes: u32,
+        symbols: usize,
+    ) -> bool {
+        for provider in 0..self.providers.len() {
+            let held = if provider < providers { stripes } else { 0 };
+            if !self.has_blocks(provider, object, held, symbols) {
+                return false;
+            }
+        }
+        true
     }
 
     /// The symbols of the first blocks of the object 1. Want of memory is the one refusal.
     fn symbols(&self) -> Option<Vec<Symbol>> {
         let mut symbols = Vec::new(self.alloc);
         for provider in 0..self.providers.len() {
-            let block = self.block(provider, 1).unwrap_or(&[]);
+            let block = self.block(provider, 1, 0).unwrap_or(&[]);
             symbols.extend_from_slice(block).ok()?;
         }
         Some(symbols)
@@ -101,7 +131,7 @@ impl<P: Holder + Drop> Store<P> {
     /// Whether the first job of the last command heard from a provider the first block of the object 1 that
     /// the provider holds.
     fn heard_from(&self, provider: usize) -> bool {
-        match (&self.last, self.block(provider, 1)) {
+        match (&self.last, self.block(provider, 1, 0)) {
             (Some(told), Some(block)) => told.has_block_at(provider, block),
             _ => false,
         }

@@ -75,6 +75,22 @@ const NOT_SET_UP: Row = Row {
     text: b"",
 };
 
+/// The journal's second version is brought into effect.
+const UPGRADE: Row = Row {
+    line: "upgrade",
+    input: b"",
+    status: 0,
+    text: b"upgraded\n",
+};
+
+/// It is in effect.
+const NEW_VERSION: Row = Row {
+    line: "upgrade",
+    input: b"",
+    status: 24,
+    text: b"",
+};
+
 /// The blocks of the first file.
 const FIRST_BLOCKS: &[&str] = &[
     "home/provider-0/1-0",
@@ -233,4 +249,46 @@ const REPAIR: &Case = &Case {
 #[test]
 fn a_repair_is_done_or_still_due(rt: HostRuntime) {
     check(&rt, REPAIR);
+}
+
+/// An upgrade.
+const UPGRADED: &Case = &Case {
+    before: &[INIT, PUT],
+    lost: None,
+    row: UPGRADE,
+    without: Shown {
+        rows: &[LISTED, GOT, UPGRADE],
+        blocks: FIRST_BLOCKS,
+    },
+    with: Shown {
+        rows: &[LISTED, GOT, NEW_VERSION],
+        blocks: FIRST_BLOCKS,
+    },
+};
+
+#[test]
+fn an_upgrade_is_done_or_not(rt: HostRuntime) {
+    check(&rt, UPGRADED);
+}
+
+/// A put behind it that names a profile.
+const OWN_PROFILE: &Case = &Case {
+    before: &[INIT, UPGRADE],
+    lost: None,
+    row: Row {
+        line: "put a 2",
+        input: b"abc",
+        status: 0,
+        text: b"stored a 3\n",
+    },
+    without: Shown {
+        rows: &[EMPTY, NEW_VERSION],
+        blocks: &[],
+    },
+    with: FIRST,
+};
+
+#[test]
+fn a_put_with_a_profile_is_whole_or_not_there(rt: HostRuntime) {
+    check(&rt, OWN_PROFILE);
 }

@@ -1,5 +1,5 @@
 use crate::check::check;
-use crate::setups::{FOUR, THREE};
+use crate::setups::{FOUR, THREE, UPGRADED};
 use command_fixtures::Deed::{Done, Holds, Lacks, Refused};
 use command_fixtures::{Case, KEY, Rows};
 
@@ -92,6 +92,43 @@ const DROPPED: &[Rows] = &[Rows::Cut(Case {
 #[test]
 fn a_drop_stands_from_its_last_sync_on(rt: HostRuntime) {
     check(&rt, DROPPED);
+}
+
+/// An upgrade, and a put behind it that names a profile.
+const UPGRADES: &[Rows] = &[
+    Rows::Cut(Case {
+        before: &[FOUR, THREE],
+        line: "upgrade",
+        input: b"",
+        text: b"upgraded\n",
+        calls: 7,
+        stands: 6,
+        without: &[
+            Refused("put b 0", b"abc", 23, 0),
+            UPGRADED,
+            Done("get a", b"", b"abc"),
+        ],
+        with: &[
+            Refused("upgrade", b"", 24, 0),
+            Done("put b 0", b"abc", b"stored b 3\n"),
+            Done("get a", b"", b"abc"),
+        ],
+    }),
+    Rows::Cut(Case {
+        before: &[FOUR, UPGRADED],
+        line: "put a 3",
+        input: b"abc",
+        text: b"stored a 3\n",
+        calls: 11,
+        stands: 10,
+        without: &[Refused("get a", b"", 3, 0), Done("list", b"", b"")],
+        with: &[Done("get a", b"", b"abc"), Done("list", b"", b"a 3\n")],
+    }),
+];
+
+#[test]
+fn an_upgrade_stands_from_its_last_sync_on(rt: HostRuntime) {
+    check(&rt, UPGRADES);
 }
 
 /// A get.

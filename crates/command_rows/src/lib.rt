@@ -41,3 +41,5 @@ mod trials;
 mod untold;
 #[cfg(test)]
 mod upkeep_faults;
+#[cfg(test)]
+mod versions;

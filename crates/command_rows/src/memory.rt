@@ -15,6 +15,9 @@ const COMMANDS: &[Rows] = &[Rows::Again(&[
     Again("repair", b"", None, 7),
     Again("get a", b"", Some(b"abc"), 0),
     Again("list", b"", Some(b"a 3\n"), 0),
+    Again("upgrade", b"", Some(b"upgraded\n"), 24),
+    Again("put b 2", b"other", Some(b"stored b 5\n"), 0),
+    Again("get b", b"", Some(b"other"), 0),
 ])];
 
 #[test]

@@ -24,3 +24,6 @@ pub const STORED: Deed = Deed::Done("put notes.txt", NOTES, b"stored notes.txt 1
 /// What the journal then has: behind the setup and the key, the records of the put.
 pub const NOTES_JOURNAL: &[u8] =
     b"HAILJRN1\x01\x01\x06\x03\x01\x01\x04\x08\0\0\0\x01\x02\x03\x04\x05\x06\x07\x08\x09\x0a\x0b\x0c\x0d\x0e\x0f\x10\x11\x12\x13\x14\x15\x16\x17\x18\x19\x1a\x1b\x1c\x1d\x1e\x1f\x01\x02\x01\0\0\0\0\0\0\0\x09notes.txt\x01\x03\x01\0\0\0\0\0\0\0\x64\0\0\0\0";
+
+/// The journal's second version is brought into effect.
+pub const UPGRADED: Deed = Deed::Done("upgrade", b"", b"upgraded\n");

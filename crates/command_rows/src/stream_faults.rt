@@ -39,6 +39,8 @@ const SINKS: &[Rows] = &[Rows::Deeds(&[
     OverSink("audit", b"abc", 0, 15, b""),
     OverSink("drop a", b"abc", 0, 15, b""),
     Refused("get a", b"", 3, 0),
+    OverSink("upgrade", b"abc", 0, 15, b""),
+    Refused("upgrade", b"", 24, 0),
 ])];
 
 #[test]
