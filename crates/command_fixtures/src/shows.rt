@@ -57,13 +57,7 @@ impl<P: Holder + Drop> Store<P> {
 
     /// Whether so many providers, the first ones, hold the blocks of an object and so many stripes, of so many
     /// symbols each, and the others none of it.
-    pub fn are_blocks(
-        &self,
-        providers: usize,
-        object: u64,
-        stripes: u32,
-        symbols: usize,
-    ) -> bool {
+    pub fn are_blocks(&self, providers: usize, object: u64, stripes: u32, symbols: usize) -> bool {
         for provider in 0..self.providers.len() {
             let held = if provider < providers { stripes } else { 0 };
             if !self.has_blocks(provider, object, held, symbols) {

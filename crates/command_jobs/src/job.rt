@@ -10,9 +10,13 @@ pub enum Job<'a> {
         profile: Option<u8>,
     },
     /// Get the file of a name.
-    Get { name: &'a [u8] },
+    Get {
+        name: &'a [u8],
+    },
     /// Drop the file of a name.
-    Drop { name: &'a [u8] },
+    Drop {
+        name: &'a [u8],
+    },
     /// Audit all files in effect.
     Audit,
     /// Rebuild the providers that the last audit flagged.

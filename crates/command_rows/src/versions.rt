@@ -180,17 +180,15 @@ fn files_of_before_an_upgrade_live_on(rt: HostRuntime) {
 }
 
 /// An upgrade runs alone, and what a put may name hangs on the version.
-const LINES: &[Rows] = &[
-    Rows::Deeds(&[
-        SIX,
-        Done(
-            "replay",
-            b"reopen\nbegin put a 6f6c64 0\nbegin put a 6f6c64 5\nbegin upgrade\nbegin get a\nbegin upgrade\nrun 1\nbegin upgrade\nbegin put a 6f6c64 0\nbegin upgrade\nrun 2\nbegin get a\nrun 3\nlist\n",
-            b"opened\nrefused OldVersion\nrefused BadProfile\njob 1\nrefused Busy\nrefused Busy\nupgraded\nrefused NewVersion\njob 2\nrefused Busy\nput\njob 3\ngot 6f6c64\nnames 1\na 3\n",
-        ),
-        Blocks(6, 1, 1, 6),
-    ]),
-];
+const LINES: &[Rows] = &[Rows::Deeds(&[
+    SIX,
+    Done(
+        "replay",
+        b"reopen\nbegin put a 6f6c64 0\nbegin put a 6f6c64 5\nbegin upgrade\nbegin get a\nbegin upgrade\nrun 1\nbegin upgrade\nbegin put a 6f6c64 0\nbegin upgrade\nrun 2\nbegin get a\nrun 3\nlist\n",
+        b"opened\nrefused OldVersion\nrefused BadProfile\njob 1\nrefused Busy\nrefused Busy\nupgraded\nrefused NewVersion\njob 2\nrefused Busy\nput\njob 3\ngot 6f6c64\nnames 1\na 3\n",
+    ),
+    Blocks(6, 1, 1, 6),
+])];
 
 #[test]
 fn an_upgrade_runs_alone(rt: HostRuntime) {
