@@ -21,7 +21,7 @@ use Rattle.machine_defs.proofs.JobLists.{number_of, same_value}
 use Rattle.state_laws.specs.Orders.{moves_before}
 use Rattle.state_laws.specs.Sound.{IsGatedDoubt, IsDoubtOf}
 use Rattle.state_laws.proofs.Given.{mover}
-use Rattle.state_laws.proofs.Records.{setup-more, version-first}
+use Rattle.state_laws.proofs.Records.{setup-more}
 use Rattle.journal_core.specs.Appends.{Appends, gate_of, body_of, moves_of}
 use Rattle.journal_core.specs.Moves.{IsClosed, IsAfterMoves, SameFrom}
 use Rattle.journal_core.proofs.BeyondLemmas.{goes_still}
@@ -45,7 +45,7 @@ use Rattle.vault.specs.Desks.{DeskStands, Comes, IsFlight, DeskMakesStep}
 use Rattle.vault_open.proofs.FirstVersion.{FirstStands, first-images}
 use Rattle.vault_core.proofs.Standing.{entry_machine}
 use Rattle.vault_core.proofs.Steps.{none_flies}
-use Rattle.vault.proofs.FirstVersion.{whole-core, grammar-core, end-core}
+use Rattle.vault.proofs.Unpacked.{unpacked-core, grammar-core, end-core, appended-brought}
 use Rattle.vault.proofs.MoveStep.{moves_on, moves_end, beyond_of, all_images, doubted_images, closed_after, subject_kept}
 use Rattle.vault.proofs.Ways.{setup_same, images_on, handed_same, entry_kept}
 
@@ -157,10 +157,10 @@ module _ (v : Desk) (w : State) (holds : Option Cells) (faults number : ℕ) (ps
         writing = entry_now;
         in_flight = λ a is. absurd (none_some a (sym alone ∙ is));
         appends = record {
-          records = grammar-core v.core w stands.core stands.first;
+          records = grammar-core v.core w stands.core stands.appended;
           entry = first.spelled;
-          gate = (let size = length-before_gate w.records (grammar-core v.core w stands.core stands.first) in
-              let end = end-core v.core w stands.core stands.first in let g = first.gate in
+          gate = (let size = length-before_gate w.records (grammar-core v.core w stands.core stands.appended) in
+              let end = end-core v.core w stands.core stands.appended in let g = first.gate in
               omega (arith, size, end, g));
           body = first.body;
           disk = subst (λ (n : ℕ). IfSome holds (IsAfterMoves n (before_gate w.records) (body_of f.append)))
@@ -292,7 +292,7 @@ module _ (v : Desk) (w : State) (holds holds' : Option Cells) (faults faults' mo
       core jobs keeps stopped tt
       (record {
         setup = setup_same w new refl;
-        first = stands.first;
+        appended = stands.appended;
         handed = handed_same ps w new stands.devices.providers refl (λ j. refl);
         faults = refl;
         images = all_images holds' new (up.before (let k = m.moves in omega (arith, k)));
@@ -312,7 +312,7 @@ module _ (v : Desk) (w : State) (holds holds' : Option Cells) (faults faults' mo
       core jobs keeps stopped tt
       (record {
         setup = setup_same w new refl;
-        first = stands.first;
+        appended = stands.appended;
         handed = handed_same ps w new stands.devices.providers refl (λ j. refl);
         faults = refl;
         images = all_images holds' new (up.before (let k = m.moves in omega (arith, k)));
@@ -332,7 +332,7 @@ module _ (v : Desk) (w : State) (holds holds' : Option Cells) (faults faults' mo
       core jobs keeps stopped tt
       (record {
         setup = setup_same w new refl;
-        first = stands.first;
+        appended = stands.appended;
         handed = handed_same ps w new stands.devices.providers refl (λ j. refl);
         faults = refl;
         images = doubted_images holds' new a.0.entry _ refl refl up.between;
@@ -355,7 +355,7 @@ module _ (v : Desk) (w : State) (holds holds' : Option Cells) (faults faults' mo
       core jobs keeps stopped tt
       (record {
         setup = setup_same w new refl;
-        first = stands.first;
+        appended = stands.appended;
         handed = handed_same ps w new stands.devices.providers refl (λ j. refl);
         faults = refl;
         images = doubted_images holds' new a.0.entry doubt.0 doubt.1 doubt.2 up.between;
@@ -399,7 +399,7 @@ module _ (v : Desk) (w : State) (holds holds' : Option Cells) (faults faults' mo
       refl jobs
       (record {
         setup = setup_same w new refl;
-        first = stands.first;
+        appended = stands.appended;
         handed = handed_same ps w new stands.devices.providers refl (λ j. refl);
         faults = refl;
         images = all_images holds' new (on.before (let k = m.moves in omega (arith, k)));
@@ -424,7 +424,7 @@ module _ (v : Desk) (w : State) (holds holds' : Option Cells) (faults faults' mo
       refl jobs
       (record {
         setup = setup_same w new refl;
-        first = stands.first;
+        appended = stands.appended;
         handed = handed_same ps w new stands.devices.providers refl (λ j. refl);
         faults = refl;
         images = all_images holds' new (on.before (let k = m.moves in omega (arith, k)));
@@ -449,7 +449,7 @@ module _ (v : Desk) (w : State) (holds holds' : Option Cells) (faults faults' mo
       refl jobs
       (record {
         setup = setup_same w new refl;
-        first = stands.first;
+        appended = stands.appended;
         handed = handed_same ps w new stands.devices.providers refl (λ j. refl);
         faults = refl;
         images = doubted_images holds' new a.0.entry _ refl refl on.between;
@@ -497,7 +497,7 @@ module _ (v : Desk) (w : State) (holds holds' : Option Cells) (faults faults' mo
       (record {
         setup = setup_kept w new a.0 (stands.core.sound.set_up stands.core.is_open)
             (stands.core.sound.append a.0 a.1).follows.accepted refl;
-        first = version-first (a.0.entry ∷ w.records) (λ i. a.4.entry i && a.4.records i);
+        appended = appended-brought a.0.entry w.journal a.4.entry stands.appended;
         handed = handed_same ps w new stands.devices.providers refl (λ j. refl);
         faults = refl;
         images = all_images holds' new done.after;
@@ -543,12 +543,12 @@ module _ (v : Desk) (w : State) (holds holds' : Option Cells) (faults faults' mo
       core jobs keeps stopped tt
       (record {
         setup = setup_same w new refl;
-        first = stands.first;
+        appended = stands.appended;
         handed = handed_same ps w new stands.devices.providers refl (λ j. refl);
         faults = refl;
         images = subst (λ (t : Option Cells). FirstStands t new) (sym made.1)
             (images_on holds w new refl refl
-            (first-images holds w (whole-core v.core w stands.core stands.first) stands.devices.images));
+            (first-images holds w (unpacked-core v.core w stands.core stands.appended) stands.devices.images));
         flight = λ free. subst (λ (x : Option Flight). IsFlight x w.append w.records holds') (sym flight)
             (subst (λ (o : Option Append). IsFlight None o w.records holds') (sym none)
             (subst (λ (t : Option Cells). IfSome t (IsClosed (before_gate w.records))) (sym made.1)
@@ -568,12 +568,12 @@ module _ (v : Desk) (w : State) (holds holds' : Option Cells) (faults faults' mo
       core jobs keeps stopped tt
       (record {
         setup = setup_same w new refl;
-        first = stands.first;
+        appended = stands.appended;
         handed = handed_same ps w new stands.devices.providers refl (λ j. refl);
         faults = refl;
         images = subst (λ (t : Option Cells). FirstStands t new) (sym made.1)
             (images_on holds w new refl refl
-            (first-images holds w (whole-core v.core w stands.core stands.first) stands.devices.images));
+            (first-images holds w (unpacked-core v.core w stands.core stands.appended) stands.devices.images));
         flight = λ free. subst (λ (x : Option Flight). IsFlight x None w.records holds') (sym flight)
             (subst (λ (t : Option Cells). IfSome t (IsClosed (before_gate w.records))) (sym made.1)
             (closed_after holds (before_gate w.records) (body_of f.append)

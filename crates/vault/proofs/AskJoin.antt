@@ -1,18 +1,14 @@
 -- What a core and a vault tell of an ask, and the ask as a step of the machine.
 use Rattle.std.proofs.Common.{◌≡◌, ℕ, zero, suc, ◌+◌, ◌-◌, ◌*◌, ◌/◌, ◌<◌, ◌≤◌, ◌^◌, ◌==◌, ◌&&◌, Bool, true, false, cond, List, [], ◌∷◌, ◌++◌, length, take, drop, map, Option, Some, None, refl, sym, ap, subst, ◌∙◌, inl, inr, arith}
 use Rattle.std.specs.Prelude.{slice_get, slice_set, nat_lt}
-use Rattle.std.specs.List.{list_all, Contains, position_from, AllZip}
-use Rattle.std.specs.Option.{option_map}
+use Rattle.std.specs.List.{list_all, Contains}
 use Rattle.std.proofs.Math.Nat.{mul-le-mul_right}
 use Rattle.std.proofs.lemmas.Bool.{cases_Bool, cases_eq, eq-eqb, ne_eqb, eqb-true, and_parts, false≢true, lt-ltb}
 use Rattle.std.proofs.lemmas.List.{append-nil}
 use Rattle.std.proofs.lemmas.List.Sums.{sum_by-cons}
-use Rattle.std.proofs.lemmas.Iterator.Adapters.{position_from-zero}
-use Rattle.std.proofs.Common.{zero-add}
 use Rattle.algebra_laws.specs.Lists.{Each}
 use Rattle.algebra_laws.proofs.Each.{each_middle}
-use Rattle.code_points.specs.Profile.{plain_profile}
-use Rattle.code_defs.specs.Profiles.{Profile as PlainProfile, profile_of}
+use Rattle.code_defs.specs.Profiles.{profile_of}
 use Rattle.column_defs.specs.Challenges.{challenge_of, honest_answer}
 use Rattle.column_defs.specs.Objects.{stripes}
 use Rattle.device_defs.specs.Cells.{Cells}
@@ -32,7 +28,7 @@ use Rattle.record_codec.specs.Entries.{counted}
 use Rattle.hail_field.specs.declared.shape.Shape.{Shape as ShapeValue}
 use Rattle.state_laws.proofs.Orders.{next-left, get-drop}
 use Rattle.state_laws.proofs.Written.{setup-rounds, setup-valid}
-use Rattle.state_laws.specs.SoundJobs.{IsPlainJob, IsSoundJob}
+use Rattle.state_laws.specs.SoundJobs.{IsSoundJob}
 use Rattle.state_laws.specs.Orders.{moves_made}
 use Rattle.record_codec.specs.Entries.{IsPadded}
 use Rattle.record_codec.specs.declared.counts.Counts.{Counts}
@@ -51,7 +47,7 @@ use Rattle.vault.specs.declared.tasks.Task.{Task}
 use Rattle.vault.specs.declared.tasks.Task.TheVariants as task
 use Rattle.vault.specs.declared.turn.Turn.TheVariants as turn
 use Rattle.vault.specs.declared.desk.Desk.{Desk}
-use Rattle.vault.specs.Asking.{length_among, length_at, length_in, length_found, IsAuditNumber, IsQuestion, challenge_put, sums_on, TakesAsk, HasJudged, CanAsk, Asked, MayAsk, TellsAsk, MayTell, MayPut, vault_object}
+use Rattle.vault.specs.Asking.{pin_of_job, pin_in, profile_or, IsAuditNumber, IsQuestion, challenge_put, sums_on, TakesAsk, HasJudged, CanAsk, Asked, MayAsk, TellsAsk, MayTell, MayPut, vault_object}
 use Rattle.opening_defs.specs.Opened.{AreHanded}
 use Rattle.vault_open.specs.Devices.{devices}
 use Rattle.vault.specs.Orders.{is_ask}
@@ -60,79 +56,14 @@ use Rattle.vault.specs.Running.{place_in, KeepsAll, IsFed}
 use Rattle.vault.specs.Desks.{DeskStands, Comes, DeskMakesStep}
 use Rattle.vault.specs.Tasks.{IsTask, IsRunning, AreRunning, IsAudit, empty_sums}
 use Rattle.vault_core.proofs.Onward.{asks_ask}
-use Rattle.vault.proofs.FirstVersion.{plain-core, profile-among}
 use Rattle.vault.proofs.Allowed.{IsAllowed, next_allowed}
 use Rattle.vault.proofs.Asks.{Rising, IsRound, rounds_rise, each_round, each_both, sizes_found, contains_each, few_rounds, enough_answers, sums_within, as_files, behind_last}
 use Rattle.vault.proofs.AskStep.{IsNext, IsPut, next_round, audit_kept, audit_judged, zero_all}
 use Rattle.vault.proofs.Fetched.{after}
 use Rattle.vault.proofs.Limits.{setup-picks}
-use Rattle.vault.proofs.JobPlaces.{place_is, put_back, one_further, from_zero}
+use Rattle.vault.proofs.Pins.{pin_by_id, among_is, pins_found, profile_found, core_job}
+use Rattle.vault.proofs.JobPlaces.{place_is, put_back}
 use Rattle.vault.proofs.Ways.{happens_by, setup_same, actions_same, handed_on, stands_on, entry_kept, same_beyond, at_place, working}
-
--- ---- the length of a file among those of a job
-
--- the place of a number, by recursion
-abbrev at_id : List PinnedValue → ℕ → Option ℕ
-at_id [] k = None
-at_id (f ∷ fs) k = cond (f.id == k) (Some 0) (option_map suc (at_id fs k))
-
-from_is : (fs : List PinnedValue) (k i : ℕ) → position_from (λ (f : PinnedValue). f.id == k) i fs
-    ≡ option_map (λ p. p + i) (at_id fs k)
-from_is [] k i = refl
-from_is (f ∷ fs) k i =
-    elim (f.id == k) as (λ b. cond b (Some i) (position_from (λ (x : PinnedValue). x.id == k) (i + 1) fs)
-    ≡ option_map (λ p. p + i) (cond b (Some 0) (option_map suc (at_id fs k)))) [
-      | true ↦ ap Some (sym (zero-add i))
-      | false ↦ from_is fs k (i + 1) ∙ one_further i (at_id fs k)
-    ]
-
--- the length of the file of a number, by recursion
-abbrev size_at : List PinnedValue → ℕ → Option ℕ
-size_at [] k = None
-size_at (f ∷ fs) k = cond (f.id == k) (Some f.length) (size_at fs k)
-
-behind_one : (f : PinnedValue) (fs : List PinnedValue) (o : Option ℕ) →
-    length_at (f ∷ fs) (option_map suc o) ≡ length_at fs o
-behind_one f fs None = refl
-behind_one f fs (Some q) = refl
-
-at_is : (fs : List PinnedValue) (k : ℕ) → length_at fs (at_id fs k) ≡ size_at fs k
-at_is [] k = refl
-at_is (f ∷ fs) k = elim (f.id == k) as
-    (λ b. length_at (f ∷ fs) (cond b (Some 0) (option_map suc (at_id fs k)))
-    ≡ cond b (Some f.length) (size_at fs k)) [
-      | true ↦ refl
-      | false ↦ behind_one f fs (at_id fs k) ∙ at_is fs k
-    ]
-
-among_is : (fs : List PinnedValue) (k : ℕ) → length_among fs k ≡ size_at fs k
-among_is fs k = ap (length_at fs) (position_from-zero (λ (f : PinnedValue). f.id == k) fs ∙ from_is fs k 0
-    ∙ from_zero (at_id fs k)) ∙ at_is fs k
-
-abbrev HasSize : List Pinned → Pinned → Type 0
-HasSize fs f = size_at (map pin_of fs) f.id ≡ Some (pinned_size fs f.id)
-
-size_further : (g : Pinned) (fs : List Pinned) (f : Pinned) → HasSize fs f → HasSize (g ∷ fs) f
-size_further g fs f is =
-    elim (g.id == f.id) as
-    (λ b. cond b (Some (length g.bytes)) (size_at (map pin_of fs) f.id)
-    ≡ Some (cond b (length g.bytes) (pinned_size fs f.id))) [
-      | true ↦ refl
-      | false ↦ is
-    ]
-
-size_first : (g : Pinned) (fs : List Pinned) → HasSize (g ∷ fs) g
-size_first g fs =
-    cond_true (g.id == g.id) (Some (length g.bytes)) (size_at (map pin_of fs) g.id) (eq-eqb g.id g.id refl)
-    ∙ ap Some (sym (cond_true (g.id == g.id) (length g.bytes) (pinned_size fs g.id) (eq-eqb g.id g.id refl)))
-
-have_sizes : (fs : List Pinned) → Each (HasSize fs) fs
-have_sizes [] = tt
-have_sizes (g ∷ fs) = (
-  size_first g fs,
-  each_both (HasSize fs) (HasSize fs) (HasSize (g ∷ fs)) fs
-      (λ f a b. size_further g fs f a) (have_sizes fs) (have_sizes fs),
-)
 
 -- ---- numbers
 
@@ -159,29 +90,6 @@ all_small limit m l zero (x ∷ xs) each zeros =
 all_small limit m l (suc n) (x ∷ xs) each zeros =
     let small : x < limit = omega (arith, each.0, l) in
     λ i. lt-ltb x limit small i && all_small limit m l n xs each.1 zeros i
-
--- ---- the job of a core
-
-core_job : (s : Setup) (cs : List CoreJob) (js : List Job) (k : ℕ) (j : Job) → AllZip (IsJobOf s) cs js →
-    job_of js k ≡ Some j → (c : CoreJob) × (job_in cs k ≡ Some c) × IsJobOf s c j
-core_job s [] [] k j are runs = (let e : None ≡ Some j = runs in cc)
-core_job s [] (x ∷ js) k j are runs = absurd are
-core_job s (c ∷ cs) [] k j are runs = absurd are
-core_job s (c ∷ cs) (x ∷ js) k j are runs = elim (cases_Bool (x.number == k)) [
-  | inl t ↦ (
-      let same : x ≡ j = same_value _ x j (cond_true (x.number == k) (Some x) (job_of js k) t) runs in (
-        c,
-        cond_true (c.number == k) (Some c) (job_in cs k) (ap (λ (n : ℕ). n == k) are.0.number ∙ t),
-        subst (λ (y : Job). IsJobOf s c y) same are.0,
-      ))
-  | inr f ↦ (
-      let r = core_job s cs js k j are.1 (sym (cond_false (x.number == k) (Some x) (job_of js k) f) ∙ runs) in (
-        r.0,
-        cond_false (c.number == k) (Some c) (job_in cs k) (ap (λ (n : ℕ). n == k) are.0.number ∙ f)
-            ∙ r.1,
-        r.2,
-      ))
-]
 
 -- ---- an ask of an audit
 
@@ -250,19 +158,19 @@ audit_of s job tail k o r allowed task.Drop is =
 audit_of s job tail k o r allowed (task.Audit t) is = (t, refl, is)
 audit_of s job tail k o r allowed (task.Repair t) is =
     absurd (subst (λ (x : Kind). IsAllowed s.n x (Ask k o r)) is.kind allowed)
+audit_of s job tail k o r allowed task.Upgrade is =
+    absurd (subst (λ (x : Kind). IsAllowed s.n x (Ask k o r)) is allowed)
 
 -- what is known of a job whose next action is an ask
 record IsAsking (v : Desk) (w : State) (number k o r : ℕ) : Type 0 where
   next : ComesNext w number (Ask k o r) None
   left_is : actions_left (setup_in w) next.job ≡ Ask k o r ∷ after w next.job
   sound_job : IsSoundJob (setup_in w) w.records w.bytes (moves_made w.append number) next.job
-  plain : IsPlainJob (setup_in w) next.job
   in_core : (c : CoreJob) × (job_in v.core.jobs number ≡ Some c) × IsJobOf v.core.setup c next.job
   setup_is : v.core.setup ≡ setup_in w
   n_is : v.shape.n ≡ (setup_in w).n
   l_is : v.shape.l ≡ (setup_in w).l
   b_is : v.shape.b ≡ (setup_in w).b
-  profile_is : plain_profile v.profile ≡ profile_of (setup_in w).profile
   picks_are : v.setup.picks ≡ (setup_in w).picks
   picks_fit : (1 ≤ (setup_in w).picks) × ((setup_in w).picks ≤ 64)
   master_is : v.master.0 ≡ (setup_in w).master
@@ -278,13 +186,11 @@ asking v w holds faults number k o r ps stands comes =
       next = next;
       left_is = next-left w next.job (Ask k o r) next.comes (λ e. absurd (let f : ⊥ = cc in f));
       sound_job = sound_job;
-      plain = plain-core v.core w number next.job stands.core stands.first next.runs;
       in_core = core_job v.core.setup v.core.jobs w.jobs number next.job stands.core.jobs next.runs;
       setup_is = stands.core.setup;
       n_is = stands.shaped.n ∙ sym (ap (λ (s : Setup). s.n) stands.setup);
       l_is = stands.shaped.l ∙ sym (ap (λ (s : Setup). s.l) stands.setup);
       b_is = stands.shaped.b ∙ sym (ap (λ (s : Setup). s.b) stands.setup);
-      profile_is = stands.shaped.profile ∙ ap profile_of (sym (ap (λ (s : Setup). s.profile) stands.setup));
       picks_are = sym (ap (λ (s : Setup). s.picks) stands.setup);
       picks_fit = setup-picks (setup_in w) (setup-valid 8 w stands.core.sound stands.core.is_open);
       master_is = sym (ap (λ (s : Setup). s.master) stands.setup);
@@ -312,37 +218,41 @@ module _ (v : Desk) (w : State) (number k o r : ℕ) (it : IsAsking v w number k
   size_is = (of_file (λ (f : Pinned). pinned_size it.next.job.pinned f.id ≡ length f.bytes)
       (sizes_found 0 it.next.job.pinned it.sound_job.ascending)).file
 
-  file_plain : nx.x.file.profile ≡ (setup_in w).profile
-  file_plain = it.plain.pinned nx.x.file
-      (of_file (Contains it.next.job.pinned) (contains_each it.next.job.pinned)).file
+  found : pin_by_id (map pin_of it.next.job.pinned) nx.x.file.id ≡ Some (pin_of nx.x.file)
+  found = (of_file (λ (f : Pinned). pin_by_id (map pin_of it.next.job.pinned) f.id ≡ Some (pin_of f))
+      (pins_found 0 it.next.job.pinned it.sound_job.ascending)).file
 
-  told_size : length_in v.core number o ≡ Some (length nx.x.file.bytes)
-  told_size =
-      ap (λ (j : Option CoreJob). length_found j o) it.in_core.1
+  told_file : pin_in v.core number o ≡ Some (pin_of nx.x.file)
+  told_file =
+      ap (λ (j : Option CoreJob). pin_of_job j o) it.in_core.1
       ∙ among_is it.in_core.0.plan.pins o
-      ∙ (λ i. size_at (it.in_core.2.plan i).pins (nx.id_is i))
-      ∙ (of_file (HasSize it.next.job.pinned) (have_sizes it.next.job.pinned)).file
-      ∙ ap Some size_is
+      ∙ (λ i. pin_by_id (it.in_core.2.plan i).pins (nx.id_is i))
+      ∙ found
+
+  -- its profile is the one under which the machine asks
+  profile_asked : nx.x.file.profile ≡ pinned_profile (setup_in w).profile it.next.job.pinned o
+  profile_asked =
+      ap (profile_or (setup_in w).profile) (sym found)
+      ∙ profile_found (setup_in w).profile it.next.job.pinned nx.x.file.id
+      ∙ ap (pinned_profile (setup_in w).profile it.next.job.pinned) (sym nx.id_is)
 
   may_put : MayPut v number o
   may_put = record {
     some_picks = subst (λ (picks : ℕ). 1 ≤ picks) (sym it.picks_are) it.picks_fit.0;
     few_picks = subst (λ (picks : ℕ). picks ≤ 64) (sym it.picks_are) it.picks_fit.1;
-    size = length nx.x.file.bytes;
-    length_is = told_size;
+    file = pin_of nx.x.file;
+    found = told_file;
     few = (it.sound_job.pinned nx.x.file
         (of_file (Contains it.next.job.pinned) (contains_each it.next.job.pinned)).file).size;
     rows =
-        (let rows : stripes (vault_object v o) (length nx.x.file.bytes)
+        (let rows : stripes (vault_object v nx.x.file.profile o) (length nx.x.file.bytes)
         ≡ stripes_of (profiled (setup_in w) nx.x.file.profile) (length nx.x.file.bytes) =
-        (λ i. (length nx.x.file.bytes + (16 * (it.l_is
-        i * ((it.profile_is ∙ ap profile_of (sym file_plain)) i).keep) - 1)) / (16 * (it.l_is
-        i * ((it.profile_is ∙ ap profile_of (sym file_plain)) i).keep))) in
+        (λ i. (length nx.x.file.bytes + (16 * (it.l_is i * (profile_of nx.x.file.profile).keep) - 1))
+        / (16 * (it.l_is i * (profile_of nx.x.file.profile).keep))) in
         let some = (of_file (Contains it.next.job.pinned) (contains_each it.next.job.pinned)).rows in
-        let size = ap (λ (p : PlainProfile). p.size) it.profile_is in
-        let least = profile_some (setup_in w).profile in
-        times_some (stripes (vault_object v o) (length nx.x.file.bytes)) v.profile.size
-        (subst (λ (m : ℕ). 1 ≤ m) (sym rows) some) (subst (λ (m : ℕ). 1 ≤ m) (sym size) least));
+        times_some (stripes (vault_object v nx.x.file.profile o) (length nx.x.file.bytes))
+        (profile_of nx.x.file.profile).size
+        (subst (λ (m : ℕ). 1 ≤ m) (sym rows) some) (profile_some nx.x.file.profile));
   }
 
   -- there is room, and the counters are small
@@ -373,8 +283,11 @@ module _ (v : Desk) (w : State) (number k o r : ℕ) (it : IsAsking v w number k
       }
 
   module _ (q : Question) (put : IsQuestion v number o r q) where
+    q_file : put.file ≡ pin_of nx.x.file
+    q_file = same_value _ put.file (pin_of nx.x.file) put.found told_file
+
     q_length : q.file.length ≡ length nx.x.file.bytes
-    q_length = same_value _ q.file.length (length nx.x.file.bytes) put.length_is told_size
+    q_length = put.length_is ∙ ap (λ (f : PinnedValue). f.length) q_file
 
     q_number : q.number ≡ it.next.job.subject
     q_number = subst (λ (j : Option CoreJob). IsAuditNumber j q.number) it.in_core.1 put.number_is
@@ -391,7 +304,7 @@ module _ (v : Desk) (w : State) (number k o r : ℕ) (it : IsAsking v w number k
         l = (ap (λ (x : ShapeValue). x.l) put.shape_is ∙ it.l_is) i;
         b = (ap (λ (x : ShapeValue). x.b) put.shape_is ∙ it.b_is) i;
       };
-      profile = (ap plain_profile put.profile_is ∙ it.profile_is ∙ ap profile_of (sym file_plain)) i;
+      profile = (put.profile_is ∙ ap (λ (f : PinnedValue). profile_of f.profile) q_file) i;
       master = (setup_in w).master;
       id = (put.id_is ∙ nx.id_is) i;
     }
@@ -546,6 +459,7 @@ module _ (v : Desk) (w : State) (holds : Option Cells) (faults moment number k o
       by_task t is (task.Get u) takes = absurd takes
       by_task t is task.Drop takes = absurd takes
       by_task t is (task.Repair u) takes = absurd takes
+      by_task t is task.Upgrade takes = absurd takes
 
   -- a last ask has a verdict
   pub tell_there : (y : Task) (symbol : Option ℕ) → Asked v.master.0 q k x.task y symbol
@@ -624,8 +538,7 @@ module _ (v : Desk) (w : State) (holds : Option Cells) (faults moment number k o
       let seen : p ≡ w.providers k = same_value _ p (w.providers k) p_is
       (stands.devices.providers.each k (is_handed_in)) in
       let profile : (round.x).file.profile ≡ pinned_profile (setup_in w).profile job.pinned o =
-      file_plain v w number k o r it a.0 a.2
-      ∙ sym (profile-among (setup_in w).profile job.pinned o it.plain.pinned) in
+      profile_asked v w number k o r it a.0 a.2 in
       let challenge : challenge_put v.master.0 q ≡ asked_challenge (setup_in w) job o r =
       ap (λ (m : List ℕ). challenge_put m q) it.master_is ∙ asked_is.challenge
       ∙ (λ i. challenge_in (profiled (setup_in w) (profile i)) job ((sym round.id_is) i)
@@ -658,7 +571,14 @@ module _ (v : Desk) (w : State) (holds : Option Cells) (faults moment number k o
         state = new;
         happens = happens;
         stands = stands_on v v' w new holds faults ps ps' stands
-            (record { records = refl; doubt = refl; append = refl; faults = refl; barred = refl })
+            (record {
+  records = refl;
+  journal = refl;
+  doubt = refl;
+  append = refl;
+  faults = refl;
+  barred = refl;
+})
             (subst (λ (l : List Provider). AreHanded l new) (sym ps_is)
             (handed_on ps w new k p' stands.devices.providers is_handed_in refl (λ j. refl)))
             core keeps flight are;

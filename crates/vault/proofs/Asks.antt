@@ -230,7 +230,8 @@ module _ (s : Setup) where
       let e : (1 + length fs) * s.rounds ≡ s.rounds + length fs * s.rounds = grind arith in
       omega (arith, a, b, c, d, e)
 
-above : (b low : ℕ) (fs : List Pinned) → b ≤ low → AreAscending low fs → Each (λ (f : Pinned). b ≤ f.id) fs
+-- each number of an ascending list is at least the lowest
+pub above : (b low : ℕ) (fs : List Pinned) → b ≤ low → AreAscending low fs → Each (λ (f : Pinned). b ≤ f.id) fs
 above b low [] le h = tt
 above b low (f ∷ fs) le h = (omega (arith, le, h.0), above b (f.id + 1) fs (omega (arith, le, h.0)) h.1)
 

@@ -7,26 +7,18 @@ use Rattle.std.proofs.Math.Nat.{ℕ_set}
 use Rattle.std.proofs.lemmas.Option.{slice_get-get_or}
 use Rattle.device_defs.specs.Providers.{Provider}
 use Rattle.record_defs.specs.Records.{Setup}
-use Rattle.machine_defs.specs.Actions.{Action, Plan, actions_left}
-use Rattle.machine_defs.specs.Jobs.{Kind, Job, aim_of}
-use Rattle.machine_defs.specs.Sights.{is_upgrade}
+use Rattle.machine_defs.specs.Actions.{Action}
+use Rattle.machine_defs.specs.Jobs.{Kind}
 use Rattle.machine_defs.specs.States.{State, setup_in}
 use Rattle.state_laws.specs.Sound.{IsSound}
 use Rattle.state_laws.proofs.Packs.{journal-same}
 use Rattle.vault_core.specs.declared.wish.BeginFault.{BeginFault}
-use Rattle.vault_core.specs.declared.pinned.Pinned.{Pinned}
-use Rattle.vault_core.specs.Coming.{is_upgrade_of}
-use Rattle.vault_core.specs.View.{CoreJob, job_in}
-use Rattle.vault_core.proofs.Pairs.{pair_some}
 use Rattle.vault_open.specs.Devices.{Devices, devices}
-use Rattle.vault.specs.declared.tasks.Running.{Running}
-use Rattle.vault.specs.declared.tasks.Task.{Task}
-use Rattle.vault.specs.declared.tasks.Task.TheVariants as task
 use Rattle.vault.specs.declared.desk.Desk.{Desk}
 use Rattle.vault.specs.Desks.{DeskStands, IsAtWork, DeskMakesBegin, Comes}
 use Rattle.vault.specs.Running.{place_in}
-use Rattle.vault.specs.Tasks.{IsTask, IsRunning, AreRunning}
-use Rattle.vault.proofs.JobPlaces.{place_is, found}
+use Rattle.vault.specs.Tasks.{AreRunning}
+use Rattle.vault.proofs.JobPlaces.{place_is}
 use Rattle.vault.proofs.Ways.{setup_same, working}
 
 -- ---- from one state that a desk stands for
@@ -43,11 +35,11 @@ pub works : (v : Desk) (w : State) (faults : ℕ) (ps : List Provider)
 works v w faults ps stands = ∣ (w, faults, ps, stands) ∣₁
 
 -- and so is one that a begin left
-pub begun_works : (old new : Desk) (kind : Kind) (result : Result ℕ BeginFault)
+pub begun_works : (old new : Desk) (kind : Kind) (own : Option ℕ) (result : Result ℕ BeginFault)
     → ((w : State) (d : Devices) (moment : ℕ) → DeskStands old d w
-    → DeskMakesBegin w moment kind result new d)
+    → DeskMakesBegin w moment kind own result new d)
     → IsAtWork old → IsAtWork new
-begun_works old new kind result makes at =
+begun_works old new kind own result makes at =
     ∥∥₁_map at (λ x. (let m = makes x.0 (devices None x.1 x.2) 0 x.3 in (m.state, x.1, x.2, m.stands)))
 
 -- a job whose action comes next has its place
@@ -63,37 +55,6 @@ pub providers_fit : (v : Desk) → IsAtWork v → v.core.setup.n ≡ v.setup.n
 providers_fit v =
     by_work (ℕ_set _ _) v (λ w faults ps stands.
     ap (λ (s : Setup). s.n) (stands.core.setup ∙ stands.setup))
-
--- the journal has its first version
-pub first_at_work : (v : Desk) → IsAtWork v → v.core.table.version ≡ 1
-first_at_work v =
-    by_work (ℕ_set _ _) v (λ w faults ps stands. stands.core.table.version ∙ stands.first)
-
--- no job that a vault runs is an upgrade
-no_upgrade : (s : Setup) (r : Running) (job : Job) → IsRunning s r job → is_upgrade (aim_of job.kind) ≡ false
-no_upgrade s r job is = by r.task is.task
-  where
-    by : (t : Task) → IsTask s job (actions_left s job) t → is_upgrade (aim_of job.kind) ≡ false
-    by (task.Put t) h = ap (λ (k : Kind). is_upgrade (aim_of k)) h.kind
-    by (task.Get t) h = ap (λ (k : Kind). is_upgrade (aim_of k)) h.kind
-    by task.Drop h = ap (λ (k : Kind). is_upgrade (aim_of k)) h.kind
-    by (task.Audit t) h = ap (λ (k : Kind). is_upgrade (aim_of k)) h.kind
-    by (task.Repair t) h = ap (λ (k : Kind). is_upgrade (aim_of k)) h.kind
-
--- so the core of a desk at work runs none
-pub plain_at_work : (v : Desk) (number : ℕ) → IsAtWork v → is_upgrade_of (job_in v.core.jobs number) ≡ false
-plain_at_work v number =
-    by_work (Bool-set _ _) v (λ w faults ps stands. by w faults ps stands (job_in v.core.jobs number) refl)
-  where
-    by : (w : State) (faults : ℕ) (ps : List Provider) → DeskStands v (devices None faults ps) w →
-        (o : Option CoreJob) → job_in v.core.jobs number ≡ o →
-        is_upgrade_of (job_in v.core.jobs number) ≡ false
-    by w faults ps stands None e = ap is_upgrade_of e
-    by w faults ps stands (Some j) e =
-        (let p = pair_some v.core.setup v.core.jobs w.jobs number j stands.core.jobs e in
-        let f = found (setup_in w) v.jobs.items w.jobs number p.job stands.jobs p.runs in
-        ap is_upgrade_of e ∙ (ap (λ (plan : Plan Pinned). is_upgrade plan.aim) p.is.plan
-        ∙ no_upgrade (setup_in w) f.running p.job f.is))
 
 -- ---- over other devices
 
@@ -172,7 +133,7 @@ over_stands v w old faults older ps enough S =
         append = S.core.append;
         barred = S.core.barred;
       };
-      first = S.first;
+      appended = S.appended;
       setup = same ∙ S.setup;
       shaped = S.shaped;
       jobs = subst (λ (s : Setup). AreRunning s v.jobs.items w.jobs) (sym same) S.jobs;

@@ -1,9 +1,9 @@
 -- Begins, accepted and refused, and the states that a vault stands for after them.
-use Rattle.std.proofs.Common.{◌≡◌, inl, inr, ℕ, List, [], ◌∷◌, ◌++◌, Some, None, Result, Ok, Err, refl, ap, sym, ◌∙◌, subst}
+use Rattle.std.proofs.Common.{◌≡◌, inl, inr, ℕ, List, [], ◌∷◌, ◌++◌, Option, Some, None, Result, Ok, Err, refl, ap, sym, ◌∙◌, subst}
 use Rattle.std.specs.Prelude.{◌||◌, IsErr, IsErrOf, length, nat_le, not}
 use Rattle.record_defs.specs.Records.{Setup}
 use Rattle.machine_defs.specs.Actions.{actions_left}
-use Rattle.machine_defs.specs.Begins.{begin_refusal, new_job}
+use Rattle.machine_defs.specs.Begins.{refusal_of_begin, beginning}
 use Rattle.machine_defs.specs.Jobs.{Kind, aim_of, Job}
 use Rattle.machine_defs.specs.Refusals as refusal
 use Rattle.machine_defs.specs.Refusals.{Cause, first_refusal}
@@ -56,36 +56,44 @@ running-push s [] (k ∷ js) r j are is = absurd are
 running-push s (q ∷ rs) [] r j are is = absurd are
 running-push s (q ∷ rs) (k ∷ js) r j are is = (are.0, running-push s rs js r j are.1 is)
 
-module _ (old new : Desk) (d : Devices) (w : State) (moment : ℕ) (kind : Kind)
+module _ (old new : Desk) (d : Devices) (w : State) (moment : ℕ) (kind : Kind) (own : Option ℕ)
     (stands : DeskStands old d w) where
   -- a begin that is accepted
-  pub admitted : (number : ℕ) (task : Task) → CoreIs new.core (begun w moment kind None) →
-      begin_refusal 8 w kind ≡ None → number ≡ old.core.next_job
-      → IsTask (setup_in w) (new_job w moment kind) (actions_left (setup_in w) (new_job w moment kind)) task
+  pub admitted : (number : ℕ) (task : Task) → CoreIs new.core (begun w moment kind own) →
+      refusal_of_begin 8 w kind own ≡ None → number ≡ old.core.next_job
+      → IsTask (setup_in w) (beginning w moment kind own)
+      (actions_left (setup_in w) (beginning w moment kind own)) task
       → new.jobs.items ≡ old.jobs.items ++ record { number = number; task = task } ∷ [] → KeepsAll old new →
-      new.flight ≡ old.flight → DeskMakesBegin w moment kind (Ok number) new d
+      new.flight ≡ old.flight → DeskMakesBegin w moment kind own (Ok number) new d
   admitted number task core accepted number_is is jobs keeps flight =
       let next : number ≡ w.next_job = number_is ∙ stands.core.next_job in
       record {
-        state = begun w moment kind None;
+        state = begun w moment kind own;
         begins = (stands.core.is_open, accepted, next, refl);
-        stands = stands_on old new w (begun w moment kind None) d.holds d.faults d.providers
+        stands = stands_on old new w (begun w moment kind own) d.holds d.faults d.providers
             d.providers stands
-            (record { records = refl; doubt = refl; append = refl; faults = refl; barred = refl })
-            (handed_same d.providers w (begun w moment kind None) stands.devices.providers refl (λ j. refl))
+            (record {
+  records = refl;
+  journal = refl;
+  doubt = refl;
+  append = refl;
+  faults = refl;
+  barred = refl;
+})
+            (handed_same d.providers w (begun w moment kind own) stands.devices.providers refl (λ j. refl))
             core
             keeps flight
             (subst (λ (items : List Running). AreRunning (setup_in w) items
-            (w.jobs ++ new_job w moment kind ∷ [])) (sym jobs)
+            (w.jobs ++ beginning w moment kind own ∷ [])) (sym jobs)
             (running-push (setup_in w) old.jobs.items w.jobs _ _ stands.jobs
             (record { number = next; task = is })));
       }
 
   -- a begin that is refused, and leaves the vault as it was
-  pub turned_down : (why : BeginFault) → begin_refusal 8 w kind ≡ Some (refusal_of why) →
-      DeskMakesBegin w moment kind (Err why) old d
+  pub turned_down : (why : BeginFault) → refusal_of_begin 8 w kind own ≡ Some (refusal_of why) →
+      DeskMakesBegin w moment kind own (Err why) old d
   turned_down why is = record { state = w; begins = (stands.core.is_open, inl is, refl); stands = stands }
 
   -- a begin that found no memory leaves it so too
-  pub found_none : DeskMakesBegin w moment kind (Err fault.Memory) old d
+  pub found_none : DeskMakesBegin w moment kind own (Err fault.Memory) old d
   found_none = record { state = w; begins = (stands.core.is_open, inr refl, refl); stands = stands }

@@ -1,33 +1,48 @@
--- A bench for a file of a vault is one of the setup in effect.
-use Rattle.std.proofs.Common.{◌≡◌, ℕ, ap, sym, ◌∙◌}
+-- Benches of a vault are those of the setup in effect.
+use Rattle.std.proofs.Common.{◌≡◌, ℕ, zero, suc, List, [], ◌∷◌, ap, sym, refl, ◌∙◌, arith}
 use Rattle.hail_field.specs.declared.shape.Shape.{Shape}
 use Rattle.code_points.specs.Profile.{plain_profile}
-use Rattle.key_schedule.specs.declared.master.Master.{Master}
 use Rattle.code_defs.specs.Profiles.{profile_of}
+use Rattle.key_schedule.specs.declared.master.Master.{Master}
 use Rattle.record_defs.specs.Records.{Setup}
 use Rattle.record_codec.specs.Entries.{with_master}
-use Rattle.vault.specs.declared.bench.Bench.{Bench}
+use Rattle.stripe_bench.specs.declared.bench.Bench.{Bench}
+use Rattle.stripe_bench.specs.Bench.{IsBench}
+use Rattle.stripe_bench.proofs.BenchIs as stripe
 use Rattle.vault.specs.declared.desk.Desk.{Desk}
 use Rattle.vault.specs.Desks.{IsShaped}
-use Rattle.vault.specs.Tasks.{IsBench}
-use Rattle.vault.specs.Benches.{IsBenchFor}
+use Rattle.vault.specs.Tasks.{AreOfSetup}
+use Rattle.vault.specs.Benches.{IsOfDesk, IsBenchFor, AreOfDesk}
+
+module _ (v : Desk) (s : Setup) (shaped : IsShaped v) (setup : s ≡ with_master v.setup v.master.0) where
+  -- a bench of a desk's master key and shape, at a profile, is one of the setup in effect
+  pub of-setup : (profile : ℕ) (bench : Bench) → IsOfDesk v bench
+      → plain_profile bench.keys.file.profile ≡ profile_of profile → IsBench s profile bench
+  of-setup profile bench is coded =
+      stripe.bench-is s profile bench
+      (ap (λ (x : Shape). x.n) is.shape ∙ shaped.n ∙ sym (ap (λ (x : Setup). x.n) setup))
+      (ap (λ (x : Shape). x.l) is.shape ∙ shaped.l ∙ sym (ap (λ (x : Setup). x.l) setup))
+      (ap (λ (x : Shape). x.b) is.shape ∙ shaped.b ∙ sym (ap (λ (x : Setup). x.b) setup))
+      coded
+      (ap (λ (x : Master). x.0) is.master ∙ sym (ap (λ (x : Setup). x.master) setup))
+
+  -- benches of a desk are of the setup in effect, each at its own profile
+  pub all-of-setup : (benches : List Bench) → AreOfDesk v benches → AreOfSetup s benches
+  all-of-setup [] are = tt
+  all-of-setup (b ∷ bs) are = (
+    (b.keys.file.profile.number, of-setup b.keys.file.profile.number b are.0 (own b)),
+    all-of-setup bs are.1,
+  )
+    where
+      own : (b : Bench) → plain_profile b.keys.file.profile ≡ profile_of b.keys.file.profile.number
+      own b = (λ i. record {
+        size = b.keys.file.profile.size_is i;
+        keep = b.keys.file.profile.keep_is i;
+        fix = b.keys.file.profile.fix_is i;
+      })
 
 -- a bench for a file of a vault is one of the setup in effect
-pub bench-is : (v : Desk) (s : Setup) (id size : ℕ) (bench : Bench) → IsShaped v →
-    s ≡ with_master v.setup v.master.0 → IsBenchFor v id size bench → IsBench s bench
-bench-is v s id size bench shaped setup is =
-    let n : bench.keys.file.shape.n ≡ s.n = ap (λ (x : Shape). x.n) is.shape ∙ shaped.n
-    ∙ sym (ap (λ (x : Setup). x.n) setup) in
-    let l : bench.keys.file.shape.l ≡ s.l = ap (λ (x : Shape). x.l) is.shape ∙ shaped.l
-    ∙ sym (ap (λ (x : Setup). x.l) setup) in
-    let b : bench.keys.file.shape.b ≡ s.b = ap (λ (x : Shape). x.b) is.shape ∙ shaped.b
-    ∙ sym (ap (λ (x : Setup). x.b) setup) in
-    let profile = ap plain_profile is.profile ∙ shaped.profile
-    ∙ sym (ap (λ (x : Setup). profile_of x.profile) setup) in
-    let master = ap (λ (x : Master). x.0) is.master ∙ sym (ap (λ (x : Setup). x.master) setup) in
-    (λ i. record {
-      shape = record { n = n i; l = l i; b = b i };
-      profile = profile i;
-      master = master i;
-      id = bench.keys.file.id;
-    })
+pub bench-is : (v : Desk) (s : Setup) (id size profile : ℕ) (bench : Bench) → IsShaped v →
+    s ≡ with_master v.setup v.master.0 → IsBenchFor v id size profile bench → IsBench s profile bench
+bench-is v s id size profile bench shaped setup is =
+    of-setup v s shaped setup profile bench is.of_desk is.profile

@@ -7,7 +7,7 @@ use Rattle.machine_defs.specs.States as states
 use Rattle.vault.specs.declared.flight.Flight.{Flight}
 use Rattle.vault.specs.declared.desk.Desk.{Desk}
 use Rattle.vault_open.specs.Devices.{Devices}
-use Rattle.vault.proofs.FirstVersion.{end-core}
+use Rattle.vault.proofs.Unpacked.{end-core}
 use Rattle.vault.specs.Desks.{IsFlight, DeskStands, CarriesText, DeskCarries}
 
 carried_text : (f : Option Flight) (append : Option states.Append) (rs : List Record) (told : Option Cells) →
@@ -23,6 +23,6 @@ pub carried : (v : Desk) (d : Devices) (w : State) → DeskStands v d w → w.is
 carried v d w stands unbarred = (
   w.records,
   stands.core.table,
-  end-core v.core w stands.core stands.first,
+  end-core v.core w stands.core stands.appended,
   carried_text v.flight w.append w.records d.holds (stands.flight unbarred),
 )

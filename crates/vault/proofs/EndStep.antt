@@ -155,6 +155,8 @@ module _ (w : State) (job : Job) (next : next_action w job ≡ Some End) where
   ends c of subject undecided counts drawn sums (task.Repair t) is =
       subst (λ (k : Kind). Ends w job k (answers.Repaired subject)) (sym is.kind)
       (drawn_is c of subject drawn)
+  ends c of subject undecided counts drawn sums task.Upgrade is =
+      subst (λ (k : Kind). Ends w job k answers.Upgraded) (sym is) tt
 
 -- such an answer is that of a job that came to its end
 well : (number subject undecided : ℕ) (counts : Counts) (new : State) (t : Task) →
@@ -164,6 +166,7 @@ well number subject undecided counts new (task.Get t) = tt
 well number subject undecided counts new task.Drop = tt
 well number subject undecided counts new (task.Audit t) = tt
 well number subject undecided counts new (task.Repair t) = tt
+well number subject undecided counts new task.Upgrade = tt
 
 -- nor is it a fault of the disk
 no_fault : (t : Task) (subject undecided : ℕ) (counts : Counts) →
@@ -173,6 +176,7 @@ no_fault (task.Get t) subject undecided counts e = cc
 no_fault task.Drop subject undecided counts e = cc
 no_fault (task.Audit t) subject undecided counts e = cc
 no_fault (task.Repair t) subject undecided counts e = cc
+no_fault task.Upgrade subject undecided counts e = cc
 
 some_of : {X Y : Type 0} (f : X → Y) (o : Option X) (x : X) (y : Y) → o ≡ Some x → option_map f o ≡ Some y →
     f x ≡ y
@@ -207,7 +211,14 @@ module _ (v : Desk) (d : Devices) (w : State) (moment number : ℕ) (stands : De
             running.task,
         refl,
       )
-      (record { records = refl; doubt = refl; append = refl; faults = refl; barred = refl })
+      (record {
+  records = refl;
+  journal = refl;
+  doubt = refl;
+  append = refl;
+  faults = refl;
+  barred = refl;
+})
       (ap (without_job w.jobs) (number_of w.jobs number coming.job coming.runs))
       at there
       (record {
@@ -215,7 +226,7 @@ module _ (v : Desk) (d : Devices) (w : State) (moment number : ℕ) (stands : De
         jobs = set_same v.jobs.items place r there;
         number = refl;
         heard = refl;
-        keeps = record { setup = refl; master = refl; shape = refl; profile = refl };
+        keeps = record { setup = refl; master = refl; shape = refl };
       })
       refl stopped
       (well number subject undecided counts new r.task)

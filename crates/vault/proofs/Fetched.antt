@@ -1,6 +1,6 @@
 -- One fetch more of a get or a repair.
 use Rattle.std.proofs.Common.{◌≡◌, ℕ, ◌+◌, ◌*◌, ◌<◌, ◌≤◌, Bool, cond, List, [], ◌∷◌, ◌++◌, length, take, drop, Option, Some, refl, sym, ap, subst, ◌∙◌, arith, length-append, length-drop, append_assoc, zero-add}
-use Rattle.std.proofs.lemmas.List.{append-nil, take-append-le, drop-append-le, take_all}
+use Rattle.std.proofs.lemmas.List.{append-nil}
 use Rattle.std.proofs.Math.Nat.{mul-le-mul_left}
 use Rattle.std.proofs.lemmas.List.Sums.{sum_by-cons}
 use Rattle.column_codec.specs.PresentBlocks.{present_blocks}
@@ -8,11 +8,12 @@ use Rattle.column_codec.proofs.PresentLemmas.{length-present_blocks}
 use Rattle.record_defs.specs.Records.{Setup}
 use Rattle.machine_defs.specs.Actions.{Action, Fetch, actions_of, actions_left}
 use Rattle.machine_defs.specs.Jobs.{Kind, PutJob, GetJob, DropJob, AuditJob, RepairJob, UpgradeJob, Given, Fetched, Job, advanced_with}
+use Rattle.machine_defs.specs.Given.{pinned_profile}
 use Rattle.machine_defs.specs.Heard.{Entry}
 use Rattle.machine_defs.specs.States.{State, setup_in}
 use Rattle.machine_defs.specs.Steps.{next_action}
 use Rattle.state_laws.proofs.Orders.{next-left}
-use Rattle.vault.specs.declared.blocks.Blocks.{Blocks}
+use Rattle.stripe_bench.specs.declared.blocks.Blocks.{Blocks}
 use Rattle.vault.specs.declared.heard.Fetch.{Fetch as FetchValue}
 use Rattle.vault.specs.declared.heard.Fetches.{Fetches}
 use Rattle.vault.specs.declared.tasks.GetTask.{GetTask}
@@ -21,46 +22,19 @@ use Rattle.column_defs.specs.Objects.{stripe_symbols}
 use Rattle.vault.specs.declared.tasks.Running.{Running}
 use Rattle.vault.specs.declared.tasks.Task.{Task}
 use Rattle.vault.specs.declared.tasks.Task.TheVariants as task
-use Rattle.vault.specs.Blocks.{given_of, Grows}
+use Rattle.stripe_bench.specs.Blocks.{given_of, Grows}
 use Rattle.vault.specs.Fetching.{GrowsFetches, TakesFetch, HasRoomFor}
-use Rattle.vault.specs.Heard.{blocks_in, fetched_entries}
+use Rattle.stripe_bench.specs.Blocks.{blocks_in}
+use Rattle.vault.specs.Heard.{fetched_entries}
 use Rattle.vault.specs.Orders.{Phase, Between, Fetching, Opened, GoesOn, fetches_left, works_left, is_fetch, is_work}
-use Rattle.vault.specs.Tasks.{bench_object, fetched_gifts, HasFetched, IsInWork, IsGet, IsRepair, IsTask, IsRunning, fetched_in}
+use Rattle.stripe_bench.specs.Bench.{bench_object, IsBench}
+use Rattle.stripe_bench.specs.Gifts.{fetched_gifts}
+use Rattle.vault.specs.Tasks.{HasFetched, IsInWork, IsGet, IsRepair, IsTask, IsRunning, fetched_in}
+use Rattle.stripe_bench.proofs.Gifts.{present_more, gifts_more}
 use Rattle.vault.proofs.Allowed.{next_allowed}
 use Rattle.vault.proofs.Ways.{actions_same}
 
--- ---- lists of blocks
-
--- one block more at the end
-present_more : (size : ℕ) (flags : List Bool) (symbols block : List ℕ) (flag : Bool) →
-    length symbols ≡ length flags * size → length block ≡ size
-    → present_blocks size (flags ++ flag ∷ []) (symbols ++ block)
-    ≡ present_blocks size flags symbols ++ given_of flag block ∷ []
-present_more size [] [] block flag all one =
-    ap (λ (b : List ℕ). given_of flag b ∷ []) (take_all size block (omega (arith, one)))
-present_more size [] (x ∷ symbols) block flag all one = absurd (omega (arith, all))
-present_more size (f ∷ flags) symbols block flag all one =
-    let more : length symbols ≡ size + length flags * size = all ∙ (omega arith) in
-    let front : take size (symbols ++ block) ≡ take size symbols =
-    take-append-le size symbols block (omega (arith, more)) in
-    let behind : drop size (symbols ++ block) ≡ drop size symbols ++ block =
-    drop-append-le size symbols block (omega (arith, more)) in
-    let others : length (drop size symbols) ≡ length flags * size =
-    omega (arith, length-drop size symbols, more) in
-    (λ i. given_of f (front i) ∷ present_blocks size (flags ++ flag ∷ []) (behind i))
-    ∙ ap (λ (l : List (Option (List ℕ))). given_of f (take size symbols) ∷ l)
-    (present_more size flags (drop size symbols) block flag others one)
-
--- one gift more
-pub gifts_more : (o s c : ℕ) (blocks : List (Option (List ℕ))) (block : Option (List ℕ)) (older : List Given)
-    → fetched_gifts o s c (blocks ++ block ∷ []) older
-    ≡ Fetched (c + length blocks) o s block ∷ fetched_gifts o s c blocks older
-gifts_more o s c [] block older =
-    (let e : c ≡ c + 0 = omega arith in ap (λ (k : ℕ). Fetched k o s block ∷ older) e)
-gifts_more o s c (b ∷ blocks) block older =
-    gifts_more o s (c + 1) blocks block (Fetched c o s b ∷ older)
-    ∙ (let e : c + 1 + length blocks ≡ c + length (b ∷ blocks) = omega arith in
-    ap (λ (k : ℕ). Fetched k o s block ∷ fetched_gifts o s (c + 1) blocks (Fetched c o s b ∷ older)) e)
+-- ---- entries
 
 -- one entry more
 pub entries_more : (job : ℕ) (fetches : List FetchValue) (blocks : List (Option (List ℕ))) (f : FetchValue)
@@ -79,47 +53,34 @@ entries_more job (g ∷ fetches) (b ∷ blocks) f block same =
 
 -- ---- the stripe in work
 
+-- of a stripe whose first block is still to be fetched there is nothing
+pub none_fetched : (o s k : ℕ) (b : Blocks) (given : List Given) → k ≡ 0 → HasFetched o s k b given
+none_fetched o s k b given first = record {
+  flags_before = b.present.items;
+  flags = [];
+  symbols_before = b.symbols.items;
+  symbols = [];
+  older = given;
+  present_is = sym (append-nil b.present.items);
+  symbols_is = sym (append-nil b.symbols.items);
+  count = sym first;
+  size = (let e : 0 ≡ 0 * b.size = omega arith in e) ∙ ap (λ (m : ℕ). m * b.size) (sym first);
+  given_is = refl;
+}
+
 module _ (n k o s : ℕ) (tail : List Action) where
   -- what is fetched of the stripe before this fetch
   fetched_before : (phase : Phase) (b : Blocks) (rows : List ℕ) (given : List Given) →
       GoesOn n phase (Fetch k o s ∷ tail) → IsInWork phase b rows given → HasFetched o s k b given
-  fetched_before Between b rows given order work = none b given order.0
-    where
-      none : (b : Blocks) (given : List Given) → k ≡ 0 → HasFetched o s k b given
-      none b given first = record {
-        flags_before = b.present.items;
-        flags = [];
-        symbols_before = b.symbols.items;
-        symbols = [];
-        older = given;
-        present_is = sym (append-nil b.present.items);
-        symbols_is = sym (append-nil b.symbols.items);
-        count = sym first;
-        size = (let e : 0 ≡ 0 * b.size = omega arith in e) ∙ ap (λ (m : ℕ). m * b.size) (sym first);
-        given_is = refl;
-      }
-  fetched_before (Opened p t) b rows given order work = none b given order.0
-    where
-      none : (b : Blocks) (given : List Given) → k ≡ 0 → HasFetched o s k b given
-      none b given first = record {
-        flags_before = b.present.items;
-        flags = [];
-        symbols_before = b.symbols.items;
-        symbols = [];
-        older = given;
-        present_is = sym (append-nil b.present.items);
-        symbols_is = sym (append-nil b.symbols.items);
-        count = sym first;
-        size = (let e : 0 ≡ 0 * b.size = omega arith in e) ∙ ap (λ (m : ℕ). m * b.size) (sym first);
-        given_is = refl;
-      }
+  fetched_before Between b rows given order work = none_fetched o s k b given order.0
+  fetched_before (Opened p t) b rows given order work = none_fetched o s k b given order.0
   fetched_before (Fetching p t c) b rows given order work =
       subst (λ (m : ℕ). HasFetched o s m b given) (sym order.1)
       (subst (λ (m : ℕ). HasFetched m s c b given) (sym order.2)
       (subst (λ (m : ℕ). HasFetched p m c b given) (sym order.3) work))
 
   -- and the order of what is left
-  order_after : (phase : Phase) → GoesOn n phase (Fetch k o s ∷ tail) → GoesOn n (Fetching o s (k + 1)) tail
+  pub order_after : (phase : Phase) → GoesOn n phase (Fetch k o s ∷ tail) → GoesOn n (Fetching o s (k + 1)) tail
   order_after Between order = subst (λ (m : ℕ). GoesOn n (Fetching o s m) tail)
       (let e : 1 ≡ k + 1 = omega (arith, order.0) in e) order.1
   order_after (Opened p t) order = subst (λ (m : ℕ). GoesOn n (Fetching o s m) tail)
@@ -130,7 +91,7 @@ module _ (n k o s : ℕ) (tail : List Action) where
       (subst (λ (m : ℕ). GoesOn n (Fetching p m (c + 1)) tail) (sym order.3) order.4))
 
   -- how many were fetched
-  count_before : (phase : Phase) → GoesOn n phase (Fetch k o s ∷ tail) → fetched_in phase ≡ k
+  pub count_before : (phase : Phase) → GoesOn n phase (Fetch k o s ∷ tail) → fetched_in phase ≡ k
   count_before Between order = sym order.0
   count_before (Opened p t) order = sym order.0
   count_before (Fetching p t c) order = sym order.1
@@ -265,9 +226,10 @@ module _ (st : Setup) (job : Job) (k o s : ℕ) (tail : List Action) where
 
   -- with a block fetched, or none, a repair is at the action behind this fetch
   pub repair_after : (t : RepairTask) (b' : Blocks) (found : Bool) (block : List ℕ) →
-      IsRepair st t job (Fetch k o s ∷ tail) → Grows t.blocks b' found block
+      IsRepair st t job (Fetch k o s ∷ tail)
+      → IsBench st (pinned_profile st.profile job.pinned o) t.bench → Grows t.blocks b' found block
       → IsRepair st (record t { blocks = b' }) (advanced_with job (Fetched k o s (given_of found block))) tail
-  repair_after t b' found block is grows =
+  repair_after t b' found block is here grows =
       let b = t.blocks in
       let count : fetched_in is.phase ≡ k = count_before st.n k o s tail is.phase is.order in
       let present : length b'.present.items ≡ length b.present.items + 1 = ap length grows.present_is
@@ -276,7 +238,9 @@ module _ (st : Setup) (job : Job) (k o s : ℕ) (tail : List Action) where
       ∙ length-append b.symbols.items block ∙ ap (λ (m : ℕ). length b.symbols.items + m) grows.fits in
       record {
         kind = is.kind;
-        bench = is.bench;
+        benches = is.benches;
+        each = is.each;
+        bench = here;
         size = grows.size_is ∙ is.size;
         phase = Fetching o s (k + 1);
         order = order_after st.n k o s tail is.phase is.order;
@@ -288,12 +252,7 @@ module _ (st : Setup) (job : Job) (k o s : ℕ) (tail : List Action) where
             ∙ (let e : k * b.size + b.size ≡ (k + 1) * b.size = omega arith in e)
             ∙ ap (λ (m : ℕ). (k + 1) * m) (sym grows.size_is);
         room_present = omega (arith, is.room_present, grows.present_room);
-        room_symbols = omega (
-          arith,
-          is.room_symbols,
-          grows.symbols_room,
-          ap (λ (m : ℕ). st.n * m) grows.size_is,
-        );
+        room_symbols = omega (arith, is.room_symbols, grows.symbols_room);
       }
 
 -- ---- the job
@@ -333,6 +292,7 @@ module _ (w : State) (job : Job) (k o s : ℕ) (next : next_action w job ≡ Som
         };
       }
       by_task task.Drop is = absurd (not_allowed (DropJob is.name) is.kind)
+      by_task task.Upgrade is = absurd (not_allowed UpgradeJob is)
       by_task (task.Audit t) is = absurd (not_allowed AuditJob is.kind)
       by_task (task.Repair t) is =
           let less : k < (setup_in w).n = not_allowed RepairJob is.kind in
@@ -342,22 +302,30 @@ module _ (w : State) (job : Job) (k o s : ℕ) (next : next_action w job ≡ Som
           ∙ ap (λ (m : ℕ). m * t.blocks.size) count in
           let below : t.blocks.size * (k + 1) ≤ t.blocks.size * (setup_in w).n =
           mul-le-mul_left t.blocks.size (let l : k + 1 ≤ (setup_in w).n = omega (arith, less) in l) in
+          let most : (setup_in w).n * t.blocks.size ≤ (setup_in w).n * 128 =
+          mul-le-mul_left (setup_in w).n t.blocks.fits.1 in
           record {
             present = omega (arith, is.present, is.room_present, less, count);
-            symbols = omega (arith, held, below, is.room_symbols);
+            symbols = omega (arith, held, below, most, is.room_symbols);
           }
+
+  -- a repair has the bench of the object at hand
+  abbrev pub HasBench : Task → Type 0
+  HasBench (task.Repair t) =
+      IsBench (setup_in w) (pinned_profile (setup_in w).profile job.pinned o) t.bench
+  HasBench t = Unit {0}
 
   -- the job goes on with one fetch more
   pub runs_on : (r r' : Running) (fetch : FetchValue) (found : Bool) (block : List ℕ) →
       IsRunning (setup_in w) r job → r'.number ≡ r.number →
       fetch ≡ record { provider = k; object = o; stripe = s }
-      → TakesFetch r.task r'.task fetch found block →
+      → TakesFetch r.task r'.task fetch found block → HasBench r.task →
       IsRunning (setup_in w) r' (advanced_with job (Fetched k o s (given_of found block)))
-  runs_on r r' fetch found block running number fetch_is takes = record {
+  runs_on r r' fetch found block running number fetch_is takes has = record {
     number = number ∙ running.number;
     task = subst (λ (l : List Action). IsTask (setup_in w) next_job l r'.task) (sym tail_is)
         (by_task r.task r'.task
-        (subst (λ (l : List Action). IsTask (setup_in w) job l r.task) left_is running.task) takes);
+        (subst (λ (l : List Action). IsTask (setup_in w) job l r.task) left_is running.task) takes has);
   }
     where
       gift : Given
@@ -372,28 +340,31 @@ module _ (w : State) (job : Job) (k o s : ℕ) (next : next_action w job ≡ Som
           (actions_same (setup_in w) job (job.place + 1) (Fetched k o s (given_of found block) ∷ job.given))
 
       by_task : (t t' : Task) → IsTask (setup_in w) job (Fetch k o s ∷ after w job) t →
-          TakesFetch t t' fetch found block →
+          TakesFetch t t' fetch found block → HasBench t →
           IsTask (setup_in w) (advanced_with job (Fetched k o s (given_of found block))) (after w job) t'
-      by_task (task.Get t) (task.Get u) is takes =
+      by_task (task.Get t) (task.Get u) is takes has =
           subst (λ (x : GetTask). IsGet (setup_in w) x
           (advanced_with job (Fetched k o s (given_of found block))) (after w job)) (sym takes.0)
           (get_after (setup_in w) job k o s (after w job) fetches_are works_are t u.fetched fetch found block
           is fetch_is takes.1)
-      by_task (task.Repair t) (task.Repair u) is takes =
+      by_task (task.Repair t) (task.Repair u) is takes has =
           subst (λ (x : RepairTask). IsRepair (setup_in w) x
           (advanced_with job (Fetched k o s (given_of found block))) (after w job)) (sym takes.0)
-          (repair_after (setup_in w) job k o s (after w job) t u.blocks found block is takes.1)
-      by_task (task.Get t) (task.Repair u) is takes = absurd takes
-      by_task (task.Get t) (task.Put u) is takes = absurd takes
-      by_task (task.Get t) task.Drop is takes = absurd takes
-      by_task (task.Get t) (task.Audit u) is takes = absurd takes
-      by_task (task.Repair t) (task.Get u) is takes = absurd takes
-      by_task (task.Repair t) (task.Put u) is takes = absurd takes
-      by_task (task.Repair t) task.Drop is takes = absurd takes
-      by_task (task.Repair t) (task.Audit u) is takes = absurd takes
-      by_task (task.Put t) u is takes = absurd takes
-      by_task task.Drop u is takes = absurd takes
-      by_task (task.Audit t) u is takes = absurd takes
+          (repair_after (setup_in w) job k o s (after w job) t u.blocks found block is has takes.1)
+      by_task (task.Get t) (task.Repair u) is takes has = absurd takes
+      by_task (task.Get t) (task.Put u) is takes has = absurd takes
+      by_task (task.Get t) task.Drop is takes has = absurd takes
+      by_task (task.Get t) task.Upgrade is takes has = absurd takes
+      by_task (task.Get t) (task.Audit u) is takes has = absurd takes
+      by_task (task.Repair t) (task.Get u) is takes has = absurd takes
+      by_task (task.Repair t) (task.Put u) is takes has = absurd takes
+      by_task (task.Repair t) task.Drop is takes has = absurd takes
+      by_task (task.Repair t) task.Upgrade is takes has = absurd takes
+      by_task (task.Repair t) (task.Audit u) is takes has = absurd takes
+      by_task (task.Put t) u is takes has = absurd takes
+      by_task task.Drop u is takes has = absurd takes
+      by_task (task.Audit t) u is takes has = absurd takes
+      by_task task.Upgrade u is takes has = absurd takes
 
   -- the provider is one of the setup's
   pub within : k < (setup_in w).n

@@ -13,24 +13,26 @@ use Rattle.machine_defs.specs.Events.{IsSpelledKind}
 use Rattle.machine_defs.specs.Jobs.{Kind, GetJob, ToGet}
 use Rattle.machine_defs.specs.Refusals as refusal
 use Rattle.machine_defs.specs.Refusals.{first_refusal}
-use Rattle.machine_defs.specs.Setups.{profiled, stripes_of, pinned_stripes}
+use Rattle.machine_defs.specs.Setups.{pinned_stripes}
 use Rattle.machine_defs.specs.States.{State, setup_in, file_in}
 use Rattle.machine_defs.proofs.Sights.{stored-file}
 use Rattle.state_laws.proofs.Records.{file-spelled}
-use Rattle.state_laws.proofs.Written.{setup-providers, file-first}
+use Rattle.state_laws.proofs.Written.{setup-providers}
 use Rattle.vault_core.specs.Carried.{IsKindOf}
 use Rattle.vault_core.specs.declared.wish.BeginFault.{BeginFault}
 use Rattle.vault_core.specs.declared.wish.Wish.TheVariants as wish
-use Rattle.vault.specs.declared.bench.Bench.{Bench}
+use Rattle.stripe_bench.specs.declared.bench.Bench.{Bench}
 use Rattle.vault.specs.declared.tasks.GetTask.{GetTask}
 use Rattle.vault.specs.declared.tasks.Task.TheVariants as task
 use Rattle.vault.specs.declared.desk.Desk.{Desk}
 use Rattle.vault.specs.declared.heard.Fetch.{Fetch}
 use Rattle.vault_open.specs.Devices.{Devices}
-use Rattle.vault.specs.Heard.{fetched_entries, blocks_in}
+use Rattle.stripe_bench.specs.Blocks.{blocks_in}
+use Rattle.vault.specs.Heard.{fetched_entries}
 use Rattle.vault.specs.Orders.{Between, GoesOn, OpensFrom, fetches_left, works_left}
 use Rattle.vault.specs.Desks.{DeskStands, DeskMakesBegin}
-use Rattle.vault.specs.Tasks.{IsGet, IsBench, IsTask, bench_object}
+use Rattle.stripe_bench.specs.Bench.{IsBench, bench_object}
+use Rattle.vault.specs.Tasks.{IsGet, IsTask}
 use Rattle.vault.specs.Benches.{IsBenchFor, IsNewGet, stripes_on}
 use Rattle.vault.proofs.BenchLemmas.{bench-is}
 use Rattle.vault.proofs.Begun.{causes_of_name}
@@ -68,19 +70,16 @@ module _ (v : Desk) (d : Devices) (w : State) (moment : ℕ) (stands : DeskStand
   unfolding actions_of
   rest-is = rw found (append_assoc (flat_map (open_actions s file.id) (upto total)) [] (End ∷ []))
 
-  get-task : (bench : Bench) (t : GetTask) → IsBenchFor v file.id file.size bench →
+  get-task : (bench : Bench) (t : GetTask) → IsBenchFor v file.id file.size file.profile bench →
       IsNewGet v.core.next_job bench t
       → IsGet s t (new_job w moment (GetJob name)) (actions_left s (new_job w moment (GetJob name)))
   get-task bench t for_file new =
       let limits = setup-providers 8 w stands.core.sound stands.core.is_open in
       let least = limits.0 in
-      let is_bench = bench-is v s file.id file.size bench stands.shaped stands.setup for_file in
+      let is_bench = bench-is v s file.id file.size file.profile bench stands.shaped stands.setup for_file in
       let same_length : bench.keys.file.length ≡ length (w.bytes file.id) = for_file.length_is
       ∙ sym size-is in
-      let profile : file.profile ≡ s.profile =
-      file-first 8 w stands.core.sound stands.first name file found in
-      let same_stripes : stripes_on bench ≡ total = (λ i. stripes (is_bench i) (same_length i))
-      ∙ ap (λ (p : ℕ). stripes_of (profiled s p) (length (w.bytes file.id))) (sym profile) in
+      let same_stripes : stripes_on bench ≡ total = (λ i. stripes (is_bench i) (same_length i)) in
       let same_n : bench.keys.file.shape.n ≡ s.n = ap (λ (o : Object). o.shape.n) is_bench in
       let rest = actions_left s (new_job w moment (GetJob name)) in
       let fetches_are : fetches_left rest ≡ total * s.n = ap fetches_left rest-is
@@ -96,7 +95,7 @@ module _ (v : Desk) (d : Devices) (w : State) (moment : ℕ) (stands : DeskStand
         file = pinned_file w file;
         pinned = ap (pin_found (pinned_file w)) found;
         length_is = new.length_is ∙ same_length;
-        bench = subst (IsBench s) (sym new.bench_is) is_bench;
+        bench = subst (IsBench s file.profile) (sym new.bench_is) is_bench;
         size = new.size_is ∙ ap (λ (b : Bench). b.keys.file.profile.size) (sym new.bench_is);
         job_is = new.job_is ∙ stands.core.next_job;
         heard = ap (λ (fs : List Fetch). fetched_entries t.fetched.job fs (blocks_in t.fetched.blocks))
@@ -131,18 +130,18 @@ least a b le = omega (arith, le)
 pub get-begun : (v new : Desk) (name named : List ℕ) (file : File) (bench : Bench) (t : GetTask)
     (result : Result ℕ BeginFault) (size number : ℕ) → named ≡ name → IsSpelledKind (GetJob name)
     → find_file v.core.table.files name ≡ Some file → size ≡ min file.size (2 ^ 22)
-    → IsBenchFor v file.id size bench → number ≡ v.core.next_job → IsNewGet number bench t
+    → IsBenchFor v file.id size file.profile bench → number ≡ v.core.next_job → IsNewGet number bench t
     → ((w : State) (d : Devices) (moment : ℕ) (kind : Kind) → DeskStands v d w
     → IsKindOf (wish.Get named) kind → IsSpelledKind kind
     → (begin_refusal 8 w kind ≡ None → IsTask (setup_in w) (new_job w moment kind)
     (actions_left (setup_in w) (new_job w moment kind)) (task.Get t))
-    → DeskMakesBegin w moment kind result new d)
+    → DeskMakesBegin w moment kind None result new d)
     → (w : State) (d : Devices) (moment : ℕ) → DeskStands v d w
-    → DeskMakesBegin w moment (GetJob name) result new d
+    → DeskMakesBegin w moment (GetJob name) None result new d
 get-begun v new name named file bench t result size number same spelled some size_is for_size number_is is_new admits w d moment stands =
     let found = sym (found-in v d w name stands) ∙ some in
     let fits = size-fits v d w moment stands name file found in
-    let for_file = subst (λ (k : ℕ). IsBenchFor v file.id k bench)
+    let for_file = subst (λ (k : ℕ). IsBenchFor v file.id k file.profile bench)
     (size_is ∙ least file.size (2 ^ 22) fits) for_size in
     let next = subst (λ (k : ℕ). IsNewGet k bench t) number_is is_new in
     admits w d moment (GetJob name) stands (λ i. ToGet (same i)) spelled

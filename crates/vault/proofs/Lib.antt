@@ -1,7 +1,6 @@
-pub mod FirstVersion
+pub mod Unpacked
 pub mod Opened
 pub mod Limits
-pub mod Grown
 pub mod JobPlaces
 pub mod RunningJobs
 pub mod Ways
@@ -11,6 +10,8 @@ pub mod FetchStep
 pub mod RemoveStep
 pub mod Begun
 pub mod BenchLemmas
+pub mod Kits
+pub mod Pins
 pub mod Puts
 pub mod Stops
 pub mod StoreStep

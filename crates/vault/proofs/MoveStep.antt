@@ -40,8 +40,8 @@ use Rattle.vault.specs.Running.{place_in, KeepsAll, IsFed, IsStopped}
 use Rattle.vault.specs.Desks.{DeskStands, IsFlight, DeskMakesStep}
 use Rattle.vault.specs.Tasks.{AreRunning}
 use Rattle.vault_open.proofs.FirstVersion.{FirstStands, images-first}
-use Rattle.record_defs.specs.Table.{version_of}
-use Rattle.vault.proofs.FirstVersion.{whole-core}
+use Rattle.state_laws.proofs.Records.{AreAppended}
+use Rattle.vault.proofs.Unpacked.{unpacked-core}
 use Rattle.vault.proofs.JobPlaces.{place_is, put_back}
 use Rattle.vault.proofs.Moving.{IsMove, moved_on, move_runs}
 use Rattle.vault.proofs.Stops.{IsAside, is_left}
@@ -53,7 +53,7 @@ use Rattle.vault.proofs.Ways.{happens_by, shaped_on, working}
 pub record IsLeft (v' : Desk) (w new : State) (holds : Option Cells) (count : ℕ)
     (ps : List Provider) : Type 0 where
   pub setup : setup_in new ≡ setup_in w
-  pub first : version_of new.records ≡ 1
+  pub appended : AreAppended new.journal
   pub handed : AreHanded ps new
   pub faults : new.disk_faults ≡ count
   pub images : FirstStands holds new
@@ -65,12 +65,12 @@ stands_left : (v v' v2 : Desk) (w new : State) (holds holds' : Option Cells) (fa
     AreRunning (setup_in w) v2.jobs.items new.jobs → DeskStands v2 (devices holds' faults' ps) new
 stands_left v v' v2 w new holds holds' faults faults' ps stands left core keeps flight jobs = record {
   devices = record {
-    images = images-first holds' new (whole-core v2.core new core left.first) left.images;
+    images = images-first holds' new (unpacked-core v2.core new core left.appended) left.images;
     faults = left.faults;
     providers = left.handed;
   };
   core = core;
-  first = left.first;
+  appended = left.appended;
   setup = left.setup ∙ stands.setup ∙ sym (λ i. with_master (keeps.setup i) (keeps.master i).0);
   shaped = shaped_on v v2 keeps stands.shaped;
   jobs = subst (λ (s : Setup). AreRunning s v2.jobs.items new.jobs) (sym left.setup) jobs;

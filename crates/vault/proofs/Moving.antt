@@ -200,6 +200,8 @@ move_runs w job a subject older r move next kept running =
         (drop (job.place + 1) (actions_of (setup_in w) job))
     repaired t is = record {
       kind = is.kind;
+      benches = is.benches;
+      each = is.each;
       bench = is.bench;
       size = is.size;
       phase = is.phase;
@@ -228,3 +230,4 @@ move_runs w job a subject older r move next kept running =
         subst (λ (l : List Action). IsRepair (setup_in w) t (moved_on job subject older) l)
         (sym (ap (drop (job.place + 1)) (by_repair (setup_in w) job (job.place + 1) subject older is.kind)))
         (repaired t (subst (λ (l : List Action). IsRepair (setup_in w) t job l) left_is is))
+    by_task task.Upgrade is = is

@@ -8,13 +8,13 @@ use Rattle.device_defs.specs.Images.{EachImage}
 use Rattle.device_defs.specs.Providers.{Provider}
 use Rattle.record_defs.specs.Records.{Record, RepairDone}
 use Rattle.record_defs.specs.Journal.{before_gate, text_size, StandsFor}
-use Rattle.record_defs.specs.Table.{setup_of, version_of}
+use Rattle.record_defs.specs.Table.{setup_of}
 use Rattle.machine_defs.specs.Setups.{setup_or_none}
 use Rattle.machine_defs.specs.States.{State, setup_in}
 use Rattle.journal_core.specs.Moves.{IsClosed}
 use Rattle.journal_core.proofs.ImageLemmas.{closed_images}
-use Rattle.state_laws.proofs.Records.{version-first}
-use Rattle.state_laws.proofs.Written.{end-first}
+use Rattle.state_laws.proofs.Records.{AreAppended, all-appended}
+use Rattle.state_laws.proofs.Written.{unpacked-now, end-now}
 use Rattle.state_laws.proofs.Resting.{rest-sound}
 use Rattle.vault_table.specs.Values.{IsFoldOf}
 use Rattle.vault_open.specs.declared.store.Store.{Store}
@@ -61,8 +61,9 @@ module _ (told now : Option Cells) (rs : List Record) (store : Store) (first : �
     unfolding setup_in
     in_effect = ap setup_or_none (ap setup_of j.records ∙ sym is.folds.setup)
 
-    is_first : version_of w.records ≡ 1
-    is_first = version-first w.records j.at_rest.rest.in_grammar
+    appended : AreAppended w.journal
+    appended = subst AreAppended (sym j.at_rest.rest.whole.journal)
+        (all-appended w.records j.at_rest.rest.in_grammar)
 
     core : CoreIs v.core w
     core = subst (λ (c : CoreView). CoreIs c w) (sym fresh.core) (record {
@@ -71,8 +72,8 @@ module _ (told now : Option Cells) (rs : List Record) (store : Store) (first : �
       none_alone = j.at_rest.rest.idle.3;
       table = subst (λ (l : List Record). IsFoldOf l store.table) (sym j.records) is.folds;
       setup = sym in_effect;
-      end = is.end ∙ (ap text_size (sym j.records) ∙ sym (end-first 8 w
-          (rest-sound 8 w j.at_rest.rest) is_first));
+      end = is.end ∙ (ap text_size (sym j.records) ∙ sym (end-now 8 w
+          (rest-sound 8 w j.at_rest.rest) appended));
       jobs = rw j.at_rest.rest.idle.0 tt;
       next_job = sym j.at_rest.next;
       append = rw j.at_rest.rest.idle.1 refl;
@@ -83,13 +84,13 @@ module _ (told now : Option Cells) (rs : List Record) (store : Store) (first : �
     pub stands : DeskStands v (devices now faults providers) w
     stands = record {
       devices = record {
-        images = images-first now w j.at_rest.rest.whole
+        images = images-first now w (unpacked-now 8 w (rest-sound 8 w j.at_rest.rest) appended)
             (shown w now j.records (images now is.closed));
         faults = j.faults_are;
         providers = j.handed;
       };
       core = core;
-      first = is_first;
+      appended = appended;
       setup = in_effect ∙ ap setup_or_none fresh.setup;
       shaped = fresh.shaped;
       jobs = rw (fresh.jobs, j.at_rest.rest.idle.0) tt;

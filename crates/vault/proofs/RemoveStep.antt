@@ -52,6 +52,7 @@ module _ (w : State) (job : Job) (k o : ℕ) (next : next_action w job ≡ Some 
       by_task task.Drop is = record { name = is.name; kind = is.kind }
       by_task (task.Audit t) is = absurd (not_allowed AuditJob is.kind)
       by_task (task.Repair t) is = absurd (not_allowed RepairJob is.kind)
+      by_task task.Upgrade is = absurd (not_allowed UpgradeJob is)
 
 -- a list is itself with what is there set again
 pub set_same : {X : Type 0} (xs : List X) (p : ℕ) (x : X) → slice_get xs p ≡ Some x → xs ≡ slice_set xs p x
@@ -85,7 +86,14 @@ module _ (v : Desk) (w : State) (holds : Option Cells) (faults moment number k o
       goes_on v v' w new holds faults moment number f.place ps ps' (Remove k o) f.running
       (advanced job) stands coming
       (q, subst (λ (x : Provider). Removes o x q) seen removes, refl)
-      (record { records = refl; doubt = refl; append = refl; faults = refl; barred = refl })
+      (record {
+  records = refl;
+  journal = refl;
+  doubt = refl;
+  append = refl;
+  faults = refl;
+  barred = refl;
+})
       refl refl
       (runs_on w job k o coming.comes f.running f.is)
       (place_is v.jobs.items number ∙ f.at)

@@ -1,44 +1,101 @@
 -- What a repair begins with.
-use Rattle.std.proofs.Common.{◌≡◌, ℕ, ◌*◌, ◌≤◌, [], length, refl, sym, ap, ◌∙◌, subst, arith}
-use Rattle.std.specs.Prelude.{vec_capacity}
+use Rattle.std.proofs.Common.{◌≡◌, ℕ, ◌==◌, ◌*◌, ◌≤◌, true, false, cond, List, [], ◌∷◌, length, inl, inr, refl, sym, ap, ◌∙◌, subst, arith}
+use Rattle.std.specs.Prelude.{vec_capacity, nat_lt}
+use Rattle.std.proofs.lemmas.Bool.{cases_Bool}
+use Rattle.algebra_laws.specs.Lists.{Each}
 use Rattle.record_defs.specs.Records.{Setup}
-use Rattle.machine_defs.specs.Actions.{actions_left}
-use Rattle.machine_defs.specs.Begins.{new_job}
-use Rattle.machine_defs.specs.Jobs.{RepairJob}
+use Rattle.record_defs.specs.Table.{File, files_of}
+use Rattle.machine_defs.specs.Actions.{actions_left, machine_pins}
+use Rattle.machine_defs.specs.Begins.{new_job, pinned_file, pin_by, pin_each}
+use Rattle.machine_defs.specs.Given.{pinned_profile}
+use Rattle.machine_defs.specs.Jobs.{RepairJob, Pinned}
 use Rattle.machine_defs.specs.States.{State, setup_in}
+use Rattle.machine_defs.proofs.JobLists.{cond_true, cond_false}
 use Rattle.state_laws.proofs.Written.{setup-providers}
-use Rattle.vault.specs.declared.bench.Bench.{Bench}
-use Rattle.vault.specs.declared.blocks.Blocks.{Blocks}
-use Rattle.vault.specs.declared.desk.Desk.{Desk}
+use Rattle.stripe_bench.specs.declared.bench.Bench.{Bench}
+use Rattle.stripe_bench.specs.Bench.{IsBench}
 use Rattle.vault_open.specs.Devices.{Devices}
+use Rattle.vault.specs.declared.desk.Desk.{Desk}
+use Rattle.vault.specs.declared.tasks.RepairTask.{RepairTask}
+use Rattle.vault.specs.Benches.{IsNewRepair, AreServed, is_served}
 use Rattle.vault.specs.Orders.{Between}
 use Rattle.vault.specs.Desks.{DeskStands}
-use Rattle.vault.specs.Tasks.{IsRepair}
-use Rattle.vault.specs.Benches.{IsBenchFor}
-use Rattle.vault.proofs.BenchLemmas.{bench-is}
+use Rattle.vault.specs.Tasks.{AreOfSetup, IsRepair}
+use Rattle.vault.proofs.BenchLemmas.{bench-is, all-of-setup}
+use Rattle.vault.proofs.Kits.{served, serves}
 use Rattle.vault.proofs.StripeOrders.{repair-order}
 
+-- ---- the profiles of the files that it pins
+
+-- each of these files and one more among them have a bench
+pin_served : (benches : List Bench) (f : Pinned) (fs : List Pinned) → is_served f.profile benches ≡ true →
+    Each (λ (g : Pinned). is_served g.profile benches ≡ true) fs →
+    Each (λ (g : Pinned). is_served g.profile benches ≡ true) (pin_by machine_pins f fs)
+pin_served benches f [] own all = (own, tt)
+pin_served benches f (g ∷ gs) own all =
+    elim (nat_lt f.id g.id) as (λ b. Each (λ (h : Pinned). is_served h.profile benches ≡ true)
+    (cond b (f ∷ g ∷ gs) (g ∷ pin_by machine_pins f gs))) [
+      | true ↦ (own, all)
+      | false ↦ (all.0, pin_served benches f gs own all.1)
+    ]
+
+-- so has each file that is pinned, where each in effect has one
+pins_served : (w : State) (benches : List Bench) (files : List File) → AreServed files benches →
+    Each (λ (g : Pinned). is_served g.profile benches ≡ true) (pin_each machine_pins (pinned_file w) files)
+pins_served w benches [] all = tt
+pins_served w benches (f ∷ fs) all =
+    pin_served benches (pinned_file w f) (pin_each machine_pins (pinned_file w) fs) all.0
+    (pins_served w benches fs all.1)
+
+-- and so has the profile of each number among them
+number_served : (benches : List Bench) (other o : ℕ) (fs : List Pinned) → is_served other benches ≡ true →
+    Each (λ (g : Pinned). is_served g.profile benches ≡ true) fs →
+    is_served (pinned_profile other fs o) benches ≡ true
+number_served benches other o [] own all = own
+number_served benches other o (f ∷ fs) own all = elim (cases_Bool (f.id == o)) [
+  | inl t ↦ ap (λ (p : ℕ). is_served p benches)
+      (cond_true (f.id == o) f.profile (pinned_profile other fs o) t) ∙ all.0
+  | inr n ↦ ap (λ (p : ℕ). is_served p benches)
+      (cond_false (f.id == o) f.profile (pinned_profile other fs o) n)
+      ∙ number_served benches other o fs own all.1
+]
+
+-- ---- the task
+
 -- a new repair's task is at the first action of the machine's new job
-pub repair-task : (v : Desk) (d : Devices) (w : State) (moment id size : ℕ) (bench : Bench)
-    (blocks : Blocks) → DeskStands v d w → IsBenchFor v id size bench
-    → blocks.size ≡ bench.keys.file.profile.size → blocks.present.items ≡ [] → blocks.symbols.items ≡ [] →
-    v.setup.n ≤ vec_capacity blocks.present → v.setup.n * blocks.size ≤ vec_capacity blocks.symbols
-    → IsRepair (setup_in w) (record { blocks = blocks; bench = bench }) (new_job w moment RepairJob)
+pub repair-task : (v : Desk) (d : Devices) (w : State) (moment : ℕ) (t : RepairTask) → DeskStands v d w →
+    IsNewRepair v t → IsRepair (setup_in w) t (new_job w moment RepairJob)
     (actions_left (setup_in w) (new_job w moment RepairJob))
-repair-task v d w moment id size bench blocks stands is size_is present symbols room_present room_symbols =
-    let n_is : (setup_in w).n ≡ v.setup.n = ap (λ (s : Setup). s.n) stands.setup in
+repair-task v d w moment t stands new =
+    let s = setup_in w in
+    let n_is : s.n ≡ v.setup.n = ap (λ (x : Setup). x.n) stands.setup in
+    let profile_is : v.setup.profile ≡ s.profile = sym (ap (λ (x : Setup). x.profile) stands.setup) in
     let limits = setup-providers 8 w stands.core.sound stands.core.is_open in
     let least = limits.0 in
-    let none : 0 ≡ 0 * blocks.size = omega arith in
+    let none : 0 ≡ 0 * t.blocks.size = omega arith in
+    let own = bench-is v s new.own.0 new.own.1 v.setup.profile t.bench stands.shaped stands.setup new.own.2 in
+    let are : AreOfSetup s (t.bench ∷ t.others.items) =
+    ((v.setup.profile, own), all-of-setup v s stands.shaped stands.setup t.others.items new.others) in
+    let files : AreServed (files_of w.records) (t.bench ∷ t.others.items) =
+    subst (λ (fs : List File). AreServed fs (t.bench ∷ t.others.items)) stands.core.table.files new.served in
+    let first : is_served s.profile (t.bench ∷ t.others.items) ≡ true =
+    served s s.profile (t.bench ∷ t.others.items)
+    (inl (subst (λ (p : ℕ). IsBench s p t.bench) profile_is own)) in
     record {
       kind = refl;
-      bench = bench-is v (setup_in w) id size bench stands.shaped stands.setup is;
-      size = size_is;
+      benches = are;
+      each = λ o. serves s (pinned_profile s.profile (new_job w moment RepairJob).pinned o)
+          (t.bench ∷ t.others.items) are
+          (number_served (t.bench ∷ t.others.items) s.profile o (new_job w moment RepairJob).pinned first
+          (pins_served w (t.bench ∷ t.others.items) (files_of w.records)
+          files));
+      size = new.size;
       phase = Between;
-      order = repair-order (setup_in w) (omega (arith, least)) (new_job w moment RepairJob) refl;
+      bench = tt;
+      order = repair-order s (omega (arith, least)) (new_job w moment RepairJob) refl;
       in_work = tt;
-      present = ap length present;
-      symbols = ap length symbols ∙ none;
-      room_present = omega (arith, n_is, room_present);
-      room_symbols = subst (λ (n : ℕ). n * blocks.size ≤ vec_capacity blocks.symbols) (sym n_is) room_symbols;
+      present = ap length new.present;
+      symbols = ap length new.symbols ∙ none;
+      room_present = (let r = new.room_present in omega (arith, n_is, r));
+      room_symbols = subst (λ (n : ℕ). n * 128 ≤ vec_capacity t.blocks.symbols) (sym n_is) new.room_symbols;
     }

@@ -68,6 +68,7 @@ heard_is s r j running = by_task r.task running.task
     by_task task.Drop is = ap (heard_by_kind j) (sym is.kind)
     by_task (task.Audit t) is = is.heard ∙ ap (heard_by_kind j) (sym is.kind)
     by_task (task.Repair t) is = ap (heard_by_kind j) (sym is.kind)
+    by_task task.Upgrade is = ap (heard_by_kind j) (sym is)
 
 -- ---- the step
 

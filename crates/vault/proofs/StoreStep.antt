@@ -7,22 +7,19 @@ use Rattle.device_defs.specs.Cells.{Cells}
 use Rattle.device_defs.specs.Providers.{Provider}
 use Rattle.device_defs.specs.ProviderCalls.{Stores, FailsToStore, FindsNoMemory}
 use Rattle.hail_field.specs.declared.symbol.Symbol.{Symbol}
-use Rattle.record_defs.specs.Records.{Setup}
 use Rattle.machine_defs.specs.Actions.{Action, Store, actions_of, actions_left}
-use Rattle.machine_defs.specs.Given.{symbols_given}
+use Rattle.machine_defs.specs.Given.{symbols_given, pinned_profile}
 use Rattle.machine_defs.specs.Jobs.{Kind, PutJob, GetJob, DropJob, AuditJob, RepairJob, UpgradeJob, Given, Job, advanced, without_job}
-use Rattle.machine_defs.specs.Setups.{object_of}
 use Rattle.machine_defs.specs.States.{State, setup_in, going_on, ended, with_provider}
 use Rattle.machine_defs.specs.Steps.{next_action, block_to_store}
 use Rattle.machine_defs.proofs.JobLists.{number_of}
 use Rattle.provider_model.specs.declared.fault.StoreFault.{StoreFault}
 use Rattle.provider_model.specs.declared.fault.StoreFault.TheVariants as store_fault
-use Rattle.state_laws.specs.SoundJobs.{IsPlainJob}
 use Rattle.state_laws.proofs.Orders.{next-left}
 use Rattle.vault_core.specs.Carried.{ComesNext}
 use Rattle.vault_core.specs.declared.reply.Reply.TheVariants as reply
-use Rattle.vault.specs.declared.bench.Bench.{Bench}
-use Rattle.vault.specs.declared.blocks.Blocks.{Blocks}
+use Rattle.stripe_bench.specs.declared.bench.Bench.{Bench}
+use Rattle.stripe_bench.specs.declared.blocks.Blocks.{Blocks}
 use Rattle.vault.specs.declared.tasks.RepairTask.{RepairTask}
 use Rattle.vault.specs.declared.tasks.Running.{Running}
 use Rattle.vault.specs.declared.tasks.Task.{Task}
@@ -36,29 +33,14 @@ use Rattle.vault_open.specs.Devices.{devices}
 use Rattle.vault.specs.Orders.{Phase, Between, Fetching, Opened, GoesOn}
 use Rattle.vault.specs.Running.{place_in, heard_of, KeepsAll, IsFed, IsStopped}
 use Rattle.vault.specs.Desks.{DeskStands, Comes, DeskMakesStep}
-use Rattle.vault.specs.Storing.{turned, stored_block, KeepsTask, IsStorer}
+use Rattle.vault.specs.Storing.{stored_block, KeepsTask, IsStorer}
 use Rattle.provider_model.specs.Seen.{StoresAs}
-use Rattle.vault.specs.Tasks.{bench_object, fetched_in, IsBench, IsInWork, IsRepair, IsTask, IsRunning}
-use Rattle.vault.proofs.FirstVersion.{plain-core, put-plain, worked-plain}
+use Rattle.stripe_bench.specs.Bench.{IsBench}
+use Rattle.vault.specs.Tasks.{fetched_in, AreOfSetup, Serves, IsAtHand, IsInWork, IsRepair, IsTask, IsRunning}
+use Rattle.vault.proofs.Kits.{turned_is, bench_after, bench_count, first_count, own_after, serves_after, at_hand_after}
 use Rattle.vault.proofs.Allowed.{IsAllowed, next_allowed}
 use Rattle.vault.proofs.Stops.{IsAside, ends_by}
 use Rattle.vault.proofs.Ways.{actions_same, at_place, is_handed, handed_on, goes_on}
-
--- ---- benches
-
--- the object of a bench of the setup that was turned to another number
-pub turned_is : (s : Setup) (bench : Bench) (o : ℕ) → IsBench s bench → turned bench o ≡ object_of s o
-turned_is s bench o is = ap (λ (x : Object). record x { id = o }) is
-
--- a bench that was turned is one of the setup
-pub bench_after : (s : Setup) (bench bench' : Bench) (o : ℕ) → IsBench s bench →
-    bench_object bench' ≡ turned bench o → IsBench s bench'
-bench_after s bench bench' o is turned_to =
-    turned_to ∙ turned_is s bench o is ∙ ap (object_of s) (sym (ap (λ (x : Object). x.id) turned_to))
-
--- it has the setup's providers
-pub bench_count : (s : Setup) (bench : Bench) → IsBench s bench → bench.keys.file.shape.n ≡ s.n
-bench_count s bench is = ap (λ (x : Object). x.shape.n) is
 
 -- ---- the order of stores
 
@@ -113,33 +95,47 @@ module _ (w : State) (job : Job) (k o s : ℕ) (next : next_action w job ≡ Som
           IsTask (setup_in w) job (Store k o s ∷ drop (job.place + 1) (actions_of (setup_in w) job)) t →
           IsStorer t k
       by_task (task.Put t) is =
-          subst (λ (m : ℕ). k < m) (sym (bench_count (setup_in w) t.bench is.bench)) within
+          subst (λ (m : ℕ). k < m) (sym (bench_count (setup_in w) job.profile t.bench is.bench)) within
       by_task (task.Get t) is = absurd (not_allowed (GetJob is.name) is.kind)
       by_task task.Drop is = absurd (not_allowed (DropJob is.name) is.kind)
       by_task (task.Audit t) is = absurd (not_allowed AuditJob is.kind)
       by_task (task.Repair t) is =
-          subst (λ (m : ℕ). k < m) (sym (bench_count (setup_in w) t.bench is.bench)) within
+          subst (λ (m : ℕ). k < m) (sym (first_count (setup_in w) t.bench t.others.items is.benches)) within
+      by_task task.Upgrade is = absurd (not_allowed UpgradeJob is)
 
   -- it stores the block that the machine says
-  pub block_is : IsPlainJob (setup_in w) job → (r : Running) → IsRunning (setup_in w) r job →
+  pub block_is : (r : Running) → IsRunning (setup_in w) r job →
       stored_block r.task o k s ≡ block_to_store w job job.kind k o s
-  block_is plain r running = by_task r.task (listed r running)
+  block_is r running = by_task r.task (listed r running)
     where
       by_task : (t : Task) →
           IsTask (setup_in w) job (Store k o s ∷ drop (job.place + 1) (actions_of (setup_in w) job)) t →
           stored_block t o k s ≡ block_to_store w job job.kind k o s
       by_task (task.Put t) is =
           ap (λ (x : Object). column_of_symbols x (symbols_in x t.bytes s) k s)
-          (turned_is (setup_in w) t.bench o is.bench ∙ put-plain w job o plain)
+          (turned_is (setup_in w) job.profile t.bench o is.bench)
           ∙ ap (λ (kind : Kind). block_to_store w job kind k o s) (sym is.kind)
       by_task (task.Get t) is = absurd (not_allowed (GetJob is.name) is.kind)
       by_task task.Drop is = absurd (not_allowed (DropJob is.name) is.kind)
       by_task (task.Audit t) is = absurd (not_allowed AuditJob is.kind)
       by_task (task.Repair t) is =
-          (λ i. column_of_symbols ((turned_is (setup_in w) t.bench o is.bench ∙ worked-plain w job o plain) i)
+          (λ i. column_of_symbols ((turned_is (setup_in w)
+          (pinned_profile (setup_in w).profile job.pinned o) t.bench o (at_hand is.phase t.bench
+          is.order is.bench)) i)
           (rows_are (setup_in w).n k o s (drop (job.place + 1) (actions_of (setup_in w) job)) is.phase
           t.blocks t.bench.rows.items job.given is.order is.in_work i) k s)
           ∙ ap (λ (kind : Kind). block_to_store w job kind k o s) (sym is.kind)
+      by_task task.Upgrade is = absurd (not_allowed UpgradeJob is)
+
+      at_hand : (phase : Phase) (bench : Bench) →
+          GoesOn (setup_in w).n phase (Store k o s ∷ drop (job.place + 1) (actions_of (setup_in w) job)) →
+          IsAtHand (setup_in w) job.pinned phase bench →
+          IsBench (setup_in w) (pinned_profile (setup_in w).profile job.pinned o) bench
+      at_hand Between bench order at = absurd order
+      at_hand (Fetching p t c) bench order at = absurd order
+      at_hand (Opened p t) bench order at =
+          subst (λ (q : ℕ). IsBench (setup_in w) (pinned_profile (setup_in w).profile job.pinned q) bench)
+          (sym order.1) at
 
   -- the job goes on
   pub runs_on : (r r' : Running) → IsRunning (setup_in w) r job → r'.number ≡ r.number →
@@ -161,7 +157,14 @@ module _ (w : State) (job : Job) (k o s : ℕ) (next : next_action w job ≡ Som
           let profile = ap (λ (x : Object). x.profile.size) keeps.2 in
           record {
             kind = is.kind;
-            bench = bench_after (setup_in w) t.bench u.bench o is.bench keeps.2;
+            benches = subst (λ (l : Vec Bench Global). AreOfSetup (setup_in w) (u.bench ∷ l.items))
+                (sym keeps.3)
+                (own_after (setup_in w) t.bench u.bench t.others.items o is.benches keeps.2);
+            each = λ q. subst (λ (l : Vec Bench Global). Serves (setup_in w)
+                (pinned_profile (setup_in w).profile job.pinned q) (u.bench ∷ l.items)) (sym keeps.3)
+                (serves_after (setup_in w) (pinned_profile (setup_in w).profile job.pinned q) t.bench u.bench
+                t.others.items o (is.each q) keeps.2);
+            bench = at_hand_after (setup_in w) job.pinned is.phase t.bench u.bench o is.bench keeps.2;
             size = ap (λ (b : Blocks). b.size) keeps.0 ∙ is.size ∙ sym profile;
             phase = is.phase;
             order = order_on (setup_in w).n k o s (drop (job.place + 1) (actions_of (setup_in w) job))
@@ -176,7 +179,7 @@ module _ (w : State) (job : Job) (k o s : ℕ) (next : next_action w job ≡ Som
                 (sym keeps.0) is.symbols;
             room_present = subst (λ (b : Blocks). (setup_in w).n ≤ vec_capacity b.present)
                 (sym keeps.0) is.room_present;
-            room_symbols = subst (λ (b : Blocks). (setup_in w).n * b.size ≤ vec_capacity b.symbols)
+            room_symbols = subst (λ (b : Blocks). (setup_in w).n * 128 ≤ vec_capacity b.symbols)
                 (sym keeps.0) is.room_symbols;
           }
 
@@ -187,20 +190,23 @@ module _ (w : State) (job : Job) (k o s : ℕ) (next : next_action w job ≡ Som
       by_task (task.Put t) (task.Put u) is keeps = record {
         name = is.name;
         kind = is.kind ∙ ap (PutJob is.name) (sym keeps.0);
-        bench = bench_after (setup_in w) t.bench u.bench o is.bench keeps.1;
+        bench = bench_after (setup_in w) job.profile t.bench u.bench o is.bench keeps.1;
       }
       by_task (task.Repair t) (task.Repair u) is keeps = repaired t u is keeps
       by_task (task.Put t) (task.Get u) is keeps = absurd keeps
       by_task (task.Put t) task.Drop is keeps = absurd keeps
+      by_task (task.Put t) task.Upgrade is keeps = absurd keeps
       by_task (task.Put t) (task.Audit u) is keeps = absurd keeps
       by_task (task.Put t) (task.Repair u) is keeps = absurd keeps
       by_task (task.Repair t) (task.Get u) is keeps = absurd keeps
       by_task (task.Repair t) (task.Put u) is keeps = absurd keeps
       by_task (task.Repair t) task.Drop is keeps = absurd keeps
+      by_task (task.Repair t) task.Upgrade is keeps = absurd keeps
       by_task (task.Repair t) (task.Audit u) is keeps = absurd keeps
       by_task (task.Get t) u is keeps = absurd keeps
       by_task task.Drop u is keeps = absurd keeps
       by_task (task.Audit t) u is keeps = absurd keeps
+      by_task task.Upgrade u is keeps = absurd keeps
 
 -- what a job that stores heard is nothing, before and after
 heard_same : (t u : Task) (o : ℕ) → KeepsTask t u o → heard_of u ≡ heard_of t
@@ -208,15 +214,18 @@ heard_same (task.Put t) (task.Put u) o keeps = refl
 heard_same (task.Repair t) (task.Repair u) o keeps = refl
 heard_same (task.Put t) (task.Get u) o keeps = absurd keeps
 heard_same (task.Put t) task.Drop o keeps = absurd keeps
+heard_same (task.Put t) task.Upgrade o keeps = absurd keeps
 heard_same (task.Put t) (task.Audit u) o keeps = absurd keeps
 heard_same (task.Put t) (task.Repair u) o keeps = absurd keeps
 heard_same (task.Repair t) (task.Get u) o keeps = absurd keeps
 heard_same (task.Repair t) (task.Put u) o keeps = absurd keeps
 heard_same (task.Repair t) task.Drop o keeps = absurd keeps
+heard_same (task.Repair t) task.Upgrade o keeps = absurd keeps
 heard_same (task.Repair t) (task.Audit u) o keeps = absurd keeps
 heard_same (task.Get t) u o keeps = absurd keeps
 heard_same task.Drop u o keeps = absurd keeps
 heard_same (task.Audit t) u o keeps = absurd keeps
+heard_same task.Upgrade u o keeps = absurd keeps
 
 module _ (v : Desk) (w : State) (holds : Option Cells) (faults moment number k o s : ℕ) (ps : List Provider)
     (stands : DeskStands v (devices holds faults ps) w) (comes : Comes v.core number (Store k o s)) where
@@ -254,12 +263,18 @@ module _ (v : Desk) (w : State) (holds : Option Cells) (faults moment number k o
           let call : Stores o s (block_to_store w coming.job coming.job.kind k o s) (w.providers k) q =
           subst (λ (x : Provider). Stores o s (block_to_store w coming.job coming.job.kind k o s) x q) seen
           (subst (λ (b : List ℕ). Stores o s b p q)
-          (block_is w coming.job k o s coming.comes
-          (plain-core v.core w number coming.job stands.core stands.first coming.runs) r runs) stores) in
+          (block_is w coming.job k o s coming.comes r runs) stores) in
           goes_on v v' w new holds faults moment number place ps ps' (Store k o s) r'
           (advanced coming.job) stands coming
           (q, call, refl)
-          (record { records = refl; doubt = refl; append = refl; faults = refl; barred = refl })
+          (record {
+  records = refl;
+  journal = refl;
+  doubt = refl;
+  append = refl;
+  faults = refl;
+  barred = refl;
+})
           refl refl
           (runs_on w coming.job k o s coming.comes r r' runs same_number keeps)
           at jobs
@@ -297,7 +312,14 @@ module _ (v : Desk) (w : State) (holds : Option Cells) (faults moment number k o
             holds faults moment number place ps ps' (Store k o s) r r' reply.Failed
             (answer.ProviderFault k) result stands coming
             (refl, (q, subst (λ (x : Provider). FailsToStore x q) seen fails, refl))
-            (record { records = refl; doubt = refl; append = refl; faults = refl; barred = refl })
+            (record {
+  records = refl;
+  journal = refl;
+  doubt = refl;
+  append = refl;
+  faults = refl;
+  barred = refl;
+})
             (ap (without_job w.jobs) (number_of w.jobs number coming.job coming.runs))
             at there aside flight stopped tt handed (λ e. cc)
 
@@ -309,7 +331,14 @@ module _ (v : Desk) (w : State) (holds : Option Cells) (faults moment number k o
             holds faults moment number place ps ps' (Store k o s) r r' reply.Memory answer.Memory result
             stands coming
             (q, subst (λ (x : Provider). FindsNoMemory x q) seen finds, refl)
-            (record { records = refl; doubt = refl; append = refl; faults = refl; barred = refl })
+            (record {
+  records = refl;
+  journal = refl;
+  doubt = refl;
+  append = refl;
+  faults = refl;
+  barred = refl;
+})
             (ap (without_job w.jobs) (number_of w.jobs number coming.job coming.runs))
             at there aside flight stopped tt handed (λ e. cc)
 

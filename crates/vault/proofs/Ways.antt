@@ -7,7 +7,7 @@ use Rattle.algebra_laws.proofs.Lists.{get-set_same}
 use Rattle.device_defs.specs.Cells.{Cells}
 use Rattle.device_defs.specs.Providers.{Provider}
 use Rattle.record_defs.specs.Records.{Setup, Record}
-use Rattle.record_defs.specs.Table.{setup_of, version_of}
+use Rattle.record_defs.specs.Table.{setup_of}
 use Rattle.record_defs.specs.Journal.{StandsOrIsEmpty, text_size}
 use Rattle.machine_defs.specs.Actions.{Action, actions_of, actions_by}
 use Rattle.machine_defs.specs.Events.{Outcome, Step, More}
@@ -17,6 +17,7 @@ use Rattle.machine_defs.specs.Setups.{setup_or_none}
 use Rattle.machine_defs.specs.States.{State, Append, Alone, setup_in, with_provider}
 use Rattle.machine_defs.specs.Steps.{Acts, ActsOrWaits, StepsOn, StepsJob, StepsOne, StepsOpen, Steps}
 use Rattle.machine_defs.proofs.JobLists.{cond_true, cond_false, number_of}
+use Rattle.state_laws.proofs.Records.{AreAppended}
 use Rattle.vault_core.specs.Carried.{CoreIs, ComesNext}
 use Rattle.vault_core.proofs.InFlight.{flight-entry}
 use Rattle.vault_core.specs.Coming.{entry_in}
@@ -29,8 +30,6 @@ use Rattle.vault.specs.declared.flight.Flight.{Flight}
 use Rattle.record_codec.specs.declared.setup.Setup.{Setup as SetupValue}
 use Rattle.record_codec.specs.Entries.{with_master}
 use Rattle.hail_field.specs.declared.shape.Shape.{Shape as ShapeValue}
-use Rattle.code_defs.specs.Profiles.{profile_of}
-use Rattle.code_points.specs.Profile.{plain_profile}
 use Rattle.vault.specs.Running.{KeepsAll, IsFed, place_in}
 use Rattle.vault.specs.declared.turn.Turn.TheVariants as turn
 use Rattle.vault.specs.declared.tasks.Running.{Running}
@@ -40,7 +39,7 @@ use Rattle.vault_core.specs.declared.reply.Reply.TheVariants as reply
 use Rattle.vault.specs.Desks.{DeskStands, IsFlight, IsShaped, DeskMakesStep}
 use Rattle.vault.specs.Tasks.{IsRunning, AreRunning}
 use Rattle.vault_open.proofs.FirstVersion.{FirstStands, first-images, images-first}
-use Rattle.vault.proofs.FirstVersion.{whole-core}
+use Rattle.vault.proofs.Unpacked.{unpacked-core}
 use Rattle.vault.proofs.JobPlaces.{Found, found, place_is, put_back}
 use Rattle.journal_core.proofs.BeyondLemmas.{goes_still}
 
@@ -127,6 +126,7 @@ handed_same ps w new are handed providers =
 -- a step that changes neither the records nor what is in doubt, nor the append in flight, nor the disk
 pub record IsQuiet (w new : State) : Type 0 where
   pub records : new.records ≡ w.records
+  pub journal : new.journal ≡ w.journal
   pub doubt : new.doubt ≡ w.doubt
   pub append : new.append ≡ w.append
   pub faults : new.disk_faults ≡ w.disk_faults
@@ -138,8 +138,6 @@ shaped_on v v' keeps is = record {
   n = ap (λ (s : ShapeValue). s.n) keeps.shape ∙ is.n ∙ sym (ap (λ (s : SetupValue). s.n) keeps.setup);
   l = ap (λ (s : ShapeValue). s.l) keeps.shape ∙ is.l ∙ sym (ap (λ (s : SetupValue). s.l) keeps.setup);
   b = ap (λ (s : ShapeValue). s.b) keeps.shape ∙ is.b ∙ sym (ap (λ (s : SetupValue). s.b) keeps.setup);
-  profile = ap plain_profile keeps.profile ∙ is.profile
-      ∙ ap (λ (s : SetupValue). profile_of s.profile) (sym keeps.setup);
 }
 
 -- with a quiet step a vault stands for the state after it, if its core and its jobs do
@@ -148,17 +146,17 @@ pub stands_on : (v v' : Desk) (w new : State) (holds : Option Cells) (faults : �
     → CoreIs v'.core new → KeepsAll v v' → v'.flight ≡ v.flight →
     AreRunning (setup_in w) v'.jobs.items new.jobs → DeskStands v' (devices holds faults ps') new
 stands_on v v' w new holds faults ps ps' stands quiet handed core keeps flight jobs =
-    let first : version_of new.records ≡ 1 = ap version_of quiet.records ∙ stands.first in
+    let appended : AreAppended new.journal = subst AreAppended (sym quiet.journal) stands.appended in
     record {
       devices = record {
-        images = images-first holds new (whole-core v'.core new core first)
+        images = images-first holds new (unpacked-core v'.core new core appended)
             (images_on holds w new quiet.records quiet.doubt
-            (first-images holds w (whole-core v.core w stands.core stands.first) stands.devices.images));
+            (first-images holds w (unpacked-core v.core w stands.core stands.appended) stands.devices.images));
         faults = quiet.faults ∙ stands.devices.faults;
         providers = handed;
       };
       core = core;
-      first = first;
+      appended = appended;
       setup = setup_same w new quiet.records ∙ stands.setup
           ∙ sym (λ i. with_master (keeps.setup i) (keeps.master i).0);
       shaped = shaped_on v v' keeps stands.shaped;

@@ -1,5 +1,5 @@
 -- The work on a stripe is a step of the machine.
-use Rattle.std.proofs.Common.{◌≡◌, ℕ, zero, suc, ◌+◌, ◌*◌, ◌≤◌, cond, List, [], ◌∷◌, ◌++◌, length, drop, Some, None, Result, Ok, Err, refl, sym, ap, subst, ◌∙◌, arith, length-append}
+use Rattle.std.proofs.Common.{◌≡◌, ℕ, zero, suc, ◌+◌, ◌*◌, ◌≤◌, Vec, Global, cond, List, [], ◌∷◌, ◌++◌, length, drop, Some, None, Result, Ok, Err, refl, sym, ap, subst, ◌∙◌, arith, length-append}
 use Rattle.std.specs.Prelude.{slice_get, slice_set, vec_len, vec_capacity}
 use Rattle.std.specs.List.{flat_map, range_with_len}
 use Rattle.std.proofs.lemmas.Grind.{flat_map-append}
@@ -11,14 +11,12 @@ use Rattle.column_defs.specs.Objects.{Object, bytes_of_symbols, stripe_symbols}
 use Rattle.column_defs.specs.Opened.{SeenBlock, GivesSymbols, LosesRow}
 use Rattle.column_defs.proofs.SymbolBytes.{length-bytes_of_symbols}
 use Rattle.machine_defs.specs.Actions.{Action, Work, actions_of, actions_left}
-use Rattle.machine_defs.specs.Given.{blocks_given, symbols_given}
-use Rattle.machine_defs.specs.Jobs.{Kind, PutJob, DropJob, AuditJob, Given, Worked, Job, advanced_with, without_job}
-use Rattle.machine_defs.specs.Setups.{object_of}
+use Rattle.machine_defs.specs.Given.{blocks_given, symbols_given, pinned_profile}
+use Rattle.machine_defs.specs.Jobs.{Kind, PutJob, DropJob, AuditJob, UpgradeJob, Given, Worked, Job, advanced_with, without_job}
 use Rattle.machine_defs.specs.States.{State, setup_in, worked_object, going_on, ended}
 use Rattle.machine_defs.specs.Steps.{next_action}
 use Rattle.machine_defs.proofs.JobLists.{number_of}
 use Rattle.column_codec.specs.declared.opening.RowLost.{RowLost}
-use Rattle.state_laws.specs.SoundJobs.{IsPlainJob}
 use Rattle.state_laws.proofs.Orders.{next-left}
 use Rattle.vault_core.specs.Carried.{ComesNext}
 use Rattle.vault_core.specs.declared.reply.Reply.TheVariants as reply
@@ -33,18 +31,22 @@ use Rattle.vault.specs.declared.turn.Turn.{Turn}
 use Rattle.vault.specs.declared.turn.Turn.TheVariants as turn
 use Rattle.vault.specs.declared.desk.Desk.{Desk}
 use Rattle.vault_open.specs.Devices.{Devices}
-use Rattle.vault.specs.Heard.{fetched_entries, blocks_in}
+use Rattle.stripe_bench.specs.Blocks.{blocks_in}
+use Rattle.vault.specs.Heard.{fetched_entries}
 use Rattle.vault.specs.Opening.{work_blocks, OpensRows, LosesWork, TakesWork, KeepsHeard, WorksAs, CanWork}
-use Rattle.vault.specs.Orders.{Opened, fetches_left, works_left, is_fetch, is_work}
+use Rattle.vault.specs.Orders.{Phase, Between, Fetching, Opened, GoesOn, fetches_left, works_left, is_fetch, is_work}
 use Rattle.vault.specs.Running.{place_in, heard_of, KeepsAll, IsFed, IsStopped}
 use Rattle.vault.specs.Desks.{DeskStands, Comes, DeskMakesStep}
-use Rattle.vault.specs.Tasks.{bench_object, IsGet, IsRepair, IsTask, IsRunning, HasFetched}
-use Rattle.vault.proofs.FirstVersion.{plain-core, worked-plain}
+use Rattle.stripe_bench.specs.declared.bench.Bench.{Bench}
+use Rattle.stripe_bench.specs.Bench.{bench_object, turned, IsBench}
+use Rattle.vault.specs.Tasks.{AreOfSetup, Serves, IsAtHand, IsGet, IsRepair, IsTask, IsRunning, HasFetched}
+use Rattle.vault.proofs.Unpacked.{worked-own}
 use Rattle.vault.proofs.Allowed.{IsAllowed, next_allowed}
-use Rattle.vault.proofs.StoreStep.{turned_is, bench_after, bench_count}
+use Rattle.vault.proofs.Kits.{turned_is, bench_after, bench_count, first_count, own_after, serves_after}
 use Rattle.vault.proofs.Stops.{ends_by}
 use Rattle.vault.proofs.Ways.{actions_same, at_place, handed_same, goes_on}
-use Rattle.vault.proofs.Worked.{all_fetched, order_opened, enough_present, enough_symbols, last_is, worked_is, worked_other}
+use Rattle.vault.proofs.Worked.{all_fetched, order_opened, enough_present, enough_symbols, last_is}
+use Rattle.stripe_bench.proofs.Gifts.{worked_is, worked_other}
 
 -- ---- the bytes of a get
 
@@ -73,8 +75,7 @@ bytes_after id k rows bytes given is =
 
 -- ---- the job
 
-module _ (w : State) (job : Job) (o s : ℕ) (next : next_action w job ≡ Some (Work o s))
-    (plain : IsPlainJob (setup_in w) job) where
+module _ (w : State) (job : Job) (o s : ℕ) (next : next_action w job ≡ Some (Work o s)) where
   not_allowed : (kind : Kind) → job.kind ≡ kind → IsAllowed (setup_in w).n kind (Work o s)
   not_allowed kind is =
       subst (λ (x : Kind). IsAllowed (setup_in w).n x (Work o s)) is (next_allowed w job (Work o s) next)
@@ -112,7 +113,7 @@ module _ (w : State) (job : Job) (o s : ℕ) (next : next_action w job ≡ Some 
       by_task (task.Put t) is = absurd (not_allowed (PutJob is.name t.bytes) is.kind)
       by_task (task.Get t) is =
           let has = get_fetched t is in
-          let n = bench_count (setup_in w) t.bench is.bench in (
+          let n = bench_count (setup_in w) is.file.profile t.bench is.bench in (
             record {
               size = is.size;
               present = subst (λ (m : ℕ). m ≤ length t.fetched.blocks.present.items) (sym n)
@@ -127,10 +128,11 @@ module _ (w : State) (job : Job) (o s : ℕ) (next : next_action w job ≡ Some 
             ),
           )
       by_task task.Drop is = absurd (not_allowed (DropJob is.name) is.kind)
+      by_task task.Upgrade is = absurd (not_allowed UpgradeJob is)
       by_task (task.Audit t) is = absurd (not_allowed AuditJob is.kind)
       by_task (task.Repair t) is =
           let has = repair_fetched t is in
-          let n = bench_count (setup_in w) t.bench is.bench in
+          let n = first_count (setup_in w) t.bench t.others.items is.benches in
           record {
             size = is.size;
             present = subst (λ (m : ℕ). m ≤ length t.blocks.present.items) (sym n)
@@ -142,16 +144,39 @@ module _ (w : State) (job : Job) (o s : ℕ) (next : next_action w job ≡ Some 
   get_blocks : (t : GetTask) → IsGet (setup_in w) t job (Work o s ∷ tail) →
       work_blocks (task.Get t) ≡ blocks_given job.given (setup_in w).n o s
   get_blocks t is =
-      subst (λ (m : ℕ). Rattle.vault.specs.Opening.last_blocks m t.fetched.blocks
-      ≡ blocks_given job.given (setup_in w).n o s) (sym (bench_count (setup_in w) t.bench is.bench))
+      subst (λ (m : ℕ). Rattle.stripe_bench.specs.Blocks.last_blocks m t.fetched.blocks
+      ≡ blocks_given job.given (setup_in w).n o s)
+      (sym (bench_count (setup_in w) is.file.profile t.bench is.bench))
       (last_is (setup_in w).n o s t.fetched.blocks job.given (get_fetched t is))
 
   repair_blocks : (t : RepairTask) → IsRepair (setup_in w) t job (Work o s ∷ tail) →
       work_blocks (task.Repair t) ≡ blocks_given job.given (setup_in w).n o s
   repair_blocks t is =
-      subst (λ (m : ℕ). Rattle.vault.specs.Opening.last_blocks m t.blocks
-      ≡ blocks_given job.given (setup_in w).n o s) (sym (bench_count (setup_in w) t.bench is.bench))
+      subst (λ (m : ℕ). Rattle.stripe_bench.specs.Blocks.last_blocks m t.blocks
+      ≡ blocks_given job.given (setup_in w).n o s)
+      (sym (first_count (setup_in w) t.bench t.others.items is.benches))
       (last_is (setup_in w).n o s t.blocks job.given (repair_fetched t is))
+
+  -- the bench of a get is that of the object
+  get_turned : (t : GetTask) → IsGet (setup_in w) t job (Work o s ∷ tail) →
+      turned t.bench o ≡ worked_object w job o
+  get_turned t is = turned_is (setup_in w) is.file.profile t.bench o is.bench
+      ∙ worked-own w job is.file o is.pinned is.opens.0
+
+  -- and so is the one that a repair has at hand
+  at_hand : (phase : Phase) (bench : Bench) → GoesOn (setup_in w).n phase (Work o s ∷ tail) →
+      IsAtHand (setup_in w) job.pinned phase bench →
+      IsBench (setup_in w) (pinned_profile (setup_in w).profile job.pinned o) bench
+  at_hand Between bench order at = absurd order
+  at_hand (Opened p t) bench order at = absurd order
+  at_hand (Fetching p t c) bench order at =
+      subst (λ (q : ℕ). IsBench (setup_in w) (pinned_profile (setup_in w).profile job.pinned q) bench)
+      (sym order.1) at
+
+  repair_turned : (t : RepairTask) → IsRepair (setup_in w) t job (Work o s ∷ tail) →
+      turned t.bench o ≡ worked_object w job o
+  repair_turned t is = turned_is (setup_in w) (pinned_profile (setup_in w).profile job.pinned o) t.bench o
+      (at_hand is.phase t.bench is.order is.bench)
 
   -- the symbols that a job then has at hand
   abbrev rows_of : Task → List ℕ
@@ -168,26 +193,28 @@ module _ (w : State) (job : Job) (o s : ℕ) (next : next_action w job ≡ Some 
           GivesSymbols (worked_object w job o) s (blocks_given job.given (setup_in w).n o s) (rows_of u)
       by_task (task.Get t) (task.Get u) is opens =
           subst (λ (x : Object). GivesSymbols x s (blocks_given job.given (setup_in w).n o s)
-          u.bench.rows.items) (turned_is (setup_in w) t.bench o is.bench ∙ worked-plain w job o plain)
-          (subst (λ (l : List SeenBlock). GivesSymbols
-          (Rattle.vault.specs.Storing.turned t.bench o) s l u.bench.rows.items) (get_blocks t is) opens)
+          u.bench.rows.items) (get_turned t is)
+          (subst (λ (l : List SeenBlock). GivesSymbols (turned t.bench o) s l u.bench.rows.items)
+          (get_blocks t is) opens)
       by_task (task.Repair t) (task.Repair u) is opens =
           subst (λ (x : Object). GivesSymbols x s (blocks_given job.given (setup_in w).n o s)
-          u.bench.rows.items) (turned_is (setup_in w) t.bench o is.bench ∙ worked-plain w job o plain)
-          (subst (λ (l : List SeenBlock). GivesSymbols
-          (Rattle.vault.specs.Storing.turned t.bench o) s l u.bench.rows.items)
+          u.bench.rows.items) (repair_turned t is)
+          (subst (λ (l : List SeenBlock). GivesSymbols (turned t.bench o) s l u.bench.rows.items)
           (repair_blocks t is) opens)
       by_task (task.Get t) (task.Put u) is opens = absurd opens
       by_task (task.Get t) task.Drop is opens = absurd opens
+      by_task (task.Get t) task.Upgrade is opens = absurd opens
       by_task (task.Get t) (task.Audit u) is opens = absurd opens
       by_task (task.Get t) (task.Repair u) is opens = absurd opens
       by_task (task.Repair t) (task.Put u) is opens = absurd opens
       by_task (task.Repair t) task.Drop is opens = absurd opens
+      by_task (task.Repair t) task.Upgrade is opens = absurd opens
       by_task (task.Repair t) (task.Audit u) is opens = absurd opens
       by_task (task.Repair t) (task.Get u) is opens = absurd opens
       by_task (task.Put t) u is opens = absurd opens
       by_task task.Drop u is opens = absurd opens
       by_task (task.Audit t) u is opens = absurd opens
+      by_task task.Upgrade u is opens = absurd opens
 
   -- a row that is lost is the one that the machine's work loses
   pub loses : (r : Running) (row : ℕ) → IsRunning (setup_in w) r job → LosesWork r.task o s row →
@@ -198,17 +225,16 @@ module _ (w : State) (job : Job) (o s : ℕ) (next : next_action w job ≡ Some 
           LosesRow (worked_object w job o) s (blocks_given job.given (setup_in w).n o s) row
       by_task (task.Get t) is lost =
           subst (λ (x : Object). LosesRow x s (blocks_given job.given (setup_in w).n o s) row)
-          (turned_is (setup_in w) t.bench o is.bench ∙ worked-plain w job o plain)
-          (subst (λ (l : List SeenBlock). LosesRow (Rattle.vault.specs.Storing.turned t.bench o) s l row)
-          (get_blocks t is) lost)
+          (get_turned t is)
+          (subst (λ (l : List SeenBlock). LosesRow (turned t.bench o) s l row) (get_blocks t is) lost)
       by_task (task.Repair t) is lost =
           subst (λ (x : Object). LosesRow x s (blocks_given job.given (setup_in w).n o s) row)
-          (turned_is (setup_in w) t.bench o is.bench ∙ worked-plain w job o plain)
-          (subst (λ (l : List SeenBlock). LosesRow (Rattle.vault.specs.Storing.turned t.bench o) s l row)
-          (repair_blocks t is) lost)
+          (repair_turned t is)
+          (subst (λ (l : List SeenBlock). LosesRow (turned t.bench o) s l row) (repair_blocks t is) lost)
       by_task (task.Put t) is lost = absurd lost
       by_task task.Drop is lost = absurd lost
       by_task (task.Audit t) is lost = absurd lost
+      by_task task.Upgrade is lost = absurd lost
 
   -- ---- what a job works with, after
 
@@ -218,18 +244,18 @@ module _ (w : State) (job : Job) (o s : ℕ) (next : next_action w job ≡ Some 
 
     get_after : (t u : GetTask) → IsGet (setup_in w) t job (Work o s ∷ tail) →
         TakesWork (task.Get t) (task.Get u) o → u.bench.rows.items ≡ rows →
-        length rows ≡ stripe_symbols (object_of (setup_in w) o) → IsGet (setup_in w) u next_job tail
+        length rows ≡ stripe_symbols (worked_object w job o) → IsGet (setup_in w) u next_job tail
     get_after t u is takes rows_is size =
         let st = setup_in w in
         let moved = takes.0 in
-        let turned_to = takes.2 ∙ turned_is st t.bench o is.bench in
+        let turned_to = takes.2 ∙ get_turned t is in
         let long : length u.bytes.items ≡ length t.bytes.items + 16 * length rows =
         ap length takes.3 ∙ length-append t.bytes.items (bytes_of_symbols u.bench.rows.items)
         ∙ ap (λ (m : ℕ). length t.bytes.items + m) (length-bytes_of_symbols u.bench.rows.items
         ∙ ap (λ (l : List ℕ). 16 * length l) rows_is) in
-        let per : stripe_symbols (bench_object t.bench) ≡ stripe_symbols (object_of (setup_in w) o) =
-        ap stripe_symbols is.bench in
-        let per' : stripe_symbols (bench_object u.bench) ≡ stripe_symbols (object_of (setup_in w) o) =
+        let per : stripe_symbols (bench_object t.bench) ≡ stripe_symbols (worked_object w job o) =
+        ap stripe_symbols (get_turned t is) in
+        let per' : stripe_symbols (bench_object u.bench) ≡ stripe_symbols (worked_object w job o) =
         ap stripe_symbols turned_to in
         let works = ap (λ (m : ℕ). m * (16 * stripe_symbols (bench_object t.bench))) works_are in
         record {
@@ -238,7 +264,7 @@ module _ (w : State) (job : Job) (o s : ℕ) (next : next_action w job ≡ Some 
           file = is.file;
           pinned = is.pinned;
           length_is = takes.1 ∙ is.length_is;
-          bench = bench_after st t.bench u.bench o is.bench takes.2;
+          bench = bench_after st is.file.profile t.bench u.bench o is.bench takes.2;
           size = ap (λ (f : Fetches). f.blocks.size) moved ∙ is.size
               ∙ sym (ap (λ (x : Object). x.profile.size) takes.2);
           job_is = ap (λ (f : Fetches). f.job) moved ∙ is.job_is;
@@ -301,7 +327,14 @@ module _ (w : State) (job : Job) (o s : ℕ) (next : next_action w job ≡ Some 
         let emptied = takes.0 in
         record {
           kind = is.kind;
-          bench = bench_after st t.bench u.bench o is.bench takes.1;
+          benches = subst (λ (l : Vec Bench Global). AreOfSetup st (u.bench ∷ l.items)) (sym takes.2)
+              (own_after st t.bench u.bench t.others.items o is.benches takes.1);
+          each = λ q. subst (λ (l : Vec Bench Global). Serves st
+              (pinned_profile st.profile job.pinned q) (u.bench ∷ l.items)) (sym takes.2)
+              (serves_after st (pinned_profile st.profile job.pinned q) t.bench u.bench t.others.items o
+              (is.each q) takes.1);
+          bench = bench_after st (pinned_profile st.profile job.pinned o) t.bench u.bench o
+              (at_hand is.phase t.bench is.order is.bench) takes.1;
           size = emptied.size ∙ is.size ∙ sym (ap (λ (x : Object). x.profile.size) takes.1);
           phase = Opened o s;
           order = order_opened st.n o s tail t.blocks t.bench.rows.items job.given is.phase is.order;
@@ -309,12 +342,7 @@ module _ (w : State) (job : Job) (o s : ℕ) (next : next_action w job ≡ Some 
           present = ap length emptied.present;
           symbols = ap length emptied.symbols ∙ (let e : 0 ≡ 0 * u.blocks.size = omega arith in e);
           room_present = omega (arith, is.room_present, emptied.present_room);
-          room_symbols = omega (
-            arith,
-            is.room_symbols,
-            emptied.symbols_room,
-            ap (λ (m : ℕ). st.n * m) emptied.size,
-          );
+          room_symbols = omega (arith, is.room_symbols, emptied.symbols_room);
         }
 
   -- the job goes on with its stripe opened
@@ -327,27 +355,29 @@ module _ (w : State) (job : Job) (o s : ℕ) (next : next_action w job ≡ Some 
         (advanced_with job (Worked o s (rows_of r'.task))) l r'.task)
         (sym (ap (drop (job.place + 1))
         (actions_same (setup_in w) job (job.place + 1) (Worked o s (rows_of r'.task) ∷ job.given))))
-        (by_task r.task r'.task (listed r running) ((gives r r'.task running opens).size
-        ∙ ap stripe_symbols (sym (worked-plain w job o plain))) takes);
+        (by_task r.task r'.task (listed r running) (gives r r'.task running opens).size takes);
   }
     where
       by_task : (t u : Task) → IsTask (setup_in w) job (Work o s ∷ tail) t →
-          length (rows_of u) ≡ stripe_symbols (object_of (setup_in w) o) → TakesWork t u o →
+          length (rows_of u) ≡ stripe_symbols (worked_object w job o) → TakesWork t u o →
           IsTask (setup_in w) (advanced_with job (Worked o s (rows_of u))) tail u
       by_task (task.Get t) (task.Get u) is size takes = get_after u.bench.rows.items t u is takes refl size
       by_task (task.Repair t) (task.Repair u) is size takes =
           repair_after u.bench.rows.items t u is takes refl
       by_task (task.Get t) (task.Put u) is size takes = absurd takes
       by_task (task.Get t) task.Drop is size takes = absurd takes
+      by_task (task.Get t) task.Upgrade is size takes = absurd takes
       by_task (task.Get t) (task.Audit u) is size takes = absurd takes
       by_task (task.Get t) (task.Repair u) is size takes = absurd takes
       by_task (task.Repair t) (task.Put u) is size takes = absurd takes
       by_task (task.Repair t) task.Drop is size takes = absurd takes
+      by_task (task.Repair t) task.Upgrade is size takes = absurd takes
       by_task (task.Repair t) (task.Audit u) is size takes = absurd takes
       by_task (task.Repair t) (task.Get u) is size takes = absurd takes
       by_task (task.Put t) u is size takes = absurd takes
       by_task task.Drop u is size takes = absurd takes
       by_task (task.Audit t) u is size takes = absurd takes
+      by_task task.Upgrade u is size takes = absurd takes
 
 -- what a job heard is as before
 heard_same : (t u : Task) → KeepsHeard t u → heard_of u ≡ heard_of t
@@ -356,23 +386,23 @@ heard_same (task.Get t) (task.Get u) keeps =
 heard_same (task.Repair t) (task.Repair u) keeps = refl
 heard_same (task.Get t) (task.Put u) keeps = absurd keeps
 heard_same (task.Get t) task.Drop keeps = absurd keeps
+heard_same (task.Get t) task.Upgrade keeps = absurd keeps
 heard_same (task.Get t) (task.Audit u) keeps = absurd keeps
 heard_same (task.Get t) (task.Repair u) keeps = absurd keeps
 heard_same (task.Repair t) (task.Get u) keeps = absurd keeps
 heard_same (task.Repair t) (task.Put u) keeps = absurd keeps
 heard_same (task.Repair t) task.Drop keeps = absurd keeps
+heard_same (task.Repair t) task.Upgrade keeps = absurd keeps
 heard_same (task.Repair t) (task.Audit u) keeps = absurd keeps
 heard_same (task.Put t) u keeps = absurd keeps
 heard_same task.Drop u keeps = absurd keeps
 heard_same (task.Audit t) u keeps = absurd keeps
+heard_same task.Upgrade u keeps = absurd keeps
 
 module _ (v : Desk) (w : State) (d : Devices) (moment number o s : ℕ) (stands : DeskStands v d w)
     (comes : Comes v.core number (Work o s)) where
   coming : ComesNext w number (Work o s) None
   coming = comes.machine w stands.core
-
-  plain_job : IsPlainJob (setup_in w) coming.job
-  plain_job = plain-core v.core w number coming.job stands.core stands.first coming.runs
 
   module _ (place : ℕ) (r : Running) (at : place_in v.jobs.items number ≡ Some place)
       (there : slice_get v.jobs.items place ≡ Some r) where
@@ -381,7 +411,7 @@ module _ (v : Desk) (w : State) (d : Devices) (moment number o s : ℕ) (stands 
 
     -- there is something to open
     pub work_there : CanWork r.task
-    work_there = can_work w coming.job o s coming.comes plain_job r runs
+    work_there = can_work w coming.job o s coming.comes r runs
 
     module _ (r' : Running) (same_number : r'.number ≡ r.number) where
       -- work that is done is a step of the machine
@@ -392,14 +422,21 @@ module _ (v : Desk) (w : State) (d : Devices) (moment number o s : ℕ) (stands 
       work_step v' result x is works jobs keeps_all flight fed =
           let done : OpensRows r.task r'.task o s × TakesWork r.task r'.task o =
           subst (λ (y : Result Unit RowLost). WorksAs r.task r'.task o s y) is works in
-          let rows = rows_of w coming.job o s coming.comes plain_job r'.task in
+          let rows = rows_of w coming.job o s coming.comes r'.task in
           let new : State = going_on w (advanced_with coming.job (Worked o s rows)) in
           goes_on v v' w new d.holds d.faults moment number place d.providers d.providers (Work o s) r'
           (advanced_with coming.job (Worked o s rows)) stands coming
-          (rows, gives w coming.job o s coming.comes plain_job r r'.task runs done.0, refl)
-          (record { records = refl; doubt = refl; append = refl; faults = refl; barred = refl })
+          (rows, gives w coming.job o s coming.comes r r'.task runs done.0, refl)
+          (record {
+  records = refl;
+  journal = refl;
+  doubt = refl;
+  append = refl;
+  faults = refl;
+  barred = refl;
+})
           refl refl
-          (runs_on w coming.job o s coming.comes plain_job r r' runs same_number done.0 done.1)
+          (runs_on w coming.job o s coming.comes r r' runs same_number done.0 done.1)
           at jobs
           (handed_same d.providers w new stands.devices.providers refl (λ j. refl))
           keeps_all flight fed
@@ -418,11 +455,18 @@ module _ (v : Desk) (w : State) (d : Devices) (moment number o s : ℕ) (stands 
           ends_by v v1 v2 w new d.holds d.faults moment number place d.providers d.providers (Work o s) r r'
           (reply.Lost row) (answer.Lost s row) turn stands coming (
             refl,
-            loses w coming.job o s coming.comes plain_job r row runs
+            loses w coming.job o s coming.comes r row runs
                 (subst (λ (m : ℕ). LosesWork r.task o s m) (sym row_is) loss.0),
             refl,
           )
-          (record { records = refl; doubt = refl; append = refl; faults = refl; barred = refl })
+          (record {
+  records = refl;
+  journal = refl;
+  doubt = refl;
+  append = refl;
+  faults = refl;
+  barred = refl;
+})
           (ap (without_job w.jobs) (number_of w.jobs number coming.job coming.runs))
           at there
           (record {

@@ -1,42 +1,17 @@
 -- The work on a stripe, of a get or a repair.
 use Rattle.std.proofs.Common.{◌≡◌, ℕ, ◌+◌, ◌*◌, ◌-◌, ◌<◌, ◌≤◌, ◌==◌, ◌&&◌, Bool, true, false, List, [], ◌∷◌, ◌++◌, length, drop, map, refl, sym, ap, subst, ◌∙◌, arith, length-append}
 use Rattle.std.specs.List.{range_with_len}
-use Rattle.std.proofs.lemmas.Bool.{eq-eqb, ne_eqb}
 use Rattle.std.proofs.Math.Seq.{drop-append_seam}
-use Rattle.column_defs.specs.Opened.{SeenBlock}
 use Rattle.column_codec.specs.PresentBlocks.{present_blocks}
 use Rattle.column_codec.proofs.PresentLemmas.{length-present_blocks}
-use Rattle.machine_defs.specs.Actions.{Action, Work}
-use Rattle.machine_defs.specs.Given.{block_given, blocks_given, symbols_given}
-use Rattle.machine_defs.specs.Jobs.{Given, Fetched, Worked}
-use Rattle.machine_defs.proofs.JobLists.{cond_true, cond_false}
-use Rattle.vault.specs.declared.blocks.Blocks.{Blocks}
-use Rattle.vault.specs.Opening.{last_blocks}
-use Rattle.vault.specs.Orders.{Phase, Between, Fetching, Opened, GoesOn}
-use Rattle.vault.specs.Tasks.{fetched_gifts, HasFetched, IsInWork}
-
--- ---- the blocks that were given
-
--- what is given of a provider before those of the list
-below : (o s c j : ℕ) (blocks : List SeenBlock) (older : List Given) → j < c →
-    block_given (fetched_gifts o s c blocks older) o s j ≡ block_given older o s j
-below o s c j [] older less = refl
-below o s c j (b ∷ blocks) older less =
-    below o s (c + 1) j blocks (Fetched c o s b ∷ older) (omega (arith, less))
-    ∙ cond_false ((c == j) && (o == o) && (s == s)) b (block_given older o s j)
-    (ap (λ (t : Bool). t && (o == o) && (s == s)) (ne_eqb c j (λ e. absurd (omega (arith, less, e)))))
-
--- the blocks of the list are given
-pub gifts_give : (o s c : ℕ) (blocks : List SeenBlock) (older : List Given) →
-    map (block_given (fetched_gifts o s c blocks older) o s) (range_with_len c (length blocks)) ≡ blocks
-gifts_give o s c [] older = refl
-gifts_give o s c (b ∷ blocks) older =
-    (λ i. (below o s (c + 1) c blocks (Fetched c o s b ∷ older) (omega arith) ∙ itself) i ∷ gifts_give o s
-    (c + 1) blocks (Fetched c o s b ∷ older) i)
-  where
-    itself : block_given (Fetched c o s b ∷ older) o s c ≡ b
-    itself = cond_true ((c == c) && (o == o) && (s == s)) b (block_given older o s c)
-        (λ i. eq-eqb c c refl i && eq-eqb o o refl i && eq-eqb s s refl i)
+use Rattle.machine_defs.specs.Actions.{Action, WriteBody, SyncBody, WriteGate, SyncGate, Store, Fetch, Ask, Work, Remove, End}
+use Rattle.machine_defs.specs.Given.{block_given, blocks_given}
+use Rattle.machine_defs.specs.Jobs.{Given}
+use Rattle.stripe_bench.specs.declared.blocks.Blocks.{Blocks}
+use Rattle.stripe_bench.specs.Blocks.{last_blocks}
+use Rattle.vault.specs.Orders.{Phase, Between, Fetching, Opened, GoesOn, OpensFrom}
+use Rattle.stripe_bench.proofs.Gifts.{gifts_give}
+use Rattle.vault.specs.Tasks.{HasFetched, IsInWork}
 
 -- ---- the last blocks
 
@@ -86,21 +61,20 @@ module _ (n o s : ℕ) (b : Blocks) (given : List Given) (has : HasFetched o s n
       ∙ sym (gifts_give o s 0 blocks has.older)
       ∙ (λ i. map (block_given ((sym has.given_is) i) o s) (range_with_len 0 (count i)))
 
--- ---- the symbols that were given
+-- ---- the only object of a get
 
--- the symbols of a stripe that was worked on are those that the work gave
-pub worked_is : (o s : ℕ) (rows : List ℕ) (given : List Given) →
-    rows ≡ symbols_given (Worked o s rows ∷ given) o s
-worked_is o s rows given =
-    sym (cond_true ((o == o) && (s == s)) rows (symbols_given given o s)
-    (λ i. eq-eqb o o refl i && eq-eqb s s refl i))
-
--- work on another stripe changes no symbols of this one
-pub worked_other : (o s p t : ℕ) (rows : List ℕ) (given : List Given) → (s ≡ t → ⊥) →
-    symbols_given (Worked o s rows ∷ given) p t ≡ symbols_given given p t
-worked_other o s p t rows given other = cond_false ((o == p) && (s == t)) rows (symbols_given given p t)
-    (and_false (o == p) (s == t) (ne_eqb s t other))
-  where
-    and_false : (x y : Bool) → y ≡ false → (x && y) ≡ false
-    and_false true y is = is
-    and_false false y is = refl
+-- the stripe that is fetched is worked on, so that it is one of the object whose stripes are opened
+pub own_object : (n : ℕ) (rest : List Action) (id total opened : ℕ) (o s c : ℕ) →
+    GoesOn n (Fetching o s c) rest → OpensFrom id total opened rest → o ≡ id
+own_object n [] id total opened o s c order opens = absurd order
+own_object n (Fetch j p t ∷ rest) id total opened o s c order opens =
+    own_object n rest id total opened o s (c + 1) order.4 opens
+own_object n (Work p t ∷ rest) id total opened o s c order opens = sym order.1 ∙ opens.0
+own_object n (Store j p t ∷ rest) id total opened o s c order opens = absurd order
+own_object n (Ask j p t ∷ rest) id total opened o s c order opens = absurd order
+own_object n (Remove j p ∷ rest) id total opened o s c order opens = absurd order
+own_object n (WriteBody ∷ rest) id total opened o s c order opens = absurd order
+own_object n (SyncBody ∷ rest) id total opened o s c order opens = absurd order
+own_object n (WriteGate ∷ rest) id total opened o s c order opens = absurd order
+own_object n (SyncGate ∷ rest) id total opened o s c order opens = absurd order
+own_object n (End ∷ rest) id total opened o s c order opens = absurd order

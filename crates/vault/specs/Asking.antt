@@ -1,8 +1,10 @@
 -- What an ask does to what an audit works with.
 --
---   length_among pinned object                  == the length of the file of an object number among those
---                                                  that a job works on; None where there is none
---   length_in c job object                      == the same of those of a running job
+--   pin_among pinned object                     == the file of an object number among those that a job works
+--                                                  on; None where there is none
+--   pin_in c job object                         == the same of those of a running job
+--   profile_or other file                       == the profile of a file, and the other one where there is
+--                                                  none
 --   IsQuestion v job object round q             == the file, the audit's number, the round and the picks of
 --                                                  an ask
 --   challenge_put master q                      == the challenge of it
@@ -23,8 +25,8 @@
 --   MayPut v job object                         == there is such a file, which has rows
 use Rattle.std.specs.Prelude.{◌≡◌, ℕ, ◌+◌, ◌-◌, ◌*◌, ◌≤◌, ◌<◌, ◌^◌, ◌==◌, Bool, true, false, List, [], ◌∷◌, ◌++◌, length, drop, Option, None, Some, IfSome, vec_len, vec_capacity, nat_lt, position, slice_get}
 use Rattle.std.specs.List.{list_all}
-use Rattle.std.specs.Option.{option_map}
 use Rattle.column_defs.specs.Challenges.{Challenge, challenge_of}
+use Rattle.code_defs.specs.Profiles.{profile_of}
 use Rattle.code_points.specs.Profile.{plain_profile}
 use Rattle.column_defs.specs.Objects.{Object, stripes}
 use Rattle.column_defs.specs.Verdicts.{Sums, Judges}
@@ -43,23 +45,28 @@ use Rattle.vault.specs.declared.tasks.Task.{Task}
 use Rattle.vault.specs.declared.tasks.Task.TheVariants as task
 use Rattle.vault.specs.declared.desk.Desk.{Desk}
 
--- the length of the file at a place
-abbrev pub length_at : List Pinned → Option ℕ → Option ℕ
-length_at fs None = None
-length_at fs (Some k) = option_map (λ (f : Pinned). f.length) (slice_get fs k)
+-- the file at a place
+abbrev pub pin_at : List Pinned → Option ℕ → Option Pinned
+pin_at fs None = None
+pin_at fs (Some k) = slice_get fs k
 
--- the length of the file of an object number
-abbrev pub length_among : List Pinned → ℕ → Option ℕ
-length_among fs object = length_at fs (position (λ (f : Pinned). f.id == object) fs)
+-- the file of an object number
+abbrev pub pin_among : List Pinned → ℕ → Option Pinned
+pin_among fs object = pin_at fs (position (λ (f : Pinned). f.id == object) fs)
 
 -- the same of the files of a job, if it runs
-abbrev pub length_found : Option CoreJob → ℕ → Option ℕ
-length_found None object = None
-length_found (Some j) object = length_among j.plan.pins object
+abbrev pub pin_of_job : Option CoreJob → ℕ → Option Pinned
+pin_of_job None object = None
+pin_of_job (Some j) object = pin_among j.plan.pins object
 
 -- the same of those of the job of a number
-abbrev pub length_in : CoreView → ℕ → ℕ → Option ℕ
-length_in c job object = length_found (job_in c.jobs job) object
+abbrev pub pin_in : CoreView → ℕ → ℕ → Option Pinned
+pin_in c job object = pin_of_job (job_in c.jobs job) object
+
+-- the profile of a file, and this one where there is none
+abbrev pub profile_or : ℕ → Option Pinned → ℕ
+profile_or other None = other
+profile_or other (Some f) = f.profile
 
 -- the number of a job as an audit, if it runs
 abbrev pub IsAuditNumber : Option CoreJob → ℕ → Type 0
@@ -70,8 +77,10 @@ IsAuditNumber (Some j) number = number ≡ j.plan.subject
 pub record IsQuestion (v : Desk) (job object round : ℕ) (q : Question) : Type 0 where
   pub id_is : q.file.id ≡ object
   pub shape_is : q.file.shape ≡ v.shape
-  pub profile_is : q.file.profile ≡ v.profile
-  pub length_is : length_in v.core job object ≡ Some q.file.length
+  pub file : Pinned
+  pub found : pin_in v.core job object ≡ Some file
+  pub profile_is : plain_profile q.file.profile ≡ profile_of file.profile
+  pub length_is : q.file.length ≡ file.length
   pub number_is : IsAuditNumber (job_in v.core.jobs job) q.number
   pub round_is : q.round ≡ round
   pub picks_is : q.picks ≡ v.setup.picks
@@ -172,12 +181,12 @@ abbrev pub MayTell : ℕ → Task → Type 0
 MayTell n (task.Audit t) = (t.counts.n ≡ n) × IsPadded t.counts
 MayTell n t = ⊥
 
--- an object of the shape and the profile of a vault
-abbrev pub vault_object : Desk → ℕ → Object
-vault_object v object =
+-- an object of the shape of a vault, at a profile
+abbrev pub vault_object : Desk → ℕ → ℕ → Object
+vault_object v profile object =
     record {
       shape = record { n = v.shape.n; l = v.shape.l; b = v.shape.b };
-      profile = plain_profile v.profile;
+      profile = profile_of profile;
       master = [];
       id = object;
     }
@@ -186,7 +195,7 @@ vault_object v object =
 pub record MayPut (v : Desk) (job object : ℕ) : Type 0 where
   pub some_picks : 1 ≤ v.setup.picks
   pub few_picks : v.setup.picks ≤ 64
-  pub size : ℕ
-  pub length_is : length_in v.core job object ≡ Some size
-  pub few : size ≤ 2 ^ 22
-  pub rows : 1 ≤ stripes (vault_object v object) size * v.profile.size
+  pub file : Pinned
+  pub found : pin_in v.core job object ≡ Some file
+  pub few : file.length ≤ 2 ^ 22
+  pub rows : 1 ≤ stripes (vault_object v file.profile object) file.length * (profile_of file.profile).size

@@ -1,6 +1,6 @@
 -- How the desk of a vault and its devices stand for a state of the machine.
 --
---   IsShaped v                    == the shape and the profile are those of the setup
+--   IsShaped v                    == the shape is that of the setup
 --   IsFlight f flight rs told     == no append is in flight, and the disk has the text with a closed gate; or
 --                                    that of the machine is, and the disk is as after its moves so far
 --   DeskStands v d w              == the desk and the devices stand for a state in which a vault is open, and
@@ -15,7 +15,6 @@
 --   DeskMakesStep, DeskMakesBegin == a step and a begin are events of the machine
 use Rattle.std.specs.Prelude.{◌≡◌, ◌≢◌, ℕ, false, IsTrue, List, Option, Some, None, Result, IfSome}
 use Rattle.std.specs.List.{list_all}
-use Rattle.code_defs.specs.Profiles.{profile_of}
 use Rattle.device_defs.specs.Cells.{Cells}
 use Rattle.device_defs.specs.Providers.{Provider}
 use Rattle.record_defs.specs.Records.{Record, is_appended}
@@ -29,7 +28,6 @@ use Rattle.machine_defs.specs.Begins.{BeginsAt}
 use Rattle.machine_defs.specs.States.{State, setup_in}
 use Rattle.machine_defs.specs.States as states
 use Rattle.machine_defs.specs.Machine.{Happens}
-use Rattle.code_points.specs.Profile.{plain_profile}
 use Rattle.record_codec.specs.Entries.{with_master}
 use Rattle.journal_core.specs.Appends.{Appends, moves_of}
 use Rattle.journal_core.specs.Moves.{IsClosed}
@@ -46,12 +44,11 @@ use Rattle.vault.specs.Devices.{IsSameBeyond, IsSamePast}
 use Rattle.vault.specs.Outcomes.{outcome_of, begin_outcome, IfEnded}
 use Rattle.vault.specs.Tasks.{AreRunning}
 
--- the shape and the profile are those of the setup
+-- the shape is that of the setup
 pub record IsShaped (v : Desk) : Type 0 where
   pub n : v.shape.n ≡ v.setup.n
   pub l : v.shape.l ≡ v.setup.l
   pub b : v.shape.b ≡ v.setup.b
-  pub profile : plain_profile v.profile ≡ profile_of v.setup.profile
 
 -- the append in flight, and what the disk holds of it
 abbrev pub IsFlight : Option Flight → Option states.Append → List Record → Option Cells → Type 0

@@ -17,3 +17,4 @@ answer_at_end (task.Get t) number undecided counts = answer.Got (take t.length t
 answer_at_end task.Drop number undecided counts = answer.Dropped
 answer_at_end (task.Audit t) number undecided counts = answer.Audited number undecided counts
 answer_at_end (task.Repair t) number undecided counts = answer.Repaired number
+answer_at_end task.Upgrade number undecided counts = answer.Upgraded

@@ -9,7 +9,7 @@ use Rattle.vault.specs.declared.heard.Fetch.{Fetch}
 use Rattle.vault.specs.declared.heard.Fetches.{Fetches}
 use Rattle.vault.specs.declared.tasks.Task.{Task}
 use Rattle.vault.specs.declared.tasks.Task.TheVariants as task
-use Rattle.vault.specs.Blocks.{Grows, HasRoom}
+use Rattle.stripe_bench.specs.Blocks.{Grows, HasRoom}
 
 -- one fetch more was made
 pub record GrowsFetches (old new : Fetches) (fetch : Fetch) (found : Bool) (block : List ℕ) : Type 0 where

@@ -6,20 +6,15 @@
 --   entry_heard heard                  == one of them
 use Rattle.std.specs.Prelude.{ℕ, List, [], ◌∷◌, Option}
 use Rattle.std.specs.Option.{option_map}
-use Rattle.column_codec.specs.PresentBlocks.{present_blocks}
 use Rattle.machine_defs.specs.Jobs.{Fetched, Answered}
 use Rattle.machine_defs.specs.Heard.{Entry}
-use Rattle.vault.specs.declared.blocks.Blocks.{Blocks}
+use Rattle.stripe_bench.specs.Blocks.{blocks_in}
 use Rattle.vault.specs.declared.heard.Fetch.{Fetch}
 use Rattle.vault.specs.declared.heard.Ask.{Ask}
 use Rattle.vault.specs.declared.heard.Parts.{Parts}
 use Rattle.vault.specs.declared.heard.Parts.TheVariants as part
 use Rattle.vault.specs.declared.heard.Heard.{Heard}
 use Rattle.vault.specs.declared.heard.Heard.TheVariants as heard
-
--- the blocks that were fetched, each where its provider gave it
-abbrev pub blocks_in : Blocks → List (Option (List ℕ))
-blocks_in b = present_blocks b.size b.present.items b.symbols.items
 
 -- an entry for each fetch, with what it gave
 abbrev pub fetched_entries : ℕ → List Fetch → List (Option (List ℕ)) → List Entry

@@ -1,6 +1,5 @@
 pub mod Asking
 pub mod Devices
-pub mod Blocks
 pub mod Outcomes
 pub mod Heard
 pub mod Orders

@@ -1,9 +1,5 @@
 -- What the work on a stripe does to what a job works with.
 --
---   OpensAs o stripe seen result rows    == seen blocks opened to these rows, or lost one
---   last_blocks n b                      == the last n blocks
---   HasLast bench b                      == there are a block for each provider of an object, of its size
---   HasEmptied b b'                      == the blocks are gone, and their room is left
 --   work_blocks task                     == the blocks that a job opens
 --   OpensRows, LosesWork                 == they open to the rows that are at hand then; a row of them is not
 --                                           accepted
@@ -11,42 +7,14 @@
 --                                           room for the next blocks
 --   WorksAs old new object stripe result == what the work on a stripe came to
 --   CanWork task                         == a job has the blocks of a stripe, and room for its bytes
-use Rattle.std.specs.Prelude.{◌≡◌, ℕ, ◌+◌, ◌-◌, ◌*◌, ◌≤◌, List, [], ◌++◌, length, drop, Result, Ok, Err, vec_len, vec_capacity}
-use Rattle.column_defs.specs.Objects.{Object, bytes_of_symbols, stripe_symbols}
+use Rattle.std.specs.Prelude.{◌≡◌, ℕ, ◌+◌, ◌*◌, ◌≤◌, List, [], ◌++◌, Result, Ok, Err, vec_len, vec_capacity}
+use Rattle.column_defs.specs.Objects.{bytes_of_symbols, stripe_symbols}
 use Rattle.column_defs.specs.Opened.{SeenBlock, GivesSymbols, LosesRow}
-use Rattle.column_codec.specs.PresentBlocks.{present_blocks}
 use Rattle.column_codec.specs.declared.opening.RowLost.{RowLost}
-use Rattle.vault.specs.declared.bench.Bench.{Bench}
-use Rattle.vault.specs.declared.blocks.Blocks.{Blocks}
+use Rattle.stripe_bench.specs.Bench.{bench_object, turned, HasLast}
+use Rattle.stripe_bench.specs.Blocks.{last_blocks, HasEmptied}
 use Rattle.vault.specs.declared.tasks.Task.{Task}
 use Rattle.vault.specs.declared.tasks.Task.TheVariants as task
-use Rattle.vault.specs.Storing.{turned}
-use Rattle.vault.specs.Tasks.{bench_object}
-
--- seen blocks of a stripe opened to rows, or lost one
-abbrev pub OpensAs : Object → ℕ → List SeenBlock → Result Unit RowLost → List ℕ → Type 0
-OpensAs o stripe seen (Ok done) rows = GivesSymbols o stripe seen rows
-OpensAs o stripe seen (Err lost) rows = LosesRow o stripe seen lost.row
-
--- the last blocks
-abbrev pub last_blocks : ℕ → Blocks → List SeenBlock
-last_blocks n b =
-    present_blocks b.size (drop (length b.present.items - n) b.present.items)
-    (drop (length b.symbols.items - n * b.size) b.symbols.items)
-
--- there is a block for each provider of an object, of its size
-pub record HasLast (bench : Bench) (b : Blocks) : Type 0 where
-  pub size : b.size ≡ bench.keys.file.profile.size
-  pub present : bench.keys.file.shape.n ≤ length b.present.items
-  pub symbols : bench.keys.file.shape.n * b.size ≤ length b.symbols.items
-
--- the blocks are gone, and their room is left
-pub record HasEmptied (old new : Blocks) : Type 0 where
-  pub present : new.present.items ≡ []
-  pub symbols : new.symbols.items ≡ []
-  pub size : new.size ≡ old.size
-  pub present_room : vec_capacity new.present ≡ vec_capacity old.present
-  pub symbols_room : vec_capacity new.symbols ≡ vec_capacity old.symbols
 
 -- the blocks of a stripe that a job opens
 abbrev pub work_blocks : Task → List SeenBlock
@@ -77,7 +45,7 @@ TakesWork (task.Get t) (task.Get u) object =
     × (u.bytes.items ≡ t.bytes.items ++ bytes_of_symbols u.bench.rows.items)
     × (vec_capacity t.bytes ≤ vec_capacity u.bytes)
 TakesWork (task.Repair t) (task.Repair u) object =
-    HasEmptied t.blocks u.blocks × (bench_object u.bench ≡ turned t.bench object)
+    HasEmptied t.blocks u.blocks × (bench_object u.bench ≡ turned t.bench object) × (u.others ≡ t.others)
 TakesWork t u object = ⊥
 
 -- what a job heard is as before

@@ -26,7 +26,8 @@ use Rattle.vault.specs.declared.turn.Answer.{Answer}
 use Rattle.vault.specs.declared.turn.Turn.{Turn}
 use Rattle.vault.specs.declared.turn.Turn.TheVariants as turn
 use Rattle.vault.specs.declared.desk.Desk.{Desk}
-use Rattle.vault.specs.Heard.{fetched_entries, answered_entries, blocks_in}
+use Rattle.stripe_bench.specs.Blocks.{blocks_in}
+use Rattle.vault.specs.Heard.{fetched_entries, answered_entries}
 
 -- the place of the job of a number
 abbrev pub place_in : List Running → ℕ → Option ℕ
@@ -53,7 +54,6 @@ pub record KeepsAll (old new : Desk) : Type 0 where
   pub setup : new.setup ≡ old.setup
   pub master : new.master ≡ old.master
   pub shape : new.shape ≡ old.shape
-  pub profile : new.profile ≡ old.profile
 
 -- nothing changed but spare room
 pub record IsSameDesk (old new : Desk) : Type 0 where

@@ -1,6 +1,5 @@
 -- What a store does, and what it stores.
 --
---   turned bench object               == the object of a bench that was turned to another number
 --   stored_block task object j stripe == the block that a job stores: of a put's bytes, or of the symbols at
 --                                        hand of a repair
 --   KeepsTask old new object          == what the job works with is as before, but for its keys and what it
@@ -8,15 +7,10 @@
 --   IsStorer task j                   == a job that stores, and provider j is one of those of its object
 use Rattle.std.specs.Prelude.{◌≡◌, ℕ, ◌<◌, List, []}
 use Rattle.column_defs.specs.Columns.{column_of_symbols}
-use Rattle.column_defs.specs.Objects.{Object, symbols_in}
-use Rattle.vault.specs.declared.bench.Bench.{Bench}
+use Rattle.column_defs.specs.Objects.{symbols_in}
 use Rattle.vault.specs.declared.tasks.Task.{Task}
 use Rattle.vault.specs.declared.tasks.Task.TheVariants as task
-use Rattle.vault.specs.Tasks.{bench_object}
-
--- the object of a bench that was turned to another number
-abbrev pub turned : Bench → ℕ → Object
-turned bench object = record (bench_object bench) { id = object }
+use Rattle.stripe_bench.specs.Bench.{bench_object, turned}
 
 -- the block that a job stores
 abbrev pub stored_block : Task → ℕ → ℕ → ℕ → List ℕ
@@ -32,6 +26,7 @@ KeepsTask (task.Put t) (task.Put u) object =
     (u.bytes ≡ t.bytes) × (bench_object u.bench ≡ turned t.bench object)
 KeepsTask (task.Repair t) (task.Repair u) object =
     (u.blocks ≡ t.blocks) × (u.bench.rows ≡ t.bench.rows) × (bench_object u.bench ≡ turned t.bench object)
+    × (u.others ≡ t.others)
 KeepsTask t u object = ⊥
 
 -- a job that stores on this provider

@@ -1,32 +1,32 @@
 -- What a running job works with, and how it matches the job of the machine.
 --
---   IsBench s bench                    == the bench is that of an object of the setup
---   fetched_gifts o s c blocks older   == what was given, after what is older, once fetches from provider c
---                                         on gave these blocks of a stripe
---   answered_gifts o r c answers older == the same of asks in a round
+--   answered_gifts o r c answers older == what was given, after what is older, once asks of the providers
+--                                         from c on gave these answers in a round
 --   HasFetched o s c blocks given      == the last c blocks are what the fetches of the stripe in work gave
 --   IsInWork phase blocks rows given   == the same where a stripe is fetched; where it is opened the rows are
 --                                         its symbols
+--   AreOfSetup s benches               == each bench is that of an object of the setup at some profile
+--   Serves s profile benches           == one of them is that of such an object at this profile
+--   IsAtHand s pinned phase bench      == the bench is that of the object in work, by the profile of its file
 --   IsPutTask, IsGet, IsDrop, IsAudit, IsRepair, IsUpgrade s task job rest
 --                                      == what a job of this kind works with
 --   IsTask s job rest task             == one of these
 --   AreRunning s running jobs          == the running jobs, in order, with what they work with
-use Rattle.std.specs.Prelude.{◌≡◌, ℕ, ◌+◌, ◌*◌, ◌<◌, ◌≤◌, Bool, List, [], ◌∷◌, ◌++◌, length, replicate, Option, vec_len, vec_capacity}
+use Rattle.std.specs.Prelude.{◌≡◌, ◌⊎◌, ℕ, ◌+◌, ◌*◌, ◌<◌, ◌≤◌, Bool, List, [], ◌∷◌, ◌++◌, length, replicate, Option, vec_len, vec_capacity}
 use Rattle.std.specs.List.{flat_map}
 use Rattle.code_defs.specs.Points.{upto}
-use Rattle.column_defs.specs.Objects.{Object, bytes_of_symbols, stripe_symbols}
+use Rattle.column_defs.specs.Objects.{bytes_of_symbols, stripe_symbols}
 use Rattle.column_defs.specs.Verdicts.{Sums}
 use Rattle.record_defs.specs.Records.{Setup}
 use Rattle.record_codec.specs.Entries.{counted, IsPadded}
-use Rattle.file_layout.specs.Files as layout
 use Rattle.column_codec.specs.PresentBlocks.{present_blocks}
-use Rattle.machine_defs.specs.Jobs.{PutJob, GetJob, DropJob, AuditJob, RepairJob, UpgradeJob, Pinned, Given, Fetched, Answered, Job}
-use Rattle.machine_defs.specs.Setups.{object_of, pinned_stripes}
-use Rattle.machine_defs.specs.Given.{symbols_given}
+use Rattle.machine_defs.specs.Jobs.{PutJob, GetJob, DropJob, AuditJob, RepairJob, UpgradeJob, Pinned, Given, Answered, Job}
+use Rattle.machine_defs.specs.Setups.{pinned_stripes}
+use Rattle.machine_defs.specs.Given.{symbols_given, pinned_profile}
 use Rattle.machine_defs.specs.Actions.{Action, actions_left}
 use Rattle.machine_defs.specs.Heard.{entries_of}
-use Rattle.vault.specs.declared.blocks.Blocks.{Blocks}
-use Rattle.vault.specs.declared.bench.Bench.{Bench}
+use Rattle.stripe_bench.specs.declared.blocks.Blocks.{Blocks}
+use Rattle.stripe_bench.specs.declared.bench.Bench.{Bench}
 use Rattle.vault.specs.declared.tasks.PutTask.{PutTask}
 use Rattle.vault.specs.declared.tasks.GetTask.{GetTask}
 use Rattle.vault.specs.declared.tasks.AuditTask.{AuditTask}
@@ -34,22 +34,12 @@ use Rattle.vault.specs.declared.tasks.RepairTask.{RepairTask}
 use Rattle.vault.specs.declared.tasks.Task.{Task}
 use Rattle.vault.specs.declared.tasks.Task.TheVariants as task
 use Rattle.vault.specs.declared.tasks.Running.{Running}
-use Rattle.vault.specs.Heard.{blocks_in, fetched_entries, answered_entries}
+use Rattle.stripe_bench.specs.Bench.{bench_object, IsBench}
+use Rattle.stripe_bench.specs.Blocks.{blocks_in}
+use Rattle.stripe_bench.specs.Gifts.{fetched_gifts}
+use Rattle.vault.specs.Heard.{fetched_entries, answered_entries}
 use Rattle.vault.specs.Orders.{Phase, Between, Fetching, Opened, GoesOn, OpensFrom, fetches_left, works_left, asks_left}
 use Rattle.vault.specs.Rounds.{Round, rounds_in, JudgesEach, AsksOn}
-
--- the object of a bench
-abbrev pub bench_object : Bench → Object
-bench_object bench = layout.shaped_object bench.keys.master.0 bench.keys.file
-
--- a bench is that of an object of the setup
-abbrev pub IsBench : Setup → Bench → Type 0
-IsBench s bench = bench_object bench ≡ object_of s bench.keys.file.id
-
--- what was given, once fetches from provider c on gave these blocks of a stripe
-abbrev pub fetched_gifts : ℕ → ℕ → ℕ → List (Option (List ℕ)) → List Given → List Given
-fetched_gifts o s c [] older = older
-fetched_gifts o s c (block ∷ blocks) older = fetched_gifts o s (c + 1) blocks (Fetched c o s block ∷ older)
 
 -- what was given, once asks of the providers from c on gave these answers in a round
 abbrev pub answered_gifts : ℕ → ℕ → ℕ → List (Option ℕ) → List Given → List Given
@@ -81,11 +71,27 @@ abbrev pub fetched_in : Phase → ℕ
 fetched_in (Fetching o s c) = c
 fetched_in phase = 0
 
+-- each bench is that of an object of the setup, at a profile of its own
+abbrev pub AreOfSetup : Setup → List Bench → Type 0
+AreOfSetup s [] = Unit {0}
+AreOfSetup s (b ∷ bs) = ((p : ℕ) × IsBench s p b) × AreOfSetup s bs
+
+-- one of these benches is that of an object of the setup at this profile
+abbrev pub Serves : Setup → ℕ → List Bench → Type 0
+Serves s profile [] = ⊥
+Serves s profile (b ∷ bs) = IsBench s profile b ⊎ Serves s profile bs
+
+-- the bench is that of the object in work
+abbrev pub IsAtHand : Setup → List Pinned → Phase → Bench → Type 0
+IsAtHand s pinned Between bench = Unit {0}
+IsAtHand s pinned (Fetching o t c) bench = IsBench s (pinned_profile s.profile pinned o) bench
+IsAtHand s pinned (Opened o t) bench = IsBench s (pinned_profile s.profile pinned o) bench
+
 -- a put has its bytes
 pub record IsPutTask (s : Setup) (t : PutTask) (job : Job) : Type 0 where
   pub name : List ℕ
   pub kind : job.kind ≡ PutJob name t.bytes
-  pub bench : IsBench s t.bench
+  pub bench : IsBench s job.profile t.bench
 
 -- a get has what it heard and what it opened so far, and room for the rest
 pub record IsGet (s : Setup) (t : GetTask) (job : Job) (rest : List Action) : Type 0 where
@@ -94,7 +100,7 @@ pub record IsGet (s : Setup) (t : GetTask) (job : Job) (rest : List Action) : Ty
   pub file : Pinned
   pub pinned : job.pinned ≡ file ∷ []
   pub length_is : t.length ≡ length file.bytes
-  pub bench : IsBench s t.bench
+  pub bench : IsBench s file.profile t.bench
   pub size : t.fetched.blocks.size ≡ t.bench.keys.file.profile.size
   pub job_is : t.fetched.job ≡ job.number
   pub heard : fetched_entries t.fetched.job t.fetched.fetches.items (blocks_in t.fetched.blocks)
@@ -164,18 +170,20 @@ pub record IsAudit (s : Setup) (t : AuditTask) (job : Job) (rest : List Action) 
   pub room_asks : vec_len t.heard.asks + asks_left rest ≤ vec_capacity t.heard.asks
   pub room_symbols : vec_len t.heard.symbols + asks_left rest ≤ vec_capacity t.heard.symbols
 
--- a repair has what is at hand of the stripe in work, and room for its blocks
+-- a repair has what is at hand of the stripe in work, a bench for each file, and room for the blocks of each
 pub record IsRepair (s : Setup) (t : RepairTask) (job : Job) (rest : List Action) : Type 0 where
   pub kind : job.kind ≡ RepairJob
-  pub bench : IsBench s t.bench
+  pub benches : AreOfSetup s (t.bench ∷ t.others.items)
+  pub each : (o : ℕ) → Serves s (pinned_profile s.profile job.pinned o) (t.bench ∷ t.others.items)
   pub size : t.blocks.size ≡ t.bench.keys.file.profile.size
   pub phase : Phase
+  pub bench : IsAtHand s job.pinned phase t.bench
   pub order : GoesOn s.n phase rest
   pub in_work : IsInWork phase t.blocks t.bench.rows.items job.given
   pub present : length t.blocks.present.items ≡ fetched_in phase
   pub symbols : length t.blocks.symbols.items ≡ fetched_in phase * t.blocks.size
   pub room_present : s.n ≤ vec_capacity t.blocks.present
-  pub room_symbols : s.n * t.blocks.size ≤ vec_capacity t.blocks.symbols
+  pub room_symbols : s.n * 128 ≤ vec_capacity t.blocks.symbols
 
 -- what a job works with
 abbrev pub IsTask : Setup → Job → List Action → Task → Type 0

@@ -1,4 +1,4 @@
-ghost use Rattle.std.specs.Prelude.{◌≡◌, ◌≢◌, ◌<◌, ◌≤◌, ◌^◌, ◌==◌, ℕ, Bool, List, Option, Some, length, map, slice_get, position, IfSome, IsSome};
+ghost use Rattle.std.specs.Prelude.{◌≡◌, ◌≢◌, ◌<◌, ◌≤◌, ◌^◌, ◌==◌, ℕ, Bool, List, Option, length, map, slice_get, position, IfSome};
 ghost use Rattle.column_defs.specs.Challenges.{honest_answer};
 ghost use Rattle.device_defs.specs.Cells.{Cells};
 ghost use Rattle.device_defs.specs.Faults.{one_more};
@@ -10,13 +10,14 @@ ghost use Rattle.provider_model.specs.Seen.{provider_seen};
 ghost use Rattle.vault_core.specs.Coming.{core_left};
 ghost use Rattle.vault_core.specs.declared.pinned.Pinned.{Pinned as PinnedValue};
 ghost use Rattle.vault_open.specs.Devices.{devices};
-ghost use Rattle.vault.specs.Asking.{length_among, length_in, IsQuestion, challenge_put, Asked, MayAsk, TellsAsk, IsAuditing, MayPut};
+ghost use Rattle.vault.specs.Asking.{pin_among, pin_in, profile_or, IsQuestion, challenge_put, Asked, MayAsk, TellsAsk, IsAuditing, MayPut};
 ghost use Rattle.vault.specs.Calls.{CalledOnce};
 ghost use Rattle.vault.specs.Desks.{DeskStands, IsAtWork, Comes, DeskMakesStep};
 ghost use Rattle.vault.specs.Devices.{sight};
 ghost use Rattle.vault.specs.Running.{RunsIn};
 ghost use Rattle.vault.specs.declared.turn.Turn.TheVariants as turn;
 
+use crate::benches::profile_at;
 use crate::desk::Desk;
 use crate::heard::Ask;
 use crate::question::Question;
@@ -39,14 +40,13 @@ fn place_among(pinned: &[Pinned], object: u64) -> Option<usize>
     pinned.iter().position(|file| file.id == object)
 }
 
-/// The length of the file of an object number among these, where it is.
-fn length_of(pinned: &[Pinned], object: u64) -> u32
-    requires { IsSome (length_among pinned.now object) }
-    ensures { length_among pinned.now object ≡ Some result }
+/// The file of an object number among these, if it is there.
+fn pin_of(pinned: &[Pinned], object: u64) -> Option<Pinned>
+    ensures { pin_among pinned.now object ≡ result }
 {
     match place_among(pinned, object) {
-        Some(place) => pinned[place].length,
-        None => unreachable!(),
+        Some(place) => Some(pinned[place]),
+        None => None,
     }
 }
 
@@ -184,7 +184,9 @@ impl Task {
     {
         match self {
             Task::Audit(audit) => audit.ask(master, question, provider, from, work),
-            Task::Put(_) | Task::Get(_) | Task::Drop | Task::Repair(_) => unreachable!(),
+            Task::Put(_) | Task::Get(_) | Task::Drop | Task::Repair(_) | Task::Upgrade => {
+                unreachable!()
+            }
         }
     }
 
@@ -201,21 +203,32 @@ impl Task {
                 undecided: audit.undecided,
                 counts: audit.counts,
             },
-            Task::Put(_) | Task::Get(_) | Task::Drop | Task::Repair(_) => unreachable!(),
+            Task::Put(_) | Task::Get(_) | Task::Drop | Task::Repair(_) | Task::Upgrade => {
+                unreachable!()
+            }
         }
     }
 }
 
 impl Desk {
-    /// The length of a file that a running job works on.
-    fn length_in(&self, job: u32, object: u64) -> u32
-        requires runs { RunsIn self.now.core job }
-        requires there { IsSome (length_in self.now.core job object) }
-        ensures { length_in self.now.core job object ≡ Some result }
+    /// The file of an object number among those that a running job works on, if it is there.
+    fn pin_in(&self, job: u32, object: u64) -> Option<Pinned>
+        ensures { pin_in self.now.core job object ≡ result }
     {
         match self.core.pinned(job) {
-            Some(pinned) => length_of(pinned, object),
-            None => unreachable!(),
+            Some(pinned) => pin_of(pinned, object),
+            None => None,
+        }
+    }
+
+    /// The profile of a file that a running job works on, by its object number; the setup's where there is
+    /// none.
+    pub(crate) fn profile_in(&self, job: u32, object: u64) -> u8
+        ensures { result ≡ profile_or self.now.setup.profile (pin_in self.now.core job object) }
+    {
+        match self.pin_in(job, object) {
+            Some(file) => file.profile,
+            None => self.setup.profile,
         }
     }
 
@@ -225,15 +238,17 @@ impl Desk {
         requires there { ∥ MayPut self.now job object ∥₁ }
         ensures { IsQuestion self.now job object round result }
     {
-        let length = self.length_in(job, object);
+        let Some(file) = self.pin_in(job, object) else {
+            unreachable!()
+        };
         let number = self.subject_of(job);
         let picks = u32::from(self.setup.picks);
         Question {
             file: FileShape {
                 id: object,
-                length,
+                length: file.length,
                 shape: self.shape,
-                profile: self.profile,
+                profile: profile_at(file.profile),
             },
             number,
             round,

@@ -1,114 +1,108 @@
-ghost use Rattle.std.specs.Prelude.{◌≡◌, ◌*◌, ◌≤◌, ◌^◌, length, All, IfOk, IsErrOf, IsOk, IsErr};
+ghost use Rattle.std.specs.Prelude.{◌≡◌, ◌≤◌, ◌^◌, ◌∷◌, ℕ, List, true, position, IfOk, OnOk, OnErr, IsErrOf, IsErr};
+ghost use Rattle.code_defs.specs.Profiles.{profile_of};
+ghost use Rattle.code_points.specs.Profile.{plain_profile};
 ghost use Rattle.machine_defs.specs.Events.{AreBytes};
 ghost use Rattle.vault_core.specs.declared.wish.BeginFault.TheVariants as fault;
-ghost use Rattle.vault.specs.Benches.{IsBenchFor};
+ghost use Rattle.vault.specs.Benches.{IsBenchFor, AreOfDesk, AreServed, is_sized, is_served};
 
-use crate::bench::Bench;
 use crate::desk::Desk;
-use column_codec::{Block, MasksAtHand, ObjectKeys, Trust};
+use code_points::{Profile, find_profile};
 use file_layout::FileShape;
-use hail_field::{Memory, Symbol};
-use key_schedule::Master;
-use server_code::AnyCode;
 use std::alloc::Global;
+use stripe_bench::Bench;
 use vault_core::BeginFault;
+
+/// The largest length of a file, in bytes.
+pub(crate) const LARGEST_FILE: u32 = 1 << 22;
 
 /// What a slice of bytes holds are bytes.
 pub(crate) fn bytes_are_bytes(bytes: &[u8])
     ensures { AreBytes bytes.now }
 {}
 
-/// So many blocks of so many zeros.
-fn zero_blocks(alloc: Global, count: usize, size: usize) -> Result<Vec<Block>, Memory>
-    ensures count { IfOk result (λ v. length v.items ≡ count) }
-    ensures sizes { IfOk result (λ v. All (λ block. length block ≡ size) v.items) }
+/// The profile of a number; the last one of a greater number.
+pub(crate) fn profile_at(number: u8) -> Profile
+    ensures { plain_profile result ≡ profile_of number }
 {
-    let mut blocks = Vec::with_capacity(alloc, count)?;
-    for _ in 0..count {
-        blocks.push_reserved(Block::zeros(alloc, size)?);
-    }
-    Ok(blocks)
-}
-
-/// What a bench works on, all zeros: the symbols of a stripe, those of a block, and a block of each provider.
-fn zeros_for(
-    alloc: Global,
-    file: &FileShape,
-) -> Result<(Vec<Symbol>, Vec<Symbol>, Vec<Block>), Memory>
-    ensures rows { IfOk result (λ v. length v.0.items ≡ file.now.shape.l * file.now.profile.keep) }
-    ensures column { IfOk result (λ v. length v.1.items ≡ file.now.profile.size) }
-    ensures scratch { IfOk result (λ v. length v.2.items ≡ file.now.shape.n) }
-    ensures blocks { IfOk result (λ v. All (λ block. length block ≡ file.now.profile.size) v.2.items) }
-{
-    let size = file.profile.size as usize;
-    let symbols = usize::from(file.shape.l) * file.profile.keep as usize;
-    let rows = vec![in alloc; Symbol::ZERO; symbols]?;
-    let column = vec![in alloc; Symbol::ZERO; size]?;
-    let scratch = zero_blocks(alloc, usize::from(file.shape.n), size)?;
-    Ok((rows, column, scratch))
-}
-
-impl Bench {
-    /// A bench for the object of these keys, of zeros.
-    pub(crate) fn new(alloc: Global, keys: ObjectKeys) -> Result<Bench, Memory>
-        ensures { IfOk result (λ bench. bench.keys ≡ keys) }
-    {
-        let code = AnyCode::new(alloc, keys.file.profile)?;
-        let (rows, column, scratch) = zeros_for(alloc, &keys.file)?;
-        Ok(Bench {
-            keys,
-            code,
-            rows,
-            column,
-            scratch,
-            masks: MasksAtHand::new(),
-            trust: Trust::new(),
-        })
+    match find_profile(number.min(4)) {
+        Some(profile) => profile,
+        None => unreachable!(),
     }
 }
 
-/// From so many kept rows on a file's keys have tables: a table takes 128 products, twice in a put, and saves
-/// one a row.
-const MANY_ROWS: u64 = 256;
-
-/// The keys of a file's object, with tables where these save more than they take.
-fn keys_of(alloc: Global, master: &Master, file: &FileShape) -> Result<ObjectKeys, Memory>
-    ensures master { IfOk result (λ keys. keys.master ≡ master.now) }
-    ensures file { IfOk result (λ keys. keys.file ≡ file.now) }
+/// The place of a bench whose blocks have this size.
+pub(crate) fn place_of(benches: &[Bench], size: u32) -> Option<usize>
+    ensures { result ≡ position (is_sized size) benches.now }
 {
-    let kept_rows = u64::from(file.stripes()) * u64::from(file.profile.keep);
-    if kept_rows < MANY_ROWS {
-        Ok(ObjectKeys::new(master, file))
-    } else {
-        ObjectKeys::with_tables(alloc, master, file)
-    }
-}
-
-/// A bench for a file's object.
-fn made(alloc: Global, master: &Master, file: &FileShape) -> Result<Bench, Memory>
-    ensures master { IfOk result (λ bench. bench.keys.master ≡ master.now) }
-    ensures file { IfOk result (λ bench. bench.keys.file ≡ file.now) }
-{
-    let keys = keys_of(alloc, master, file)?;
-    Bench::new(alloc, keys)
+    benches.iter().position(|bench| bench.keys.file.profile.size == size)
 }
 
 impl Desk {
-    /// A bench for a file of this number and length.
-    pub(crate) fn bench_for(&self, id: u64, length: u32) -> Result<Bench, BeginFault>
+    /// A bench for a file of this number, length and profile.
+    pub(crate) fn bench_for(
+        &self,
+        id: u64,
+        length: u32,
+        profile: u8,
+    ) -> Result<Bench, BeginFault>
         requires { length ≤ 2 ^ 22 }
-        ensures ok { IfOk result (λ bench. IsBenchFor self.now id length bench) }
+        ensures ok { IfOk result (λ bench. IsBenchFor self.now id length profile bench) }
         ensures err { IsErr result → IsErrOf result fault.Memory }
     {
         let file = FileShape {
             id,
             length,
             shape: self.shape,
-            profile: self.profile,
+            profile: profile_at(profile),
         };
-        match made(self.alloc, &self.master, &file) {
+        match Bench::made(self.alloc, &self.master, &file) {
             Ok(bench) => Ok(bench),
             Err(_) => Err(BeginFault::Memory),
         }
+    }
+
+    /// Puts a bench for a profile behind others, where neither the own one nor one of them is for it. It is
+    /// one for the largest file, since a repair turns to files of any length.
+    fn serve(
+        &self,
+        own: &Bench,
+        others: &mut Vec<Bench>,
+        profile: u8,
+    ) -> Result<(), BeginFault>
+        ensures served { OnOk result (is_served profile (own.now ∷ others.new.items) ≡ true) }
+        ensures of_desk { AreOfDesk self.now others.old.items
+            → OnOk result (AreOfDesk self.now others.new.items) }
+        ensures stay { (p : ℕ) → is_served p (own.now ∷ others.old.items) ≡ true
+            → OnOk result (is_served p (own.now ∷ others.new.items) ≡ true) }
+        ensures err { IsErr result → IsErrOf result fault.Memory }
+    {
+        let size = profile_at(profile).size;
+        if own.keys.file.profile.size == size || place_of(others, size).is_some() {
+            return Ok(());
+        }
+        let bench = self.bench_for(0, LARGEST_FILE, profile)?;
+        match others.push(bench) {
+            Ok(()) => Ok(()),
+            Err(_) => Err(BeginFault::Memory),
+        }
+    }
+
+    /// With the own bench, one for each profile of the files in effect.
+    pub(crate) fn others_for(&self, own: &Bench) -> Result<Vec<Bench>, BeginFault>
+        ensures of_desk { IfOk result (λ others. AreOfDesk self.now others.items) }
+        ensures served { IfOk result (λ others.
+            AreServed self.now.core.table.files (own.now ∷ others.items)) }
+        ensures err { IsErr result → IsErrOf result fault.Memory }
+    {
+        let mut others = Vec::new(self.alloc);
+        let mut place = self.core.table().count();
+        while place > 0 {
+            place -= 1;
+            match self.core.table().at(place) {
+                Some(file) => self.serve(own, &mut others, file.profile)?,
+                None => unreachable!(),
+            }
+        }
+        Ok(others)
     }
 }

@@ -1,11 +1,10 @@
-use crate::codec::Codec;
 use crate::flight::Flight;
 use crate::tasks::Running;
-use code_points::Profile;
 use hail_field::Shape;
 use key_schedule::Master;
 use record_codec::Setup;
 use std::alloc::Global;
+use stripe_bench::Codec;
 use vault_core::Core;
 
 /// What a vault works with: the core, the numbers of its setup, the registers of the decoders, the append in
@@ -17,7 +16,6 @@ pub struct Desk {
     pub setup: Setup,
     pub master: Master,
     pub shape: Shape,
-    pub profile: Profile,
     pub codec: Codec,
     pub flight: Option<Flight>,
     pub jobs: Vec<Running>,

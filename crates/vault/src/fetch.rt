@@ -7,7 +7,8 @@ ghost use Rattle.machine_defs.specs.States.{State};
 ghost use Rattle.provider_model.specs.Seen.{provider_seen};
 ghost use Rattle.vault_core.specs.Coming.{core_left};
 ghost use Rattle.vault_open.specs.Devices.{devices};
-ghost use Rattle.vault.specs.Blocks.{given_of};
+ghost use Rattle.stripe_bench.specs.Blocks.{given_of};
+ghost use Rattle.vault.specs.Benches.{TurnsTo};
 ghost use Rattle.vault.specs.Calls.{CalledOnce};
 ghost use Rattle.vault.specs.Desks.{DeskStands, IsAtWork, Comes, DeskMakesStep};
 ghost use Rattle.vault.specs.Devices.{sight};
@@ -36,6 +37,19 @@ impl Fetches {
 }
 
 impl Task {
+    /// A repair takes up the bench of a profile, before it fetches the first block of a stripe.
+    fn turn_to(&mut self, provider: u32, profile: u8)
+        ensures { TurnsTo provider profile self.old self.new }
+    {
+        if provider != 0 {
+            return;
+        }
+        match self {
+            Task::Repair(repair) => repair.take_up(profile),
+            Task::Put(_) | Task::Get(_) | Task::Drop | Task::Audit(_) | Task::Upgrade => {}
+        }
+    }
+
     /// Makes a fetch of a get or a repair.
     fn fetch<P: Provider>(&mut self, from: &mut P, fetch: Fetch)
         requires { HasRoomFor self.old }
@@ -47,7 +61,7 @@ impl Task {
         match self {
             Task::Get(get) => get.fetched.fetch(from, fetch),
             Task::Repair(repair) => repair.blocks.fetch(from, fetch.object, fetch.stripe),
-            Task::Put(_) | Task::Drop | Task::Audit(_) => unreachable!(),
+            Task::Put(_) | Task::Drop | Task::Audit(_) | Task::Upgrade => unreachable!(),
         }
     }
 }
@@ -76,6 +90,7 @@ impl Desk {
         ensures more { result ≡ turn.More }
         ensures called { CalledOnce P.calls provider providers.old providers.new }
     {
+        let profile = self.profile_in(job, object);
         let place = self.place_of(job);
         let index = provider as usize;
         let fetch = Fetch {
@@ -84,6 +99,7 @@ impl Desk {
             stripe,
         };
         let task = &mut self.jobs[place].task;
+        task.turn_to(provider, profile);
         task.fetch(&mut providers[index], fetch);
         self.core.feed(job, Reply::Done);
         Turn::More

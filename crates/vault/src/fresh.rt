@@ -4,11 +4,10 @@ ghost use Rattle.record_codec.specs.Entries.{with_master};
 ghost use Rattle.vault_open.specs.declared.fault.StartFault.TheVariants as start_fault;
 ghost use Rattle.vault.specs.Fresh.{IsFreshDesk};
 
-use crate::codec::Codec;
 use crate::desk::Desk;
-use code_points::find_profile;
 use hail_field::Shape;
 use std::alloc::Global;
+use stripe_bench::Codec;
 use vault_core::Core;
 use vault_open::{StartFault, Store};
 
@@ -31,9 +30,6 @@ pub(crate) fn open_fresh(alloc: Global, store: Store, first: u32) -> Result<Desk
     let Some(shape) = Shape::new(setup.n, setup.l, setup.b) else {
         unreachable!()
     };
-    let Some(profile) = find_profile(setup.profile) else {
-        unreachable!()
-    };
     let Ok(codec) = Codec::new(alloc) else {
         return Err(StartFault::Memory);
     };
@@ -43,7 +39,6 @@ pub(crate) fn open_fresh(alloc: Global, store: Store, first: u32) -> Result<Desk
         setup,
         master,
         shape,
-        profile,
         codec,
         flight: None,
         jobs: Vec::new(alloc),

@@ -2,12 +2,11 @@ ghost use Rattle.std.specs.Prelude.{IfOk};
 ghost use Rattle.vault.specs.Benches.{IsNewGet};
 ghost use Rattle.vault.specs.declared.tasks.GetTask.{GetTask as GetTaskValue};
 
-use crate::bench::Bench;
-use crate::blocks::Blocks;
 use crate::heard::Fetches;
 use crate::tasks::GetTask;
 use hail_field::Memory;
 use std::alloc::Global;
+use stripe_bench::{Bench, Blocks};
 
 /// No fetch and no byte yet, with room for all of the bench's file.
 fn room_for(alloc: Global, job: u32, bench: &Bench) -> Result<(Fetches, Vec<u8>), Memory>

@@ -1,6 +1,6 @@
-use crate::blocks::Blocks;
 use hail_field::Symbol;
 use std::marker::Model;
+use stripe_bench::Blocks;
 
 /// What a job heard in one step.
 #[derive(Clone, Copy)]

@@ -1,39 +1,15 @@
-ghost use Rattle.std.specs.Prelude.{◌≡◌, ◌*◌, take, drop, length, slice_get};
-ghost use Rattle.std.specs.Option.{option_map, option_copied};
-ghost use Rattle.vault.specs.Heard.{blocks_in, fetched_entries, answered_entries, entry_heard};
+ghost use Rattle.std.specs.Prelude.{◌≡◌, length, slice_get};
+ghost use Rattle.std.specs.Option.{option_map};
+ghost use Rattle.stripe_bench.specs.Blocks.{blocks_in};
+ghost use Rattle.vault.specs.Heard.{fetched_entries, answered_entries, entry_heard};
 
-use crate::blocks::Blocks;
 use crate::heard::{Answers, Fetches, Heard, HeardList, Parts};
-use hail_field::Symbol;
 
 /// The item at a place.
 fn item_at<T: Copy>(items: &[T], place: usize) -> Option<T>
     ensures { result ≡ slice_get items.now place }
 {
     items.get(place).copied()
-}
-
-impl Blocks {
-    /// The symbols of the fetch at a place.
-    fn part(&self, place: usize) -> &[Symbol]
-        ensures { result.now ≡ take self.now.size (drop (place * self.now.size) self.now.symbols.items) }
-    {
-        let len = self.symbols.len();
-        let start = place.saturating_mul(self.size).min(len);
-        let end = (start + self.size).min(len);
-        &self.symbols[start..end]
-    }
-
-    /// What the fetch at a place gave: the block, or none.
-    fn at(&self, place: usize) -> Option<Option<&[Symbol]>>
-        ensures { option_map option_copied result ≡ slice_get (blocks_in self.now) place }
-    {
-        match item_at(&self.present, place) {
-            Some(true) => Some(Some(self.part(place))),
-            Some(false) => Some(None),
-            None => None,
-        }
-    }
 }
 
 impl Fetches {

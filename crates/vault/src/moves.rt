@@ -7,8 +7,7 @@ ghost use Rattle.record_defs.specs.Spellings.{spelling};
 ghost use Rattle.machine_defs.specs.Actions.{Action};
 ghost use Rattle.machine_defs.specs.States.{State};
 ghost use Rattle.vault_open.specs.Devices.{devices};
-ghost use Rattle.vault_core.specs.Coming.{core_left, entry_in, next_in, is_upgrade_of};
-ghost use Rattle.vault_core.specs.View.{job_in};
+ghost use Rattle.vault_core.specs.Coming.{core_left, entry_in, next_in};
 ghost use Rattle.vault.specs.Calls.{moves_before_next, MovesCells};
 ghost use Rattle.vault.specs.Desks.{DeskStands, IsAtWork, Comes, DeskMakesStep};
 ghost use Rattle.vault.specs.Devices.{cells_by};
@@ -23,12 +22,9 @@ use disk_model::Disk;
 use vault_core::Reply;
 
 impl Desk {
-    /// The append of the record that a job writes, no move of which is made. Conditions: the journal has its
-    /// first version, and the job is no upgrade.
+    /// The append of the record that a job writes, no move of which is made.
     fn first_flight(&self, job: u32) -> Flight
         requires next { ComesMove self.now.core job }
-        requires first { self.now.core.table.version ≡ 1 }
-        requires plain { is_upgrade_of (job_in self.now.core.jobs job) ≡ false }
         ensures { IsUnbegun self.now.core job result }
     {
         match self.core.entry(job) {
@@ -40,8 +36,6 @@ impl Desk {
     /// The append in flight, which the vault gives away; where there is none, the one that the job begins.
     fn take_flight(&mut self, job: u32) -> Flight
         requires next { ComesMove self.old.core job }
-        requires first { self.old.core.table.version ≡ 1 }
-        requires plain { is_upgrade_of (job_in self.old.core.jobs job) ≡ false }
         ensures rest { self.new ≡ record self.old { flight = None } }
         ensures is { (w : State) (told : Option Cells) (faults : ℕ) (providers : List Provider)
             (action : Action)

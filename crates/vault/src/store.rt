@@ -11,69 +11,23 @@ ghost use Rattle.vault.specs.Calls.{CalledOnce};
 ghost use Rattle.vault.specs.Desks.{DeskStands, IsAtWork, Comes, DeskMakesStep};
 ghost use Rattle.vault.specs.Devices.{sight};
 ghost use Rattle.vault.specs.Outcomes.{IfEnded, IsNoAction, HasPaddedCounts};
-ghost use Rattle.vault.specs.Storing.{turned, stored_block, KeepsTask, IsStorer};
+ghost use Rattle.stripe_bench.specs.Bench.{turned};
+ghost use Rattle.vault.specs.Storing.{stored_block, KeepsTask, IsStorer};
 ghost use Rattle.vault.specs.declared.turn.Turn.TheVariants as turn;
 
-use crate::bench::Bench;
 use crate::desk::Desk;
 use crate::tasks::{PutTask, Task};
 use crate::turn::{Answer, Turn};
-use hail_field::Symbol;
 use provider_model::{Provider, StoreFault};
 use vault_core::Reply;
-
-/// Stores one block.
-fn store_block<P: Provider>(
-    to: &mut P,
-    object: u64,
-    stripe: u32,
-    block: &[Symbol],
-) -> Result<(), StoreFault>
-    requires some { 1 ≤ length block.now }
-    requires few { length block.now ≤ 128 }
-    ensures stored { StoresAs object stripe block.now result (provider_seen P.Provider to.old)
-        (provider_seen P.Provider to.new) }
-    ensures called { P.calls to.new ≡ one_more (P.calls to.old) }
-{
-    to.store(object, stripe, block)
-}
-
-impl Bench {
-    ghost use Rattle.std.specs.Prelude.{◌≡◌, ◌<◌};
-    ghost use Rattle.column_defs.specs.Columns.{column_of_symbols};
-    ghost use Rattle.device_defs.specs.Faults.{one_more};
-    ghost use Rattle.vault.specs.Storing.{turned};
-    ghost use Rattle.vault.specs.Tasks.{bench_object};
-
-    /// Stores a provider's block of the stripe at hand.
-    fn store<P: Provider>(
-        &mut self,
-        to: &mut P,
-        provider: u32,
-        object: u64,
-        stripe: u32,
-    ) -> Result<(), StoreFault>
-        requires { provider < self.old.keys.file.shape.n }
-        ensures stored { StoresAs object stripe
-            (column_of_symbols (turned self.old object) self.old.rows.items provider stripe) result
-            (provider_seen P.Provider to.old) (provider_seen P.Provider to.new) }
-        ensures called { P.calls to.new ≡ one_more (P.calls to.old) }
-        ensures object { bench_object self.new ≡ turned self.old object }
-        ensures rows { self.new.rows ≡ self.old.rows }
-    {
-        self.turn_to(object);
-        self.make_column(stripe, provider);
-        store_block(to, object, stripe, &self.column)
-    }
-}
 
 impl PutTask {
     ghost use Rattle.std.specs.Prelude.{◌≡◌, ◌<◌};
     ghost use Rattle.device_defs.specs.Faults.{one_more};
     ghost use Rattle.column_defs.specs.Columns.{column_of_symbols};
     ghost use Rattle.column_defs.specs.Objects.{symbols_in};
-    ghost use Rattle.vault.specs.Storing.{turned};
-    ghost use Rattle.vault.specs.Tasks.{bench_object};
+    ghost use Rattle.stripe_bench.specs.Bench.{turned};
+    ghost use Rattle.stripe_bench.specs.Bench.{bench_object};
 
     /// Takes the symbols of a stripe out of the bytes of the file, once for all its providers.
     fn gather(&mut self, stripe: u32)
@@ -129,7 +83,7 @@ impl Task {
         match self {
             Task::Put(put) => put.store(to, provider, object, stripe),
             Task::Repair(repair) => repair.bench.store(to, provider, object, stripe),
-            Task::Get(_) | Task::Drop | Task::Audit(_) => unreachable!(),
+            Task::Get(_) | Task::Drop | Task::Audit(_) | Task::Upgrade => unreachable!(),
         }
     }
 }

@@ -3,11 +3,10 @@ ghost use Rattle.std.specs.Option.{ForSome};
 ghost use Rattle.column_defs.specs.Objects.{symbols_in};
 ghost use Rattle.file_layout.specs.Files.{shaped_object};
 
-use crate::bench::Bench;
-use crate::blocks::Blocks;
 use crate::heard::{Answers, Fetches};
 use record_codec::Counts;
 use stream_model::Bytes;
+use stripe_bench::{Bench, Blocks};
 
 /// What a put works with: the bytes of its file, and the stripe whose symbols are at hand.
 #[derive(Drop)]
@@ -37,11 +36,13 @@ pub struct AuditTask {
     pub counts: Counts,
 }
 
-/// What a repair works with: the blocks of the stripe in work.
+/// What a repair works with: the blocks of the stripe in work, the bench that opens them, and benches for the
+/// other profiles of its files.
 #[derive(Drop)]
 pub struct RepairTask {
     pub blocks: Blocks,
     pub bench: Bench,
+    pub others: Vec<Bench>,
 }
 
 /// What a running job works with.

@@ -9,14 +9,12 @@ ghost use Rattle.vault.specs.Opening.{WorksAs, CanWork};
 ghost use Rattle.vault.specs.Outcomes.{IfEnded, IsNoAction, HasPaddedCounts};
 ghost use Rattle.vault.specs.declared.turn.Turn.TheVariants as turn;
 
-use crate::bench::Bench;
-use crate::blocks::Blocks;
-use crate::codec::Codec;
 use crate::desk::Desk;
 use crate::tasks::{GetTask, RepairTask, Task};
 use crate::turn::{Answer, Turn};
 use column_codec::RowLost;
 use hail_field::Symbol;
+use stripe_bench::Codec;
 use vault_core::Reply;
 
 /// Puts more bytes at the end, for which there is room.
@@ -38,35 +36,6 @@ fn push_symbols(bytes: &mut Vec<u8>, symbols: &[Symbol])
 {
     for symbol in symbols {
         push_bytes(bytes, &symbol.to_bytes());
-    }
-}
-
-impl Blocks {
-    ghost use Rattle.std.specs.Prelude.{◌≡◌};
-    ghost use Rattle.vault.specs.Opening.{OpensAs, last_blocks, HasLast, HasEmptied};
-    ghost use Rattle.vault.specs.Tasks.{bench_object};
-
-    /// Opens the stripe of the last blocks, one of each provider.
-    fn open(&self, bench: &mut Bench, codec: &mut Codec, stripe: u32) -> Result<(), RowLost>
-        requires { HasLast bench.old self.now }
-        ensures opened { OpensAs (bench_object bench.old) stripe
-            (last_blocks bench.old.keys.file.shape.n self.now) result bench.new.rows.items }
-        ensures keys { bench.new.keys ≡ bench.old.keys }
-    {
-        let n = usize::from(bench.keys.file.shape.n);
-        let flags = self.present.len() - n;
-        let start = self.symbols.len() - n * self.size;
-        let seen = &self.symbols[start..];
-        let present = &self.present[flags..];
-        bench.open(codec, stripe, seen, present)
-    }
-
-    /// Forgets the blocks, and keeps their room.
-    fn clear(&mut self)
-        ensures { HasEmptied self.old self.new }
-    {
-        self.present.clear();
-        self.symbols.clear();
     }
 }
 
@@ -111,7 +80,7 @@ impl Task {
         match self {
             Task::Get(get) => get.work(codec, object, stripe),
             Task::Repair(repair) => repair.work(codec, object, stripe),
-            Task::Put(_) | Task::Drop | Task::Audit(_) => unreachable!(),
+            Task::Put(_) | Task::Drop | Task::Audit(_) | Task::Upgrade => unreachable!(),
         }
     }
 }

@@ -1,14 +1,9 @@
 use Rattle.std.proofs.lemmas.Bool.{false≢true}
 use Rattle.record_codec.specs.Entries.{with_master}
-use Rattle.vault.proofs.Limits.{setup-shape, setup-profile}
+use Rattle.vault.proofs.Limits.{setup-shape}
 use Rattle.vault.proofs.fresh.open_fresh.Goals as goal
 
 pub unreachable-requires : goal.unreachable-requires
 unreachable-requires c =
     let s = with_master c.args.store.setup c.args.store.master.0 in
     false≢true (c.in_default.ensures.fits.1 (setup-shape s c.requires.limits))
-
-pub unreachable-requires-in_default-find_profile : goal.unreachable-requires-in_default-find_profile
-unreachable-requires-in_default-find_profile c =
-    let s = with_master c.args.store.setup c.args.store.master.0 in
-    false≢true (c.in_default-find_profile.ensures.known.1 (setup-profile s c.requires.limits))

@@ -34,7 +34,7 @@ returns-clause-machine c = λ w moment d stands.
       jobs = c.remove-running.ensures.items;
       flight = refl;
       fed = c.feed.ensures.step;
-      keeps = record { setup = refl; master = refl; shape = refl; profile = refl };
+      keeps = record { setup = refl; master = refl; shape = refl };
     })
 
 pub feed-requires : goal.feed-requires

@@ -23,9 +23,10 @@ fetch-requires g c =
     let running = c.index_mut.result.now in
     let at = c.place_of-place.ensures in
     let there = item_at v.jobs.items c.args.job place running at c.index_mut.ensures.value in
-    by_work (room_prop running.task) v
+    by_work (room_prop c.turn_to.new.self) v
     (λ w faults ps stands. room_there v w None faults 0 c.args.job _ _ _ ps stands c.requires.next place
-    running at there)
+    running at there (record { number = running.number; task = c.turn_to.new.self })
+    c.profile_in-profile.result refl c.profile_in-profile.ensures c.turn_to.ensures)
     c.requires.at_work
 
 pub returns-clause-machine : goal.returns-clause-machine
@@ -37,6 +38,8 @@ returns-clause-machine g c = λ w moment holds faults is_told stands.
     let seen = sight is_told g.P.Provider in
     fetch_step c.args.self.now w holds faults moment c.args.job _ _ _ _ stands c.requires.next
     c.place_of-place.result c.index_mut.result.now at there
+    (record { number = c.index_mut.result.now.number; task = c.turn_to.new.self })
+    c.profile_in-profile.result refl c.profile_in-profile.ensures c.turn_to.ensures
     _ _ _ _ (record { number = c.index_mut.result.now.number; task = c.fetch.new.self }) _ made.0 made.1 refl
     refl made.2
     (fetches_by is_told _ _ _ _ _ _ (taken _ _ _ made.0 made.1 made.2) made.3)
@@ -46,7 +49,7 @@ returns-clause-machine g c = λ w moment holds faults is_told stands.
     c.requires.there))
     (map-set seen c.args.providers.now c.args.provider c.fetch.new.from)
     refl
-    (record { setup = refl; master = refl; shape = refl; profile = refl })
+    (record { setup = refl; master = refl; shape = refl })
     refl
     c.feed.ensures.step
 

@@ -7,7 +7,7 @@ use Rattle.vault.specs.declared.flight.Moved.TheVariants as moved
 use Rattle.vault.specs.declared.turn.Answer.TheVariants as answer
 use Rattle.vault.specs.declared.desk.Desk.{Desk}
 use Rattle.vault.specs.Running.{place_in}
-use Rattle.vault.proofs.AtWork.{place_there, first_at_work, plain_at_work}
+use Rattle.vault.proofs.AtWork.{place_there}
 use Rattle.vault.proofs.Untold.{goes_by, move_by}
 use Rattle.vault.proofs.AppendMoves.{append_goes_on, append_done, append_failed, append_unwritten, gave_away, fed_away}
 use Rattle.vault.proofs.MovedCells.{append_of, cells_on, cells_torn, cells_stopped}
@@ -120,13 +120,6 @@ returns-in-Memory-clause-cells g c = λ w entry providers stands given.
     (spelling entry ++ 0 ∷ []) reply.Memory answer.Memory c.stop-in-Memory.result
     (g.D.Disk.holds c.args.disk.now) (g.D.Disk.holds c.turn.new.disk) c.stop-in-Memory.ensures.stopped
     c.in-Memory.ensures.cells
-
-pub take_flight-requires : goal.take_flight-requires
-take_flight-requires g c = record {
-  next = c.requires.next;
-  first = first_at_work c.args.self.now c.requires.at_work;
-  plain = plain_at_work c.args.self.now c.args.job c.requires.at_work;
-}
 
 pub feed-requires : goal.feed-requires
 feed-requires g c =

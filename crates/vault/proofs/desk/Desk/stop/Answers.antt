@@ -21,7 +21,7 @@ returns-clause-stopped c =
       jobs = c.remove-running.ensures.items;
       flight = refl;
       fed = c.feed.ensures.step;
-      keeps = record { setup = refl; master = refl; shape = refl; profile = refl };
+      keeps = record { setup = refl; master = refl; shape = refl };
     }
 
 pub returns-clause-acted : goal.returns-clause-acted

@@ -42,7 +42,7 @@ returns-in-Ok-clause-machine c = λ w moment d stands.
     c.index_mut.result.now at there
     (record { number = c.index_mut.result.now.number; task = c.work.new.self }) refl
     _ _ _ c.in-Ok.is c.work.ensures refl
-    (record { setup = refl; master = refl; shape = refl; profile = refl }) refl c.feed.ensures.step
+    (record { setup = refl; master = refl; shape = refl }) refl c.feed.ensures.step
 
 pub returns-in-Err-clause-machine : goal.returns-in-Err-clause-machine
 returns-in-Err-clause-machine c = λ w moment d stands.
@@ -53,7 +53,7 @@ returns-in-Err-clause-machine c = λ w moment d stands.
     c.index_mut.result.now at there
     (record { number = c.index_mut.result.now.number; task = c.work.new.self }) refl
     _ _ _ _ _ _ c.in-Err.is refl c.work.ensures refl refl
-    (record { setup = refl; master = refl; shape = refl; profile = refl }) refl c.stop.ensures.stopped
+    (record { setup = refl; master = refl; shape = refl }) refl c.stop.ensures.stopped
 
 pub index_mut-requires : goal.index_mut-requires
 index_mut-requires c =

@@ -2,7 +2,7 @@ use Rattle.std.proofs.Common.{◌≡◌, List, None, Some, sym, ap, ◌∙◌}
 use Rattle.std.specs.Prelude.{slice_get}
 use Rattle.std.specs.Option.{option_copied}
 use Rattle.vault.specs.declared.heard.Fetch.{Fetch}
-use Rattle.vault.specs.Heard.{blocks_in}
+use Rattle.stripe_bench.specs.Blocks.{blocks_in}
 use Rattle.vault.proofs.HeardAt.{fetched_at, fetched_at-none, slice_get-fetched_entries}
 use Rattle.vault.proofs.heard.Fetches.at.Goals as goal
 

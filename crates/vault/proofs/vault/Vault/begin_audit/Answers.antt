@@ -1,4 +1,4 @@
-use Rattle.std.proofs.Common.{◌≡◌, ℕ, ◌*◌, length, subst, ◌∙◌, ap, min, refl}
+use Rattle.std.proofs.Common.{◌≡◌, ℕ, ◌*◌, length, subst, ◌∙◌, ap, min, refl, None}
 use Rattle.machine_defs.specs.Jobs.{AuditJob}
 use Rattle.vault_table.specs.Values.{Kept}
 use Rattle.vault.specs.Benches.{IsNewAudit}
@@ -12,7 +12,7 @@ use Rattle.vault.proofs.GetBegins.{least}
 
 -- the begin is one of the machine
 made : (c : goal.After-admit) (w : State) (d : Devices) (moment : ℕ) → DeskStands c.args.self.now.desk d w
-    → DeskMakesBegin w moment AuditJob c.admit.result c.admit.new.self d
+    → DeskMakesBegin w moment AuditJob None c.admit.result c.admit.new.self d
 made c w d moment stands =
     let v = c.args.self.now.desk in
     let count : c.count.result ≡ length v.core.table.files = c.count.ensures
@@ -34,6 +34,6 @@ returns-in-Ok-clause-machine c = made c.before
 pub invariant_of-self : goal.invariant_of-self
 invariant_of-self c =
     record {
-      at_work = begun_works c.args.self.now.desk c.admit.new.self AuditJob c.admit.result
+      at_work = begun_works c.args.self.now.desk c.admit.new.self AuditJob None c.admit.result
           (made c) c.args.self.now.at_work;
     }

@@ -1,4 +1,4 @@
-use Rattle.std.proofs.Common.{Result, ℕ, ◌∷◌, ◌∙◌, sym, subst, rules}
+use Rattle.std.proofs.Common.{Result, ℕ, None, ◌∷◌, ◌∙◌, sym, subst, rules}
 use Rattle.machine_defs.specs.Jobs.{DropJob}
 use Rattle.vault_core.specs.declared.wish.BeginFault.{BeginFault}
 use Rattle.vault.specs.Desks.{DeskMakesBegin}
@@ -13,9 +13,9 @@ returns-in_err-name-clause-machine c = λ w d moment stands.
     let v = c.args.self.now.desk in
     let kind = DropJob c.args.name.now in
     let why = c.in_err-name.field-0.0 in
-    subst (λ (r : Result ℕ BeginFault). DeskMakesBegin w moment kind r v d)
+    subst (λ (r : Result ℕ BeginFault). DeskMakesBegin w moment kind None r v d)
     (sym (err-is c.from_residual.result why c.from_residual.ensures.1))
-    (turned_down v v d w moment kind stands why
+    (turned_down v v d w moment kind None stands why
     (aims-counted w (name_cause c.args.name.now ∷ causes_of_name w kind c.args.name.now)
     ∙ c.in_err-name.ensures.refused w (causes_of_name w kind c.args.name.now) stands.core))
 
@@ -23,5 +23,5 @@ pub invariant_of-self : goal.invariant_of-self
 invariant_of-self c =
     record {
       at_work = begun_works c.args.self.now.desk c.admit.new.self
-          (DropJob c.args.name.now) c.admit.result (search rules) c.args.self.now.at_work;
+          (DropJob c.args.name.now) None c.admit.result (search rules) c.args.self.now.at_work;
     }

@@ -17,9 +17,9 @@ returns-in_err-name-clause-machine c = λ w d moment stands.
     let v = c.args.self.now.desk in
     let kind = GetJob c.args.name.now in
     let why = c.in_err-name.field-0.0 in
-    subst (λ (r : Result ℕ BeginFault). DeskMakesBegin w moment kind r v d)
+    subst (λ (r : Result ℕ BeginFault). DeskMakesBegin w moment kind None r v d)
     (sym (err-is c.from_residual.result why c.from_residual.ensures.1))
-    (turned_down v v d w moment kind stands why
+    (turned_down v v d w moment kind None stands why
     (aims-counted w (name_cause c.args.name.now ∷ causes_of_name w kind c.args.name.now)
     ∙ c.in_err-name.ensures.refused w (causes_of_name w kind c.args.name.now) stands.core))
 
@@ -30,7 +30,7 @@ returns-in_default-clause-machine c = λ w d moment stands.
     let kind = GetJob name in
     let none : find_file v.core.table.files name ≡ None =
     sym (c.in_default.ensures ∙ (λ i. find_file (c.table.ensures i).files (c.in_ok-name.ensures.named i))) in
-    turned_down v v d w moment kind stands fault.NoSuchName
+    turned_down v v d w moment kind None stands fault.NoSuchName
     (aims-counted w (name_cause name ∷ causes_of_name w kind name)
     ∙ (c.in_ok-name.ensures.free w (name_cause name ∷ causes_of_name w kind name) stands.core
     ∙ no-such-name w name c.in_ok-name.ensures.is_name (sym (found-in v d w name stands) ∙ none)))
@@ -60,5 +60,5 @@ invariant_of-self c =
     c.in_ok-bench.ensures.ok c.next_job.ensures c.in-Ok.ensures c.admit.ensures.machine in
     record {
       at_work = begun_works v c.admit.new.self
-          (GetJob name) c.admit.result made c.args.self.now.at_work;
+          (GetJob name) None c.admit.result made c.args.self.now.at_work;
     }
