@@ -3,3 +3,4 @@ pub mod SeenBlocks
 pub mod Gifts
 pub mod BenchKinds
 pub mod BenchIs
+pub mod Sights

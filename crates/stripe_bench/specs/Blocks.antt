@@ -1,11 +1,11 @@
 -- Blocks that providers gave, one after the other.
 --
---   given_of found block        == the block, where it was found
---   Grows old new found block   == one block more was fetched: found or not
---   HasRoom blocks              == there is room for one more
---   blocks_in blocks            == the blocks, each where its provider gave it
---   last_blocks n blocks        == the last n of them
---   HasEmptied old new          == the blocks are gone, and their room is left
+--   given_of found block      == the block, where it was found
+--   Grows old new found block == one block more was fetched: found or not
+--   HasRoom blocks            == there is room for one more
+--   blocks_in blocks          == the blocks, each where its provider gave it
+--   last_blocks n blocks      == the last n of them
+--   HasEmptied old new        == the blocks are gone, and their room is left
 use Rattle.std.specs.Prelude.{◌≡◌, ℕ, ◌+◌, ◌-◌, ◌*◌, ◌<◌, ◌≤◌, ◌^◌, All, Bool, List, [], ◌∷◌, ◌++◌, length, drop, Option, Some, None, vec_len, vec_capacity, if◌then◌else◌}
 use Rattle.column_defs.specs.Opened.{SeenBlock}
 use Rattle.column_codec.specs.PresentBlocks.{present_blocks}

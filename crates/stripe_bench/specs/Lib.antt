@@ -1,3 +1,4 @@
 pub mod Blocks
 pub mod Bench
 pub mod Gifts
+pub mod Calls

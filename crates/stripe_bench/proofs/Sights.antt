@@ -1,0 +1,64 @@
+-- What fetches and stores show of providers holds of the same providers with no content told.
+use Rattle.std.proofs.Common.{◌≡◌, ℕ, ◌<◌, Bool, true, false, List, length, get_or, Option, None, Some, refl, ap, sym, ◌∙◌, inl, inr}
+use Rattle.std.specs.Prelude.{IfSome, slice_set}
+use Rattle.std.specs.Option.{option_map}
+use Rattle.std.proofs.lemmas.Option.{slice_get-get_or}
+use Rattle.algebra_laws.proofs.Lists.{get-set_same}
+use Rattle.device_defs.specs.Faults.{one_more}
+use Rattle.device_defs.specs.Providers.{Provider}
+use Rattle.device_defs.specs.ProviderCalls.{StoreCounts, Stores, FindsNoMemory, FailsToStore, Fetches, IsBlock}
+use Rattle.stripe_bench.specs.Blocks.{given_of}
+use Rattle.stripe_bench.specs.Calls.{CalledOnce, provider_by}
+
+store_counts : (p q : Provider) → StoreCounts p q
+    → StoreCounts (record p { held = None }) (record q { held = None })
+store_counts p q h =
+    record { store_faults = h.store_faults; other_faults = h.other_faults; fetches = h.fetches }
+
+-- a store that is done
+pub stores_by : (is_told : Bool) (o s : ℕ) (block : List ℕ) (p q : Provider) → Stores o s block p q
+    → Stores o s block (provider_by is_told p) (provider_by is_told q)
+stores_by true o s block p q h = h
+stores_by false o s block p q h = record { held = refl; counts = store_counts p q h.counts }
+
+-- a store that found no memory
+pub no_memory_by : (is_told : Bool) (p q : Provider) → FindsNoMemory p q
+    → FindsNoMemory (provider_by is_told p) (provider_by is_told q)
+no_memory_by true p q h = h
+no_memory_by false p q h = record { held = refl; counts = store_counts p q h.counts; no_fault = h.no_fault }
+
+-- a store that failed
+pub fails_by : (is_told : Bool) (p q : Provider) → FailsToStore p q
+    → FailsToStore (provider_by is_told p) (provider_by is_told q)
+fails_by true p q h = h
+fails_by false p q h = record { held = refl; counts = store_counts p q h.counts; cause = h.cause }
+
+-- a fetch, of a block where it gave something
+pub fetches_by : (is_told : Bool) (size o s : ℕ) (p q : Provider) (given : Option (List ℕ))
+    → IfSome given (IsBlock size) → Fetches size o s p given q
+    → Fetches size o s (provider_by is_told p) given (provider_by is_told q)
+fetches_by true size o s p q given block h = h
+fetches_by false size o s p q given block h = record {
+  held = refl;
+  counts = record {
+    store_faults = h.counts.store_faults;
+    other_faults = h.counts.other_faults;
+    fetches = h.counts.fetches;
+  };
+  gives = elim h.gives [
+    | inl gives ↦ inl block
+    | inr fails ↦ inr fails
+  ];
+}
+
+-- what holds of a block holds of what was given, if it was
+pub if_given : (P : List ℕ → Type 0) (found : Bool) (block : List ℕ) → P block → IfSome (given_of found block) P
+if_given P true block h = h
+if_given P false block h = tt
+
+-- a provider of a list was called once at its place, by its count of calls
+pub called_at : {X : Type 0} (calls : X → ℕ) (xs : List X) (k : ℕ) (d y : X) → k < length xs
+    → calls y ≡ one_more (calls (get_or xs k d)) → CalledOnce calls k xs (slice_set xs k y)
+called_at calls xs k d y within made =
+    ap (option_map calls) (get-set_same xs k y within) ∙ ap Some made
+    ∙ sym (ap (option_map (λ p. one_more (calls p))) (slice_get-get_or xs k d within))
