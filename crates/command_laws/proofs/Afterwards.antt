@@ -11,8 +11,8 @@ use Rattle.device_defs.proofs.Lasting.{reads-firm, image-firm}
 use Rattle.device_defs.proofs.PickLaws.{IsImage-reads}
 use Rattle.record_defs.specs.Records.{Record, Setup, largest_journal}
 use Rattle.record_defs.specs.Journal.{StandsFor}
-use Rattle.machine_defs.specs.Jobs.{Kind, PutJob, GetJob, DropJob, AuditJob, RepairJob}
-use Rattle.command_defs.specs.Forms.{Command, Numbers, RowOf, InitWith, PutUnder, GetOf, DropOf, ListAll, AuditAll, RepairDue}
+use Rattle.machine_defs.specs.Jobs.{Kind, PutJob, GetJob, DropJob, AuditJob, RepairJob, UpgradeJob}
+use Rattle.command_defs.specs.Forms.{Command, Numbers, RowOf, InitWith, PutUnder, PutAt, GetOf, DropOf, ListAll, AuditAll, RepairDue, UpgradeJournal}
 use Rattle.command_defs.specs.Sinking.{WritesLine, TellsLine}
 use Rattle.opening_defs.specs.Journals.{IsResynced, IsRead}
 use Rattle.command_defs.specs.Seen.{Seen, Ending, IsRefused, sinking}
@@ -122,21 +122,23 @@ unstarted-told : (old new : Seen) (end : Ending) → Unstarted old new end →
     IsRefused end.status end.at old new end
 unstarted-told old new end u = (let r = unstarted-refused old new end u in as-told r.0 r.1 old new end r.3)
 
-job-told : (kind : Kind) (records : List Record) (old new : Seen) (end : Ending) →
-    AnswersJob kind records old new end → is_refusal end.status ≡ true →
+job-told : (kind : Kind) (records : List Record) (old new : Seen) (end : Ending) {own : Option ℕ} →
+    AnswersJob kind own records old new end → is_refusal end.status ≡ true →
     IsRefused end.status end.at old new end
 job-told kind records old new end (AnswersJob.refused why is synced r) refuses = as-told _ 0 old new end r
 job-told kind records old new end (AnswersJob.no_memory synced r) refuses = as-told 70 0 old new end r
 job-told kind records old new end (AnswersJob.ended how none runs left by) refuses =
     absurd (no-end end.status (status-ended _ how old new end by) refuses)
 
-put-told : (name : List ℕ) (old new : Seen) (end : Ending) → AnswersPut name old new end →
+put-told : (name : List ℕ) (old new : Seen) (end : Ending) {own : Option ℕ} → AnswersPut name own old new end →
     is_refusal end.status ≡ true → IsRefused end.status end.at old new end
 put-told name old new end (AnswersPut.unstarted u same) refuses = unstarted-told old new end u
-put-told name old new end (AnswersPut.source_fault records opened rose synced taken r) refuses =
+put-told name old new end (AnswersPut.source_fault records opened known rose synced taken r) refuses =
     as-told 14 0 old new end r
+put-told name old new end (AnswersPut.bad_profile records opened unknown synced same r) refuses =
+    as-told 20 0 old new end r
 put-told name old new end (AnswersPut.no_memory taken r) refuses = as-told 70 0 old new end r
-put-told name old new end (AnswersPut.begun records bytes opened read A) refuses =
+put-told name old new end (AnswersPut.begun records bytes opened known read A) refuses =
     job-told (PutJob name bytes) records old new end A refuses
 
 alone-told : (kind : Kind) (old new : Seen) (end : Ending) → AnswersAlone kind old new end →
@@ -197,11 +199,13 @@ pub refusal-told : (command : Command) (old new : Seen) (end : Ending) → Answe
 refusal-told (RowOf n l b seen) old new end A refuses = row-told n l b seen old new end A refuses
 refusal-told (InitWith numbers) old new end A refuses = init-told numbers old new end A refuses
 refusal-told (PutUnder name) old new end A refuses = put-told name old new end A refuses
+refusal-told (PutAt name profile) old new end A refuses = put-told name old new end A refuses
 refusal-told (GetOf name) old new end A refuses = alone-told (GetJob name) old new end A.0 refuses
 refusal-told (DropOf name) old new end A refuses = alone-told (DropJob name) old new end A.0 refuses
 refusal-told ListAll old new end A refuses = list-told old new end A.0 refuses
 refusal-told AuditAll old new end A refuses = alone-told AuditJob old new end A.0 refuses
 refusal-told RepairDue old new end A refuses = alone-told RepairJob old new end A.0 refuses
+refusal-told UpgradeJournal old new end A refuses = alone-told UpgradeJob old new end A.0 refuses
 
 -- ---- a stop, and the next command
 

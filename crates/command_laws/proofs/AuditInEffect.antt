@@ -106,7 +106,7 @@ module _ (records : List Record) (undecided : ℕ) (counts : List ℕ) (old new 
   same-counts u c H same =
       subst (λ k. Heard undecided k) (ap counts_in same) (subst (λ n. Heard n c) (ap undecided_in same) H)
 
-  module _ (how : Answer) (left : LeftAlone records AuditJob how old new end.heard) where
+  module _ (how : Answer) (left : LeftAlone records AuditJob None how old new end.heard) where
     abbrev x : Ran
     x = ran_left records AuditJob how old new end.heard left
 
@@ -166,7 +166,7 @@ module _ (records : List Record) (undecided : ℕ) (counts : List ℕ) (old new 
         (λ entry is same. sure-off entry C.sure is))
     by-answer h L = absurd L
 
-  by-job : AnswersJob AuditJob records old new end → Counted
+  by-job : AnswersJob AuditJob None records old new end → Counted
   by-job (AnswersJob.refused why is synced r) = by-refused _ 0 r
   by-job (AnswersJob.no_memory synced r) = by-refused 70 0 r
   by-job (AnswersJob.ended how none runs left by) = by-answer how left how left.leaves.by_kind.gives
@@ -176,5 +176,5 @@ module _ (records : List Record) (undecided : ℕ) (counts : List ℕ) (old new 
   audit-in-effect (AnswersAlone.unstarted u) =
       (let r = unstarted-refused old new end u in by-refused r.0 r.1 r.3)
   audit-in-effect (AnswersAlone.begun rs opened A) =
-      by-job (subst (λ l. AnswersJob AuditJob l old new end)
+      by-job (subst (λ l. AnswersJob AuditJob None l old new end)
       (known-once old records rs S.known opened.read) A)

@@ -1,6 +1,6 @@
 -- An audit of a store with no file, from every state that was just opened: four moves, four moves, and its
 -- end.
-use Rattle.std.proofs.Common.{ℕ, ◌+◌, List, [], ◌∷◌, refl, sym, subst, inl, arith}
+use Rattle.std.proofs.Common.{ℕ, ◌+◌, List, [], ◌∷◌, refl, sym, subst, inl, arith, None}
 use Rattle.record_defs.specs.Records.{AuditStart, AuditDone}
 use Rattle.record_defs.specs.Spellings.{spelling}
 use Rattle.column_defs.specs.Verdicts.{Sums}
@@ -20,6 +20,7 @@ use Rattle.command_defs.specs.Jobs.{RanAlone, RunsAlone, AnswersJob}
 use Rattle.command_defs.specs.Commands.{AnswersAlone, Answers}
 use Rattle.command_laws.specs.After.{IsSure}
 use Rattle.command_laws.specs.Pieces.{moment}
+use Rattle.lone_laws.specs.Walked.{MayName}
 use Rattle.command_laws.specs.Instances.{store, idle_providers, no_counts, set_up_records, audited_records, audited_store, ends}
 use Rattle.job_laws.proofs.Telling.{left-alone, jobs-leave}
 use Rattle.job_laws.proofs.BeginRefusals.{refusal-of}
@@ -145,7 +146,7 @@ module _ (w : State) (n : ℕ) (H : AreHanded idle_providers (formed w)) where
     ),
   )
 
-  ran-formed : RanAlone set_up_records AuditJob (Audited 1 0 no_counts) (store set_up_records) audited_store
+  ran-formed : RanAlone set_up_records AuditJob None (Audited 1 0 no_counts) (store set_up_records) audited_store
       [] 0 v n
   unfolding steps spelling
   ran-formed = record {
@@ -155,7 +156,7 @@ module _ (w : State) (n : ℕ) (H : AreHanded idle_providers (formed w)) where
       job = 1;
       begins = (
         refl,
-        refusal-of v AuditJob refl refl refl
+        refusal-of v AuditJob None refl refl refl
             (record { journal = refl; area = refl; unswitched = refl }),
         refl,
         refl,
@@ -168,12 +169,12 @@ module _ (w : State) (n : ℕ) (H : AreHanded idle_providers (formed w)) where
     past_text = refl;
   }
 
-audit-alone : RunsAlone set_up_records AuditJob (Audited 1 0 no_counts) (store set_up_records) audited_store
+audit-alone : RunsAlone set_up_records AuditJob None (Audited 1 0 no_counts) (store set_up_records) audited_store
     []
 audit-alone = record {
   faults = 0;
   before = omega arith;
-  ran = λ w n V. subst (λ u. RanAlone set_up_records AuditJob (Audited 1 0 no_counts)
+  ran = λ w n V. subst (λ u. RanAlone set_up_records AuditJob None (Audited 1 0 no_counts)
       (store set_up_records) audited_store [] 0 u n) (form-is w V)
       (ran-formed w n (subst (AreHanded idle_providers) (sym (form-is w V)) V.handed));
 }
@@ -183,8 +184,9 @@ pub audit : Answers AuditAll (store set_up_records) audited_store (ends 0)
 audit = (
   AnswersAlone.begun set_up_records set_up-sure.known.opened
       (AnswersJob.ended (Audited 1 0 no_counts) refl audit-alone
-      (left-alone set_up_records AuditJob (Audited 1 0 no_counts) (store set_up_records) audited_store []
-      tt (λ w last n O r. jobs-leave AuditJob w last n (Audited 1 0 no_counts) [] tt O r)
+      (left-alone set_up_records AuditJob None (Audited 1 0 no_counts) (store set_up_records) audited_store []
+      tt (MayName.none refl)
+      (λ w last n O r. jobs-leave AuditJob None w last n (Audited 1 0 no_counts) [] tt (MayName.none refl) O r)
       set_up-sure.known.opened refl audit-alone)
       (record { written = inl (refl, refl); place = refl })),
   (refl, refl),

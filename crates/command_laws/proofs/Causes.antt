@@ -1,5 +1,5 @@
 -- A status of a fault comes only where the count of that device rose.
-use Rattle.std.proofs.Common.{◌≡◌, ℕ, ◌==◌, Bool, true, false, List, refl, ap, sym, ◌∙◌, subst, inl, inr, arith}
+use Rattle.std.proofs.Common.{◌≡◌, ℕ, ◌==◌, Bool, true, false, List, Option, refl, ap, sym, ◌∙◌, subst, inl, inr, arith}
 use Rattle.std.specs.Prelude.{if◌then◌else◌}
 use Rattle.std.proofs.lemmas.Bool.{false≢true}
 use Rattle.device_defs.specs.Faults.{Rose}
@@ -10,7 +10,7 @@ use Rattle.machine_defs.specs.Answers as answer
 use Rattle.machine_defs.specs.Answers.{Answer}
 use Rattle.machine_defs.specs.Refusals as refusal
 use Rattle.machine_defs.specs.Refusals.{Refusal}
-use Rattle.command_defs.specs.Forms.{Command, Numbers, RowOf, InitWith, PutUnder, GetOf, DropOf, ListAll, AuditAll, RepairDue}
+use Rattle.command_defs.specs.Forms.{Command, Numbers, RowOf, InitWith, PutUnder, PutAt, GetOf, DropOf, ListAll, AuditAll, RepairDue, UpgradeJournal}
 use Rattle.command_defs.specs.Sinking.{WritesLine}
 use Rattle.command_defs.specs.Seen.{Seen, Ending, provider_at, sinking}
 use Rattle.command_defs.specs.Opens.{Unstarted}
@@ -112,61 +112,62 @@ module _ (old new : Seen) (end : Ending) where
   refused-none refusal.PackTooLong = refl
 
   -- what a job left that ended in a fault
-  disk-by : (x : Ran) (kind : Kind) → LeavesBy x kind answer.DiskFault → Rose x.disk_before x.disk_after
-  disk-by x (PutJob name bytes) L = L.0.0
-  disk-by x (GetJob name) L = absurd L.gives
-  disk-by x (DropJob name) L = L.0.0
-  disk-by x AuditJob L = L.gives.0
-  disk-by x RepairJob L = L.0.gives.0
-  disk-by x UpgradeJob L = L.0.0
+  disk-by : (x : Ran) (kind : Kind) (own : Option ℕ) → LeavesBy x kind own answer.DiskFault → Rose x.disk_before x.disk_after
+  disk-by x (PutJob name bytes) own L = L.0.0
+  disk-by x (GetJob name) own L = absurd L.gives
+  disk-by x (DropJob name) own L = L.0.0
+  disk-by x AuditJob own L = L.gives.0
+  disk-by x RepairJob own L = L.0.gives.0
+  disk-by x UpgradeJob own L = L.0.0
 
-  provider-by : (x : Ran) (kind : Kind) (j : ℕ) → LeavesBy x kind (answer.ProviderFault j) →
+  provider-by : (x : Ran) (kind : Kind) (own : Option ℕ) (j : ℕ) → LeavesBy x kind own (answer.ProviderFault j) →
       Rose (x.old j).store_faults (x.new j).store_faults
-  provider-by x (PutJob name bytes) j L = L.0.1
-  provider-by x (GetJob name) j L = absurd L.gives
-  provider-by x (DropJob name) j L = absurd L.0
-  provider-by x AuditJob j L = absurd L.gives
-  provider-by x RepairJob j L = L.0.gives.2
-  provider-by x UpgradeJob j L = absurd L.0
+  provider-by x (PutJob name bytes) own j L = L.0.1
+  provider-by x (GetJob name) own j L = absurd L.gives
+  provider-by x (DropJob name) own j L = absurd L.0
+  provider-by x AuditJob own j L = absurd L.gives
+  provider-by x RepairJob own j L = L.0.gives.2
+  provider-by x UpgradeJob own j L = absurd L.0
 
-  ended-causes : (kind : Kind) (records : List Record) (text : List ℕ) (how : Answer) →
-      LeftAlone records kind how old new end.heard → EndsByAnswer text how old new end →
+  ended-causes : (kind : Kind) (own : Option ℕ) (records : List Record) (text : List ℕ) (how : Answer) →
+      LeftAlone records kind own how old new end.heard → EndsByAnswer text how old new end →
       FaultsHaveCauses old new end
-  ended-causes kind records text (answer.Lost stripe row) left by = none-rose 4 refl by.status_is
-  ended-causes kind records text (answer.ProviderFault j) left by =
+  ended-causes kind own records text (answer.Lost stripe row) left by = none-rose 4 refl by.status_is
+  ended-causes kind own records text (answer.ProviderFault j) left by =
       provider-rose by.status_is
       (subst (λ k. Rose (provider_at old.providers k).store_faults (provider_at new.providers k).store_faults)
       (sym by.place)
-      (provider-by (ran_left records kind (answer.ProviderFault j) old new end.heard left) kind j
+      (provider-by (ran_left records kind (answer.ProviderFault j) old new end.heard left) kind own j
       left.leaves.by_kind))
-  ended-causes kind records text answer.DiskFault left by =
+  ended-causes kind own records text answer.DiskFault left by =
       disk-rose by.status_is
       (rose-before old.disk_faults left.faults new.disk_faults left.before left.leaves.counts.disk
-      (disk-by (ran_left records kind answer.DiskFault old new end.heard left) kind left.leaves.by_kind))
-  ended-causes kind records text answer.Memory left by = none-rose 70 refl by.status_is
-  ended-causes kind records text answer.Put left by = written-causes text by.written
-  ended-causes kind records text (answer.Got bytes) left by = written-causes text by.written
-  ended-causes kind records text answer.Dropped left by = written-causes text by.written
-  ended-causes kind records text (answer.Audited number undecided counts) left by =
+      (disk-by (ran_left records kind answer.DiskFault old new end.heard left) kind own left.leaves.by_kind))
+  ended-causes kind own records text answer.Memory left by = none-rose 70 refl by.status_is
+  ended-causes kind own records text answer.Put left by = written-causes text by.written
+  ended-causes kind own records text (answer.Got bytes) left by = written-causes text by.written
+  ended-causes kind own records text answer.Dropped left by = written-causes text by.written
+  ended-causes kind own records text (answer.Audited number undecided counts) left by =
       written-causes text by.written
-  ended-causes kind records text (answer.Repaired number) left by = written-causes text by.written
-  ended-causes kind records text answer.Upgraded left by = written-causes text by.written
-  ended-causes kind records text (answer.Scrubbed stripes symbols blocks) left by =
+  ended-causes kind own records text (answer.Repaired number) left by = written-causes text by.written
+  ended-causes kind own records text answer.Upgraded left by = written-causes text by.written
+  ended-causes kind own records text (answer.Scrubbed stripes symbols blocks) left by =
       written-causes text by.written
-  ended-causes kind records text (answer.Packed before after) left by = written-causes text by.written
+  ended-causes kind own records text (answer.Packed before after) left by = written-causes text by.written
 
-  job-causes : (kind : Kind) (records : List Record) → AnswersJob kind records old new end →
+  job-causes : (kind : Kind) (records : List Record) {own : Option ℕ} → AnswersJob kind own records old new end →
       FaultsHaveCauses old new end
   job-causes kind records (AnswersJob.refused why is synced r) =
       none-rose (status_of why) (refused-none why) r.status_is
   job-causes kind records (AnswersJob.no_memory synced r) = none-rose 70 refl r.status_is
-  job-causes kind records (AnswersJob.ended how none runs left by) = ended-causes kind records _ how left by
+  job-causes kind records (AnswersJob.ended how none runs left by) = ended-causes kind _ records _ how left by
 
-  put-causes : (name : List ℕ) → AnswersPut name old new end → FaultsHaveCauses old new end
+  put-causes : (name : List ℕ) {own : Option ℕ} → AnswersPut name own old new end → FaultsHaveCauses old new end
   put-causes name (AnswersPut.unstarted u same) = unstarted-causes u
-  put-causes name (AnswersPut.source_fault records opened rose synced taken r) = source-rose r.status_is rose
+  put-causes name (AnswersPut.source_fault records opened known rose synced taken r) = source-rose r.status_is rose
+  put-causes name (AnswersPut.bad_profile records opened unknown synced same r) = none-rose 20 refl r.status_is
   put-causes name (AnswersPut.no_memory taken r) = none-rose 70 refl r.status_is
-  put-causes name (AnswersPut.begun records bytes opened read A) = job-causes _ records A
+  put-causes name (AnswersPut.begun records bytes opened known read A) = job-causes _ records A
 
   alone-causes : (kind : Kind) → AnswersAlone kind old new end → FaultsHaveCauses old new end
   alone-causes kind (AnswersAlone.unstarted u) = unstarted-causes u
@@ -201,8 +202,10 @@ module _ (old new : Seen) (end : Ending) where
   store-causes (RowOf n l b seen) A opens = absurd (false≢true opens)
   store-causes (InitWith numbers) A opens = absurd (false≢true opens)
   store-causes (PutUnder name) A opens = put-causes name A
+  store-causes (PutAt name profile) A opens = put-causes name A
   store-causes (GetOf name) A opens = alone-causes (GetJob name) A.0
   store-causes (DropOf name) A opens = alone-causes (DropJob name) A.0
   store-causes ListAll A opens = list-causes A.0
   store-causes AuditAll A opens = alone-causes AuditJob A.0
   store-causes RepairDue A opens = alone-causes RepairJob A.0
+  store-causes UpgradeJournal A opens = alone-causes UpgradeJob A.0

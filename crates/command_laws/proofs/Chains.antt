@@ -1,5 +1,5 @@
 -- Commands one after the other.
-use Rattle.std.proofs.Common.{◌≡◌, ◌≢◌, ℕ, ◌+◌, ◌<◌, ◌≤◌, ◌⊎◌, Bool, true, false, cond, not, List, [], ◌∷◌, length, None, Some, refl, ap, sym, subst, ◌∙◌, inl, inr, arith}
+use Rattle.std.proofs.Common.{◌≡◌, ◌≢◌, ℕ, ◌+◌, ◌<◌, ◌≤◌, ◌⊎◌, Bool, true, false, cond, not, List, [], ◌∷◌, length, None, Some, refl, ap, sym, subst, ◌∙◌, inl, inr, arith, Option}
 use Rattle.std.specs.Prelude.{is_some, nat_lt, ◌&&◌, ◌||◌}
 use Rattle.std.proofs.lemmas.Bool.{cases_Bool, le-ltb}
 use Rattle.std.proofs.lemmas.Bool.Decides.{nat_tests}
@@ -33,7 +33,7 @@ use Rattle.command_laws.specs.After.{Follows, IsThen, HasRightFile, IsUntouched,
 use Rattle.command_laws.specs.Opened.{IsKeyed}
 use Rattle.command_laws.proofs.Known.{known-once, known-always}
 use Rattle.command_laws.proofs.GetEnds.{seen-complete, seen-right}
-use Rattle.command_laws.proofs.JobEnds.{put-well, drop-done, repair-done}
+use Rattle.command_laws.proofs.JobEnds.{put-well, put-setup, put-audits, drop-done, repair-done}
 use Rattle.command_laws.proofs.InitEnds.{init-well}
 use Rattle.command_laws.proofs.Afterwards.{sure-next}
 use Rattle.command_laws.proofs.DoneStores.{init-sure, put-sure, drop-sure, audit-sure, repair-sure}
@@ -66,7 +66,7 @@ get-right name bytes records spoilt old new end A K H steady few zero =
     (let b = bad-few name bytes records spoilt old new H steady in omega (arith, b, few))).1 zero
 
 get-refused : (name : List ℕ) (records : List Record) → is_name name ≡ true → file_of records name ≡ None →
-    refusal_over records (GetJob name) ≡ Some refusal.NoSuchName
+    refusal_over records (GetJob name) None ≡ Some refusal.NoSuchName
 get-refused name records named none =
     (λ i. cond (not (named i)) (Some refusal.BadName)
     (cond (not (is_some (none i))) (Some refusal.NoSuchName) None))
@@ -86,8 +86,8 @@ get-missing name records old new end A K named none disk =
 -- ---- a get after a put
 
 -- a get after a done put gives the bytes that were put, or finds no memory
-pub put-get : (name bytes : List ℕ) (records : List Record) (spoilt : ℕ → Bool) (c d e f : Seen)
-    (second last : Ending) → AnswersPut name c d second → AnswersAlone (GetJob name) e f last → Follows d e →
+pub put-get : (name bytes : List ℕ) (own : Option ℕ) (records : List Record) (spoilt : ℕ → Bool) (c d e f : Seen)
+    (second last : Ending) → AnswersPut name own c d second → AnswersAlone (GetJob name) e f last → Follows d e →
     IsKnown c records →
     c.source ≡ Some bytes → IsDone second →
     ((j : ℕ) → j < (setup_in_effect records).n → spoilt j ≡ false →
@@ -97,16 +97,20 @@ pub put-get : (name bytes : List ℕ) (records : List Record) (spoilt : ℕ → 
     spoilt_below (setup_in_effect records).n spoilt ≤ (setup_in_effect records).b →
     (Rose e.disk_faults f.disk_faults → ⊥) → (Rose e.sink_faults f.sink_faults → ⊥) →
     GivesUnlessMemory bytes e f last
-put-get name bytes records spoilt c d e f second last P G N K source done tells untouched steady few disk sink =
-    (let after : List Record = after_put records name (length bytes) in
-    let sure = sure-next after d e (put-sure name bytes records c d second P done K source) N in
+put-get name bytes own records spoilt c d e f second last P G N K source done tells untouched steady few disk sink =
+    (let after : List Record = after_put records name (length bytes) own in
+    let same : setup_in_effect records ≡ setup_in_effect after = sym (put-setup records name (length bytes) own) in
+    let sure = sure-next after d e (put-sure name bytes own records c d second P done K source) N in
     let file = next-has name bytes after spoilt d e
-    (put-has name bytes records spoilt c d second P done K source tells) untouched in
-    get-complete name bytes after spoilt e f last G sure.known file steady few disk sink)
+    (put-has name bytes own records spoilt c d second P done K source tells)
+    (subst (λ (s : Setup). IsUntouched s.n spoilt d e) same untouched) in
+    get-complete name bytes after spoilt e f last G sure.known file
+    (subst (λ (s : Setup). IsSteady s.n spoilt e f) same steady)
+    (subst (λ (s : Setup). spoilt_below s.n spoilt ≤ s.b) same few) disk sink)
 
 -- a get after a done init and a done put gives the bytes that were put, or finds no memory
-pub init-put-get : (numbers : Numbers) (key name bytes : List ℕ) (spoilt : ℕ → Bool) (a b c d e f : Seen)
-    (first second last : Ending) → AnswersInit numbers a b first → AnswersPut name c d second →
+pub init-put-get : (numbers : Numbers) (key name bytes : List ℕ) (own : Option ℕ) (spoilt : ℕ → Bool) (a b c d e f : Seen)
+    (first second last : Ending) → AnswersInit numbers a b first → AnswersPut name own c d second →
     AnswersAlone (GetJob name) e f last →
     Follows b c → Follows d e → is_some a.disk ≡ true →
     ((text : List ℕ) × (a.source ≡ Some text) × IsKeyForm text key) → c.source ≡ Some bytes → IsDone first →
@@ -116,10 +120,10 @@ pub init-put-get : (numbers : Numbers) (key name bytes : List ℕ) (spoilt : ℕ
     spoilt_below numbers.n spoilt ≤ numbers.b →
     (Rose e.disk_faults f.disk_faults → ⊥) → (Rose e.sink_faults f.sink_faults → ⊥) →
     GivesUnlessMemory bytes e f last
-init-put-get numbers key name bytes spoilt a b c d e f first second last I P G N M told text source done also tells untouched steady few disk sink =
+init-put-get numbers key name bytes own spoilt a b c d e f first second last I P G N M told text source done also tells untouched steady few disk sink =
     (let records : List Record = SetUp (setup_with numbers key) ∷ [] in
     let sure = sure-next records b c (init-sure numbers key a b first I done told text) N in
-    put-get name bytes records spoilt c d e f second last P G M sure.known source also tells untouched steady
+    put-get name bytes own records spoilt c d e f second last P G M sure.known source also tells untouched steady
     few disk sink)
 
 -- ---- all three with no fault
@@ -129,10 +133,10 @@ ends-zero : (text : List ℕ) (old new : Seen) (end : Ending) → GivesUnlessMem
 ends-zero text old new end (inl gives) some = gives
 ends-zero text old new end (inr (memory, front)) some = absurd (some memory)
 
--- over a store that was just set up a put is not refused
-pub put-begins : (s : Setup) (name bytes : List ℕ) → is_name name ≡ true → length bytes ≤ largest_file →
-    refusal_over (SetUp s ∷ []) (PutJob name bytes) ≡ None
-put-begins s name bytes named short =
+-- over a store that was just set up a put that names no profile is not refused
+pub first-begins : (s : Setup) (name bytes : List ℕ) → is_name name ≡ true → length bytes ≤ largest_file →
+    refusal_over (SetUp s ∷ []) (PutJob name bytes) None ≡ None
+first-begins s name bytes named short =
     (let long : nat_lt largest_file (length bytes) ≡ false = le-ltb largest_file (length bytes) short in
     let full : nat_lt largest_journal (51 + (11 + (length name + 14))) ≡ false =
     le-ltb largest_journal (51 + (11 + (length name + 14)))
@@ -145,7 +149,7 @@ put-begins s name bytes named short =
 -- an init, a put and a get with no fault and with memory are done, and give the bytes that were put
 pub all-whole : (numbers : Numbers) (key name bytes : List ℕ) (spoilt : ℕ → Bool) (cells : Cells)
     (a b c d e f : Seen) (first second last : Ending) → AnswersInit numbers a b first →
-    AnswersPut name c d second →
+    AnswersPut name None c d second →
     AnswersAlone (GetJob name) e f last → Follows b c → Follows d e → a.disk ≡ Some cells → IsFree cells →
     IsKeyed numbers key a → c.source ≡ Some bytes → is_name name ≡ true → length bytes ≤ largest_file →
     ((j : ℕ) → j < numbers.n → spoilt j ≡ false → is_some (provider_at c.providers j).held ≡ true) →
@@ -159,11 +163,11 @@ all-whole numbers key name bytes spoilt cells a b c d e f first second last I P 
     (init-well numbers key cells a b first I K disk free calm.source calm.disk calm.sink) some).0 in
     let sure = sure-next records b c
     (init-sure numbers key a b first I (inl zero) (ap is_some disk) (K.bytes, K.source, K.form)) N in
-    let begins = put-begins (setup_with numbers key) name bytes named short in
+    let begins = first-begins (setup_with numbers key) name bytes named short in
     let put = (ends-zero (stored_line name (length bytes)) c d second
-    (put-well name bytes records c d second P sure.known source begins quiet.disk
+    (put-well name bytes None records c d second P sure.known source begins quiet.disk
     (λ j below. quiet.stores j) quiet.source quiet.sink) more).0 in
-    let got = put-get name bytes records spoilt c d e f second last P G M sure.known source
+    let got = put-get name bytes None records spoilt c d e f second last P G M sure.known source
     (inl put) tells untouched steady few still.disk still.sink in
     (zero, put, ends-zero bytes e f last got most))
 
@@ -250,35 +254,29 @@ audit-then records undecided counts c d =
       after_is = refl;
     })
 
--- a get after a put, an audit and its repair, all done, gives the bytes that were put
-pub put-audit-repair-get : (name bytes : List ℕ) (records : List Record) (spoilt : ℕ → Bool)
-    (a b c d e f g h : Seen) (first second third last : Ending) → AnswersPut name a b first →
-    Answers AuditAll c d second →
-    AnswersAlone RepairJob e f third → AnswersAlone (GetJob name) g h last → Follows b c → Follows d e →
-    Follows f g → IsKnown a records → a.source ≡ Some bytes → IsDone first → IsDone second → IsDone third →
-    ((j : ℕ) → j < (setup_in_effect records).n → spoilt j ≡ false →
-    is_some (provider_at a.providers j).held ≡ true) →
-    IsUntouched (setup_in_effect records).n spoilt b c → IsUntouched (setup_in_effect records).n spoilt d e →
-    IsSteady (setup_in_effect records).n spoilt e f →
-    spoilt_below (setup_in_effect records).n spoilt ≤ (setup_in_effect records).b →
-    (undecided : ℕ) × (counts : List ℕ) ×
-    IsTold (audit_lines (setup_in_effect records).tolerance (next_audit records) undecided counts) c d second
-    × (((j : ℕ) → j < (setup_in_effect records).n →
-    is_flagged (setup_in_effect records).tolerance counts j ≡ true →
+-- what an audit, its repair and a get give over a store with this setup, whose next audit has this number
+abbrev Mends : Setup → ℕ → List ℕ → (ℕ → Bool) → Seen → Seen → Seen → Seen → Seen → Seen → Ending → Ending →
+    Type 0
+Mends s number bytes spoilt c d e f g h second last =
+    (undecided : ℕ) × (counts : List ℕ)
+    × IsTold (audit_lines s.tolerance number undecided counts) c d second
+    × (((j : ℕ) → j < s.n → is_flagged s.tolerance counts j ≡ true →
     is_some (provider_at e.providers j).held ≡ true) → (later : ℕ → Bool) →
-    ((j : ℕ) → later j ≡ false →
-    (spoilt j && not (is_flagged (setup_in_effect records).tolerance counts j)) ≡ false) →
-    IsUntouched (setup_in_effect records).n later f g →
-    IsSteady (setup_in_effect records).n later g h →
-    spoilt_below (setup_in_effect records).n later ≤ (setup_in_effect records).b →
+    ((j : ℕ) → later j ≡ false → (spoilt j && not (is_flagged s.tolerance counts j)) ≡ false) →
+    IsUntouched s.n later f g → IsSteady s.n later g h → spoilt_below s.n later ≤ s.b →
     (Rose g.disk_faults h.disk_faults → ⊥) → (Rose g.sink_faults h.sink_faults → ⊥) →
     GivesUnlessMemory bytes g h last)
-put-audit-repair-get name bytes records spoilt a b c d e f g h first second third last P A R G N M L K source put audited repaired told one two steady few =
-    (let stored : List Record = after_put records name (length bytes) in
-    let sure-c = sure-next stored b c (put-sure name bytes records a b first P put K source) N in
-    let file-c = next-has name bytes stored spoilt b c
-    (put-has name bytes records spoilt a b first P put K source told) one in
-    let audit = audit-sure stored c d second A.0 audited sure-c.known in
+
+audit-repair-get : (name bytes : List ℕ) (stored : List Record) (spoilt : ℕ → Bool)
+    (c d e f g h : Seen) (second third last : Ending) → Answers AuditAll c d second →
+    AnswersAlone RepairJob e f third → AnswersAlone (GetJob name) g h last → Follows d e →
+    Follows f g → IsKnown c stored → IsDone second → IsDone third →
+    HasRightFile c stored name bytes spoilt → IsUntouched (setup_in_effect stored).n spoilt d e →
+    IsSteady (setup_in_effect stored).n spoilt e f →
+    spoilt_below (setup_in_effect stored).n spoilt ≤ (setup_in_effect stored).b →
+    Mends (setup_in_effect stored) (next_audit stored) bytes spoilt c d e f g h second last
+audit-repair-get name bytes stored spoilt c d e f g h second third last A R G M L known audited repaired file-c two steady few =
+    (let audit = audit-sure stored c d second A.0 audited known in
     let counted : List Record = after_audit stored audit.0 audit.1 in
     let sure-e = sure-next counted d e audit.2 M in
     let file-e = next-has name bytes counted spoilt d e
@@ -295,8 +293,36 @@ put-audit-repair-get name bytes records spoilt a b c d e f g h first second thir
       λ tells later less untouched calm also disk sink. repair-get name bytes counted spoilt later repair.due
           e f g h third last R G L sure-e.known is_due file-e repaired steady few
           (λ j below flagged. tells j below
-          (subst (λ (ks : List ℕ). is_flagged (setup_in_effect records).tolerance ks j ≡ true) same flagged))
+          (subst (λ (ks : List ℕ). is_flagged (setup_in_effect stored).tolerance ks j ≡ true) same flagged))
           (subst (λ (ks : List ℕ). (j : ℕ) → later j ≡ false →
-          (spoilt j && not (is_flagged (setup_in_effect records).tolerance ks j)) ≡ false)
+          (spoilt j && not (is_flagged (setup_in_effect stored).tolerance ks j)) ≡ false)
           (sym same) less) untouched calm also disk sink,
     ))
+
+-- a get after a put, an audit and its repair, all done, gives the bytes that were put
+pub put-audit-repair-get : (name bytes : List ℕ) (own : Option ℕ) (records : List Record) (spoilt : ℕ → Bool)
+    (a b c d e f g h : Seen) (first second third last : Ending) → AnswersPut name own a b first →
+    Answers AuditAll c d second →
+    AnswersAlone RepairJob e f third → AnswersAlone (GetJob name) g h last → Follows b c → Follows d e →
+    Follows f g → IsKnown a records → a.source ≡ Some bytes → IsDone first → IsDone second → IsDone third →
+    ((j : ℕ) → j < (setup_in_effect records).n → spoilt j ≡ false →
+    is_some (provider_at a.providers j).held ≡ true) →
+    IsUntouched (setup_in_effect records).n spoilt b c → IsUntouched (setup_in_effect records).n spoilt d e →
+    IsSteady (setup_in_effect records).n spoilt e f →
+    spoilt_below (setup_in_effect records).n spoilt ≤ (setup_in_effect records).b →
+    Mends (setup_in_effect records) (next_audit records) bytes spoilt c d e f g h second last
+put-audit-repair-get name bytes own records spoilt a b c d e f g h first second third last P A R G N M L K source put audited repaired told one two steady few =
+    (let stored : List Record = after_put records name (length bytes) own in
+    let same : setup_in_effect records ≡ setup_in_effect stored =
+    sym (put-setup records name (length bytes) own) in
+    let sure-c = sure-next stored b c (put-sure name bytes own records a b first P put K source) N in
+    let file-c = next-has name bytes stored spoilt b c
+    (put-has name bytes own records spoilt a b first P put K source told)
+    (subst (λ (s : Setup). IsUntouched s.n spoilt b c) same one) in
+    subst (λ (s : Setup). Mends s (next_audit records) bytes spoilt c d e f g h second last) (sym same)
+    (subst (λ number. Mends (setup_in_effect stored) number bytes spoilt c d e f g h second last)
+    (put-audits records name (length bytes) own)
+    (audit-repair-get name bytes stored spoilt c d e f g h second third last A R G M L sure-c.known audited
+    repaired file-c (subst (λ (s : Setup). IsUntouched s.n spoilt d e) same two)
+    (subst (λ (s : Setup). IsSteady s.n spoilt e f) same steady)
+    (subst (λ (s : Setup). spoilt_below s.n spoilt ≤ s.b) same few))))

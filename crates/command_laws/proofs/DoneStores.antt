@@ -19,12 +19,12 @@ use Rattle.record_defs.specs.Table.{Due, next_audit, due_of}
 use Rattle.record_defs.proofs.Standing.{stands-front}
 use Rattle.record_codec.proofs.Takes.{IsBytes-all}
 use Rattle.journal_core.proofs.Meanings.{one_meaning}
-use Rattle.machine_defs.specs.Jobs.{Kind, PutJob, GetJob, DropJob, AuditJob, RepairJob}
+use Rattle.machine_defs.specs.Jobs.{Kind, PutJob, GetJob, DropJob, AuditJob, RepairJob, UpgradeJob}
 use Rattle.machine_defs.specs.Answers as answer
 use Rattle.machine_defs.specs.Answers.{Answer}
 use Rattle.machine_defs.specs.Refusals.{Refusal}
 use Rattle.machine_defs.proofs.JobLists.{same_value}
-use Rattle.command_defs.specs.Forms.{Command, Numbers, RowOf, InitWith, PutUnder, GetOf, DropOf, ListAll, AuditAll, RepairDue}
+use Rattle.command_defs.specs.Forms.{Command, Numbers, RowOf, InitWith, PutUnder, PutAt, GetOf, DropOf, ListAll, AuditAll, RepairDue, UpgradeJournal}
 use Rattle.command_defs.specs.Keys.{IsKeyForm}
 use Rattle.command_defs.specs.Seen.{Seen, Ending, IsRefused, ReadsUpTo}
 use Rattle.opening_defs.specs.Journals.{journal_read, IsSetUpOn}
@@ -37,11 +37,12 @@ use Rattle.command_defs.specs.Jobs.{AnswersJob, SamePast, past, with_next, IsTol
 use Rattle.command_defs.specs.Commands.{AnswersPut, AnswersAlone, AnswersList, Answers}
 use Rattle.state_laws.proofs.Records.{is_some-at}
 use Rattle.command_defs.proofs.Keys.{IsKeyForm-once}
-use Rattle.command_laws.specs.Ends.{IsDone, IsKnown, RunsKind, DiskHas, opens_store, after_put, after_drop, after_audit, after_repair}
+use Rattle.lone_laws.specs.Walked.{MayName}
+use Rattle.command_laws.specs.Ends.{IsDone, IsKnown, profile_named, RunsKind, DiskHas, opens_store, after_put, after_drop, after_audit, after_repair, after_upgrade}
 use Rattle.command_laws.specs.Kept.{IsAfter, after_start}
 use Rattle.command_laws.specs.After.{IsSure, Follows, IsThen}
 use Rattle.command_laws.proofs.Known.{known-once, alone-known, unstarted-known, refused-not}
-use Rattle.command_laws.proofs.JobEnds.{put-done, drop-done, audit-done, repair-done}
+use Rattle.command_laws.proofs.JobEnds.{put-done, drop-done, audit-done, repair-done, upgrade-done}
 use Rattle.command_laws.proofs.GetEnds.{ran_left}
 use Rattle.command_laws.proofs.InitEnds.{form-all, init-done, list-done}
 use Rattle.command_laws.proofs.Images.{known-images}
@@ -78,32 +79,32 @@ over-refused why status is (inr (inr e)) = refused-not why 13 refl (λ k. omega 
 -- ---- a disk that told tells on
 
 -- a disk tells after a job where it told before, past what the job appended
-pub tells-past : (kind : Kind) (how : Answer) (before rs : List Record) (a b : Option Cells) →
-    SamePast kind how before rs a b → is_some b ≡ is_some a
-tells-past kind answer.Put before rs a b h =
+pub tells-past : (kind : Kind) (own : Option ℕ) (how : Answer) (before rs : List Record) (a b : Option Cells) →
+    SamePast kind own how before rs a b → is_some b ≡ is_some a
+tells-past kind own answer.Put before rs a b h =
     sym (is_some-option_map (past rs) b) ∙ (ap is_some h ∙ is_some-option_map (past rs) a)
-tells-past kind (answer.Got bytes) before rs a b h =
+tells-past kind own (answer.Got bytes) before rs a b h =
     sym (is_some-option_map (past rs) b) ∙ (ap is_some h ∙ is_some-option_map (past rs) a)
-tells-past kind answer.Dropped before rs a b h =
+tells-past kind own answer.Dropped before rs a b h =
     sym (is_some-option_map (past rs) b) ∙ (ap is_some h ∙ is_some-option_map (past rs) a)
-tells-past kind (answer.Audited number undecided counts) before rs a b h =
+tells-past kind own (answer.Audited number undecided counts) before rs a b h =
     sym (is_some-option_map (past rs) b) ∙ (ap is_some h ∙ is_some-option_map (past rs) a)
-tells-past kind (answer.Repaired number) before rs a b h =
+tells-past kind own (answer.Repaired number) before rs a b h =
     sym (is_some-option_map (past rs) b) ∙ (ap is_some h ∙ is_some-option_map (past rs) a)
-tells-past kind answer.Upgraded before rs a b h =
+tells-past kind own answer.Upgraded before rs a b h =
     sym (is_some-option_map (past rs) b) ∙ (ap is_some h ∙ is_some-option_map (past rs) a)
-tells-past kind (answer.Scrubbed stripes symbols blocks) before rs a b h =
+tells-past kind own (answer.Scrubbed stripes symbols blocks) before rs a b h =
     sym (is_some-option_map (past rs) b) ∙ (ap is_some h ∙ is_some-option_map (past rs) a)
-tells-past kind (answer.Packed shorter longer) before rs a b h =
+tells-past kind own (answer.Packed shorter longer) before rs a b h =
     sym (is_some-option_map (past rs) b) ∙ (ap is_some h ∙ is_some-option_map (past rs) a)
-tells-past kind (answer.Lost stripe row) before rs a b h =
+tells-past kind own (answer.Lost stripe row) before rs a b h =
     sym (is_some-option_map (past rs) b) ∙ (ap is_some h ∙ is_some-option_map (past rs) a)
-tells-past kind (answer.ProviderFault j) before rs a b h =
+tells-past kind own (answer.ProviderFault j) before rs a b h =
     sym (is_some-option_map (past rs) b) ∙ (ap is_some h ∙ is_some-option_map (past rs) a)
-tells-past kind answer.DiskFault before rs a b h =
+tells-past kind own answer.DiskFault before rs a b h =
     (let all = with_next h.next rs in sym (is_some-option_map (past all) b)
     ∙ (ap is_some h.same ∙ is_some-option_map (past all) a))
-tells-past kind answer.Memory before rs a b h =
+tells-past kind own answer.Memory before rs a b h =
     (let all = with_next h.next rs in sym (is_some-option_map (past all) b)
     ∙ (ap is_some h.same ∙ is_some-option_map (past all) a))
 
@@ -114,14 +115,15 @@ abbrev Left : List Record → Seen → Seen → Type 0
 Left records old new = LeavesGood records old new × (is_some new.disk ≡ is_some old.disk)
 
 left-over : (kind : Kind) (records : List Record) (old new : Seen) (end : Ending) → IsOpened old records →
-    HasBytes kind → AnswersJob kind records old new end → IsOver end.status → Left records old new
-left-over kind records old new end R are (AnswersJob.refused why is synced r) over =
+    HasBytes kind → {own : Option ℕ} → MayName kind own → AnswersJob kind own records old new end →
+    IsOver end.status → Left records old new
+left-over kind records old new end R are named (AnswersJob.refused why is synced r) over =
     absurd (over-refused why end.status r.status_is over)
-left-over kind records old new end R are (AnswersJob.no_memory synced r) over =
+left-over kind records old new end R are named (AnswersJob.no_memory synced r) over =
     absurd (over-memory end.status r.status_is over)
-left-over kind records old new end R are (AnswersJob.ended how none runs left by) over = (
-  ran-good records kind how old new end.heard R (spelled-kind records kind are none) runs,
-  tells-past kind how records left.after old.disk new.disk left.past_text,
+left-over kind records old new end R are named (AnswersJob.ended how none runs left by) over = (
+  ran-good records kind how old new end.heard R (spelled-kind records kind _ are none) named runs,
+  tells-past kind _ how records left.after old.disk new.disk left.past_text,
 )
 
 alone-over : (kind : Kind) (records : List Record) (old new : Seen) (end : Ending) → IsKnown old records →
@@ -129,24 +131,28 @@ alone-over : (kind : Kind) (records : List Record) (old new : Seen) (end : Endin
 alone-over kind records old new end K are A over = elim (alone-known kind old new end records K A) [
   | inl (inl (rose, r)) ↦ absurd (over-twelve end.status r.status_is over)
   | inl (inr r) ↦ absurd (over-memory end.status r.status_is over)
-  | inr job ↦ left-over kind records old new end K.opened are job over
+  | inr job ↦ left-over kind records old new end K.opened are (MayName.none refl) job over
 ]
 
-put-over : (name : List ℕ) (records : List Record) (old new : Seen) (end : Ending) → IsKnown old records →
-    AnswersPut name old new end → IsOver end.status → Left records old new
+put-over : (name : List ℕ) {own : Option ℕ} (records : List Record) (old new : Seen) (end : Ending) → IsKnown old records →
+    AnswersPut name own old new end → IsOver end.status → Left records old new
 put-over name records old new end K (AnswersPut.unstarted u same) over =
     elim (unstarted-known old new end records K u) [
       | inl (rose, r) ↦ absurd (over-twelve end.status r.status_is over)
       | inr r ↦ absurd (over-memory end.status r.status_is over)
     ]
-put-over name records old new end K (AnswersPut.source_fault other opened rose synced taken r) over =
+put-over name records old new end K (AnswersPut.source_fault other opened known rose synced taken r) over =
     absurd (over-not end.status 14 r.status_is (λ e. omega (arith, e)) (λ e. omega (arith, e))
+    (λ e. omega (arith, e)) (λ e. omega (arith, e)) over)
+put-over name records old new end K (AnswersPut.bad_profile other opened unknown synced same r) over =
+    absurd (over-not end.status 20 r.status_is (λ e. omega (arith, e)) (λ e. omega (arith, e))
     (λ e. omega (arith, e)) (λ e. omega (arith, e)) over)
 put-over name records old new end K (AnswersPut.no_memory taken r) over =
     absurd (over-memory end.status r.status_is over)
-put-over name records old new end K (AnswersPut.begun other bytes opened read A) over =
+put-over name records old new end K (AnswersPut.begun other bytes opened known read A) over =
     subst (λ rs. Left rs old new) (known-once old records other K opened.read)
-    (left-over (PutJob name bytes) other old new end opened read.are_bytes A over)
+    (left-over (PutJob name bytes) other old new end opened read.are_bytes
+    (MayName.put name bytes refl) A over)
 
 sure-left : (records after : List Record) (old new : Seen) → IsKnown old records → Left records old new →
     DiskHas after new → IsSure new after
@@ -168,17 +174,17 @@ whole-read most old (Some left) bytes seen is R whole =
 -- ---- each command that is done
 
 -- after a done put the store is sure, with the put's two records
-pub put-sure : (name bytes : List ℕ) (records : List Record) (old new : Seen) (end : Ending) →
-    AnswersPut name old new end → IsDone end → IsKnown old records → old.source ≡ Some bytes →
-    IsSure new (after_put records name (length bytes))
-put-sure name bytes records old new end A done K source =
-    (let P = put-done name old new end A done in
+pub put-sure : (name bytes : List ℕ) (own : Option ℕ) (records : List Record) (old new : Seen) (end : Ending) →
+    AnswersPut name own old new end → IsDone end → IsKnown old records → old.source ≡ Some bytes →
+    IsSure new (after_put records name (length bytes) own)
+put-sure name bytes own records old new end A done K source =
+    (let P = put-done name own old new end A done in
     let same = known-once old records P.records K P.opened.read in
     let read = whole-read (largest_file + 1) old.source new.source bytes P.bytes source P.read P.whole in
-    let has : DiskHas (after_put records name (length bytes)) new =
-    subst (λ rs. DiskHas (after_put rs name (length bytes)) new) same
-    (subst (λ bs. DiskHas (after_put P.records name (length bs)) new) read P.disk) in
-    sure-left records (after_put records name (length bytes)) old new K
+    let has : DiskHas (after_put records name (length bytes) own) new =
+    subst (λ rs. DiskHas (after_put rs name (length bytes) own) new) same
+    (subst (λ bs. DiskHas (after_put P.records name (length bs) own) new) read P.disk) in
+    sure-left records (after_put records name (length bytes) own) old new K
     (put-over name records old new end K A (inl done)) has)
 
 -- after a done drop the store is sure, with the drop's record
@@ -225,9 +231,20 @@ repair-sure records due old new end A done K is_due =
     sure-left records (after_repair records due) old new K
     (alone-over RepairJob records old new end K tt A (inl done)) has)
 
+-- after a done upgrade the store is sure, with the upgrade's record
+pub upgrade-sure : (records : List Record) (old new : Seen) (end : Ending) →
+    AnswersAlone UpgradeJob old new end → IsDone end → IsKnown old records →
+    IsSure new (after_upgrade records)
+upgrade-sure records old new end A done K =
+    (let P = upgrade-done old new end A done in
+    let same = known-once old records P.records K P.opened.read in
+    sure-left records (after_upgrade records) old new K
+    (alone-over UpgradeJob records old new end K tt A (inl done))
+    (subst (λ rs. DiskHas (after_upgrade rs) new) same P.disk))
+
 -- a get appends nothing
 get-has : (name : List ℕ) (records : List Record) (old new : Seen) (end : Ending) → IsOpened old records →
-    AnswersJob (GetJob name) records old new end → IsOver end.status → DiskHas records new
+    AnswersJob (GetJob name) None records old new end → IsOver end.status → DiskHas records new
 get-has name records old new end R (AnswersJob.refused why is synced r) over =
     absurd (over-refused why end.status r.status_is over)
 get-has name records old new end R (AnswersJob.no_memory synced r) over =
@@ -244,15 +261,15 @@ get-sure name records old new end A over K = elim (alone-known (GetJob name) old
   | inl (inl (rose, r)) ↦ absurd (over-twelve end.status r.status_is over)
   | inl (inr r) ↦ absurd (over-memory end.status r.status_is over)
   | inr job ↦ sure-left records records old new K
-      (left-over (GetJob name) records old new end K.opened tt job over)
+      (left-over (GetJob name) records old new end K.opened tt (MayName.none refl) job over)
       (get-has name records old new end K.opened job over)
 ]
 
 -- ---- a store that failed, and a row that a repair lost
 
 -- after a put of which a store failed the store is sure, with the put's first record alone
-pub failed-put-sure : (name : List ℕ) (records : List Record) (old new : Seen) (end : Ending) →
-    AnswersPut name old new end → end.status ≡ 13 → IsKnown old records →
+pub failed-put-sure : (name : List ℕ) {own : Option ℕ} (records : List Record) (old new : Seen) (end : Ending) →
+    AnswersPut name own old new end → end.status ≡ 13 → IsKnown old records →
     IsSure new (after_start records name)
 failed-put-sure name records old new end A failed K =
     (let P = put-fails name old new end A failed in
@@ -367,13 +384,13 @@ abbrev Comes : List Record → Seen → Seen → Ending → Type 0
 Comes records old new end = ((status : ℕ) × (at : ℕ) × IsRefused status at old new end) ⊎ Left records old new
 
 job-comes : (kind : Kind) (records : List Record) (old new : Seen) (end : Ending) → IsOpened old records →
-    HasBytes kind → AnswersJob kind records old new end → Comes records old new end
-job-comes kind records old new end R are (AnswersJob.refused why is synced r) = inl (status_of why, 0, r)
-job-comes kind records old new end R are (AnswersJob.no_memory synced r) = inl (70, 0, r)
-job-comes kind records old new end R are (AnswersJob.ended how none runs left by) =
+    HasBytes kind → {own : Option ℕ} → MayName kind own → AnswersJob kind own records old new end → Comes records old new end
+job-comes kind records old new end R are named (AnswersJob.refused why is synced r) = inl (status_of why, 0, r)
+job-comes kind records old new end R are named (AnswersJob.no_memory synced r) = inl (70, 0, r)
+job-comes kind records old new end R are named (AnswersJob.ended how none runs left by) =
     inr (
-      ran-good records kind how old new end.heard R (spelled-kind records kind are none) runs,
-      tells-past kind how records left.after old.disk new.disk left.past_text,
+      ran-good records kind how old new end.heard R (spelled-kind records kind _ are none) named runs,
+      tells-past kind _ how records left.after old.disk new.disk left.past_text,
     )
 
 unstarted-comes : (records : List Record) (old new : Seen) (end : Ending) → IsKnown old records →
@@ -386,18 +403,19 @@ alone-comes : (kind : Kind) (records : List Record) (old new : Seen) (end : Endi
 alone-comes kind records old new end K are A = elim (alone-known kind old new end records K A) [
   | inl (inl (rose, r)) ↦ inl (12, 0, r)
   | inl (inr r) ↦ inl (70, 0, r)
-  | inr job ↦ job-comes kind records old new end K.opened are job
+  | inr job ↦ job-comes kind records old new end K.opened are (MayName.none refl) job
 ]
 
-put-comes : (name : List ℕ) (records : List Record) (old new : Seen) (end : Ending) → IsKnown old records →
-    AnswersPut name old new end → Comes records old new end
+put-comes : (name : List ℕ) {own : Option ℕ} (records : List Record) (old new : Seen) (end : Ending) → IsKnown old records →
+    AnswersPut name own old new end → Comes records old new end
 put-comes name records old new end K (AnswersPut.unstarted u same) = unstarted-comes records old new end K u
-put-comes name records old new end K (AnswersPut.source_fault other opened rose synced taken r) =
+put-comes name records old new end K (AnswersPut.source_fault other opened known rose synced taken r) =
     inl (14, 0, r)
+put-comes name records old new end K (AnswersPut.bad_profile other opened unknown synced same r) = inl (20, 0, r)
 put-comes name records old new end K (AnswersPut.no_memory taken r) = inl (70, 0, r)
-put-comes name records old new end K (AnswersPut.begun other bytes opened read A) =
+put-comes name records old new end K (AnswersPut.begun other bytes opened known read A) =
     subst (λ rs. Comes rs old new end) (known-once old records other K opened.read)
-    (job-comes (PutJob name bytes) other old new end opened read.are_bytes A)
+    (job-comes (PutJob name bytes) other old new end opened read.are_bytes (MayName.put name bytes refl) A)
 
 list-comes : (records : List Record) (old new : Seen) (end : Ending) → IsKnown old records →
     AnswersList old new end → IsSure new records ⊎ Comes records old new end
@@ -412,6 +430,8 @@ command-comes : (command : Command) (records : List Record) (old new : Seen) (en
 command-comes (RowOf n l b seen) records old new end K A opens = absurd (false≢true opens)
 command-comes (InitWith numbers) records old new end K A opens = absurd (false≢true opens)
 command-comes (PutUnder name) records old new end K A opens = inr (put-comes name records old new end K A)
+command-comes (PutAt name profile) records old new end K A opens =
+    inr (put-comes name records old new end K A)
 command-comes (GetOf name) records old new end K A opens =
     inr (alone-comes (GetJob name) records old new end K tt A.0)
 command-comes (DropOf name) records old new end K A opens =
@@ -420,6 +440,8 @@ command-comes ListAll records old new end K A opens = list-comes records old new
 command-comes AuditAll records old new end K A opens = inr (alone-comes AuditJob records old new end K tt A.0)
 command-comes RepairDue records old new end K A opens =
     inr (alone-comes RepairJob records old new end K tt A.0)
+command-comes UpgradeJournal records old new end K A opens =
+    inr (alone-comes UpgradeJob records old new end K tt A.0)
 
 -- what is told of each image: it is good, and stands for the records or for these with some of the job's
 abbrev Told : Command → List Record → Seen → Seen → List ℕ → Type 0
@@ -428,7 +450,8 @@ Told command records old new image =
 
 image-told : (command : Command) (records : List Record) (old new : Seen) (image : List ℕ)
     (rs : List Record) → IsGood (setup_in_effect records) image rs →
-    StandsFor image records ⊎ ((kind : Kind) × RunsKind command old new kind × IsAfter records kind image) →
+    StandsFor image records
+    ⊎ ((kind : Kind) × RunsKind command old new kind × IsAfter records kind (profile_named command) image) →
     Told command records old new image
 image-told command records old new image rs G (inl stands) =
     (rs, G, inl (one_meaning image rs records G.stands stands))

@@ -5,10 +5,10 @@ use Rattle.hail_field.specs.Shape.{IsShape}
 use Rattle.code_defs.specs.Points.{upto}
 use Rattle.code_defs.specs.DispersalCode.{AcceptsNone}
 use Rattle.record_defs.specs.Records.{Record}
-use Rattle.machine_defs.specs.Jobs.{Kind, PutJob, GetJob, DropJob, AuditJob, RepairJob}
+use Rattle.machine_defs.specs.Jobs.{Kind, PutJob, GetJob, DropJob, AuditJob, RepairJob, UpgradeJob}
 use Rattle.machine_defs.specs.Refusals as refusal
 use Rattle.machine_defs.specs.Refusals.{Refusal}
-use Rattle.command_defs.specs.Forms.{Command, Numbers, RowOf, InitWith, PutUnder, GetOf, DropOf, ListAll, AuditAll, RepairDue}
+use Rattle.command_defs.specs.Forms.{Command, Numbers, RowOf, InitWith, PutUnder, PutAt, GetOf, DropOf, ListAll, AuditAll, RepairDue, UpgradeJournal}
 use Rattle.command_defs.specs.Sinking.{WritesLine, TellsLine}
 use Rattle.command_defs.specs.Seen.{Seen, Ending, sinking}
 use Rattle.command_defs.specs.Opens.{Unstarted}
@@ -68,21 +68,23 @@ written-ending line old new end (inl w) = ap is_ending w.0
 written-ending line old new end (inr (inl w)) = ap is_ending w.1
 written-ending line old new end (inr (inr w)) = ap is_ending w.0
 
-job-ending : (kind : Kind) (records : List Record) (old new : Seen) (end : Ending) →
-    AnswersJob kind records old new end → is_ending end.status ≡ true
+job-ending : (kind : Kind) (records : List Record) (old new : Seen) (end : Ending) {own : Option ℕ} →
+    AnswersJob kind own records old new end → is_ending end.status ≡ true
 job-ending kind records old new end (AnswersJob.refused why is synced r) =
     ap is_ending r.status_is ∙ refused-ending why
 job-ending kind records old new end (AnswersJob.no_memory synced r) = ap is_ending r.status_is
 job-ending kind records old new end (AnswersJob.ended how none runs left by) =
     ended-ending end.status (status-ended _ how old new end by)
 
-put-ending : (name : List ℕ) (old new : Seen) (end : Ending) → AnswersPut name old new end →
+put-ending : (name : List ℕ) (old new : Seen) (end : Ending) {own : Option ℕ} → AnswersPut name own old new end →
     is_ending end.status ≡ true
 put-ending name old new end (AnswersPut.unstarted u same) = unstarted-ending old new end u
-put-ending name old new end (AnswersPut.source_fault records opened rose synced taken r) =
+put-ending name old new end (AnswersPut.source_fault records opened known rose synced taken r) =
+    ap is_ending r.status_is
+put-ending name old new end (AnswersPut.bad_profile records opened unknown synced same r) =
     ap is_ending r.status_is
 put-ending name old new end (AnswersPut.no_memory taken r) = ap is_ending r.status_is
-put-ending name old new end (AnswersPut.begun records bytes opened read A) =
+put-ending name old new end (AnswersPut.begun records bytes opened known read A) =
     job-ending (PutJob name bytes) records old new end A
 
 alone-ending : (kind : Kind) (old new : Seen) (end : Ending) → AnswersAlone kind old new end →
@@ -196,11 +198,13 @@ pub command-ending : (command : Command) (old new : Seen) (end : Ending) → Ans
 command-ending (RowOf n l b seen) old new end A = row-ending n l b seen old new end A.0
 command-ending (InitWith numbers) old new end A = init-ending numbers old new end A
 command-ending (PutUnder name) old new end A = put-ending name old new end A
+command-ending (PutAt name profile) old new end A = put-ending name old new end A
 command-ending (GetOf name) old new end A = alone-ending (GetJob name) old new end A.0
 command-ending (DropOf name) old new end A = alone-ending (DropJob name) old new end A.0
 command-ending ListAll old new end A = list-ending old new end A.0
 command-ending AuditAll old new end A = alone-ending AuditJob old new end A.0
 command-ending RepairDue old new end A = alone-ending RepairJob old new end A.0
+command-ending UpgradeJournal old new end A = alone-ending UpgradeJob old new end A.0
 
 -- no command whose words have a form ends with status 2
 pub never-two : (command : Command) (old new : Seen) (end : Ending) → Answers command old new end →

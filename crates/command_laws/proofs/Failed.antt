@@ -14,7 +14,7 @@ use Rattle.machine_defs.specs.Jobs.{Kind, PutJob, GetJob, DropJob, AuditJob, Rep
 use Rattle.machine_defs.specs.Answers as answer
 use Rattle.machine_defs.specs.Answers.{Answer}
 use Rattle.machine_defs.specs.Refusals.{Refusal}
-use Rattle.command_defs.specs.Forms.{Command, Numbers, RowOf, InitWith, PutUnder, GetOf, DropOf, ListAll, AuditAll, RepairDue}
+use Rattle.command_defs.specs.Forms.{Command, Numbers, RowOf, InitWith, PutUnder, PutAt, GetOf, DropOf, ListAll, AuditAll, RepairDue, UpgradeJournal}
 use Rattle.command_defs.specs.Sinking.{WritesLine}
 use Rattle.command_defs.specs.Seen.{Seen, Ending, ReadsUpTo, provider_at, sinking}
 use Rattle.command_defs.specs.Opens.{IsOpened, Unstarted, setup_in_effect}
@@ -41,17 +41,19 @@ abbrev fetches_of : Provider → ℕ
 fetches_of p = p.fetches
 
 -- a put fetches nothing
-pub put-fetches : (name : List ℕ) (old new : Seen) (end : Ending) → AnswersPut name old new end →
+pub put-fetches : (name : List ℕ) (old new : Seen) (end : Ending) {own : Option ℕ} → AnswersPut name own old new end →
     SameFetches old new
 put-fetches name old new end (AnswersPut.unstarted u same) = unstarted-same fetches_of old new end u
-put-fetches name old new end (AnswersPut.source_fault records opened rose after taken r) =
+put-fetches name old new end (AnswersPut.source_fault records opened known rose after taken r) =
     refused-same fetches_of 14 0 old new end r
+put-fetches name old new end (AnswersPut.bad_profile records opened unknown after same r) =
+    refused-same fetches_of 20 0 old new end r
 put-fetches name old new end (AnswersPut.no_memory taken r) = refused-same fetches_of 70 0 old new end r
-put-fetches name old new end (AnswersPut.begun records bytes opened read (AnswersJob.refused why is after r)) =
+put-fetches name old new end (AnswersPut.begun records bytes opened known read (AnswersJob.refused why is after r)) =
     refused-same fetches_of _ 0 old new end r
-put-fetches name old new end (AnswersPut.begun records bytes opened read (AnswersJob.no_memory after r)) =
+put-fetches name old new end (AnswersPut.begun records bytes opened known read (AnswersJob.no_memory after r)) =
     refused-same fetches_of 70 0 old new end r
-put-fetches name old new end (AnswersPut.begun records bytes opened read (AnswersJob.ended how none runs left by)) =
+put-fetches name old new end (AnswersPut.begun records bytes opened known read (AnswersJob.ended how none runs left by)) =
     left-same fetches_of records (PutJob name bytes) how old new end.heard left left.leaves.by_kind.1
 
 -- a drop fetches nothing
@@ -74,6 +76,17 @@ audit-fetches old new end (AnswersAlone.begun records opened (AnswersJob.no_memo
     refused-same fetches_of 70 0 old new end r
 audit-fetches old new end (AnswersAlone.begun records opened (AnswersJob.ended how none runs left by)) =
     left-same fetches_of records AuditJob how old new end.heard left left.leaves.by_kind.fetches
+
+-- an upgrade fetches nothing
+pub upgrade-fetches : (old new : Seen) (end : Ending) → AnswersAlone UpgradeJob old new end →
+    SameFetches old new
+upgrade-fetches old new end (AnswersAlone.unstarted u) = unstarted-same fetches_of old new end u
+upgrade-fetches old new end (AnswersAlone.begun records opened (AnswersJob.refused why is after r)) =
+    refused-same fetches_of _ 0 old new end r
+upgrade-fetches old new end (AnswersAlone.begun records opened (AnswersJob.no_memory after r)) =
+    refused-same fetches_of 70 0 old new end r
+upgrade-fetches old new end (AnswersAlone.begun records opened (AnswersJob.ended how none runs left by)) =
+    left-same fetches_of records UpgradeJob how old new end.heard left left.leaves.by_kind.1
 
 -- a list fetches nothing
 pub list-fetches : (old new : Seen) (end : Ending) → AnswersList old new end → SameFetches old new
@@ -162,11 +175,11 @@ EndsWith records kind how old new end =
 
 -- ---- puts
 
-put-by : (name bytes : List ℕ) (records : List Record) (old new : Seen) (end : Ending) →
+put-by : (name bytes : List ℕ) (records : List Record) (old new : Seen) (end : Ending) {own : Option ℕ} →
     IsOpened old records → ReadsUpTo (largest_file + 1) old.source new.source bytes →
-    (how : Answer) (left : LeftAlone records (PutJob name bytes) how old new end.heard) →
-    PutLeaves (ran_left records (PutJob name bytes) how old new end.heard left) name bytes how →
-    EndsWith records (PutJob name bytes) how old new end → end.status ≡ 13 → FailsToPut name old new end
+    (how : Answer) (left : LeftAlone records (PutJob name bytes) own how old new end.heard) →
+    PutLeaves (ran_left records (PutJob name bytes) how old new end.heard left) own name bytes how →
+    EndsWith records (PutJob name bytes) how old new end → end.status ≡ 13 → FailsToPut name own old new end
 put-by name bytes records old new end opened read (answer.ProviderFault j) left L by is = record {
   records = records;
   bytes = bytes;
@@ -191,25 +204,27 @@ put-by name bytes records old new end opened read answer.Memory left L by is =
 put-by name bytes records old new end opened read how left L by is = absurd L
 
 -- a put of which a store failed used its number, and changed neither the files nor what is due
-pub put-fails : (name : List ℕ) (old new : Seen) (end : Ending) → AnswersPut name old new end →
-    end.status ≡ 13 → FailsToPut name old new end
+pub put-fails : (name : List ℕ) (old new : Seen) (end : Ending) {own : Option ℕ} → AnswersPut name own old new end →
+    end.status ≡ 13 → FailsToPut name own old new end
 put-fails name old new end (AnswersPut.unstarted u same) is =
     absurd (unstarted-own 13 old new end u is (inl refl))
-put-fails name old new end (AnswersPut.source_fault records opened rose after taken r) is =
+put-fails name old new end (AnswersPut.source_fault records opened known rose after taken r) is =
     absurd (not_two end.status 14 13 r.status_is is (λ e. omega (arith, e)))
+put-fails name old new end (AnswersPut.bad_profile records opened unknown after same r) is =
+    absurd (not_two end.status 20 13 r.status_is is (λ e. omega (arith, e)))
 put-fails name old new end (AnswersPut.no_memory taken r) is =
     absurd (memory-own 13 end.status r.status_is is (inl refl))
-put-fails name old new end (AnswersPut.begun records bytes opened read (AnswersJob.refused why applies after r)) is =
+put-fails name old new end (AnswersPut.begun records bytes opened known read (AnswersJob.refused why applies after r)) is =
     absurd (refused-own 13 why end.status r.status_is is (inl refl))
-put-fails name old new end (AnswersPut.begun records bytes opened read (AnswersJob.no_memory after r)) is =
+put-fails name old new end (AnswersPut.begun records bytes opened known read (AnswersJob.no_memory after r)) is =
     absurd (memory-own 13 end.status r.status_is is (inl refl))
-put-fails name old new end (AnswersPut.begun records bytes opened read (AnswersJob.ended how none runs left by)) is =
+put-fails name old new end (AnswersPut.begun records bytes opened known read (AnswersJob.ended how none runs left by)) is =
     put-by name bytes records old new end opened read how left left.leaves.by_kind.0 by is
 
 -- ---- gets
 
 get-by : (name : List ℕ) (records : List Record) (old new : Seen) (end : Ending) → IsOpened old records →
-    (how : Answer) (left : LeftAlone records (GetJob name) how old new end.heard) →
+    (how : Answer) (left : LeftAlone records (GetJob name) None how old new end.heard) →
     GetLeaves (ran_left records (GetJob name) how old new end.heard left) name how →
     EndsWith records (GetJob name) how old new end → end.status ≡ 4 → LosesFile name old new end
 get-by name records old new end opened (answer.Lost stripe row) left L by is =
@@ -249,7 +264,7 @@ get-loses name old new end (AnswersAlone.begun records opened (AnswersJob.ended 
 -- ---- repairs
 
 repair-by : (records : List Record) (old new : Seen) (end : Ending) → IsOpened old records →
-    (how : Answer) (left : LeftAlone records RepairJob how old new end.heard) (due : Due) →
+    (how : Answer) (left : LeftAlone records RepairJob None how old new end.heard) (due : Due) →
     due_of records ≡ Some due →
     RepairGives (ran_left records RepairJob how old new end.heard left) due how →
     EndsWith records RepairJob how old new end → end.status ≡ 13 → FailsToRepair old new end
@@ -287,7 +302,7 @@ repair-by records old new end opened answer.Memory left due is_due L by is =
 repair-by records old new end opened how left due is_due L by is = absurd L
 
 lost-by : (records : List Record) (old new : Seen) (end : Ending) → IsOpened old records →
-    (how : Answer) (left : LeftAlone records RepairJob how old new end.heard) (due : Due) →
+    (how : Answer) (left : LeftAlone records RepairJob None how old new end.heard) (due : Due) →
     due_of records ≡ Some due →
     RepairGives (ran_left records RepairJob how old new end.heard left) due how →
     EndsWith records RepairJob how old new end → end.status ≡ 4 → LosesRepair old new end
@@ -392,38 +407,39 @@ Ends4 (GetJob name) = Unit {0}
 Ends4 RepairJob = Unit {0}
 Ends4 kind = ⊥
 
-store-kind : (x : Ran) (kind : Kind) (j : ℕ) → LeavesBy x kind (answer.ProviderFault j) → Ends13 kind
-store-kind x (PutJob name bytes) j L = tt
-store-kind x (GetJob name) j L = L.gives
-store-kind x (DropJob name) j L = L.0
-store-kind x AuditJob j L = L.gives
-store-kind x RepairJob j L = tt
-store-kind x UpgradeJob j L = L.0
+store-kind : (x : Ran) (kind : Kind) (own : Option ℕ) (j : ℕ) → LeavesBy x kind own (answer.ProviderFault j) → Ends13 kind
+store-kind x (PutJob name bytes) own j L = tt
+store-kind x (GetJob name) own j L = L.gives
+store-kind x (DropJob name) own j L = L.0
+store-kind x AuditJob own j L = L.gives
+store-kind x RepairJob own j L = tt
+store-kind x UpgradeJob own j L = L.0
 
-lost-kind : (x : Ran) (kind : Kind) (stripe row : ℕ) → LeavesBy x kind (answer.Lost stripe row) → Ends4 kind
-lost-kind x (PutJob name bytes) stripe row L = L.0
-lost-kind x (GetJob name) stripe row L = tt
-lost-kind x (DropJob name) stripe row L = L.0
-lost-kind x AuditJob stripe row L = L.gives
-lost-kind x RepairJob stripe row L = tt
-lost-kind x UpgradeJob stripe row L = L.0
+lost-kind : (x : Ran) (kind : Kind) (own : Option ℕ) (stripe row : ℕ) →
+    LeavesBy x kind own (answer.Lost stripe row) → Ends4 kind
+lost-kind x (PutJob name bytes) own stripe row L = L.0
+lost-kind x (GetJob name) own stripe row L = tt
+lost-kind x (DropJob name) own stripe row L = L.0
+lost-kind x AuditJob own stripe row L = L.gives
+lost-kind x RepairJob own stripe row L = tt
+lost-kind x UpgradeJob own stripe row L = L.0
 
-ended-13 : (kind : Kind) (text : List ℕ) (how : Answer) (x : Ran) (old new : Seen) (end : Ending) →
-    LeavesBy x kind how → EndsByAnswer text how old new end → end.status ≡ 13 → Ends13 kind
-ended-13 kind text how x old new end L by is = go (own-end 13 text how old new end by is (inl refl))
+ended-13 : (kind : Kind) (own : Option ℕ) (text : List ℕ) (how : Answer) (x : Ran) (old new : Seen)
+    (end : Ending) → LeavesBy x kind own how → EndsByAnswer text how old new end → end.status ≡ 13 → Ends13 kind
+ended-13 kind own text how x old new end L by is = go (own-end 13 text how old new end by is (inl refl))
   where
     go : OwnEnd how → Ends13 kind
-    go (OwnEnd.store j same) = store-kind x kind j (subst (LeavesBy x kind) same L)
+    go (OwnEnd.store j same) = store-kind x kind own j (subst (LeavesBy x kind own) same L)
     go (OwnEnd.lost stripe row same) =
         absurd (let told = subst (λ h. EndsByAnswer text h old new end) same by in
         not_two end.status 4 13 told.status_is is (λ e. omega (arith, e)))
 
-ended-4 : (kind : Kind) (text : List ℕ) (how : Answer) (x : Ran) (old new : Seen) (end : Ending) →
-    LeavesBy x kind how → EndsByAnswer text how old new end → end.status ≡ 4 → Ends4 kind
-ended-4 kind text how x old new end L by is = go (own-end 4 text how old new end by is (inr refl))
+ended-4 : (kind : Kind) (own : Option ℕ) (text : List ℕ) (how : Answer) (x : Ran) (old new : Seen)
+    (end : Ending) → LeavesBy x kind own how → EndsByAnswer text how old new end → end.status ≡ 4 → Ends4 kind
+ended-4 kind own text how x old new end L by is = go (own-end 4 text how old new end by is (inr refl))
   where
     go : OwnEnd how → Ends4 kind
-    go (OwnEnd.lost stripe row same) = lost-kind x kind stripe row (subst (LeavesBy x kind) same L)
+    go (OwnEnd.lost stripe row same) = lost-kind x kind own stripe row (subst (LeavesBy x kind own) same L)
     go (OwnEnd.store j same) =
         absurd (let told = subst (λ h. EndsByAnswer text h old new end) same by in
         not_two end.status 13 4 told.status_is is (λ e. omega (arith, e)))
@@ -437,17 +453,17 @@ alone-13 kind old new end (AnswersAlone.begun records opened (AnswersJob.refused
 alone-13 kind old new end (AnswersAlone.begun records opened (AnswersJob.no_memory after r)) is =
     absurd (memory-own 13 end.status r.status_is is (inl refl))
 alone-13 kind old new end (AnswersAlone.begun records opened (AnswersJob.ended how none runs left by)) is =
-    ended-13 kind _ how (ran_left records kind how old new end.heard left) old new end left.leaves.by_kind by
+    ended-13 kind _ _ how (ran_left records kind how old new end.heard left) old new end left.leaves.by_kind by
     is
 
-job-4 : (kind : Kind) (records : List Record) (old new : Seen) (end : Ending) →
-    AnswersJob kind records old new end → end.status ≡ 4 → Ends4 kind
+job-4 : (kind : Kind) (records : List Record) (old new : Seen) (end : Ending) {own : Option ℕ} →
+    AnswersJob kind own records old new end → end.status ≡ 4 → Ends4 kind
 job-4 kind records old new end (AnswersJob.refused why applies after r) is =
     absurd (refused-own 4 why end.status r.status_is is (inr refl))
 job-4 kind records old new end (AnswersJob.no_memory after r) is =
     absurd (memory-own 4 end.status r.status_is is (inr refl))
 job-4 kind records old new end (AnswersJob.ended how none runs left by) is =
-    ended-4 kind _ how (ran_left records kind how old new end.heard left) old new end left.leaves.by_kind by
+    ended-4 kind _ _ how (ran_left records kind how old new end.heard left) old new end left.leaves.by_kind by
     is
 
 alone-4 : (kind : Kind) (old new : Seen) (end : Ending) → AnswersAlone kind old new end → end.status ≡ 4 →
@@ -455,12 +471,14 @@ alone-4 : (kind : Kind) (old new : Seen) (end : Ending) → AnswersAlone kind ol
 alone-4 kind old new end (AnswersAlone.unstarted u) is = absurd (unstarted-own 4 old new end u is (inr refl))
 alone-4 kind old new end (AnswersAlone.begun records opened A) is = job-4 kind records old new end A is
 
-put-4 : (name : List ℕ) (old new : Seen) (end : Ending) → AnswersPut name old new end → end.status ≡ 4 → ⊥
+put-4 : (name : List ℕ) (old new : Seen) (end : Ending) {own : Option ℕ} → AnswersPut name own old new end → end.status ≡ 4 → ⊥
 put-4 name old new end (AnswersPut.unstarted u same) is = unstarted-own 4 old new end u is (inr refl)
-put-4 name old new end (AnswersPut.source_fault records opened rose after taken r) is =
+put-4 name old new end (AnswersPut.source_fault records opened known rose after taken r) is =
     not_two end.status 14 4 r.status_is is (λ e. omega (arith, e))
+put-4 name old new end (AnswersPut.bad_profile records opened unknown after same r) is =
+    not_two end.status 20 4 r.status_is is (λ e. omega (arith, e))
 put-4 name old new end (AnswersPut.no_memory taken r) is = memory-own 4 end.status r.status_is is (inr refl)
-put-4 name old new end (AnswersPut.begun records bytes opened read A) is =
+put-4 name old new end (AnswersPut.begun records bytes opened known read A) is =
     job-4 (PutJob name bytes) records old new end A is
 
 list-own : (m : ℕ) (old new : Seen) (end : Ending) → AnswersList old new end → end.status ≡ m → IsOwn m → ⊥
@@ -507,11 +525,13 @@ stores-only (RowOf n l b seen) old new end A is =
     (λ e. omega (arith, e)) (λ e. omega (arith, e)) (λ e. omega (arith, e)))
 stores-only (InitWith numbers) old new end A is = absurd (init-own 13 numbers old new end A is (inl refl))
 stores-only (PutUnder name) old new end A is = refl
+stores-only (PutAt name profile) old new end A is = refl
 stores-only (GetOf name) old new end A is = absurd (alone-13 (GetJob name) old new end A.0 is)
 stores-only (DropOf name) old new end A is = absurd (alone-13 (DropJob name) old new end A.0 is)
 stores-only ListAll old new end A is = absurd (list-own 13 old new end A.0 is (inl refl))
 stores-only AuditAll old new end A is = absurd (alone-13 AuditJob old new end A.0 is)
 stores-only RepairDue old new end A is = refl
+stores-only UpgradeJournal old new end A is = absurd (alone-13 UpgradeJob old new end A.0 is)
 
 -- only a row, a get and a repair end at a lost row
 pub rows-only : (command : Command) (old new : Seen) (end : Ending) → Answers command old new end →
@@ -519,8 +539,10 @@ pub rows-only : (command : Command) (old new : Seen) (end : Ending) → Answers 
 rows-only (RowOf n l b seen) old new end A is = refl
 rows-only (InitWith numbers) old new end A is = absurd (init-own 4 numbers old new end A is (inr refl))
 rows-only (PutUnder name) old new end A is = absurd (put-4 name old new end A is)
+rows-only (PutAt name profile) old new end A is = absurd (put-4 name old new end A is)
 rows-only (GetOf name) old new end A is = refl
 rows-only (DropOf name) old new end A is = absurd (alone-4 (DropJob name) old new end A.0 is)
 rows-only ListAll old new end A is = absurd (list-own 4 old new end A.0 is (inr refl))
 rows-only AuditAll old new end A is = absurd (alone-4 AuditJob old new end A.0 is)
 rows-only RepairDue old new end A is = refl
+rows-only UpgradeJournal old new end A is = absurd (alone-4 UpgradeJob old new end A.0 is)

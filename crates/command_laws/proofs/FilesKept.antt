@@ -1,5 +1,5 @@
 -- A file that is in effect stays right over the commands that do not touch it, and over a repair.
-use Rattle.std.proofs.Common.{◌≡◌, ◌≢◌, ℕ, zero, suc, ◌<◌, ◌≤◌, ◌==◌, ◌&&◌, Bool, true, false, not, List, [], ◌∷◌, ◌++◌, length, reverse, take, Option, None, Some, refl, ap, sym, subst, ◌∙◌, inl, inr, arith}
+use Rattle.std.proofs.Common.{◌≡◌, ◌≢◌, ℕ, zero, suc, ◌<◌, ◌≤◌, ◌==◌, ◌&&◌, Bool, true, false, not, List, [], ◌∷◌, ◌++◌, length, reverse, take, Option, None, Some, refl, ap, sym, subst, ◌∙◌, inl, inr, arith, cond}
 use Rattle.std.specs.Prelude.{is_some, IfSome}
 use Rattle.std.proofs.lemmas.Bool.{cases_Bool, false≢true, eq-eqb}
 use Rattle.column_defs.specs.Objects.{Object}
@@ -8,7 +8,7 @@ use Rattle.column_defs.specs.Verdicts.{is_flagged}
 use Rattle.device_defs.specs.Providers.{Held}
 use Rattle.device_defs.specs.Told.{Goes}
 use Rattle.column_laws.proofs.Worked.{column-right}
-use Rattle.record_defs.specs.Records.{Record, Setup, PutStart, PutDone, Drop, AuditStart, AuditDone}
+use Rattle.record_defs.specs.Records.{Record, Setup, PutStart, Drop, AuditStart, AuditDone, Version}
 use Rattle.record_defs.specs.Table.{File, Due, next_id, next_audit, file_of, due_of, started_as, is_start_of}
 use Rattle.machine_defs.specs.Setups.{profiled, object_of, stripes_of}
 use Rattle.machine_defs.specs.Jobs.{PutJob, DropJob, RepairJob}
@@ -16,23 +16,24 @@ use Rattle.machine_defs.specs.Answers as answer
 use Rattle.machine_defs.specs.Answers.{Answer}
 use Rattle.machine_defs.proofs.JobLists.{cond_true, cond_false, same_value}
 use Rattle.machine_defs.proofs.RecordFacts.{AreSound, other_name}
-use Rattle.command_defs.specs.Forms.{Command, RowOf, InitWith, PutUnder, GetOf, DropOf, ListAll, AuditAll, RepairDue}
+use Rattle.command_defs.specs.Forms.{Command, RowOf, InitWith, PutUnder, PutAt, GetOf, DropOf, ListAll, AuditAll, RepairDue, UpgradeJournal}
+use Rattle.machine_defs.specs.Begins.{chosen}
 use Rattle.command_defs.specs.Seen.{Seen, Ending, IsRefused, provider_at}
 use Rattle.command_defs.specs.Opens.{setup_in_effect, object_in_effect}
 use Rattle.command_defs.specs.Blocks.{StoredOn, PartlyStored, DroppedFrom}
-use Rattle.command_defs.specs.Puts.{PutIsCut, PutLeaves}
+use Rattle.command_defs.specs.Puts.{put_done, put_records, PutIsCut, PutLeaves}
 use Rattle.command_defs.specs.Drops.{DropLeaves}
 use Rattle.command_defs.specs.Repairs.{IfFlagged}
 use Rattle.command_defs.specs.Jobs.{AnswersJob, LeftAlone}
 use Rattle.command_defs.specs.Commands.{AnswersPut, AnswersAlone, Answers}
 use Rattle.state_laws.proofs.Records.{sound-accepted}
-use Rattle.command_laws.specs.Ends.{IsDone, IsKnown, SameHolds, after_repair, IsRepaired}
+use Rattle.command_laws.specs.Ends.{IsDone, IsKnown, SameHolds, put_of, after_put, after_repair, IsRepaired}
 use Rattle.command_laws.specs.Kept.{AreAppended}
 use Rattle.command_laws.specs.After.{is_wrong_or_untold, HasRightFile, IsThen, HasGrown, IsSteady, spoilt_below, keeps_blocks, IsOfAnother}
 use Rattle.job_laws.proofs.Complete.{each-not-wrong, not-wrong-each}
 use Rattle.command_laws.proofs.Known.{known-once}
 use Rattle.command_laws.proofs.GetEnds.{ran_left}
-use Rattle.command_laws.proofs.JobEnds.{unstarted-refused, get-holds, list-holds, audit-holds, repair-done}
+use Rattle.command_laws.proofs.JobEnds.{unstarted-refused, get-holds, list-holds, audit-holds, repair-done, upgrade-holds, done-case}
 use Rattle.command_laws.proofs.Anew.{repair-right}
 use Rattle.command_laws.proofs.FilesStay.{bad-few}
 
@@ -116,42 +117,62 @@ get-grown : (name : List ℕ) (records after : List Record) (got : List ℕ) (ol
     HasGrown (GetOf got) records old new after → Stays name records after
 get-grown name records after got old new G = grown-by
     (Stays name records) records after G.own G.count G.after_is []
-    (subst (λ kd. AreAppended records kd G.own) G.of_command G.are_own)
+    (subst (λ kd. AreAppended records kd None G.own) G.of_command G.are_own)
     (subst (λ l. Stays name records (reverse l ++ records)) (sym (take-none G.count)) (refl, refl))
 
 audit-grown : (name : List ℕ) (records after : List Record) (old new : Seen) →
     HasGrown AuditAll records old new after → Stays name records after
 audit-grown name records after old new G =
-    (let own = subst (λ kd. AreAppended records kd G.own) G.of_command G.are_own in
+    (let own = subst (λ kd. AreAppended records kd None G.own) G.of_command G.are_own in
     grown-by (Stays name records) records after G.own G.count G.after_is _ own.2
     (first-two (Stays name records) (AuditStart (next_audit records))
     (AuditDone (next_audit records) own.0 own.1) records (refl, refl) (refl, refl) (refl, refl) G.count))
 
-put-stays : (name other : List ℕ) (records : List Record) (size : ℕ) → other ≢ name →
-    Stays name records (PutDone (next_id records) size ∷ PutStart (next_id records) other ∷ records)
-put-stays name other records size differ = (
-  cond_false (is_start_of name (started_as (PutStart (next_id records) other ∷ records) (next_id records))) _
-      _
-      (ap (is_start_of name)
-      (cond_true (next_id records == next_id records) (Some other) (started_as records (next_id records))
-      (eq-eqb (next_id records) (next_id records) refl)) ∙ other_name other name differ),
-  refl,
-)
+put-stays : (name other : List ℕ) (own : Option ℕ) (records : List Record) (size : ℕ) → other ≢ name →
+    Stays name records (after_put records other size own)
+put-stays name other own records size differ =
+    done-case (λ r. Stays name records (r ∷ PutStart (next_id records) other ∷ records)) records size own
+    (stays _, refl) (stays _, refl)
+  where
+    stays : (f : Option File) → cond (is_start_of name
+        (started_as (PutStart (next_id records) other ∷ records) (next_id records))) f
+        (file_of records name) ≡ file_of records name
+    stays f = cond_false (is_start_of name
+        (started_as (PutStart (next_id records) other ∷ records) (next_id records))) f
+        (file_of records name)
+        (ap (is_start_of name)
+        (cond_true (next_id records == next_id records) (Some other) (started_as records (next_id records))
+        (eq-eqb (next_id records) (next_id records) refl)) ∙ other_name other name differ)
 
-put-grown : (name other : List ℕ) (records after : List Record) (old new : Seen) → other ≢ name →
-    HasGrown (PutUnder other) records old new after → Stays name records after
-put-grown name other records after old new differ G =
-    (let bytes : List ℕ = G.of_command.0 in
-    let own = subst (λ kd. AreAppended records kd G.own) G.of_command.2 G.are_own in
-    grown-by (Stays name records) records after G.own G.count G.after_is _ own
+put-grown-by : (name other bytes : List ℕ) (own : Option ℕ) (records after : List Record) → other ≢ name →
+    (all : List Record) (count : ℕ) → after ≡ reverse (take count all) ++ records →
+    all ≡ put_records records other (length bytes) own → Stays name records after
+put-grown-by name other bytes own records after differ all count is all_is =
+    grown-by (Stays name records) records after all count is _ all_is
     (first-two (Stays name records) (PutStart (next_id records) other)
-    (PutDone (next_id records) (length bytes)) records (refl, refl) (refl, refl)
-    (put-stays name other records (length bytes) differ) G.count))
+    (put_done records (length bytes) own) records (refl, refl) (refl, refl)
+    (put-stays name other own records (length bytes) differ) count)
+
+put-grown : (name other : List ℕ) (own : Option ℕ) (records after : List Record) (old new : Seen) →
+    other ≢ name → HasGrown (put_of other own) records old new after → Stays name records after
+put-grown name other None records after old new differ G =
+    put-grown-by name other G.of_command.0 None records after differ G.own G.count G.after_is
+    (subst (λ kd. AreAppended records kd None G.own) G.of_command.2 G.are_own)
+put-grown name other (Some p) records after old new differ G =
+    put-grown-by name other G.of_command.0 (Some p) records after differ G.own G.count G.after_is
+    (subst (λ kd. AreAppended records kd (Some p) G.own) G.of_command.2 G.are_own)
+
+upgrade-grown : (name : List ℕ) (records after : List Record) (old new : Seen) →
+    HasGrown UpgradeJournal records old new after → Stays name records after
+upgrade-grown name records after old new G =
+    grown-by (Stays name records) records after G.own G.count G.after_is _
+    (subst (λ kd. AreAppended records kd None G.own) G.of_command G.are_own)
+    (first-one (Stays name records) Version records (refl, refl) (refl, refl) G.count)
 
 drop-grown : (name other : List ℕ) (records after : List Record) (old new : Seen) → other ≢ name →
     HasGrown (DropOf other) records old new after → Stays name records after
 drop-grown name other records after old new differ G =
-    (let own = subst (λ kd. AreAppended records kd G.own) G.of_command G.are_own in
+    (let own = subst (λ kd. AreAppended records kd None G.own) G.of_command G.are_own in
     grown-by (Stays name records) records after G.own G.count G.after_is _ own
     (first-one (Stays name records) (Drop other) records (refl, refl)
     (cond_false _ None (file_of records name) (other_name other name differ), refl) G.count))
@@ -173,7 +194,7 @@ reads-by command name bytes records after spoilt old new holds H S =
     (λ j below. same-told H.file.id (provider_at old.providers j).held (provider_at new.providers j).held
     (holds j))
 
--- a file that is right stays so over a get, a list and an audit
+-- a file that is right stays so over a get, a list, an audit and an upgrade
 pub reads-have : (command : Command) (name bytes : List ℕ) (records after : List Record) (spoilt : ℕ → Bool)
     (old new : Seen) (end : Ending) → Answers command old new end → keeps_blocks command ≡ true →
     HasRightFile old records name bytes spoilt → IsThen command records old new after →
@@ -187,11 +208,16 @@ reads-have ListAll name bytes records after spoilt old new end A keeps H T =
 reads-have AuditAll name bytes records after spoilt old new end A keeps H T =
     reads-by AuditAll name bytes records after spoilt old new (audit-holds old new end A.0) H
     (then-by AuditAll name records after old new (audit-grown name records after old new) T)
+reads-have UpgradeJournal name bytes records after spoilt old new end A keeps H T =
+    reads-by UpgradeJournal name bytes records after spoilt old new (upgrade-holds old new end A.0) H
+    (then-by UpgradeJournal name records after old new (upgrade-grown name records after old new) T)
 reads-have (RowOf n l b seen) name bytes records after spoilt old new end A keeps H T =
     absurd (false≢true keeps)
 reads-have (InitWith numbers) name bytes records after spoilt old new end A keeps H T =
     absurd (false≢true keeps)
 reads-have (PutUnder other) name bytes records after spoilt old new end A keeps H T =
+    absurd (false≢true keeps)
+reads-have (PutAt other profile) name bytes records after spoilt old new end A keeps H T =
     absurd (false≢true keeps)
 reads-have (DropOf other) name bytes records after spoilt old new end A keeps H T = absurd (false≢true keeps)
 reads-have RepairDue name bytes records after spoilt old new end A keeps H T = absurd (false≢true keeps)
@@ -238,25 +264,29 @@ module _ (name other : List ℕ) (records : List Record) (file : File) (sound : 
       by_file None e = tt
       by_file (Some f) e = λ same. differ (sym (sound.one_name name other file f in_effect e same))
 
-  put-keeps : (bytes : List ℕ) (how : Answer) (old new : Seen) (end : Ending)
-      (left : LeftAlone records (PutJob other bytes) how old new end.heard) →
-      PutLeaves (ran_left records (PutJob other bytes) how old new end.heard left) other bytes how →
+  abbrev its : Option ℕ → Object
+  its own = object_of (profiled (setup_in_effect records) (chosen (setup_in_effect records) own))
+      (next_id records)
+
+  put-keeps : (bytes : List ℕ) (own : Option ℕ) (how : Answer) (old new : Seen) (end : Ending)
+      (left : LeftAlone records (PutJob other bytes) own how old new end.heard) →
+      PutLeaves (ran_left records (PutJob other bytes) how old new end.heard left) own other bytes how →
       KeepsObject records file.id old new
-  put-keeps bytes how old new end left = by_answer how
+  put-keeps bytes own how old new end left = by_answer how
     where
       stored : (rose : Type 0) (j : ℕ) (a b : Held) →
-          StoredOn (object_of (setup_in_effect records) (next_id records)) bytes
+          StoredOn (its own) bytes
           (file_of records other) rose j a b → SameOf file.id a b
       stored rose j a b S stripe =
           S.others file.id stripe (record { stored = λ e. absurd (not-next e); removed = not-older })
 
       all : (j : ℕ) (a b : Held) →
-          StoredOn (object_of (setup_in_effect records) (next_id records)) bytes None ⊥ j a b →
+          StoredOn (its own) bytes None ⊥ j a b →
           SameOf file.id a b
       all j a b S stripe = S.others file.id stripe
           (record { stored = λ e. absurd (not-next e); removed = tt })
 
-      cut : PutIsCut (ran_left records (PutJob other bytes) how old new end.heard left) other bytes →
+      cut : PutIsCut (ran_left records (PutJob other bytes) how old new end.heard left) own other bytes →
           KeepsObject records file.id old new
       cut (PutIsCut.at_start after doubt held) = λ j below. same-told file.id
           (provider_at old.providers j).held (provider_at new.providers j).held (held j below)
@@ -264,12 +294,12 @@ module _ (name other : List ℕ) (records : List Record) (file : File) (sound : 
           (provider_at old.providers j).held (provider_at new.providers j).held (stored j below)
 
       partly : (j : ℕ) (a b : Held) →
-          PartlyStored (object_of (setup_in_effect records) (next_id records)) bytes j a b →
+          PartlyStored (its own) bytes j a b →
           SameOf file.id a b
-      partly j a b S stripe = S.others file.id stripe not-next
+      partly j a b S stripe = S.others file.id stripe (λ e. not-next e)
 
       by_answer : (h : Answer) →
-          PutLeaves (ran_left records (PutJob other bytes) how old new end.heard left) other bytes h →
+          PutLeaves (ran_left records (PutJob other bytes) how old new end.heard left) own other bytes h →
           KeepsObject records file.id old new
       by_answer answer.Put L = λ j below. same-goes file.id _ (stored _ j) (provider_at old.providers j).held
           (provider_at new.providers j).held (L.1 j below)
@@ -281,7 +311,7 @@ module _ (name other : List ℕ) (records : List Record) (file : File) (sound : 
       by_answer h L = absurd L
 
   drop-keeps : (how : Answer) (old new : Seen) (end : Ending)
-      (left : LeftAlone records (DropJob other) how old new end.heard) →
+      (left : LeftAlone records (DropJob other) None how old new end.heard) →
       DropLeaves (ran_left records (DropJob other) how old new end.heard left) other how →
       KeepsObject records file.id old new
   drop-keeps how old new end left = by_answer how
@@ -302,33 +332,35 @@ module _ (name other : List ℕ) (records : List Record) (file : File) (sound : 
           (provider_at new.providers j).held (L.1 j below)
       by_answer h L = absurd L
 
-  put-job : (bytes : List ℕ) (old new : Seen) (end : Ending) →
-      AnswersJob (PutJob other bytes) records old new end → KeepsObject records file.id old new
+  put-job : (bytes : List ℕ) {own : Option ℕ} (old new : Seen) (end : Ending) →
+      AnswersJob (PutJob other bytes) own records old new end → KeepsObject records file.id old new
   put-job bytes old new end (AnswersJob.refused why is synced r) =
       refused-keeps _ 0 records file.id old new end r
   put-job bytes old new end (AnswersJob.no_memory synced r) = refused-keeps 70 0 records file.id old new end r
   put-job bytes old new end (AnswersJob.ended how none runs left by) =
-      put-keeps bytes how old new end left left.leaves.by_kind.0
+      put-keeps bytes _ how old new end left left.leaves.by_kind.0
 
-  drop-job : (old new : Seen) (end : Ending) → AnswersJob (DropJob other) records old new end →
+  drop-job : (old new : Seen) (end : Ending) → AnswersJob (DropJob other) None records old new end →
       KeepsObject records file.id old new
   drop-job old new end (AnswersJob.refused why is synced r) = refused-keeps _ 0 records file.id old new end r
   drop-job old new end (AnswersJob.no_memory synced r) = refused-keeps 70 0 records file.id old new end r
   drop-job old new end (AnswersJob.ended how none runs left by) =
       drop-keeps how old new end left left.leaves.by_kind.0
 
-put-command : (name other bytes : List ℕ) (records : List Record) (spoilt : ℕ → Bool) (old new : Seen)
+put-command : (name other bytes : List ℕ) (own : Option ℕ) (records : List Record) (spoilt : ℕ → Bool) (old new : Seen)
     (end : Ending) → other ≢ name → IsKnown old records → (H : HasRightFile old records name bytes spoilt) →
-    AnswersPut other old new end → KeepsObject records H.file.id old new
-put-command name other bytes records spoilt old new end differ K H (AnswersPut.unstarted u same) =
+    AnswersPut other own old new end → KeepsObject records H.file.id old new
+put-command name other bytes own records spoilt old new end differ K H (AnswersPut.unstarted u same) =
     (let r = unstarted-refused old new end u in refused-keeps r.0 r.1 records H.file.id old new end r.3)
-put-command name other bytes records spoilt old new end differ K H (AnswersPut.source_fault rs opened rose synced taken r) =
+put-command name other bytes own records spoilt old new end differ K H (AnswersPut.source_fault rs opened known rose synced taken r) =
     refused-keeps 14 0 records H.file.id old new end r
-put-command name other bytes records spoilt old new end differ K H (AnswersPut.no_memory taken r) =
+put-command name other bytes own records spoilt old new end differ K H (AnswersPut.bad_profile rs opened unknown synced same r) =
+    refused-keeps 20 0 records H.file.id old new end r
+put-command name other bytes own records spoilt old new end differ K H (AnswersPut.no_memory taken r) =
     refused-keeps 70 0 records H.file.id old new end r
-put-command name other bytes records spoilt old new end differ K H (AnswersPut.begun rs seen opened read A) =
+put-command name other bytes own records spoilt old new end differ K H (AnswersPut.begun rs seen opened known read A) =
     put-job name other records H.file (sound-accepted records K.opened.read.accepted) H.in_effect differ seen
-    old new end (subst (λ l. AnswersJob (PutJob other seen) l old new end)
+    old new end (subst (λ l. AnswersJob (PutJob other seen) own l old new end)
     (known-once old records rs K opened.read) A)
 
 drop-command : (name other bytes : List ℕ) (records : List Record) (spoilt : ℕ → Bool) (old new : Seen)
@@ -338,7 +370,7 @@ drop-command name other bytes records spoilt old new end differ K H (AnswersAlon
     (let r = unstarted-refused old new end u in refused-keeps r.0 r.1 records H.file.id old new end r.3)
 drop-command name other bytes records spoilt old new end differ K H (AnswersAlone.begun rs opened A) =
     drop-job name other records H.file (sound-accepted records K.opened.read.accepted) H.in_effect differ old
-    new end (subst (λ l. AnswersJob (DropJob other) l old new end)
+    new end (subst (λ l. AnswersJob (DropJob other) None l old new end)
     (known-once old records rs K opened.read) A)
 
 -- a file that is right stays so over a put or a drop of another name
@@ -349,9 +381,14 @@ pub others-have : (command : Command) (name bytes : List ℕ) (records after : L
     HasRightFile new after name bytes spoilt
 others-have (PutUnder other) name bytes records after spoilt old new end A differ K H T =
     (let S = then-by (PutUnder other) name records after old new
-    (put-grown name other records after old new differ) T in
+    (put-grown name other None records after old new differ) T in
     has-same name bytes records after spoilt old new H S.0 S.1
-    (put-command name other bytes records spoilt old new end differ K H A))
+    (put-command name other bytes None records spoilt old new end differ K H A))
+others-have (PutAt other profile) name bytes records after spoilt old new end A differ K H T =
+    (let S = then-by (PutAt other profile) name records after old new
+    (put-grown name other (Some profile) records after old new differ) T in
+    has-same name bytes records after spoilt old new H S.0 S.1
+    (put-command name other bytes (Some profile) records spoilt old new end differ K H A))
 others-have (DropOf other) name bytes records after spoilt old new end A differ K H T =
     (let S = then-by (DropOf other) name records after old new
     (drop-grown name other records after old new differ) T in
@@ -363,6 +400,7 @@ others-have (GetOf got) name bytes records after spoilt old new end A differ K H
 others-have ListAll name bytes records after spoilt old new end A differ K H T = absurd differ
 others-have AuditAll name bytes records after spoilt old new end A differ K H T = absurd differ
 others-have RepairDue name bytes records after spoilt old new end A differ K H T = absurd differ
+others-have UpgradeJournal name bytes records after spoilt old new end A differ K H T = absurd differ
 
 -- ---- a repair that is done
 

@@ -11,8 +11,10 @@ use Rattle.device_defs.specs.Providers.{Held, Provider}
 use Rattle.device_defs.specs.Told.{Goes}
 use Rattle.column_laws.proofs.Worked.{column-right}
 use Rattle.record_defs.specs.Records.{Record, largest_file, Setup}
-use Rattle.record_defs.specs.Table.{File, file_as, profile_in, setup_of, next_id, file_of}
-use Rattle.machine_defs.specs.Setups.{setup_or_none, profiled, object_of}
+use Rattle.record_defs.specs.Table.{File, file_as, next_id, file_of}
+use Rattle.machine_defs.specs.Setups.{profiled, object_of}
+use Rattle.machine_defs.specs.Begins.{chosen}
+use Rattle.machine_defs.specs.Events.{AreBytes}
 use Rattle.command_defs.specs.Seen.{Seen, Ending, provider_at}
 use Rattle.command_defs.specs.Opens.{setup_in_effect, object_in_effect}
 use Rattle.command_defs.specs.Blocks.{StoredOn}
@@ -22,7 +24,7 @@ use Rattle.command_laws.specs.Ends.{IsDone, IsKnown, after_put, IsWholePut}
 use Rattle.command_laws.specs.After.{is_wrong_or_untold, HasRightFile, IsUntouched, IsSteady, spoilt_below}
 use Rattle.job_laws.proofs.Complete.{each-not-wrong}
 use Rattle.command_laws.proofs.Known.{known-once}
-use Rattle.command_laws.proofs.JobEnds.{put-done}
+use Rattle.command_laws.proofs.JobEnds.{put-done, put-setup}
 use Rattle.command_laws.proofs.DoneStores.{whole-read}
 
 -- ---- a provider's own blocks are not wrong
@@ -39,49 +41,61 @@ stored-right o bytes older rose j (Some a) (Some b) tells g =
 
 -- ---- a put that is done
 
--- the object of its file is the setup's
-pub put-object : (records : List Record) (id : ℕ) →
-    object_of (setup_in_effect records) id ≡ object_of
-    (profiled (setup_in_effect records) (profile_in (setup_of records))) id
-put-object records id = by_setup (setup_of records)
-  where
-    by_setup : (o : Option Setup) → object_of (setup_or_none o) id
-        ≡ object_of (profiled (setup_or_none o) (profile_in o)) id
-    by_setup None = refl
-    by_setup (Some s) = refl
+-- the profile of a put's file
+abbrev its_profile : List Record → Option ℕ → ℕ
+its_profile records own = chosen (setup_in_effect records) own
 
-put-file : (name : List ℕ) (spoilt : ℕ → Bool) (old new : Seen) (end : Ending)
-    (P : IsWholePut name old new end) →
-    ((j : ℕ) → j < (setup_in_effect P.records).n → spoilt j ≡ false →
+-- a put whose file is stored on each provider leaves it right
+pub stored-file : (name bytes : List ℕ) (own : Option ℕ) (records : List Record) (spoilt : ℕ → Bool)
+    (old new : Seen) →
+    file_of (after_put records name (length bytes) own) name
+    ≡ Some (file_as name (next_id records) (length bytes) (chosen (setup_in_effect records) own)) →
+    AreBytes bytes → (older : Option File) (rose : ℕ → Type 0) →
+    ((j : ℕ) → j < (setup_in_effect records).n →
+    Goes (StoredOn (object_of (profiled (setup_in_effect records) (chosen (setup_in_effect records) own))
+    (next_id records)) bytes older (rose j) j)
+    (provider_at old.providers j).held (provider_at new.providers j).held) →
+    ((j : ℕ) → j < (setup_in_effect records).n → spoilt j ≡ false →
     is_some (provider_at old.providers j).held ≡ true) →
-    HasRightFile new (after_put P.records name (length P.bytes)) name P.bytes spoilt
-put-file name spoilt old new end P tells = record {
-  file = file_as name (next_id P.records) (length P.bytes) (profile_in (setup_of P.records));
-  in_effect = P.in_effect;
-  are_bytes = P.are_bytes;
+    HasRightFile new (after_put records name (length bytes) own) name bytes spoilt
+stored-file name bytes own records spoilt old new in_effect are older rose stored tells = record {
+  file = file_as name (next_id records) (length bytes) (its_profile records own);
+  in_effect = in_effect;
+  are_bytes = are;
   size = refl;
-  right = λ j below clean. subst
-      (λ (o : Object). is_wrong_or_untold o P.bytes j (provider_at new.providers j).held ≡ false)
-      (put-object P.records (next_id P.records))
-      (stored-right (object_of (setup_in_effect P.records) (next_id P.records)) P.bytes
-      (file_of P.records name) _ j (provider_at old.providers j).held (provider_at new.providers j).held
-      (tells j below clean) (P.stored j below));
+  right = λ j below clean. (let l : j < (setup_in_effect records).n =
+      subst (λ (s : Setup). j < s.n) (put-setup records name (length bytes) own) below in
+      subst (λ (s : Setup). is_wrong_or_untold (object_of (profiled s (its_profile records own))
+      (next_id records)) bytes j
+      (provider_at new.providers j).held ≡ false) (sym (put-setup records name (length bytes) own))
+      (stored-right (object_of (profiled (setup_in_effect records) (its_profile records own)) (next_id records)) bytes
+      older (rose j) j (provider_at old.providers j).held (provider_at new.providers j).held
+      (tells j l clean) (stored j l)));
 }
 
+put-file : (name : List ℕ) (own : Option ℕ) (spoilt : ℕ → Bool) (old new : Seen) (end : Ending)
+    (P : IsWholePut name own old new end) →
+    ((j : ℕ) → j < (setup_in_effect P.records).n → spoilt j ≡ false →
+    is_some (provider_at old.providers j).held ≡ true) →
+    HasRightFile new (after_put P.records name (length P.bytes) own) name P.bytes spoilt
+put-file name own spoilt old new end P tells =
+    stored-file name P.bytes own P.records spoilt old new P.in_effect P.are_bytes (file_of P.records name) _
+    P.stored tells
+
 -- after a done put its file is in effect, and right on each provider that tells
-pub put-has : (name bytes : List ℕ) (records : List Record) (spoilt : ℕ → Bool) (old new : Seen)
-    (end : Ending) → AnswersPut name old new end → IsDone end → IsKnown old records →
+pub put-has : (name bytes : List ℕ) (own : Option ℕ) (records : List Record) (spoilt : ℕ → Bool)
+    (old new : Seen) (end : Ending) → AnswersPut name own old new end → IsDone end → IsKnown old records →
     old.source ≡ Some bytes →
     ((j : ℕ) → j < (setup_in_effect records).n → spoilt j ≡ false →
     is_some (provider_at old.providers j).held ≡ true) →
-    HasRightFile new (after_put records name (length bytes)) name bytes spoilt
-put-has name bytes records spoilt old new end A done K source tells =
-    (let P = put-done name old new end A done in
+    HasRightFile new (after_put records name (length bytes) own) name bytes spoilt
+put-has name bytes own records spoilt old new end A done K source tells =
+    (let P = put-done name own old new end A done in
     let same = known-once old records P.records K P.opened.read in
     let read = whole-read (largest_file + 1) old.source new.source bytes P.bytes source P.read P.whole in
-    subst (λ rs. HasRightFile new (after_put rs name (length bytes)) name bytes spoilt) same
-    (subst (λ bs. HasRightFile new (after_put P.records name (length bs)) name bs spoilt) read
-    (put-file name spoilt old new end P
+    subst (λ rs. HasRightFile new (after_put rs name (length bytes) own) name bytes spoilt) same
+    (subst (λ bs. HasRightFile new (after_put P.records name (length bs) own) name bs spoilt) read
+    (put-file name own spoilt old new end P
     (subst (λ rs. (j : ℕ) → j < (setup_in_effect rs).n → spoilt j ≡ false →
     is_some (provider_at old.providers j).held ≡ true) (sym same) tells))))
 

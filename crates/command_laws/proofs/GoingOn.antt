@@ -1,6 +1,6 @@
 -- Commands over devices that a run left go on with that run.
 use Rattle.std.proofs.Common.{◌≡◌, ℕ, ◌+◌, ◌<◌, ◌≤◌, ◌⊎◌, true, false, List, [], ◌∷◌, ◌++◌, length, Option, None, Some, refl, ap, sym, subst, ◌∙◌, inl, inr, arith, append_assoc, length-take, lit≤}
-use Rattle.std.specs.Prelude.{is_some, IfSome}
+use Rattle.std.specs.Prelude.{is_some, IfSome, IsTrue}
 use Rattle.std.specs.Option.{option_map}
 use Rattle.std.proofs.lemmas.Bool.{cases_Bool, false≢true}
 use Rattle.device_defs.specs.Cells.{Cells, reads}
@@ -15,16 +15,15 @@ use Rattle.device_defs.specs.Told.{Goes}
 use Rattle.record_defs.specs.Acceptance.{AreAccepted}
 use Rattle.record_defs.specs.Journal.{StandsFor, text_size}
 use Rattle.record_defs.specs.Reading.{HasNoSetup}
-use Rattle.record_defs.specs.Table.{setup_of, version_of, files_of}
+use Rattle.record_defs.specs.Table.{setup_of, files_of}
 use Rattle.record_defs.specs.Areas as areas
 use Rattle.record_defs.specs.Packed.{packed}
-use Rattle.record_defs.proofs.PackLaws.{packed_are}
 use Rattle.record_defs.proofs.Standing.{stands-take}
 use Rattle.machine_defs.specs.Answers.{Answer}
-use Rattle.machine_defs.specs.Events.{Event, Begin, Step, Reopen, Names, Continue, Outcome, Refused, Opened, More, Begun, Ended, Listed, Continued, IsSpelled, IsSpelledKind}
-use Rattle.machine_defs.specs.Jobs.{Kind, PutJob, GetJob, DropJob, AuditJob, RepairJob}
+use Rattle.machine_defs.specs.Events.{Event, Step, Reopen, Names, Continue, Outcome, Refused, Opened, More, Begun, Ended, Listed, Continued, AreBytes, IsSpelled, IsSpelledKind}
+use Rattle.machine_defs.specs.Jobs.{Kind, PutJob, GetJob, DropJob, AuditJob, RepairJob, UpgradeJob}
 use Rattle.machine_defs.specs.Machine.{Happens}
-use Rattle.machine_defs.specs.Begins.{Begins, begin_refusal}
+use Rattle.machine_defs.specs.Begins.{BeginsAt, refusal_of_begin}
 use Rattle.machine_defs.specs.Refusals as refusal
 use Rattle.machine_defs.specs.Refusals.{Refusal}
 use Rattle.machine_defs.specs.Runs.{Moment, now, IsRun}
@@ -32,26 +31,29 @@ use Rattle.machine_defs.specs.Stands.{StandsForState}
 use Rattle.machine_defs.specs.States.{State, Doubt, given_up, continued, setup_in}
 use Rattle.machine_defs.specs.Openings.{Rereads}
 use Rattle.machine_defs.specs.Transcripts.{GoOn}
-use Rattle.state_laws.specs.Sound.{IsWholeJournal, IsSound}
+use Rattle.machine_defs.proofs.JobLists.{same_value}
+use Rattle.state_laws.specs.Sound.{IsUnpacked, IsSound}
 use Rattle.state_laws.proofs.Events.{events-sound}
-use Rattle.state_laws.proofs.Records.{is_some-at, version-first, grammar-rest, none-set_up, second-set_up}
-use Rattle.command_defs.specs.Forms.{Command, RowOf, InitWith, PutUnder, GetOf, DropOf, ListAll, AuditAll, RepairDue}
+use Rattle.state_laws.proofs.Records.{is_some-at, AreInGrammar, AreAppended, all-appended, grammar-rest, none-set_up}
+use Rattle.state_laws.proofs.Packs.{packed-not-appended}
+use Rattle.command_defs.specs.Forms.{Command, RowOf, InitWith, PutUnder, PutAt, GetOf, DropOf, ListAll, AuditAll, RepairDue, UpgradeJournal}
 use Rattle.command_defs.specs.Seen.{Seen, Ending, NoCountFalls, IsRefused, IsSynced, ReadsUpTo}
 use Rattle.opening_defs.specs.Journals.{journal_read, IsRead, IsBadStart, IsResynced}
 use Rattle.command_defs.specs.Opens.{IsOpened, Unstarted, setup_in_effect}
 use Rattle.opening_defs.specs.Opened.{AreHanded, IsOpenedOver}
+use Rattle.lone_laws.specs.Walked.{MayName}
 use Rattle.command_defs.specs.JobRuns.{AreSteps, GoesOnTo}
 use Rattle.command_defs.specs.Jobs.{AnswersJob, EndsByAnswer, RunsAlone, RanAlone}
 use Rattle.command_defs.specs.Lines.{text_of}
-use Rattle.command_defs.specs.Refusals.{refusal_over, status_of}
+use Rattle.command_defs.specs.Refusals.{is_unknown, refusal_over, status_of}
 use Rattle.command_defs.specs.Commands.{AnswersPut, AnswersAlone, ListsFiles, AnswersList, Answers}
-use Rattle.command_laws.specs.Ends.{RunsKind, opens_store}
-use Rattle.command_laws.specs.Pieces.{IsStore, IsSpelledCommand, IsCall, moment, unopened_status}
+use Rattle.command_laws.specs.Ends.{profile_named, RunsKind, opens_store}
+use Rattle.command_laws.specs.Pieces.{IsStore, IsSpelledCommand, IsCall, begin_of, moment, unopened_status}
 use Rattle.opening_defs.proofs.Readings.{read-once, read-set_up, read-good as read-never-bad, fresh-good}
 use Rattle.job_laws.proofs.Telling.{over-opened}
 use Rattle.command_laws.proofs.Images.{refused-keeps}
 use Rattle.command_laws.proofs.LastStates.{last-state}
-use Rattle.state_laws.proofs.Written.{whole-end}
+use Rattle.state_laws.proofs.Written.{unpacked-end}
 use Rattle.command_laws.proofs.Knowing.{IsGood, read-good, none-up, StandsInState}
 use Rattle.command_laws.proofs.DoneStores.{tells-past}
 use Rattle.job_laws.proofs.BeginRefusals.{refusal-of}
@@ -97,6 +99,41 @@ steps-run start c base (m ∷ ms) e (event, outcome, happens, rest) r = (
       (happens-at start c base ms (Step 1) More m.state e happens)),
   steps-run start c base ms e rest r,
 )
+
+-- ---- begins
+
+-- only a put names a profile
+unnamed : (kind : Kind) (own : Option ℕ) → MayName kind own →
+    ((name bytes : List ℕ) → kind ≡ PutJob name bytes → ⊥) → own ≡ None
+unnamed kind own (MayName.none e) other = e
+unnamed kind own (MayName.put name bytes e) other = absurd (other name bytes e)
+
+-- a begin is the event of a job, of a put also with a profile of its own
+begin-happens : (kind : Kind) (own : Option ℕ) → MayName kind own → (n : ℕ) (v : State) (outcome : Outcome)
+    (c : State) → BeginsAt 8 n v kind own outcome c → Happens 8 n v (begin_of kind own) outcome c
+begin-happens (PutJob name bytes) None may n v outcome c h = h
+begin-happens (PutJob name bytes) (Some p) may n v outcome c h = h
+begin-happens (GetJob name) own may n v outcome c h =
+    subst (λ o. BeginsAt 8 n v (GetJob name) o outcome c) (unnamed (GetJob name) own may (λ m b e. cc)) h
+begin-happens (DropJob name) own may n v outcome c h =
+    subst (λ o. BeginsAt 8 n v (DropJob name) o outcome c) (unnamed (DropJob name) own may (λ m b e. cc)) h
+begin-happens AuditJob own may n v outcome c h =
+    subst (λ o. BeginsAt 8 n v AuditJob o outcome c) (unnamed AuditJob own may (λ m b e. cc)) h
+begin-happens RepairJob own may n v outcome c h =
+    subst (λ o. BeginsAt 8 n v RepairJob o outcome c) (unnamed RepairJob own may (λ m b e. cc)) h
+begin-happens UpgradeJob own may n v outcome c h =
+    subst (λ o. BeginsAt 8 n v UpgradeJob o outcome c) (unnamed UpgradeJob own may (λ m b e. cc)) h
+
+-- its words are bytes where those of the job are
+begin-spelled : (kind : Kind) (own : Option ℕ) → IsSpelledKind kind →
+    ((p : ℕ) → own ≡ Some p → p < 256) → IsSpelled (begin_of kind own)
+begin-spelled (PutJob name bytes) None spelled byte = spelled
+begin-spelled (PutJob name bytes) (Some p) spelled byte = (byte p refl, spelled)
+begin-spelled (GetJob name) own spelled byte = spelled
+begin-spelled (DropJob name) own spelled byte = spelled
+begin-spelled AuditJob own spelled byte = spelled
+begin-spelled RepairJob own spelled byte = spelled
+begin-spelled UpgradeJob own spelled byte = spelled
 
 -- ---- disks
 
@@ -149,26 +186,20 @@ pub data MaySettle (w : State) (image : List ℕ) : Type 0 where
   some : (rs : List Record) → Settled w image rs → MaySettle w image
   none : SettledNone w image → MaySettle w image
 
--- while journals have no second version, an image of a store stands for one in which the disk holds the whole
--- history
-whole-by : (w : State) → IsSound 8 w → (image : List ℕ) → StandsInState w image → IsWholeJournal w
-whole-by w S image (inl (inl h)) =
-    S.journal.whole (sym S.journal.alike.version ∙ version-first w.journal h.1.in_grammar)
-whole-by w S image (inl (inr empty)) =
-    S.journal.whole (sym S.journal.alike.version ∙ ap version_of empty.0)
-whole-by w S image (inr (inl D)) = S.journal.whole
-    (sym S.journal.alike.version
-    ∙ version-first w.journal (grammar-rest D.doubt.entry w.journal D.stands.1.in_grammar))
-whole-by w S image (inr (inr X)) =
-    absurd (let second : version_of w.journal ≡ 2 = S.journal.alike.version
-    ∙ (S.switching X.switching).version in
-    let set = is_some-at (setup_of w.journal) (second-set_up w.journal S.journal.accepted second) in
-    let like = (packed_are w.journal S.journal.accepted set.0 set.1 second).1 in
-    let first : version_of (packed w.journal) ≡ 1 = version-first (packed w.journal) X.stands.1.in_grammar in
-    let same : version_of (packed w.journal) ≡ version_of w.journal = like.version in
-    omega (arith, second, first, same))
+-- while journals hold nothing that is packed, none has the packed records of another
+none-packed : (rs : List Record) → AreInGrammar (packed rs) → ⊥
+none-packed rs g = packed-not-appended rs (all-appended (packed rs) g)
 
-module _ (w : State) (S : IsSound 8 w) (W : IsWholeJournal w) (image : List ℕ) where
+-- so an image of a store stands for one in which the disk holds the whole history
+unpacked-by : (w : State) → IsSound 8 w → (image : List ℕ) → StandsInState w image → IsUnpacked w
+unpacked-by w S image (inl (inl h)) = S.journal.whole (all-appended w.journal h.1.in_grammar)
+unpacked-by w S image (inl (inr empty)) =
+    S.journal.whole (subst (λ rs. AreAppended rs) (sym empty.0) refl)
+unpacked-by w S image (inr (inl D)) = S.journal.whole (all-appended w.journal
+    (grammar-rest D.doubt.entry w.journal D.stands.1.in_grammar))
+unpacked-by w S image (inr (inr X)) = absurd (none-packed w.journal X.stands.1.in_grammar)
+
+module _ (w : State) (S : IsSound 8 w) (W : IsUnpacked w) (image : List ℕ) where
   -- the history is settled on
   on-history : (rs : List Record) → w.records ≡ rs → SettlesOn w rs
   on-history rs is v doubt records journal area = (
@@ -220,7 +251,7 @@ module _ (w : State) (S : IsSound 8 w) (W : IsWholeJournal w) (image : List ℕ)
   settled-history : StandsFor image w.records → MaySettle w image
   settled-history stands = elim (cases_Bool (is_some (setup_of w.records))) [
     | inl up ↦ MaySettle.some w.records (settled-some w.records (on-history w.records refl) S.accepted
-        (let r = S.room in let e = whole-end w W in omega (arith, r, e)) up stands)
+        (let r = S.room in let e = unpacked-end w W in omega (arith, r, e)) up stands)
     | inr f ↦ (let none = none-set_up w.records S.accepted f in
         MaySettle.none (record {
           settles = on-history [] none;
@@ -233,7 +264,7 @@ module _ (w : State) (S : IsSound 8 w) (W : IsWholeJournal w) (image : List ℕ)
       let rs : List Record = d.entry ∷ w.records in
       elim (cases_Bool (is_some (setup_of rs))) [
         | inl up ↦ MaySettle.some rs (settled-some rs (on-doubt d in_doubt) (F.accepted, S.accepted)
-            (let r = F.room in let e = whole-end w W in omega (arith, r, e)) up stands)
+            (let r = F.room in let e = unpacked-end w W in omega (arith, r, e)) up stands)
         | inr f ↦ absurd (let none : rs ≡ [] = none-set_up rs (F.accepted, S.accepted) f in cc)
       ])
 
@@ -246,11 +277,11 @@ module _ (w : State) (S : IsSound 8 w) (W : IsWholeJournal w) (image : List ℕ)
   })
   settled-whole (inr (inl D)) = settled-doubt D.doubt D.in_doubt
       (subst (λ l. StandsFor image (D.doubt.entry ∷ l)) W.journal D.stands.1)
-  settled-whole (inr (inr X)) = absurd (false≢true (sym W.unswitched ∙ X.switching))
+  settled-whole (inr (inr X)) = absurd (none-packed w.journal X.stands.1.in_grammar)
 
 -- what an image of a sound state stands for may be settled
 pub settled-by : (w : State) → IsSound 8 w → (image : List ℕ) → StandsInState w image → MaySettle w image
-settled-by w S image h = settled-whole w S (whole-by w S image h) image h
+settled-by w S image h = settled-whole w S (unpacked-by w S image h) image h
 
 -- a disk that was synced, or left as it was, tells as before
 resynced-tells : (a b : Option Cells) → Goes IsResynced a b → is_some a ≡ true → is_some b ≡ true
@@ -410,11 +441,13 @@ module _ (start : State) (ms : List Moment) (R : IsRun 8 start ms) (old : Seen)
       unset-list (AnswersList.no_memory r) = memory-on 0 r
       unset-list (AnswersList.listed other O L) = absurd (none-read other O.read)
 
-      unset-put : (name : List ℕ) → AnswersPut name old new end → GoesOn
+      unset-put : (name : List ℕ) {own : Option ℕ} → AnswersPut name own old new end → GoesOn
       unset-put name (AnswersPut.unstarted u same) = unset-unstarted u
-      unset-put name (AnswersPut.source_fault other O rose sync taken r) = absurd (none-read other O.read)
+      unset-put name (AnswersPut.bad_profile other O unknown sync same r) = absurd (none-read other O.read)
+      unset-put name (AnswersPut.source_fault other O known rose sync taken r) =
+          absurd (none-read other O.read)
       unset-put name (AnswersPut.no_memory taken r) = memory-on 0 r
-      unset-put name (AnswersPut.begun other bytes O read A) = absurd (none-read other O.read)
+      unset-put name (AnswersPut.begun other bytes O known read A) = absurd (none-read other O.read)
 
     -- ---- records with a setup are read
 
@@ -548,6 +581,15 @@ module _ (start : State) (ms : List Moment) (R : IsRun 8 start ms) (old : Seen)
           store-opened sync r.providers,
         )
 
+        unknown-on : IsTrue (is_unknown (profile_named command)) → IsSynced old new →
+            IsRefused 20 0 old new end → GoesOn
+        unknown-on unknown sync r = (
+          reopened ∷ later ∷ [],
+          IsCall.bad_profile (continued w) opened refl unknown r.status_is r.heard,
+          run-opened new.disk_faults counts.disk enough,
+          store-opened sync r.providers,
+        )
+
         listed-on : command ≡ ListAll → ListsFiles rs old new end → GoesOn
         listed-on is L = (
           moment Names (Listed (files_of rs)) opened ∷ reopened ∷ later ∷ [],
@@ -556,25 +598,34 @@ module _ (start : State) (ms : List Moment) (R : IsRun 8 start ms) (old : Seen)
           store-opened L.disk L.providers,
         )
 
-        module _ (kind : Kind) (is_job : RunsKind command old new kind) where
+        module _ (kind : Kind) (own : Option ℕ) (is_job : RunsKind command old new kind)
+            (named : profile_named command ≡ own) (may : MayName kind own)
+            (byte : (p : ℕ) → own ≡ Some p → p < 256) where
           refused-on : (status at : ℕ) (why : Refusal) → IsSpelledKind kind →
-              (refusal_over rs kind ≡ Some why) ⊎ (why ≡ refusal.Memory) → end.status ≡ status_of why →
+              (refusal_over rs kind own ≡ Some why) ⊎ (why ≡ refusal.Memory) → end.status ≡ status_of why →
               IsSynced old new → IsRefused status at old new end → GoesOn
           refused-on status at why spelled cause status_is sync r = (
-            moment (Begin kind) (Refused why) opened ∷ reopened ∷ later ∷ [],
-            IsCall.refused kind (continued w) opened opened why is_job refl status_is r.heard,
-            (spelled, (refl, by_cause cause, refl), run-opened new.disk_faults counts.disk enough),
+            moment (begin_of kind own) (Refused why) opened ∷ reopened ∷ later ∷ [],
+            IsCall.refused kind (continued w) opened opened why is_job
+                (ap (λ o. moment (begin_of kind o) (Refused why) opened ∷ reopened ∷ later ∷ []) (sym named))
+                status_is r.heard,
+            (
+              begin-spelled kind own spelled byte,
+              begin-happens kind own may (length (reopened ∷ later ∷ ms)) opened (Refused why) opened
+                  (refl, by_cause cause, refl),
+              run-opened new.disk_faults counts.disk enough,
+            ),
             store-opened sync r.providers,
           )
             where
-              by_cause : (refusal_over rs kind ≡ Some why) ⊎ (why ≡ refusal.Memory) →
-                  (begin_refusal 8 opened kind ≡ Some why) ⊎ (why ≡ refusal.Memory)
+              by_cause : (refusal_over rs kind own ≡ Some why) ⊎ (why ≡ refusal.Memory) →
+                  (refusal_of_begin 8 opened kind own ≡ Some why) ⊎ (why ≡ refusal.Memory)
               by_cause (inl e) = inl
-                  (refusal-of opened kind refl refl refl
+                  (refusal-of opened kind own refl refl refl
                   (record { journal = refl; area = refl; unswitched = refl }) ∙ e)
               by_cause (inr e) = inr e
 
-          ended-on : (how : Answer) → IsSpelledKind kind → RunsAlone rs kind how old new end.heard →
+          ended-on : (how : Answer) → IsSpelledKind kind → RunsAlone rs kind own how old new end.heard →
               EndsByAnswer (text_of (setup_in_effect rs).tolerance kind how) how old new end → GoesOn
           unfolding setup_in
           ended-on how spelled A by =
@@ -582,15 +633,17 @@ module _ (start : State) (ms : List Moment) (R : IsRun 8 start ms) (old : Seen)
               let two : Moment = moment Reopen Opened v in
               let n : ℕ = length (two ∷ later ∷ ms) in
               let V : IsOpenedOver v rs A.faults old.providers = over A.faults A.before enough in
-              let ran : RanAlone rs kind how old new end.heard A.faults v n = A.ran v n V in
-              let L = last-state v ran.last n kind how end.heard
-              (over-opened v old rs A.faults (record { read = is-read; enough = enough }) V) spelled ran.runs in
+              let ran : RanAlone rs kind own how old new end.heard A.faults v n = A.ran v n V in
+              let L = last-state v ran.last n kind own how end.heard
+              (over-opened v old rs A.faults (record { read = is-read; enough = enough }) V) spelled may
+              ran.runs in
               let c : State = ran.runs.begun in
               let job_is : ran.runs.job ≡ 1 = ran.runs.begins.2 in
-              let three : Moment = moment (Begin kind) (Begun 1) c in
+              let three : Moment = moment (begin_of kind own) (Begun 1) c in
               let begun : IsRun 8 start (three ∷ two ∷ later ∷ ms) = (
-                spelled,
-                subst (λ j. Begins 8 n v kind (Begun j) c) job_is ran.runs.begins,
+                begin-spelled kind own spelled byte,
+                begin-happens kind own may n v (Begun 1) c
+                    (subst (λ j. BeginsAt 8 n v kind own (Begun j) c) job_is ran.runs.begins),
                 run-opened A.faults A.before enough,
               ) in
               let g : GoesOnTo c (n + 1) 1 how end.heard ran.last =
@@ -609,12 +662,14 @@ module _ (start : State) (ms : List Moment) (R : IsRun 8 start ms) (old : Seen)
               ) in (
                 four ∷ (g.steps ++ three ∷ two ∷ later ∷ []),
                 IsCall.ended kind (continued w) v c ran.last g.steps how is_job
-                    (steps-go c (n + 1) g.steps g.are_steps) refl by g.heard_is,
+                    (steps-go c (n + 1) g.steps g.are_steps)
+                    (ap (λ o. four ∷ (g.steps ++ moment (begin_of kind o) (Begun 1) c ∷ two ∷ later ∷ []))
+                    (sym named)) by g.heard_is,
                 subst (λ l. IsRun 8 start (four ∷ l))
                     (sym (append_assoc g.steps (three ∷ two ∷ later ∷ []) ms)) ended,
                 record {
                   sound = L.sound;
-                  tells = tells-past kind how rs ran.last.records old.disk new.disk ran.past_text ∙ S.tells;
+                  tells = tells-past kind own how rs ran.last.records old.disk new.disk ran.past_text ∙ S.tells;
                   images = ran.images;
                   faults_are = ran.faults_are;
                   handed = ran.handed;
@@ -622,7 +677,7 @@ module _ (start : State) (ms : List Moment) (R : IsRun 8 start ms) (old : Seen)
               ))
 
           -- the words of a begin are bytes, also where it is refused
-          job-on : IsSpelledKind kind → AnswersJob kind rs old new end → GoesOn
+          job-on : IsSpelledKind kind → AnswersJob kind own rs old new end → GoesOn
           job-on spelled (AnswersJob.refused why is sync r) =
               refused-on (status_of why) 0 why spelled (inl is) r.status_is sync r
           job-on spelled (AnswersJob.no_memory sync r) =
@@ -633,12 +688,13 @@ module _ (start : State) (ms : List Moment) (R : IsRun 8 start ms) (old : Seen)
       enough-of other O =
           subst (λ l. (setup_in_effect l).n ≤ length old.providers) (once other O.read) O.enough
 
-      alone-on : (kind : Kind) → RunsKind command old new kind → IsSpelledKind kind →
-          AnswersAlone kind old new end → GoesOn
-      alone-on kind is spelled (AnswersAlone.unstarted u) = unstarted-on u
-      alone-on kind is spelled (AnswersAlone.begun other O A) =
-          job-on (enough-of other O) kind is spelled
-          (subst (λ l. AnswersJob kind l old new end) (once other O.read) A)
+      alone-on : (kind : Kind) → RunsKind command old new kind → profile_named command ≡ None →
+          IsSpelledKind kind → AnswersAlone kind old new end → GoesOn
+      alone-on kind is named spelled (AnswersAlone.unstarted u) = unstarted-on u
+      alone-on kind is named spelled (AnswersAlone.begun other O A) =
+          job-on (enough-of other O) kind None is named (MayName.none refl)
+          (λ p e. absurd (let f : None ≡ Some p = e in cc)) spelled
+          (subst (λ l. AnswersJob kind None l old new end) (once other O.read) A)
 
       list-on : command ≡ ListAll → AnswersList old new end → GoesOn
       list-on is (AnswersList.unstarted u) = unstarted-on u
@@ -646,33 +702,37 @@ module _ (start : State) (ms : List Moment) (R : IsRun 8 start ms) (old : Seen)
       list-on is (AnswersList.listed other O L) = listed-on (enough-of other O) is
           (subst (λ l. ListsFiles l old new end) (once other O.read) L)
 
-      put-on : (name : List ℕ) → ((bytes : List ℕ) → ReadsUpTo (largest_file + 1) old.source new.source bytes →
-          RunsKind command old new (PutJob name bytes)) → IsSpelledCommand (PutUnder name) →
-          AnswersPut name old new end → GoesOn
-      put-on name is spelled (AnswersPut.unstarted u same) = unstarted-on u
-      put-on name is spelled (AnswersPut.source_fault other O rose sync taken r) =
+      put-on : (name : List ℕ) (own : Option ℕ) →
+          ((bytes : List ℕ) → ReadsUpTo (largest_file + 1) old.source new.source bytes →
+          RunsKind command old new (PutJob name bytes)) → profile_named command ≡ own → AreBytes name →
+          ((p : ℕ) → own ≡ Some p → p < 256) → AnswersPut name own old new end → GoesOn
+      put-on name own is named spelled byte (AnswersPut.unstarted u same) = unstarted-on u
+      put-on name own is named spelled byte (AnswersPut.bad_profile other O unknown sync same r) =
+          unknown-on (enough-of other O) (subst (λ o. IsTrue (is_unknown o)) (sym named) unknown) sync r
+      put-on name own is named spelled byte (AnswersPut.source_fault other O known rose sync taken r) =
           opened-on (enough-of other O) 14 0 (inl r.status_is) sync r
-      put-on name is spelled (AnswersPut.no_memory taken r) = memory-on 0 r
-      put-on name is spelled (AnswersPut.begun other bytes O read A) =
-          job-on (enough-of other O) (PutJob name bytes) (is bytes read) (spelled, read.are_bytes)
-          (subst (λ l. AnswersJob (PutJob name bytes) l old new end) (once other O.read) A)
+      put-on name own is named spelled byte (AnswersPut.no_memory taken r) = memory-on 0 r
+      put-on name own is named spelled byte (AnswersPut.begun other bytes O known read A) =
+          job-on (enough-of other O) (PutJob name bytes) own (is bytes read) named
+          (MayName.put name bytes refl) byte (spelled, read.are_bytes)
+          (subst (λ l. AnswersJob (PutJob name bytes) own l old new end) (once other O.read) A)
 
     -- a job alone, whether a store is set up or not
     alone-by : MaySettle w (reads told.0) → (kind : Kind) → RunsKind command old new kind →
-        IsSpelledKind kind → AnswersAlone kind old new end → GoesOn
-    alone-by (MaySettle.some rs F) kind is spelled A = alone-on rs F kind is spelled A
-    alone-by (MaySettle.none N) kind is spelled A = unset-alone N kind A
+        profile_named command ≡ None → IsSpelledKind kind → AnswersAlone kind old new end → GoesOn
+    alone-by (MaySettle.some rs F) kind is named spelled A = alone-on rs F kind is named spelled A
+    alone-by (MaySettle.none N) kind is named spelled A = unset-alone N kind A
 
     list-by : MaySettle w (reads told.0) → command ≡ ListAll → AnswersList old new end → GoesOn
     list-by (MaySettle.some rs F) is A = list-on rs F is A
     list-by (MaySettle.none N) is A = unset-list N A
 
-    put-by : MaySettle w (reads told.0) → (name : List ℕ) →
+    put-by : MaySettle w (reads told.0) → (name : List ℕ) (own : Option ℕ) →
         ((bytes : List ℕ) → ReadsUpTo (largest_file + 1) old.source new.source bytes →
-        RunsKind command old new (PutJob name bytes)) → IsSpelledCommand (PutUnder name) →
-        AnswersPut name old new end → GoesOn
-    put-by (MaySettle.some rs F) name is spelled A = put-on rs F name is spelled A
-    put-by (MaySettle.none N) name is spelled A = unset-put N name A
+        RunsKind command old new (PutJob name bytes)) → profile_named command ≡ own → AreBytes name →
+        ((p : ℕ) → own ≡ Some p → p < 256) → AnswersPut name own old new end → GoesOn
+    put-by (MaySettle.some rs F) name own is named spelled byte A = put-on rs F name own is named spelled byte A
+    put-by (MaySettle.none N) name own is named spelled byte A = unset-put N name A
 
   -- a command over a store that a run left goes on with that run
   pub command-on : (command : Command) (new : Seen) (end : Ending) (counts : NoCountFalls old new) →
@@ -681,13 +741,19 @@ module _ (start : State) (ms : List Moment) (R : IsRun 8 start ms) (old : Seen)
   command-on (RowOf n l b seen) new end counts opens spelled A = absurd (false≢true opens)
   command-on (InitWith numbers) new end counts opens spelled A = absurd (false≢true opens)
   command-on (PutUnder name) new end counts opens spelled A =
-      put-by (PutUnder name) new end counts found name (λ bytes read. (bytes, read, refl)) spelled A
+      put-by (PutUnder name) new end counts found name None (λ bytes read. (bytes, read, refl)) refl spelled
+      (λ p e. absurd (let f : None ≡ Some p = e in cc)) A
+  command-on (PutAt name profile) new end counts opens spelled A =
+      put-by (PutAt name profile) new end counts found name (Some profile) (λ bytes read. (bytes, read, refl))
+      refl spelled.0 (λ p e. subst (λ n. n < 256) (same_value (Some profile) profile p refl e) spelled.1) A
   command-on (GetOf name) new end counts opens spelled A =
-      alone-by (GetOf name) new end counts found (GetJob name) refl spelled A.0
+      alone-by (GetOf name) new end counts found (GetJob name) refl refl spelled A.0
   command-on (DropOf name) new end counts opens spelled A =
-      alone-by (DropOf name) new end counts found (DropJob name) refl spelled A.0
+      alone-by (DropOf name) new end counts found (DropJob name) refl refl spelled A.0
   command-on ListAll new end counts opens spelled A = list-by ListAll new end counts found refl A.0
   command-on AuditAll new end counts opens spelled A =
-      alone-by AuditAll new end counts found AuditJob refl tt A.0
+      alone-by AuditAll new end counts found AuditJob refl refl tt A.0
   command-on RepairDue new end counts opens spelled A =
-      alone-by RepairDue new end counts found RepairJob refl tt A.0
+      alone-by RepairDue new end counts found RepairJob refl refl tt A.0
+  command-on UpgradeJournal new end counts opens spelled A =
+      alone-by UpgradeJournal new end counts found UpgradeJob refl refl tt A.0

@@ -11,7 +11,7 @@ use Rattle.device_defs.specs.Images.{IsImage, EachImage}
 use Rattle.device_defs.specs.Told.{Goes}
 use Rattle.device_defs.proofs.Lasting.{image-firm}
 use Rattle.device_defs.proofs.PickLaws.{IsImage-reads}
-use Rattle.record_defs.specs.Records.{Record, PutStart, PutDone, AuditStart, AuditDone, largest_journal}
+use Rattle.record_defs.specs.Records.{Record, PutStart, AuditStart, AuditDone, largest_journal}
 use Rattle.record_defs.specs.Journal.{StandsFor, StandsOrIsEmpty}
 use Rattle.record_defs.specs.Table.{next_id, next_audit}
 use Rattle.record_defs.proofs.Standing.{stands-front, stands-long}
@@ -19,22 +19,22 @@ use Rattle.journal_core.proofs.Meanings.{one_meaning}
 use Rattle.machine_defs.specs.Jobs.{Kind, PutJob, GetJob, DropJob, AuditJob, RepairJob, UpgradeJob}
 use Rattle.machine_defs.specs.Answers as answer
 use Rattle.machine_defs.specs.Answers.{Answer}
-use Rattle.command_defs.specs.Forms.{Command, Numbers, RowOf, InitWith, PutUnder, GetOf, DropOf, ListAll, AuditAll, RepairDue}
+use Rattle.command_defs.specs.Forms.{Command, Numbers, RowOf, InitWith, PutUnder, PutAt, GetOf, DropOf, ListAll, AuditAll, RepairDue, UpgradeJournal}
 use Rattle.opening_defs.specs.Journals.{IsResynced, IsFree, IsSetUpOn, MayBeLeft}
 use Rattle.opening_defs.proofs.Resyncs.{image-resynced}
 use Rattle.command_defs.specs.Seen.{Seen, Ending, IsRefused}
 use Rattle.command_defs.specs.Opens.{IsOpened, Unstarted}
 use Rattle.command_defs.specs.Ran.{Ran, IsWhole, IsCut, IsCutInDoubt}
-use Rattle.command_defs.specs.Puts.{put_records, PutIsCut}
+use Rattle.command_defs.specs.Puts.{put_done, put_records, PutIsCut}
 use Rattle.command_defs.specs.Audits.{audit_records, AuditIsCut}
 use Rattle.command_defs.specs.Jobs.{AnswersJob, LeavesBy}
 use Rattle.command_defs.specs.Inits.{setup_with, AnswersInit, InitsDisk}
 use Rattle.command_defs.specs.Commands.{AnswersPut, AnswersAlone, AnswersList, Answers}
-use Rattle.command_laws.specs.Ends.{IsKnown, RunsKind, opens_store}
+use Rattle.command_laws.specs.Ends.{IsKnown, put_of, profile_named, RunsKind, opens_store}
 use Rattle.command_laws.specs.Kept.{KeepsImages, AreAppended, IsAfter, LeavesImages, InitImages}
 use Rattle.command_laws.proofs.Known.{known-once}
 use Rattle.command_laws.proofs.GetEnds.{ran_left}
-use Rattle.command_laws.proofs.JobEnds.{unstarted-refused}
+use Rattle.command_laws.proofs.JobEnds.{unstarted-refused, named-by, put-kind}
 
 -- ---- images of a disk that was synced
 
@@ -120,9 +120,9 @@ came-doubt x own C = record {
         ∙ (ap (λ (l : List Record). l ++ x.records) (sym (reverse-append C.done (C.next ∷ [])))
         ∙ ap (λ (l : List Record). reverse l ++ x.records) (sym one))
 
-came-put : (x : Ran) (name bytes : List ℕ) → PutIsCut x name bytes →
-    Came x (put_records x.records name (length bytes))
-came-put x name bytes (PutIsCut.at_start after doubt held) = record {
+came-put : (x : Ran) (profile : Option ℕ) (name bytes : List ℕ) → PutIsCut x profile name bytes →
+    Came x (put_records x.records name (length bytes) profile)
+came-put x profile name bytes (PutIsCut.at_start after doubt held) = record {
   count = 0;
   after = after;
   doubt = elim doubt [
@@ -131,25 +131,25 @@ came-put x name bytes (PutIsCut.at_start after doubt held) = record {
         inr (_, is, ap (λ (l : List Record). PutStart (next_id x.records) name ∷ l) after)
   ];
 }
-came-put x name bytes (PutIsCut.at_done after doubt stored) = record {
+came-put x profile name bytes (PutIsCut.at_done after doubt stored) = record {
   count = 1;
   after = after;
   doubt = elim doubt [
     | inl sure ↦ inl sure
     | inr is ↦
-        inr (_, is, ap (λ (l : List Record). PutDone (next_id x.records) (length bytes) ∷ l) after)
+        inr (_, is, ap (λ (l : List Record). put_done x.records (length bytes) profile ∷ l) after)
   ];
 }
 
 -- those of its kind
-abbrev Wrote : Ran → Kind → Type 0
-Wrote x kind = (own : List Record) × AreAppended x.records kind own × Came x own
+abbrev Wrote : Ran → Kind → Option ℕ → Type 0
+Wrote x kind profile = (own : List Record) × AreAppended x.records kind profile own × Came x own
 
 audit-wrote : (x : Ran) (undecided : ℕ) (counts : List ℕ) →
-    Came x (audit_records x.records undecided counts) → Wrote x AuditJob
+    Came x (audit_records x.records undecided counts) → Wrote x AuditJob None
 audit-wrote x undecided counts C = (audit_records x.records undecided counts, (undecided, counts, refl), C)
 
-cut-wrote : (x : Ran) → AuditIsCut x → Wrote x AuditJob
+cut-wrote : (x : Ran) → AuditIsCut x → Wrote x AuditJob None
 cut-wrote x (AuditIsCut.at_start after doubt none) = audit-wrote x 0 [] (record {
   count = 0;
   after = after;
@@ -174,51 +174,52 @@ cut-wrote x (AuditIsCut.at_done undecided counts after is hears counted) =
       );
     })
 
-wrote-by : (x : Ran) (kind : Kind) (how : Answer) → LeavesBy x kind how → Wrote x kind
-wrote-by x (PutJob name bytes) answer.Put L =
-    (put_records x.records name (length bytes), refl, came-whole x _ L.0.0)
-wrote-by x (PutJob name bytes) (answer.ProviderFault j) L =
-    (put_records x.records name (length bytes), refl, came-some x _ 1 L.0.2)
-wrote-by x (PutJob name bytes) answer.DiskFault L =
-    (put_records x.records name (length bytes), refl, came-put x name bytes L.0.1)
-wrote-by x (PutJob name bytes) answer.Memory L =
-    (put_records x.records name (length bytes), refl, came-cut x _ L.0.0)
-wrote-by x (PutJob name bytes) how L = absurd L.0
-wrote-by x (GetJob name) how L = ([], refl, record { count = 0; after = L.records; doubt = inl L.sure })
-wrote-by x (DropJob name) answer.Dropped L = (_, refl, came-whole x _ L.0.0)
-wrote-by x (DropJob name) answer.DiskFault L = (_, refl, came-doubt x _ L.0.1)
-wrote-by x (DropJob name) answer.Memory L = (_, refl, came-cut x _ L.0.0)
-wrote-by x (DropJob name) how L = absurd L.0
-wrote-by x AuditJob (answer.Audited number undecided counts) L =
+wrote-by : (x : Ran) (kind : Kind) (profile : Option ℕ) (how : Answer) → LeavesBy x kind profile how →
+    Wrote x kind profile
+wrote-by x (PutJob name bytes) profile answer.Put L =
+    (put_records x.records name (length bytes) profile, refl, came-whole x _ L.0.0)
+wrote-by x (PutJob name bytes) profile (answer.ProviderFault j) L =
+    (put_records x.records name (length bytes) profile, refl, came-some x _ 1 L.0.2)
+wrote-by x (PutJob name bytes) profile answer.DiskFault L =
+    (put_records x.records name (length bytes) profile, refl, came-put x profile name bytes L.0.1)
+wrote-by x (PutJob name bytes) profile answer.Memory L =
+    (put_records x.records name (length bytes) profile, refl, came-cut x _ L.0.0)
+wrote-by x (PutJob name bytes) profile how L = absurd L.0
+wrote-by x (GetJob name) profile how L = ([], refl, record { count = 0; after = L.records; doubt = inl L.sure })
+wrote-by x (DropJob name) profile answer.Dropped L = (_, refl, came-whole x _ L.0.0)
+wrote-by x (DropJob name) profile answer.DiskFault L = (_, refl, came-doubt x _ L.0.1)
+wrote-by x (DropJob name) profile answer.Memory L = (_, refl, came-cut x _ L.0.0)
+wrote-by x (DropJob name) profile how L = absurd L.0
+wrote-by x AuditJob profile (answer.Audited number undecided counts) L =
     audit-wrote x undecided counts (came-whole x _ L.gives.1)
-wrote-by x AuditJob answer.DiskFault L = cut-wrote x L.gives.1
-wrote-by x AuditJob answer.Memory L = audit-wrote x L.gives.0 L.gives.1 (came-cut x _ L.gives.2)
-wrote-by x AuditJob how L = absurd L.gives
-wrote-by x RepairJob (answer.Repaired number) L = (_, (L.0.due, L.0.is_due, refl), came-whole x _ L.0.gives.1)
-wrote-by x RepairJob (answer.Lost stripe row) L =
+wrote-by x AuditJob profile answer.DiskFault L = cut-wrote x L.gives.1
+wrote-by x AuditJob profile answer.Memory L = audit-wrote x L.gives.0 L.gives.1 (came-cut x _ L.gives.2)
+wrote-by x AuditJob profile how L = absurd L.gives
+wrote-by x RepairJob profile (answer.Repaired number) L = (_, (L.0.due, L.0.is_due, refl), came-whole x _ L.0.gives.1)
+wrote-by x RepairJob profile (answer.Lost stripe row) L =
     (_, (L.0.due, L.0.is_due, refl), came-some x _ 0 L.0.gives.0)
-wrote-by x RepairJob (answer.ProviderFault j) L =
+wrote-by x RepairJob profile (answer.ProviderFault j) L =
     (_, (L.0.due, L.0.is_due, refl), came-some x _ 0 L.0.gives.3)
-wrote-by x RepairJob answer.DiskFault L = (_, (L.0.due, L.0.is_due, refl), came-doubt x _ L.0.gives.1)
-wrote-by x RepairJob answer.Memory L = (_, (L.0.due, L.0.is_due, refl), came-cut x _ L.0.gives.0)
-wrote-by x RepairJob how L = absurd L.0.gives
-wrote-by x UpgradeJob answer.Upgraded L = (_, refl, came-whole x _ L.0.0)
-wrote-by x UpgradeJob answer.DiskFault L = (_, refl, came-doubt x _ L.0.1)
-wrote-by x UpgradeJob answer.Memory L = (_, refl, came-cut x _ L.0.0)
-wrote-by x UpgradeJob how L = absurd L.0
+wrote-by x RepairJob profile answer.DiskFault L = (_, (L.0.due, L.0.is_due, refl), came-doubt x _ L.0.gives.1)
+wrote-by x RepairJob profile answer.Memory L = (_, (L.0.due, L.0.is_due, refl), came-cut x _ L.0.gives.0)
+wrote-by x RepairJob profile how L = absurd L.0.gives
+wrote-by x UpgradeJob profile answer.Upgraded L = (_, refl, came-whole x _ L.0.0)
+wrote-by x UpgradeJob profile answer.DiskFault L = (_, refl, came-doubt x _ L.0.1)
+wrote-by x UpgradeJob profile answer.Memory L = (_, refl, came-cut x _ L.0.0)
+wrote-by x UpgradeJob profile how L = absurd L.0
 
 none-behind : (a b : List Record) → a ++ b ≡ [] → b ≡ []
 none-behind [] b e = e
 none-behind (r ∷ a) b e = absurd (let f : r ∷ (a ++ b) ≡ [] = e in cc)
 
-image-after : (x : Ran) (kind : Kind) → x.records ≢ [] → Wrote x kind → (image : List ℕ) →
+image-after : (x : Ran) (kind : Kind) (profile : Option ℕ) → x.records ≢ [] → Wrote x kind profile → (image : List ℕ) →
     StandsOrIsEmpty image x.after ⊎ IsSomeAnd x.doubt (λ entry. StandsFor image (entry ∷ x.after)) →
-    IsAfter x.records kind image
-image-after x kind some W image (inl (inl stands)) =
+    IsAfter x.records kind profile image
+image-after x kind profile some W image (inl (inl stands)) =
     record { own = W.0; are_own = W.1; count = W.2.count; stands = subst (StandsFor image) W.2.after stands }
-image-after x kind some W image (inl (inr empty)) =
+image-after x kind profile some W image (inl (inr empty)) =
     absurd (some (none-behind (reverse (take W.2.count W.0)) x.records (sym W.2.after ∙ empty.0)))
-image-after x kind some W image (inr entry) = elim W.2.doubt [
+image-after x kind profile some W image (inr entry) = elim W.2.doubt [
   | inl sure ↦ absurd (subst (λ d. IsSomeAnd d (λ e. StandsFor image (e ∷ x.after))) sure entry)
   | inr (next, is, more) ↦ record {
     own = W.0;
@@ -229,50 +230,56 @@ image-after x kind some W image (inr entry) = elim W.2.doubt [
   }
 ]
 
-images-after : (x : Ran) (kind : Kind) → x.records ≢ [] → Wrote x kind → (told : Option Cells) →
+images-after : (x : Ran) (kind : Kind) (profile : Option ℕ) → x.records ≢ [] → Wrote x kind profile → (told : Option Cells) →
     EachImage told (λ image. StandsOrIsEmpty image x.after ⊎
     IsSomeAnd x.doubt (λ entry. StandsFor image (entry ∷ x.after))) →
-    EachImage told (IsAfter x.records kind)
-images-after x kind some W None h = tt
-images-after x kind some W (Some cells) h = λ image is. image-after x kind some W image (h image is)
+    EachImage told (IsAfter x.records kind profile)
+images-after x kind profile some W None h = tt
+images-after x kind profile some W (Some cells) h = λ image is. image-after x kind profile some W image (h image is)
 
 -- ---- commands that look at a store
 
-job-images : (kind : Kind) (records : List Record) (old new : Seen) (end : Ending) → IsOpened old records →
-    AnswersJob kind records old new end →
-    KeepsImages old new ⊎ EachImage new.disk (IsAfter records kind)
-job-images kind records old new end opened (AnswersJob.refused why is after r) =
+job-images : (kind : Kind) (profile : Option ℕ) (records : List Record) (old new : Seen) (end : Ending) →
+    IsOpened old records → AnswersJob kind profile records old new end →
+    KeepsImages old new ⊎ EachImage new.disk (IsAfter records kind profile)
+job-images kind profile records old new end opened (AnswersJob.refused why is after r) =
     inl (refused-keeps _ 0 old new end r)
-job-images kind records old new end opened (AnswersJob.no_memory after r) =
+job-images kind profile records old new end opened (AnswersJob.no_memory after r) =
     inl (refused-keeps 70 0 old new end r)
-job-images kind records old new end opened (AnswersJob.ended how none runs left by) =
-    inr (images-after (ran_left records kind how old new end.heard left) kind opened.read.some
-    (wrote-by (ran_left records kind how old new end.heard left) kind how left.leaves.by_kind) new.disk
-    left.images)
+job-images kind profile records old new end opened (AnswersJob.ended how none runs left by) =
+    inr (images-after (ran_left records kind how old new end.heard left) kind profile opened.read.some
+    (wrote-by (ran_left records kind how old new end.heard left) kind profile how left.leaves.by_kind)
+    new.disk left.images)
 
-of-job : (command : Command) (kind : Kind) (records : List Record) (old new : Seen) → IsOpened old records →
-    RunsKind command old new kind →
-    KeepsImages old new ⊎ EachImage new.disk (IsAfter records kind) → LeavesImages command old new
-of-job command kind records old new opened is (inl kept) = LeavesImages.kept kept
-of-job command kind records old new opened is (inr images) = LeavesImages.ran records kind opened is images
+of-job : (command : Command) (kind : Kind) (profile : Option ℕ) (records : List Record) (old new : Seen) →
+    profile_named command ≡ profile → IsOpened old records → RunsKind command old new kind →
+    KeepsImages old new ⊎ EachImage new.disk (IsAfter records kind profile) → LeavesImages command old new
+of-job command kind profile records old new named opened is (inl kept) = LeavesImages.kept kept
+of-job command kind profile records old new named opened is (inr images) =
+    LeavesImages.ran records kind opened is
+    (subst (λ p. EachImage new.disk (IsAfter records kind p)) (sym named) images)
 
-put-images : (name : List ℕ) (old new : Seen) (end : Ending) → AnswersPut name old new end →
-    LeavesImages (PutUnder name) old new
-put-images name old new end (AnswersPut.unstarted u same) = LeavesImages.kept (unstarted-keeps old new end u)
-put-images name old new end (AnswersPut.source_fault records opened rose after taken r) =
+put-images : (name : List ℕ) (own : Option ℕ) (old new : Seen) (end : Ending) →
+    AnswersPut name own old new end → LeavesImages (put_of name own) old new
+put-images name own old new end (AnswersPut.unstarted u same) =
+    LeavesImages.kept (unstarted-keeps old new end u)
+put-images name own old new end (AnswersPut.bad_profile records opened unknown synced same r) =
+    LeavesImages.kept (refused-keeps 20 0 old new end r)
+put-images name own old new end (AnswersPut.source_fault records opened known rose after taken r) =
     LeavesImages.kept (refused-keeps 14 0 old new end r)
-put-images name old new end (AnswersPut.no_memory taken r) =
+put-images name own old new end (AnswersPut.no_memory taken r) =
     LeavesImages.kept (refused-keeps 70 0 old new end r)
-put-images name old new end (AnswersPut.begun records bytes opened read A) =
-    of-job (PutUnder name) (PutJob name bytes) records old new opened (bytes, read, refl)
-    (job-images (PutJob name bytes) records old new end opened A)
+put-images name own old new end (AnswersPut.begun records bytes opened known read A) =
+    of-job (put_of name own) (PutJob name bytes) own records old new (named-by name own) opened
+    (put-kind name bytes own old new read) (job-images (PutJob name bytes) own records old new end opened A)
 
 alone-images : (command : Command) (kind : Kind) (old new : Seen) (end : Ending) →
-    RunsKind command old new kind → AnswersAlone kind old new end → LeavesImages command old new
-alone-images command kind old new end is (AnswersAlone.unstarted u) =
+    profile_named command ≡ None → RunsKind command old new kind → AnswersAlone kind old new end →
+    LeavesImages command old new
+alone-images command kind old new end named is (AnswersAlone.unstarted u) =
     LeavesImages.kept (unstarted-keeps old new end u)
-alone-images command kind old new end is (AnswersAlone.begun records opened A) =
-    of-job command kind records old new opened is (job-images kind records old new end opened A)
+alone-images command kind old new end named is (AnswersAlone.begun records opened A) =
+    of-job command kind None records old new named opened is (job-images kind None records old new end opened A)
 
 list-images : (old new : Seen) (end : Ending) → AnswersList old new end → KeepsImages old new
 list-images old new end (AnswersList.unstarted u) = unstarted-keeps old new end u
@@ -284,18 +291,22 @@ pub store-images : (command : Command) (old new : Seen) (end : Ending) → Answe
     opens_store command ≡ true → LeavesImages command old new
 store-images (RowOf n l b seen) old new end A opens = absurd (false≢true opens)
 store-images (InitWith numbers) old new end A opens = absurd (false≢true opens)
-store-images (PutUnder name) old new end A opens = put-images name old new end A
-store-images (GetOf name) old new end A opens = alone-images (GetOf name) (GetJob name) old new end refl A.0
+store-images (PutUnder name) old new end A opens = put-images name None old new end A
+store-images (PutAt name profile) old new end A opens = put-images name (Some profile) old new end A
+store-images (GetOf name) old new end A opens = alone-images (GetOf name) (GetJob name) old new end refl refl A.0
 store-images (DropOf name) old new end A opens =
-    alone-images (DropOf name) (DropJob name) old new end refl A.0
+    alone-images (DropOf name) (DropJob name) old new end refl refl A.0
 store-images ListAll old new end A opens = LeavesImages.kept (list-images old new end A.0)
-store-images AuditAll old new end A opens = alone-images AuditAll AuditJob old new end refl A.0
-store-images RepairDue old new end A opens = alone-images RepairDue RepairJob old new end refl A.0
+store-images AuditAll old new end A opens = alone-images AuditAll AuditJob old new end refl refl A.0
+store-images RepairDue old new end A opens = alone-images RepairDue RepairJob old new end refl refl A.0
+store-images UpgradeJournal old new end A opens =
+    alone-images UpgradeJournal UpgradeJob old new end refl refl A.0
 
 -- what each image stands for, where each stood for the records before
 abbrev StandsAfter : Command → List Record → Seen → Seen → List ℕ → Type 0
 StandsAfter command records old new image =
-    StandsFor image records ⊎ ((kind : Kind) × RunsKind command old new kind × IsAfter records kind image)
+    StandsFor image records
+    ⊎ ((kind : Kind) × RunsKind command old new kind × IsAfter records kind (profile_named command) image)
 
 kept-stand : (command : Command) (records : List Record) (old new : Seen) (before after : Option Cells) →
     IfSome before (λ cells. EachImage after (IsImage cells)) → before ≢ None →
@@ -307,7 +318,8 @@ kept-stand command records old new (Some cells) (Some now) kept tells stand =
     λ image is. inl (stand image (kept image is))
 
 ran-stand : (command : Command) (records : List Record) (kind : Kind) (old new : Seen) →
-    RunsKind command old new kind → (after : Option Cells) → EachImage after (IsAfter records kind) →
+    RunsKind command old new kind → (after : Option Cells) →
+    EachImage after (IsAfter records kind (profile_named command)) →
     EachImage after (StandsAfter command records old new)
 ran-stand command records kind old new is None h = tt
 ran-stand command records kind old new is (Some cells) h = λ image of. inr (kind, is, h image of)
@@ -326,7 +338,7 @@ known-images command records old new end A opens K stand = go (store-images comm
     go (LeavesImages.kept kept) = kept-stand command records old new old.disk new.disk kept tells stand
     go (LeavesImages.ran other kind opened is images) =
         ran-stand command records kind old new is new.disk
-        (subst (λ rs. EachImage new.disk (IsAfter rs kind))
+        (subst (λ rs. EachImage new.disk (IsAfter rs kind (profile_named command)))
         (known-once old records other K opened.read) images)
 
 -- ---- init

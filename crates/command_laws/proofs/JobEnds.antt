@@ -1,39 +1,46 @@
 -- How puts, drops, audits and repairs end, and what they have done where they are done.
-use Rattle.std.proofs.Common.{◌≡◌, ◌≢◌, ℕ, ◌+◌, ◌<◌, ◌≤◌, ◌==◌, ◌⊎◌, Bool, true, false, cond, List, [], ◌∷◌, ◌++◌, length, Option, None, Some, refl, ap, sym, subst, ◌∙◌, inl, inr, arith, length-append}
-use Rattle.std.specs.Prelude.{IsSomeAnd, nat_lt}
-use Rattle.std.proofs.lemmas.Bool.{cases_lt, eq-eqb, lt-ltb}
+use Rattle.std.proofs.Common.{◌≡◌, ◌≢◌, ℕ, ◌+◌, ◌<◌, ◌≤◌, ◌==◌, ◌⊎◌, Bool, true, false, cond, List, [], ◌∷◌, ◌++◌, length, Option, None, Some, refl, ap, sym, subst, ◌∙◌, inl, inr, arith, length-append, not, ◌&&◌}
+use Rattle.std.specs.Prelude.{IsSomeAnd, IsTrue, is_some, nat_lt}
+use Rattle.std.proofs.lemmas.Bool.{cases_Bool, cases_lt, eq-eqb, lt-ltb, false≢true}
 use Rattle.std.proofs.lemmas.List.{append-nil}
 use Rattle.device_defs.specs.Cells.{Cells}
 use Rattle.device_defs.specs.Faults.{Rose}
 use Rattle.device_defs.specs.Images.{EachImage}
 use Rattle.device_defs.specs.Providers.{Held, Provider}
 use Rattle.device_defs.proofs.Lasting.{rose-before}
-use Rattle.record_defs.specs.Records.{Record, PutStart, largest_file}
+use Rattle.record_defs.specs.Records.{Setup, Record, PutStart, PutDone, PutDoneIn, is_name, largest_file}
 use Rattle.record_defs.specs.Journal.{StandsFor, StandsOrIsEmpty}
-use Rattle.record_defs.specs.Table.{File, Due, next_id, file_of, due_of, started_as, is_start_of, is_same_name, file_as, profile_in, setup_of}
+use Rattle.record_defs.specs.Table.{File, Due, version_of, next_id, next_audit, file_of, due_of, started_as, is_start_of, is_same_name, file_as, profile_in, setup_of}
 use Rattle.record_defs.proofs.FilesLaws.{same-refl}
-use Rattle.machine_defs.specs.Jobs.{Kind, PutJob, GetJob, DropJob, AuditJob, RepairJob}
+use Rattle.machine_defs.specs.Jobs.{Kind, PutJob, GetJob, DropJob, AuditJob, RepairJob, UpgradeJob}
 use Rattle.machine_defs.specs.Answers as answer
 use Rattle.machine_defs.specs.Answers.{Answer}
 use Rattle.machine_defs.specs.Heard.{Entry}
+use Rattle.machine_defs.specs.Setups.{setup_or_none}
+use Rattle.machine_defs.specs.Begins.{chosen}
+use Rattle.machine_defs.specs.Appends.{done_record}
+use Rattle.machine_defs.specs.Refusals as refusal
 use Rattle.machine_defs.specs.Refusals.{Refusal}
-use Rattle.machine_defs.proofs.JobLists.{cond_true}
-use Rattle.command_defs.specs.Forms.{Command, PutUnder, DropOf, AuditAll}
+use Rattle.machine_defs.proofs.JobLists.{cond_true, cond_false, same_value}
+use Rattle.command_defs.specs.Forms.{Command, DropOf, AuditAll, UpgradeJournal}
 use Rattle.command_defs.specs.Seen.{Seen, Ending, IsRefused, ReadsUpTo, provider_at}
 use Rattle.command_defs.specs.Opens.{IsOpened, Unstarted, setup_in_effect}
-use Rattle.command_defs.specs.Refusals.{refusal_over, status_of}
-use Rattle.command_defs.specs.Lines.{text_of, stored_line, dropped_line, audit_lines, repaired_line}
-use Rattle.command_defs.specs.Puts.{PutLeaves}
+use Rattle.command_defs.specs.Refusals.{is_unknown, is_crowded_by, is_full_for, refusal_over, status_of}
+use Rattle.command_defs.specs.Lines.{text_of, stored_line, dropped_line, audit_lines, repaired_line, upgraded_line}
+use Rattle.command_defs.specs.Ran.{Ran, SameHeld}
+use Rattle.command_defs.specs.Puts.{put_done, PutLeaves}
 use Rattle.command_defs.specs.Drops.{DropLeaves}
 use Rattle.command_defs.specs.Audits.{AuditGives, HearsRounds, CountsHeard}
 use Rattle.command_defs.specs.Repairs.{RepairGives}
+use Rattle.command_defs.specs.Upgrades.{UpgradeLeaves}
 use Rattle.command_defs.specs.Jobs.{AnswersJob, EndsByAnswer, LeftAlone, IsTold}
-use Rattle.command_defs.specs.Commands.{AnswersPut, AnswersAlone, AnswersList}
+use Rattle.command_defs.specs.Commands.{AnswersPut, AnswersAlone, AnswersList, Answers}
 use Rattle.job_laws.specs.Failing.{bad_seen}
-use Rattle.command_laws.specs.Ends.{IsDone, IsKnown, GivesUnlessMemory, EndsInOrder, SameHolds, after_put, IsWholePut, IsDropped, IsAudited, IsRepaired}
-use Rattle.job_laws.proofs.Complete.{put-end, drop-end, audit-end}
+use Rattle.command_laws.specs.Ends.{IsDone, IsKnown, GivesUnlessMemory, EndsInOrder, RunsKind, SameHolds, put_of, profile_named, put_refusal, after_put, IsWholePut, IsDropped, IsAudited, IsRepaired, IsUpgraded}
+use Rattle.state_laws.proofs.Records.{version-either}
+use Rattle.job_laws.proofs.Complete.{put-end, drop-end, audit-end, upgrade-end}
 use Rattle.job_laws.proofs.Mended.{repair-end}
-use Rattle.command_laws.proofs.Known.{none-written, written-well, known-once, unstarted-known, alone-known, refused-not, refused-only, refused-always, own-status}
+use Rattle.command_laws.proofs.Known.{none-written, told-refusal, written-well, known-once, unstarted-known, alone-known, refused-not, refused-only, refused-always, own-status}
 use Rattle.command_laws.proofs.GetEnds.{shape-at, ran_left}
 
 -- ---- what is common
@@ -104,80 +111,156 @@ refused-done why status is (inl done) = refused-not why 0 refl (λ e. omega (ari
 refused-done why status is (inr done) = refused-not why 15 refl (λ e. omega (arith, e)) (sym is ∙ done)
 
 -- a calm disk was calm once it was opened
-pub calm-disk : (records : List Record) (kind : Kind) (how : Answer) (old new : Seen) (heard : List Entry)
-    (left : LeftAlone records kind how old new heard) → (Rose old.disk_faults new.disk_faults → ⊥) →
+pub calm-disk : (records : List Record) (kind : Kind) {own : Option ℕ} (how : Answer) (old new : Seen)
+    (heard : List Entry)
+    (left : LeftAlone records kind own how old new heard) → (Rose old.disk_faults new.disk_faults → ⊥) →
     Rose left.faults new.disk_faults → ⊥
 calm-disk records kind how old new heard left calm rose =
     calm (rose-before old.disk_faults left.faults new.disk_faults left.before left.leaves.counts.disk rose)
 
 -- ---- puts
 
-second-off : (b c : Bool) (x y : Refusal) (rest : Option Refusal) →
-    cond b (Some x) (cond c (Some y) rest) ≡ None → c ≡ false
-second-off true c x y rest h = absurd (let e : Some x ≡ None = h in cc)
-second-off false true x y rest h = absurd (let e : Some y ≡ None = h in cc)
-second-off false false x y rest h = refl
+third-off : (b c d : Bool) (x y z : Refusal) (rest : Option Refusal) →
+    cond b (Some x) (cond c (Some y) (cond d (Some z) rest)) ≡ None → (c ≡ false) × (d ≡ false)
+third-off true c d x y z rest h = absurd (let e : Some x ≡ None = h in cc)
+third-off false true d x y z rest h = absurd (let e : Some y ≡ None = h in cc)
+third-off false false true x y z rest h = absurd (let e : Some z ≡ None = h in cc)
+third-off false false false x y z rest h = (refl, refl)
 
--- a put that is not refused has a file that is not too long
-pub not-long : (records : List Record) (name bytes : List ℕ) →
-    refusal_over records (PutJob name bytes) ≡ None → length bytes ≤ largest_file
-not-long records name bytes none =
-    at-most largest_file (length bytes) (second-off _ (nat_lt largest_file (length bytes)) _ _ _ none)
+fourth-off : (b c d e : Bool) (x y z u : Refusal) (rest : Option Refusal) →
+    cond b (Some x) (cond c (Some y) (cond d (Some z) (cond e (Some u) rest))) ≡ None → e ≡ false
+fourth-off true c d e x y z u rest h = absurd (let f : Some x ≡ None = h in cc)
+fourth-off false true d e x y z u rest h = absurd (let f : Some y ≡ None = h in cc)
+fourth-off false false true e x y z u rest h = absurd (let f : Some z ≡ None = h in cc)
+fourth-off false false false true x y z u rest h = absurd (let f : Some u ≡ None = h in cc)
+fourth-off false false false false x y z u rest h = refl
+
+-- a put that is not refused has a file that is not too long, and names no profile that there is none of
+pub put-begins : (records : List Record) (name bytes : List ℕ) (own : Option ℕ) →
+    refusal_over records (PutJob name bytes) own ≡ None →
+    (is_unknown own ≡ false) × (length bytes ≤ largest_file)
+put-begins records name bytes own none =
+    (let off = third-off _ (is_unknown own) (nat_lt largest_file (length bytes)) _ _ _ _ none in
+    (off.0, at-most largest_file (length bytes) off.1))
   where
     at-most : (a b : ℕ) → nat_lt a b ≡ false → b ≤ a
     at-most a b e = grind (arith, e)
 
--- after a put's two records its file is in effect under its name
-pub put-in_effect : (records : List Record) (name : List ℕ) (size : ℕ) →
-    file_of (after_put records name size) name
-    ≡ Some (file_as name (next_id records) size (profile_in (setup_of records)))
-put-in_effect records name size =
-    cond_true (is_start_of name (started_as (PutStart (next_id records) name ∷ records) (next_id records))) _
-    _
-    (ap (is_start_of name)
-    (cond_true (next_id records == next_id records) (Some name) (started_as records (next_id records))
-    (eq-eqb (next_id records) (next_id records) refl)) ∙ same-refl name)
+-- the last record of a put is that of one version or the other
+pub done-case : (P : Record → Type 0) (records : List Record) (size : ℕ) (own : Option ℕ) →
+    P (PutDone (next_id records) size) →
+    P (PutDoneIn (next_id records) size (chosen (setup_in_effect records) own)) →
+    P (put_done records size own)
+done-case P records size own first second = elim (cases_Bool (version_of records == 2)) [
+  | inl t ↦ subst P (sym (cond_true (version_of records == 2)
+      (PutDoneIn (next_id records) size (chosen (setup_in_effect records) own))
+      (PutDone (next_id records) size) t)) second
+  | inr f ↦ subst P (sym (cond_false (version_of records == 2)
+      (PutDoneIn (next_id records) size (chosen (setup_in_effect records) own))
+      (PutDone (next_id records) size) f)) first
+]
 
-put-by : (name bytes : List ℕ) (records : List Record) (old new : Seen) (end : Ending) →
+-- a put leaves the setup in effect
+pub put-setup : (records : List Record) (name : List ℕ) (size : ℕ) (own : Option ℕ) →
+    setup_in_effect (after_put records name size own) ≡ setup_in_effect records
+put-setup records name size own = done-case
+    (λ r. setup_in_effect (r ∷ PutStart (next_id records) name ∷ records) ≡ setup_in_effect records)
+    records size own refl refl
+
+-- a put draws no number of an audit
+pub put-audits : (records : List Record) (name : List ℕ) (size : ℕ) (own : Option ℕ) →
+    next_audit (after_put records name size own) ≡ next_audit records
+put-audits records name size own = done-case
+    (λ r. next_audit (r ∷ PutStart (next_id records) name ∷ records) ≡ next_audit records)
+    records size own refl refl
+
+-- the profile that the setup in effect gives files
+setup-profile : (o : Option Setup) → profile_in o ≡ (setup_or_none o).profile
+setup-profile None = refl
+setup-profile (Some s) = refl
+
+-- in the first version a put that is not refused names no profile, so that its file has the setup's
+first-profile : (records : List Record) (name bytes : List ℕ) (own : Option ℕ) → version_of records ≡ 1 →
+    refusal_over records (PutJob name bytes) own ≡ None →
+    profile_in (setup_of records) ≡ chosen (setup_in_effect records) own
+first-profile records name bytes None one h = setup-profile (setup_of records)
+first-profile records name bytes (Some p) one h = absurd
+    (let off = fourth-off (not (is_name name)) (is_unknown (Some p)) (nat_lt largest_file (length bytes))
+    (version_of records == 1) refusal.BadName refusal.BadProfile refusal.TooLong refusal.OldVersion _ h in
+    let on : (version_of records == 1) ≡ true = eq-eqb (version_of records) 1 one in
+    false≢true (sym off ∙ on))
+
+-- after a put's two records its file is in effect under its name, with the profile that it names
+pub put-in_effect : (records : List Record) (name bytes : List ℕ) (own : Option ℕ) →
+    refusal_over records (PutJob name bytes) own ≡ None →
+    file_of (after_put records name (length bytes) own) name
+    ≡ Some (file_as name (next_id records) (length bytes) (chosen (setup_in_effect records) own))
+put-in_effect records name bytes own begins = by-version (version-either records)
+  where
+    started : is_start_of name (started_as (PutStart (next_id records) name ∷ records) (next_id records))
+        ≡ true
+    started = ap (is_start_of name)
+        (cond_true (next_id records == next_id records) (Some name) (started_as records (next_id records))
+        (eq-eqb (next_id records) (next_id records) refl)) ∙ same-refl name
+
+    by-version : (version_of records ≡ 1) ⊎ (version_of records ≡ 2) →
+        file_of (after_put records name (length bytes) own) name
+        ≡ Some (file_as name (next_id records) (length bytes) (chosen (setup_in_effect records) own))
+    by-version (inl one) =
+        ap (λ r. file_of (r ∷ PutStart (next_id records) name ∷ records) name)
+        (ap (λ v. done_record v (next_id records) (length bytes) (chosen (setup_in_effect records) own)) one)
+        ∙ (cond_true (is_start_of name
+        (started_as (PutStart (next_id records) name ∷ records) (next_id records))) _ _ started
+        ∙ ap (λ p. Some (file_as name (next_id records) (length bytes) p)) (first-profile records name bytes own one begins))
+    by-version (inr two) =
+        ap (λ r. file_of (r ∷ PutStart (next_id records) name ∷ records) name)
+        (ap (λ v. done_record v (next_id records) (length bytes) (chosen (setup_in_effect records) own)) two)
+        ∙ cond_true (is_start_of name
+        (started_as (PutStart (next_id records) name ∷ records) (next_id records))) _ _ started
+
+put-by : (name bytes : List ℕ) (own : Option ℕ) (records : List Record) (old new : Seen) (end : Ending) →
     IsOpened old records → ReadsUpTo (largest_file + 1) old.source new.source bytes →
-    refusal_over records (PutJob name bytes) ≡ None →
-    (how : Answer) (left : LeftAlone records (PutJob name bytes) how old new end.heard) →
-    PutLeaves (ran_left records (PutJob name bytes) how old new end.heard left) name bytes how →
-    EndsWith records (PutJob name bytes) how old new end → IsDone end → IsWholePut name old new end
-put-by name bytes records old new end opened read begins answer.Put left L by done = record {
+    refusal_over records (PutJob name bytes) own ≡ None →
+    (how : Answer) (left : LeftAlone records (PutJob name bytes) own how old new end.heard) →
+    PutLeaves (ran_left records (PutJob name bytes) how old new end.heard left) own name bytes how →
+    EndsWith records (PutJob name bytes) how old new end → IsDone end → IsWholePut name own old new end
+put-by name bytes own records old new end opened read begins answer.Put left L by done = record {
   records = records;
   bytes = bytes;
   opened = opened;
   are_bytes = read.are_bytes;
   read = read;
-  whole = read.end (let small = not-long records name bytes begins in omega (arith, small));
+  whole = read.end (let small = (put-begins records name bytes own begins).1 in
+      omega (arith, small));
   told = by;
   disk = images-have new.disk left.after left.doubt _ _ L.0.after L.0.sure left.images;
-  in_effect = put-in_effect records name (length bytes);
+  in_effect = put-in_effect records name bytes own begins;
   stored = L.1;
 }
-put-by name bytes records old new end opened read begins (answer.ProviderFault j) left L by done =
+put-by name bytes own records old new end opened read begins (answer.ProviderFault j) left L by done =
     absurd (not-done end.status 13 by.status_is (λ e. omega (arith, e)) (λ e. omega (arith, e)) done)
-put-by name bytes records old new end opened read begins answer.DiskFault left L by done =
+put-by name bytes own records old new end opened read begins answer.DiskFault left L by done =
     absurd (not-done end.status 12 by.status_is (λ e. omega (arith, e)) (λ e. omega (arith, e)) done)
-put-by name bytes records old new end opened read begins answer.Memory left L by done =
+put-by name bytes own records old new end opened read begins answer.Memory left L by done =
     absurd (not-done end.status 70 by.status_is (λ e. omega (arith, e)) (λ e. omega (arith, e)) done)
-put-by name bytes records old new end opened read begins how left L by done = absurd L
+put-by name bytes own records old new end opened read begins how left L by done = absurd L
 
 -- a done put stored its whole source on every provider, and it is in effect
-pub put-done : (name : List ℕ) (old new : Seen) (end : Ending) → AnswersPut name old new end → IsDone end →
-    IsWholePut name old new end
-put-done name old new end (AnswersPut.unstarted u same) done = absurd (unstarted-done old new end u done)
-put-done name old new end (AnswersPut.source_fault records opened rose synced taken r) done =
+pub put-done : (name : List ℕ) (own : Option ℕ) (old new : Seen) (end : Ending) →
+    AnswersPut name own old new end → IsDone end → IsWholePut name own old new end
+put-done name own old new end (AnswersPut.unstarted u same) done = absurd (unstarted-done old new end u done)
+put-done name own old new end (AnswersPut.source_fault records opened known rose synced taken r) done =
     absurd (not-done end.status 14 r.status_is (λ e. omega (arith, e)) (λ e. omega (arith, e)) done)
-put-done name old new end (AnswersPut.no_memory taken r) done =
+put-done name own old new end (AnswersPut.bad_profile records opened unknown synced same r) done =
+    absurd (not-done end.status 20 r.status_is (λ e. omega (arith, e)) (λ e. omega (arith, e)) done)
+put-done name own old new end (AnswersPut.no_memory taken r) done =
     absurd (not-done end.status 70 r.status_is (λ e. omega (arith, e)) (λ e. omega (arith, e)) done)
-put-done name old new end (AnswersPut.begun records bytes opened read (AnswersJob.refused why is synced r)) done =
+put-done name own old new end (AnswersPut.begun records bytes opened known read (AnswersJob.refused why is synced r)) done =
     absurd (refused-done why end.status r.status_is done)
-put-done name old new end (AnswersPut.begun records bytes opened read (AnswersJob.no_memory synced r)) done =
+put-done name own old new end (AnswersPut.begun records bytes opened known read (AnswersJob.no_memory synced r)) done =
     absurd (not-done end.status 70 r.status_is (λ e. omega (arith, e)) (λ e. omega (arith, e)) done)
-put-done name old new end (AnswersPut.begun records bytes opened read (AnswersJob.ended how none runs left by)) done =
-    put-by name bytes records old new end opened read none how left left.leaves.by_kind.0 by done
+put-done name own old new end (AnswersPut.begun records bytes opened known read (AnswersJob.ended how none runs left by)) done =
+    put-by name bytes own records old new end opened read none how left left.leaves.by_kind.0 by done
 
 -- what is read of a source that is no longer than a file may be is all of it
 read-all : (old new : Option (List ℕ)) (bytes seen : List ℕ) → old ≡ Some bytes →
@@ -190,19 +273,19 @@ read-all old (Some left) bytes seen is small R =
     let none : left ≡ [] = R.end (omega (arith, size, sum, small)) in
     sym (f ∙ (ap (λ l. seen ++ l) none ∙ append-nil seen)))
 
-put-job-well : (name bytes : List ℕ) (records : List Record) (old new : Seen) (end : Ending) →
-    refusal_over records (PutJob name bytes) ≡ None → (Rose old.disk_faults new.disk_faults → ⊥) →
+put-job-well : (name bytes : List ℕ) (own : Option ℕ) (records : List Record) (old new : Seen) (end : Ending) →
+    refusal_over records (PutJob name bytes) own ≡ None → (Rose old.disk_faults new.disk_faults → ⊥) →
     ((j : ℕ) → j < (setup_in_effect records).n →
     Rose (provider_at old.providers j).store_faults (provider_at new.providers j).store_faults → ⊥) →
     (Rose old.sink_faults new.sink_faults → ⊥) →
-    AnswersJob (PutJob name bytes) records old new end →
+    AnswersJob (PutJob name bytes) own records old new end →
     GivesUnlessMemory (stored_line name (length bytes)) old new end
-put-job-well name bytes records old new end begins disk stores sink (AnswersJob.refused why is synced r) =
+put-job-well name bytes own records old new end begins disk stores sink (AnswersJob.refused why is synced r) =
     absurd (let e : None ≡ Some why = sym begins ∙ is in cc)
-put-job-well name bytes records old new end begins disk stores sink (AnswersJob.no_memory synced r) =
+put-job-well name bytes own records old new end begins disk stores sink (AnswersJob.no_memory synced r) =
     memory-well (stored_line name (length bytes)) old new end r
-put-job-well name bytes records old new end begins disk stores sink (AnswersJob.ended how none runs left by) =
-    elim (put-end (ran_left records (PutJob name bytes) how old new end.heard left) name bytes how
+put-job-well name bytes own records old new end begins disk stores sink (AnswersJob.ended how none runs left by) =
+    elim (put-end (ran_left records (PutJob name bytes) how old new end.heard left) own name bytes how
     left.leaves.by_kind.0 (calm-disk records (PutJob name bytes) how old new end.heard left disk) stores) [
       | inl same ↦ (let told : EndsWith records (PutJob name bytes) answer.Put old new end =
           subst (λ h. EndsWith records (PutJob name bytes) h old new end) same by in
@@ -213,41 +296,54 @@ put-job-well name bytes records old new end begins disk stores sink (AnswersJob.
     ]
 
 -- a put that is not refused and meets no fault is done, or finds no memory
-pub put-well : (name bytes : List ℕ) (records : List Record) (old new : Seen) (end : Ending) →
-    AnswersPut name old new end → IsKnown old records → old.source ≡ Some bytes →
-    refusal_over records (PutJob name bytes) ≡ None → (Rose old.disk_faults new.disk_faults → ⊥) →
+pub put-well : (name bytes : List ℕ) (own : Option ℕ) (records : List Record) (old new : Seen) (end : Ending) →
+    AnswersPut name own old new end → IsKnown old records → old.source ≡ Some bytes →
+    refusal_over records (PutJob name bytes) own ≡ None → (Rose old.disk_faults new.disk_faults → ⊥) →
     ((j : ℕ) → j < (setup_in_effect records).n →
     Rose (provider_at old.providers j).store_faults (provider_at new.providers j).store_faults → ⊥) →
     (Rose old.source_faults new.source_faults → ⊥) → (Rose old.sink_faults new.sink_faults → ⊥) →
     GivesUnlessMemory (stored_line name (length bytes)) old new end
-put-well name bytes records old new end (AnswersPut.unstarted u same) K is begins disk stores source sink =
+put-well name bytes own records old new end (AnswersPut.unstarted u same) K is begins disk stores source sink =
     elim (unstarted-known old new end records K u) [
       | inl (rose, r) ↦ absurd (disk rose)
       | inr r ↦ memory-well (stored_line name (length bytes)) old new end r
     ]
-put-well name bytes records old new end (AnswersPut.source_fault other opened rose synced taken r) K is begins disk stores source sink =
+put-well name bytes own records old new end (AnswersPut.source_fault other opened known rose synced taken r) K is begins disk stores source sink =
     absurd (source rose)
-put-well name bytes records old new end (AnswersPut.no_memory taken r) K is begins disk stores source sink =
+put-well name bytes own records old new end (AnswersPut.bad_profile other opened unknown synced same r) K is begins disk stores source sink =
+    absurd (false≢true (sym (put-begins records name bytes own begins).0 ∙ unknown))
+put-well name bytes own records old new end (AnswersPut.no_memory taken r) K is begins disk stores source sink =
     memory-well (stored_line name (length bytes)) old new end r
-put-well name bytes records old new end (AnswersPut.begun other seen opened read A) K is begins disk stores source sink =
+put-well name bytes own records old new end (AnswersPut.begun other seen opened known read A) K is begins disk stores source sink =
     (let same = known-once old records other K opened.read in
-    let all = read-all old.source new.source bytes seen is (not-long records name bytes begins) read in
-    put-job-well name bytes records old new end begins disk stores sink
-    (subst (λ b. AnswersJob (PutJob name b) records old new end) all
-    (subst (λ rs. AnswersJob (PutJob name seen) rs old new end) same A)))
+    let all = read-all old.source new.source bytes seen is (put-begins records name bytes own begins).1
+    read in
+    put-job-well name bytes own records old new end begins disk stores sink
+    (subst (λ b. AnswersJob (PutJob name b) own records old new end) all
+    (subst (λ rs. AnswersJob (PutJob name seen) own rs old new end) same A)))
 
 -- ---- the refusals of a put, by all that its source holds
 
-second-on : (b c : Bool) (x y : Refusal) (rest : Option Refusal) → c ≡ true →
-    cond b (Some x) (cond c (Some y) rest) ≡ cond b (Some x) (Some y)
-second-on true c x y rest h = refl
-second-on false c x y rest h = cond_true c (Some y) rest h
+third-on : (b c d : Bool) (x y z : Refusal) (rest : Option Refusal) → d ≡ true →
+    cond b (Some x) (cond c (Some y) (cond d (Some z) rest)) ≡ cond b (Some x) (cond c (Some y) (Some z))
+third-on true c d x y z rest h = refl
+third-on false true d x y z rest h = refl
+third-on false false d x y z rest h = cond_true d (Some z) rest h
 
-too-long : (records : List Record) (name a b : List ℕ) → largest_file < length a → largest_file < length b →
-    refusal_over records (PutJob name a) ≡ refusal_over records (PutJob name b)
-too-long records name a b la lb = second-on _ (nat_lt largest_file (length a)) _ _ _
-    (lt-ltb largest_file (length a) la)
-    ∙ sym (second-on _ (nat_lt largest_file (length b)) _ _ _ (lt-ltb largest_file (length b) lb))
+too-long : (records : List Record) (name a b : List ℕ) (own : Option ℕ) → largest_file < length a →
+    largest_file < length b →
+    refusal_over records (PutJob name a) own ≡ refusal_over records (PutJob name b) own
+too-long records name a b own la lb = cut a la ∙ sym (cut b lb)
+  where
+    cut : (c : List ℕ) → largest_file < length c → refusal_over records (PutJob name c) own
+        ≡ cond (not (is_name name)) (Some refusal.BadName)
+        (cond (is_unknown own) (Some refusal.BadProfile) (Some refusal.TooLong))
+    cut c l = third-on (not (is_name name)) (is_unknown own) (nat_lt largest_file (length c))
+        refusal.BadName refusal.BadProfile refusal.TooLong
+        (cond (is_some own && version_of records == 1) (Some refusal.OldVersion)
+        (cond (is_crowded_by records name) (Some refusal.TooManyFiles)
+        (cond (is_full_for records (PutJob name c)) (Some refusal.JournalFull) None)))
+        (lt-ltb largest_file (length c) l)
 
 -- what is read of a longer source is too long as well
 read-long : (old new : Option (List ℕ)) (bytes seen : List ℕ) → old ≡ Some bytes →
@@ -262,57 +358,77 @@ read-long old (Some left) bytes seen is long R = elim (cases_lt largest_file (le
       omega (arith, size, l, long))
 ]
 
-read-same : (records : List Record) (name : List ℕ) (old new : Option (List ℕ)) (bytes seen : List ℕ) →
+read-same : (records : List Record) (name : List ℕ) (own : Option ℕ) (old new : Option (List ℕ)) (bytes seen : List ℕ) →
     old ≡ Some bytes → ReadsUpTo (largest_file + 1) old new seen →
-    refusal_over records (PutJob name seen) ≡ refusal_over records (PutJob name bytes)
-read-same records name old new bytes seen is R = elim (cases_lt largest_file (length bytes)) [
-  | inl l ↦ too-long records name seen bytes (read-long old new bytes seen is l R) l
-  | inr l ↦ ap (λ b. refusal_over records (PutJob name b)) (read-all old new bytes seen is l R)
+    refusal_over records (PutJob name seen) own ≡ refusal_over records (PutJob name bytes) own
+read-same records name own old new bytes seen is R = elim (cases_lt largest_file (length bytes)) [
+  | inl l ↦ too-long records name seen bytes own (read-long old new bytes seen is l R) l
+  | inr l ↦ ap (λ b. refusal_over records (PutJob name b) own) (read-all old new bytes seen is l R)
 ]
 
+-- a put that is not refused for its profile is refused as its job
+known-refusal : (records : List Record) (name bytes : List ℕ) (own : Option ℕ) → is_unknown own ≡ false →
+    put_refusal records name bytes own ≡ refusal_over records (PutJob name bytes) own
+known-refusal records name bytes own known =
+    cond_false (is_unknown own) (Some refusal.BadProfile) (refusal_over records (PutJob name bytes) own) known
+
+unknown-refusal : (records : List Record) (name bytes : List ℕ) (own : Option ℕ) → is_unknown own ≡ true →
+    put_refusal records name bytes own ≡ Some refusal.BadProfile
+unknown-refusal records name bytes own unknown =
+    cond_true (is_unknown own) (Some refusal.BadProfile) (refusal_over records (PutJob name bytes) own) unknown
+
 -- a put ends with the status of a refusal only where that one is the first that applies
-pub put-only : (name bytes : List ℕ) (records : List Record) (old new : Seen) (end : Ending) (why : Refusal) →
-    AnswersPut name old new end → IsKnown old records → old.source ≡ Some bytes →
-    status_of why ≢ 70 → end.status ≡ status_of why → refusal_over records (PutJob name bytes) ≡ Some why
-put-only name bytes records old new end why (AnswersPut.unstarted u same) K is own e =
+pub put-only : (name bytes : List ℕ) (own : Option ℕ) (records : List Record) (old new : Seen) (end : Ending)
+    (why : Refusal) → AnswersPut name own old new end → IsKnown old records → old.source ≡ Some bytes →
+    status_of why ≢ 70 → end.status ≡ status_of why → put_refusal records name bytes own ≡ Some why
+put-only name bytes own records old new end why (AnswersPut.unstarted u same) K is tells e =
     elim (unstarted-known old new end records K u) [
-      | inl (rose, r) ↦ absurd (own-status end why 12 refl r.status_is own e)
-      | inr r ↦ absurd (own-status end why 70 refl r.status_is own e)
+      | inl (rose, r) ↦ absurd (own-status end why 12 refl r.status_is tells e)
+      | inr r ↦ absurd (own-status end why 70 refl r.status_is tells e)
     ]
-put-only name bytes records old new end why (AnswersPut.source_fault other opened rose synced taken r) K is own e =
-    absurd (own-status end why 14 refl r.status_is own e)
-put-only name bytes records old new end why (AnswersPut.no_memory taken r) K is own e =
-    absurd (own-status end why 70 refl r.status_is own e)
-put-only name bytes records old new end why (AnswersPut.begun other seen opened read A) K is own e =
-    sym (read-same records name old.source new.source bytes seen is read)
-    ∙ refused-only (PutJob name seen) records old new end why
-    (subst (λ rs. AnswersJob (PutJob name seen) rs old new end)
-    (known-once old records other K opened.read) A) own e
+put-only name bytes own records old new end why (AnswersPut.bad_profile other opened unknown synced same r) K is tells e =
+    unknown-refusal records name bytes own unknown
+    ∙ told-refusal end refusal.BadProfile why (λ f. omega (arith, f)) r.status_is tells e
+put-only name bytes own records old new end why (AnswersPut.source_fault other opened known rose synced taken r) K is tells e =
+    absurd (own-status end why 14 refl r.status_is tells e)
+put-only name bytes own records old new end why (AnswersPut.no_memory taken r) K is tells e =
+    absurd (own-status end why 70 refl r.status_is tells e)
+put-only name bytes own records old new end why (AnswersPut.begun other seen opened known read A) K is tells e =
+    known-refusal records name bytes own known
+    ∙ (sym (read-same records name own old.source new.source bytes seen is read)
+    ∙ refused-only (PutJob name seen) own records old new end why
+    (subst (λ rs. AnswersJob (PutJob name seen) own rs old new end)
+    (known-once old records other K opened.read) A) tells e)
 
 -- a put for which a refusal is the first that applies is refused so, or finds no memory
-pub put-always : (name bytes : List ℕ) (records : List Record) (old new : Seen) (end : Ending)
-    (why : Refusal) → AnswersPut name old new end → IsKnown old records → old.source ≡ Some bytes →
-    (Rose old.disk_faults new.disk_faults → ⊥) → (Rose old.source_faults new.source_faults → ⊥) →
-    refusal_over records (PutJob name bytes) ≡ Some why →
+pub put-always : (name bytes : List ℕ) (own : Option ℕ) (records : List Record) (old new : Seen)
+    (end : Ending) (why : Refusal) → AnswersPut name own old new end → IsKnown old records →
+    old.source ≡ Some bytes → (Rose old.disk_faults new.disk_faults → ⊥) →
+    (Rose old.source_faults new.source_faults → ⊥) → put_refusal records name bytes own ≡ Some why →
     IsRefused (status_of why) 0 old new end ⊎ IsRefused 70 0 old new end
-put-always name bytes records old new end why (AnswersPut.unstarted u same) K is disk source applies =
+put-always name bytes own records old new end why (AnswersPut.unstarted u same) K is disk source applies =
     elim (unstarted-known old new end records K u) [
       | inl (rose, r) ↦ absurd (disk rose)
       | inr r ↦ inr r
     ]
-put-always name bytes records old new end why (AnswersPut.source_fault other opened rose synced taken r) K is disk source applies =
+put-always name bytes own records old new end why (AnswersPut.bad_profile other opened unknown synced same r) K is disk source applies =
+    inl (subst (λ w. IsRefused (status_of w) 0 old new end)
+    (same_value (put_refusal records name bytes own) refusal.BadProfile why
+    (unknown-refusal records name bytes own unknown) applies) r)
+put-always name bytes own records old new end why (AnswersPut.source_fault other opened known rose synced taken r) K is disk source applies =
     absurd (source rose)
-put-always name bytes records old new end why (AnswersPut.no_memory taken r) K is disk source applies = inr r
-put-always name bytes records old new end why (AnswersPut.begun other seen opened read A) K is disk source applies =
-    refused-always (PutJob name seen) records old new end why
-    (subst (λ rs. AnswersJob (PutJob name seen) rs old new end)
+put-always name bytes own records old new end why (AnswersPut.no_memory taken r) K is disk source applies = inr r
+put-always name bytes own records old new end why (AnswersPut.begun other seen opened known read A) K is disk source applies =
+    refused-always (PutJob name seen) own records old new end why
+    (subst (λ rs. AnswersJob (PutJob name seen) own rs old new end)
     (known-once old records other K opened.read) A)
-    (read-same records name old.source new.source bytes seen is read ∙ applies)
+    (read-same records name own old.source new.source bytes seen is read
+    ∙ (sym (known-refusal records name bytes own known) ∙ applies))
 
 -- ---- drops
 
 drop-by : (name : List ℕ) (records : List Record) (old new : Seen) (end : Ending) → IsOpened old records →
-    (how : Answer) (left : LeftAlone records (DropJob name) how old new end.heard) →
+    (how : Answer) (left : LeftAlone records (DropJob name) None how old new end.heard) →
     DropLeaves (ran_left records (DropJob name) how old new end.heard left) name how →
     EndsWith records (DropJob name) how old new end → IsDone end → IsDropped name old new end
 drop-by name records old new end opened answer.Dropped left L by done = record {
@@ -343,9 +459,9 @@ drop-done name old new end (AnswersAlone.begun records opened (AnswersJob.ended 
     drop-by name records old new end opened how left left.leaves.by_kind.0 by done
 
 drop-job-well : (name : List ℕ) (records : List Record) (old new : Seen) (end : Ending) →
-    refusal_over records (DropJob name) ≡ None → (Rose old.disk_faults new.disk_faults → ⊥) →
+    refusal_over records (DropJob name) None ≡ None → (Rose old.disk_faults new.disk_faults → ⊥) →
     (Rose old.sink_faults new.sink_faults → ⊥) →
-    AnswersJob (DropJob name) records old new end → GivesUnlessMemory (dropped_line name) old new end
+    AnswersJob (DropJob name) None records old new end → GivesUnlessMemory (dropped_line name) old new end
 drop-job-well name records old new end begins disk sink (AnswersJob.refused why is synced r) =
     absurd (let e : None ≡ Some why = sym begins ∙ is in cc)
 drop-job-well name records old new end begins disk sink (AnswersJob.no_memory synced r) =
@@ -364,7 +480,7 @@ drop-job-well name records old new end begins disk sink (AnswersJob.ended how no
 -- a drop that is not refused and meets no fault is done, or finds no memory
 pub drop-well : (name : List ℕ) (records : List Record) (old new : Seen) (end : Ending) →
     AnswersAlone (DropJob name) old new end → IsKnown old records →
-    refusal_over records (DropJob name) ≡ None → (Rose old.disk_faults new.disk_faults → ⊥) →
+    refusal_over records (DropJob name) None ≡ None → (Rose old.disk_faults new.disk_faults → ⊥) →
     (Rose old.sink_faults new.sink_faults → ⊥) → GivesUnlessMemory (dropped_line name) old new end
 drop-well name records old new end A K begins disk sink =
     elim (alone-known (DropJob name) old new end records K A) [
@@ -376,7 +492,7 @@ drop-well name records old new end A K begins disk sink =
 -- ---- audits
 
 audit-by : (records : List Record) (old new : Seen) (end : Ending) → IsOpened old records →
-    (how : Answer) (left : LeftAlone records AuditJob how old new end.heard) →
+    (how : Answer) (left : LeftAlone records AuditJob None how old new end.heard) →
     AuditGives (ran_left records AuditJob how old new end.heard left) how →
     EndsWith records AuditJob how old new end → IsDone end → IsAudited old new end
 audit-by records old new end opened (answer.Audited number undecided counts) left L by done =
@@ -425,9 +541,9 @@ in-order command old new end (inl is) = EndsInOrder.done is
 in-order command old new end (inr is) = EndsInOrder.no_memory is
 
 audit-job-well : (records : List Record) (old new : Seen) (end : Ending) →
-    refusal_over records AuditJob ≡ None → (Rose old.disk_faults new.disk_faults → ⊥) →
+    refusal_over records AuditJob None ≡ None → (Rose old.disk_faults new.disk_faults → ⊥) →
     (Rose old.sink_faults new.sink_faults → ⊥) →
-    AnswersJob AuditJob records old new end → (end.status ≡ 0) ⊎ (end.status ≡ 70)
+    AnswersJob AuditJob None records old new end → (end.status ≡ 0) ⊎ (end.status ≡ 70)
 audit-job-well records old new end begins disk sink (AnswersJob.refused why is synced r) =
     absurd (let e : None ≡ Some why = sym begins ∙ is in cc)
 audit-job-well records old new end begins disk sink (AnswersJob.no_memory synced r) = inr r.status_is
@@ -445,7 +561,7 @@ audit-job-well records old new end begins disk sink (AnswersJob.ended how none r
 -- an audit that is not refused and meets no fault is done, or finds no memory
 pub audit-well : (records : List Record) (old new : Seen) (end : Ending) → AnswersAlone AuditJob old new end →
     IsKnown old records →
-    refusal_over records AuditJob ≡ None → (Rose old.disk_faults new.disk_faults → ⊥) →
+    refusal_over records AuditJob None ≡ None → (Rose old.disk_faults new.disk_faults → ⊥) →
     (Rose old.sink_faults new.sink_faults → ⊥) → (end.status ≡ 0) ⊎ (end.status ≡ 70)
 audit-well records old new end A K begins disk sink = elim (alone-known AuditJob old new end records K A) [
   | inl (inl (rose, r)) ↦ absurd (disk rose)
@@ -456,7 +572,7 @@ audit-well records old new end A K begins disk sink = elim (alone-known AuditJob
 -- ---- repairs
 
 repair-by : (records : List Record) (old new : Seen) (end : Ending) → IsOpened old records →
-    (how : Answer) (left : LeftAlone records RepairJob how old new end.heard) (due : Due) →
+    (how : Answer) (left : LeftAlone records RepairJob None how old new end.heard) (due : Due) →
     due_of records ≡ Some due →
     RepairGives (ran_left records RepairJob how old new end.heard left) due how →
     EndsWith records RepairJob how old new end → IsDone end → IsRepaired old new end
@@ -498,7 +614,7 @@ repair-done old new end (AnswersAlone.begun records opened (AnswersJob.ended how
     repair-by records old new end opened how left L.due L.is_due L.gives by done)
 
 repair-job-well : (records : List Record) (old new : Seen) (end : Ending) (bytes : ℕ → List ℕ) →
-    IsOpened old records → refusal_over records RepairJob ≡ None →
+    IsOpened old records → refusal_over records RepairJob None ≡ None →
     (Rose old.disk_faults new.disk_faults → ⊥) →
     ((j : ℕ) → j < (setup_in_effect records).n →
     Rose (provider_at old.providers j).store_faults (provider_at new.providers j).store_faults → ⊥) →
@@ -506,7 +622,7 @@ repair-job-well : (records : List Record) (old new : Seen) (end : Ending) (bytes
     ((name : List ℕ) (file : File) → file_of records name ≡ Some file →
     (length (bytes file.id) ≡ file.size) ×
     (bad_seen records old new file (bytes file.id) ≤ (setup_in_effect records).b)) →
-    AnswersJob RepairJob records old new end → (end.status ≡ 0) ⊎ (end.status ≡ 70)
+    AnswersJob RepairJob None records old new end → (end.status ≡ 0) ⊎ (end.status ≡ 70)
 repair-job-well records old new end bytes opened begins disk stores sink safe (AnswersJob.refused why is synced r) =
     absurd (let e : None ≡ Some why = sym begins ∙ is in cc)
 repair-job-well records old new end bytes opened begins disk stores sink safe (AnswersJob.no_memory synced r) =
@@ -526,7 +642,7 @@ repair-job-well records old new end bytes opened begins disk stores sink safe (A
 -- a repair with no refusal, no fault and at most b bad providers a file is done, or finds no memory
 pub repair-well : (records : List Record) (old new : Seen) (end : Ending) (bytes : ℕ → List ℕ) →
     AnswersAlone RepairJob old new end → IsKnown old records →
-    refusal_over records RepairJob ≡ None → (Rose old.disk_faults new.disk_faults → ⊥) →
+    refusal_over records RepairJob None ≡ None → (Rose old.disk_faults new.disk_faults → ⊥) →
     ((j : ℕ) → j < (setup_in_effect records).n →
     Rose (provider_at old.providers j).store_faults (provider_at new.providers j).store_faults → ⊥) →
     (Rose old.sink_faults new.sink_faults → ⊥) →
@@ -541,28 +657,112 @@ repair-well records old new end bytes A K begins disk stores sink safe =
       | inr job ↦ repair-job-well records old new end bytes K.opened begins disk stores sink safe job
     ]
 
--- ---- puts, drops and audits over any disk
+-- ---- upgrades
+
+upgrade-by : (records : List Record) (old new : Seen) (end : Ending) → IsOpened old records →
+    refusal_over records UpgradeJob None ≡ None →
+    (how : Answer) (left : LeftAlone records UpgradeJob None how old new end.heard) →
+    UpgradeLeaves (ran_left records UpgradeJob how old new end.heard left) how →
+    EndsWith records UpgradeJob how old new end → SameHolds old new → IsDone end → IsUpgraded old new end
+upgrade-by records old new end opened begins answer.Upgraded left L by same done = record {
+  records = records;
+  opened = opened;
+  was_first = elim (version-either records) [
+    | inl one ↦ one
+    | inr two ↦ absurd (let on : (version_of records == 2) ≡ true = eq-eqb (version_of records) 2 two in
+        let off = first-off (version_of records == 2) _ _ begins in false≢true (sym off ∙ on))
+  ];
+  told = by;
+  disk = images-have new.disk left.after left.doubt _ _ L.0.after L.0.sure left.images;
+  version = refl;
+  files = refl;
+  held = same;
+}
+  where
+    first-off : (b : Bool) (x : Refusal) (rest : Option Refusal) → cond b (Some x) rest ≡ None → b ≡ false
+    first-off true x rest h = absurd (let e : Some x ≡ None = h in cc)
+    first-off false x rest h = refl
+upgrade-by records old new end opened begins answer.DiskFault left L by same done =
+    absurd (not-done end.status 12 by.status_is (λ e. omega (arith, e)) (λ e. omega (arith, e)) done)
+upgrade-by records old new end opened begins answer.Memory left L by same done =
+    absurd (not-done end.status 70 by.status_is (λ e. omega (arith, e)) (λ e. omega (arith, e)) done)
+upgrade-by records old new end opened begins how left L by same done = absurd L
+
+upgrade-job-well : (records : List Record) (old new : Seen) (end : Ending) →
+    refusal_over records UpgradeJob None ≡ None → (Rose old.disk_faults new.disk_faults → ⊥) →
+    (Rose old.sink_faults new.sink_faults → ⊥) →
+    AnswersJob UpgradeJob None records old new end → GivesUnlessMemory upgraded_line old new end
+upgrade-job-well records old new end begins disk sink (AnswersJob.refused why is synced r) =
+    absurd (let e : None ≡ Some why = sym begins ∙ is in cc)
+upgrade-job-well records old new end begins disk sink (AnswersJob.no_memory synced r) =
+    memory-well upgraded_line old new end r
+upgrade-job-well records old new end begins disk sink (AnswersJob.ended how none runs left by) =
+    elim (upgrade-end (ran_left records UpgradeJob how old new end.heard left) how
+    left.leaves.by_kind.0 (calm-disk records UpgradeJob how old new end.heard left disk)) [
+      | inl same ↦ (let told : EndsWith records UpgradeJob answer.Upgraded old new end =
+          subst (λ h. EndsWith records UpgradeJob h old new end) same by in
+          written-well upgraded_line old new end told.written sink)
+      | inr same ↦ (let told : EndsWith records UpgradeJob answer.Memory old new end =
+          subst (λ h. EndsWith records UpgradeJob h old new end) same by in
+          inr (told.status_is, none-written upgraded_line old.sink new.sink told.sink))
+    ]
+
+-- an upgrade that is not refused and meets no fault is done, or finds no memory
+pub upgrade-well : (records : List Record) (old new : Seen) (end : Ending) →
+    AnswersAlone UpgradeJob old new end → IsKnown old records →
+    refusal_over records UpgradeJob None ≡ None → (Rose old.disk_faults new.disk_faults → ⊥) →
+    (Rose old.sink_faults new.sink_faults → ⊥) → GivesUnlessMemory upgraded_line old new end
+upgrade-well records old new end A K begins disk sink =
+    elim (alone-known UpgradeJob old new end records K A) [
+      | inl (inl (rose, r)) ↦ absurd (disk rose)
+      | inl (inr r) ↦ memory-well upgraded_line old new end r
+      | inr job ↦ upgrade-job-well records old new end begins disk sink job
+    ]
+
+-- ---- puts, drops, audits and upgrades over any disk
+
+-- the profile that a put names is that of its words
+pub named-by : (name : List ℕ) (own : Option ℕ) → profile_named (put_of name own) ≡ own
+named-by name None = refl
+named-by name (Some p) = refl
+
+-- a put ends as one that names its profile, or none
+pub put-answers : (name : List ℕ) (own : Option ℕ) (old new : Seen) (end : Ending) →
+    Answers (put_of name own) old new end → AnswersPut name own old new end
+put-answers name None old new end A = A
+put-answers name (Some p) old new end A = A
+
+-- a put runs the job of what it read
+pub put-kind : (name bytes : List ℕ) (own : Option ℕ) (old new : Seen) →
+    ReadsUpTo (largest_file + 1) old.source new.source bytes →
+    RunsKind (put_of name own) old new (PutJob name bytes)
+put-kind name bytes None old new read = (bytes, read, refl)
+put-kind name bytes (Some p) old new read = (bytes, read, refl)
 
 -- a put with no fault ends in order, over any disk
-pub put-order : (name : List ℕ) (old new : Seen) (end : Ending) → AnswersPut name old new end →
-    (Rose old.disk_faults new.disk_faults → ⊥) →
+pub put-order : (name : List ℕ) (own : Option ℕ) (old new : Seen) (end : Ending) →
+    AnswersPut name own old new end → (Rose old.disk_faults new.disk_faults → ⊥) →
     ((j : ℕ) → Rose (provider_at old.providers j).store_faults (provider_at new.providers j).store_faults →
     ⊥) →
     (Rose old.source_faults new.source_faults → ⊥) → (Rose old.sink_faults new.sink_faults → ⊥) →
-    EndsInOrder (PutUnder name) old new end
-put-order name old new end (AnswersPut.unstarted u same) disk stores source sink = EndsInOrder.unstarted u
-put-order name old new end (AnswersPut.source_fault other opened rose synced taken r) disk stores source sink =
+    EndsInOrder (put_of name own) old new end
+put-order name own old new end (AnswersPut.unstarted u same) disk stores source sink = EndsInOrder.unstarted u
+put-order name own old new end (AnswersPut.bad_profile records opened unknown synced same r) disk stores source sink =
+    EndsInOrder.bad_profile records opened
+    (subst (λ o. IsTrue (is_unknown o)) (sym (named-by name own)) unknown) r
+put-order name own old new end (AnswersPut.source_fault other opened known rose synced taken r) disk stores source sink =
     absurd (source rose)
-put-order name old new end (AnswersPut.no_memory taken r) disk stores source sink =
+put-order name own old new end (AnswersPut.no_memory taken r) disk stores source sink =
     EndsInOrder.no_memory r.status_is
-put-order name old new end (AnswersPut.begun records bytes opened read (AnswersJob.refused why is synced r)) disk stores source sink =
-    EndsInOrder.refused records (PutJob name bytes) why opened (bytes, read, refl) is r
-put-order name old new end (AnswersPut.begun records bytes opened read (AnswersJob.no_memory synced r)) disk stores source sink =
+put-order name own old new end (AnswersPut.begun records bytes opened known read (AnswersJob.refused why is synced r)) disk stores source sink =
+    EndsInOrder.refused records (PutJob name bytes) why opened (put-kind name bytes own old new read)
+    (ap (refusal_over records (PutJob name bytes)) (named-by name own) ∙ is) r
+put-order name own old new end (AnswersPut.begun records bytes opened known read (AnswersJob.no_memory synced r)) disk stores source sink =
     EndsInOrder.no_memory r.status_is
-put-order name old new end (AnswersPut.begun records bytes opened read (AnswersJob.ended how none runs left by)) disk stores source sink =
-    in-order (PutUnder name) old new end
+put-order name own old new end (AnswersPut.begun records bytes opened known read (AnswersJob.ended how none runs left by)) disk stores source sink =
+    in-order (put_of name own) old new end
     (zero-or-memory _ old new end
-    (put-job-well name bytes records old new end none disk (λ j l. stores j) sink
+    (put-job-well name bytes own records old new end none disk (λ j l. stores j) sink
     (AnswersJob.ended how none runs left by)))
 
 -- a drop with no fault ends in order, over any disk
@@ -592,6 +792,20 @@ audit-order old new end (AnswersAlone.begun records opened (AnswersJob.ended how
     in-order AuditAll old new end
     (audit-job-well records old new end none disk sink (AnswersJob.ended how none runs left by))
 
+-- an upgrade with no fault ends in order, over any disk
+pub upgrade-order : (old new : Seen) (end : Ending) → AnswersAlone UpgradeJob old new end →
+    (Rose old.disk_faults new.disk_faults → ⊥) → (Rose old.sink_faults new.sink_faults → ⊥) →
+    EndsInOrder UpgradeJournal old new end
+upgrade-order old new end (AnswersAlone.unstarted u) disk sink = EndsInOrder.unstarted u
+upgrade-order old new end (AnswersAlone.begun records opened (AnswersJob.refused why is synced r)) disk sink =
+    EndsInOrder.refused records UpgradeJob why opened refl is r
+upgrade-order old new end (AnswersAlone.begun records opened (AnswersJob.no_memory synced r)) disk sink =
+    EndsInOrder.no_memory r.status_is
+upgrade-order old new end (AnswersAlone.begun records opened (AnswersJob.ended how none runs left by)) disk sink =
+    in-order UpgradeJournal old new end
+    (zero-or-memory _ old new end
+    (upgrade-job-well records old new end none disk sink (AnswersJob.ended how none runs left by)))
+
 -- ---- what providers hold
 
 -- ending refused leaves each provider as it was
@@ -608,8 +822,8 @@ unstarted-same of old new end u =
     (let r = unstarted-refused old new end u in refused-same of r.0 r.1 old new end r.3)
 
 -- what a job leaves as it was at each provider of the setup is so at all
-pub left-same : {X : Type 0} (of : Provider → X) (records : List Record) (kind : Kind) (how : Answer)
-    (old new : Seen) (heard : List Entry) (left : LeftAlone records kind how old new heard) →
+pub left-same : {X : Type 0} (of : Provider → X) (records : List Record) (kind : Kind) {own : Option ℕ}
+    (how : Answer) (old new : Seen) (heard : List Entry) (left : LeftAlone records kind own how old new heard) →
     ((j : ℕ) → j < (setup_in_effect records).n → of (provider_at new.providers j)
     ≡ of (provider_at old.providers j)) → (j : ℕ) →
     of (provider_at new.providers j) ≡ of (provider_at old.providers j)
@@ -649,3 +863,33 @@ list-holds old new end (AnswersList.unstarted u) = unstarted-same held_by old ne
 list-holds old new end (AnswersList.no_memory r) = refused-same held_by 70 0 old new end r
 list-holds old new end (AnswersList.listed records opened L) =
     λ j. ap (λ ps. (provider_at ps j).held) L.providers
+
+upgrade-same : (x : Ran) (how : Answer) → UpgradeLeaves x how → SameHeld x
+upgrade-same x answer.Upgraded L = L.1
+upgrade-same x answer.DiskFault L = L.2
+upgrade-same x answer.Memory L = L.1
+upgrade-same x how L = absurd L
+
+-- an upgrade leaves what providers hold
+pub upgrade-holds : (old new : Seen) (end : Ending) → AnswersAlone UpgradeJob old new end → SameHolds old new
+upgrade-holds old new end (AnswersAlone.unstarted u) = unstarted-same held_by old new end u
+upgrade-holds old new end (AnswersAlone.begun records opened (AnswersJob.refused why is synced r)) =
+    refused-same held_by _ 0 old new end r
+upgrade-holds old new end (AnswersAlone.begun records opened (AnswersJob.no_memory synced r)) =
+    refused-same held_by 70 0 old new end r
+upgrade-holds old new end (AnswersAlone.begun records opened (AnswersJob.ended how none runs left by)) =
+    left-same held_by records UpgradeJob how old new end.heard left
+    (upgrade-same (ran_left records UpgradeJob how old new end.heard left) how left.leaves.by_kind.0)
+
+-- a done upgrade gave the journal its second version, and left the files and what providers hold
+pub upgrade-done : (old new : Seen) (end : Ending) → AnswersAlone UpgradeJob old new end → IsDone end →
+    IsUpgraded old new end
+upgrade-done old new end (AnswersAlone.unstarted u) done = absurd (unstarted-done old new end u done)
+upgrade-done old new end (AnswersAlone.begun records opened (AnswersJob.refused why is synced r)) done =
+    absurd (refused-done why end.status r.status_is done)
+upgrade-done old new end (AnswersAlone.begun records opened (AnswersJob.no_memory synced r)) done =
+    absurd (not-done end.status 70 r.status_is (λ e. omega (arith, e)) (λ e. omega (arith, e)) done)
+upgrade-done old new end (AnswersAlone.begun records opened (AnswersJob.ended how none runs left by)) done =
+    upgrade-by records old new end opened none how left left.leaves.by_kind.0 by
+    (upgrade-holds old new end (AnswersAlone.begun records opened (AnswersJob.ended how none runs left by)))
+    done

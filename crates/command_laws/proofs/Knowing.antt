@@ -27,12 +27,13 @@ use Rattle.command_defs.specs.Opens.{IsOpened, setup_in_effect}
 use Rattle.command_defs.specs.Refusals.{refusal_over}
 use Rattle.command_defs.specs.Jobs.{RunsAlone}
 use Rattle.state_laws.proofs.Records.{setup-more}
+use Rattle.lone_laws.specs.Walked.{MayName}
 use Rattle.command_laws.specs.Ends.{IsKnown, DiskHas}
 use Rattle.command_laws.specs.After.{IsSure}
 use Rattle.job_laws.proofs.Telling.{over-opened, opened_state, state-over}
 use Rattle.command_laws.proofs.LastStates.{IsLast, last-state}
 use Rattle.state_laws.specs.Sound.{IsWholeJournal}
-use Rattle.state_laws.proofs.Written.{whole-end}
+use Rattle.state_laws.proofs.Written.{unpacked-end}
 
 -- ---- a text that fits is looked at
 
@@ -130,7 +131,7 @@ last-good start last L image h = by_stand (stands-so last L.whole L.up image h)
       record {
         some = none-up last.records L.up;
         accepted = L.sound.accepted;
-        room = (let r = L.sound.room in let e = whole-end last L.whole in omega (arith, r, e));
+        room = (let r = L.sound.room in let e = unpacked-end last (record { journal = L.whole.journal; area = L.whole.area }) in omega (arith, r, e));
         setup = L.setup;
         stands = stands;
       },
@@ -140,7 +141,7 @@ last-good start last L image h = by_stand (stands-so last L.whole L.up image h)
       record {
         some = λ e. cc;
         accepted = (F.accepted, L.sound.accepted);
-        room = (let r = F.room in let e = whole-end last L.whole in omega (arith, r, e));
+        room = (let r = F.room in let e = unpacked-end last (record { journal = L.whole.journal; area = L.whole.area }) in omega (arith, r, e));
         setup = ap setup_or_none (setup-more d.entry last.records L.up F.accepted) ∙ L.setup;
         stands = stands;
       },
@@ -175,14 +176,14 @@ HasBytes (PutJob name bytes) = AreBytes bytes
 HasBytes kind = Unit {0}
 
 -- a job that is not refused, and whose bytes are bytes, has words that are bytes
-pub spelled-kind : (records : List Record) (kind : Kind) → HasBytes kind → refusal_over records kind ≡ None →
-    IsSpelledKind kind
-spelled-kind records (PutJob name bytes) are none = (name-bytes name (first-off (is_name name) _ _ none), are)
-spelled-kind records (GetJob name) are none = name-bytes name (first-off (is_name name) _ _ none)
-spelled-kind records (DropJob name) are none = name-bytes name (first-off (is_name name) _ _ none)
-spelled-kind records AuditJob are none = tt
-spelled-kind records RepairJob are none = tt
-spelled-kind records UpgradeJob are none = tt
+pub spelled-kind : (records : List Record) (kind : Kind) (own : Option ℕ) → HasBytes kind →
+    refusal_over records kind own ≡ None → IsSpelledKind kind
+spelled-kind records (PutJob name bytes) own are none = (name-bytes name (first-off (is_name name) _ _ none), are)
+spelled-kind records (GetJob name) own are none = name-bytes name (first-off (is_name name) _ _ none)
+spelled-kind records (DropJob name) own are none = name-bytes name (first-off (is_name name) _ _ none)
+spelled-kind records AuditJob own are none = tt
+spelled-kind records RepairJob own are none = tt
+spelled-kind records UpgradeJob own are none = tt
 
 -- ---- what a job leaves
 
@@ -192,15 +193,16 @@ LeavesGood records old new =
     AreGood (setup_in_effect records) new.disk × ((setup_in_effect records).n ≤ length new.providers)
 
 -- a job that ran alone leaves only good images, and as many providers
-pub ran-good : (records : List Record) (kind : Kind) (how : Answer) (old new : Seen) (heard : List Entry) →
-    IsOpened old records → IsSpelledKind kind → RunsAlone records kind how old new heard →
+pub ran-good : (records : List Record) (kind : Kind) {own : Option ℕ} (how : Answer) (old new : Seen)
+    (heard : List Entry) → IsOpened old records → IsSpelledKind kind → MayName kind own →
+    RunsAlone records kind own how old new heard →
     LeavesGood records old new
 unfolding setup_in
-ran-good records kind how old new heard R spelled A =
+ran-good records kind how old new heard R spelled named A =
     (let w : State = opened_state records A.faults old.providers in
     let over = state-over records A.faults old.providers R.read.accepted in
     let ran = A.ran w 1 over in
-    let L = last-state w ran.last 1 kind how heard (over-opened w old records A.faults R over) spelled
+    let L = last-state w ran.last 1 kind _ how heard (over-opened w old records A.faults R over) spelled named
     ran.runs in (
       images-good w ran.last new.disk L ran.images,
       (let a = L.handed in let b = ran.handed.count in let c = over.handed.count in let e = R.enough in

@@ -97,11 +97,11 @@ unstarted-known old new end records K (Unstarted.no_memory r) = inr r
 pub alone-known : (kind : Kind) (old new : Seen) (end : Ending) (records : List Record) →
     IsKnown old records → AnswersAlone kind old new end →
     ((Rose old.disk_faults new.disk_faults × IsRefused 12 0 old new end) ⊎ IsRefused 70 0 old new end) ⊎
-    AnswersJob kind records old new end
+    AnswersJob kind None records old new end
 alone-known kind old new end records K (AnswersAlone.unstarted u) =
     inl (unstarted-known old new end records K u)
 alone-known kind old new end records K (AnswersAlone.begun other opened A) =
-    inr (subst (λ rs. AnswersJob kind rs old new end) (known-once old records other K opened.read) A)
+    inr (subst (λ rs. AnswersJob kind None rs old new end) (known-once old records other K opened.read) A)
 
 -- ---- statuses of refusals
 
@@ -112,6 +112,8 @@ refusal_at n =
     else if n == 7 then Some refusal.NothingDue
     else if n == 11 then Some refusal.JournalFull else if n == 16 then Some refusal.TooLong
     else if n == 17 then Some refusal.BadName
+    else if n == 20 then Some refusal.BadProfile else if n == 23 then Some refusal.OldVersion
+    else if n == 24 then Some refusal.NewVersion
     else if n == 21 then Some refusal.TooManyFiles else None
 
 status-back : (why : Refusal) → status_of why ≢ 70 → refusal_at (status_of why) ≡ Some why
@@ -132,12 +134,12 @@ status-back refusal.Already own = absurd (own refl)
 status-back refusal.NotSetUp own = absurd (own refl)
 status-back refusal.TooFewProviders own = absurd (own refl)
 status-back refusal.NoSuchJob own = absurd (own refl)
-status-back refusal.BadProfile own = absurd (own refl)
-status-back refusal.OldVersion own = absurd (own refl)
-status-back refusal.NewVersion own = absurd (own refl)
+status-back refusal.BadProfile own = refl
+status-back refusal.OldVersion own = refl
+status-back refusal.NewVersion own = refl
 status-back refusal.PackTooLong own = absurd (own refl)
 
--- any refusal but of those seven has the status of no memory, which is no refusal's
+-- any refusal but of those has the status of no memory, which is no refusal's
 refused-at : (why : Refusal) → (status_of why ≡ 70) ⊎ (refusal_at (status_of why) ≡ Some why)
 refused-at refusal.NoSuchName = inr refl
 refused-at refusal.RepairDue = inr refl
@@ -156,9 +158,9 @@ refused-at refusal.Already = inl refl
 refused-at refusal.NotSetUp = inl refl
 refused-at refusal.TooFewProviders = inl refl
 refused-at refusal.NoSuchJob = inl refl
-refused-at refusal.BadProfile = inl refl
-refused-at refusal.OldVersion = inl refl
-refused-at refusal.NewVersion = inl refl
+refused-at refusal.BadProfile = inr refl
+refused-at refusal.OldVersion = inr refl
+refused-at refusal.NewVersion = inr refl
 refused-at refusal.PackTooLong = inl refl
 
 -- no refusal ends a command at a status that tells of none
@@ -221,32 +223,32 @@ none-some : (n : ℕ) (why : Refusal) → refusal_at n ≡ None → refusal_at n
 none-some n why none some = (let e : None ≡ Some why = sym none ∙ some in cc)
 
 -- a job ends with the status of a refusal only where that one is the first that applies
-pub refused-only : (kind : Kind) (records : List Record) (old new : Seen) (end : Ending) (why : Refusal) →
-    AnswersJob kind records old new end →
-    status_of why ≢ 70 → end.status ≡ status_of why → refusal_over records kind ≡ Some why
-refused-only kind records old new end why (AnswersJob.refused other is synced r) own e =
+pub refused-only : (kind : Kind) (own : Option ℕ) (records : List Record) (old new : Seen) (end : Ending)
+    (why : Refusal) → AnswersJob kind own records old new end →
+    status_of why ≢ 70 → end.status ≡ status_of why → refusal_over records kind own ≡ Some why
+refused-only kind own records old new end why (AnswersJob.refused other is synced r) tells e =
     elim (refused-at other) [
       | inl lost ↦ absurd (none-some end.status why (ap refusal_at (r.status_is ∙ lost))
-          (at-some why end own e))
+          (at-some why end tells e))
       | inr at ↦ (let both : Some other ≡ Some why = sym (ap refusal_at r.status_is ∙ at)
-          ∙ at-some why end own e in is ∙ both)
+          ∙ at-some why end tells e in is ∙ both)
     ]
-refused-only kind records old new end why (AnswersJob.no_memory synced r) own e =
-    absurd (none-some end.status why (ap refusal_at r.status_is) (at-some why end own e))
-refused-only kind records old new end why (AnswersJob.ended how none runs left by) own e =
+refused-only kind own records old new end why (AnswersJob.no_memory synced r) tells e =
+    absurd (none-some end.status why (ap refusal_at r.status_is) (at-some why end tells e))
+refused-only kind own records old new end why (AnswersJob.ended how none runs left by) tells e =
     absurd (none-some end.status why (ended-none end.status (status-ended _ how old new end by))
-    (at-some why end own e))
+    (at-some why end tells e))
 
 -- a job for which a refusal is the first that applies is refused so, or finds no memory
-pub refused-always : (kind : Kind) (records : List Record) (old new : Seen) (end : Ending) (why : Refusal) →
-    AnswersJob kind records old new end →
-    refusal_over records kind ≡ Some why → IsRefused (status_of why) 0 old new end ⊎
+pub refused-always : (kind : Kind) (own : Option ℕ) (records : List Record) (old new : Seen) (end : Ending)
+    (why : Refusal) → AnswersJob kind own records old new end →
+    refusal_over records kind own ≡ Some why → IsRefused (status_of why) 0 old new end ⊎
     IsRefused 70 0 old new end
-refused-always kind records old new end why (AnswersJob.refused other is synced r) applies =
+refused-always kind own records old new end why (AnswersJob.refused other is synced r) applies =
     inl (subst (λ w. IsRefused (status_of w) 0 old new end)
-    (same_value (refusal_over records kind) other why is applies) r)
-refused-always kind records old new end why (AnswersJob.no_memory synced r) applies = inr r
-refused-always kind records old new end why (AnswersJob.ended how none runs left by) applies =
+    (same_value (refusal_over records kind own) other why is applies) r)
+refused-always kind own records old new end why (AnswersJob.no_memory synced r) applies = inr r
+refused-always kind own records old new end why (AnswersJob.ended how none runs left by) applies =
     absurd (let e : None ≡ Some why = sym none ∙ applies in cc)
 
 -- ---- and so are the statuses before the begin
@@ -287,12 +289,12 @@ refused-opened refusal.NewVersion = refl
 refused-opened refusal.PackTooLong = refl
 
 -- a job over records that were read does not end as a store that is not opened
-pub job-opened : (kind : Kind) (records : List Record) (old new : Seen) (end : Ending) →
-    AnswersJob kind records old new end → is_unopened end.status ≡ false
-job-opened kind records old new end (AnswersJob.refused why is synced r) =
+pub job-opened : (kind : Kind) (own : Option ℕ) (records : List Record) (old new : Seen) (end : Ending) →
+    AnswersJob kind own records old new end → is_unopened end.status ≡ false
+job-opened kind own records old new end (AnswersJob.refused why is synced r) =
     ap is_unopened r.status_is ∙ refused-opened why
-job-opened kind records old new end (AnswersJob.no_memory synced r) = ap is_unopened r.status_is
-job-opened kind records old new end (AnswersJob.ended how none runs left by) =
+job-opened kind own records old new end (AnswersJob.no_memory synced r) = ap is_unopened r.status_is
+job-opened kind own records old new end (AnswersJob.ended how none runs left by) =
     ended-opened end.status (status-ended _ how old new end by)
 
 -- ---- and they are exact of a command over a disk that tells
@@ -300,23 +302,23 @@ job-opened kind records old new end (AnswersJob.ended how none runs left by) =
 -- over a known store a command is refused only for the first cause that applies
 pub known-only : (kind : Kind) (records : List Record) (old new : Seen) (end : Ending) (why : Refusal) →
     AnswersAlone kind old new end → IsKnown old records →
-    status_of why ≢ 70 → end.status ≡ status_of why → refusal_over records kind ≡ Some why
+    status_of why ≢ 70 → end.status ≡ status_of why → refusal_over records kind None ≡ Some why
 known-only kind records old new end why A K own e = elim (alone-known kind old new end records K A) [
   | inl (inl (rose, r)) ↦
       absurd (none-some end.status why (ap refusal_at r.status_is) (at-some why end own e))
   | inl (inr r) ↦ absurd (none-some end.status why (ap refusal_at r.status_is) (at-some why end own e))
-  | inr job ↦ refused-only kind records old new end why job own e
+  | inr job ↦ refused-only kind None records old new end why job own e
 ]
 
 -- over a known store a command for which a cause applies is refused for it, or finds no memory
 pub known-always : (kind : Kind) (records : List Record) (old new : Seen) (end : Ending) (why : Refusal) →
     AnswersAlone kind old new end → IsKnown old records →
-    (Rose old.disk_faults new.disk_faults → ⊥) → refusal_over records kind ≡ Some why →
+    (Rose old.disk_faults new.disk_faults → ⊥) → refusal_over records kind None ≡ Some why →
     IsRefused (status_of why) 0 old new end ⊎ IsRefused 70 0 old new end
 known-always kind records old new end why A K disk applies = elim (alone-known kind old new end records K A) [
   | inl (inl (rose, r)) ↦ absurd (disk rose)
   | inl (inr r) ↦ inr r
-  | inr job ↦ refused-always kind records old new end why job applies
+  | inr job ↦ refused-always kind None records old new end why job applies
 ]
 
 -- a status of no refusal is none of these
@@ -324,3 +326,8 @@ pub own-status : (end : Ending) (why : Refusal) (n : ℕ) → refusal_at n ≡ N
     status_of why ≢ 70 → end.status ≡ status_of why → ⊥
 own-status end why n none is own e =
     none-some end.status why (ap refusal_at is ∙ none) (at-some why end own e)
+
+-- a status that tells of a refusal tells of no other
+pub told-refusal : (end : Ending) (one why : Refusal) → status_of one ≢ 70 → end.status ≡ status_of one →
+    status_of why ≢ 70 → end.status ≡ status_of why → Some one ≡ Some why
+told-refusal end one why first is own e = sym (at-some one end first is) ∙ at-some why end own e

@@ -10,7 +10,7 @@ use Rattle.machine_defs.specs.Events.{Step, Ended, IsSpelledKind}
 use Rattle.machine_defs.specs.Heard.{Entry}
 use Rattle.machine_defs.specs.States.{State, Append, setup_in}
 use Rattle.machine_defs.specs.Setups.{setup_or_none}
-use Rattle.machine_defs.specs.Begins.{new_job}
+use Rattle.machine_defs.specs.Begins.{chosen, beginning}
 use Rattle.machine_defs.specs.Appends.{Moves}
 use Rattle.machine_defs.specs.Steps.{Acts}
 use Rattle.machine_defs.specs.Runs.{now}
@@ -18,7 +18,7 @@ use Rattle.command_defs.specs.JobRuns.{GoesOnTo, RunsJob}
 use Rattle.state_laws.specs.Sound.{IsWholeJournal, IsSound}
 use Rattle.state_laws.proofs.Events.{events-sound}
 use Rattle.opening_defs.specs.Opened.{IsOpenAtRest}
-use Rattle.lone_laws.specs.Walked.{Walked}
+use Rattle.lone_laws.specs.Walked.{MayName, WalkedAt}
 use Rattle.lone_laws.proofs.Walk.{walk-begin, walk-last}
 use Rattle.job_laws.proofs.Runs.{walk-steps}
 use Rattle.job_laws.proofs.Whole.{runs-whole}
@@ -57,7 +57,8 @@ module _ (w : State) (job : Job) (new : State) where
   acts-stay End how (so, is) = by-state w new _ is refl refl
   acts-stay action how h = moves-stay action w.append how h
 
-last-of : (start w : State) (kind : Kind) (job : Job) (new : State) → Walked start kind w job →
+last-of : (start w : State) (kind : Kind) {profile : ℕ} (job : Job) (new : State) →
+    WalkedAt start kind profile w job →
     IsSound 8 new → IsWholeJournal new → Stays w new → IsLast start new
 unfolding setup_in
 last-of start w kind job new W sound whole stay = record {
@@ -69,18 +70,19 @@ last-of start w kind job new W sound whole stay = record {
 }
 
 -- the state in which a job ended is sound, with the setup and the providers of its begin
-pub last-state : (start new : State) (moment : ℕ) (kind : Kind) (how : Answer) (heard : List Entry) →
-    IsOpenAtRest start 1 → IsSpelledKind kind → RunsJob start moment kind how heard new → IsLast start new
-last-state start new moment kind how heard O spelled r =
-    (let b = walk-begin moment r.job start r.begun kind O spelled r.begins in
+pub last-state : (start new : State) (moment : ℕ) (kind : Kind) (own : Option ℕ) (how : Answer)
+    (heard : List Entry) → IsOpenAtRest start 1 → IsSpelledKind kind → MayName kind own →
+    RunsJob start moment kind own how heard new → IsLast start new
+last-state start new moment kind own how heard O spelled named r =
+    (let b = walk-begin moment r.job start r.begun kind own named O spelled r.begins in
     let g : GoesOnTo r.begun (moment + 1) 1 how heard new =
     subst (λ n. GoesOnTo r.begun (moment + 1) n how heard new) b.0 r.goes_on in
-    let last = walk-steps start r.begun kind (new_job start moment kind)
+    let last = walk-steps start r.begun kind (chosen (setup_in start) own) (beginning start moment kind own)
     (moment + 1) g.steps O b.1 g.are_steps in
     let a = walk-last start O kind (now r.begun g.steps) last.0 last.1
     ((moment + 1) + length g.steps) new how g.ends in
     last-of start (now r.begun g.steps) kind last.0 new last.1
     (events-sound 8 ((moment + 1) + length g.steps) (now r.begun g.steps) last.1.sound
     (omega arith, omega arith) (Step 1) (Ended how) new (omega arith) g.ends)
-    (runs-whole start O kind new moment how heard spelled r)
+    (runs-whole start O kind own new moment how heard spelled named r)
     (acts-stay (now r.begun g.steps) last.0 new a.0 how a.3))

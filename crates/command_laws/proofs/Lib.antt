@@ -1,6 +1,7 @@
 pub mod Known
 pub mod GetEnds
 pub mod JobEnds
+pub mod Begun
 pub mod Unopened
 pub mod Causes
 pub mod Anew
@@ -28,5 +29,7 @@ pub mod Samples
 pub mod PutSample
 pub mod AuditSample
 pub mod RepairSample
+pub mod UpgradeSample
+pub mod OwnSample
 pub mod InitSample
 pub mod UnsetSample

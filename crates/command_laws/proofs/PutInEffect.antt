@@ -10,10 +10,9 @@ use Rattle.device_defs.specs.Images.{EachImage}
 use Rattle.device_defs.specs.Told.{Goes}
 use Rattle.record_defs.specs.Records.{Record, PutStart, largest_file, largest_journal}
 use Rattle.record_defs.specs.Journal.{StandsFor, StandsOrIsEmpty}
-use Rattle.record_defs.specs.Table.{File, next_id, file_as, profile_in, setup_of}
+use Rattle.record_defs.specs.Table.{next_id}
 use Rattle.record_defs.proofs.Standing.{stands-front}
 use Rattle.journal_core.proofs.Meanings.{one_meaning}
-use Rattle.machine_defs.specs.Setups.{object_of}
 use Rattle.machine_defs.specs.Events.{AreBytes}
 use Rattle.machine_defs.specs.Jobs.{PutJob}
 use Rattle.machine_defs.specs.Answers as answer
@@ -21,20 +20,19 @@ use Rattle.machine_defs.specs.Answers.{Answer}
 use Rattle.command_defs.specs.Seen.{Seen, Ending, IsRefused, provider_at}
 use Rattle.opening_defs.specs.Journals.{journal_read}
 use Rattle.command_defs.specs.Opens.{setup_in_effect}
+use Rattle.command_defs.specs.Refusals.{refusal_over}
 use Rattle.command_defs.specs.Ran.{Ran}
-use Rattle.command_defs.specs.Blocks.{StoredOn}
 use Rattle.command_defs.specs.Puts.{put_records, PutIsCut, PutLeaves}
 use Rattle.command_defs.specs.Jobs.{AnswersJob, LeftAlone}
 use Rattle.command_defs.specs.Commands.{AnswersPut}
 use Rattle.command_laws.specs.Ends.{IsKnown, after_put}
-use Rattle.command_laws.specs.After.{IsSure, Follows, HasRightFile, is_wrong_or_untold}
+use Rattle.command_laws.specs.After.{IsSure, Follows, HasRightFile}
 use Rattle.command_laws.proofs.Known.{known-once}
 use Rattle.command_laws.proofs.GetEnds.{ran_left}
-use Rattle.command_laws.proofs.JobEnds.{unstarted-refused, not-long, put-in_effect}
+use Rattle.command_laws.proofs.JobEnds.{unstarted-refused, put-begins, put-in_effect}
 use Rattle.command_laws.proofs.Afterwards.{sure-refused}
 use Rattle.command_laws.proofs.DoneStores.{next-image, whole-read}
-use Rattle.command_laws.proofs.FilesStay.{stored-right, put-object}
-use Rattle.column_defs.specs.Objects.{Object}
+use Rattle.command_laws.proofs.FilesStay.{stored-file}
 
 -- a disk that the next command finds told before
 pub tells-back : (new next : Seen) → Follows new next → is_some next.disk ≡ true → is_some new.disk ≡ true
@@ -48,9 +46,9 @@ tells-back new next N tells = elim N.disk [
     stopped-at None (Some b) told g = absurd g
     stopped-at (Some a) b told g = refl
 
-module _ (name bytes : List ℕ) (records : List Record) (spoilt : ℕ → Bool) (old new next : Seen)
+module _ (name bytes : List ℕ) (own : Option ℕ) (records : List Record) (spoilt : ℕ → Bool) (old new next : Seen)
     (end : Ending) (S : IsSure old records) (N : Follows new next)
-    (F : IsKnown next (after_put records name (length bytes)))
+    (F : IsKnown next (after_put records name (length bytes) own))
     (tells : (j : ℕ) → j < (setup_in_effect records).n → spoilt j ≡ false →
     is_some (provider_at old.providers j).held ≡ true) where
   -- an image stands for fewer records than those with both of the put
@@ -62,12 +60,12 @@ module _ (name bytes : List ℕ) (records : List Record) (spoilt : ℕ → Bool)
       (let c = next-image new next (tells-back new next N F.tells) N in
       let g : Fewer (reads c.0) = c.2 Fewer h in
       let looked : (9 < length (reads c.0)) × StandsFor (journal_read c.0)
-      (after_put records name (length bytes)) =
+      (after_put records name (length bytes) own) =
       subst (λ d. IfSome d (λ cells. (9 < length (reads cells)) ×
-      StandsFor (journal_read cells) (after_put records name (length bytes)))) c.1
+      StandsFor (journal_read cells) (after_put records name (length bytes) own))) c.1
       F.opened.read.reads_are in
-      let same = one_meaning (reads c.0) g.0 (after_put records name (length bytes)) g.1
-      (stands-front largest_journal (reads c.0) (after_put records name (length bytes)) looked.1) in
+      let same = one_meaning (reads c.0) g.0 (after_put records name (length bytes) own) g.1
+      (stands-front largest_journal (reads c.0) (after_put records name (length bytes) own) looked.1) in
       let size = ap length same in
       let few = g.2 in
       omega (arith, size, few))
@@ -99,27 +97,8 @@ module _ (name bytes : List ℕ) (records : List Record) (spoilt : ℕ → Bool)
   images-fewer (Some cells) after doubt some few less h =
       λ image is. image-fewer image after doubt some few less (h image is)
 
-  -- where each provider holds the file, it is the one that is in effect
-  has-stored : AreBytes bytes → (older : Option File) (rose : ℕ → Type 0) →
-      ((j : ℕ) → j < (setup_in_effect records).n →
-      Goes (StoredOn (object_of (setup_in_effect records) (next_id records)) bytes older (rose j) j)
-      (provider_at old.providers j).held (provider_at new.providers j).held) →
-      HasRightFile new (after_put records name (length bytes)) name bytes spoilt
-  has-stored are older rose stored = record {
-    file = file_as name (next_id records) (length bytes) (profile_in (setup_of records));
-    in_effect = put-in_effect records name (length bytes);
-    are_bytes = are;
-    size = refl;
-    right = λ j below clean. subst
-        (λ (o : Object). is_wrong_or_untold o bytes j (provider_at new.providers j).held ≡ false)
-        (put-object records (next_id records))
-        (stored-right (object_of (setup_in_effect records) (next_id records)) bytes older (rose j) j
-        (provider_at old.providers j).held (provider_at new.providers j).held (tells j below clean)
-        (stored j below));
-  }
-
-  module _ (are : AreBytes bytes) (how : Answer)
-      (left : LeftAlone records (PutJob name bytes) how old new end.heard) where
+  module _ (are : AreBytes bytes) (begins : refusal_over records (PutJob name bytes) own ≡ None) (how : Answer)
+      (left : LeftAlone records (PutJob name bytes) own how old new end.heard) where
     abbrev x : Ran
     x = ran_left records (PutJob name bytes) how old new end.heard left
 
@@ -144,24 +123,26 @@ module _ (name bytes : List ℕ) (records : List Record) (spoilt : ℕ → Bool)
     sure-off entry done sure is = absurd (let e : None ≡ Some entry = sym sure ∙ is in cc)
 
     cut-parts : (done : List Record) (entry : Record) (rest : List Record) →
-        put_records records name (length bytes) ≡ done ++ entry ∷ rest → length done ≤ 1
+        put_records records name (length bytes) own ≡ done ++ entry ∷ rest → length done ≤ 1
     cut-parts done entry rest parts =
         (let e = ap length parts in let a = length-append done (entry ∷ rest) in omega (arith, e, a))
 
-    by-answer : (h : Answer) → PutLeaves x name bytes h →
-        HasRightFile new (after_put records name (length bytes)) name bytes spoilt
-    by-answer answer.Put L = has-stored are _ _ L.1
+    by-answer : (h : Answer) → PutLeaves x own name bytes h →
+        HasRightFile new (after_put records name (length bytes) own) name bytes spoilt
+    by-answer answer.Put L = stored-file name bytes own records spoilt old new
+        (put-in_effect records name bytes own begins) are _ _ L.1 tells
     by-answer (answer.ProviderFault k) L =
         absurd (let W = L.2 in
         cut-off (PutStart (next_id records) name ∷ []) W.after (omega arith)
         (λ entry is. sure-off entry (PutStart (next_id records) name ∷ []) W.sure is))
     by-answer answer.DiskFault L = by-cut L.1
       where
-        by-cut : PutIsCut x name bytes →
-            HasRightFile new (after_put records name (length bytes)) name bytes spoilt
+        by-cut : PutIsCut x own name bytes →
+            HasRightFile new (after_put records name (length bytes) own) name bytes spoilt
         by-cut (PutIsCut.at_start after doubt held) =
             absurd (cut-off [] after (omega arith) (λ entry is. omega arith))
-        by-cut (PutIsCut.at_done after doubt stored) = has-stored are None (λ j. ⊥) stored
+        by-cut (PutIsCut.at_done after doubt stored) = stored-file name bytes own records spoilt old new
+            (put-in_effect records name bytes own begins) are None (λ j. ⊥) stored tells
     by-answer answer.Memory L =
         absurd (let C = L.0 in
         cut-off C.done C.after (cut-parts C.done C.next C.rest C.parts)
@@ -171,38 +152,42 @@ module _ (name bytes : List ℕ) (records : List Record) (spoilt : ℕ → Bool)
 -- ---- the command
 
 -- a put that the next command finds in effect has its file right on every provider that tells
-pub put-in-effect : (name bytes : List ℕ) (records : List Record) (spoilt : ℕ → Bool) (old new next : Seen)
-    (end : Ending) → AnswersPut name old new end → IsSure old records → old.source ≡ Some bytes →
-    Follows new next → IsKnown next (after_put records name (length bytes)) →
+pub put-in-effect : (name bytes : List ℕ) (own : Option ℕ) (records : List Record) (spoilt : ℕ → Bool) (old new next : Seen)
+    (end : Ending) → AnswersPut name own old new end → IsSure old records → old.source ≡ Some bytes →
+    Follows new next → IsKnown next (after_put records name (length bytes) own) →
     ((j : ℕ) → j < (setup_in_effect records).n → spoilt j ≡ false →
     is_some (provider_at old.providers j).held ≡ true) →
-    HasRightFile new (after_put records name (length bytes)) name bytes spoilt
-put-in-effect name bytes records spoilt old new next end (AnswersPut.unstarted u same) S source N F tells =
+    HasRightFile new (after_put records name (length bytes) own) name bytes spoilt
+put-in-effect name bytes own records spoilt old new next end (AnswersPut.unstarted u same) S source N F tells =
     absurd (let r = unstarted-refused old new end u in
-    refused-not name bytes records spoilt old new next end S N F tells r.0 r.1 r.3)
-put-in-effect name bytes records spoilt old new next end (AnswersPut.source_fault rs opened rose synced taken r) S source N F tells =
-    absurd (refused-not name bytes records spoilt old new next end S N F tells 14 0 r)
-put-in-effect name bytes records spoilt old new next end (AnswersPut.no_memory taken r) S source N F tells =
-    absurd (refused-not name bytes records spoilt old new next end S N F tells 70 0 r)
-put-in-effect name bytes records spoilt old new next end (AnswersPut.begun rs seen opened read A) S source N F tells =
-    job (subst (λ l. AnswersJob (PutJob name seen) l old new end)
+    refused-not name bytes own records spoilt old new next end S N F tells r.0 r.1 r.3)
+put-in-effect name bytes own records spoilt old new next end (AnswersPut.source_fault rs opened known rose synced taken r) S source N F tells =
+    absurd (refused-not name bytes own records spoilt old new next end S N F tells 14 0 r)
+put-in-effect name bytes own records spoilt old new next end (AnswersPut.bad_profile rs opened unknown synced same r) S source N F tells =
+    absurd (refused-not name bytes own records spoilt old new next end S N F tells 20 0 r)
+put-in-effect name bytes own records spoilt old new next end (AnswersPut.no_memory taken r) S source N F tells =
+    absurd (refused-not name bytes own records spoilt old new next end S N F tells 70 0 r)
+put-in-effect name bytes own records spoilt old new next end (AnswersPut.begun rs seen opened known read A) S source N F tells =
+    job (subst (λ l. AnswersJob (PutJob name seen) own l old new end)
     (known-once old records rs S.known opened.read) A)
   where
-    by-left : (how : Answer) → AreBytes bytes → LeftAlone records (PutJob name bytes) how old new end.heard →
-        HasRightFile new (after_put records name (length bytes)) name bytes spoilt
-    by-left how are left =
-        by-answer name bytes records spoilt old new next end S N F tells are how left how
+    by-left : (how : Answer) → AreBytes bytes → refusal_over records (PutJob name bytes) own ≡ None →
+        LeftAlone records (PutJob name bytes) own how old new end.heard →
+        HasRightFile new (after_put records name (length bytes) own) name bytes spoilt
+    by-left how are begins left =
+        by-answer name bytes own records spoilt old new next end S N F tells are begins how left how
         left.leaves.by_kind.0
 
-    job : AnswersJob (PutJob name seen) records old new end →
-        HasRightFile new (after_put records name (length bytes)) name bytes spoilt
+    job : AnswersJob (PutJob name seen) own records old new end →
+        HasRightFile new (after_put records name (length bytes) own) name bytes spoilt
     job (AnswersJob.refused why is synced r) =
-        absurd (refused-not name bytes records spoilt old new next end S N F tells _ 0 r)
+        absurd (refused-not name bytes own records spoilt old new next end S N F tells _ 0 r)
     job (AnswersJob.no_memory synced r) =
-        absurd (refused-not name bytes records spoilt old new next end S N F tells 70 0 r)
+        absurd (refused-not name bytes own records spoilt old new next end S N F tells 70 0 r)
     job (AnswersJob.ended how none runs left by) =
-        (let short = not-long records name seen none in
+        (let short = (put-begins records name seen own none).1 in
         let same : seen ≡ bytes = whole-read (largest_file + 1) old.source new.source bytes seen source read
         (read.end (omega (arith, short))) in
         by-left how (subst AreBytes same read.are_bytes)
-        (subst (λ bs. LeftAlone records (PutJob name bs) how old new end.heard) same left))
+        (subst (λ bs. refusal_over records (PutJob name bs) own ≡ None) same none)
+        (subst (λ bs. LeftAlone records (PutJob name bs) own how old new end.heard) same left))

@@ -21,10 +21,11 @@ use Rattle.command_defs.specs.JobRuns.{AreSteps}
 use Rattle.command_defs.specs.Jobs.{RanAlone, RunsAlone, AnswersJob}
 use Rattle.command_defs.specs.Commands.{AnswersPut, Answers}
 use Rattle.command_laws.specs.Pieces.{moment}
+use Rattle.lone_laws.specs.Walked.{MayName}
 use Rattle.command_laws.specs.Instances.{store, small_setup, idle_providers, held_name, set_up_records, held_records, with_sink, ends}
 use Rattle.job_laws.proofs.Telling.{left-alone, jobs-leave}
 use Rattle.job_laws.proofs.BeginRefusals.{refusal-of}
-use Rattle.command_laws.proofs.Chains.{put-begins}
+use Rattle.command_laws.proofs.Chains.{first-begins}
 use Rattle.command_laws.proofs.Samples.{set_up-sure, held-sure}
 
 abbrev pub formed : State → State
@@ -60,8 +61,8 @@ form-is w V = sym (λ i. record w {
   disk_faults = V.faults_are i;
 })
 
-begins-none : refusal_over set_up_records (PutJob held_name []) ≡ None
-begins-none = put-begins small_setup held_name [] refl (omega arith)
+begins-none : refusal_over set_up_records (PutJob held_name []) None ≡ None
+begins-none = first-begins small_setup held_name [] refl (omega arith)
 
 module _ (w : State) (n : ℕ) (H : AreHanded idle_providers (formed w)) where
   abbrev v : State
@@ -175,7 +176,7 @@ module _ (w : State) (n : ℕ) (H : AreHanded idle_providers (formed w)) where
     ),
   )
 
-  ran-formed : RanAlone set_up_records (PutJob held_name []) Put (store set_up_records)
+  ran-formed : RanAlone set_up_records (PutJob held_name []) None Put (store set_up_records)
       (with_sink (store held_records) (stored_line held_name 0)) [] 0 v n
   unfolding steps spelling
   ran-formed = record {
@@ -185,7 +186,7 @@ module _ (w : State) (n : ℕ) (H : AreHanded idle_providers (formed w)) where
       job = 1;
       begins = (
         refl,
-        refusal-of v (PutJob held_name []) refl refl refl
+        refusal-of v (PutJob held_name []) None refl refl refl
             (record { journal = refl; area = refl; unswitched = refl }) ∙ begins-none,
         refl,
         refl,
@@ -198,12 +199,12 @@ module _ (w : State) (n : ℕ) (H : AreHanded idle_providers (formed w)) where
     past_text = refl;
   }
 
-put-alone : RunsAlone set_up_records (PutJob held_name []) Put (store set_up_records)
+put-alone : RunsAlone set_up_records (PutJob held_name []) None Put (store set_up_records)
     (with_sink (store held_records) (stored_line held_name 0)) []
 put-alone = record {
   faults = 0;
   before = omega arith;
-  ran = λ w n V. subst (λ u. RanAlone set_up_records (PutJob held_name []) Put (store set_up_records)
+  ran = λ w n V. subst (λ u. RanAlone set_up_records (PutJob held_name []) None Put (store set_up_records)
       (with_sink (store held_records) (stored_line held_name 0)) [] 0 u n) (form-is w V)
       (ran-formed w n (subst (AreHanded idle_providers) (sym (form-is w V)) V.handed));
 }
@@ -211,11 +212,12 @@ put-alone = record {
 -- a put of the empty file is done
 pub put : Answers (PutUnder held_name) (store set_up_records)
     (with_sink (store held_records) (stored_line held_name 0)) (ends 0)
-put = AnswersPut.begun set_up_records [] set_up-sure.known.opened
+put = AnswersPut.begun set_up_records [] set_up-sure.known.opened refl
     (record { are_bytes = refl; front = refl; few = omega arith; end = λ l. refl })
     (AnswersJob.ended Put begins-none put-alone
-    (left-alone set_up_records (PutJob held_name []) Put (store set_up_records)
+    (left-alone set_up_records (PutJob held_name []) None Put (store set_up_records)
     (with_sink (store held_records) (stored_line held_name 0)) []
-    (refl, refl) (λ w last n O r. jobs-leave (PutJob held_name []) w last n Put [] (refl, refl) O r)
+    (refl, refl) (MayName.none refl)
+    (λ w last n O r. jobs-leave (PutJob held_name []) None w last n Put [] (refl, refl) (MayName.none refl) O r)
     set_up-sure.known.opened refl put-alone)
     (record { written = inl (refl, refl); place = refl }))

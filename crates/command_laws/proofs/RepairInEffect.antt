@@ -84,7 +84,7 @@ module _ (name bytes : List ℕ) (records : List Record) (due : Due) (spoilt : �
   images-before (Some cells) after doubt is sure h =
       λ image of. image-before image after doubt is sure (h image of)
 
-  module _ (how : Answer) (left : LeftAlone records RepairJob how old new end.heard) where
+  module _ (how : Answer) (left : LeftAlone records RepairJob None how old new end.heard) where
     abbrev x : Ran
     x = ran_left records RepairJob how old new end.heard left
 
@@ -142,7 +142,7 @@ module _ (name bytes : List ℕ) (records : List Record) (due : Due) (spoilt : �
         absurd (let C = L.0 in none-more (none-done C.done C.next C.rest C.parts C.after) C.sure)
     by-answer h L = absurd L
 
-  by-job : AnswersJob RepairJob records old new end → Mended
+  by-job : AnswersJob RepairJob None records old new end → Mended
   by-job (AnswersJob.refused why is synced r) = absurd (refused-not _ 0 r)
   by-job (AnswersJob.no_memory synced r) = absurd (refused-not 70 0 r)
   by-job (AnswersJob.ended how none runs left by) = (let L = left.leaves.by_kind.0 in
@@ -155,5 +155,5 @@ module _ (name bytes : List ℕ) (records : List Record) (due : Due) (spoilt : �
   repair-in-effect (AnswersAlone.unstarted u) =
       absurd (let r = unstarted-refused old new end u in refused-not r.0 r.1 r.3)
   repair-in-effect (AnswersAlone.begun rs opened A) =
-      by-job (subst (λ l. AnswersJob RepairJob l old new end)
+      by-job (subst (λ l. AnswersJob RepairJob None l old new end)
       (known-once old records rs S.known opened.read) A)

@@ -19,6 +19,7 @@ use Rattle.command_defs.specs.Jobs.{RanAlone, RunsAlone, AnswersJob}
 use Rattle.command_defs.specs.Commands.{AnswersAlone, Answers}
 use Rattle.command_laws.specs.After.{IsSure}
 use Rattle.command_laws.specs.Pieces.{moment}
+use Rattle.lone_laws.specs.Walked.{MayName}
 use Rattle.command_laws.specs.Instances.{store, idle_providers, due_records, repaired_records, repaired_store, ends}
 use Rattle.job_laws.proofs.Telling.{left-alone, jobs-leave}
 use Rattle.job_laws.proofs.BeginRefusals.{refusal-of}
@@ -122,7 +123,7 @@ module _ (w : State) (n : ℕ) (H : AreHanded idle_providers (formed w)) where
   unfolding steps
   steps-are = (refl, refl, four 0, (refl, refl, three 0, (refl, refl, two 0, (refl, refl, one 0, tt))))
 
-  ran-formed : RanAlone due_records RepairJob (Repaired 1) (store due_records) repaired_store [] 0 v n
+  ran-formed : RanAlone due_records RepairJob None (Repaired 1) (store due_records) repaired_store [] 0 v n
   unfolding steps spelling
   ran-formed = record {
     last = s5;
@@ -131,7 +132,7 @@ module _ (w : State) (n : ℕ) (H : AreHanded idle_providers (formed w)) where
       job = 1;
       begins = (
         refl,
-        refusal-of v RepairJob refl refl refl
+        refusal-of v RepairJob None refl refl refl
             (record { journal = refl; area = refl; unswitched = refl }),
         refl,
         refl,
@@ -144,11 +145,11 @@ module _ (w : State) (n : ℕ) (H : AreHanded idle_providers (formed w)) where
     past_text = refl;
   }
 
-repair-alone : RunsAlone due_records RepairJob (Repaired 1) (store due_records) repaired_store []
+repair-alone : RunsAlone due_records RepairJob None (Repaired 1) (store due_records) repaired_store []
 repair-alone = record {
   faults = 0;
   before = omega arith;
-  ran = λ w n V. subst (λ u. RanAlone due_records RepairJob (Repaired 1) (store due_records) repaired_store
+  ran = λ w n V. subst (λ u. RanAlone due_records RepairJob None (Repaired 1) (store due_records) repaired_store
       [] 0 u n) (form-is w V)
       (ran-formed w n (subst (AreHanded idle_providers) (sym (form-is w V)) V.handed));
 }
@@ -157,8 +158,9 @@ repair-alone = record {
 pub repair : Answers RepairDue (store due_records) repaired_store (ends 0)
 repair = (
   AnswersAlone.begun due_records due-sure.known.opened (AnswersJob.ended (Repaired 1) refl repair-alone
-      (left-alone due_records RepairJob (Repaired 1) (store due_records) repaired_store []
-      tt (λ w last n O r. jobs-leave RepairJob w last n (Repaired 1) [] tt O r) due-sure.known.opened refl
+      (left-alone due_records RepairJob None (Repaired 1) (store due_records) repaired_store []
+      tt (MayName.none refl)
+      (λ w last n O r. jobs-leave RepairJob None w last n (Repaired 1) [] tt (MayName.none refl) O r) due-sure.known.opened refl
       repair-alone)
       (record { written = inl (refl, refl); place = refl })),
   (refl, refl),

@@ -32,6 +32,7 @@ use Rattle.opening_defs.specs.Opened.{AreHanded, IsOpenedOver}
 use Rattle.command_defs.specs.Jobs.{RanAlone, RunsAlone, AnswersJob}
 use Rattle.command_defs.specs.Commands.{AnswersAlone, AnswersList, Answers}
 use Rattle.command_laws.specs.After.{IsSure, HasRightFile, is_wrong_at}
+use Rattle.lone_laws.specs.Walked.{MayName}
 use Rattle.command_laws.specs.Instances.{store, small_setup, idle_providers, held_name, held_file, other_name, set_up_records, held_records, with_sink, ends, get_held, get_other}
 use Rattle.command_laws.specs.Pieces.{IsLater, IsChain}
 use Rattle.job_laws.specs.Failing.{bad_seen}
@@ -185,7 +186,7 @@ module _ (w : State) (n : ℕ) (H : AreHanded idle_providers (formed w)) (empty 
   ends-here = subst (λ a. StepsOn begun job a (Ended (Got [])) (ended begun job))
       (sym (next-end (length (w.bytes 1)) empty)) (nothing-given (length (w.bytes 1)) _ empty, refl)
 
-  ran-formed : RanAlone held_records (GetJob held_name) (Got []) (store held_records) (store held_records)
+  ran-formed : RanAlone held_records (GetJob held_name) None (Got []) (store held_records) (store held_records)
       [] 0 v n
   ran-formed = record {
     last = ended begun job;
@@ -194,7 +195,7 @@ module _ (w : State) (n : ℕ) (H : AreHanded idle_providers (formed w)) (empty 
       job = 1;
       begins = (
         refl,
-        refusal-of v (GetJob held_name) refl refl refl
+        refusal-of v (GetJob held_name) None refl refl refl
             (record { journal = refl; area = refl; unswitched = refl }),
         refl,
         refl,
@@ -207,11 +208,11 @@ module _ (w : State) (n : ℕ) (H : AreHanded idle_providers (formed w)) (empty 
     past_text = refl;
   }
 
-got-alone : RunsAlone held_records (GetJob held_name) (Got []) (store held_records) (store held_records) []
+got-alone : RunsAlone held_records (GetJob held_name) None (Got []) (store held_records) (store held_records) []
 got-alone = record {
   faults = 0;
   before = omega arith;
-  ran = λ w n V. subst (λ u. RanAlone held_records (GetJob held_name) (Got []) (store held_records)
+  ran = λ w n V. subst (λ u. RanAlone held_records (GetJob held_name) None (Got []) (store held_records)
       (store held_records) [] 0 u n) (form-is w V)
       (ran-formed w n (subst (AreHanded idle_providers) (sym (form-is w V)) V.handed)
       (V.bytes held_name (file_as held_name 1 0 0) refl).1);
@@ -230,14 +231,16 @@ opened = held-sure.known.opened
 pub got : Answers (GetOf held_name) (store held_records) (store held_records) (ends 0)
 got = (
   AnswersAlone.begun held_records opened (AnswersJob.ended (Got []) refl got-alone
-      (left-alone held_records (GetJob held_name) (Got []) (store held_records) (store held_records) [] refl
-      (λ w last n O r. jobs-leave (GetJob held_name) w last n (Got []) [] refl O r) opened refl got-alone)
+      (left-alone held_records (GetJob held_name) None (Got []) (store held_records) (store held_records) [] refl
+      (MayName.none refl)
+      (λ w last n O r. jobs-leave (GetJob held_name) None w last n (Got []) [] refl (MayName.none refl) O r) opened refl got-alone)
       (record { written = inl (refl, refl); place = refl })),
   (refl, refl),
 )
 
-refused-so : (status : ℕ) → IsRefused status 0 (store held_records) (store held_records) (ends status)
-refused-so status = record {
+-- a refusal over a store leaves it
+pub refused-so : (rs : List Record) (status : ℕ) → IsRefused status 0 (store rs) (store rs) (ends status)
+refused-so rs status = record {
   status_is = refl;
   place = refl;
   heard = refl;
@@ -250,7 +253,7 @@ refused-so status = record {
 pub missed : Answers (GetOf other_name) (store held_records) (store held_records) (ends 3)
 missed = (
   AnswersAlone.begun held_records opened
-      (AnswersJob.refused refusal.NoSuchName refl (same-disk held_records) (refused-so 3)),
+      (AnswersJob.refused refusal.NoSuchName refl (same-disk held_records) (refused-so held_records 3)),
   (refl, refl),
 )
 

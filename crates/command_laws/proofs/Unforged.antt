@@ -174,7 +174,7 @@ module _ (name bytes : List ℕ) (records : List Record) (file : File) (old new 
       by_gives (answer.Lost stripe row) G = stripes-right x file bytes fits how_few (stripe + 1) G.hears F
       by_gives how G = G
 
-  job-unforged : AnswersJob (GetJob name) records old new end → Forged → ⊥
+  job-unforged : AnswersJob (GetJob name) None records old new end → Forged → ⊥
   job-unforged (AnswersJob.refused why is synced r) F = silent r.heard F
   job-unforged (AnswersJob.no_memory synced r) F = silent r.heard F
   job-unforged (AnswersJob.ended how none runs left by) F =

@@ -1,13 +1,13 @@
 -- The statuses that tell of a store that is not opened come exactly where their causes apply.
-use Rattle.std.proofs.Common.{◌≡◌, ℕ, ◌<◌, ◌≤◌, ◌⊎◌, true, false, List, length, Some, ap, sym, subst, ◌∙◌, inl, inr, arith}
+use Rattle.std.proofs.Common.{◌≡◌, ℕ, ◌<◌, ◌≤◌, ◌⊎◌, true, false, List, length, Option, Some, ap, sym, subst, ◌∙◌, inl, inr, arith, None}
 use Rattle.std.specs.Prelude.{IfSome}
 use Rattle.std.proofs.lemmas.Bool.{false≢true}
 use Rattle.device_defs.specs.Cells.{Cells}
 use Rattle.device_defs.specs.Faults.{Rose}
 use Rattle.record_defs.specs.Records.{Record}
 use Rattle.record_defs.specs.Reading.{HasNoSetup}
-use Rattle.machine_defs.specs.Jobs.{Kind, GetJob, DropJob, AuditJob, RepairJob}
-use Rattle.command_defs.specs.Forms.{Command, RowOf, InitWith, PutUnder, GetOf, DropOf, ListAll, AuditAll, RepairDue}
+use Rattle.machine_defs.specs.Jobs.{Kind, GetJob, DropJob, AuditJob, RepairJob, UpgradeJob}
+use Rattle.command_defs.specs.Forms.{Command, RowOf, InitWith, PutUnder, PutAt, GetOf, DropOf, ListAll, AuditAll, RepairDue, UpgradeJournal}
 use Rattle.command_defs.specs.Sinking.{WritesLine}
 use Rattle.command_defs.specs.Seen.{Seen, Ending, sinking}
 use Rattle.opening_defs.specs.Journals.{journal_read, IsRead, IsBadStart}
@@ -24,20 +24,22 @@ data Opening (old new : Seen) (end : Ending) : Type 0 where
   no_room : end.status ≡ 70 → Opening old new end
   over : (records : List Record) → IsOpened old records → is_unopened end.status ≡ false → Opening old new end
 
-put-opening : (name : List ℕ) (old new : Seen) (end : Ending) → AnswersPut name old new end →
+put-opening : (name : List ℕ) (old new : Seen) (end : Ending) {own : Option ℕ} → AnswersPut name own old new end →
     Opening old new end
 put-opening name old new end (AnswersPut.unstarted u same) = Opening.before u
-put-opening name old new end (AnswersPut.source_fault records opened rose synced taken r) =
+put-opening name old new end (AnswersPut.source_fault records opened known rose synced taken r) =
+    Opening.over records opened (ap is_unopened r.status_is)
+put-opening name old new end (AnswersPut.bad_profile records opened unknown synced same r) =
     Opening.over records opened (ap is_unopened r.status_is)
 put-opening name old new end (AnswersPut.no_memory taken r) = Opening.no_room r.status_is
-put-opening name old new end (AnswersPut.begun records bytes opened read A) =
-    Opening.over records opened (job-opened _ records old new end A)
+put-opening name old new end (AnswersPut.begun records bytes opened known read A) =
+    Opening.over records opened (job-opened _ _ records old new end A)
 
 alone-opening : (kind : Kind) (old new : Seen) (end : Ending) → AnswersAlone kind old new end →
     Opening old new end
 alone-opening kind old new end (AnswersAlone.unstarted u) = Opening.before u
 alone-opening kind old new end (AnswersAlone.begun records opened A) =
-    Opening.over records opened (job-opened kind records old new end A)
+    Opening.over records opened (job-opened kind None records old new end A)
 
 written-opened : (text : List ℕ) (old new : Seen) (end : Ending) →
     WritesLine text end.status (sinking old new) → is_unopened end.status ≡ false
@@ -56,11 +58,13 @@ opening-of : (command : Command) (old new : Seen) (end : Ending) → Answers com
 opening-of (RowOf n l b seen) old new end A opens = absurd (false≢true opens)
 opening-of (InitWith numbers) old new end A opens = absurd (false≢true opens)
 opening-of (PutUnder name) old new end A opens = put-opening name old new end A
+opening-of (PutAt name profile) old new end A opens = put-opening name old new end A
 opening-of (GetOf name) old new end A opens = alone-opening (GetJob name) old new end A.0
 opening-of (DropOf name) old new end A opens = alone-opening (DropJob name) old new end A.0
 opening-of ListAll old new end A opens = list-opening old new end A.0
 opening-of AuditAll old new end A opens = alone-opening AuditJob old new end A.0
 opening-of RepairDue old new end A opens = alone-opening RepairJob old new end A.0
+opening-of UpgradeJournal old new end A opens = alone-opening UpgradeJob old new end A.0
 
 status-not : (status n m : ℕ) → status ≡ n → status ≡ m → (n ≡ m → ⊥) → ⊥
 status-not status n m is also differ = differ (sym is ∙ also)

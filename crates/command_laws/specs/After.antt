@@ -20,7 +20,7 @@
 --   spoilt_below n spoilt                    == how many of n providers are spoilt
 --   IsFaultless old new                      == no count rose that could end a command: the disk's, of a
 --                                               provider's stores, the source's, the sink's
---   keeps_blocks command                     == a get, a list and an audit
+--   keeps_blocks command                     == a get, a list, an audit and an upgrade
 --   IsOfAnother name command                 == a put or a drop of another name
 use Rattle.std.specs.Prelude.{◌≡◌, ◌≢◌, ◌⊎◌, ℕ, ◌<◌, ◌==◌, ◌||◌, Bool, true, false, List, ◌++◌, length, reverse, take, Option, None, Some}
 use Rattle.code_defs.specs.Points.{upto}
@@ -35,10 +35,10 @@ use Rattle.record_defs.specs.Records.{Record}
 use Rattle.record_defs.specs.Table.{File, file_of}
 use Rattle.machine_defs.specs.Jobs.{Kind}
 use Rattle.machine_defs.specs.Events.{AreBytes}
-use Rattle.command_defs.specs.Forms.{Command, PutUnder, GetOf, DropOf, ListAll, AuditAll}
+use Rattle.command_defs.specs.Forms.{Command, PutUnder, PutAt, GetOf, DropOf, ListAll, AuditAll, UpgradeJournal}
 use Rattle.command_defs.specs.Seen.{Seen, provider_at}
 use Rattle.command_defs.specs.Opens.{setup_in_effect, object_in_effect}
-use Rattle.command_laws.specs.Ends.{IsKnown, RunsKind, DiskHas}
+use Rattle.command_laws.specs.Ends.{IsKnown, profile_named, RunsKind, DiskHas}
 use Rattle.command_laws.specs.Kept.{AreAppended}
 
 -- the store is known, and each image of its disk stands for these records
@@ -57,7 +57,7 @@ pub record HasGrown (command : Command) (records : List Record) (old new : Seen)
   pub kind : Kind
   pub of_command : RunsKind command old new kind
   pub own : List Record
-  pub are_own : AreAppended records kind own
+  pub are_own : AreAppended records kind (profile_named command) own
   pub count : ℕ
   pub after_is : after ≡ reverse (take count own) ++ records
 
@@ -71,7 +71,7 @@ is_refusal status =
     (status == 3) || (status == 6) || (status == 7) || (status == 8) || (status == 9) || (status == 10)
     || (status == 11)
     || (status == 14) || (status == 16) || (status == 17) || (status == 18) || (status == 20)
-    || (status == 21) || (status == 22)
+    || (status == 21) || (status == 22) || (status == 23) || (status == 24)
 
 -- the statuses with which a command ends whose words have a form: done, a row lost, faults, want of memory,
 -- and refusals
@@ -124,15 +124,17 @@ pub record IsFaultless (old new : Seen) : Type 0 where
   pub source : Rose old.source_faults new.source_faults → ⊥
   pub sink : Rose old.sink_faults new.sink_faults → ⊥
 
--- a get, a list and an audit
+-- a get, a list, an audit and an upgrade
 abbrev pub keeps_blocks : Command → Bool
 keeps_blocks (GetOf name) = true
 keeps_blocks ListAll = true
 keeps_blocks AuditAll = true
+keeps_blocks UpgradeJournal = true
 keeps_blocks command = false
 
 -- a put or a drop of another name
 abbrev pub IsOfAnother : List ℕ → Command → Type 0
 IsOfAnother name (PutUnder other) = other ≢ name
+IsOfAnother name (PutAt other profile) = other ≢ name
 IsOfAnother name (DropOf other) = other ≢ name
 IsOfAnother name command = ⊥

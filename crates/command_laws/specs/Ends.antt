@@ -9,7 +9,11 @@
 --   SameHolds old new                  == each provider that was handed in holds what it held, where it tells
 --                                         it
 --   opens_store command                == the command looks at the records of a store
---   after_put records name size, after_drop, after_audit, after_repair
+--   put_of name own                    == the words of a put, with the profile that it names, or with none
+--   profile_named command              == the profile that a command names
+--   put_refusal records name bytes own == why a put is refused: for a profile that there is none of before all
+--                                         else, since its source is not read then
+--   after_put records name size own, after_drop, after_audit, after_repair, after_upgrade
 --                                      == the records that such a job that is done leaves
 --   ran_to after records old new heard == what a job left that was done, as it is seen
 --   RunsKind command old new kind      == the command runs a job of this kind: a put of what it read
@@ -18,28 +22,29 @@
 --   AreSafe records old new bytes      == for each file in effect at most b providers are wrong for its
 --                                         bytes, or failed
 --   HoldsFile records new bytes file j == what is told of provider j has each block of a file of these bytes
---   IsWholePut name old new end, IsDropped, IsAudited, IsRepaired
+--   IsWholePut name own old new end, IsDropped, IsAudited, IsRepaired, IsUpgraded
 --                                      == what a command has done that is done; its text is told, or cut off
-use Rattle.std.specs.Prelude.{◌≡◌, ◌⊎◌, ℕ, ◌+◌, ◌≤◌, ◌<◌, Bool, true, false, List, [], ◌∷◌, length, None, Some, IfSome, is_some}
+use Rattle.std.specs.Prelude.{◌≡◌, ◌⊎◌, ℕ, ◌+◌, ◌≤◌, ◌<◌, Bool, true, false, IsTrue, List, [], ◌∷◌, length, Option, None, Some, IfSome, is_some, if◌then◌else◌}
 use Rattle.column_defs.specs.Columns.{columns}
 use Rattle.device_defs.specs.Faults.{Rose}
 use Rattle.device_defs.specs.Images.{EachImage}
 use Rattle.device_defs.specs.Told.{told_then, TakesFront}
-use Rattle.record_defs.specs.Records.{Record, PutStart, PutDone, Drop, AuditStart, AuditDone, RepairDone, largest_file}
+use Rattle.record_defs.specs.Records.{Record, PutStart, Drop, AuditStart, AuditDone, RepairDone, Version, largest_file}
 use Rattle.record_defs.specs.Journal.{StandsFor}
-use Rattle.record_defs.specs.Table.{File, Due, file_as, profile_in, setup_of, next_id, next_audit, file_of, due_of}
-use Rattle.machine_defs.specs.Jobs.{Kind, PutJob, GetJob, DropJob, AuditJob, RepairJob}
+use Rattle.record_defs.specs.Table.{File, Due, file_as, files_of, version_of, next_id, next_audit, file_of, due_of}
+use Rattle.machine_defs.specs.Jobs.{Kind, PutJob, GetJob, DropJob, AuditJob, RepairJob, UpgradeJob}
 use Rattle.machine_defs.specs.Events.{AreBytes}
-use Rattle.machine_defs.specs.Refusals.{Refusal}
+use Rattle.machine_defs.specs.Begins.{chosen}
+use Rattle.machine_defs.specs.Refusals.{Refusal, BadProfile}
 use Rattle.machine_defs.specs.Heard.{Entry}
 use Rattle.command_defs.specs.Seen.{Seen, Ending, ReadsUpTo, IsRefused, provider_at}
 use Rattle.command_defs.specs.Opens.{IsOpened, Unstarted, setup_in_effect, object_in_effect, stripes_in_effect}
-use Rattle.command_defs.specs.Refusals.{refusal_over, status_of}
+use Rattle.command_defs.specs.Refusals.{is_unknown, refusal_over, status_of}
 use Rattle.command_defs.specs.Ran.{Ran, ran_alone, EachHeldGoes}
-use Rattle.command_defs.specs.Forms.{Command, RowOf, InitWith, PutUnder, GetOf, DropOf, AuditAll, RepairDue}
-use Rattle.command_defs.specs.Lines.{stored_line, dropped_line, audit_lines, repaired_line}
+use Rattle.command_defs.specs.Forms.{Command, RowOf, InitWith, PutUnder, PutAt, GetOf, DropOf, AuditAll, RepairDue, UpgradeJournal}
+use Rattle.command_defs.specs.Lines.{stored_line, dropped_line, audit_lines, repaired_line, upgraded_line}
 use Rattle.command_defs.specs.Blocks.{DroppedFrom}
-use Rattle.command_defs.specs.Puts.{StoresFile}
+use Rattle.command_defs.specs.Puts.{put_done, StoresFile}
 use Rattle.command_defs.specs.Audits.{HearsRounds, CountsHeard}
 use Rattle.command_defs.specs.Repairs.{RewritesAll}
 use Rattle.command_defs.specs.Jobs.{IsTold}
@@ -73,24 +78,44 @@ opens_store (RowOf n l b seen) = false
 opens_store (InitWith numbers) = false
 opens_store command = true
 
+-- the words of a put, with the profile that it names, or with none
+abbrev pub put_of : List ℕ → Option ℕ → Command
+put_of name None = PutUnder name
+put_of name (Some profile) = PutAt name profile
+
+-- the profile that a command names
+abbrev pub profile_named : Command → Option ℕ
+profile_named (PutAt name profile) = Some profile
+profile_named command = None
+
+-- why a put is refused: for a profile that there is none of before all else
+abbrev pub put_refusal : List Record → List ℕ → List ℕ → Option ℕ → Option Refusal
+put_refusal records name bytes own =
+    if is_unknown own then Some BadProfile else refusal_over records (PutJob name bytes) own
+
 -- the kind of the job that a command runs
 abbrev pub RunsKind : Command → Seen → Seen → Kind → Type 0
 RunsKind (PutUnder name) old new kind =
+    (bytes : List ℕ) × ReadsUpTo (largest_file + 1) old.source new.source bytes × (kind ≡ PutJob name bytes)
+RunsKind (PutAt name profile) old new kind =
     (bytes : List ℕ) × ReadsUpTo (largest_file + 1) old.source new.source bytes × (kind ≡ PutJob name bytes)
 RunsKind (GetOf name) old new kind = kind ≡ GetJob name
 RunsKind (DropOf name) old new kind = kind ≡ DropJob name
 RunsKind AuditAll old new kind = kind ≡ AuditJob
 RunsKind RepairDue old new kind = kind ≡ RepairJob
+RunsKind UpgradeJournal old new kind = kind ≡ UpgradeJob
 RunsKind command old new kind = ⊥
 
--- a command is done, or found no memory, or is refused: before its begin, or for the first cause that
--- applies over records that a start accepts
+-- a command is done, or found no memory, or is refused: before its begin, for a profile that there is none
+-- of, or for the first cause that applies over records that a start accepts
 pub data EndsInOrder (command : Command) (old new : Seen) (end : Ending) : Type 0 where
   done : end.status ≡ 0 → EndsInOrder command old new end
   no_memory : end.status ≡ 70 → EndsInOrder command old new end
   unstarted : Unstarted old new end → EndsInOrder command old new end
+  bad_profile : (records : List Record) → IsOpened old records → IsTrue (is_unknown (profile_named command))
+      → IsRefused 20 0 old new end → EndsInOrder command old new end
   refused : (records : List Record) (kind : Kind) (why : Refusal) → IsOpened old records
-      → RunsKind command old new kind → refusal_over records kind ≡ Some why →
+      → RunsKind command old new kind → refusal_over records kind (profile_named command) ≡ Some why →
       IsRefused (status_of why) 0 old new end → EndsInOrder command old new end
 
 -- a status of a fault comes only where the count of that device rose; that of a provider is told by its place
@@ -114,8 +139,8 @@ HoldsFile records new bytes file j = (stripe : ℕ) → stripe < stripes_in_effe
     (λ held. held file.id stripe ≡ Some (columns (object_in_effect records file) bytes j stripe))
 
 -- the records after a put
-abbrev pub after_put : List Record → List ℕ → ℕ → List Record
-after_put records name size = PutDone (next_id records) size ∷ PutStart (next_id records) name ∷ records
+abbrev pub after_put : List Record → List ℕ → ℕ → Option ℕ → List Record
+after_put records name size own = put_done records size own ∷ PutStart (next_id records) name ∷ records
 
 -- the records after a drop
 abbrev pub after_drop : List Record → List ℕ → List Record
@@ -130,6 +155,10 @@ after_audit records undecided counts =
 abbrev pub after_repair : List Record → Due → List Record
 after_repair records due = RepairDone due.number ∷ records
 
+-- the records after an upgrade
+abbrev pub after_upgrade : List Record → List Record
+after_upgrade records = Version ∷ records
+
 -- what a job left that was done, as it is seen
 abbrev pub ran_to : List Record → List Record → Seen → Seen → List Entry → Ran
 ran_to after records old new heard = ran_alone records old new heard old.disk_faults after None
@@ -138,8 +167,9 @@ ran_to after records old new heard = ran_alone records old new heard old.disk_fa
 abbrev pub DiskHas : List Record → Seen → Type 0
 DiskHas records new = EachImage new.disk (λ image. StandsFor image records)
 
--- a put: the whole source is stored on every provider, and in effect
-pub record IsWholePut (name : List ℕ) (old new : Seen) (end : Ending) : Type 0 where
+-- a put: the whole source is stored on every provider, and in effect, with the profile that was named, or
+-- else the setup's
+pub record IsWholePut (name : List ℕ) (own : Option ℕ) (old new : Seen) (end : Ending) : Type 0 where
   pub records : List Record
   pub bytes : List ℕ
   pub opened : IsOpened old records
@@ -147,11 +177,11 @@ pub record IsWholePut (name : List ℕ) (old new : Seen) (end : Ending) : Type 0
   pub read : ReadsUpTo (largest_file + 1) old.source new.source bytes
   pub whole : IfSome new.source (λ left. left ≡ [])
   pub told : IsTold (stored_line name (length bytes)) old new end
-  pub disk : DiskHas (after_put records name (length bytes)) new
-  pub in_effect : file_of (after_put records name (length bytes)) name
-      ≡ Some (file_as name (next_id records) (length bytes) (profile_in (setup_of records)))
-  pub stored : StoresFile (ran_to (after_put records name (length bytes)) records old new end.heard) name
-      bytes
+  pub disk : DiskHas (after_put records name (length bytes) own) new
+  pub in_effect : file_of (after_put records name (length bytes) own) name
+      ≡ Some (file_as name (next_id records) (length bytes) (chosen (setup_in_effect records) own))
+  pub stored : StoresFile (ran_to (after_put records name (length bytes) own) records old new end.heard) own
+      name bytes
 
 -- a drop: the file is no longer in effect, and its blocks are gone but where a count rose
 pub record IsDropped (name : List ℕ) (old new : Seen) (end : Ending) : Type 0 where
@@ -189,3 +219,15 @@ pub record IsRepaired (old new : Seen) (end : Ending) : Type 0 where
   pub told : IsTold (repaired_line due.number) old new end
   pub disk : DiskHas (after_repair records due) new
   pub rewritten : RewritesAll (ran_to (after_repair records due) records old new end.heard) due
+
+-- an upgrade: the journal has its second version, with the same files in effect, and providers hold what they
+-- held
+pub record IsUpgraded (old new : Seen) (end : Ending) : Type 0 where
+  pub records : List Record
+  pub opened : IsOpened old records
+  pub was_first : version_of records ≡ 1
+  pub told : IsTold upgraded_line old new end
+  pub disk : DiskHas (after_upgrade records) new
+  pub version : version_of (after_upgrade records) ≡ 2
+  pub files : files_of (after_upgrade records) ≡ files_of records
+  pub held : SameHolds old new

@@ -6,10 +6,13 @@
 --   held_name, held_file, other_name               == the name of the file, the file, and another name
 --   set_up_records, held_records                   == the records of a store that was set up, and of one with
 --                                                     the file
+--   upgraded_records, own_records                  == of one whose journal has its second version, and of one
+--                                                     with the file put into it with a profile of its own
 --   audited_records, due_records, repaired_records == of a store with no file after an audit, with a repair
 --                                                     due, and after it
---   put_store, audited_store, repaired_store       == what is seen after a put of the file, that audit, that
---                                                     repair
+--   put_store, audited_store, repaired_store, upgraded_store, own_store
+--                                                  == what is seen after a put of the file, that audit, that
+--                                                     repair, an upgrade, that put
 --   small_numbers, key_text, key_devices, ready_store
 --                                                  == the numbers of an init, its key, devices before it and
 --                                                     after it
@@ -22,11 +25,11 @@
 use Rattle.std.specs.Prelude.{ℕ, List, [], ◌∷◌, replicate, Some, None}
 use Rattle.device_defs.specs.Cells.{firm}
 use Rattle.device_defs.specs.Providers.{Provider}
-use Rattle.record_defs.specs.Records.{Record, Setup, SetUp, PutStart, PutDone, AuditStart, AuditDone, RepairDone}
+use Rattle.record_defs.specs.Records.{Record, Setup, SetUp, PutStart, PutDone, PutDoneIn, Version, AuditStart, AuditDone, RepairDone}
 use Rattle.record_defs.specs.Journal.{text}
 use Rattle.record_defs.specs.Table.{File, file_as}
 use Rattle.command_defs.specs.Forms.{Numbers, GetOf}
-use Rattle.command_defs.specs.Lines.{ready_line, stored_line, audit_lines, repaired_line}
+use Rattle.command_defs.specs.Lines.{ready_line, stored_line, audit_lines, repaired_line, upgraded_line}
 use Rattle.command_defs.specs.Seen.{Seen, Ending}
 use Rattle.command_laws.specs.Pieces.{Call}
 
@@ -93,6 +96,14 @@ set_up_records = SetUp small_setup ∷ []
 abbrev pub held_records : List Record
 held_records = PutDone 1 0 ∷ PutStart 1 held_name ∷ set_up_records
 
+-- of one whose journal has its second version
+abbrev pub upgraded_records : List Record
+upgraded_records = Version ∷ set_up_records
+
+-- and of one with the file put into it with a profile of its own
+abbrev pub own_records : List Record
+own_records = PutDoneIn 1 0 1 ∷ PutStart 1 held_name ∷ upgraded_records
+
 -- counts of no provider
 abbrev pub no_counts : List ℕ
 no_counts = replicate 4 0
@@ -140,6 +151,14 @@ audited_store = with_sink (store audited_records) (audit_lines 0 1 0 no_counts)
 -- what is seen after the repair
 abbrev pub repaired_store : Seen
 repaired_store = with_sink (store repaired_records) (repaired_line 1)
+
+-- what is seen after the upgrade
+abbrev pub upgraded_store : Seen
+upgraded_store = with_sink (store upgraded_records) upgraded_line
+
+-- what is seen after the put with a profile of its own
+abbrev pub own_store : Seen
+own_store = with_sink (store own_records) (stored_line held_name 0)
 
 -- an end that heard nothing
 abbrev pub ends : ℕ → Ending

@@ -2,10 +2,10 @@
 --
 --   KeepsImages old new                        == each image of the disk after a command is one that it had
 --                                                 before
---   AreAppended records kind own               == these are the records that a job of this kind appends over
---                                                 these records, the oldest first
---   IsAfter records kind image                 == an image stands for these records, with the first few of
---                                                 those of a job of this kind
+--   AreAppended records kind profile own       == these are the records that a job of this kind appends over
+--                                                 these records, the oldest first; a put also names a profile
+--   IsAfter records kind profile image         == an image stands for these records, with the first few of
+--                                                 those of such a job
 --   LeavesImages command old new               == the images are images as before, or a job was run over the
 --                                                 records that were read, and each image stands for these
 --                                                 with some that it wrote
@@ -13,9 +13,10 @@
 --                                                 that a failed init may leave
 --   SameFetches old new                        == no provider was fetched from
 --   stores_blocks command, opens_rows command  == a put and a repair; a get, a repair and a row
---   FailsToPut name old new end, FailsToRepair == what a put and a repair leave of which a store failed
+--   FailsToPut name profile old new end, FailsToRepair
+--                                              == what a put and a repair leave of which a store failed
 --   LosesFile name old new end, LosesRepair    == what a get and a repair leave that found a row lost
-use Rattle.std.specs.Prelude.{◌≡◌, ◌⊎◌, ℕ, ◌+◌, ◌<◌, Bool, true, false, List, [], ◌∷◌, ◌++◌, length, reverse, take, Some, IfSome}
+use Rattle.std.specs.Prelude.{◌≡◌, ◌⊎◌, ℕ, ◌+◌, ◌<◌, Bool, true, false, List, [], ◌∷◌, ◌++◌, length, reverse, take, Option, Some, IfSome}
 use Rattle.column_defs.specs.Verdicts.{is_flagged}
 use Rattle.device_defs.specs.Faults.{Rose}
 use Rattle.device_defs.specs.Images.{IsImage, EachImage}
@@ -25,7 +26,7 @@ use Rattle.record_defs.specs.Journal.{StandsFor}
 use Rattle.record_defs.specs.Table.{File, Due, next_id, file_of, due_of}
 use Rattle.machine_defs.specs.Events.{AreBytes}
 use Rattle.machine_defs.specs.Jobs.{Kind, PutJob, GetJob, DropJob, AuditJob, RepairJob, UpgradeJob}
-use Rattle.command_defs.specs.Forms.{Command, Numbers, RowOf, PutUnder, GetOf, RepairDue}
+use Rattle.command_defs.specs.Forms.{Command, Numbers, RowOf, PutUnder, PutAt, GetOf, RepairDue}
 use Rattle.command_defs.specs.Seen.{Seen, Ending, ReadsUpTo, provider_at}
 use Rattle.opening_defs.specs.Journals.{IsSetUpOn, MayBeLeft}
 use Rattle.command_defs.specs.Opens.{IsOpened, setup_in_effect}
@@ -34,27 +35,27 @@ use Rattle.command_defs.specs.Puts.{put_records, StoresPart}
 use Rattle.command_defs.specs.Gets.{LosesStripe}
 use Rattle.command_defs.specs.Audits.{audit_records}
 use Rattle.command_defs.specs.Repairs.{LosesAtPlace, RewritesSome}
-use Rattle.command_laws.specs.Ends.{RunsKind, DiskHas, ran_to}
+use Rattle.command_laws.specs.Ends.{profile_named, RunsKind, DiskHas, ran_to}
 
 -- each image of the disk is one that it had before
 abbrev pub KeepsImages : Seen → Seen → Type 0
 KeepsImages old new = IfSome old.disk (λ cells. EachImage new.disk (IsImage cells))
 
 -- the records that a job appends, the oldest first; a get has none
-abbrev pub AreAppended : List Record → Kind → List Record → Type 0
-AreAppended records (PutJob name bytes) own = own ≡ put_records records name (length bytes)
-AreAppended records (GetJob name) own = own ≡ []
-AreAppended records (DropJob name) own = own ≡ Drop name ∷ []
-AreAppended records AuditJob own =
+abbrev pub AreAppended : List Record → Kind → Option ℕ → List Record → Type 0
+AreAppended records (PutJob name bytes) profile own = own ≡ put_records records name (length bytes) profile
+AreAppended records (GetJob name) profile own = own ≡ []
+AreAppended records (DropJob name) profile own = own ≡ Drop name ∷ []
+AreAppended records AuditJob profile own =
     (undecided : ℕ) × (counts : List ℕ) × (own ≡ audit_records records undecided counts)
-AreAppended records RepairJob own =
+AreAppended records RepairJob profile own =
     (due : Due) × (due_of records ≡ Some due) × (own ≡ RepairDone due.number ∷ [])
-AreAppended records UpgradeJob own = own ≡ Version ∷ []
+AreAppended records UpgradeJob profile own = own ≡ Version ∷ []
 
 -- an image stands for records, with the first few of those of a job
-pub record IsAfter (records : List Record) (kind : Kind) (image : List ℕ) : Type 0 where
+pub record IsAfter (records : List Record) (kind : Kind) (profile : Option ℕ) (image : List ℕ) : Type 0 where
   pub own : List Record
-  pub are_own : AreAppended records kind own
+  pub are_own : AreAppended records kind profile own
   pub count : ℕ
   pub stands : StandsFor image (reverse (take count own) ++ records)
 
@@ -62,7 +63,7 @@ pub record IsAfter (records : List Record) (kind : Kind) (image : List ℕ) : Ty
 pub data LeavesImages (command : Command) (old new : Seen) : Type 0 where
   kept : KeepsImages old new → LeavesImages command old new
   ran : (records : List Record) (kind : Kind) → IsOpened old records → RunsKind command old new kind
-      → EachImage new.disk (IsAfter records kind) →
+      → EachImage new.disk (IsAfter records kind (profile_named command)) →
       LeavesImages command old new
 
 -- a store was set up, or each image is one that a failed init may leave
@@ -77,6 +78,7 @@ SameFetches old new = (j : ℕ) → (provider_at new.providers j).fetches ≡ (p
 -- a command that stores blocks
 abbrev pub stores_blocks : Command → Bool
 stores_blocks (PutUnder name) = true
+stores_blocks (PutAt name profile) = true
 stores_blocks RepairDue = true
 stores_blocks command = false
 
@@ -93,7 +95,7 @@ after_start records name = PutStart (next_id records) name ∷ records
 
 -- a store of a put failed: its number is used, no file came into effect or went out of it, and no repair
 -- came due or went
-pub record FailsToPut (name : List ℕ) (old new : Seen) (end : Ending) : Type 0 where
+pub record FailsToPut (name : List ℕ) (profile : Option ℕ) (old new : Seen) (end : Ending) : Type 0 where
   pub records : List Record
   pub bytes : List ℕ
   pub opened : IsOpened old records
@@ -106,7 +108,7 @@ pub record FailsToPut (name : List ℕ) (old new : Seen) (end : Ending) : Type 0
   pub disk : DiskHas (after_start records name) new
   pub files : (other : List ℕ) → file_of (after_start records name) other ≡ file_of records other
   pub due : due_of (after_start records name) ≡ due_of records
-  pub stored : StoresPart (ran_to (after_start records name) records old new end.heard) bytes
+  pub stored : StoresPart (ran_to (after_start records name) records old new end.heard) profile bytes
 
 -- a store of a repair failed, of a flagged provider: the repair stays due, and some of its blocks may have
 -- been written anew

@@ -2,7 +2,8 @@
 --
 --   IsStore w s                      == a sound state stands for what is seen of disk and providers; its store
 --                                       may be set up, or not, or a setup may be in doubt
---   IsSpelledCommand command         == the name in the command's words is of bytes
+--   IsSpelledCommand command         == the name in the command's words is of bytes, and a profile is one
+--   begin_of kind own                == the begin of a job; of a put also with a profile of its own
 --   unopened_status why              == the status that tells why no vault was opened
 --   IsCall command old new end w own == these moments are what the machine makes of a command: a later call
 --                                       of the program, a reopening, and where that opened, the begin of its
@@ -16,15 +17,15 @@
 --   last_seen first calls            == what is seen after them
 --   AreCalls w calls own             == the moments are those of the calls, with stops and replacements
 --                                       before each
-use Rattle.std.specs.Prelude.{◌≡◌, ◌⊎◌, ℕ, ◌<◌, Bool, true, List, [], ◌∷◌, ◌++◌, length, slice_get, slice_set, Some, IsSome, is_some}
+use Rattle.std.specs.Prelude.{◌≡◌, ◌⊎◌, ℕ, ◌<◌, Bool, true, IsTrue, List, [], ◌∷◌, ◌++◌, length, slice_get, slice_set, Option, Some, IsSome, is_some}
 use Rattle.device_defs.specs.Disks.{Stopped}
 use Rattle.device_defs.specs.Providers.{Provider, with_symbol, without_block, HasPlace}
 use Rattle.device_defs.specs.ProviderCalls.{Replaces}
 use Rattle.device_defs.specs.Told.{Goes}
 use Rattle.machine_defs.specs.Answers.{Answer}
-use Rattle.machine_defs.specs.Events.{Event, Begin, Step, Alter, Lose, Stop, Reopen, Names, Continue, Outcome, Refused, Opened, Begun, Ended, Listed, Continued, IsSpelled, AreBytes}
+use Rattle.machine_defs.specs.Events.{Event, Begin, BeginAt, Step, Alter, Lose, Stop, Reopen, Names, Continue, Outcome, Refused, Opened, Begun, Ended, Listed, Continued, IsSpelled, AreBytes}
 use Rattle.machine_defs.specs.Heard.{heard_by}
-use Rattle.machine_defs.specs.Jobs.{Kind, job_of}
+use Rattle.machine_defs.specs.Jobs.{Kind, PutJob, job_of}
 use Rattle.machine_defs.specs.Refusals as refusal
 use Rattle.machine_defs.specs.Refusals.{Refusal}
 use Rattle.machine_defs.specs.Runs.{Moment, now}
@@ -33,15 +34,15 @@ use Rattle.machine_defs.specs.States.{State, setup_in}
 use Rattle.machine_defs.specs.Transcripts.{GoOn}
 use Rattle.record_defs.specs.Table.{files_of}
 use Rattle.state_laws.specs.Sound.{IsSound}
-use Rattle.command_defs.specs.Forms.{Command, PutUnder, GetOf, DropOf, ListAll}
+use Rattle.command_defs.specs.Forms.{Command, PutUnder, PutAt, GetOf, DropOf, ListAll}
 use Rattle.command_defs.specs.Seen.{Seen, Ending, NoCountFalls, sinking}
 use Rattle.command_defs.specs.Sinking.{WritesLine}
 use Rattle.opening_defs.specs.Opened.{AreHanded}
 use Rattle.command_defs.specs.Jobs.{EndsByAnswer}
 use Rattle.command_defs.specs.Lines.{text_of, list_lines}
-use Rattle.command_defs.specs.Refusals.{status_of}
+use Rattle.command_defs.specs.Refusals.{is_unknown, status_of}
 use Rattle.command_defs.specs.Commands.{Answers}
-use Rattle.command_laws.specs.Ends.{RunsKind, opens_store}
+use Rattle.command_laws.specs.Ends.{profile_named, RunsKind, opens_store}
 
 -- a sound state stands for what is seen: each image of the disk for its records, or for these with the one
 -- in doubt, or it is too short for any where there are none; and the providers are its own
@@ -52,12 +53,18 @@ pub record IsStore (w : State) (s : Seen) : Type 0 where
   pub faults_are : w.disk_faults ≡ s.disk_faults
   pub handed : AreHanded s.providers w
 
--- the name in the words is of bytes
+-- the name in the words is of bytes, and a profile is one
 abbrev pub IsSpelledCommand : Command → Type 0
 IsSpelledCommand (PutUnder name) = AreBytes name
+IsSpelledCommand (PutAt name profile) = AreBytes name × (profile < 256)
 IsSpelledCommand (GetOf name) = AreBytes name
 IsSpelledCommand (DropOf name) = AreBytes name
 IsSpelledCommand command = Unit {0}
+
+-- the begin of a job, of a put also with a profile of its own
+abbrev pub begin_of : Kind → Option ℕ → Event
+begin_of (PutJob name bytes) (Some profile) = BeginAt profile name bytes
+begin_of kind own = Begin kind
 
 -- a moment
 abbrev pub moment : Event → Outcome → State → Moment
@@ -71,7 +78,8 @@ unopened_status refusal.TooFewProviders = 22
 unopened_status why = 70
 
 -- what the machine makes of a command from this state on: its store is not opened, for the reason that the
--- status tells; it is opened, and no more came of it; the begin of its job is refused; the names are listed,
+-- status tells; it is opened, and no more came of it, also where a put names a profile that there is none of;
+-- the begin of its job is refused; the names are listed,
 -- and the files in effect written; or its job began and went on to its end
 pub data IsCall (command : Command) (old new : Seen) (end : Ending) (w : State)
     (own : List Moment) : Type 0 where
@@ -81,8 +89,12 @@ pub data IsCall (command : Command) (old new : Seen) (end : Ending) (w : State)
   opened : (a b : State) → own ≡ moment Reopen Opened b ∷ moment Continue Continued a ∷ []
       → (end.status ≡ 14) ⊎ (end.status ≡ 70) → end.heard ≡ [] →
       IsCall command old new end w own
+  bad_profile : (a b : State) → own ≡ moment Reopen Opened b ∷ moment Continue Continued a ∷ []
+      → IsTrue (is_unknown (profile_named command)) → end.status ≡ 20 → end.heard ≡ []
+      → IsCall command old new end w own
   refused : (kind : Kind) (a b c : State) (why : Refusal) → RunsKind command old new kind →
-      own ≡ moment (Begin kind) (Refused why) c ∷ moment Reopen Opened b ∷ moment Continue Continued a ∷ [] →
+      own ≡ moment (begin_of kind (profile_named command)) (Refused why) c ∷ moment Reopen Opened b
+      ∷ moment Continue Continued a ∷ [] →
       end.status ≡ status_of why → end.heard ≡ [] → IsCall command old new end w own
   listed : (a b c : State) → command ≡ ListAll →
       own ≡ moment Names (Listed (files_of b.records)) c ∷ moment Reopen Opened b
@@ -92,8 +104,8 @@ pub data IsCall (command : Command) (old new : Seen) (end : Ending) (w : State)
   ended : (kind : Kind) (a b c d : State) (steps : List Moment) (answer : Answer)
       → RunsKind command old new kind → GoOn 1 steps →
       own ≡ moment (Step 1) (Ended answer) d
-      ∷ (steps ++ moment (Begin kind) (Begun 1) c ∷ moment Reopen Opened b ∷ moment Continue Continued a
-      ∷ []) →
+      ∷ (steps ++ moment (begin_of kind (profile_named command)) (Begun 1) c ∷ moment Reopen Opened b
+      ∷ moment Continue Continued a ∷ []) →
       EndsByAnswer (text_of (setup_in b).tolerance kind answer) answer old new end
       → end.heard ≡ heard_by (job_of (now c steps).jobs 1) →
       IsCall command old new end w own

@@ -7,7 +7,7 @@ ghost use Rattle.device_defs.specs.Faults.{Rose};
 ghost use Rattle.device_defs.specs.Told.{told_then};
 ghost use Rattle.record_defs.specs.Records.{Record, SetUp, is_name, largest_file};
 ghost use Rattle.record_defs.specs.Table.{File, Due, next_audit, file_of, due_of};
-ghost use Rattle.command_defs.specs.Forms.{Command, Numbers, RowOf, InitWith, PutUnder, GetOf, DropOf, ListAll, AuditAll, RepairDue};
+ghost use Rattle.command_defs.specs.Forms.{Command, Numbers, RowOf, InitWith, PutUnder, GetOf, DropOf, ListAll, AuditAll, RepairDue, UpgradeJournal};
 ghost use Rattle.command_defs.specs.Keys.{IsKeyForm};
 ghost use Rattle.command_defs.specs.Seen.{Seen, Ending, IsRefused, provider_at};
 ghost use Rattle.opening_defs.specs.Journals.{IsFree};
@@ -17,7 +17,7 @@ ghost use Rattle.command_defs.specs.Lines.{audit_lines};
 ghost use Rattle.command_defs.specs.Audits.{HearsRounds, CountsHeard};
 ghost use Rattle.command_defs.specs.Jobs.{IsTold};
 ghost use Rattle.command_defs.specs.Commands.{Answers, IsUsage};
-ghost use Rattle.command_laws.specs.Ends.{IsDone, IsKnown, GivesText, GivesUnlessMemory, opens_store, after_put, after_drop, after_audit, after_repair, ran_to};
+ghost use Rattle.command_laws.specs.Ends.{IsDone, IsKnown, GivesText, GivesUnlessMemory, opens_store, put_of, after_put, after_drop, after_audit, after_repair, after_upgrade, ran_to};
 ghost use Rattle.command_laws.specs.After.{IsSure, Follows, IsThen, is_refusal, HasRightFile, IsUntouched, IsSteady, spoilt_below, IsFaultless, keeps_blocks, IsOfAnother};
 ghost use Rattle.command_laws.specs.Kept.{after_start};
 ghost use Rattle.command_laws.specs.Opened.{IsKeyed};
@@ -53,18 +53,18 @@ pub fn stores_stay_known()
 {}
 
 /// After a command that is done, and after 4 or 13, the store is known, with the records that are said; and
-/// no stop harms it.
+/// no stop harms it. A put may name a profile of its own.
 pub fn done_commands_leave_known_stores()
     ensures init { (numbers : Numbers) (key : List ℕ) (old new : Seen) (end : Ending)
         → Answers (InitWith numbers) old new end → IsDone end →
         is_some old.disk ≡ true → ((bytes : List ℕ) × (old.source ≡ Some bytes) × IsKeyForm bytes key) →
         IsSure new (SetUp (setup_with numbers key) ∷ []) }
-    ensures put { (name bytes : List ℕ) (records : List Record) (old new : Seen) (end : Ending)
-        → Answers (PutUnder name) old new end →
+    ensures put { (name bytes : List ℕ) (own : Option ℕ) (records : List Record) (old new : Seen) (end : Ending)
+        → Answers (put_of name own) old new end →
         IsDone end → IsKnown old records → old.source ≡ Some bytes
-        → IsSure new (after_put records name (length bytes)) }
-    ensures failed_put { (name : List ℕ) (records : List Record) (old new : Seen) (end : Ending)
-        → Answers (PutUnder name) old new end →
+        → IsSure new (after_put records name (length bytes) own) }
+    ensures failed_put { (name : List ℕ) (own : Option ℕ) (records : List Record) (old new : Seen) (end : Ending)
+        → Answers (put_of name own) old new end →
         end.status ≡ 13 → IsKnown old records → IsSure new (after_start records name) }
     ensures get { (name : List ℕ) (records : List Record) (old new : Seen) (end : Ending)
         → Answers (GetOf name) old new end →
@@ -83,6 +83,9 @@ pub fn done_commands_leave_known_stores()
     ensures repair { (records : List Record) (due : Due) (old new : Seen) (end : Ending)
         → Answers RepairDue old new end → IsDone end →
         IsKnown old records → due_of records ≡ Some due → IsSure new (after_repair records due) }
+    ensures upgrade { (records : List Record) (old new : Seen) (end : Ending)
+        → Answers UpgradeJournal old new end → IsDone end →
+        IsKnown old records → IsSure new (after_upgrade records) }
     ensures failed_repair { (records : List Record) (old new : Seen) (end : Ending)
         → Answers RepairDue old new end →
         (end.status ≡ 4) ⊎ (end.status ≡ 13) → IsKnown old records → IsSure new records }
@@ -90,25 +93,25 @@ pub fn done_commands_leave_known_stores()
 
 /// A put that is done leaves its file, right on every provider that tells what it holds, and so does one that
 /// was cut off or found no memory, where the next command finds its end in effect. Between two commands the
-/// file stays so on each provider that nobody touches. A get, a list, an audit, a put and a drop of another
-/// name leave it as it is, whatever comes of them, and so does a refusal. A repair that is done makes each
+/// file stays so on each provider that nobody touches. A get, a list, an audit, an upgrade, a put and a drop of
+/// another name leave it as it is, whatever comes of them, and so does a refusal. A repair that is done makes each
 /// flagged provider right for it, where at most b providers are spoilt or fail; so does one that was cut off,
 /// where the next command finds its end in effect.
 pub fn files_stay()
-    ensures put { (name bytes : List ℕ) (records : List Record) (spoilt : ℕ → Bool) (old new : Seen)
+    ensures put { (name bytes : List ℕ) (own : Option ℕ) (records : List Record) (spoilt : ℕ → Bool) (old new : Seen)
         (end : Ending) →
-        Answers (PutUnder name) old new end → IsDone end → IsKnown old records → old.source ≡ Some bytes →
+        Answers (put_of name own) old new end → IsDone end → IsKnown old records → old.source ≡ Some bytes →
         ((j : ℕ) → j < (setup_in_effect records).n → spoilt j ≡ false
         → is_some (provider_at old.providers j).held ≡ true) →
-        HasRightFile new (after_put records name (length bytes)) name bytes spoilt }
-    ensures put_in_effect { (name bytes : List ℕ) (records : List Record) (spoilt : ℕ → Bool)
+        HasRightFile new (after_put records name (length bytes) own) name bytes spoilt }
+    ensures put_in_effect { (name bytes : List ℕ) (own : Option ℕ) (records : List Record) (spoilt : ℕ → Bool)
         (old new next : Seen) (end : Ending) →
-        Answers (PutUnder name) old new end → IsSure old records → old.source ≡ Some bytes
+        Answers (put_of name own) old new end → IsSure old records → old.source ≡ Some bytes
         → Follows new next →
-        IsKnown next (after_put records name (length bytes)) →
+        IsKnown next (after_put records name (length bytes) own) →
         ((j : ℕ) → j < (setup_in_effect records).n → spoilt j ≡ false
         → is_some (provider_at old.providers j).held ≡ true) →
-        HasRightFile new (after_put records name (length bytes)) name bytes spoilt }
+        HasRightFile new (after_put records name (length bytes) own) name bytes spoilt }
     ensures next { (name bytes : List ℕ) (records : List Record) (spoilt : ℕ → Bool) (new next : Seen)
         → HasRightFile new records name bytes spoilt →
         IsUntouched (setup_in_effect records).n spoilt new next
@@ -211,9 +214,9 @@ pub fn put_files_are_got()
         IsFaultless a b → IsFaultless c d → IsFaultless e f → first.status ≢ 70 → second.status ≢ 70
         → last.status ≢ 70 →
         (first.status ≡ 0) × (second.status ≡ 0) × GivesText bytes e f last }
-    ensures got { (numbers : Numbers) (key name bytes : List ℕ) (spoilt : ℕ → Bool) (a b c d e f : Seen)
+    ensures got { (numbers : Numbers) (key name bytes : List ℕ) (own : Option ℕ) (spoilt : ℕ → Bool) (a b c d e f : Seen)
         (first second last : Ending) →
-        Answers (InitWith numbers) a b first → Answers (PutUnder name) c d second
+        Answers (InitWith numbers) a b first → Answers (put_of name own) c d second
         → Answers (GetOf name) e f last → Follows b c → Follows d e →
         is_some a.disk ≡ true → ((text : List ℕ) × (a.source ≡ Some text) × IsKeyForm text key)
         → c.source ≡ Some bytes →
@@ -223,9 +226,9 @@ pub fn put_files_are_got()
         → spoilt_below numbers.n spoilt ≤ numbers.b →
         (Rose e.disk_faults f.disk_faults → ⊥) → (Rose e.sink_faults f.sink_faults → ⊥)
         → GivesUnlessMemory bytes e f last }
-    ensures again { (name bytes : List ℕ) (records : List Record) (spoilt : ℕ → Bool) (c d e f : Seen)
+    ensures again { (name bytes : List ℕ) (own : Option ℕ) (records : List Record) (spoilt : ℕ → Bool) (c d e f : Seen)
         (second last : Ending) →
-        Answers (PutUnder name) c d second → Answers (GetOf name) e f last → Follows d e → IsKnown c records
+        Answers (put_of name own) c d second → Answers (GetOf name) e f last → Follows d e → IsKnown c records
         → c.source ≡ Some bytes →
         IsDone second → ((j : ℕ) → j < (setup_in_effect records).n → spoilt j ≡ false
         → is_some (provider_at c.providers j).held ≡ true) →
@@ -254,9 +257,9 @@ pub fn put_files_are_got()
         spoilt_below (setup_in_effect records).n later ≤ (setup_in_effect records).b →
         (Rose e.disk_faults f.disk_faults → ⊥) → (Rose e.sink_faults f.sink_faults → ⊥)
         → GivesUnlessMemory bytes e f last }
-    ensures mended { (name bytes : List ℕ) (records : List Record) (spoilt : ℕ → Bool)
+    ensures mended { (name bytes : List ℕ) (own : Option ℕ) (records : List Record) (spoilt : ℕ → Bool)
         (a b c d e f g h : Seen) (first second third last : Ending) →
-        Answers (PutUnder name) a b first → Answers AuditAll c d second → Answers RepairDue e f third
+        Answers (put_of name own) a b first → Answers AuditAll c d second → Answers RepairDue e f third
         → Answers (GetOf name) g h last →
         Follows b c → Follows d e → Follows f g → IsKnown a records → a.source ≡ Some bytes → IsDone first
         → IsDone second → IsDone third →

@@ -1,27 +1,28 @@
 //! What a user may believe of a command, from its status and the counts of its devices: no run of its job and
 //! no state stands in it.
-ghost use Rattle.std.specs.Prelude.{◌≡◌, ◌≢◌, ◌⊎◌, ℕ, ◌+◌, ◌<◌, ◌≤◌, true, List, length, Option, Some, None};
+ghost use Rattle.std.specs.Prelude.{◌≡◌, ◌≢◌, ◌⊎◌, ℕ, ◌+◌, ◌-◌, ◌^◌, ◌<◌, ◌≤◌, true, false, List, length, Option, Some, None};
 ghost use Rattle.column_defs.specs.Verdicts.{is_flagged};
 ghost use Rattle.device_defs.specs.Cells.{Cells};
 ghost use Rattle.device_defs.specs.Faults.{Rose};
 ghost use Rattle.device_defs.specs.Told.{told_then, TakesFront};
-ghost use Rattle.record_defs.specs.Records.{Record};
-ghost use Rattle.record_defs.specs.Table.{File, Due, file_of, due_of};
+ghost use Rattle.record_defs.specs.Records.{Record, is_name, largest_file, largest_journal, all_profiles};
+ghost use Rattle.record_defs.specs.Journal.{text_size};
+ghost use Rattle.record_defs.specs.Table.{File, Due, version_of, next_id, file_of, due_of};
 ghost use Rattle.record_defs.specs.Reading.{HasNoSetup};
-ghost use Rattle.machine_defs.specs.Jobs.{Kind, PutJob, DropJob, AuditJob, RepairJob};
+ghost use Rattle.machine_defs.specs.Jobs.{Kind, PutJob, DropJob, AuditJob, RepairJob, UpgradeJob};
 ghost use Rattle.machine_defs.specs.Events.{AreBytes};
 ghost use Rattle.machine_defs.specs.Heard.{HoldsForgery};
 ghost use Rattle.machine_defs.specs.Refusals.{Refusal};
-ghost use Rattle.command_defs.specs.Forms.{Command, Numbers, RowOf, InitWith, PutUnder, GetOf, DropOf, ListAll, AuditAll, RepairDue};
+ghost use Rattle.command_defs.specs.Forms.{Command, Numbers, RowOf, InitWith, GetOf, DropOf, ListAll, AuditAll, RepairDue, UpgradeJournal};
 ghost use Rattle.command_defs.specs.Seen.{Seen, Ending, IsRefused, provider_at};
 ghost use Rattle.opening_defs.specs.Journals.{journal_read, IsRead, IsBadStart};
 ghost use Rattle.command_defs.specs.Opens.{setup_in_effect, object_in_effect};
-ghost use Rattle.command_defs.specs.Refusals.{refusal_over, status_of};
-ghost use Rattle.command_defs.specs.Lines.{stored_line, dropped_line, repaired_line};
+ghost use Rattle.command_defs.specs.Refusals.{is_crowded_by, refusal_over, status_of};
+ghost use Rattle.command_defs.specs.Lines.{stored_line, dropped_line, upgraded_line};
 ghost use Rattle.command_defs.specs.Jobs.{AnswersJob};
 ghost use Rattle.command_defs.specs.Commands.{AnswersAlone, Answers};
 ghost use Rattle.job_laws.specs.Failing.{bad_seen};
-ghost use Rattle.command_laws.specs.Ends.{IsDone, IsKnown, GivesUnlessMemory, EndsInOrder, SameHolds, opens_store, FaultsHaveCauses, AreSafe, HoldsFile, IsWholePut, IsDropped, IsAudited, IsRepaired};
+ghost use Rattle.command_laws.specs.Ends.{IsDone, IsKnown, GivesUnlessMemory, EndsInOrder, SameHolds, opens_store, put_of, put_refusal, FaultsHaveCauses, AreSafe, HoldsFile, IsWholePut, IsDropped, IsAudited, IsRepaired, IsUpgraded};
 ghost use Rattle.command_laws.specs.Kept.{LosesFile, LosesRepair};
 
 /// A get of a file gives it whole, or finds no memory, where at most b providers are wrong for the file or
@@ -69,35 +70,49 @@ pub fn gets_give_the_file()
         → EndsInOrder (GetOf name) old new end ⊎ LosesFile name old new end }
 {}
 
-/// A get, a list and an audit leave what each provider holds, at any status.
+/// A get, a list, an audit and an upgrade leave what each provider holds, at any status.
 pub fn reads_leave_what_is_held()
     ensures get { (name : List ℕ) (old new : Seen) (end : Ending) → Answers (GetOf name) old new end
         → SameHolds old new }
     ensures list { (old new : Seen) (end : Ending) → Answers ListAll old new end → SameHolds old new }
     ensures audit { (old new : Seen) (end : Ending) → Answers AuditAll old new end → SameHolds old new }
+    ensures upgrade { (old new : Seen) (end : Ending) → Answers UpgradeJournal old new end
+        → SameHolds old new }
 {}
 
-/// A put of status 0 or 15 has stored its whole source on every provider, and brought it into effect. A put
+/// A put of status 0 or 15 has stored its whole source on every provider, and brought it into effect, with the
+/// profile that it names or else the setup's. A put
 /// ends so, or finds no memory, or is refused with its cause, unless a count of faults rose: the disk's, that
 /// of a provider's stores, the source's or the sink's. Over a disk and a source that tell, one that is not
 /// refused ends so.
 pub fn puts_store_the_source()
-    ensures done { (name : List ℕ) (old new : Seen) (end : Ending) → Answers (PutUnder name) old new end
-        → IsDone end → IsWholePut name old new end }
-    ensures ends_well { (name bytes : List ℕ) (records : List Record) (old new : Seen) (end : Ending)
-        → Answers (PutUnder name) old new end →
-        IsKnown old records → old.source ≡ Some bytes → refusal_over records (PutJob name bytes) ≡ None
+    ensures done { (name : List ℕ) (own : Option ℕ) (old new : Seen) (end : Ending)
+        → Answers (put_of name own) old new end → IsDone end → IsWholePut name own old new end }
+    ensures ends_well { (name bytes : List ℕ) (own : Option ℕ) (records : List Record) (old new : Seen)
+        (end : Ending) → Answers (put_of name own) old new end →
+        IsKnown old records → old.source ≡ Some bytes
+        → refusal_over records (PutJob name bytes) own ≡ None
         → (Rose old.disk_faults new.disk_faults → ⊥) →
         ((j : ℕ) → j < (setup_in_effect records).n
         → Rose (provider_at old.providers j).store_faults (provider_at new.providers j).store_faults → ⊥) →
         (Rose old.source_faults new.source_faults → ⊥) → (Rose old.sink_faults new.sink_faults → ⊥) →
         GivesUnlessMemory (stored_line name (length bytes)) old new end }
-    ensures ends { (name : List ℕ) (old new : Seen) (end : Ending) → Answers (PutUnder name) old new end
-        → (Rose old.disk_faults new.disk_faults → ⊥) →
+    ensures ends { (name : List ℕ) (own : Option ℕ) (old new : Seen) (end : Ending)
+        → Answers (put_of name own) old new end → (Rose old.disk_faults new.disk_faults → ⊥) →
         ((j : ℕ) → Rose (provider_at old.providers j).store_faults
         (provider_at new.providers j).store_faults → ⊥) →
         (Rose old.source_faults new.source_faults → ⊥) → (Rose old.sink_faults new.sink_faults → ⊥)
-        → EndsInOrder (PutUnder name) old new end }
+        → EndsInOrder (put_of name own) old new end }
+{}
+
+/// A put that names a profile is not refused where the journal has its second version, the profile is one,
+/// the name and the length are good, and its two records and their numbers find room.
+pub fn own_profiles_are_taken()
+    ensures { (name bytes : List ℕ) (own : ℕ) (records : List Record) → version_of records ≡ 2
+        → own < all_profiles → is_name name ≡ true → length bytes ≤ largest_file
+        → is_crowded_by records name ≡ false
+        → text_size records + 26 + length name ≤ largest_journal → next_id records ≤ 2 ^ 64 - 32
+        → refusal_over records (PutJob name bytes) (Some own) ≡ None }
 {}
 
 /// A drop of status 0 or 15 has taken the file out of effect and away from each provider, but for blocks that
@@ -108,7 +123,7 @@ pub fn drops_take_the_file_away()
         → IsDone end → IsDropped name old new end }
     ensures ends_well { (name : List ℕ) (records : List Record) (old new : Seen) (end : Ending)
         → Answers (DropOf name) old new end →
-        IsKnown old records → refusal_over records (DropJob name) ≡ None
+        IsKnown old records → refusal_over records (DropJob name) None ≡ None
         → (Rose old.disk_faults new.disk_faults → ⊥) →
         (Rose old.sink_faults new.sink_faults → ⊥) → GivesUnlessMemory (dropped_line name) old new end }
     ensures ends { (name : List ℕ) (old new : Seen) (end : Ending) → Answers (DropOf name) old new end
@@ -123,7 +138,7 @@ pub fn audits_count_what_they_hear()
         → IsAudited old new end }
     ensures ends_well { (records : List Record) (old new : Seen) (end : Ending)
         → Answers AuditAll old new end → IsKnown old records →
-        refusal_over records AuditJob ≡ None → (Rose old.disk_faults new.disk_faults → ⊥)
+        refusal_over records AuditJob None ≡ None → (Rose old.disk_faults new.disk_faults → ⊥)
         → (Rose old.sink_faults new.sink_faults → ⊥) →
         (end.status ≡ 0) ⊎ (end.status ≡ 70) }
     ensures ends { (old new : Seen) (end : Ending) → Answers AuditAll old new end
@@ -142,7 +157,7 @@ pub fn repairs_write_anew()
         → IsRepaired old new end }
     ensures ends_well { (records : List Record) (old new : Seen) (end : Ending) (bytes : ℕ → List ℕ)
         → Answers RepairDue old new end →
-        IsKnown old records → refusal_over records RepairJob ≡ None
+        IsKnown old records → refusal_over records RepairJob None ≡ None
         → (Rose old.disk_faults new.disk_faults → ⊥) →
         ((j : ℕ) → j < (setup_in_effect records).n
         → Rose (provider_at old.providers j).store_faults (provider_at new.providers j).store_faults → ⊥) →
@@ -164,36 +179,54 @@ pub fn repairs_write_anew()
         → EndsInOrder RepairDue old new end ⊎ LosesRepair old new end }
 {}
 
+/// An upgrade of status 0 or 15 has given the journal its second version, with the same files in effect, and
+/// left what each provider holds. One that is not refused ends so, or finds no memory, unless the disk or the
+/// sink failed; it is not refused where the journal has its first version and room for the record.
+pub fn upgrades_end_well()
+    ensures done { (old new : Seen) (end : Ending) → Answers UpgradeJournal old new end → IsDone end
+        → IsUpgraded old new end }
+    ensures ends_well { (records : List Record) (old new : Seen) (end : Ending)
+        → Answers UpgradeJournal old new end → IsKnown old records →
+        refusal_over records UpgradeJob None ≡ None → (Rose old.disk_faults new.disk_faults → ⊥)
+        → (Rose old.sink_faults new.sink_faults → ⊥) → GivesUnlessMemory upgraded_line old new end }
+    ensures ends { (old new : Seen) (end : Ending) → Answers UpgradeJournal old new end
+        → (Rose old.disk_faults new.disk_faults → ⊥) →
+        (Rose old.sink_faults new.sink_faults → ⊥) → EndsInOrder UpgradeJournal old new end }
+    ensures begins { (records : List Record) → version_of records ≡ 1
+        → text_size records + 3 ≤ largest_journal → refusal_over records UpgradeJob None ≡ None }
+{}
+
 /// A job has the status of a refusal only where that is the first of its refusals to apply; and where one
 /// applies, the command ends with its status, or that of no memory, and has changed nothing. So it is of the
-/// job of a command over records that were read, and of a command over a disk that tells.
+/// job of a command over records that were read, and of a command over a disk that tells. A put that names a
+/// profile of which there is none is refused for it before all else.
 pub fn refusals_are_exact()
-    ensures only { (kind : Kind) (records : List Record) (old new : Seen) (end : Ending) (why : Refusal)
-        → AnswersJob kind records old new end →
-        status_of why ≢ 70 → end.status ≡ status_of why → refusal_over records kind ≡ Some why }
-    ensures always { (kind : Kind) (records : List Record) (old new : Seen) (end : Ending) (why : Refusal)
-        → AnswersJob kind records old new end →
-        refusal_over records kind ≡ Some why
+    ensures only { (kind : Kind) (own : Option ℕ) (records : List Record) (old new : Seen) (end : Ending)
+        (why : Refusal) → AnswersJob kind own records old new end →
+        status_of why ≢ 70 → end.status ≡ status_of why → refusal_over records kind own ≡ Some why }
+    ensures always { (kind : Kind) (own : Option ℕ) (records : List Record) (old new : Seen) (end : Ending)
+        (why : Refusal) → AnswersJob kind own records old new end →
+        refusal_over records kind own ≡ Some why
         → IsRefused (status_of why) 0 old new end ⊎ IsRefused 70 0 old new end }
     ensures known_only { (kind : Kind) (records : List Record) (old new : Seen) (end : Ending)
         (why : Refusal) → AnswersAlone kind old new end →
         IsKnown old records → status_of why ≢ 70 → end.status ≡ status_of why
-        → refusal_over records kind ≡ Some why }
+        → refusal_over records kind None ≡ Some why }
     ensures known_always { (kind : Kind) (records : List Record) (old new : Seen) (end : Ending)
         (why : Refusal) → AnswersAlone kind old new end →
         IsKnown old records → (Rose old.disk_faults new.disk_faults → ⊥)
-        → refusal_over records kind ≡ Some why →
+        → refusal_over records kind None ≡ Some why →
         IsRefused (status_of why) 0 old new end ⊎ IsRefused 70 0 old new end }
-    ensures put_only { (name bytes : List ℕ) (records : List Record) (old new : Seen) (end : Ending)
-        (why : Refusal) →
-        Answers (PutUnder name) old new end → IsKnown old records → old.source ≡ Some bytes
+    ensures put_only { (name bytes : List ℕ) (own : Option ℕ) (records : List Record) (old new : Seen)
+        (end : Ending) (why : Refusal) →
+        Answers (put_of name own) old new end → IsKnown old records → old.source ≡ Some bytes
         → status_of why ≢ 70 →
-        end.status ≡ status_of why → refusal_over records (PutJob name bytes) ≡ Some why }
-    ensures put_always { (name bytes : List ℕ) (records : List Record) (old new : Seen) (end : Ending)
-        (why : Refusal) →
-        Answers (PutUnder name) old new end → IsKnown old records → old.source ≡ Some bytes
+        end.status ≡ status_of why → put_refusal records name bytes own ≡ Some why }
+    ensures put_always { (name bytes : List ℕ) (own : Option ℕ) (records : List Record) (old new : Seen)
+        (end : Ending) (why : Refusal) →
+        Answers (put_of name own) old new end → IsKnown old records → old.source ≡ Some bytes
         → (Rose old.disk_faults new.disk_faults → ⊥) →
-        (Rose old.source_faults new.source_faults → ⊥) → refusal_over records (PutJob name bytes) ≡ Some why →
+        (Rose old.source_faults new.source_faults → ⊥) → put_refusal records name bytes own ≡ Some why →
         IsRefused (status_of why) 0 old new end ⊎ IsRefused 70 0 old new end }
 {}
 

@@ -5,7 +5,7 @@ ghost use Rattle.record_defs.specs.Records.{SetUp};
 ghost use Rattle.record_defs.specs.Table.{files_of};
 ghost use Rattle.machine_defs.specs.Openings.{IsNotSetUp};
 ghost use Rattle.machine_defs.specs.States.{State};
-ghost use Rattle.command_defs.specs.Forms.{InitWith, PutUnder, GetOf, ListAll, AuditAll, RepairDue, RowOf};
+ghost use Rattle.command_defs.specs.Forms.{InitWith, PutUnder, PutAt, GetOf, ListAll, AuditAll, RepairDue, UpgradeJournal, RowOf};
 ghost use Rattle.command_defs.specs.Lines.{list_lines};
 ghost use Rattle.command_defs.specs.Opens.{setup_in_effect};
 ghost use Rattle.command_defs.specs.Seen.{NoCountFalls};
@@ -14,16 +14,18 @@ ghost use Rattle.job_laws.specs.Failing.{bad_seen};
 ghost use Rattle.command_laws.specs.After.{IsSure, Follows, HasRightFile, IsUntouched, IsSteady, IsFaultless};
 ghost use Rattle.command_laws.specs.Opened.{IsKeyed};
 ghost use Rattle.command_laws.specs.Pieces.{IsStore, IsLater, IsChain};
-ghost use Rattle.command_laws.specs.Instances.{store, small_setup, small_numbers, key_devices, ready_store, put_store, held_name, held_file, other_name, set_up_records, held_records, due_records, audited_store, repaired_store, empty_devices, failed_devices, with_sink, ends, get_held, get_other};
+ghost use Rattle.command_laws.specs.Instances.{store, small_setup, small_numbers, key_devices, ready_store, put_store, held_name, held_file, other_name, set_up_records, held_records, upgraded_records, own_records, due_records, audited_store, repaired_store, upgraded_store, own_store, empty_devices, failed_devices, with_sink, ends, get_held, get_other};
 
-/// A store that was set up, one with one empty file, and one with a repair due are known, in each image of
-/// the disk. The file is right on all providers, none of which is wrong or failed; the next command finds it
+/// A store that was set up, one with one empty file, one with a repair due, one whose journal has its second
+/// version and one with a file that has a profile of its own are known, in each image of the disk. The file is right on all providers, none of which is wrong or failed; the next command finds it
 /// so; and a state of the abstract client stands for the store, as one does for a disk on which nothing is set
 /// up, and for one of which an init failed, whose setup is in doubt.
 pub fn there_are_known_stores()
     ensures set_up { IsSure (store set_up_records) set_up_records }
     ensures sure { IsSure (store held_records) held_records }
     ensures due { IsSure (store due_records) due_records }
+    ensures upgraded { IsSure (store upgraded_records) upgraded_records }
+    ensures own { IsSure (store own_records) own_records }
     ensures file { HasRightFile (store held_records) held_records held_name [] (λ j. false) }
     ensures none_bad { bad_seen held_records (store held_records) (store held_records) held_file []
         ≤ (setup_in_effect held_records).b }
@@ -43,7 +45,9 @@ pub fn there_are_known_stores()
 /// An init with a key sets up an empty disk. Over a store that was set up a put of the empty file is done,
 /// and leaves that store. Over it a get gives the file, a get of another name ends with 3, and a list gives
 /// the files; over an empty disk a get ends with 9; a row whose numbers are no shape ends with 20, and words
-/// that are no command with 2. Over a store with no file an audit is done, and a repair that was due. Two
+/// that are no command with 2. Over a store with no file an audit is done, and a repair that was due. An
+/// upgrade is done over a store that was set up, and over the upgraded one a put with a profile of its own; a
+/// profile that there is none of, one in a journal of the first version, and a second upgrade are refused. Two
 /// gets are a chain.
 pub fn there_are_answers()
     ensures got { Answers (GetOf held_name) (store held_records) (store held_records) (ends 0) }
@@ -58,6 +62,14 @@ pub fn there_are_answers()
     ensures put { Answers (PutUnder held_name) (store set_up_records) put_store (ends 0) }
     ensures audit { Answers AuditAll (store set_up_records) audited_store (ends 0) }
     ensures repair { Answers RepairDue (store due_records) repaired_store (ends 0) }
+    ensures upgrade { Answers UpgradeJournal (store set_up_records) upgraded_store (ends 0) }
+    ensures own_put { Answers (PutAt held_name 1) (store upgraded_records) own_store (ends 0) }
+    ensures bad_profile { Answers (PutAt held_name 5) (store set_up_records) (store set_up_records)
+        (ends 20) }
+    ensures old_version { Answers (PutAt held_name 1) (store set_up_records) (store set_up_records)
+        (ends 23) }
+    ensures new_version { Answers UpgradeJournal (store upgraded_records) (store upgraded_records)
+        (ends 24) }
     ensures counts { NoCountFalls (store held_records) (store held_records) }
     ensures chain { IsChain (store held_records) (get_held ∷ get_other ∷ []) }
 {}

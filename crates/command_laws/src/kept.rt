@@ -5,10 +5,10 @@ ghost use Rattle.device_defs.specs.Images.{EachImage};
 ghost use Rattle.record_defs.specs.Records.{Record};
 ghost use Rattle.record_defs.specs.Journal.{StandsFor};
 ghost use Rattle.machine_defs.specs.Jobs.{Kind};
-ghost use Rattle.command_defs.specs.Forms.{Command, Numbers, RowOf, InitWith, PutUnder, GetOf, DropOf, ListAll, AuditAll, RepairDue};
+ghost use Rattle.command_defs.specs.Forms.{Command, Numbers, RowOf, InitWith, GetOf, DropOf, ListAll, AuditAll, RepairDue, UpgradeJournal};
 ghost use Rattle.command_defs.specs.Seen.{Seen, Ending, IsRefused};
 ghost use Rattle.command_defs.specs.Commands.{Answers};
-ghost use Rattle.command_laws.specs.Ends.{IsKnown, RunsKind, opens_store};
+ghost use Rattle.command_laws.specs.Ends.{IsKnown, put_of, profile_named, RunsKind, opens_store};
 ghost use Rattle.command_laws.specs.Kept.{KeepsImages, IsAfter, LeavesImages, InitImages, SameFetches, stores_blocks, opens_rows, FailsToPut, FailsToRepair, LosesFile, LosesRepair};
 
 /// What a stop may leave of the disk after a command: what it could have left before, or, where a job was
@@ -27,7 +27,8 @@ pub fn images_stand()
         opens_store command ≡ true → IsKnown old records
         → EachImage old.disk (λ image. StandsFor image records) →
         EachImage new.disk (λ image. StandsFor image records
-        ⊎ ((kind : Kind) × RunsKind command old new kind × IsAfter records kind image)) }
+        ⊎ ((kind : Kind) × RunsKind command old new kind
+        × IsAfter records kind (profile_named command) image)) }
     ensures init { (numbers : Numbers) (old new : Seen) (end : Ending)
         → Answers (InitWith numbers) old new end → InitImages numbers old new }
     ensures init_known { (numbers : Numbers) (records : List Record) (old new : Seen) (end : Ending)
@@ -35,13 +36,15 @@ pub fn images_stand()
         records ≢ [] → EachImage old.disk (λ image. StandsFor image records) → KeepsImages old new }
 {}
 
-/// A put, a drop and an audit fetch nothing, at any status; nor do an init and a list.
+/// A put, a drop, an audit and an upgrade fetch nothing, at any status; nor do an init and a list.
 pub fn others_fetch_nothing()
-    ensures put { (name : List ℕ) (old new : Seen) (end : Ending) → Answers (PutUnder name) old new end
-        → SameFetches old new }
+    ensures put { (name : List ℕ) (own : Option ℕ) (old new : Seen) (end : Ending)
+        → Answers (put_of name own) old new end → SameFetches old new }
     ensures drop { (name : List ℕ) (old new : Seen) (end : Ending) → Answers (DropOf name) old new end
         → SameFetches old new }
     ensures audit { (old new : Seen) (end : Ending) → Answers AuditAll old new end → SameFetches old new }
+    ensures upgrade { (old new : Seen) (end : Ending) → Answers UpgradeJournal old new end
+        → SameFetches old new }
     ensures list { (old new : Seen) (end : Ending) → Answers ListAll old new end → SameFetches old new }
     ensures init { (numbers : Numbers) (old new : Seen) (end : Ending)
         → Answers (InitWith numbers) old new end → SameFetches old new }
@@ -50,9 +53,9 @@ pub fn others_fetch_nothing()
 /// A put of status 13 has used its number, and no file came into effect or went out of it. A repair of status
 /// 13 stays due. No other command ends so.
 pub fn failed_stores_leave()
-    ensures put { (name : List ℕ) (old new : Seen) (end : Ending) → Answers (PutUnder name) old new end
-        → end.status ≡ 13 →
-        FailsToPut name old new end }
+    ensures put { (name : List ℕ) (own : Option ℕ) (old new : Seen) (end : Ending)
+        → Answers (put_of name own) old new end → end.status ≡ 13 →
+        FailsToPut name own old new end }
     ensures repair { (old new : Seen) (end : Ending) → Answers RepairDue old new end → end.status ≡ 13
         → FailsToRepair old new end }
     ensures only { (command : Command) (old new : Seen) (end : Ending) → Answers command old new end

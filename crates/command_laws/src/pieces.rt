@@ -11,7 +11,7 @@ ghost use Rattle.command_laws.specs.Ends.{opens_store};
 ghost use Rattle.command_laws.specs.After.{IsSure};
 ghost use Rattle.command_laws.specs.Pieces.{IsStore, IsSpelledCommand, IsCall, IsLater, AreBetween, Call, last_seen, IsChain, AreCalls};
 
-/// A put, a get, a drop, a list, an audit and a repair over devices that a run left go on with that run,
+/// A put, a get, a drop, a list, an audit, a repair and an upgrade over devices that a run left go on with that run,
 /// whatever comes of them; so do stops and replacements between commands. So commands one after the other are
 /// one run of the machine. Over each known store there is a state from which such a run begins.
 pub fn commands_are_runs()

@@ -1,12 +1,14 @@
+use Rattle.command_laws.proofs.JobEnds.{put-answers}
 use Rattle.std.proofs.Common.{inl, inr}
-use Rattle.command_laws.proofs.DoneStores.{init-sure, put-sure, failed-put-sure, failed-repair-sure, get-sure, drop-sure, list-sure, audit-sure, repair-sure}
+use Rattle.command_laws.proofs.DoneStores.{upgrade-sure, init-sure, put-sure, failed-put-sure, failed-repair-sure, get-sure, drop-sure, list-sure, audit-sure, repair-sure}
 use Rattle.command_laws.proofs.after.done_commands_leave_known_stores.Goals as goal
 
 pub returns-clause-init : goal.returns-clause-init
 returns-clause-init c = init-sure
 
 pub returns-clause-put : goal.returns-clause-put
-returns-clause-put c = put-sure
+returns-clause-put c name bytes own records old new end A done K source =
+    put-sure name bytes own records old new end (put-answers name own old new end A) done K source
 
 pub returns-clause-get : goal.returns-clause-get
 returns-clause-get c name records old new end A over K =
@@ -26,8 +28,12 @@ returns-clause-repair c records due old new end A done K is_due =
     repair-sure records due old new end A.0 done K is_due
 
 pub returns-clause-failed_put : goal.returns-clause-failed_put
-returns-clause-failed_put c = failed-put-sure
+returns-clause-failed_put c name own records old new end A failed K =
+    failed-put-sure name records old new end (put-answers name own old new end A) failed K
 
 pub returns-clause-failed_repair : goal.returns-clause-failed_repair
 returns-clause-failed_repair c records old new end A failed K =
     failed-repair-sure records old new end A.0 failed K
+
+pub returns-clause-upgrade : goal.returns-clause-upgrade
+returns-clause-upgrade c records old new end A done K = upgrade-sure records old new end A.0 done K

@@ -1,3 +1,4 @@
+use Rattle.command_laws.proofs.JobEnds.{put-answers}
 use Rattle.command_laws.proofs.FilesStay.{put-has, next-has}
 use Rattle.command_laws.proofs.FilesKept.{reads-have, refused-has, others-have, repair-has}
 use Rattle.command_laws.proofs.PutInEffect.{put-in-effect}
@@ -5,10 +6,13 @@ use Rattle.command_laws.proofs.RepairInEffect.{repair-in-effect}
 use Rattle.command_laws.proofs.after.files_stay.Goals as goal
 
 pub returns-clause-put : goal.returns-clause-put
-returns-clause-put c = put-has
+returns-clause-put c name bytes own records spoilt old new end A done K source tells =
+    put-has name bytes own records spoilt old new end (put-answers name own old new end A) done K source tells
 
 pub returns-clause-put_in_effect : goal.returns-clause-put_in_effect
-returns-clause-put_in_effect c = put-in-effect
+returns-clause-put_in_effect c name bytes own records spoilt old new next end A S source N F tells =
+    put-in-effect name bytes own records spoilt old new next end (put-answers name own old new end A) S source N F
+    tells
 
 pub returns-clause-next : goal.returns-clause-next
 returns-clause-next c = next-has

@@ -2,6 +2,8 @@ use Rattle.command_laws.proofs.Samples.{got, missed, listed, chained}
 use Rattle.command_laws.proofs.PutSample.{put}
 use Rattle.command_laws.proofs.AuditSample.{audit}
 use Rattle.command_laws.proofs.RepairSample.{repair}
+use Rattle.command_laws.proofs.UpgradeSample.{upgrade, upgraded-twice}
+use Rattle.command_laws.proofs.OwnSample.{own-put, old-refused, unknown-refused}
 use Rattle.command_laws.proofs.InitSample.{init, keyed}
 use Rattle.command_laws.proofs.instances.there_are_answers.Goals as goal
 
@@ -28,3 +30,18 @@ returns-clause-repair c = repair
 
 pub returns-clause-init : goal.returns-clause-init
 returns-clause-init c = (init, keyed)
+
+pub returns-clause-upgrade : goal.returns-clause-upgrade
+returns-clause-upgrade c = upgrade
+
+pub returns-clause-own_put : goal.returns-clause-own_put
+returns-clause-own_put c = own-put
+
+pub returns-clause-bad_profile : goal.returns-clause-bad_profile
+returns-clause-bad_profile c = unknown-refused
+
+pub returns-clause-old_version : goal.returns-clause-old_version
+returns-clause-old_version c = old-refused
+
+pub returns-clause-new_version : goal.returns-clause-new_version
+returns-clause-new_version c = upgraded-twice

@@ -3,6 +3,8 @@ use Rattle.command_laws.specs.Instances.{store, held_records}
 use Rattle.command_laws.proofs.Between.{sure-store}
 use Rattle.command_laws.proofs.Samples.{never-rises, never-seen, set_up-sure, held-sure, held-file, none-bad}
 use Rattle.command_laws.proofs.RepairSample.{due-sure}
+use Rattle.command_laws.proofs.UpgradeSample.{upgraded-sure}
+use Rattle.command_laws.proofs.OwnSample.{own-sure}
 use Rattle.command_laws.proofs.UnsetSample.{unset, unset-store, doubtful, doubtful-store}
 use Rattle.command_laws.proofs.instances.there_are_known_stores.Goals as goal
 
@@ -49,3 +51,9 @@ returns-clause-faultless c = (
     sink = never-rises 0 (omega arith);
   },
 )
+
+pub returns-clause-upgraded : goal.returns-clause-upgraded
+returns-clause-upgraded c = upgraded-sure
+
+pub returns-clause-own : goal.returns-clause-own
+returns-clause-own c = own-sure
