@@ -22,6 +22,7 @@ pub mod AuditInEffect
 pub mod Chains
 pub mod Emptied
 pub mod GoingOn
+pub mod Spelled
 pub mod Between
 pub mod EndStatuses
 pub mod AnyDisk
