@@ -75,7 +75,7 @@ fn text(alloc: Global, subject: &Subject, answer: Answer) -> Result<Bytes, Fault
             counts,
         } => Ok(audit_lines(alloc, subject.tolerance, number, undecided, &counts)?),
         Answer::Repaired { number } => Ok(repaired_line(alloc, number)?),
-        Answer::Upgraded => Ok(upgraded_line(alloc)?),
+        Answer::Upgraded => Ok(Bytes::from_slice(alloc, upgraded_line())?),
         Answer::Lost { row, .. } => Err(Fault {
             status: LOST_ROW,
             at: row,
