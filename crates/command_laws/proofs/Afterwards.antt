@@ -130,7 +130,8 @@ job-told kind records old new end (AnswersJob.no_memory synced r) refuses = as-t
 job-told kind records old new end (AnswersJob.ended how none runs left by) refuses =
     absurd (no-end end.status (status-ended _ how old new end by) refuses)
 
-put-told : (name : List ℕ) (old new : Seen) (end : Ending) {own : Option ℕ} → AnswersPut name own old new end →
+put-told : (name : List ℕ) (old new : Seen) (end : Ending) {own : Option ℕ} →
+    AnswersPut name own old new end →
     is_refusal end.status ≡ true → IsRefused end.status end.at old new end
 put-told name old new end (AnswersPut.unstarted u same) refuses = unstarted-told old new end u
 put-told name old new end (AnswersPut.source_fault records opened known rose synced taken r) refuses =

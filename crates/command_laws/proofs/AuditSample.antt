@@ -146,7 +146,8 @@ module _ (w : State) (n : ℕ) (H : AreHanded idle_providers (formed w)) where
     ),
   )
 
-  ran-formed : RanAlone set_up_records AuditJob None (Audited 1 0 no_counts) (store set_up_records) audited_store
+  ran-formed : RanAlone set_up_records AuditJob None (Audited 1 0 no_counts)
+      (store set_up_records) audited_store
       [] 0 v n
   unfolding steps spelling
   ran-formed = record {
@@ -169,7 +170,8 @@ module _ (w : State) (n : ℕ) (H : AreHanded idle_providers (formed w)) where
     past_text = refl;
   }
 
-audit-alone : RunsAlone set_up_records AuditJob None (Audited 1 0 no_counts) (store set_up_records) audited_store
+audit-alone : RunsAlone set_up_records AuditJob None (Audited 1 0 no_counts)
+    (store set_up_records) audited_store
     []
 audit-alone = record {
   faults = 0;
@@ -186,7 +188,8 @@ audit = (
       (AnswersJob.ended (Audited 1 0 no_counts) refl audit-alone
       (left-alone set_up_records AuditJob None (Audited 1 0 no_counts) (store set_up_records) audited_store []
       tt (MayName.none refl)
-      (λ w last n O r. jobs-leave AuditJob None w last n (Audited 1 0 no_counts) [] tt (MayName.none refl) O r)
+      (λ w last n O r. jobs-leave AuditJob None w last n (Audited 1 0 no_counts) [] tt
+      (MayName.none refl) O r)
       set_up-sure.known.opened refl audit-alone)
       (record { written = inl (refl, refl); place = refl })),
   (refl, refl),

@@ -112,7 +112,8 @@ module _ (old new : Seen) (end : Ending) where
   refused-none refusal.PackTooLong = refl
 
   -- what a job left that ended in a fault
-  disk-by : (x : Ran) (kind : Kind) (own : Option ℕ) → LeavesBy x kind own answer.DiskFault → Rose x.disk_before x.disk_after
+  disk-by : (x : Ran) (kind : Kind) (own : Option ℕ) → LeavesBy x kind own answer.DiskFault →
+      Rose x.disk_before x.disk_after
   disk-by x (PutJob name bytes) own L = L.0.0
   disk-by x (GetJob name) own L = absurd L.gives
   disk-by x (DropJob name) own L = L.0.0
@@ -120,7 +121,8 @@ module _ (old new : Seen) (end : Ending) where
   disk-by x RepairJob own L = L.0.gives.0
   disk-by x UpgradeJob own L = L.0.0
 
-  provider-by : (x : Ran) (kind : Kind) (own : Option ℕ) (j : ℕ) → LeavesBy x kind own (answer.ProviderFault j) →
+  provider-by : (x : Ran) (kind : Kind) (own : Option ℕ) (j : ℕ) →
+      LeavesBy x kind own (answer.ProviderFault j) →
       Rose (x.old j).store_faults (x.new j).store_faults
   provider-by x (PutJob name bytes) own j L = L.0.1
   provider-by x (GetJob name) own j L = absurd L.gives
@@ -155,17 +157,21 @@ module _ (old new : Seen) (end : Ending) where
       written-causes text by.written
   ended-causes kind own records text (answer.Packed before after) left by = written-causes text by.written
 
-  job-causes : (kind : Kind) (records : List Record) {own : Option ℕ} → AnswersJob kind own records old new end →
+  job-causes : (kind : Kind) (records : List Record) {own : Option ℕ} →
+      AnswersJob kind own records old new end →
       FaultsHaveCauses old new end
   job-causes kind records (AnswersJob.refused why is synced r) =
       none-rose (status_of why) (refused-none why) r.status_is
   job-causes kind records (AnswersJob.no_memory synced r) = none-rose 70 refl r.status_is
   job-causes kind records (AnswersJob.ended how none runs left by) = ended-causes kind _ records _ how left by
 
-  put-causes : (name : List ℕ) {own : Option ℕ} → AnswersPut name own old new end → FaultsHaveCauses old new end
+  put-causes : (name : List ℕ) {own : Option ℕ} → AnswersPut name own old new end →
+      FaultsHaveCauses old new end
   put-causes name (AnswersPut.unstarted u same) = unstarted-causes u
-  put-causes name (AnswersPut.source_fault records opened known rose synced taken r) = source-rose r.status_is rose
-  put-causes name (AnswersPut.bad_profile records opened unknown synced same r) = none-rose 20 refl r.status_is
+  put-causes name (AnswersPut.source_fault records opened known rose synced taken r) =
+      source-rose r.status_is rose
+  put-causes name (AnswersPut.bad_profile records opened unknown synced same r) =
+      none-rose 20 refl r.status_is
   put-causes name (AnswersPut.no_memory taken r) = none-rose 70 refl r.status_is
   put-causes name (AnswersPut.begun records bytes opened known read A) = job-causes _ records A
 

@@ -86,8 +86,10 @@ get-missing name records old new end A K named none disk =
 -- ---- a get after a put
 
 -- a get after a done put gives the bytes that were put, or finds no memory
-pub put-get : (name bytes : List ℕ) (own : Option ℕ) (records : List Record) (spoilt : ℕ → Bool) (c d e f : Seen)
-    (second last : Ending) → AnswersPut name own c d second → AnswersAlone (GetJob name) e f last → Follows d e →
+pub put-get : (name bytes : List ℕ) (own : Option ℕ) (records : List Record) (spoilt : ℕ → Bool)
+    (c d e f : Seen)
+    (second last : Ending) → AnswersPut name own c d second → AnswersAlone (GetJob name) e f last →
+    Follows d e →
     IsKnown c records →
     c.source ≡ Some bytes → IsDone second →
     ((j : ℕ) → j < (setup_in_effect records).n → spoilt j ≡ false →
@@ -99,7 +101,8 @@ pub put-get : (name bytes : List ℕ) (own : Option ℕ) (records : List Record)
     GivesUnlessMemory bytes e f last
 put-get name bytes own records spoilt c d e f second last P G N K source done tells untouched steady few disk sink =
     (let after : List Record = after_put records name (length bytes) own in
-    let same : setup_in_effect records ≡ setup_in_effect after = sym (put-setup records name (length bytes) own) in
+    let same : setup_in_effect records ≡ setup_in_effect after =
+    sym (put-setup records name (length bytes) own) in
     let sure = sure-next after d e (put-sure name bytes own records c d second P done K source) N in
     let file = next-has name bytes after spoilt d e
     (put-has name bytes own records spoilt c d second P done K source tells)
@@ -109,7 +112,8 @@ put-get name bytes own records spoilt c d e f second last P G N K source done te
     (subst (λ (s : Setup). spoilt_below s.n spoilt ≤ s.b) same few) disk sink)
 
 -- a get after a done init and a done put gives the bytes that were put, or finds no memory
-pub init-put-get : (numbers : Numbers) (key name bytes : List ℕ) (own : Option ℕ) (spoilt : ℕ → Bool) (a b c d e f : Seen)
+pub init-put-get : (numbers : Numbers) (key name bytes : List ℕ) (own : Option ℕ) (spoilt : ℕ → Bool)
+    (a b c d e f : Seen)
     (first second last : Ending) → AnswersInit numbers a b first → AnswersPut name own c d second →
     AnswersAlone (GetJob name) e f last →
     Follows b c → Follows d e → is_some a.disk ≡ true →
@@ -123,8 +127,8 @@ pub init-put-get : (numbers : Numbers) (key name bytes : List ℕ) (own : Option
 init-put-get numbers key name bytes own spoilt a b c d e f first second last I P G N M told text source done also tells untouched steady few disk sink =
     (let records : List Record = SetUp (setup_with numbers key) ∷ [] in
     let sure = sure-next records b c (init-sure numbers key a b first I done told text) N in
-    put-get name bytes own records spoilt c d e f second last P G M sure.known source also tells untouched steady
-    few disk sink)
+    put-get name bytes own records spoilt c d e f second last P G M sure.known source also tells untouched
+    steady few disk sink)
 
 -- ---- all three with no fault
 

@@ -79,7 +79,8 @@ over-refused why status is (inr (inr e)) = refused-not why 13 refl (λ k. omega 
 -- ---- a disk that told tells on
 
 -- a disk tells after a job where it told before, past what the job appended
-pub tells-past : (kind : Kind) (own : Option ℕ) (how : Answer) (before rs : List Record) (a b : Option Cells) →
+pub tells-past : (kind : Kind) (own : Option ℕ) (how : Answer) (before rs : List Record)
+    (a b : Option Cells) →
     SamePast kind own how before rs a b → is_some b ≡ is_some a
 tells-past kind own answer.Put before rs a b h =
     sym (is_some-option_map (past rs) b) ∙ (ap is_some h ∙ is_some-option_map (past rs) a)
@@ -134,7 +135,8 @@ alone-over kind records old new end K are A over = elim (alone-known kind old ne
   | inr job ↦ left-over kind records old new end K.opened are (MayName.none refl) job over
 ]
 
-put-over : (name : List ℕ) {own : Option ℕ} (records : List Record) (old new : Seen) (end : Ending) → IsKnown old records →
+put-over : (name : List ℕ) {own : Option ℕ} (records : List Record) (old new : Seen) (end : Ending) →
+    IsKnown old records →
     AnswersPut name own old new end → IsOver end.status → Left records old new
 put-over name records old new end K (AnswersPut.unstarted u same) over =
     elim (unstarted-known old new end records K u) [
@@ -174,7 +176,8 @@ whole-read most old (Some left) bytes seen is R whole =
 -- ---- each command that is done
 
 -- after a done put the store is sure, with the put's two records
-pub put-sure : (name bytes : List ℕ) (own : Option ℕ) (records : List Record) (old new : Seen) (end : Ending) →
+pub put-sure : (name bytes : List ℕ) (own : Option ℕ) (records : List Record) (old new : Seen)
+    (end : Ending) →
     AnswersPut name own old new end → IsDone end → IsKnown old records → old.source ≡ Some bytes →
     IsSure new (after_put records name (length bytes) own)
 put-sure name bytes own records old new end A done K source =
@@ -268,7 +271,8 @@ get-sure name records old new end A over K = elim (alone-known (GetJob name) old
 -- ---- a store that failed, and a row that a repair lost
 
 -- after a put of which a store failed the store is sure, with the put's first record alone
-pub failed-put-sure : (name : List ℕ) {own : Option ℕ} (records : List Record) (old new : Seen) (end : Ending) →
+pub failed-put-sure : (name : List ℕ) {own : Option ℕ} (records : List Record) (old new : Seen)
+    (end : Ending) →
     AnswersPut name own old new end → end.status ≡ 13 → IsKnown old records →
     IsSure new (after_start records name)
 failed-put-sure name records old new end A failed K =
@@ -384,8 +388,10 @@ abbrev Comes : List Record → Seen → Seen → Ending → Type 0
 Comes records old new end = ((status : ℕ) × (at : ℕ) × IsRefused status at old new end) ⊎ Left records old new
 
 job-comes : (kind : Kind) (records : List Record) (old new : Seen) (end : Ending) → IsOpened old records →
-    HasBytes kind → {own : Option ℕ} → MayName kind own → AnswersJob kind own records old new end → Comes records old new end
-job-comes kind records old new end R are named (AnswersJob.refused why is synced r) = inl (status_of why, 0, r)
+    HasBytes kind → {own : Option ℕ} → MayName kind own → AnswersJob kind own records old new end →
+    Comes records old new end
+job-comes kind records old new end R are named (AnswersJob.refused why is synced r) =
+    inl (status_of why, 0, r)
 job-comes kind records old new end R are named (AnswersJob.no_memory synced r) = inl (70, 0, r)
 job-comes kind records old new end R are named (AnswersJob.ended how none runs left by) =
     inr (
@@ -406,12 +412,14 @@ alone-comes kind records old new end K are A = elim (alone-known kind old new en
   | inr job ↦ job-comes kind records old new end K.opened are (MayName.none refl) job
 ]
 
-put-comes : (name : List ℕ) {own : Option ℕ} (records : List Record) (old new : Seen) (end : Ending) → IsKnown old records →
+put-comes : (name : List ℕ) {own : Option ℕ} (records : List Record) (old new : Seen) (end : Ending) →
+    IsKnown old records →
     AnswersPut name own old new end → Comes records old new end
 put-comes name records old new end K (AnswersPut.unstarted u same) = unstarted-comes records old new end K u
 put-comes name records old new end K (AnswersPut.source_fault other opened known rose synced taken r) =
     inl (14, 0, r)
-put-comes name records old new end K (AnswersPut.bad_profile other opened unknown synced same r) = inl (20, 0, r)
+put-comes name records old new end K (AnswersPut.bad_profile other opened unknown synced same r) =
+    inl (20, 0, r)
 put-comes name records old new end K (AnswersPut.no_memory taken r) = inl (70, 0, r)
 put-comes name records old new end K (AnswersPut.begun other bytes opened known read A) =
     subst (λ rs. Comes rs old new end) (known-once old records other K opened.read)

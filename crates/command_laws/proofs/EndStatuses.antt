@@ -76,7 +76,8 @@ job-ending kind records old new end (AnswersJob.no_memory synced r) = ap is_endi
 job-ending kind records old new end (AnswersJob.ended how none runs left by) =
     ended-ending end.status (status-ended _ how old new end by)
 
-put-ending : (name : List ℕ) (old new : Seen) (end : Ending) {own : Option ℕ} → AnswersPut name own old new end →
+put-ending : (name : List ℕ) (old new : Seen) (end : Ending) {own : Option ℕ} →
+    AnswersPut name own old new end →
     is_ending end.status ≡ true
 put-ending name old new end (AnswersPut.unstarted u same) = unstarted-ending old new end u
 put-ending name old new end (AnswersPut.source_fault records opened known rose synced taken r) =

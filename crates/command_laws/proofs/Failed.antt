@@ -41,7 +41,8 @@ abbrev fetches_of : Provider → ℕ
 fetches_of p = p.fetches
 
 -- a put fetches nothing
-pub put-fetches : (name : List ℕ) (old new : Seen) (end : Ending) {own : Option ℕ} → AnswersPut name own old new end →
+pub put-fetches : (name : List ℕ) (old new : Seen) (end : Ending) {own : Option ℕ} →
+    AnswersPut name own old new end →
     SameFetches old new
 put-fetches name old new end (AnswersPut.unstarted u same) = unstarted-same fetches_of old new end u
 put-fetches name old new end (AnswersPut.source_fault records opened known rose after taken r) =
@@ -204,7 +205,8 @@ put-by name bytes records old new end opened read answer.Memory left L by is =
 put-by name bytes records old new end opened read how left L by is = absurd L
 
 -- a put of which a store failed used its number, and changed neither the files nor what is due
-pub put-fails : (name : List ℕ) (old new : Seen) (end : Ending) {own : Option ℕ} → AnswersPut name own old new end →
+pub put-fails : (name : List ℕ) (old new : Seen) (end : Ending) {own : Option ℕ} →
+    AnswersPut name own old new end →
     end.status ≡ 13 → FailsToPut name own old new end
 put-fails name old new end (AnswersPut.unstarted u same) is =
     absurd (unstarted-own 13 old new end u is (inl refl))
@@ -407,7 +409,8 @@ Ends4 (GetJob name) = Unit {0}
 Ends4 RepairJob = Unit {0}
 Ends4 kind = ⊥
 
-store-kind : (x : Ran) (kind : Kind) (own : Option ℕ) (j : ℕ) → LeavesBy x kind own (answer.ProviderFault j) → Ends13 kind
+store-kind : (x : Ran) (kind : Kind) (own : Option ℕ) (j : ℕ) →
+    LeavesBy x kind own (answer.ProviderFault j) → Ends13 kind
 store-kind x (PutJob name bytes) own j L = tt
 store-kind x (GetJob name) own j L = L.gives
 store-kind x (DropJob name) own j L = L.0
@@ -425,7 +428,8 @@ lost-kind x RepairJob own stripe row L = tt
 lost-kind x UpgradeJob own stripe row L = L.0
 
 ended-13 : (kind : Kind) (own : Option ℕ) (text : List ℕ) (how : Answer) (x : Ran) (old new : Seen)
-    (end : Ending) → LeavesBy x kind own how → EndsByAnswer text how old new end → end.status ≡ 13 → Ends13 kind
+    (end : Ending) → LeavesBy x kind own how → EndsByAnswer text how old new end → end.status ≡ 13 →
+    Ends13 kind
 ended-13 kind own text how x old new end L by is = go (own-end 13 text how old new end by is (inl refl))
   where
     go : OwnEnd how → Ends13 kind
@@ -453,7 +457,8 @@ alone-13 kind old new end (AnswersAlone.begun records opened (AnswersJob.refused
 alone-13 kind old new end (AnswersAlone.begun records opened (AnswersJob.no_memory after r)) is =
     absurd (memory-own 13 end.status r.status_is is (inl refl))
 alone-13 kind old new end (AnswersAlone.begun records opened (AnswersJob.ended how none runs left by)) is =
-    ended-13 kind _ _ how (ran_left records kind how old new end.heard left) old new end left.leaves.by_kind by
+    ended-13 kind _ _ how (ran_left records kind how old new end.heard left) old new end
+    left.leaves.by_kind by
     is
 
 job-4 : (kind : Kind) (records : List Record) (old new : Seen) (end : Ending) {own : Option ℕ} →
@@ -471,7 +476,8 @@ alone-4 : (kind : Kind) (old new : Seen) (end : Ending) → AnswersAlone kind ol
 alone-4 kind old new end (AnswersAlone.unstarted u) is = absurd (unstarted-own 4 old new end u is (inr refl))
 alone-4 kind old new end (AnswersAlone.begun records opened A) is = job-4 kind records old new end A is
 
-put-4 : (name : List ℕ) (old new : Seen) (end : Ending) {own : Option ℕ} → AnswersPut name own old new end → end.status ≡ 4 → ⊥
+put-4 : (name : List ℕ) (old new : Seen) (end : Ending) {own : Option ℕ} → AnswersPut name own old new end →
+    end.status ≡ 4 → ⊥
 put-4 name old new end (AnswersPut.unstarted u same) is = unstarted-own 4 old new end u is (inr refl)
 put-4 name old new end (AnswersPut.source_fault records opened known rose after taken r) is =
     not_two end.status 14 4 r.status_is is (λ e. omega (arith, e))

@@ -347,7 +347,8 @@ module _ (name other : List ℕ) (records : List Record) (file : File) (sound : 
   drop-job old new end (AnswersJob.ended how none runs left by) =
       drop-keeps how old new end left left.leaves.by_kind.0
 
-put-command : (name other bytes : List ℕ) (own : Option ℕ) (records : List Record) (spoilt : ℕ → Bool) (old new : Seen)
+put-command : (name other bytes : List ℕ) (own : Option ℕ) (records : List Record) (spoilt : ℕ → Bool)
+    (old new : Seen)
     (end : Ending) → other ≢ name → IsKnown old records → (H : HasRightFile old records name bytes spoilt) →
     AnswersPut other own old new end → KeepsObject records H.file.id old new
 put-command name other bytes own records spoilt old new end differ K H (AnswersPut.unstarted u same) =

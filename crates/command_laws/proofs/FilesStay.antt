@@ -68,7 +68,8 @@ stored-file name bytes own records spoilt old new in_effect are older rose store
       subst (λ (s : Setup). is_wrong_or_untold (object_of (profiled s (its_profile records own))
       (next_id records)) bytes j
       (provider_at new.providers j).held ≡ false) (sym (put-setup records name (length bytes) own))
-      (stored-right (object_of (profiled (setup_in_effect records) (its_profile records own)) (next_id records)) bytes
+      (stored-right (object_of (profiled (setup_in_effect records) (its_profile records own))
+      (next_id records)) bytes
       older (rose j) j (provider_at old.providers j).held (provider_at new.providers j).held
       (tells j l clean) (stored j l)));
 }

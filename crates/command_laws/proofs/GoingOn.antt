@@ -417,7 +417,8 @@ module _ (start : State) (ms : List Moment) (R : IsRun 8 start ms) (old : Seen)
           ))
         where
           none-stands : HasNoSetup (reads told.0) →
-              StandsInState (record (settled (continued w) []) { disk_faults = new.disk_faults }) (reads told.0)
+              StandsInState (record (settled (continued w) []) { disk_faults = new.disk_faults })
+              (reads told.0)
           none-stands (inl short) = inl (inr (refl, short))
           none-stands (inr stands) = inl (inl (refl, stands))
 
@@ -669,7 +670,8 @@ module _ (start : State) (ms : List Moment) (R : IsRun 8 start ms) (old : Seen)
                     (sym (append_assoc g.steps (three ∷ two ∷ later ∷ []) ms)) ended,
                 record {
                   sound = L.sound;
-                  tells = tells-past kind own how rs ran.last.records old.disk new.disk ran.past_text ∙ S.tells;
+                  tells = tells-past kind own how rs ran.last.records old.disk new.disk ran.past_text
+                      ∙ S.tells;
                   images = ran.images;
                   faults_are = ran.faults_are;
                   handed = ran.handed;
@@ -731,7 +733,8 @@ module _ (start : State) (ms : List Moment) (R : IsRun 8 start ms) (old : Seen)
         ((bytes : List ℕ) → ReadsUpTo (largest_file + 1) old.source new.source bytes →
         RunsKind command old new (PutJob name bytes)) → profile_named command ≡ own → AreBytes name →
         ((p : ℕ) → own ≡ Some p → p < 256) → AnswersPut name own old new end → GoesOn
-    put-by (MaySettle.some rs F) name own is named spelled byte A = put-on rs F name own is named spelled byte A
+    put-by (MaySettle.some rs F) name own is named spelled byte A =
+        put-on rs F name own is named spelled byte A
     put-by (MaySettle.none N) name own is named spelled byte A = unset-put N name A
 
   -- a command over a store that a run left goes on with that run

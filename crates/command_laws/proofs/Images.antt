@@ -185,7 +185,8 @@ wrote-by x (PutJob name bytes) profile answer.DiskFault L =
 wrote-by x (PutJob name bytes) profile answer.Memory L =
     (put_records x.records name (length bytes) profile, refl, came-cut x _ L.0.0)
 wrote-by x (PutJob name bytes) profile how L = absurd L.0
-wrote-by x (GetJob name) profile how L = ([], refl, record { count = 0; after = L.records; doubt = inl L.sure })
+wrote-by x (GetJob name) profile how L =
+    ([], refl, record { count = 0; after = L.records; doubt = inl L.sure })
 wrote-by x (DropJob name) profile answer.Dropped L = (_, refl, came-whole x _ L.0.0)
 wrote-by x (DropJob name) profile answer.DiskFault L = (_, refl, came-doubt x _ L.0.1)
 wrote-by x (DropJob name) profile answer.Memory L = (_, refl, came-cut x _ L.0.0)
@@ -195,7 +196,8 @@ wrote-by x AuditJob profile (answer.Audited number undecided counts) L =
 wrote-by x AuditJob profile answer.DiskFault L = cut-wrote x L.gives.1
 wrote-by x AuditJob profile answer.Memory L = audit-wrote x L.gives.0 L.gives.1 (came-cut x _ L.gives.2)
 wrote-by x AuditJob profile how L = absurd L.gives
-wrote-by x RepairJob profile (answer.Repaired number) L = (_, (L.0.due, L.0.is_due, refl), came-whole x _ L.0.gives.1)
+wrote-by x RepairJob profile (answer.Repaired number) L =
+    (_, (L.0.due, L.0.is_due, refl), came-whole x _ L.0.gives.1)
 wrote-by x RepairJob profile (answer.Lost stripe row) L =
     (_, (L.0.due, L.0.is_due, refl), came-some x _ 0 L.0.gives.0)
 wrote-by x RepairJob profile (answer.ProviderFault j) L =
@@ -212,7 +214,8 @@ none-behind : (a b : List Record) → a ++ b ≡ [] → b ≡ []
 none-behind [] b e = e
 none-behind (r ∷ a) b e = absurd (let f : r ∷ (a ++ b) ≡ [] = e in cc)
 
-image-after : (x : Ran) (kind : Kind) (profile : Option ℕ) → x.records ≢ [] → Wrote x kind profile → (image : List ℕ) →
+image-after : (x : Ran) (kind : Kind) (profile : Option ℕ) → x.records ≢ [] → Wrote x kind profile →
+    (image : List ℕ) →
     StandsOrIsEmpty image x.after ⊎ IsSomeAnd x.doubt (λ entry. StandsFor image (entry ∷ x.after)) →
     IsAfter x.records kind profile image
 image-after x kind profile some W image (inl (inl stands)) =
@@ -230,12 +233,14 @@ image-after x kind profile some W image (inr entry) = elim W.2.doubt [
   }
 ]
 
-images-after : (x : Ran) (kind : Kind) (profile : Option ℕ) → x.records ≢ [] → Wrote x kind profile → (told : Option Cells) →
+images-after : (x : Ran) (kind : Kind) (profile : Option ℕ) → x.records ≢ [] → Wrote x kind profile →
+    (told : Option Cells) →
     EachImage told (λ image. StandsOrIsEmpty image x.after ⊎
     IsSomeAnd x.doubt (λ entry. StandsFor image (entry ∷ x.after))) →
     EachImage told (IsAfter x.records kind profile)
 images-after x kind profile some W None h = tt
-images-after x kind profile some W (Some cells) h = λ image is. image-after x kind profile some W image (h image is)
+images-after x kind profile some W (Some cells) h =
+    λ image is. image-after x kind profile some W image (h image is)
 
 -- ---- commands that look at a store
 
@@ -279,7 +284,8 @@ alone-images : (command : Command) (kind : Kind) (old new : Seen) (end : Ending)
 alone-images command kind old new end named is (AnswersAlone.unstarted u) =
     LeavesImages.kept (unstarted-keeps old new end u)
 alone-images command kind old new end named is (AnswersAlone.begun records opened A) =
-    of-job command kind None records old new named opened is (job-images kind None records old new end opened A)
+    of-job command kind None records old new named opened is
+    (job-images kind None records old new end opened A)
 
 list-images : (old new : Seen) (end : Ending) → AnswersList old new end → KeepsImages old new
 list-images old new end (AnswersList.unstarted u) = unstarted-keeps old new end u
@@ -293,7 +299,8 @@ store-images (RowOf n l b seen) old new end A opens = absurd (false≢true opens
 store-images (InitWith numbers) old new end A opens = absurd (false≢true opens)
 store-images (PutUnder name) old new end A opens = put-images name None old new end A
 store-images (PutAt name profile) old new end A opens = put-images name (Some profile) old new end A
-store-images (GetOf name) old new end A opens = alone-images (GetOf name) (GetJob name) old new end refl refl A.0
+store-images (GetOf name) old new end A opens =
+    alone-images (GetOf name) (GetJob name) old new end refl refl A.0
 store-images (DropOf name) old new end A opens =
     alone-images (DropOf name) (DropJob name) old new end refl refl A.0
 store-images ListAll old new end A opens = LeavesImages.kept (list-images old new end A.0)

@@ -211,7 +211,8 @@ put-in_effect records name bytes own begins = by-version (version-either records
         (ap (λ v. done_record v (next_id records) (length bytes) (chosen (setup_in_effect records) own)) one)
         ∙ (cond_true (is_start_of name
         (started_as (PutStart (next_id records) name ∷ records) (next_id records))) _ _ started
-        ∙ ap (λ p. Some (file_as name (next_id records) (length bytes) p)) (first-profile records name bytes own one begins))
+        ∙ ap (λ p. Some (file_as name (next_id records) (length bytes) p))
+        (first-profile records name bytes own one begins))
     by-version (inr two) =
         ap (λ r. file_of (r ∷ PutStart (next_id records) name ∷ records) name)
         (ap (λ v. done_record v (next_id records) (length bytes) (chosen (setup_in_effect records) own)) two)
@@ -273,7 +274,8 @@ read-all old (Some left) bytes seen is small R =
     let none : left ≡ [] = R.end (omega (arith, size, sum, small)) in
     sym (f ∙ (ap (λ l. seen ++ l) none ∙ append-nil seen)))
 
-put-job-well : (name bytes : List ℕ) (own : Option ℕ) (records : List Record) (old new : Seen) (end : Ending) →
+put-job-well : (name bytes : List ℕ) (own : Option ℕ) (records : List Record) (old new : Seen)
+    (end : Ending) →
     refusal_over records (PutJob name bytes) own ≡ None → (Rose old.disk_faults new.disk_faults → ⊥) →
     ((j : ℕ) → j < (setup_in_effect records).n →
     Rose (provider_at old.providers j).store_faults (provider_at new.providers j).store_faults → ⊥) →
@@ -296,7 +298,8 @@ put-job-well name bytes own records old new end begins disk stores sink (Answers
     ]
 
 -- a put that is not refused and meets no fault is done, or finds no memory
-pub put-well : (name bytes : List ℕ) (own : Option ℕ) (records : List Record) (old new : Seen) (end : Ending) →
+pub put-well : (name bytes : List ℕ) (own : Option ℕ) (records : List Record) (old new : Seen)
+    (end : Ending) →
     AnswersPut name own old new end → IsKnown old records → old.source ≡ Some bytes →
     refusal_over records (PutJob name bytes) own ≡ None → (Rose old.disk_faults new.disk_faults → ⊥) →
     ((j : ℕ) → j < (setup_in_effect records).n →
@@ -358,7 +361,8 @@ read-long old (Some left) bytes seen is long R = elim (cases_lt largest_file (le
       omega (arith, size, l, long))
 ]
 
-read-same : (records : List Record) (name : List ℕ) (own : Option ℕ) (old new : Option (List ℕ)) (bytes seen : List ℕ) →
+read-same : (records : List Record) (name : List ℕ) (own : Option ℕ) (old new : Option (List ℕ))
+    (bytes seen : List ℕ) →
     old ≡ Some bytes → ReadsUpTo (largest_file + 1) old new seen →
     refusal_over records (PutJob name seen) own ≡ refusal_over records (PutJob name bytes) own
 read-same records name own old new bytes seen is R = elim (cases_lt largest_file (length bytes)) [
@@ -375,7 +379,8 @@ known-refusal records name bytes own known =
 unknown-refusal : (records : List Record) (name bytes : List ℕ) (own : Option ℕ) → is_unknown own ≡ true →
     put_refusal records name bytes own ≡ Some refusal.BadProfile
 unknown-refusal records name bytes own unknown =
-    cond_true (is_unknown own) (Some refusal.BadProfile) (refusal_over records (PutJob name bytes) own) unknown
+    cond_true (is_unknown own) (Some refusal.BadProfile)
+    (refusal_over records (PutJob name bytes) own) unknown
 
 -- a put ends with the status of a refusal only where that one is the first that applies
 pub put-only : (name bytes : List ℕ) (own : Option ℕ) (records : List Record) (old new : Seen) (end : Ending)
@@ -417,7 +422,8 @@ put-always name bytes own records old new end why (AnswersPut.bad_profile other 
     (unknown-refusal records name bytes own unknown) applies) r)
 put-always name bytes own records old new end why (AnswersPut.source_fault other opened known rose synced taken r) K is disk source applies =
     absurd (source rose)
-put-always name bytes own records old new end why (AnswersPut.no_memory taken r) K is disk source applies = inr r
+put-always name bytes own records old new end why (AnswersPut.no_memory taken r) K is disk source applies =
+    inr r
 put-always name bytes own records old new end why (AnswersPut.begun other seen opened known read A) K is disk source applies =
     refused-always (PutJob name seen) own records old new end why
     (subst (λ rs. AnswersJob (PutJob name seen) own rs old new end)
@@ -823,7 +829,8 @@ unstarted-same of old new end u =
 
 -- what a job leaves as it was at each provider of the setup is so at all
 pub left-same : {X : Type 0} (of : Provider → X) (records : List Record) (kind : Kind) {own : Option ℕ}
-    (how : Answer) (old new : Seen) (heard : List Entry) (left : LeftAlone records kind own how old new heard) →
+    (how : Answer) (old new : Seen) (heard : List Entry)
+    (left : LeftAlone records kind own how old new heard) →
     ((j : ℕ) → j < (setup_in_effect records).n → of (provider_at new.providers j)
     ≡ of (provider_at old.providers j)) → (j : ℕ) →
     of (provider_at new.providers j) ≡ of (provider_at old.providers j)

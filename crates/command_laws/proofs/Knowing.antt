@@ -19,7 +19,7 @@ use Rattle.machine_defs.specs.Events.{AreBytes, IsSpelledKind}
 use Rattle.machine_defs.specs.Heard.{Entry}
 use Rattle.machine_defs.specs.Refusals.{Refusal}
 use Rattle.machine_defs.specs.Setups.{setup_or_none}
-use Rattle.machine_defs.specs.States.{State, setup_in, Doubt}
+use Rattle.machine_defs.specs.States.{State, setup_in, journal_end, Doubt}
 use Rattle.machine_defs.specs.Stands.{StandsPlain, StandsWithDoubt, StandsSwitched, StandsForState}
 use Rattle.command_defs.specs.Seen.{Seen}
 use Rattle.opening_defs.specs.Journals.{journal_read, IsRead}
@@ -120,6 +120,10 @@ stands-so w W up image (inr (inl D)) = StandsSo.doubtful D.doubt D.in_doubt
     (subst (λ rs. StandsFor image (D.doubt.entry ∷ rs)) W.journal D.stands.1)
 stands-so w W up image (inr (inr X)) = absurd (false≢true (sym W.unswitched ∙ X.switching))
 
+-- a whole journal ends where the text of its history does
+last-end : (w : State) → IsWholeJournal w → journal_end w ≡ text_size w.records
+last-end w W = unpacked-end w (record { journal = W.journal; area = W.area })
+
 last-good : (start last : State) → IsLast start last → (image : List ℕ) → StandsInState last image →
     (rs : List Record) × IsGood (setup_in start) image rs
 unfolding setup_in
@@ -131,7 +135,7 @@ last-good start last L image h = by_stand (stands-so last L.whole L.up image h)
       record {
         some = none-up last.records L.up;
         accepted = L.sound.accepted;
-        room = (let r = L.sound.room in let e = unpacked-end last (record { journal = L.whole.journal; area = L.whole.area }) in omega (arith, r, e));
+        room = (let r = L.sound.room in let e = last-end last L.whole in omega (arith, r, e));
         setup = L.setup;
         stands = stands;
       },
@@ -141,7 +145,7 @@ last-good start last L image h = by_stand (stands-so last L.whole L.up image h)
       record {
         some = λ e. cc;
         accepted = (F.accepted, L.sound.accepted);
-        room = (let r = F.room in let e = unpacked-end last (record { journal = L.whole.journal; area = L.whole.area }) in omega (arith, r, e));
+        room = (let r = F.room in let e = last-end last L.whole in omega (arith, r, e));
         setup = ap setup_or_none (setup-more d.entry last.records L.up F.accepted) ∙ L.setup;
         stands = stands;
       },
@@ -178,7 +182,8 @@ HasBytes kind = Unit {0}
 -- a job that is not refused, and whose bytes are bytes, has words that are bytes
 pub spelled-kind : (records : List Record) (kind : Kind) (own : Option ℕ) → HasBytes kind →
     refusal_over records kind own ≡ None → IsSpelledKind kind
-spelled-kind records (PutJob name bytes) own are none = (name-bytes name (first-off (is_name name) _ _ none), are)
+spelled-kind records (PutJob name bytes) own are none =
+    (name-bytes name (first-off (is_name name) _ _ none), are)
 spelled-kind records (GetJob name) own are none = name-bytes name (first-off (is_name name) _ _ none)
 spelled-kind records (DropJob name) own are none = name-bytes name (first-off (is_name name) _ _ none)
 spelled-kind records AuditJob own are none = tt

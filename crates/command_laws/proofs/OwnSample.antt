@@ -32,7 +32,8 @@ use Rattle.command_laws.proofs.UpgradeSample.{upgraded-sure}
 
 -- the store with the file that has its own profile is sure
 pub own-sure : IsSure (store own_records) own_records
-own-sure = store-sure own_records (λ e. cc) refl (refl, (refl, (refl, (refl, tt)))) (omega arith) (omega arith)
+own-sure = store-sure own_records (λ e. cc) refl (refl, (refl, (refl, (refl, tt)))) (omega arith)
+    (omega arith)
 
 abbrev formed : State → State
 formed w = record w {
@@ -75,7 +76,8 @@ module _ (w : State) (n : ℕ) (H : AreHanded idle_providers (formed w)) where
   v = formed w
 
   abbrev job : ℕ → ℕ → Job
-  job subject place = record (beginning v n (PutJob held_name []) (Some 1)) { subject = subject; place = place }
+  job subject place =
+      record (beginning v n (PutJob held_name []) (Some 1)) { subject = subject; place = place }
 
   abbrev first : Append
   first = record { job = 1; entry = PutStart 1 held_name; moves = 1 }
@@ -210,7 +212,8 @@ own-alone : RunsAlone upgraded_records (PutJob held_name []) (Some 1) Put (store
 own-alone = record {
   faults = 0;
   before = omega arith;
-  ran = λ w n V. subst (λ u. RanAlone upgraded_records (PutJob held_name []) (Some 1) Put (store upgraded_records)
+  ran = λ w n V. subst (λ u. RanAlone upgraded_records (PutJob held_name []) (Some 1) Put
+      (store upgraded_records)
       (with_sink (store own_records) (stored_line held_name 0)) [] 0 u n) (form-is w V)
       (ran-formed w n (subst (AreHanded idle_providers) (sym (form-is w V)) V.handed));
 }
@@ -224,7 +227,8 @@ own-put = AnswersPut.begun upgraded_records [] upgraded-sure.known.opened refl
     (left-alone upgraded_records (PutJob held_name []) (Some 1) Put (store upgraded_records)
     (with_sink (store own_records) (stored_line held_name 0)) []
     (refl, refl) (MayName.put held_name [] refl)
-    (λ w last n O r. jobs-leave (PutJob held_name []) (Some 1) w last n Put [] (refl, refl) (MayName.put held_name [] refl) O r)
+    (λ w last n O r. jobs-leave (PutJob held_name []) (Some 1) w last n Put [] (refl, refl)
+    (MayName.put held_name [] refl) O r)
     upgraded-sure.known.opened refl own-alone)
     (record { written = inl (refl, refl); place = refl }))
 
@@ -236,5 +240,6 @@ old-refused = AnswersPut.begun set_up_records [] set_up-sure.known.opened refl
 
 -- and so is one with a profile that there is none of
 pub unknown-refused : Answers (PutAt held_name 5) (store set_up_records) (store set_up_records) (ends 20)
-unknown-refused = AnswersPut.bad_profile set_up_records set_up-sure.known.opened refl (same-disk set_up_records)
+unknown-refused = AnswersPut.bad_profile set_up_records set_up-sure.known.opened refl
+    (same-disk set_up_records)
     (refl, refl) (refused-so set_up_records 20)

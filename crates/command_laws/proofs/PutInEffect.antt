@@ -46,7 +46,8 @@ tells-back new next N tells = elim N.disk [
     stopped-at None (Some b) told g = absurd g
     stopped-at (Some a) b told g = refl
 
-module _ (name bytes : List ℕ) (own : Option ℕ) (records : List Record) (spoilt : ℕ → Bool) (old new next : Seen)
+module _ (name bytes : List ℕ) (own : Option ℕ) (records : List Record) (spoilt : ℕ → Bool)
+    (old new next : Seen)
     (end : Ending) (S : IsSure old records) (N : Follows new next)
     (F : IsKnown next (after_put records name (length bytes) own))
     (tells : (j : ℕ) → j < (setup_in_effect records).n → spoilt j ≡ false →
@@ -97,7 +98,8 @@ module _ (name bytes : List ℕ) (own : Option ℕ) (records : List Record) (spo
   images-fewer (Some cells) after doubt some few less h =
       λ image is. image-fewer image after doubt some few less (h image is)
 
-  module _ (are : AreBytes bytes) (begins : refusal_over records (PutJob name bytes) own ≡ None) (how : Answer)
+  module _ (are : AreBytes bytes) (begins : refusal_over records (PutJob name bytes) own ≡ None)
+      (how : Answer)
       (left : LeftAlone records (PutJob name bytes) own how old new end.heard) where
     abbrev x : Ran
     x = ran_left records (PutJob name bytes) how old new end.heard left
@@ -152,7 +154,8 @@ module _ (name bytes : List ℕ) (own : Option ℕ) (records : List Record) (spo
 -- ---- the command
 
 -- a put that the next command finds in effect has its file right on every provider that tells
-pub put-in-effect : (name bytes : List ℕ) (own : Option ℕ) (records : List Record) (spoilt : ℕ → Bool) (old new next : Seen)
+pub put-in-effect : (name bytes : List ℕ) (own : Option ℕ) (records : List Record) (spoilt : ℕ → Bool)
+    (old new next : Seen)
     (end : Ending) → AnswersPut name own old new end → IsSure old records → old.source ≡ Some bytes →
     Follows new next → IsKnown next (after_put records name (length bytes) own) →
     ((j : ℕ) → j < (setup_in_effect records).n → spoilt j ≡ false →

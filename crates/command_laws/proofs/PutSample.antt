@@ -218,6 +218,7 @@ put = AnswersPut.begun set_up_records [] set_up-sure.known.opened refl
     (left-alone set_up_records (PutJob held_name []) None Put (store set_up_records)
     (with_sink (store held_records) (stored_line held_name 0)) []
     (refl, refl) (MayName.none refl)
-    (λ w last n O r. jobs-leave (PutJob held_name []) None w last n Put [] (refl, refl) (MayName.none refl) O r)
+    (λ w last n O r. jobs-leave (PutJob held_name []) None w last n Put [] (refl, refl)
+    (MayName.none refl) O r)
     set_up-sure.known.opened refl put-alone)
     (record { written = inl (refl, refl); place = refl }))

@@ -149,7 +149,8 @@ repair-alone : RunsAlone due_records RepairJob None (Repaired 1) (store due_reco
 repair-alone = record {
   faults = 0;
   before = omega arith;
-  ran = λ w n V. subst (λ u. RanAlone due_records RepairJob None (Repaired 1) (store due_records) repaired_store
+  ran = λ w n V. subst (λ u. RanAlone due_records RepairJob None (Repaired 1)
+      (store due_records) repaired_store
       [] 0 u n) (form-is w V)
       (ran-formed w n (subst (AreHanded idle_providers) (sym (form-is w V)) V.handed));
 }
@@ -160,7 +161,8 @@ repair = (
   AnswersAlone.begun due_records due-sure.known.opened (AnswersJob.ended (Repaired 1) refl repair-alone
       (left-alone due_records RepairJob None (Repaired 1) (store due_records) repaired_store []
       tt (MayName.none refl)
-      (λ w last n O r. jobs-leave RepairJob None w last n (Repaired 1) [] tt (MayName.none refl) O r) due-sure.known.opened refl
+      (λ w last n O r. jobs-leave RepairJob None w last n (Repaired 1) [] tt
+      (MayName.none refl) O r) due-sure.known.opened refl
       repair-alone)
       (record { written = inl (refl, refl); place = refl })),
   (refl, refl),

@@ -186,7 +186,8 @@ module _ (w : State) (n : ℕ) (H : AreHanded idle_providers (formed w)) (empty 
   ends-here = subst (λ a. StepsOn begun job a (Ended (Got [])) (ended begun job))
       (sym (next-end (length (w.bytes 1)) empty)) (nothing-given (length (w.bytes 1)) _ empty, refl)
 
-  ran-formed : RanAlone held_records (GetJob held_name) None (Got []) (store held_records) (store held_records)
+  ran-formed : RanAlone held_records (GetJob held_name) None (Got []) (store held_records)
+      (store held_records)
       [] 0 v n
   ran-formed = record {
     last = ended begun job;
@@ -208,7 +209,8 @@ module _ (w : State) (n : ℕ) (H : AreHanded idle_providers (formed w)) (empty 
     past_text = refl;
   }
 
-got-alone : RunsAlone held_records (GetJob held_name) None (Got []) (store held_records) (store held_records) []
+got-alone : RunsAlone held_records (GetJob held_name) None (Got []) (store held_records)
+    (store held_records) []
 got-alone = record {
   faults = 0;
   before = omega arith;
@@ -231,9 +233,11 @@ opened = held-sure.known.opened
 pub got : Answers (GetOf held_name) (store held_records) (store held_records) (ends 0)
 got = (
   AnswersAlone.begun held_records opened (AnswersJob.ended (Got []) refl got-alone
-      (left-alone held_records (GetJob held_name) None (Got []) (store held_records) (store held_records) [] refl
+      (left-alone held_records (GetJob held_name) None (Got []) (store held_records)
+      (store held_records) [] refl
       (MayName.none refl)
-      (λ w last n O r. jobs-leave (GetJob held_name) None w last n (Got []) [] refl (MayName.none refl) O r) opened refl got-alone)
+      (λ w last n O r. jobs-leave (GetJob held_name) None w last n (Got []) [] refl
+      (MayName.none refl) O r) opened refl got-alone)
       (record { written = inl (refl, refl); place = refl })),
   (refl, refl),
 )

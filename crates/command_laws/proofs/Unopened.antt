@@ -24,7 +24,8 @@ data Opening (old new : Seen) (end : Ending) : Type 0 where
   no_room : end.status ≡ 70 → Opening old new end
   over : (records : List Record) → IsOpened old records → is_unopened end.status ≡ false → Opening old new end
 
-put-opening : (name : List ℕ) (old new : Seen) (end : Ending) {own : Option ℕ} → AnswersPut name own old new end →
+put-opening : (name : List ℕ) (old new : Seen) (end : Ending) {own : Option ℕ} →
+    AnswersPut name own old new end →
     Opening old new end
 put-opening name old new end (AnswersPut.unstarted u same) = Opening.before u
 put-opening name old new end (AnswersPut.source_fault records opened known rose synced taken r) =

@@ -11,8 +11,8 @@
 --   opens_store command                == the command looks at the records of a store
 --   put_of name own                    == the words of a put, with the profile that it names, or with none
 --   profile_named command              == the profile that a command names
---   put_refusal records name bytes own == why a put is refused: for a profile that there is none of before all
---                                         else, since its source is not read then
+--   put_refusal records name bytes own == why a put is refused: for a profile that there is none of before
+--                                         all else, since its source is not read then
 --   after_put records name size own, after_drop, after_audit, after_repair, after_upgrade
 --                                      == the records that such a job that is done leaves
 --   ran_to after records old new heard == what a job left that was done, as it is seen

@@ -1,7 +1,7 @@
 -- Commands as pieces of one run of the machine. Moments and calls have the newest first.
 --
---   IsStore w s                      == a sound state stands for what is seen of disk and providers; its store
---                                       may be set up, or not, or a setup may be in doubt
+--   IsStore w s                      == a sound state stands for what is seen of disk and providers; its
+--                                       store may be set up, or not, or a setup may be in doubt
 --   IsSpelledCommand command         == the name in the command's words is of bytes, and a profile is one
 --   begin_of kind own                == the begin of a job; of a put also with a profile of its own
 --   unopened_status why              == the status that tells why no vault was opened

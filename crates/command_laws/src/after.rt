@@ -59,11 +59,13 @@ pub fn done_commands_leave_known_stores()
         → Answers (InitWith numbers) old new end → IsDone end →
         is_some old.disk ≡ true → ((bytes : List ℕ) × (old.source ≡ Some bytes) × IsKeyForm bytes key) →
         IsSure new (SetUp (setup_with numbers key) ∷ []) }
-    ensures put { (name bytes : List ℕ) (own : Option ℕ) (records : List Record) (old new : Seen) (end : Ending)
+    ensures put { (name bytes : List ℕ) (own : Option ℕ) (records : List Record) (old new : Seen)
+        (end : Ending)
         → Answers (put_of name own) old new end →
         IsDone end → IsKnown old records → old.source ≡ Some bytes
         → IsSure new (after_put records name (length bytes) own) }
-    ensures failed_put { (name : List ℕ) (own : Option ℕ) (records : List Record) (old new : Seen) (end : Ending)
+    ensures failed_put { (name : List ℕ) (own : Option ℕ) (records : List Record) (old new : Seen)
+        (end : Ending)
         → Answers (put_of name own) old new end →
         end.status ≡ 13 → IsKnown old records → IsSure new (after_start records name) }
     ensures get { (name : List ℕ) (records : List Record) (old new : Seen) (end : Ending)
@@ -93,12 +95,13 @@ pub fn done_commands_leave_known_stores()
 
 /// A put that is done leaves its file, right on every provider that tells what it holds, and so does one that
 /// was cut off or found no memory, where the next command finds its end in effect. Between two commands the
-/// file stays so on each provider that nobody touches. A get, a list, an audit, an upgrade, a put and a drop of
-/// another name leave it as it is, whatever comes of them, and so does a refusal. A repair that is done makes each
-/// flagged provider right for it, where at most b providers are spoilt or fail; so does one that was cut off,
-/// where the next command finds its end in effect.
+/// file stays so on each provider that nobody touches. A get, a list, an audit, an upgrade, a put and a drop
+/// of another name leave it as it is, whatever comes of them, and so does a refusal. A repair that is done
+/// makes each flagged provider right for it, where at most b providers are spoilt or fail; so does one that
+/// was cut off, where the next command finds its end in effect.
 pub fn files_stay()
-    ensures put { (name bytes : List ℕ) (own : Option ℕ) (records : List Record) (spoilt : ℕ → Bool) (old new : Seen)
+    ensures put { (name bytes : List ℕ) (own : Option ℕ) (records : List Record) (spoilt : ℕ → Bool)
+        (old new : Seen)
         (end : Ending) →
         Answers (put_of name own) old new end → IsDone end → IsKnown old records → old.source ≡ Some bytes →
         ((j : ℕ) → j < (setup_in_effect records).n → spoilt j ≡ false
@@ -214,7 +217,8 @@ pub fn put_files_are_got()
         IsFaultless a b → IsFaultless c d → IsFaultless e f → first.status ≢ 70 → second.status ≢ 70
         → last.status ≢ 70 →
         (first.status ≡ 0) × (second.status ≡ 0) × GivesText bytes e f last }
-    ensures got { (numbers : Numbers) (key name bytes : List ℕ) (own : Option ℕ) (spoilt : ℕ → Bool) (a b c d e f : Seen)
+    ensures got { (numbers : Numbers) (key name bytes : List ℕ) (own : Option ℕ) (spoilt : ℕ → Bool)
+        (a b c d e f : Seen)
         (first second last : Ending) →
         Answers (InitWith numbers) a b first → Answers (put_of name own) c d second
         → Answers (GetOf name) e f last → Follows b c → Follows d e →
@@ -226,7 +230,8 @@ pub fn put_files_are_got()
         → spoilt_below numbers.n spoilt ≤ numbers.b →
         (Rose e.disk_faults f.disk_faults → ⊥) → (Rose e.sink_faults f.sink_faults → ⊥)
         → GivesUnlessMemory bytes e f last }
-    ensures again { (name bytes : List ℕ) (own : Option ℕ) (records : List Record) (spoilt : ℕ → Bool) (c d e f : Seen)
+    ensures again { (name bytes : List ℕ) (own : Option ℕ) (records : List Record) (spoilt : ℕ → Bool)
+        (c d e f : Seen)
         (second last : Ending) →
         Answers (put_of name own) c d second → Answers (GetOf name) e f last → Follows d e → IsKnown c records
         → c.source ≡ Some bytes →

@@ -80,11 +80,10 @@ pub fn reads_leave_what_is_held()
         → SameHolds old new }
 {}
 
-/// A put of status 0 or 15 has stored its whole source on every provider, and brought it into effect, with the
-/// profile that it names or else the setup's. A put
-/// ends so, or finds no memory, or is refused with its cause, unless a count of faults rose: the disk's, that
-/// of a provider's stores, the source's or the sink's. Over a disk and a source that tell, one that is not
-/// refused ends so.
+/// A put of status 0 or 15 has stored its whole source on every provider, and brought it into effect, with
+/// the profile that it names or else the setup's. A put ends so, or finds no memory, or is refused with its
+/// cause, unless a count of faults rose: the disk's, that of a provider's stores, the source's or the sink's.
+/// Over a disk and a source that tell, one that is not refused ends so.
 pub fn puts_store_the_source()
     ensures done { (name : List ℕ) (own : Option ℕ) (old new : Seen) (end : Ending)
         → Answers (put_of name own) old new end → IsDone end → IsWholePut name own old new end }

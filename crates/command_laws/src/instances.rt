@@ -17,9 +17,10 @@ ghost use Rattle.command_laws.specs.Pieces.{IsStore, IsLater, IsChain};
 ghost use Rattle.command_laws.specs.Instances.{store, small_setup, small_numbers, key_devices, ready_store, put_store, held_name, held_file, other_name, set_up_records, held_records, upgraded_records, own_records, due_records, audited_store, repaired_store, upgraded_store, own_store, empty_devices, failed_devices, with_sink, ends, get_held, get_other};
 
 /// A store that was set up, one with one empty file, one with a repair due, one whose journal has its second
-/// version and one with a file that has a profile of its own are known, in each image of the disk. The file is right on all providers, none of which is wrong or failed; the next command finds it
-/// so; and a state of the abstract client stands for the store, as one does for a disk on which nothing is set
-/// up, and for one of which an init failed, whose setup is in doubt.
+/// version and one with a file that has a profile of its own are known, in each image of the disk. The file
+/// is right on all providers, none of which is wrong or failed; the next command finds it so; and a state of
+/// the abstract client stands for the store, as one does for a disk on which nothing is set up, and for one
+/// of which an init failed, whose setup is in doubt.
 pub fn there_are_known_stores()
     ensures set_up { IsSure (store set_up_records) set_up_records }
     ensures sure { IsSure (store held_records) held_records }
@@ -47,8 +48,8 @@ pub fn there_are_known_stores()
 /// the files; over an empty disk a get ends with 9; a row whose numbers are no shape ends with 20, and words
 /// that are no command with 2. Over a store with no file an audit is done, and a repair that was due. An
 /// upgrade is done over a store that was set up, and over the upgraded one a put with a profile of its own; a
-/// profile that there is none of, one in a journal of the first version, and a second upgrade are refused. Two
-/// gets are a chain.
+/// profile that there is none of, one in a journal of the first version, and a second upgrade are refused.
+/// Two gets are a chain.
 pub fn there_are_answers()
     ensures got { Answers (GetOf held_name) (store held_records) (store held_records) (ends 0) }
     ensures missing { Answers (GetOf other_name) (store held_records) (store held_records) (ends 3) }

@@ -34,7 +34,8 @@ pub fn commands_are_runs()
         × IsStore (now start (own ++ ms)) (last_seen first calls) }
 {}
 
-/// The words of a command are text, so the name in them is of bytes, and the number of a profile is below 256.
+/// The words of a command are text, so the name in them is of bytes, and the number of a profile is below
+/// 256.
 pub fn forms_are_spelled()
     ensures { (words : List (String Global)) (command : Command) → IsForm words command
         → IsSpelledCommand command }

@@ -3,7 +3,8 @@ use Rattle.command_laws.proofs.Failed.{upgrade-fetches, put-fetches, drop-fetche
 use Rattle.command_laws.proofs.kept.others_fetch_nothing.Goals as goal
 
 pub returns-clause-put : goal.returns-clause-put
-returns-clause-put c name own old new end A = put-fetches name old new end (put-answers name own old new end A)
+returns-clause-put c name own old new end A = put-fetches name old new end
+    (put-answers name own old new end A)
 
 pub returns-clause-drop : goal.returns-clause-drop
 returns-clause-drop c name old new end A = drop-fetches name old new end A.0
