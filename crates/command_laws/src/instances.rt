@@ -1,13 +1,15 @@
 //! Concrete values that meet what the laws suppose of a store, its file and commands over it: these laws are
 //! not empty.
-ghost use Rattle.std.specs.Prelude.{◌≡◌, ◌≤◌, false, [], ◌∷◌, Some, None};
-ghost use Rattle.record_defs.specs.Records.{SetUp};
-ghost use Rattle.record_defs.specs.Table.{files_of};
+ghost use Rattle.std.specs.Prelude.{◌≡◌, ◌+◌, ◌-◌, ◌^◌, ◌<◌, ◌≤◌, true, false, [], ◌∷◌, length, Some, None};
+ghost use Rattle.record_defs.specs.Records.{SetUp, is_name, largest_journal, all_profiles};
+ghost use Rattle.record_defs.specs.Journal.{text_size};
+ghost use Rattle.record_defs.specs.Table.{version_of, next_id, files_of};
 ghost use Rattle.machine_defs.specs.Openings.{IsNotSetUp};
 ghost use Rattle.machine_defs.specs.States.{State};
 ghost use Rattle.command_defs.specs.Forms.{InitWith, PutUnder, PutAt, GetOf, ListAll, AuditAll, RepairDue, UpgradeJournal, RowOf};
 ghost use Rattle.command_defs.specs.Lines.{list_lines};
 ghost use Rattle.command_defs.specs.Opens.{setup_in_effect};
+ghost use Rattle.command_defs.specs.Refusals.{is_crowded_by};
 ghost use Rattle.command_defs.specs.Seen.{NoCountFalls};
 ghost use Rattle.command_defs.specs.Commands.{Answers, IsUsage};
 ghost use Rattle.job_laws.specs.Failing.{bad_seen};
@@ -73,4 +75,15 @@ pub fn there_are_answers()
         (ends 24) }
     ensures counts { NoCountFalls (store held_records) (store held_records) }
     ensures chain { IsChain (store held_records) (get_held ∷ get_other ∷ []) }
+{}
+
+/// The store that was set up has a journal of the first version and room for an upgrade; the upgraded one has
+/// room for a put with a profile of its own.
+pub fn there_is_room()
+    ensures upgrade { (version_of set_up_records ≡ 1)
+        × (text_size set_up_records + 3 ≤ largest_journal) }
+    ensures own { (version_of upgraded_records ≡ 2) × (1 < all_profiles) × (is_name held_name ≡ true)
+        × (is_crowded_by upgraded_records held_name ≡ false)
+        × (text_size upgraded_records + 26 + length held_name ≤ largest_journal)
+        × (next_id upgraded_records ≤ 2 ^ 64 - 32) }
 {}
