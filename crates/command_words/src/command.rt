@@ -57,7 +57,10 @@ fn read_named<'a>(word: &'a String, name: &'a String) -> Option<Command<'a>>
 {
     let name = name.as_bytes();
     match word.as_str() {
-        "put" => Some(Command::Put { name, profile: None }),
+        "put" => Some(Command::Put {
+            name,
+            profile: None,
+        }),
         "get" => Some(Command::Get { name }),
         "drop" => Some(Command::Drop { name }),
         _ => None,
@@ -65,11 +68,7 @@ fn read_named<'a>(word: &'a String, name: &'a String) -> Option<Command<'a>>
 }
 
 /// The put that a word, a name and the number of a profile spell, or `None` where they spell none.
-fn read_put_at<'a>(
-    word: &'a String,
-    name: &'a String,
-    profile: &'a String,
-) -> Option<Command<'a>>
+fn read_put_at<'a>(word: &'a String, name: &'a String, profile: &'a String) -> Option<Command<'a>>
     ensures { MatchOption result
         ((command : _) → IsForm (word.now ∷ name.now ∷ profile.now ∷ []) command → ⊥)
         (λ command. IsForm (word.now ∷ name.now ∷ profile.now ∷ []) (command_of command)) }

@@ -129,10 +129,16 @@ unfolding profile_at
 profile-again word ws profile is = rw (number-again 8 word ws profile is) refl
 
 -- where a word is left, what is read as a number is read as a profile
-pub profile-first : (ws : List Word) (word : Word) (more : List Word) → ws ≡ word ∷ more →
+profile-first : (ws : List Word) (word : Word) (more : List Word) → ws ≡ word ∷ more →
     profile_at ws ≡ (number_word_at 8 ws >>= λ number. Some (Some number.0, number.1))
 unfolding profile_at
 profile-first ws word more is = rw is refl
+
+-- where a word is left, its number is the profile's
+pub profile-reads : (ws : List Word) (word : Word) (more : List Word) (number : ℕ) (left : List Word)
+    → ws ≡ word ∷ more → number_word_at 8 ws ≡ Some (number, left) → profile_at ws ≡ Some (Some number, left)
+profile-reads ws word more number left is read = profile-first ws word more is
+    ∙ ap (λ (read : Option (ℕ × List Word)). read >>= λ number. Some (Some number.0, number.1)) read
 
 -- where a word is left, a fault of its number is one of the profile
 pub profile-fails : {X : Type 0} (view : X → Option ℕ × List Word) (result : Result X LineFault)

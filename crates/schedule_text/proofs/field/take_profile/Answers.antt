@@ -1,9 +1,8 @@
-use Rattle.std.proofs.Common.{◌<◌, ℕ, List, Option, Some, length, ◌∙◌, ap, arith}
+use Rattle.std.proofs.Common.{◌<◌, length, arith}
 use Rattle.std.proofs.lemmas.Bool.Decides.{nat_tests}
-use Rattle.record_codec.specs.Reading.{◌>>=◌}
-use Rattle.schedule_text.specs.Grammar.{Word, words}
+use Rattle.schedule_text.specs.Grammar.{words}
 use Rattle.schedule_text.proofs.Pieces.{words-left}
-use Rattle.schedule_text.proofs.Fields.{profile-first, profile-fails}
+use Rattle.schedule_text.proofs.Fields.{profile-reads, profile-fails}
 use Rattle.schedule_text.proofs.field.take_profile.Goals as goal
 
 pub returns-in_err-number-clause-read : goal.returns-in_err-number-clause-read
@@ -21,6 +20,5 @@ returns-clause-read c =
     let some : 0 < length left = grind (arith, nat_tests) in
     let word = words-left c.args.line.now left c.without_spaces.ensures.same c.without_spaces.ensures.front
     some in
-    profile-first (words c.args.line.now) word.0 word.1 word.2
-    ∙ ap (λ (read : Option (ℕ × List Word)). read >>= λ number. Some (Some number.0, number.1))
-    c.in_ok-number.ensures.read
+    profile-reads (words c.args.line.now) word.0 word.1 c.in_ok-number.number
+    (words c.in_ok-number.left.now) word.2 c.in_ok-number.ensures.read
