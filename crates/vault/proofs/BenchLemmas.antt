@@ -1,6 +1,7 @@
 -- Benches of a vault are those of the setup in effect.
 use Rattle.std.proofs.Common.{◌≡◌, ℕ, zero, suc, List, [], ◌∷◌, ap, sym, refl, ◌∙◌, arith}
 use Rattle.hail_field.specs.declared.shape.Shape.{Shape}
+use Rattle.code_points.specs.declared.profile.Profile.{Profile as ProfileValue}
 use Rattle.code_points.specs.Profile.{plain_profile}
 use Rattle.code_defs.specs.Profiles.{profile_of}
 use Rattle.key_schedule.specs.declared.master.Master.{Master}
@@ -13,6 +14,10 @@ use Rattle.vault.specs.declared.desk.Desk.{Desk}
 use Rattle.vault.specs.Desks.{IsShaped}
 use Rattle.vault.specs.Tasks.{AreOfSetup}
 use Rattle.vault.specs.Benches.{IsOfDesk, IsBenchFor, AreOfDesk}
+
+-- a row of the table of profiles is that of its number
+pub plain-own : (p : ProfileValue) → plain_profile p ≡ profile_of p.number
+plain-own p = (λ i. record { size = p.size_is i; keep = p.keep_is i; fix = p.fix_is i })
 
 module _ (v : Desk) (s : Setup) (shaped : IsShaped v) (setup : s ≡ with_master v.setup v.master.0) where
   -- a bench of a desk's master key and shape, at a profile, is one of the setup in effect
@@ -30,16 +35,12 @@ module _ (v : Desk) (s : Setup) (shaped : IsShaped v) (setup : s ≡ with_master
   pub all-of-setup : (benches : List Bench) → AreOfDesk v benches → AreOfSetup s benches
   all-of-setup [] are = tt
   all-of-setup (b ∷ bs) are = (
-    (b.keys.file.profile.number, of-setup b.keys.file.profile.number b are.0 (own b)),
+    (
+      b.keys.file.profile.number,
+      of-setup b.keys.file.profile.number b are.0 (plain-own b.keys.file.profile),
+    ),
     all-of-setup bs are.1,
   )
-    where
-      own : (b : Bench) → plain_profile b.keys.file.profile ≡ profile_of b.keys.file.profile.number
-      own b = (λ i. record {
-        size = b.keys.file.profile.size_is i;
-        keep = b.keys.file.profile.keep_is i;
-        fix = b.keys.file.profile.fix_is i;
-      })
 
 -- a bench for a file of a vault is one of the setup in effect
 pub bench-is : (v : Desk) (s : Setup) (id size profile : ℕ) (bench : Bench) → IsShaped v →

@@ -68,14 +68,14 @@ module _ (w : State) (job : Job) (k o s : ℕ) (next : next_action w job ≡ Som
   -- with a bench taken up the benches are of the setup still, and serve what they served
   taken_own : (profile : ℕ) (t u : RepairTask) → TakesUp profile t u →
       AreOfSetup (setup_in w) (t.bench ∷ t.others.items) → AreOfSetup (setup_in w) (u.bench ∷ u.others.items)
-  taken_own profile t u takes are = elim takes.swapped [
+  taken_own profile t u takes are = elim takes.taken.swapped [
     | inl same ↦ subst (AreOfSetup (setup_in w)) (λ i. (sym same.0) i ∷ (sym same.1) i) are
     | inr swapped ↦ own_swapped (setup_in w) t.bench t.others.items u.bench u.others.items swapped are
   ]
 
   taken_serves : (profile p : ℕ) (t u : RepairTask) → TakesUp profile t u →
       Serves (setup_in w) p (t.bench ∷ t.others.items) → Serves (setup_in w) p (u.bench ∷ u.others.items)
-  taken_serves profile p t u takes serve = elim takes.swapped [
+  taken_serves profile p t u takes serve = elim takes.taken.swapped [
     | inl same ↦ subst (Serves (setup_in w) p) (λ i. (sym same.0) i ∷ (sym same.1) i) serve
     | inr swapped ↦ serves_swapped (setup_in w) p t.bench t.others.items u.bench u.others.items swapped serve
   ]
@@ -86,7 +86,7 @@ module _ (w : State) (job : Job) (k o s : ℕ) (next : next_action w job ≡ Som
   taken_is t u takes is =
       let are = taken_own own t u takes is.benches in
       by_size (setup_in w) own are.0.0 u.bench are.0.1
-      (takes.served (served (setup_in w) own (t.bench ∷ t.others.items) (is.each o)))
+      (takes.taken.served (served (setup_in w) own (t.bench ∷ t.others.items) (is.each o)))
 
   -- with its bench taken up a repair is at the first fetch of a stripe
   taken_up : (t u : RepairTask) → k ≡ 0 → TakesUp own t u →

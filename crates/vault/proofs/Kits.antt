@@ -1,16 +1,22 @@
 -- The benches of a job: the object of each, and one for each profile of a repair's files.
-use Rattle.std.proofs.Common.{◌≡◌, ◌⊎◌, inl, inr, ℕ, zero, suc, ◌==◌, Bool, true, false, List, [], ◌∷◌, Some, refl, sym, ap, subst, ◌∙◌, arith}
-use Rattle.std.specs.Prelude.{◌||◌, slice_get, slice_set}
-use Rattle.std.specs.List.{list_any}
+use Rattle.std.proofs.Common.{◌≡◌, ◌⊎◌, inl, inr, ℕ, zero, suc, ◌+◌, ◌<◌, ◌==◌, Bool, true, false, List, [], ◌∷◌, ◌++◌, drop, length, get_or, None, Some, refl, sym, ap, subst, ◌∙◌, arith}
+use Rattle.std.specs.Prelude.{◌||◌, slice_get, slice_set, position}
+use Rattle.std.specs.List.{list_any, position_from}
 use Rattle.std.proofs.lemmas.Bool.{cases_Bool, eq-eqb, eqb-true}
+use Rattle.std.proofs.lemmas.Iterator.Adapters.{position_from-zero}
+use Rattle.std.proofs.lemmas.List.Folds.{list_any-append}
+use Rattle.std.proofs.lemmas.List.Quantifiers.{position-Some}
 use Rattle.code_defs.specs.Profiles.{Profile, profile_of}
 use Rattle.column_defs.specs.Objects.{Object}
 use Rattle.record_defs.specs.Records.{Setup}
+use Rattle.record_defs.specs.Table.{File}
 use Rattle.machine_defs.specs.Jobs.{Pinned}
 use Rattle.machine_defs.specs.Setups.{profiled, object_of}
+use Rattle.machine_defs.proofs.JobLists.{cond_true, cond_false}
 use Rattle.stripe_bench.specs.declared.bench.Bench.{Bench}
 use Rattle.stripe_bench.specs.Bench.{bench_object, turned, IsBench}
-use Rattle.vault.specs.Benches.{is_sized, is_served, IsSwapped}
+use Rattle.vault.specs.declared.desk.Desk.{Desk}
+use Rattle.vault.specs.Benches.{is_sized, is_served, IsOfDesk, AreOfDesk, AreServed, IsSwapped}
 use Rattle.vault.specs.Orders.{Phase, Between, Fetching, Opened}
 use Rattle.vault.specs.Tasks.{AreOfSetup, Serves, IsAtHand}
 
@@ -66,16 +72,15 @@ same_size (suc (suc (suc (suc n)))) (suc (suc zero)) e = absurd (omega (arith, e
 same_size (suc (suc (suc (suc n)))) (suc (suc (suc zero))) e = absurd (omega (arith, e))
 same_size (suc (suc (suc (suc n)))) (suc (suc (suc (suc m)))) e = refl
 
+abbrev object_at : Setup → ℕ → Profile → Object
+object_at s id x =
+    record { shape = record { n = s.n; l = s.l; b = s.b }; profile = x; master = s.master; id = id }
+
 -- a bench of the setup whose blocks have the size of a profile is for this profile
 pub by_size : (s : Setup) (p q : ℕ) (bench : Bench) → IsBench s q bench →
     bench.keys.file.profile.size ≡ (profile_of p).size → IsBench s p bench
 by_size s p q bench is size =
-    is ∙ ap (λ (x : Profile). record {
-      shape = record { n = s.n; l = s.l; b = s.b };
-      profile = x;
-      master = s.master;
-      id = bench.keys.file.id;
-    }) (same_size q p (sym (bench_size s q bench is) ∙ size))
+    is ∙ ap (object_at s bench.keys.file.id) (same_size q p (sym (bench_size s q bench is) ∙ size))
 
 -- ---- benches of a setup
 
@@ -129,7 +134,7 @@ serves s p (b ∷ bs) are h = elim (cases_Bool (is_sized (profile_of p).size b))
 
 get_own : (s : Setup) (bs : List Bench) (k : ℕ) (x : Bench) → AreOfSetup s bs → slice_get bs k ≡ Some x →
     (p : ℕ) × IsBench s p x
-get_own s [] k x are there = (let e : Rattle.std.proofs.Common.None ≡ Some x = there in absurd cc)
+get_own s [] k x are there = (let e : None ≡ Some x = there in absurd cc)
 get_own s (b ∷ bs) zero x are there =
     (let e : b ≡ x = (let f : Some b ≡ Some x = there in cc) in
     (are.0.0, subst (λ (y : Bench). IsBench s are.0.0 y) e are.0.1))
@@ -143,7 +148,7 @@ set_own s (b ∷ bs) (suc k) x are is = (are.0, set_own s bs k x are.1 is)
 
 set_serves : (s : Setup) (p : ℕ) (bs : List Bench) (k : ℕ) (x b : Bench) → slice_get bs k ≡ Some x →
     IsBench s p b → Serves s p (slice_set bs k b)
-set_serves s p [] k x b there h = (let e : Rattle.std.proofs.Common.None ≡ Some x = there in absurd cc)
+set_serves s p [] k x b there h = (let e : None ≡ Some x = there in absurd cc)
 set_serves s p (y ∷ bs) zero x b there h = inl h
 set_serves s p (y ∷ bs) (suc k) x b there h = inr (set_serves s p bs k x b there h)
 
@@ -178,3 +183,80 @@ serves_swapped s p b bs b' bs' swapped (inr r) =
       | inl h ↦ inl h
       | inr h ↦ inr (subst (Serves s p) (sym swapped.left_is) h)
     ]
+
+-- ---- the place of one
+
+none_from : (p : Bench → Bool) (i : ℕ) (bs : List Bench) → position_from p i bs ≡ None →
+    list_any p bs ≡ false
+none_from p i [] none = refl
+none_from p i (b ∷ bs) none = elim (cases_Bool (p b)) [
+  | inl t ↦ absurd (let e : Some i ≡ None = sym (cond_true (p b) (Some i) (position_from p (i + 1) bs) t)
+      ∙ none in cc)
+  | inr f ↦ ap (λ (t : Bool). t || list_any p bs) f
+      ∙ none_from p (i + 1) bs (sym (cond_false (p b) (Some i) (position_from p (i + 1) bs) f) ∙ none)
+]
+
+-- where no place has one there is none
+pub none_placed : (p : Bench → Bool) (bs : List Bench) → position p bs ≡ None → list_any p bs ≡ false
+none_placed p bs none = none_from p 0 bs (sym (position_from-zero p bs) ∙ none)
+
+-- a place has one
+pub one_placed : (p : Bench → Bool) (bs : List Bench) (k : ℕ) (d : Bench) → position p bs ≡ Some k →
+    (k < length bs) × (p (get_or bs k d) ≡ true)
+one_placed p bs k d at = (let f = position-Some p bs k d at in (f.0, f.1))
+
+-- whose blocks have the size that was looked for
+pub size_of : (size : ℕ) (bs : List Bench) (k : ℕ) (d : Bench) → position (is_sized size) bs ≡ Some k →
+    (get_or bs k d).keys.file.profile.size ≡ size
+size_of size bs k d at = eqb-true _ _ (one_placed (is_sized size) bs k d at).1
+
+-- where no other has the size, and one has it, it is the first
+pub none_own : (size : ℕ) (own : Bench) (bs : List Bench) → position (is_sized size) bs ≡ None →
+    list_any (is_sized size) (own ∷ bs) ≡ true → own.keys.file.profile.size ≡ size
+none_own size own bs none h = elim (cases_Bool (is_sized size own)) [
+  | inl t ↦ eqb-true _ _ t
+  | inr f ↦ absurd (let e : false ≡ true = sym (none_placed (is_sized size) bs none)
+      ∙ sym (ap (λ (t : Bool). t || list_any (is_sized size) bs) f) ∙ h in cc)
+]
+
+-- ---- more of them
+
+-- a bench behind others serves its own profile
+pub served_last : (p : ℕ) (own : Bench) (bs : List Bench) (b : Bench) →
+    b.keys.file.profile.size ≡ (profile_of p).size → is_served p (own ∷ (bs ++ b ∷ [])) ≡ true
+served_last p own bs b size =
+    list_any-append (is_sized (profile_of p).size) (own ∷ bs) (b ∷ [])
+    ∙ ap (λ (t : Bool). list_any (is_sized (profile_of p).size) (own ∷ bs) || t) last
+    ∙ or_true (list_any (is_sized (profile_of p).size) (own ∷ bs))
+  where
+    last : list_any (is_sized (profile_of p).size) (b ∷ []) ≡ true
+    last = ap (λ (t : Bool). t || list_any (is_sized (profile_of p).size) []) (eq-eqb _ _ size)
+
+-- and the others serve what they served
+pub served_more : (p : ℕ) (own : Bench) (bs more : List Bench) → is_served p (own ∷ bs) ≡ true →
+    is_served p (own ∷ (bs ++ more)) ≡ true
+served_more p own bs more h =
+    list_any-append (is_sized (profile_of p).size) (own ∷ bs) more
+    ∙ ap (λ (t : Bool). t || list_any (is_sized (profile_of p).size) more) h
+
+-- one more of a desk
+pub desk_more : (v : Desk) (bs : List Bench) (b : Bench) → AreOfDesk v bs → IsOfDesk v b →
+    AreOfDesk v (bs ++ b ∷ [])
+desk_more v [] b are is = (is, tt)
+desk_more v (x ∷ bs) b are is = (are.0, desk_more v bs b are.1 is)
+
+-- files that are served are so by more benches
+pub all_served_more : (files : List File) (old new : List Bench) →
+    ((p : ℕ) → is_served p old ≡ true → is_served p new ≡ true) → AreServed files old → AreServed files new
+all_served_more [] old new more all = tt
+all_served_more (f ∷ fs) old new more all = (more f.profile all.0, all_served_more fs old new more all.1)
+
+-- one file more is served
+pub one_served_more : (files : List File) (k : ℕ) (f : File) (benches : List Bench) →
+    Some f ≡ slice_get files k → is_served f.profile benches ≡ true → AreServed (drop (suc k) files) benches →
+    AreServed (drop k files) benches
+one_served_more [] k f benches there own all = absurd (let e : Some f ≡ None = there in cc)
+one_served_more (g ∷ fs) zero f benches there own all =
+    (let e : f ≡ g = (let h : Some f ≡ Some g = there in cc) in
+    (subst (λ (x : File). is_served x.profile benches ≡ true) e own, all))
+one_served_more (g ∷ fs) (suc k) f benches there own all = one_served_more fs k f benches there own all

@@ -21,11 +21,11 @@ pub record IsOfDesk (v : Desk) (bench : Bench) : Type 0 where
   pub shape : bench.keys.file.shape ≡ v.shape
 
 -- a bench for a file of this number, length and profile
-pub record IsBenchFor (v : Desk) (id size profile : ℕ) (bench : Bench) : Type 0 where
+pub record IsBenchFor (v : Desk) (id size number : ℕ) (bench : Bench) : Type 0 where
   pub of_desk : IsOfDesk v bench
   pub id_is : bench.keys.file.id ≡ id
   pub length_is : bench.keys.file.length ≡ size
-  pub profile : plain_profile bench.keys.file.profile ≡ profile_of profile
+  pub profile : plain_profile bench.keys.file.profile ≡ profile_of number
 
 -- a bench makes blocks of this size
 abbrev pub is_sized : ℕ → Bench → Bool
@@ -46,15 +46,19 @@ pub record IsSwapped (old : Bench) (others : List Bench) (new : Bench) (left : L
   pub there : slice_get others place ≡ Some new
   pub left_is : left ≡ slice_set others place old
 
+-- a repair took up a bench, whose blocks have this size where there is such a one
+pub record HasTaken (size : ℕ) (old new : RepairTask) : Type 0 where
+  pub swapped : ((new.bench ≡ old.bench) × (new.others.items ≡ old.others.items))
+      ⊎ IsSwapped old.bench old.others.items new.bench new.others.items
+  pub served : list_any (is_sized size) (old.bench ∷ old.others.items) ≡ true
+      → new.bench.keys.file.profile.size ≡ size
+
 -- a repair took up the bench of a profile, and turned its blocks to their size
 pub record TakesUp (profile : ℕ) (old new : RepairTask) : Type 0 where
   pub present : new.blocks.present ≡ old.blocks.present
   pub symbols : new.blocks.symbols ≡ old.blocks.symbols
   pub size : new.blocks.size ≡ new.bench.keys.file.profile.size
-  pub swapped : ((new.bench ≡ old.bench) × (new.others.items ≡ old.others.items))
-      ⊎ IsSwapped old.bench old.others.items new.bench new.others.items
-  pub served : is_served profile (old.bench ∷ old.others.items) ≡ true
-      → new.bench.keys.file.profile.size ≡ (profile_of profile).size
+  pub taken : HasTaken (profile_of profile).size old new
 
 -- so does a job that is one; any other stays as it was
 abbrev pub Turns : ℕ → Task → Task → Type 0

@@ -1,4 +1,5 @@
-ghost use Rattle.std.specs.Prelude.{◌≡◌, ◌≤◌, ◌^◌, ◌∷◌, ℕ, List, true, position, IfOk, OnOk, OnErr, IsErrOf, IsErr};
+ghost use Rattle.std.specs.Prelude.{◌≡◌, ◌≤◌, ◌^◌, ◌∷◌, ◌||◌, ℕ, List, true, position, IfOk, OnOk, OnErr, IsErrOf, IsErr};
+ghost use Rattle.std.specs.List.{list_any};
 ghost use Rattle.code_defs.specs.Profiles.{profile_of};
 ghost use Rattle.code_points.specs.Profile.{plain_profile};
 ghost use Rattle.machine_defs.specs.Events.{AreBytes};
@@ -28,6 +29,16 @@ pub(crate) fn profile_at(number: u8) -> Profile
         Some(profile) => profile,
         None => unreachable!(),
     }
+}
+
+/// A bench for blocks of this size is the own one or one of the others.
+fn serves(own: &Bench, others: &[Bench], size: u32) -> bool
+    ensures { result ≡ (is_sized size own.now || list_any (is_sized size) others.now) }
+{
+    own.keys.file.profile.size == size
+        || others
+            .iter()
+            .any(|bench| bench.keys.file.profile.size == size)
 }
 
 /// The place of a bench whose blocks have this size.
@@ -77,7 +88,7 @@ impl Desk {
         ensures err { IsErr result → IsErrOf result fault.Memory }
     {
         let size = profile_at(profile).size;
-        if own.keys.file.profile.size == size || place_of(others, size).is_some() {
+        if serves(own, others, size) {
             return Ok(());
         }
         let bench = self.bench_for(0, LARGEST_FILE, profile)?;

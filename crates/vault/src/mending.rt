@@ -1,6 +1,6 @@
 ghost use Rattle.std.specs.Prelude.{◌≡◌, IfOk, IsErrOf, IsErr};
 ghost use Rattle.vault_core.specs.declared.wish.BeginFault.TheVariants as fault;
-ghost use Rattle.vault.specs.Benches.{IsNewRepair, TakesUp};
+ghost use Rattle.vault.specs.Benches.{IsNewRepair, HasTaken, TakesUp};
 
 use crate::benches::{LARGEST_FILE, place_of, profile_at};
 use crate::desk::Desk;
@@ -13,16 +13,25 @@ use vault_core::BeginFault;
 const LARGEST_BLOCK: usize = 128;
 
 impl RepairTask {
+    /// Takes up the bench whose blocks have this size, if there is one.
+    fn take(&mut self, size: u32)
+        ensures blocks { self.new.blocks ≡ self.old.blocks }
+        ensures taken { HasTaken size self.old self.new }
+    {
+        if self.bench.keys.file.profile.size == size {
+            return;
+        }
+        match place_of(&self.others, size) {
+            Some(place) => mem::swap(&mut self.bench, &mut self.others[place]),
+            None => {}
+        }
+    }
+
     /// Takes up the bench of a profile, and turns the blocks, of which there are none, to its size.
     pub(crate) fn take_up(&mut self, profile: u8)
         ensures { TakesUp profile self.old self.new }
     {
-        let size = profile_at(profile).size;
-        if self.bench.keys.file.profile.size != size {
-            if let Some(place) = place_of(&self.others, size) {
-                mem::swap(&mut self.bench, &mut self.others[place]);
-            }
-        }
+        self.take(profile_at(profile).size);
         self.blocks.turn_to(self.bench.keys.file.profile.size as usize);
     }
 }

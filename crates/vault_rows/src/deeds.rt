@@ -45,6 +45,8 @@ pub enum Deed {
     Next(u64),
     /// So many providers hold a block of the first stripe of an object.
     Held(u64, usize),
+    /// The first provider's block of the first stripe of an object has so many symbols.
+    Sized(u64, usize),
     /// The disk has so many bytes.
     DiskHas(usize),
     /// The providers were asked so often, and called otherwise so often.
@@ -88,6 +90,7 @@ impl Store {
             Deed::Reopens(picks) => self.reopen(picks),
             Deed::Next(number) => self.next_id() == Some(number),
             Deed::Held(object, count) => self.holders(object) == count,
+            Deed::Sized(object, size) => self.block_size(object) == Some(size),
             Deed::DiskHas(count) => self.disk_len() == count,
             Deed::Called(asks, others) => (self.asks(), self.other_calls()) == (asks, others),
             Deed::Keeps => self.keeps_blocks(),

@@ -19,3 +19,5 @@ mod sharing;
 mod stopping;
 #[cfg(test)]
 mod store;
+#[cfg(test)]
+mod versions;

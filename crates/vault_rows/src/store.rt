@@ -24,6 +24,7 @@ pub enum Seen {
     Dropped,
     Audited(u64),
     Repaired(u64),
+    Upgraded,
     Lost,
     Fault,
     Closed,
@@ -69,6 +70,7 @@ fn seen_end(answer: &Answer) -> Seen {
         Answer::Dropped => Seen::Dropped,
         Answer::Audited { number, .. } => Seen::Audited(*number),
         Answer::Repaired { number } => Seen::Repaired(*number),
+        Answer::Upgraded => Seen::Upgraded,
         Answer::Lost { .. } => Seen::Lost,
         _ => Seen::Fault,
     }
@@ -104,12 +106,13 @@ fn begin_put(
     vault: &mut Vault,
     name: &[u8],
     bytes: &[u8],
+    profile: Option<u8>,
 ) -> Result<u32, BeginFault> {
     if vault.next_job() == u32::MAX {
         return Err(BeginFault::Memory);
     }
     match Bytes::from_slice(alloc, bytes) {
-        Ok(bytes) => vault.begin_put(name, bytes),
+        Ok(bytes) => vault.begin_put(name, bytes, profile),
         Err(_) => Err(BeginFault::Memory),
     }
 }
@@ -124,7 +127,8 @@ fn begin_other(vault: &mut Vault, job: Job) -> Result<u32, BeginFault> {
         Job::Drop(name) => vault.begin_drop(name),
         Job::Audit => vault.begin_audit(),
         Job::Repair => vault.begin_repair(),
-        Job::Put(..) => Err(BeginFault::BadName),
+        Job::Upgrade => vault.begin_upgrade(),
+        Job::Put(..) | Job::PutIn(..) => Err(BeginFault::BadName),
     }
 }
 
@@ -204,6 +208,11 @@ impl Store {
         self.disk.bytes().len()
     }
 
+    /// How many symbols the first provider's block of the first stripe of an object has.
+    pub fn block_size(&self, object: u64) -> Option<usize> {
+        Some(self.providers.first()?.inner.held(object, 0)?.len())
+    }
+
     /// How many providers hold a block of the first stripe of an object.
     pub fn holders(&self, object: u64) -> usize {
         let mut count = 0usize;
@@ -278,7 +287,8 @@ impl Store {
             return Err(BeginFault::MustReopen);
         };
         match job {
-            Job::Put(name, bytes) => begin_put(self.alloc, vault, name, bytes),
+            Job::Put(name, bytes) => begin_put(self.alloc, vault, name, bytes, None),
+            Job::PutIn(name, bytes, own) => begin_put(self.alloc, vault, name, bytes, Some(own)),
             other => begin_other(vault, other),
         }
     }
