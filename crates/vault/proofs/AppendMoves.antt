@@ -225,7 +225,6 @@ gave_away v v0 rest =
       setup = ap (λ (x : Desk). x.setup) rest;
       master = ap (λ (x : Desk). x.master) rest;
       shape = ap (λ (x : Desk). x.shape) rest;
-      profile = ap (λ (x : Desk). x.profile) rest;
     }
 
 -- its core is fed as that of the vault was

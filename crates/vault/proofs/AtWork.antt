@@ -73,7 +73,7 @@ unfolding setup_in
 over_sound w faults ps enough S = record {
   accepted = S.accepted;
   spelled = S.spelled;
-  journal = journal-same w (over w faults ps) refl refl refl refl S.journal;
+  journal = journal-same w (over w faults ps) refl refl refl S.journal;
   room = S.room;
   files = S.files;
   names = S.names;

@@ -211,14 +211,7 @@ module _ (v : Desk) (d : Devices) (w : State) (moment number : ℕ) (stands : De
             running.task,
         refl,
       )
-      (record {
-  records = refl;
-  journal = refl;
-  doubt = refl;
-  append = refl;
-  faults = refl;
-  barred = refl;
-})
+      (record { records = refl; journal = refl; doubt = refl; append = refl; faults = refl; barred = refl })
       (ap (without_job w.jobs) (number_of w.jobs number coming.job coming.runs))
       at there
       (record {

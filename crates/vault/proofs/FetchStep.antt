@@ -235,14 +235,7 @@ module _ (v : Desk) (w : State) (holds : Option Cells) (faults moment number k o
         turned.size fetches) in
         goes_on v v' w new holds faults moment number place ps ps' (Fetch k o s) r' next_job stands coming
         (given_of found block, (q, call, refl))
-        (record {
-  records = refl;
-  journal = refl;
-  doubt = refl;
-  append = refl;
-  faults = refl;
-  barred = refl;
-})
+        (record { records = refl; journal = refl; doubt = refl; append = refl; faults = refl; barred = refl })
         refl refl
         (runs_on w job k o s coming.comes m r' fetch found block runs_turned number_is fetch_is takes
         turned.bench)

@@ -6,6 +6,7 @@ use Rattle.std.proofs.lemmas.Bool.{cases_Bool, eq-eqb, eqb-true}
 use Rattle.std.proofs.lemmas.Iterator.Adapters.{position_from-zero}
 use Rattle.std.proofs.lemmas.List.Folds.{list_any-append}
 use Rattle.std.proofs.lemmas.List.Quantifiers.{position-Some}
+use Rattle.algebra_laws.specs.Lists.{Each}
 use Rattle.code_defs.specs.Profiles.{Profile, profile_of}
 use Rattle.column_defs.specs.Objects.{Object}
 use Rattle.record_defs.specs.Records.{Setup}
@@ -18,7 +19,7 @@ use Rattle.stripe_bench.specs.Bench.{bench_object, turned, IsBench}
 use Rattle.vault.specs.declared.desk.Desk.{Desk}
 use Rattle.vault.specs.Benches.{is_sized, is_served, IsOfDesk, AreOfDesk, AreServed, IsSwapped}
 use Rattle.vault.specs.Orders.{Phase, Between, Fetching, Opened}
-use Rattle.vault.specs.Tasks.{AreOfSetup, Serves, IsAtHand}
+use Rattle.vault.specs.Tasks.{AreOfSetup, OneHas, Serves, IsAtHand}
 
 -- ---- a bench
 
@@ -132,35 +133,37 @@ serves s p (b ∷ bs) are h = elim (cases_Bool (is_sized (profile_of p).size b))
 
 -- ---- one of them taken up
 
-get_own : (s : Setup) (bs : List Bench) (k : ℕ) (x : Bench) → AreOfSetup s bs → slice_get bs k ≡ Some x →
-    (p : ℕ) × IsBench s p x
-get_own s [] k x are there = (let e : None ≡ Some x = there in absurd cc)
-get_own s (b ∷ bs) zero x are there =
-    (let e : b ≡ x = (let f : Some b ≡ Some x = there in cc) in
-    (are.0.0, subst (λ (y : Bench). IsBench s are.0.0 y) e are.0.1))
-get_own s (b ∷ bs) (suc k) x are there = get_own s bs k x are.1 there
+none_some : {X : Type 0} (x : X) → None ≡ Some x → ⊥
+none_some x e = cc
 
-set_own : (s : Setup) (bs : List Bench) (k : ℕ) (x : Bench) → AreOfSetup s bs → (p : ℕ) × IsBench s p x →
-    AreOfSetup s (slice_set bs k x)
-set_own s [] k x are is = tt
-set_own s (b ∷ bs) zero x are is = (is, are.1)
-set_own s (b ∷ bs) (suc k) x are is = (are.0, set_own s bs k x are.1 is)
+some_one : {X : Type 0} (x y : X) → Some x ≡ Some y → x ≡ y
+some_one x y e = cc
 
-set_serves : (s : Setup) (p : ℕ) (bs : List Bench) (k : ℕ) (x b : Bench) → slice_get bs k ≡ Some x →
-    IsBench s p b → Serves s p (slice_set bs k b)
-set_serves s p [] k x b there h = (let e : None ≡ Some x = there in absurd cc)
-set_serves s p (y ∷ bs) zero x b there h = inl h
-set_serves s p (y ∷ bs) (suc k) x b there h = inr (set_serves s p bs k x b there h)
+get_each : {X : Type 0} (P : X → Type 0) (xs : List X) (k : ℕ) (x : X) → Each P xs → slice_get xs k ≡ Some x →
+    P x
+get_each P [] k x all there = absurd (none_some x there)
+get_each P (y ∷ xs) zero x all there = subst P (some_one y x there) all.0
+get_each P (y ∷ xs) (suc k) x all there = get_each P xs k x all.1 there
 
-others_serve : (s : Setup) (p : ℕ) (bs : List Bench) (k : ℕ) (x b : Bench) → slice_get bs k ≡ Some x →
-    Serves s p bs → IsBench s p x ⊎ Serves s p (slice_set bs k b)
-others_serve s p [] k x b there h = absurd h
-others_serve s p (y ∷ bs) zero x b there (inl h) =
-    (let e : y ≡ x = (let f : Some y ≡ Some x = there in cc) in
-    inl (subst (λ (z : Bench). IsBench s p z) e h))
-others_serve s p (y ∷ bs) zero x b there (inr r) = inr (inr r)
-others_serve s p (y ∷ bs) (suc k) x b there (inl h) = inr (inl h)
-others_serve s p (y ∷ bs) (suc k) x b there (inr r) = elim (others_serve s p bs k x b there r) [
+set_each : {X : Type 0} (P : X → Type 0) (xs : List X) (k : ℕ) (x : X) → Each P xs → P x →
+    Each P (slice_set xs k x)
+set_each P [] k x all is = tt
+set_each P (y ∷ xs) zero x all is = (is, all.1)
+set_each P (y ∷ xs) (suc k) x all is = (all.0, set_each P xs k x all.1 is)
+
+set_one : {X : Type 0} (P : X → Type 0) (xs : List X) (k : ℕ) (x y : X) → slice_get xs k ≡ Some x → P y →
+    OneHas P (slice_set xs k y)
+set_one P [] k x y there h = absurd (none_some x there)
+set_one P (z ∷ xs) zero x y there h = inl h
+set_one P (z ∷ xs) (suc k) x y there h = inr (set_one P xs k x y there h)
+
+others_have : {X : Type 0} (P : X → Type 0) (xs : List X) (k : ℕ) (x y : X) → slice_get xs k ≡ Some x →
+    OneHas P xs → P x ⊎ OneHas P (slice_set xs k y)
+others_have P [] k x y there h = absurd h
+others_have P (z ∷ xs) zero x y there (inl h) = inl (subst P (some_one z x there) h)
+others_have P (z ∷ xs) zero x y there (inr r) = inr (inr r)
+others_have P (z ∷ xs) (suc k) x y there (inl h) = inr (inl h)
+others_have P (z ∷ xs) (suc k) x y there (inr r) = elim (others_have P xs k x y there r) [
   | inl h ↦ inl h
   | inr h ↦ inr (inr h)
 ]
@@ -169,17 +172,18 @@ others_serve s p (y ∷ bs) (suc k) x b there (inr r) = elim (others_serve s p b
 pub own_swapped : (s : Setup) (b : Bench) (bs : List Bench) (b' : Bench) (bs' : List Bench) →
     IsSwapped b bs b' bs' → AreOfSetup s (b ∷ bs) → AreOfSetup s (b' ∷ bs')
 own_swapped s b bs b' bs' swapped are = (
-  get_own s bs swapped.place b' are.1 swapped.there,
-  subst (AreOfSetup s) (sym swapped.left_is) (set_own s bs swapped.place b are.1 are.0),
+  get_each (λ (x : Bench). (p : ℕ) × IsBench s p x) bs swapped.place b' are.1 swapped.there,
+  subst (AreOfSetup s) (sym swapped.left_is)
+      (set_each (λ (x : Bench). (p : ℕ) × IsBench s p x) bs swapped.place b are.1 are.0),
 )
 
 -- and serve what they served
 pub serves_swapped : (s : Setup) (p : ℕ) (b : Bench) (bs : List Bench) (b' : Bench) (bs' : List Bench) →
     IsSwapped b bs b' bs' → Serves s p (b ∷ bs) → Serves s p (b' ∷ bs')
 serves_swapped s p b bs b' bs' swapped (inl h) = inr (subst (Serves s p) (sym swapped.left_is)
-    (set_serves s p bs swapped.place b' b swapped.there h))
+    (set_one (λ (x : Bench). IsBench s p x) bs swapped.place b' b swapped.there h))
 serves_swapped s p b bs b' bs' swapped (inr r) =
-    elim (others_serve s p bs swapped.place b' b swapped.there r) [
+    elim (others_have (λ (x : Bench). IsBench s p x) bs swapped.place b' b swapped.there r) [
       | inl h ↦ inl h
       | inr h ↦ inr (subst (Serves s p) (sym swapped.left_is) h)
     ]
@@ -255,8 +259,9 @@ all_served_more (f ∷ fs) old new more all = (more f.profile all.0, all_served_
 pub one_served_more : (files : List File) (k : ℕ) (f : File) (benches : List Bench) →
     Some f ≡ slice_get files k → is_served f.profile benches ≡ true → AreServed (drop (suc k) files) benches →
     AreServed (drop k files) benches
-one_served_more [] k f benches there own all = absurd (let e : Some f ≡ None = there in cc)
-one_served_more (g ∷ fs) zero f benches there own all =
-    (let e : f ≡ g = (let h : Some f ≡ Some g = there in cc) in
-    (subst (λ (x : File). is_served x.profile benches ≡ true) e own, all))
+one_served_more [] k f benches there own all = absurd (none_some f (sym there))
+one_served_more (g ∷ fs) zero f benches there own all = (
+  subst (λ (x : File). is_served x.profile benches ≡ true) (some_one f g there) own,
+  all,
+)
 one_served_more (g ∷ fs) (suc k) f benches there own all = one_served_more fs k f benches there own all

@@ -158,7 +158,6 @@ moves_end v v1 v2 w new holds holds' faults faults' moment number ps action repl
       setup = stopped.keeps.setup ∙ keeps.setup;
       master = stopped.keeps.master ∙ keeps.master;
       shape = stopped.keeps.shape ∙ keeps.shape;
-      profile = stopped.keeps.profile ∙ keeps.profile;
     } in
     subst (λ (x : Turn). DeskMakesStep w moment number x v2 (devices holds faults ps)
     (devices holds' faults' ps)) (sym gone.turn_is)

@@ -158,7 +158,6 @@ ends_by v v1 v2 w new holds faults moment number place ps ps' action r r' reply 
       setup = stopped.keeps.setup ∙ aside.keeps.setup;
       master = stopped.keeps.master ∙ aside.keeps.master;
       shape = stopped.keeps.shape ∙ aside.keeps.shape;
-      profile = stopped.keeps.profile ∙ aside.keeps.profile;
     } in
     subst (λ (x : Turn). DeskMakesStep w moment number x v2 (devices holds faults ps)
     (devices holds faults ps')) (sym left.turn_is)

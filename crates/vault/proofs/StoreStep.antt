@@ -103,6 +103,17 @@ module _ (w : State) (job : Job) (k o s : ℕ) (next : next_action w job ≡ Som
           subst (λ (m : ℕ). k < m) (sym (first_count (setup_in w) t.bench t.others.items is.benches)) within
       by_task task.Upgrade is = absurd (not_allowed UpgradeJob is)
 
+  -- the bench at hand of a repair is that of the object
+  at_hand : (phase : Phase) (bench : Bench) →
+      GoesOn (setup_in w).n phase (Store k o s ∷ drop (job.place + 1) (actions_of (setup_in w) job)) →
+      IsAtHand (setup_in w) job.pinned phase bench →
+      IsBench (setup_in w) (pinned_profile (setup_in w).profile job.pinned o) bench
+  at_hand Between bench order at = absurd order
+  at_hand (Fetching p t c) bench order at = absurd order
+  at_hand (Opened p t) bench order at =
+      subst (λ (q : ℕ). IsBench (setup_in w) (pinned_profile (setup_in w).profile job.pinned q) bench)
+      (sym order.1) at
+
   -- it stores the block that the machine says
   pub block_is : (r : Running) → IsRunning (setup_in w) r job →
       stored_block r.task o k s ≡ block_to_store w job job.kind k o s
@@ -126,16 +137,6 @@ module _ (w : State) (job : Job) (k o s : ℕ) (next : next_action w job ≡ Som
           t.blocks t.bench.rows.items job.given is.order is.in_work i) k s)
           ∙ ap (λ (kind : Kind). block_to_store w job kind k o s) (sym is.kind)
       by_task task.Upgrade is = absurd (not_allowed UpgradeJob is)
-
-      at_hand : (phase : Phase) (bench : Bench) →
-          GoesOn (setup_in w).n phase (Store k o s ∷ drop (job.place + 1) (actions_of (setup_in w) job)) →
-          IsAtHand (setup_in w) job.pinned phase bench →
-          IsBench (setup_in w) (pinned_profile (setup_in w).profile job.pinned o) bench
-      at_hand Between bench order at = absurd order
-      at_hand (Fetching p t c) bench order at = absurd order
-      at_hand (Opened p t) bench order at =
-          subst (λ (q : ℕ). IsBench (setup_in w) (pinned_profile (setup_in w).profile job.pinned q) bench)
-          (sym order.1) at
 
   -- the job goes on
   pub runs_on : (r r' : Running) → IsRunning (setup_in w) r job → r'.number ≡ r.number →
@@ -267,14 +268,7 @@ module _ (v : Desk) (w : State) (holds : Option Cells) (faults moment number k o
           goes_on v v' w new holds faults moment number place ps ps' (Store k o s) r'
           (advanced coming.job) stands coming
           (q, call, refl)
-          (record {
-  records = refl;
-  journal = refl;
-  doubt = refl;
-  append = refl;
-  faults = refl;
-  barred = refl;
-})
+          (record { records = refl; journal = refl; doubt = refl; append = refl; faults = refl; barred = refl })
           refl refl
           (runs_on w coming.job k o s coming.comes r r' runs same_number keeps)
           at jobs
@@ -312,14 +306,7 @@ module _ (v : Desk) (w : State) (holds : Option Cells) (faults moment number k o
             holds faults moment number place ps ps' (Store k o s) r r' reply.Failed
             (answer.ProviderFault k) result stands coming
             (refl, (q, subst (λ (x : Provider). FailsToStore x q) seen fails, refl))
-            (record {
-  records = refl;
-  journal = refl;
-  doubt = refl;
-  append = refl;
-  faults = refl;
-  barred = refl;
-})
+            (record { records = refl; journal = refl; doubt = refl; append = refl; faults = refl; barred = refl })
             (ap (without_job w.jobs) (number_of w.jobs number coming.job coming.runs))
             at there aside flight stopped tt handed (λ e. cc)
 
@@ -331,14 +318,7 @@ module _ (v : Desk) (w : State) (holds : Option Cells) (faults moment number k o
             holds faults moment number place ps ps' (Store k o s) r r' reply.Memory answer.Memory result
             stands coming
             (q, subst (λ (x : Provider). FindsNoMemory x q) seen finds, refl)
-            (record {
-  records = refl;
-  journal = refl;
-  doubt = refl;
-  append = refl;
-  faults = refl;
-  barred = refl;
-})
+            (record { records = refl; journal = refl; doubt = refl; append = refl; faults = refl; barred = refl })
             (ap (without_job w.jobs) (number_of w.jobs number coming.job coming.runs))
             at there aside flight stopped tt handed (λ e. cc)
 

@@ -427,14 +427,7 @@ module _ (v : Desk) (w : State) (d : Devices) (moment number o s : ℕ) (stands 
           goes_on v v' w new d.holds d.faults moment number place d.providers d.providers (Work o s) r'
           (advanced_with coming.job (Worked o s rows)) stands coming
           (rows, gives w coming.job o s coming.comes r r'.task runs done.0, refl)
-          (record {
-  records = refl;
-  journal = refl;
-  doubt = refl;
-  append = refl;
-  faults = refl;
-  barred = refl;
-})
+          (record { records = refl; journal = refl; doubt = refl; append = refl; faults = refl; barred = refl })
           refl refl
           (runs_on w coming.job o s coming.comes r r' runs same_number done.0 done.1)
           at jobs
@@ -459,14 +452,7 @@ module _ (v : Desk) (w : State) (d : Devices) (moment number o s : ℕ) (stands 
                 (subst (λ (m : ℕ). LosesWork r.task o s m) (sym row_is) loss.0),
             refl,
           )
-          (record {
-  records = refl;
-  journal = refl;
-  doubt = refl;
-  append = refl;
-  faults = refl;
-  barred = refl;
-})
+          (record { records = refl; journal = refl; doubt = refl; append = refl; faults = refl; barred = refl })
           (ap (without_job w.jobs) (number_of w.jobs number coming.job coming.runs))
           at there
           (record {

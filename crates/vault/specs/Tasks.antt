@@ -6,6 +6,7 @@
 --   IsInWork phase blocks rows given   == the same where a stripe is fetched; where it is opened the rows are
 --                                         its symbols
 --   AreOfSetup s benches               == each bench is that of an object of the setup at some profile
+--   OneHas P xs                        == one of these has it
 --   Serves s profile benches           == one of them is that of such an object at this profile
 --   IsAtHand s pinned phase bench      == the bench is that of the object in work, by the profile of its file
 --   IsPutTask, IsGet, IsDrop, IsAudit, IsRepair, IsUpgrade s task job rest
@@ -14,6 +15,7 @@
 --   AreRunning s running jobs          == the running jobs, in order, with what they work with
 use Rattle.std.specs.Prelude.{◌≡◌, ◌⊎◌, ℕ, ◌+◌, ◌*◌, ◌<◌, ◌≤◌, Bool, List, [], ◌∷◌, ◌++◌, length, replicate, Option, vec_len, vec_capacity}
 use Rattle.std.specs.List.{flat_map}
+use Rattle.algebra_laws.specs.Lists.{Each}
 use Rattle.code_defs.specs.Points.{upto}
 use Rattle.column_defs.specs.Objects.{bytes_of_symbols, stripe_symbols}
 use Rattle.column_defs.specs.Verdicts.{Sums}
@@ -73,13 +75,16 @@ fetched_in phase = 0
 
 -- each bench is that of an object of the setup, at a profile of its own
 abbrev pub AreOfSetup : Setup → List Bench → Type 0
-AreOfSetup s [] = Unit {0}
-AreOfSetup s (b ∷ bs) = ((p : ℕ) × IsBench s p b) × AreOfSetup s bs
+AreOfSetup s benches = Each (λ b. (p : ℕ) × IsBench s p b) benches
+
+-- one of these has it
+abbrev pub OneHas : {X : Type 0} → (X → Type 0) → List X → Type 0
+OneHas P [] = ⊥
+OneHas P (x ∷ xs) = P x ⊎ OneHas P xs
 
 -- one of these benches is that of an object of the setup at this profile
 abbrev pub Serves : Setup → ℕ → List Bench → Type 0
-Serves s profile [] = ⊥
-Serves s profile (b ∷ bs) = IsBench s profile b ⊎ Serves s profile bs
+Serves s profile benches = OneHas (λ b. IsBench s profile b) benches
 
 -- the bench is that of the object in work
 abbrev pub IsAtHand : Setup → List Pinned → Phase → Bench → Type 0

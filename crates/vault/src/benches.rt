@@ -1,4 +1,4 @@
-ghost use Rattle.std.specs.Prelude.{◌≡◌, ◌≤◌, ◌^◌, ◌∷◌, ◌||◌, ℕ, List, true, position, IfOk, OnOk, OnErr, IsErrOf, IsErr};
+ghost use Rattle.std.specs.Prelude.{◌≡◌, ◌≤◌, ◌^◌, ◌∷◌, ℕ, List, true, position, IfOk, OnOk, OnErr, IsErrOf, IsErr};
 ghost use Rattle.std.specs.List.{list_any};
 ghost use Rattle.code_defs.specs.Profiles.{profile_of};
 ghost use Rattle.code_points.specs.Profile.{plain_profile};
@@ -31,14 +31,13 @@ pub(crate) fn profile_at(number: u8) -> Profile
     }
 }
 
-/// A bench for blocks of this size is the own one or one of the others.
-fn serves(own: &Bench, others: &[Bench], size: u32) -> bool
-    ensures { result ≡ (is_sized size own.now || list_any (is_sized size) others.now) }
+/// One of these benches makes blocks of this size.
+fn has_size(benches: &[Bench], size: u32) -> bool
+    ensures { result ≡ list_any (is_sized size) benches.now }
 {
-    own.keys.file.profile.size == size
-        || others
-            .iter()
-            .any(|bench| bench.keys.file.profile.size == size)
+    benches
+        .iter()
+        .any(|bench| bench.keys.file.profile.size == size)
 }
 
 /// The place of a bench whose blocks have this size.
@@ -88,14 +87,18 @@ impl Desk {
         ensures err { IsErr result → IsErrOf result fault.Memory }
     {
         let size = profile_at(profile).size;
-        if serves(own, others, size) {
+        if own.keys.file.profile.size == size {
             return Ok(());
         }
-        let bench = self.bench_for(0, LARGEST_FILE, profile)?;
-        match others.push(bench) {
-            Ok(()) => Ok(()),
-            Err(_) => Err(BeginFault::Memory),
+        if has_size(others, size) {
+            return Ok(());
         }
+        if others.reserve(1).is_err() {
+            return Err(BeginFault::Memory);
+        }
+        let bench = self.bench_for(0, LARGEST_FILE, profile)?;
+        others.push_reserved(bench);
+        Ok(())
     }
 
     /// With the own bench, one for each profile of the files in effect.

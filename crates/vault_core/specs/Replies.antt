@@ -8,7 +8,7 @@
 --                                           that the core gave
 use Rattle.std.specs.Prelude.{◌≡◌, ℕ, Some}
 use Rattle.machine_defs.specs.Jobs.{Job, job_of}
-use Rattle.machine_defs.specs.Answers.{Answer, Put, Got, Dropped, Audited, Repaired, Lost, ProviderFault, DiskFault, Memory}
+use Rattle.machine_defs.specs.Answers.{Answer, Put, Got, Dropped, Audited, Repaired, Upgraded, Lost, ProviderFault, DiskFault, Memory}
 use Rattle.machine_defs.specs.Events.{Outcome, More, Ended}
 use Rattle.machine_defs.specs.States.{State, Append, setup_in}
 use Rattle.machine_defs.specs.Audits.{HasSums}
@@ -25,6 +25,7 @@ IsEndAnswer (Got bytes) = Unit {0}
 IsEndAnswer Dropped = Unit {0}
 IsEndAnswer (Audited number undecided counts) = Unit {0}
 IsEndAnswer (Repaired number) = Unit {0}
+IsEndAnswer Upgraded = Unit {0}
 IsEndAnswer answer = ⊥
 
 -- a reply tells what came of a step

@@ -48,14 +48,7 @@ refused old new d w moment kind own why stands core jobs keeps flight is = recor
   begins = (stands.core.is_open, cause w kind own why is, refl);
   stands =
       stands_on old new w w d.holds d.faults d.providers d.providers stands
-      (record {
-  records = refl;
-  journal = refl;
-  doubt = refl;
-  append = refl;
-  faults = refl;
-  barred = refl;
-})
+      (record { records = refl; journal = refl; doubt = refl; append = refl; faults = refl; barred = refl })
       (handed_same d.providers w w stands.devices.providers refl (λ j. refl))
       (subst (λ (c : Core). CoreIs c w) (sym core) stands.core) keeps flight
       (subst (λ (items : List Running). AreRunning (setup_in w) items w.jobs) (sym jobs) stands.jobs);

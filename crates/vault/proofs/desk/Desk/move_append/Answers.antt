@@ -38,7 +38,6 @@ returns-in-On-clause-machine g c = λ w moment providers is_told stands.
       setup = keeps.setup;
       master = keeps.master;
       shape = keeps.shape;
-      profile = keeps.profile;
     })
     (fed_away c.args.self.now c.take_flight.new.self c.args.job reply.Done _ c.take_flight.ensures.rest
     c.feed.ensures.step)
@@ -58,7 +57,6 @@ returns-in-Done-clause-machine g c = λ w moment providers is_told stands.
       setup = keeps.setup;
       master = keeps.master;
       shape = keeps.shape;
-      profile = keeps.profile;
     })
     (fed_away c.args.self.now c.take_flight.new.self c.args.job reply.Done _ c.take_flight.ensures.rest
     c.feed-in-Done.ensures.step)

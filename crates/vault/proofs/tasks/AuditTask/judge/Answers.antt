@@ -3,7 +3,7 @@ use Rattle.audit_verdict.specs.Rounds.{sums_of}
 use Rattle.column_defs.specs.Verdicts.{Judges}
 use Rattle.file_layout.specs.Files.{shaped_object}
 use Rattle.vault.specs.Asking.{challenge_put, sums_on}
-use Rattle.vault.proofs.Grown.{last_part, length-last}
+use Rattle.stripe_bench.proofs.Grown.{last_part, length-last}
 use Rattle.vault.proofs.tasks.AuditTask.judge.Goals as goal
 
 pub judge_round-requires-clause-rows : goal.judge_round-requires-clause-rows

@@ -1,22 +1,43 @@
-use Rattle.std.proofs.Common.{inl, inr, refl, sym, ap, ◌∙◌, Some}
+use Rattle.std.proofs.Common.{◌≡◌, inl, inr, refl, sym, ap, ◌∙◌, List, Some, arith}
+use Rattle.std.specs.Prelude.{position, slice_set}
 use Rattle.std.proofs.lemmas.Option.{slice_get-get_or}
+use Rattle.stripe_bench.specs.declared.bench.Bench.{Bench}
 use Rattle.vault.specs.Benches.{is_sized}
 use Rattle.vault.proofs.Kits.{one_placed, size_of, none_own}
 use Rattle.vault.proofs.tasks.RepairTask.take.Goals as goal
 
 pub index_mut-requires : goal.index_mut-requires
 index_mut-requires c =
-    (one_placed (is_sized c.args.size) c.args.self.now.others.items c.in-Some.place c.args.self.now.bench
-    (sym c.in-Some.ensures)).0
+    omega (arith, (one_placed (is_sized c.args.size) c.args.self.now.others.items c.in-Some.place
+    c.args.self.now.bench
+    (sym (c.in-Some.ensures
+    ∙ ap (λ (l : List Bench). position (is_sized c.args.size) l) c.deref.ensures.value))).0)
 
-pub returns-then-size-size-clause-taken : goal.returns-then-size-size-clause-taken
-returns-then-size-size-clause-taken c =
-    record { swapped = inl (refl, refl); served = λ h. c.if-size-size.true }
+pub returns-in-Some-clause-taken : goal.returns-in-Some-clause-taken
+returns-in-Some-clause-taken c =
+    let others = c.args.self.now.others.items in
+    let taken = c.index_mut.result.now in
+    let at : position (is_sized c.args.size) others ≡ Some c.in-Some.place = sym (c.in-Some.ensures
+    ∙ ap (λ (l : List Bench). position (is_sized c.args.size) l) c.deref.ensures.value) in
+    record {
+      swapped = inr (record {
+        place = c.in-Some.place;
+        there = slice_get-get_or others c.in-Some.place taken
+            (one_placed (is_sized c.args.size) others c.in-Some.place taken at).0
+            ∙ ap Some (sym c.index_mut.ensures.value)
+            ∙ ap Some (sym c.swap.ensures.x_after);
+        left_is = ap (λ (b : Bench). slice_set others c.in-Some.place b) c.swap.ensures.y_after;
+      });
+      served = λ h. ap (λ (b : Bench). b.keys.file.profile.size)
+          (c.swap.ensures.x_after ∙ c.index_mut.ensures.value)
+          ∙ size_of c.args.size others c.in-Some.place taken at;
+    }
 
 pub returns-in-None-clause-taken : goal.returns-in-None-clause-taken
 returns-in-None-clause-taken c =
     record {
       swapped = inl (refl, refl);
       served = λ h. none_own c.args.size c.args.self.now.bench c.args.self.now.others.items
-          (sym c.in-None.ensures) h;
+          (sym (c.in-None.ensures
+          ∙ ap (λ (l : List Bench). position (is_sized c.args.size) l) c.deref.ensures.value)) h;
     }

@@ -44,7 +44,7 @@ returns-in-Ok-clause-machine c =
     sym (c.in-Some.ensures ∙ (λ i. find_file (c.table.ensures i).files (c.in_ok-name.ensures.named i))) in
     λ w d moment stands.
     get-begun v c.admit.new.self name c.in_ok-name.name file c.in_ok-bench.bench c.in-Ok.task c.admit.result
-    c.min.result c.next_job.result c.in_ok-name.ensures.named c.in_ok-name.ensures.bytes some c.min.ensures
+    c.min-length.result c.next_job.result c.in_ok-name.ensures.named c.in_ok-name.ensures.bytes some c.min-length.ensures
     c.in_ok-bench.ensures.ok c.next_job.ensures c.in-Ok.ensures c.admit.ensures.machine w d moment stands
 
 pub invariant_of-self : goal.invariant_of-self
@@ -56,7 +56,7 @@ invariant_of-self c =
     sym (c.in-Some.ensures ∙ (λ i. find_file (c.table.ensures i).files (c.in_ok-name.ensures.named i))) in
     let made =
     get-begun v c.admit.new.self name c.in_ok-name.name file c.in_ok-bench.bench c.in-Ok.task c.admit.result
-    c.min.result c.next_job.result c.in_ok-name.ensures.named c.in_ok-name.ensures.bytes some c.min.ensures
+    c.min-length.result c.next_job.result c.in_ok-name.ensures.named c.in_ok-name.ensures.bytes some c.min-length.ensures
     c.in_ok-bench.ensures.ok c.next_job.ensures c.in-Ok.ensures c.admit.ensures.machine in
     record {
       at_work = begun_works v c.admit.new.self

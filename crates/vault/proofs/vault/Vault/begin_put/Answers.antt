@@ -35,15 +35,14 @@ returns-then-is_unknown-clause-machine c = λ w d moment stands.
     ∙ bad-profile w name c.args.bytes c.args.profile c.in_ok-name.ensures.is_name
     (sym c.is_unknown.ensures ∙ c.if-is_unknown.true))
 
-pub returns-then-length-gt-LARGEST_FILE-clause-machine :
-    goal.returns-then-length-gt-LARGEST_FILE-clause-machine
-returns-then-length-gt-LARGEST_FILE-clause-machine c = λ w d moment stands.
+pub returns-then-length-clause-machine : goal.returns-then-length-clause-machine
+returns-then-length-clause-machine c = λ w d moment stands.
     let v = c.args.self.now.desk in
     let name = c.args.name.now in
     let causes = name_cause name ∷ causes_of_put w name c.args.bytes c.args.profile in
     let long : largest_file < length c.args.bytes =
     subst (λ (bytes : List ℕ). largest_file < length bytes) c.as_slice-length.ensures
-    c.if-length-gt-LARGEST_FILE.true in
+    c.if-length.true in
     turned_down v v d w moment (PutJob name c.args.bytes) c.args.profile stands fault.TooLong
     (aims-counted w causes ∙ c.in_ok-name.ensures.free w causes stands.core
     ∙ too-long w name c.args.bytes c.args.profile c.in_ok-name.ensures.is_name
@@ -61,7 +60,7 @@ returns-in_err-bench-clause-machine c = λ w d moment stands.
     (found_none v v d w moment kind c.args.profile stands))
 
 pub admit-requires-clause-size : goal.admit-requires-clause-size
-admit-requires-clause-size c = omega (arith, c.if-length-gt-LARGEST_FILE.false)
+admit-requires-clause-size c = omega (arith, c.if-length.false)
 
 pub returns-clause-machine : goal.returns-clause-machine
 returns-clause-machine c = λ w d moment stands.
@@ -70,7 +69,7 @@ returns-clause-machine c = λ w d moment stands.
     (λ i. ToPut (c.in_ok-name.ensures.named i) (length (c.as_slice-length.ensures i)))
     (c.in_ok-name.ensures.bytes, subst AreBytes c.as_slice.ensures c.bytes_are_bytes.ensures)
     (λ accepted. put-task v d w moment c.args.name.now c.args.profile _ _ _ stands
-    c.in_ok-bench.ensures.ok c.profile_of_put.ensures)
+    c.in_ok-bench.ensures.ok c.profile_of_put-chosen.ensures)
 
 pub invariant_of-self : goal.invariant_of-self
 invariant_of-self c =
@@ -81,6 +80,6 @@ invariant_of-self c =
     (λ i. ToPut (c.in_ok-name.ensures.named i) (length (c.as_slice-length.ensures i)))
     (c.in_ok-name.ensures.bytes, subst AreBytes c.as_slice.ensures c.bytes_are_bytes.ensures)
     (λ accepted. put-task v d w moment c.args.name.now c.args.profile _ _ _ stands
-    c.in_ok-bench.ensures.ok c.profile_of_put.ensures) in
+    c.in_ok-bench.ensures.ok c.profile_of_put-chosen.ensures) in
     record { at_work = begun_works v c.admit.new.self kind c.args.profile c.admit.result made
     c.args.self.now.at_work }

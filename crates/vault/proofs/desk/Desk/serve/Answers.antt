@@ -1,0 +1,29 @@
+use Rattle.std.proofs.Common.{◌≡◌, ◌∙◌, ap, sym, List, ◌∷◌, [], ◌++◌, true, subst}
+use Rattle.code_defs.specs.Profiles.{Profile}
+use Rattle.stripe_bench.specs.declared.bench.Bench.{Bench}
+use Rattle.vault.specs.Benches.{AreOfDesk, is_served}
+use Rattle.vault.proofs.Kits.{served_last, served_more, desk_more}
+use Rattle.vault.proofs.desk.Desk.serve.Goals as goal
+
+pub returns-clause-served : goal.returns-clause-served
+returns-clause-served c =
+    subst (λ (l : List Bench). is_served c.args.profile (c.args.own.now ∷ l) ≡ true)
+    (sym (c.push_reserved.ensures.items
+    ∙ ap (λ (l : List Bench). l ++ c.in_ok-bench.bench ∷ []) c.reserve.ensures.items))
+    (served_last c.args.profile c.args.own.now c.args.others.now.items c.in_ok-bench.bench
+    (ap (λ (x : Profile). x.size) c.in_ok-bench.ensures.ok.profile))
+
+pub returns-clause-of_desk : goal.returns-clause-of_desk
+returns-clause-of_desk c = λ are.
+    subst (λ (l : List Bench). AreOfDesk c.args.self.now l)
+    (sym (c.push_reserved.ensures.items
+    ∙ ap (λ (l : List Bench). l ++ c.in_ok-bench.bench ∷ []) c.reserve.ensures.items))
+    (desk_more c.args.self.now c.args.others.now.items c.in_ok-bench.bench are
+    c.in_ok-bench.ensures.ok.of_desk)
+
+pub returns-clause-stay : goal.returns-clause-stay
+returns-clause-stay c = λ p h.
+    subst (λ (l : List Bench). is_served p (c.args.own.now ∷ l) ≡ true)
+    (sym (c.push_reserved.ensures.items
+    ∙ ap (λ (l : List Bench). l ++ c.in_ok-bench.bench ∷ []) c.reserve.ensures.items))
+    (served_more p c.args.own.now c.args.others.now.items (c.in_ok-bench.bench ∷ []) h)
