@@ -1,5 +1,5 @@
 -- Begins, steps and lists of files, as events of the machine.
-use Rattle.std.proofs.Common.{◌≡◌, ℕ, ◌<◌, ◌^◌, false, Option, Some, None, Result, refl, sym, subst}
+use Rattle.std.proofs.Common.{◌≡◌, ℕ, ◌<◌, ◌^◌, false, List, Option, Some, None, Result, refl, sym, subst}
 use Rattle.std.specs.Prelude.{IfSome}
 use Rattle.std.specs.Option.{option_map}
 use Rattle.machine_defs.specs.Events.{Begin, Step, Names, Closed, Ended, IsSpelledKind}
@@ -44,8 +44,8 @@ pub put-of : (c : Client) (v next : Vault) (own : Option ℕ) (name bytes : List
     (w : State) (d : Devices) (moment : ℕ) → ClientStands c d w →
     MakesEvent w moment (put_event own name bytes) (client_begin_outcome (Some result))
     (record { vault = Some next; next_job = c.next_job }) d
-put-of c v next None name bytes result is fits spelled makes =
-    begin-of c v next (PutJob name bytes) result is spelled makes
+put-of c v next None name bytes result is fits spelled makes w d moment S =
+    begin-of c v next (PutJob name bytes) result is spelled makes w d moment S
 put-of c v next (Some profile) name bytes result is fits spelled makes w d moment S =
     (let M = makes w d moment (subst (λ (o : Option Vault). StandsBy o c.next_job d w) is S) in
     record { state = M.state; spelled = (fits, spelled); happens = M.begins; stands = M.stands })
