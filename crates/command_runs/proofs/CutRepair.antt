@@ -11,8 +11,8 @@ use Rattle.second_half_laws.proofs.ByteSteps.{block_sized, symbols}
 use Rattle.command_defs.specs.Forms.{RepairDue}
 use Rattle.command_defs.specs.Jobs.{RanAlone, RunsAlone, AnswersJob}
 use Rattle.command_defs.specs.Commands.{AnswersAlone, Answers}
-use Rattle.job_laws.proofs.Telling.{left-alone, jobs-leave}
 use Rattle.job_laws.proofs.BeginRefusals.{refusal-of}
+use Rattle.lone_laws.specs.Walked.{MayName}
 use Rattle.command_runs.specs.Devices.{byte_audited_records, own_block, repair_cut, holds, due}
 use Rattle.command_laws.specs.Instances.{ends}
 use Rattle.command_runs.proofs.Shape.{formed, one_byte}
@@ -21,7 +21,7 @@ use Rattle.damage_run.proofs.Values.{without_two_give}
 use Rattle.command_runs.proofs.Begins.{repair_begins}
 use Rattle.made_runs.specs.Turns.{Turn, Goes, Came, Works, Cut, after_step}
 use Rattle.made_runs.proofs.Turns.{goes-so}
-use Rattle.command_runs.proofs.Made.{after_turns, runs-so, doubt_at, four-each, alone-byte}
+use Rattle.command_runs.proofs.Made.{after_turns, runs-so, doubt_at, four-each, alone-byte, left-so}
 
 module _ (w : State) (n : ℕ) (count : w.handed ≡ 4) where
   abbrev v : State
@@ -32,17 +32,17 @@ module _ (w : State) (n : ℕ) (count : w.handed ≡ 4) where
       ∷ Came (Some (own_block 0)) ∷ []
 
   abbrev at_end : State
-  at_end = after_turns v n RepairJob turns
+  at_end = after_turns v n RepairJob None turns
 
   abbrev last : State
   last = after_step at_end 1 Cut
 
-  ran-formed : RanAlone byte_audited_records RepairJob DiskFault due repair_cut [] 0 v n
+  ran-formed : RanAlone byte_audited_records RepairJob None DiskFault due repair_cut [] 0 v n
   unfolding setup_in actions_of spelling
   ran-formed = record {
     last = last;
-    runs = runs-so v n RepairJob turns DiskFault last refl
-        (refusal-of v RepairJob refl refl refl
+    runs = runs-so v n RepairJob None turns DiskFault last refl
+        (refusal-of v RepairJob None refl refl refl
         (record { journal = refl; area = refl; unswitched = refl }) ∙ repair_begins) (
           refl,
           refl,
@@ -88,9 +88,9 @@ module _ (w : State) (n : ℕ) (count : w.handed ≡ 4) where
   }
 
 -- the repair's job runs to a fault of the disk from every state just opened over the store
-pub alone : RunsAlone byte_audited_records RepairJob DiskFault due repair_cut []
-alone = alone-byte byte_audited_records (holds 0) (holds 1) empty_provider (holds 3) RepairJob DiskFault due
-    repair_cut []
+pub alone : RunsAlone byte_audited_records RepairJob None DiskFault due repair_cut []
+alone = alone-byte byte_audited_records (holds 0) (holds 1) empty_provider (holds 3) RepairJob None
+    DiskFault due repair_cut []
     (omega arith) refl refl ran-formed
 
 -- the repair ends with status 12
@@ -98,9 +98,8 @@ pub answers : Answers RepairDue due repair_cut (ends 12)
 answers = (
   AnswersAlone.begun byte_audited_records old-sure.known.opened
       (AnswersJob.ended DiskFault repair_begins alone
-      (left-alone byte_audited_records RepairJob DiskFault due repair_cut []
-      tt (λ w last n O r. jobs-leave RepairJob w last n DiskFault [] tt O r) old-sure.known.opened refl
-      alone)
+      (left-so byte_audited_records RepairJob None DiskFault due repair_cut []
+      tt (MayName.none refl) old-sure.known.opened refl alone)
       (record { status_is = refl; place = refl; sink = refl })),
   (refl, refl),
 )

@@ -10,8 +10,8 @@ use Rattle.machine_defs.specs.States.{State, setup_in}
 use Rattle.command_defs.specs.Forms.{AuditAll}
 use Rattle.command_defs.specs.Jobs.{RanAlone, RunsAlone, AnswersJob}
 use Rattle.command_defs.specs.Commands.{AnswersAlone, Answers}
-use Rattle.job_laws.proofs.Telling.{left-alone, jobs-leave}
 use Rattle.job_laws.proofs.BeginRefusals.{refusal-of}
+use Rattle.lone_laws.specs.Walked.{MayName}
 use Rattle.command_runs.specs.Devices.{byte_records, holds, ends_hearing, damaged, byte_audited, answers_heard}
 use Rattle.damage_run.specs.Points.{counts}
 use Rattle.command_runs.proofs.Shape.{formed, one_byte}
@@ -20,7 +20,7 @@ use Rattle.damage_run.proofs.Values.{right, same_first, no_answer, sums, judged}
 use Rattle.command_runs.proofs.Begins.{audit_begins}
 use Rattle.made_runs.specs.Turns.{Turn, Goes, Heard, Notes, Gives, after_step}
 use Rattle.made_runs.proofs.Turns.{goes-so}
-use Rattle.command_runs.proofs.Made.{after_turns, runs-so, four-each, alone-byte}
+use Rattle.command_runs.proofs.Made.{after_turns, runs-so, four-each, alone-byte, left-so}
 
 module _ (w : State) (n : ℕ) (count : w.handed ≡ 4) where
   abbrev v : State
@@ -31,18 +31,18 @@ module _ (w : State) (n : ℕ) (count : w.handed ≡ 4) where
       ∷ Heard (right 0) ∷ Goes 4 ∷ []
 
   abbrev at_end : State
-  at_end = after_turns v n AuditJob turns
+  at_end = after_turns v n AuditJob None turns
 
   abbrev last : State
   last = after_step at_end 1 (Gives (Audited 1 0 counts))
 
-  ran-formed : RanAlone byte_records AuditJob (Audited 1 0 counts) damaged byte_audited
+  ran-formed : RanAlone byte_records AuditJob None (Audited 1 0 counts) damaged byte_audited
       answers_heard 0 v n
   unfolding setup_in actions_of spelling
   ran-formed = record {
     last = last;
-    runs = runs-so v n AuditJob turns (Audited 1 0 counts) last refl
-        (refusal-of v AuditJob refl refl refl
+    runs = runs-so v n AuditJob None turns (Audited 1 0 counts) last refl
+        (refusal-of v AuditJob None refl refl refl
         (record { journal = refl; area = refl; unswitched = refl }) ∙ audit_begins) (
           refl,
           refl,
@@ -97,9 +97,9 @@ module _ (w : State) (n : ℕ) (count : w.handed ≡ 4) where
   }
 
 -- the audit's job runs to its counts from every state just opened over the damaged store
-pub alone : RunsAlone byte_records AuditJob (Audited 1 0 counts) damaged byte_audited answers_heard
-alone = alone-byte byte_records (holds 0) (holds 1) empty_provider (holds 3) AuditJob (Audited 1 0 counts)
-    damaged byte_audited answers_heard
+pub alone : RunsAlone byte_records AuditJob None (Audited 1 0 counts) damaged byte_audited answers_heard
+alone = alone-byte byte_records (holds 0) (holds 1) empty_provider (holds 3) AuditJob None
+    (Audited 1 0 counts) damaged byte_audited answers_heard
     (omega arith) refl refl ran-formed
 
 -- the audit ends with status 0, and has heard the answers
@@ -107,9 +107,8 @@ pub answers : Answers AuditAll damaged byte_audited (ends_hearing 0 answers_hear
 answers = (
   AnswersAlone.begun byte_records old-sure.known.opened
       (AnswersJob.ended (Audited 1 0 counts) audit_begins alone
-      (left-alone byte_records AuditJob (Audited 1 0 counts) damaged byte_audited answers_heard
-      tt (λ w last n O r. jobs-leave AuditJob w last n (Audited 1 0 counts) answers_heard tt O r)
-      old-sure.known.opened refl alone)
+      (left-so byte_records AuditJob None (Audited 1 0 counts) damaged byte_audited answers_heard
+      tt (MayName.none refl) old-sure.known.opened refl alone)
       (record { written = inl (refl, refl); place = refl })),
   (refl, refl),
 )

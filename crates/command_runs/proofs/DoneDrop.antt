@@ -1,5 +1,5 @@
 -- A drop, from every state that was just opened.
-use Rattle.std.proofs.Common.{◌≡◌, ℕ, List, [], ◌∷◌, refl, ◌∙◌, inl, arith}
+use Rattle.std.proofs.Common.{◌≡◌, ℕ, List, [], ◌∷◌, None, refl, ◌∙◌, inl, arith}
 use Rattle.record_defs.specs.Spellings.{spelling}
 use Rattle.machine_defs.specs.Jobs.{DropJob}
 use Rattle.machine_defs.specs.Actions.{actions_of}
@@ -8,8 +8,8 @@ use Rattle.machine_defs.specs.States.{State, setup_in}
 use Rattle.command_defs.specs.Forms.{DropOf}
 use Rattle.command_defs.specs.Jobs.{RanAlone, RunsAlone, AnswersJob}
 use Rattle.command_defs.specs.Commands.{AnswersAlone, Answers}
-use Rattle.job_laws.proofs.Telling.{left-alone, jobs-leave}
 use Rattle.job_laws.proofs.BeginRefusals.{refusal-of}
+use Rattle.lone_laws.specs.Walked.{MayName}
 use Rattle.command_runs.specs.Devices.{named, byte_records, holds, byte_kept, dropped}
 use Rattle.command_laws.specs.Instances.{ends}
 use Rattle.command_runs.proofs.Shape.{formed, one_byte}
@@ -17,7 +17,7 @@ use Rattle.command_runs.proofs.Stores.{stored-sure as old-sure, dropped-new as n
 use Rattle.command_runs.proofs.Begins.{drop_begins}
 use Rattle.made_runs.specs.Turns.{Turn, Goes, Gives, after_step}
 use Rattle.made_runs.proofs.Turns.{goes-so}
-use Rattle.command_runs.proofs.Made.{after_turns, runs-so, four-each, alone-byte}
+use Rattle.command_runs.proofs.Made.{after_turns, runs-so, four-each, alone-byte, left-so}
 
 module _ (w : State) (n : ℕ) (count : w.handed ≡ 4) where
   abbrev v : State
@@ -27,17 +27,17 @@ module _ (w : State) (n : ℕ) (count : w.handed ≡ 4) where
   turns = Goes 8 ∷ []
 
   abbrev at_end : State
-  at_end = after_turns v n (DropJob named) turns
+  at_end = after_turns v n (DropJob named) None turns
 
   abbrev last : State
   last = after_step at_end 1 (Gives Dropped)
 
-  ran-formed : RanAlone byte_records (DropJob named) Dropped byte_kept dropped [] 0 v n
+  ran-formed : RanAlone byte_records (DropJob named) None Dropped byte_kept dropped [] 0 v n
   unfolding setup_in actions_of spelling
   ran-formed = record {
     last = last;
-    runs = runs-so v n (DropJob named) turns Dropped last refl
-        (refusal-of v (DropJob named) refl refl refl
+    runs = runs-so v n (DropJob named) None turns Dropped last refl
+        (refusal-of v (DropJob named) None refl refl refl
         (record { journal = refl; area = refl; unswitched = refl }) ∙ drop_begins)
         (refl, refl, tt)
         (goes-so 8 n at_end 1 (Gives Dropped) (refl, (refl, tt)));
@@ -51,8 +51,8 @@ module _ (w : State) (n : ℕ) (count : w.handed ≡ 4) where
   }
 
 -- the drop's job runs to its end from every state just opened over the store
-pub alone : RunsAlone byte_records (DropJob named) Dropped byte_kept dropped []
-alone = alone-byte byte_records (holds 0) (holds 1) (holds 2) (holds 3) (DropJob named) Dropped byte_kept
+pub alone : RunsAlone byte_records (DropJob named) None Dropped byte_kept dropped []
+alone = alone-byte byte_records (holds 0) (holds 1) (holds 2) (holds 3) (DropJob named) None Dropped byte_kept
     dropped []
     (omega arith) refl refl ran-formed
 
@@ -60,9 +60,8 @@ alone = alone-byte byte_records (holds 0) (holds 1) (holds 2) (holds 3) (DropJob
 pub answers : Answers (DropOf named) byte_kept dropped (ends 0)
 answers = (
   AnswersAlone.begun byte_records old-sure.known.opened (AnswersJob.ended Dropped drop_begins alone
-      (left-alone byte_records (DropJob named) Dropped byte_kept dropped []
-      refl (λ w last n O r. jobs-leave (DropJob named) w last n Dropped [] refl O r) old-sure.known.opened
-      refl alone)
+      (left-so byte_records (DropJob named) None Dropped byte_kept dropped []
+      refl (MayName.none refl) old-sure.known.opened refl alone)
       (record { written = inl (refl, refl); place = refl })),
   (refl, refl),
 )

@@ -11,17 +11,17 @@ use Rattle.command_defs.specs.Forms.{GetOf}
 use Rattle.command_defs.specs.Refusals.{refusal_over}
 use Rattle.command_defs.specs.Jobs.{RanAlone, RunsAlone, AnswersJob}
 use Rattle.command_defs.specs.Commands.{AnswersAlone, Answers}
-use Rattle.job_laws.proofs.Telling.{left-alone, jobs-leave}
 use Rattle.job_laws.proofs.BeginRefusals.{refusal-of}
+use Rattle.lone_laws.specs.Walked.{MayName}
 use Rattle.command_runs.specs.Devices.{named, byte_repaired_records, own_block, given_block, holds, fetched, ends_hearing, mended, got, own_blocks_heard}
 use Rattle.damage_run.specs.Schedule.{byte}
 use Rattle.command_runs.proofs.Shape.{formed, one_byte}
 use Rattle.command_runs.proofs.Stores.{mended-sure as old-sure, got-new as new-sure}
 use Rattle.made_runs.specs.Turns.{Turn, Came, Works, Gives, after_step}
 use Rattle.made_runs.proofs.Turns.{goes-so}
-use Rattle.command_runs.proofs.Made.{after_turns, runs-so, four-each, alone-byte}
+use Rattle.command_runs.proofs.Made.{after_turns, runs-so, four-each, alone-byte, left-so}
 
-begins-none : refusal_over byte_repaired_records (GetJob named) ≡ None
+begins-none : refusal_over byte_repaired_records (GetJob named) None ≡ None
 begins-none = refl
 
 module _ (w : State) (n : ℕ) (count : w.handed ≡ 4) where
@@ -34,18 +34,18 @@ module _ (w : State) (n : ℕ) (count : w.handed ≡ 4) where
       ∷ Came (Some (own_block 0)) ∷ []
 
   abbrev at_end : State
-  at_end = after_turns v n (GetJob named) turns
+  at_end = after_turns v n (GetJob named) None turns
 
   abbrev last : State
   last = after_step at_end 1 (Gives (Got byte))
 
-  ran-formed : RanAlone byte_repaired_records (GetJob named) (Got byte) mended got
+  ran-formed : RanAlone byte_repaired_records (GetJob named) None (Got byte) mended got
       own_blocks_heard 0 v n
   unfolding setup_in actions_of spelling
   ran-formed = record {
     last = last;
-    runs = runs-so v n (GetJob named) turns (Got byte) last refl
-        (refusal-of v (GetJob named) refl refl refl
+    runs = runs-so v n (GetJob named) None turns (Got byte) last refl
+        (refusal-of v (GetJob named) None refl refl refl
         (record { journal = refl; area = refl; unswitched = refl }) ∙ begins-none) (
           refl,
           (refl, (refl, own_work)),
@@ -84,9 +84,9 @@ module _ (w : State) (n : ℕ) (count : w.handed ≡ 4) where
   }
 
 -- the get's job runs to the byte from every state just opened over the mended store
-pub alone : RunsAlone byte_repaired_records (GetJob named) (Got byte) mended got own_blocks_heard
+pub alone : RunsAlone byte_repaired_records (GetJob named) None (Got byte) mended got own_blocks_heard
 alone = alone-byte byte_repaired_records (fetched (holds 0)) (fetched (holds 1)) (given_block 2 (fetched
-    empty_provider)) (fetched (holds 3)) (GetJob named) (Got byte) mended got own_blocks_heard
+    empty_provider)) (fetched (holds 3)) (GetJob named) None (Got byte) mended got own_blocks_heard
     (omega arith) refl refl ran-formed
 
 -- the get ends with status 0 and the byte, and has heard all own blocks
@@ -94,9 +94,8 @@ pub answers : Answers (GetOf named) mended got (ends_hearing 0 own_blocks_heard)
 answers = (
   AnswersAlone.begun byte_repaired_records old-sure.known.opened
       (AnswersJob.ended (Got byte) begins-none alone
-      (left-alone byte_repaired_records (GetJob named) (Got byte) mended got own_blocks_heard
-      refl (λ w last n O r. jobs-leave (GetJob named) w last n (Got byte) own_blocks_heard refl O r)
-      old-sure.known.opened refl alone)
+      (left-so byte_repaired_records (GetJob named) None (Got byte) mended got own_blocks_heard
+      refl (MayName.none refl) old-sure.known.opened refl alone)
       (record { written = inl (refl, refl); place = refl })),
   (refl, refl),
 )

@@ -10,8 +10,8 @@ use Rattle.second_half_laws.proofs.ByteSteps.{block_sized, symbols}
 use Rattle.command_defs.specs.Forms.{RepairDue}
 use Rattle.command_defs.specs.Jobs.{RanAlone, RunsAlone, AnswersJob}
 use Rattle.command_defs.specs.Commands.{AnswersAlone, Answers}
-use Rattle.job_laws.proofs.Telling.{left-alone, jobs-leave}
 use Rattle.job_laws.proofs.BeginRefusals.{refusal-of}
+use Rattle.lone_laws.specs.Walked.{MayName}
 use Rattle.command_runs.specs.Devices.{byte_audited_records, own_block, holds, due, repaired}
 use Rattle.command_laws.specs.Instances.{ends}
 use Rattle.command_runs.proofs.Shape.{formed, one_byte}
@@ -20,7 +20,7 @@ use Rattle.damage_run.proofs.Values.{without_two_give}
 use Rattle.command_runs.proofs.Begins.{repair_begins}
 use Rattle.made_runs.specs.Turns.{Turn, Goes, Came, Works, Gives, after_step}
 use Rattle.made_runs.proofs.Turns.{goes-so}
-use Rattle.command_runs.proofs.Made.{after_turns, runs-so, four-each, alone-byte}
+use Rattle.command_runs.proofs.Made.{after_turns, runs-so, four-each, alone-byte, left-so}
 
 module _ (w : State) (n : ℕ) (count : w.handed ≡ 4) where
   abbrev v : State
@@ -31,17 +31,17 @@ module _ (w : State) (n : ℕ) (count : w.handed ≡ 4) where
       ∷ Came (Some (own_block 0)) ∷ []
 
   abbrev at_end : State
-  at_end = after_turns v n RepairJob turns
+  at_end = after_turns v n RepairJob None turns
 
   abbrev last : State
   last = after_step at_end 1 (Gives (Repaired 1))
 
-  ran-formed : RanAlone byte_audited_records RepairJob (Repaired 1) due repaired [] 0 v n
+  ran-formed : RanAlone byte_audited_records RepairJob None (Repaired 1) due repaired [] 0 v n
   unfolding setup_in actions_of spelling
   ran-formed = record {
     last = last;
-    runs = runs-so v n RepairJob turns (Repaired 1) last refl
-        (refusal-of v RepairJob refl refl refl
+    runs = runs-so v n RepairJob None turns (Repaired 1) last refl
+        (refusal-of v RepairJob None refl refl refl
         (record { journal = refl; area = refl; unswitched = refl }) ∙ repair_begins) (
           refl,
           refl,
@@ -78,9 +78,9 @@ module _ (w : State) (n : ℕ) (count : w.handed ≡ 4) where
   }
 
 -- the repair's job runs to its end from every state just opened over the store
-pub alone : RunsAlone byte_audited_records RepairJob (Repaired 1) due repaired []
-alone = alone-byte byte_audited_records (holds 0) (holds 1) empty_provider (holds 3) RepairJob (Repaired 1)
-    due repaired []
+pub alone : RunsAlone byte_audited_records RepairJob None (Repaired 1) due repaired []
+alone = alone-byte byte_audited_records (holds 0) (holds 1) empty_provider (holds 3) RepairJob None
+    (Repaired 1) due repaired []
     (omega arith) refl refl ran-formed
 
 -- the repair ends with status 0
@@ -88,9 +88,8 @@ pub answers : Answers RepairDue due repaired (ends 0)
 answers = (
   AnswersAlone.begun byte_audited_records old-sure.known.opened
       (AnswersJob.ended (Repaired 1) repair_begins alone
-      (left-alone byte_audited_records RepairJob (Repaired 1) due repaired []
-      tt (λ w last n O r. jobs-leave RepairJob w last n (Repaired 1) [] tt O r) old-sure.known.opened refl
-      alone)
+      (left-so byte_audited_records RepairJob None (Repaired 1) due repaired []
+      tt (MayName.none refl) old-sure.known.opened refl alone)
       (record { written = inl (refl, refl); place = refl })),
   (refl, refl),
 )

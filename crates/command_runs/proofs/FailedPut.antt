@@ -1,5 +1,5 @@
 -- A put whose first store fails, from every state that was just opened.
-use Rattle.std.proofs.Common.{◌≡◌, ℕ, List, [], ◌∷◌, refl, ◌∙◌, inl, arith}
+use Rattle.std.proofs.Common.{◌≡◌, ℕ, List, [], ◌∷◌, None, refl, ◌∙◌, inl, arith}
 use Rattle.record_defs.specs.Spellings.{spelling}
 use Rattle.machine_defs.specs.Jobs.{PutJob}
 use Rattle.machine_defs.specs.Actions.{actions_of}
@@ -9,8 +9,8 @@ use Rattle.machine_defs.specs.States.{State, setup_in}
 use Rattle.command_defs.specs.Forms.{PutUnder}
 use Rattle.command_defs.specs.Jobs.{RanAlone, RunsAlone, AnswersJob}
 use Rattle.command_defs.specs.Commands.{AnswersPut, Answers}
-use Rattle.job_laws.proofs.Telling.{left-alone, jobs-leave}
 use Rattle.job_laws.proofs.BeginRefusals.{refusal-of}
+use Rattle.lone_laws.specs.Walked.{MayName}
 use Rattle.command_runs.specs.Devices.{named, four_records, to_put, put_failed}
 use Rattle.damage_run.specs.Schedule.{byte}
 use Rattle.command_laws.specs.Instances.{ends}
@@ -19,7 +19,7 @@ use Rattle.command_runs.proofs.Stores.{put-old as old-sure, failed-new as new-su
 use Rattle.command_runs.proofs.Begins.{put_begins}
 use Rattle.made_runs.specs.Turns.{Turn, Goes, StoreFails, after_step}
 use Rattle.made_runs.proofs.Turns.{goes-so}
-use Rattle.command_runs.proofs.Made.{after_turns, runs-so, four-each, alone-over}
+use Rattle.command_runs.proofs.Made.{after_turns, runs-so, four-each, alone-over, left-so}
 
 module _ (w : State) (n : ℕ) (count : w.handed ≡ 4) where
   abbrev v : State
@@ -29,17 +29,17 @@ module _ (w : State) (n : ℕ) (count : w.handed ≡ 4) where
   turns = Goes 4 ∷ []
 
   abbrev at_end : State
-  at_end = after_turns v n (PutJob named byte) turns
+  at_end = after_turns v n (PutJob named byte) None turns
 
   abbrev last : State
   last = after_step at_end 1 (StoreFails 0)
 
-  ran-formed : RanAlone four_records (PutJob named byte) (ProviderFault 0) to_put put_failed [] 0 v n
+  ran-formed : RanAlone four_records (PutJob named byte) None (ProviderFault 0) to_put put_failed [] 0 v n
   unfolding setup_in actions_of spelling
   ran-formed = record {
     last = last;
-    runs = runs-so v n (PutJob named byte) turns (ProviderFault 0) last refl
-        (refusal-of v (PutJob named byte) refl refl refl
+    runs = runs-so v n (PutJob named byte) None turns (ProviderFault 0) last refl
+        (refusal-of v (PutJob named byte) None refl refl refl
         (record { journal = refl; area = refl; unswitched = refl }) ∙ put_begins)
         (refl, refl, tt)
         (goes-so 8 n at_end 1 (StoreFails 0) (refl, (refl, refl)));
@@ -53,17 +53,16 @@ module _ (w : State) (n : ℕ) (count : w.handed ≡ 4) where
   }
 
 -- the put's job runs to a failed store of provider 0 from every state just opened over the store
-pub alone : RunsAlone four_records (PutJob named byte) (ProviderFault 0) to_put put_failed []
+pub alone : RunsAlone four_records (PutJob named byte) None (ProviderFault 0) to_put put_failed []
 alone = alone-over four_records empty_provider empty_provider empty_provider empty_provider (PutJob named
-    byte) (ProviderFault 0) to_put put_failed []
+    byte) None (ProviderFault 0) to_put put_failed []
     (omega arith) refl ran-formed
 
 -- the put ends with status 13, at provider 0
 pub answers : Answers (PutUnder named) to_put put_failed (ends 13)
-answers = AnswersPut.begun four_records byte old-sure.known.opened
+answers = AnswersPut.begun four_records byte old-sure.known.opened refl
     (record { are_bytes = refl; front = refl; few = omega arith; end = λ l. refl })
     (AnswersJob.ended (ProviderFault 0) put_begins alone
-    (left-alone four_records (PutJob named byte) (ProviderFault 0) to_put put_failed []
-    (refl, refl) (λ w last n O r. jobs-leave (PutJob named byte) w last n (ProviderFault 0) []
-    (refl, refl) O r) old-sure.known.opened refl alone)
+    (left-so four_records (PutJob named byte) None (ProviderFault 0) to_put put_failed []
+    (refl, refl) (MayName.none refl) old-sure.known.opened refl alone)
     (record { status_is = refl; place = refl; sink = refl }))

@@ -1,5 +1,5 @@
 -- A put over devices that tell nothing, from every state that was just opened.
-use Rattle.std.proofs.Common.{◌≡◌, ℕ, List, [], ◌∷◌, refl, ◌∙◌, inl, arith}
+use Rattle.std.proofs.Common.{◌≡◌, ℕ, List, [], ◌∷◌, None, refl, ◌∙◌, inl, arith}
 use Rattle.record_defs.specs.Spellings.{spelling}
 use Rattle.machine_defs.specs.Jobs.{PutJob}
 use Rattle.machine_defs.specs.Actions.{actions_of}
@@ -8,8 +8,8 @@ use Rattle.machine_defs.specs.States.{State, setup_in}
 use Rattle.command_defs.specs.Forms.{PutUnder}
 use Rattle.command_defs.specs.Jobs.{RanAlone, RunsAlone, AnswersJob}
 use Rattle.command_defs.specs.Commands.{AnswersPut, Answers}
-use Rattle.job_laws.proofs.Telling.{left-alone, jobs-leave}
 use Rattle.job_laws.proofs.BeginRefusals.{refusal-of}
+use Rattle.lone_laws.specs.Walked.{MayName}
 use Rattle.command_runs.specs.Devices.{named, four_records, all_hidden, silent}
 use Rattle.damage_run.specs.Schedule.{byte}
 use Rattle.command_laws.specs.Instances.{ends}
@@ -18,7 +18,7 @@ use Rattle.command_runs.proofs.Stores.{hidden-fresh}
 use Rattle.command_runs.proofs.Begins.{put_begins}
 use Rattle.made_runs.specs.Turns.{Turn, Goes, Gives, after_step}
 use Rattle.made_runs.proofs.Turns.{goes-so}
-use Rattle.command_runs.proofs.Made.{after_turns, runs-so, four-each, alone-over}
+use Rattle.command_runs.proofs.Made.{after_turns, runs-so, four-each, alone-over, left-so}
 
 module _ (w : State) (n : ℕ) (count : w.handed ≡ 4) where
   abbrev v : State
@@ -28,17 +28,17 @@ module _ (w : State) (n : ℕ) (count : w.handed ≡ 4) where
   turns = Goes 12 ∷ []
 
   abbrev at_end : State
-  at_end = after_turns v n (PutJob named byte) turns
+  at_end = after_turns v n (PutJob named byte) None turns
 
   abbrev last : State
   last = after_step at_end 1 (Gives Put)
 
-  ran-formed : RanAlone four_records (PutJob named byte) Put all_hidden all_hidden [] 0 v n
+  ran-formed : RanAlone four_records (PutJob named byte) None Put all_hidden all_hidden [] 0 v n
   unfolding setup_in actions_of spelling
   ran-formed = record {
     last = last;
-    runs = runs-so v n (PutJob named byte) turns Put last refl
-        (refusal-of v (PutJob named byte) refl refl refl
+    runs = runs-so v n (PutJob named byte) None turns Put last refl
+        (refusal-of v (PutJob named byte) None refl refl refl
         (record { journal = refl; area = refl; unswitched = refl }) ∙ put_begins)
         (refl, refl, tt)
         (goes-so 8 n at_end 1 (Gives Put) (refl, (refl, tt)));
@@ -52,16 +52,15 @@ module _ (w : State) (n : ℕ) (count : w.handed ≡ 4) where
   }
 
 -- the put's job runs to its end from every state just opened over devices that tell nothing
-pub alone : RunsAlone four_records (PutJob named byte) Put all_hidden all_hidden []
-alone = alone-over four_records silent silent silent silent (PutJob named byte) Put all_hidden all_hidden []
-    (omega arith) refl ran-formed
+pub alone : RunsAlone four_records (PutJob named byte) None Put all_hidden all_hidden []
+alone = alone-over four_records silent silent silent silent (PutJob named byte) None Put all_hidden
+    all_hidden [] (omega arith) refl ran-formed
 
 -- the put ends with status 0
 pub answers : Answers (PutUnder named) all_hidden all_hidden (ends 0)
-answers = AnswersPut.begun four_records byte hidden-fresh
+answers = AnswersPut.begun four_records byte hidden-fresh refl
     (record { are_bytes = refl; front = refl; few = omega arith; end = λ l. tt })
     (AnswersJob.ended Put put_begins alone
-    (left-alone four_records (PutJob named byte) Put all_hidden all_hidden []
-    (refl, refl) (λ w last n O r. jobs-leave (PutJob named byte) w last n Put [] (refl, refl) O r)
-    hidden-fresh refl alone)
+    (left-so four_records (PutJob named byte) None Put all_hidden all_hidden []
+    (refl, refl) (MayName.none refl) hidden-fresh refl alone)
     (record { written = inl (refl, refl); place = refl }))

@@ -13,6 +13,8 @@ pub mod Refusals
 pub mod DoneAudit
 pub mod DoneRepair
 pub mod DoneUpgrade
+pub mod CutUpgrade
+pub mod OwnPut
 pub mod FailedRepair
 pub mod DoneGet
 pub mod Meets

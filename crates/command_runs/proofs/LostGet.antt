@@ -10,8 +10,8 @@ use Rattle.machine_defs.specs.States.{State, setup_in}
 use Rattle.command_defs.specs.Forms.{GetOf}
 use Rattle.command_defs.specs.Jobs.{RanAlone, RunsAlone, AnswersJob}
 use Rattle.command_defs.specs.Commands.{AnswersAlone, Answers}
-use Rattle.job_laws.proofs.Telling.{left-alone, jobs-leave}
 use Rattle.job_laws.proofs.BeginRefusals.{refusal-of}
+use Rattle.lone_laws.specs.Walked.{MayName}
 use Rattle.command_runs.specs.Devices.{named, byte_records, ends_hearing, all_lost, found_lost, no_blocks}
 use Rattle.command_runs.proofs.Shape.{formed, one_byte}
 use Rattle.column_laws.proofs.Worked.{none-lose}
@@ -19,7 +19,7 @@ use Rattle.command_runs.proofs.Stores.{robbed-old as old-sure, lost-new as new-s
 use Rattle.command_runs.proofs.Begins.{get_begins}
 use Rattle.made_runs.specs.Turns.{Turn, Came, LosesOne, after_step}
 use Rattle.made_runs.proofs.Turns.{goes-so}
-use Rattle.command_runs.proofs.Made.{after_turns, runs-so, four-each, alone-byte}
+use Rattle.command_runs.proofs.Made.{after_turns, runs-so, four-each, alone-byte, left-so}
 
 module _ (w : State) (n : ℕ) (count : w.handed ≡ 4) where
   abbrev v : State
@@ -30,17 +30,17 @@ module _ (w : State) (n : ℕ) (count : w.handed ≡ 4) where
   turns = Came None ∷ Came None ∷ Came None ∷ Came None ∷ []
 
   abbrev at_end : State
-  at_end = after_turns v n (GetJob named) turns
+  at_end = after_turns v n (GetJob named) None turns
 
   abbrev last : State
   last = after_step at_end 1 (LosesOne 0 0)
 
-  ran-formed : RanAlone byte_records (GetJob named) (Lost 0 0) all_lost found_lost no_blocks 0 v n
+  ran-formed : RanAlone byte_records (GetJob named) None (Lost 0 0) all_lost found_lost no_blocks 0 v n
   unfolding setup_in actions_of spelling
   ran-formed = record {
     last = last;
-    runs = runs-so v n (GetJob named) turns (Lost 0 0) last refl
-        (refusal-of v (GetJob named) refl refl refl
+    runs = runs-so v n (GetJob named) None turns (Lost 0 0) last refl
+        (refusal-of v (GetJob named) None refl refl refl
         (record { journal = refl; area = refl; unswitched = refl }) ∙ get_begins) (
           refl,
           (refl, (refl, refl)),
@@ -72,18 +72,17 @@ module _ (w : State) (n : ℕ) (count : w.handed ≡ 4) where
   }
 
 -- the get's job runs to a lost row from every state just opened over the store
-pub alone : RunsAlone byte_records (GetJob named) (Lost 0 0) all_lost found_lost no_blocks
+pub alone : RunsAlone byte_records (GetJob named) None (Lost 0 0) all_lost found_lost no_blocks
 alone = alone-byte byte_records empty_provider empty_provider empty_provider empty_provider (GetJob named)
-    (Lost 0 0) all_lost found_lost no_blocks
+    None (Lost 0 0) all_lost found_lost no_blocks
     (omega arith) refl refl ran-formed
 
 -- the get ends with status 4, and has heard no block
 pub answers : Answers (GetOf named) all_lost found_lost (ends_hearing 4 no_blocks)
 answers = (
   AnswersAlone.begun byte_records old-sure.known.opened (AnswersJob.ended (Lost 0 0) get_begins alone
-      (left-alone byte_records (GetJob named) (Lost 0 0) all_lost found_lost no_blocks
-      refl (λ w last n O r. jobs-leave (GetJob named) w last n (Lost 0 0) no_blocks refl O r)
-      old-sure.known.opened refl alone)
+      (left-so byte_records (GetJob named) None (Lost 0 0) all_lost found_lost no_blocks
+      refl (MayName.none refl) old-sure.known.opened refl alone)
       (record { status_is = refl; place = refl; sink = refl })),
   (refl, refl),
 )

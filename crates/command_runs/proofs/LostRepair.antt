@@ -10,8 +10,8 @@ use Rattle.machine_defs.specs.States.{State, setup_in}
 use Rattle.command_defs.specs.Forms.{RepairDue}
 use Rattle.command_defs.specs.Jobs.{RanAlone, RunsAlone, AnswersJob}
 use Rattle.command_defs.specs.Commands.{AnswersAlone, Answers}
-use Rattle.job_laws.proofs.Telling.{left-alone, jobs-leave}
 use Rattle.job_laws.proofs.BeginRefusals.{refusal-of}
+use Rattle.lone_laws.specs.Walked.{MayName}
 use Rattle.command_runs.specs.Devices.{byte_audited_records, due_lost, repair_lost}
 use Rattle.command_laws.specs.Instances.{ends}
 use Rattle.command_runs.proofs.Shape.{formed, one_byte}
@@ -20,7 +20,7 @@ use Rattle.command_runs.proofs.Stores.{robbed_due-old as old-sure, lost_due-new 
 use Rattle.command_runs.proofs.Begins.{repair_begins}
 use Rattle.made_runs.specs.Turns.{Turn, Came, LosesOne, after_step}
 use Rattle.made_runs.proofs.Turns.{goes-so}
-use Rattle.command_runs.proofs.Made.{after_turns, runs-so, four-each, alone-byte}
+use Rattle.command_runs.proofs.Made.{after_turns, runs-so, four-each, alone-byte, left-so}
 
 module _ (w : State) (n : ℕ) (count : w.handed ≡ 4) where
   abbrev v : State
@@ -31,17 +31,17 @@ module _ (w : State) (n : ℕ) (count : w.handed ≡ 4) where
   turns = Came None ∷ Came None ∷ Came None ∷ Came None ∷ []
 
   abbrev at_end : State
-  at_end = after_turns v n RepairJob turns
+  at_end = after_turns v n RepairJob None turns
 
   abbrev last : State
   last = after_step at_end 1 (LosesOne 0 0)
 
-  ran-formed : RanAlone byte_audited_records RepairJob (Lost 0 0) due_lost repair_lost [] 0 v n
+  ran-formed : RanAlone byte_audited_records RepairJob None (Lost 0 0) due_lost repair_lost [] 0 v n
   unfolding setup_in actions_of spelling
   ran-formed = record {
     last = last;
-    runs = runs-so v n RepairJob turns (Lost 0 0) last refl
-        (refusal-of v RepairJob refl refl refl
+    runs = runs-so v n RepairJob None turns (Lost 0 0) last refl
+        (refusal-of v RepairJob None refl refl refl
         (record { journal = refl; area = refl; unswitched = refl }) ∙ repair_begins) (
           refl,
           (refl, (refl, refl)),
@@ -73,9 +73,9 @@ module _ (w : State) (n : ℕ) (count : w.handed ≡ 4) where
   }
 
 -- the repair's job runs to a lost row from every state just opened over the store
-pub alone : RunsAlone byte_audited_records RepairJob (Lost 0 0) due_lost repair_lost []
-alone = alone-byte byte_audited_records empty_provider empty_provider empty_provider empty_provider RepairJob
-    (Lost 0 0) due_lost repair_lost []
+pub alone : RunsAlone byte_audited_records RepairJob None (Lost 0 0) due_lost repair_lost []
+alone = alone-byte byte_audited_records empty_provider empty_provider empty_provider empty_provider
+    RepairJob None (Lost 0 0) due_lost repair_lost []
     (omega arith) refl refl ran-formed
 
 -- the repair ends with status 4
@@ -83,9 +83,8 @@ pub answers : Answers RepairDue due_lost repair_lost (ends 4)
 answers = (
   AnswersAlone.begun byte_audited_records old-sure.known.opened
       (AnswersJob.ended (Lost 0 0) repair_begins alone
-      (left-alone byte_audited_records RepairJob (Lost 0 0) due_lost repair_lost []
-      tt (λ w last n O r. jobs-leave RepairJob w last n (Lost 0 0) [] tt O r) old-sure.known.opened refl
-      alone)
+      (left-so byte_audited_records RepairJob None (Lost 0 0) due_lost repair_lost []
+      tt (MayName.none refl) old-sure.known.opened refl alone)
       (record { status_is = refl; place = refl; sink = refl })),
   (refl, refl),
 )

@@ -1,5 +1,5 @@
 -- Jobs whose steps are computed, from states just opened over four providers.
-use Rattle.std.proofs.Common.{◌≡◌, ℕ, zero, suc, ◌+◌, ◌<◌, ◌≤◌, true, List, [], ◌∷◌, length, Option, Some, None, refl, subst, arith}
+use Rattle.std.proofs.Common.{◌≡◌, ℕ, zero, suc, ◌+◌, ◌<◌, ◌≤◌, true, List, [], ◌∷◌, length, ◌++◌, Option, Some, None, refl, subst, arith}
 use Rattle.std.specs.Prelude.{slice_get}
 use Rattle.std.proofs.lemmas.Bool.{false≢true}
 use Rattle.device_defs.specs.Providers.{Provider}
@@ -7,8 +7,8 @@ use Rattle.record_defs.specs.Records.{Record, PutDone}
 use Rattle.record_defs.specs.Table.{file_of}
 use Rattle.machine_defs.specs.Jobs.{Kind, job_of}
 use Rattle.machine_defs.specs.Answers.{Answer}
-use Rattle.machine_defs.specs.Begins.{refusal_of_begin}
-use Rattle.machine_defs.specs.Events.{Step, Ended}
+use Rattle.machine_defs.specs.Begins.{refusal_of_begin, beginning}
+use Rattle.machine_defs.specs.Events.{Step, Ended, IsSpelledKind}
 use Rattle.machine_defs.specs.Heard.{Entry, heard_by}
 use Rattle.machine_defs.specs.Machine.{Happens}
 use Rattle.machine_defs.specs.States.{State, Doubt}
@@ -16,9 +16,12 @@ use Rattle.machine_defs.specs.Runs.{Moment, now}
 use Rattle.opening_defs.specs.Opened.{IsOpenedOver}
 use Rattle.command_defs.specs.Seen.{Seen}
 use Rattle.command_defs.specs.JobRuns.{AreSteps, RunsJob}
-use Rattle.command_defs.specs.Jobs.{RanAlone, RunsAlone}
+use Rattle.command_defs.specs.Opens.{IsOpened}
+use Rattle.command_defs.specs.Jobs.{RanAlone, RunsAlone, LeftAlone}
+use Rattle.lone_laws.specs.Walked.{MayName}
+use Rattle.job_laws.proofs.Telling.{left-alone, jobs-leave}
 use Rattle.made_runs.specs.Steps.{can_step}
-use Rattle.made_runs.specs.Turns.{Turn, Goes, Gives, LosesOne, StoreFails, Cut, begun, gone_by, can_go_by, turned, FitsTurn, job_run, AreFitTurns, is_more}
+use Rattle.made_runs.specs.Turns.{Turn, Goes, Gives, LosesOne, StoreFails, Cut, gone_by, can_go_by, turned, FitsTurn, job_run, AreFitTurns, is_more}
 use Rattle.made_runs.proofs.Steps.{first, second, steps}
 use Rattle.made_runs.proofs.Turns.{goes-so}
 use Rattle.command_runs.specs.Devices.{named}
@@ -53,23 +56,29 @@ are-steps w moment n [] f = tt
 are-steps w moment n (turn ∷ turns) f =
     turn-steps w moment (job_run w [] n turns) n turn f.0 f.1 (are-steps w moment n turns f.2)
 
+-- a job has begun, of a put also with a profile of its own
+abbrev pub begun_with : State → ℕ → Kind → Option ℕ → State
+begun_with w n kind own = record w { jobs = w.jobs ++ beginning w n kind own ∷ []; next_job = w.next_job + 1 }
+
 -- the state after the turns of a job that begins in this one
-abbrev pub after_turns : State → ℕ → Kind → List Turn → State
-after_turns w n kind turns = now (begun w n kind) (job_run (begun w n kind) [] w.next_job turns)
+abbrev pub after_turns : State → ℕ → Kind → Option ℕ → List Turn → State
+after_turns w n kind own turns =
+    now (begun_with w n kind own) (job_run (begun_with w n kind own) [] w.next_job turns)
 
 -- a job runs so
-pub runs-so : (w : State) (n : ℕ) (kind : Kind) (turns : List Turn) (answer : Answer) (last : State) →
-    w.is_open ≡ true → refusal_of_begin 8 w kind None ≡ None →
-    AreFitTurns (begun w n kind) [] w.next_job turns →
-    Happens 8 n (after_turns w n kind turns) (Step w.next_job) (Ended answer) last →
-    RunsJob w n kind answer (heard_by (job_of (after_turns w n kind turns).jobs w.next_job)) last
-runs-so w n kind turns answer last is_open begins fit ends = record {
-  begun = begun w n kind;
+pub runs-so : (w : State) (n : ℕ) (kind : Kind) (own : Option ℕ) (turns : List Turn) (answer : Answer)
+    (last : State) →
+    w.is_open ≡ true → refusal_of_begin 8 w kind own ≡ None →
+    AreFitTurns (begun_with w n kind own) [] w.next_job turns →
+    Happens 8 n (after_turns w n kind own turns) (Step w.next_job) (Ended answer) last →
+    RunsJob w n kind own answer (heard_by (job_of (after_turns w n kind own turns).jobs w.next_job)) last
+runs-so w n kind own turns answer last is_open begins fit ends = record {
+  begun = begun_with w n kind own;
   job = w.next_job;
   begins = (is_open, begins, refl, refl);
   goes_on = record {
-    steps = job_run (begun w n kind) [] w.next_job turns;
-    are_steps = are-steps (begun w n kind) (n + 1) w.next_job turns fit;
+    steps = job_run (begun_with w n kind own) [] w.next_job turns;
+    are_steps = are-steps (begun_with w n kind own) (n + 1) w.next_job turns fit;
     ends = ends;
     heard_is = refl;
   };
@@ -94,34 +103,43 @@ four-each xs ps a b c d (suc (suc (suc zero))) l = d
 four-each xs ps a b c d (suc (suc (suc (suc j)))) l = absurd (omega (arith, l))
 
 -- a job that runs alone from each state spelled out runs so from each just opened
-pub alone-over : (rs : List Record) (p q r s : Provider) (kind : Kind) (answer : Answer) (old new : Seen)
-    (heard : List Entry) → old.disk_faults ≤ 0 → old.providers ≡ (p ∷ q ∷ r ∷ s ∷ []) →
+pub alone-over : (rs : List Record) (p q r s : Provider) (kind : Kind) (own : Option ℕ) (answer : Answer)
+    (old new : Seen) (heard : List Entry) → old.disk_faults ≤ 0 → old.providers ≡ (p ∷ q ∷ r ∷ s ∷ []) →
     ((w : State) (n : ℕ) → w.handed ≡ 4 →
-    RanAlone rs kind answer old new heard 0 (formed rs w.bytes p q r s w) n) →
-    RunsAlone rs kind answer old new heard
-alone-over rs p q r s kind answer old new heard before same ran = record {
+    RanAlone rs kind own answer old new heard 0 (formed rs w.bytes p q r s w) n) →
+    RunsAlone rs kind own answer old new heard
+alone-over rs p q r s kind own answer old new heard before same ran = record {
   faults = 0;
   before = before;
   ran = λ w n V. let U : IsOpenedOver w rs 0 (p ∷ q ∷ r ∷ s ∷ [])
       = subst (λ ps. IsOpenedOver w rs 0 ps) same V in
-      subst (λ u. RanAlone rs kind answer old new heard 0 u n) (form-is rs w.bytes p q r s w refl U)
+      subst (λ u. RanAlone rs kind own answer old new heard 0 u n) (form-is rs w.bytes p q r s w refl U)
       (ran w n U.handed.count);
 }
 
 -- so too where the file of one byte is in effect
-pub alone-byte : (rs : List Record) (p q r s : Provider) (kind : Kind) (answer : Answer) (old new : Seen)
-    (heard : List Entry) → old.disk_faults ≤ 0 → old.providers ≡ (p ∷ q ∷ r ∷ s ∷ []) →
+pub alone-byte : (rs : List Record) (p q r s : Provider) (kind : Kind) (own : Option ℕ) (answer : Answer)
+    (old new : Seen) (heard : List Entry) → old.disk_faults ≤ 0 → old.providers ≡ (p ∷ q ∷ r ∷ s ∷ []) →
     file_of rs named ≡ Some (record { name = named; id = 1; size = 1; profile = 0 }) →
     ((w : State) (n : ℕ) → w.handed ≡ 4 →
-    RanAlone rs kind answer old new heard 0 (formed rs (one_byte w.bytes) p q r s w) n) →
-    RunsAlone rs kind answer old new heard
-alone-byte rs p q r s kind answer old new heard before same file ran = record {
+    RanAlone rs kind own answer old new heard 0 (formed rs (one_byte w.bytes) p q r s w) n) →
+    RunsAlone rs kind own answer old new heard
+alone-byte rs p q r s kind own answer old new heard before same file ran = record {
   faults = 0;
   before = before;
   ran = λ w n V. let U : IsOpenedOver w rs 0 (p ∷ q ∷ r ∷ s ∷ [])
       = subst (λ ps. IsOpenedOver w rs 0 ps) same V in
-      subst (λ u. RanAlone rs kind answer old new heard 0 u n)
+      subst (λ u. RanAlone rs kind own answer old new heard 0 u n)
       (form-is rs (one_byte w.bytes) p q r s w (one_byte-is w.bytes
       (U.bytes named (record { name = named; id = 1; size = 1; profile = 0 }) file).1) U)
       (ran w n U.handed.count);
 }
+
+-- what a job leaves that runs alone
+pub left-so : (records : List Record) (kind : Kind) (own : Option ℕ) (answer : Answer) (old new : Seen)
+    (heard : List Entry) → IsSpelledKind kind → MayName kind own → IsOpened old records →
+    length new.providers ≡ length old.providers → RunsAlone records kind own answer old new heard →
+    LeftAlone records kind own answer old new heard
+left-so records kind own answer old new heard spelled named R same A =
+    left-alone records kind own answer old new heard spelled named
+    (λ w last n O r. jobs-leave kind own w last n answer heard spelled named O r) R same A

@@ -15,7 +15,7 @@ use Rattle.job_laws.specs.Failing.{bad_seen}
 use Rattle.command_laws.proofs.FilesStay.{bad-few}
 use Rattle.command_laws.proofs.Samples.{never-rises}
 use Rattle.command_runs.proofs.Shape.{first_of}
-use Rattle.command_runs.specs.Devices.{named, byte_records, byte_audited_records, byte_repaired_records, to_put_other, byte_stored, damaged, due, repaired, mended, got, all_hidden, none_hold, three_hold, repair_cut}
+use Rattle.command_runs.specs.Devices.{named, byte_records, byte_audited_records, byte_repaired_records, to_put_other, byte_stored, damaged, due, repaired, mended, got, all_hidden, none_hold, three_hold, all_hold, repair_cut, byte_kept, byte_upgraded_records, to_put_own, stored_own}
 use Rattle.damage_run.specs.Points.{counts}
 use Rattle.damage_run.specs.Schedule.{byte}
 use Rattle.command_laws.specs.Instances.{other_name}
@@ -192,3 +192,43 @@ few-bad = within _ (bad-few named byte byte_audited_records second due repaired 
 -- the names differ
 pub other-name : other_name ≢ named
 other-name e = (let f : 98 ≡ 97 = ap first_of e in omega (arith, f))
+
+-- ---- the upgraded store
+
+-- each provider tells what it holds where each has its block
+pub all-tell : (j : ℕ) → j < 4 → is_some (provider_at all_hold j).held ≡ true
+all-tell zero l = refl
+all-tell (suc zero) l = refl
+all-tell (suc (suc zero)) l = refl
+all-tell (suc (suc (suc zero))) l = refl
+all-tell (suc (suc (suc (suc j)))) l = absurd (omega (arith, l))
+
+-- the put with a profile of its own raises no count of failed stores
+pub own-steady : (j : ℕ) →
+    Rose (provider_at to_put_own.providers j).store_faults (provider_at stored_own.providers
+    j).store_faults → ⊥
+own-steady zero rose = never-rises 0 (omega arith) rose
+own-steady (suc zero) rose = never-rises 0 (omega arith) rose
+own-steady (suc (suc zero)) rose = never-rises 0 (omega arith) rose
+own-steady (suc (suc (suc zero))) rose = never-rises 0 (omega arith) rose
+own-steady (suc (suc (suc (suc j)))) rose = never-rises 0 (omega arith) rose
+
+-- before the upgrade the file is right on every provider
+pub byte-file : HasRightFile byte_kept byte_records named byte (λ j. false)
+byte-file = record {
+  file = kept;
+  in_effect = refl;
+  are_bytes = refl;
+  size = refl;
+  right = λ j l s. right-kept j l;
+}
+
+-- so it is after it, with the setup's profile
+pub own-file : HasRightFile to_put_own byte_upgraded_records named byte (λ j. false)
+own-file = record {
+  file = kept;
+  in_effect = refl;
+  are_bytes = refl;
+  size = refl;
+  right = λ j l s. right-kept j l;
+}

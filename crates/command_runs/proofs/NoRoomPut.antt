@@ -16,13 +16,14 @@ use Rattle.command_defs.specs.JobRuns.{AreSteps}
 use Rattle.command_defs.specs.Jobs.{RanAlone, RunsAlone, AnswersJob}
 use Rattle.command_defs.specs.Commands.{AnswersPut, Answers}
 use Rattle.command_laws.specs.Pieces.{moment}
-use Rattle.job_laws.proofs.Telling.{left-alone, jobs-leave}
 use Rattle.job_laws.proofs.BeginRefusals.{refusal-of}
+use Rattle.lone_laws.specs.Walked.{MayName}
 use Rattle.command_runs.specs.Devices.{named, four_records, to_put, put_unmade}
 use Rattle.damage_run.specs.Schedule.{byte}
 use Rattle.command_laws.specs.Instances.{ends}
 use Rattle.command_runs.proofs.Shape.{formed, form-is}
 use Rattle.command_runs.proofs.Stores.{put-old as old-sure, no_room-new as new-sure}
+use Rattle.command_runs.proofs.Made.{left-so}
 use Rattle.command_runs.proofs.Begins.{put_begins}
 
 module _ (w : State) (n : ℕ) (count : w.handed ≡ 4) where
@@ -59,7 +60,7 @@ module _ (w : State) (n : ℕ) (count : w.handed ≡ 4) where
   each (suc (suc (suc zero))) l = refl
   each (suc (suc (suc (suc j)))) l = absurd (omega (arith, l))
 
-  ran-formed : RanAlone four_records (PutJob named byte) (Memory) (to_put) (put_unmade) ([]) 0 v n
+  ran-formed : RanAlone four_records (PutJob named byte) None (Memory) (to_put) (put_unmade) ([]) 0 v n
   unfolding steps spelling
   ran-formed = record {
     last = s1;
@@ -68,7 +69,7 @@ module _ (w : State) (n : ℕ) (count : w.handed ≡ 4) where
       job = 1;
       begins = (
         refl,
-        refusal-of v (PutJob named byte) refl refl refl
+        refusal-of v (PutJob named byte) None refl refl refl
             (record { journal = refl; area = refl; unswitched = refl }) ∙ put_begins,
         refl,
         refl,
@@ -82,11 +83,11 @@ module _ (w : State) (n : ℕ) (count : w.handed ≡ 4) where
   }
 
 -- the put's job runs to its want of memory from every state just opened over the store
-pub alone : RunsAlone four_records (PutJob named byte) (Memory) (to_put) (put_unmade) ([])
+pub alone : RunsAlone four_records (PutJob named byte) None (Memory) (to_put) (put_unmade) ([])
 alone = record {
   faults = 0;
   before = omega arith;
-  ran = λ w n V. subst (λ u. RanAlone four_records (PutJob named byte) (Memory) (to_put) (put_unmade)
+  ran = λ w n V. subst (λ u. RanAlone four_records (PutJob named byte) None (Memory) (to_put) (put_unmade)
       ([]) 0 u n)
       (form-is four_records w.bytes (empty_provider) (empty_provider) (empty_provider)
       (empty_provider) w refl V)
@@ -95,10 +96,9 @@ alone = record {
 
 -- the put ends with status 70
 pub answers : Answers (PutUnder named) (to_put) (put_unmade) (ends 70)
-answers = AnswersPut.begun four_records byte old-sure.known.opened
+answers = AnswersPut.begun four_records byte old-sure.known.opened refl
     (record { are_bytes = refl; front = refl; few = omega arith; end = λ l. refl })
     (AnswersJob.ended (Memory) put_begins alone
-    (left-alone four_records (PutJob named byte) (Memory) (to_put) (put_unmade) ([])
-    (refl, refl) (λ w last n O r. jobs-leave (PutJob named byte) w last n (Memory) ([]) (refl, refl) O r)
-    old-sure.known.opened refl alone)
+    (left-so four_records (PutJob named byte) None (Memory) (to_put) (put_unmade) ([])
+    (refl, refl) (MayName.none refl) old-sure.known.opened refl alone)
     (record { status_is = refl; place = refl; sink = refl }))

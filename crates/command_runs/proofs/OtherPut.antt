@@ -9,8 +9,8 @@ use Rattle.command_defs.specs.Forms.{PutUnder}
 use Rattle.command_defs.specs.Refusals.{refusal_over}
 use Rattle.command_defs.specs.Jobs.{RanAlone, RunsAlone, AnswersJob}
 use Rattle.command_defs.specs.Commands.{AnswersPut, Answers}
-use Rattle.job_laws.proofs.Telling.{left-alone, jobs-leave}
 use Rattle.job_laws.proofs.BeginRefusals.{refusal-of}
+use Rattle.lone_laws.specs.Walked.{MayName}
 use Rattle.command_runs.specs.Devices.{byte_records, to_put_other, stored_other, holds}
 use Rattle.damage_run.specs.Schedule.{byte}
 use Rattle.command_laws.specs.Instances.{other_name, ends}
@@ -18,9 +18,9 @@ use Rattle.command_runs.proofs.Shape.{formed}
 use Rattle.command_runs.proofs.Stores.{to_put_other-sure as old-sure, stored_other-sure as new-sure}
 use Rattle.made_runs.specs.Turns.{Turn, Goes, Gives, after_step}
 use Rattle.made_runs.proofs.Turns.{goes-so}
-use Rattle.command_runs.proofs.Made.{after_turns, runs-so, four-each, alone-over}
+use Rattle.command_runs.proofs.Made.{after_turns, runs-so, four-each, alone-over, left-so}
 
-begins-none : refusal_over byte_records (PutJob other_name byte) ≡ None
+begins-none : refusal_over byte_records (PutJob other_name byte) None ≡ None
 begins-none = refl
 
 module _ (w : State) (n : ℕ) (count : w.handed ≡ 4) where
@@ -31,17 +31,17 @@ module _ (w : State) (n : ℕ) (count : w.handed ≡ 4) where
   turns = Goes 12 ∷ []
 
   abbrev at_end : State
-  at_end = after_turns v n (PutJob other_name byte) turns
+  at_end = after_turns v n (PutJob other_name byte) None turns
 
   abbrev last : State
   last = after_step at_end 1 (Gives Put)
 
-  ran-formed : RanAlone byte_records (PutJob other_name byte) Put to_put_other stored_other [] 0 v n
+  ran-formed : RanAlone byte_records (PutJob other_name byte) None Put to_put_other stored_other [] 0 v n
   unfolding setup_in actions_of spelling
   ran-formed = record {
     last = last;
-    runs = runs-so v n (PutJob other_name byte) turns Put last refl
-        (refusal-of v (PutJob other_name byte) refl refl refl
+    runs = runs-so v n (PutJob other_name byte) None turns Put last refl
+        (refusal-of v (PutJob other_name byte) None refl refl refl
         (record { journal = refl; area = refl; unswitched = refl }) ∙ begins-none)
         (refl, refl, tt)
         (goes-so 8 n at_end 1 (Gives Put) (refl, (refl, tt)));
@@ -55,17 +55,16 @@ module _ (w : State) (n : ℕ) (count : w.handed ≡ 4) where
   }
 
 -- the other put's job runs to its end from every state just opened over the store with the file
-pub alone : RunsAlone byte_records (PutJob other_name byte) Put to_put_other stored_other []
-alone = alone-over byte_records (holds 0) (holds 1) (holds 2) (holds 3) (PutJob other_name byte) Put
+pub alone : RunsAlone byte_records (PutJob other_name byte) None Put to_put_other stored_other []
+alone = alone-over byte_records (holds 0) (holds 1) (holds 2) (holds 3) (PutJob other_name byte) None Put
     to_put_other stored_other []
     (omega arith) refl ran-formed
 
 -- the other put ends with status 0
 pub answers : Answers (PutUnder other_name) to_put_other stored_other (ends 0)
-answers = AnswersPut.begun byte_records byte old-sure.known.opened
+answers = AnswersPut.begun byte_records byte old-sure.known.opened refl
     (record { are_bytes = refl; front = refl; few = omega arith; end = λ l. refl })
     (AnswersJob.ended Put begins-none alone
-    (left-alone byte_records (PutJob other_name byte) Put to_put_other stored_other []
-    (refl, refl) (λ w last n O r. jobs-leave (PutJob other_name byte) w last n Put [] (refl, refl) O r)
-    old-sure.known.opened refl alone)
+    (left-so byte_records (PutJob other_name byte) None Put to_put_other stored_other []
+    (refl, refl) (MayName.none refl) old-sure.known.opened refl alone)
     (record { written = inl (refl, refl); place = refl }))

@@ -13,7 +13,7 @@ use Rattle.record_defs.specs.Journal.{text, magic}
 use Rattle.record_defs.specs.Examples.{four}
 use Rattle.machine_defs.specs.Refusals as refusal
 use Rattle.damage_run.proofs.LostGet.{at_most_two}
-use Rattle.command_defs.specs.Forms.{RowOf, InitWith, PutUnder, GetOf, ListAll, AuditAll, RepairDue}
+use Rattle.command_defs.specs.Forms.{RowOf, InitWith, PutUnder, PutAt, GetOf, ListAll, AuditAll, RepairDue, UpgradeJournal}
 use Rattle.command_defs.specs.Keys.{IsKeyForm}
 use Rattle.opening_defs.specs.Journals.{journal_read}
 use Rattle.command_defs.specs.Opens.{Unstarted}
@@ -23,13 +23,13 @@ use Rattle.command_defs.specs.Jobs.{AnswersJob}
 use Rattle.command_defs.specs.Line.{no_row_line}
 use Rattle.command_defs.specs.Commands.{AnswersAlone, AnswersPut, AnswersList, Answers}
 use Rattle.opening_defs.proofs.Readings.{read-set_up}
-use Rattle.command_runs.specs.Devices.{with_source, named, four_records, byte_records, byte_audited_records, good_numbers, bad_numbers, to_put, put_unmade, byte_kept, due, dropped_records, seen_after_drop, disk_failed, deserted, scrambled, all_hidden}
+use Rattle.command_runs.specs.Devices.{with_source, named, four_records, byte_records, byte_audited_records, good_numbers, bad_numbers, to_put, put_unmade, byte_kept, due, byte_upgraded_records, upgraded_kept, dropped_records, seen_after_drop, disk_failed, deserted, scrambled, all_hidden}
 use Rattle.damage_run.specs.Schedule.{byte}
 use Rattle.command_laws.specs.Instances.{with_sink, key_text, other_name, ends}
 use Rattle.command_laws.specs.After.{IsSure}
 use Rattle.command_laws.proofs.Samples.{same-disk}
 use Rattle.command_runs.proofs.Shape.{sure}
-use Rattle.command_runs.proofs.Stores.{put-old, stored-sure, due-sure, dropped-fit, hidden-opened}
+use Rattle.command_runs.proofs.Stores.{put-old, stored-sure, due-sure, upgraded_kept-sure, dropped-fit, hidden-opened}
 
 -- ---- faults, and want of memory
 
@@ -66,7 +66,7 @@ no-memory = (
 
 -- a put ends with 14 where its source fails
 pub source-fault : Answers (PutUnder named) to_put (record to_put { source_faults = 1 }) (ends 14)
-source-fault = AnswersPut.source_fault four_records put-old.known.opened (λ low. omega arith)
+source-fault = AnswersPut.source_fault four_records put-old.known.opened refl (λ low. omega arith)
     (same-disk four_records)
     (record { bytes = []; front = refl; few = omega arith })
     (record { status_is = refl; place = refl; heard = refl; disk = inl refl; providers = refl; sink = refl })
@@ -173,7 +173,7 @@ nothing-due = (
 
 -- a put under an empty name ends with 17
 pub bad-name : Answers (PutUnder []) to_put put_unmade (ends 17)
-bad-name = AnswersPut.begun four_records byte put-old.known.opened
+bad-name = AnswersPut.begun four_records byte put-old.known.opened refl
     (record { are_bytes = refl; front = refl; few = omega arith; end = λ l. refl })
     (AnswersJob.refused refusal.BadName refl (same-disk four_records)
     (record {
@@ -184,6 +184,42 @@ bad-name = AnswersPut.begun four_records byte put-old.known.opened
       providers = refl;
       sink = refl;
     }))
+
+-- a put at a profile that there is none of ends with 20, and its source is not read
+pub bad-profile : Answers (PutAt named 5) to_put to_put (ends 20)
+bad-profile = AnswersPut.bad_profile four_records put-old.known.opened refl (same-disk four_records)
+    (refl, refl)
+    (record { status_is = refl; place = refl; heard = refl; disk = inl refl; providers = refl; sink = refl })
+
+-- a put with a profile of its own ends with 23 where the journal has its first version
+pub old-version : Answers (PutAt named 1) to_put put_unmade (ends 23)
+old-version = AnswersPut.begun four_records byte put-old.known.opened refl
+    (record { are_bytes = refl; front = refl; few = omega arith; end = λ l. refl })
+    (AnswersJob.refused refusal.OldVersion refl (same-disk four_records)
+    (record {
+      status_is = refl;
+      place = refl;
+      heard = refl;
+      disk = inl refl;
+      providers = refl;
+      sink = refl;
+    }))
+
+-- a second upgrade ends with 24
+pub new-version : Answers UpgradeJournal upgraded_kept upgraded_kept (ends 24)
+new-version = (
+  AnswersAlone.begun byte_upgraded_records upgraded_kept-sure.known.opened
+      (AnswersJob.refused refusal.NewVersion refl (same-disk byte_upgraded_records)
+      (record {
+        status_is = refl;
+        place = refl;
+        heard = refl;
+        disk = inl refl;
+        providers = refl;
+        sink = refl;
+      })),
+  (refl, refl),
+)
 
 -- after its drop the file is gone
 gone-sure : IsSure seen_after_drop dropped_records

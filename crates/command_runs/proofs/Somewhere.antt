@@ -1,5 +1,5 @@
 -- Over accepted records there is a state just opened, and the job runs from there.
-use Rattle.std.proofs.Common.{ℕ, List}
+use Rattle.std.proofs.Common.{ℕ, List, Option}
 use Rattle.device_defs.specs.Providers.{Provider}
 use Rattle.record_defs.specs.Records.{Record}
 use Rattle.record_defs.specs.Acceptance.{AreAccepted}
@@ -22,12 +22,14 @@ abbrev pub ThereIsOne : Type 0
 ThereIsOne = (records : List Record) (faults : ℕ) (providers : List Provider) → AreAccepted records →
     (w : State) × IsOpenedOver w records faults providers
 
--- a job that runs alone over records that were opened runs from some state
-pub somewhere-opened : Opened → ThereIsOne →
-    (records : List Record) (kind : Kind) (answer : Answer) (old new : Seen) (heard : List Entry) →
-    opens.IsOpened old records → RunsAlone records kind answer old new heard → RunsSomewhere kind answer heard
-somewhere-opened opened one records kind answer old new heard R alone =
-    (let w = one records alone.faults old.providers R.read.accepted in
+-- a job that runs alone over a store that is known runs from some state
+pub somewhere : Opened → ThereIsOne →
+    (records : List Record) (kind : Kind) (own : Option ℕ) (answer : Answer) (old new : Seen)
+    (heard : List Entry) → IsSure old records → RunsAlone records kind own answer old new heard →
+    RunsSomewhere kind own answer heard
+somewhere opened one records kind own answer old new heard sure alone =
+    (let R = sure.known.opened in
+    let w = one records alone.faults old.providers R.read.accepted in
     let ran = alone.ran w.0 0 w.1 in
     record {
       start = w.0;
@@ -35,10 +37,3 @@ somewhere-opened opened one records kind answer old new heard R alone =
       opened = opened w.0 old records alone.faults R w.1;
       runs = ran.runs;
     })
-
--- so it is over a store that is known
-pub somewhere : Opened → ThereIsOne →
-    (records : List Record) (kind : Kind) (answer : Answer) (old new : Seen) (heard : List Entry) →
-    IsSure old records → RunsAlone records kind answer old new heard → RunsSomewhere kind answer heard
-somewhere opened one records kind answer old new heard sure alone =
-    somewhere-opened opened one records kind answer old new heard sure.known.opened alone

@@ -2,7 +2,7 @@
 use Rattle.std.proofs.Common.{refl, arith}
 use Rattle.command_defs.specs.Opens.{IsOpened}
 use Rattle.command_laws.specs.After.{IsSure}
-use Rattle.command_runs.specs.Devices.{four_records, started_records, byte_records, dropped_records, byte_audited_records, byte_repaired_records, both_records, to_put_other, stored_other, all_hidden, to_put, byte_stored, put_failed, put_cut, put_unmade, byte_kept, dropped, all_lost, found_lost, due_lost, repair_lost, damaged, byte_audited, due, repaired, repair_failed, mended, got, drop_cut, audit_cut, repair_cut}
+use Rattle.command_runs.specs.Devices.{four_records, started_records, byte_records, dropped_records, byte_audited_records, byte_repaired_records, both_records, to_put_other, stored_other, all_hidden, to_put, byte_stored, put_failed, put_cut, put_unmade, byte_kept, dropped, all_lost, found_lost, due_lost, repair_lost, damaged, byte_audited, due, repaired, repair_failed, mended, got, drop_cut, audit_cut, repair_cut, byte_upgraded_records, byte_own_records, byte_upgraded, upgrade_cut, upgraded_kept, to_put_own, stored_own}
 use Rattle.command_runs.proofs.Shape.{AreFit, sure}
 
 four-fit : AreFit four_records
@@ -168,3 +168,39 @@ audit_cut-new = sure audit_cut byte_audited_records audited-fit refl (omega arit
 -- the store after the repair that was cut off is sure, with its record
 pub repair_cut-new : IsSure repair_cut byte_repaired_records
 repair_cut-new = sure repair_cut byte_repaired_records repaired-fit refl (omega arith)
+
+upgraded-fit : AreFit byte_upgraded_records
+upgraded-fit = record {
+  some = λ e. cc;
+  all = refl;
+  accepted = (refl, (refl, (refl, (refl, tt))));
+  room = omega arith;
+}
+
+own-fit : AreFit byte_own_records
+own-fit = record {
+  some = λ e. cc;
+  all = refl;
+  accepted = (refl, (refl, (refl, (refl, (refl, (refl, tt))))));
+  room = omega arith;
+}
+
+-- the store after the upgrade is sure, and its journal has the second version
+pub upgraded-new : IsSure byte_upgraded byte_upgraded_records
+upgraded-new = sure byte_upgraded byte_upgraded_records upgraded-fit refl (omega arith)
+
+-- so is the store after the upgrade that was cut off
+pub upgrade_cut-new : IsSure upgrade_cut byte_upgraded_records
+upgrade_cut-new = sure upgrade_cut byte_upgraded_records upgraded-fit refl (omega arith)
+
+-- the upgraded store is sure
+pub upgraded_kept-sure : IsSure upgraded_kept byte_upgraded_records
+upgraded_kept-sure = sure upgraded_kept byte_upgraded_records upgraded-fit refl (omega arith)
+
+-- the upgraded store before the put with a profile of its own is sure
+pub to_put_own-sure : IsSure to_put_own byte_upgraded_records
+to_put_own-sure = sure to_put_own byte_upgraded_records upgraded-fit refl (omega arith)
+
+-- the store after the put with a profile of its own is sure
+pub stored_own-sure : IsSure stored_own byte_own_records
+stored_own-sure = sure stored_own byte_own_records own-fit refl (omega arith)

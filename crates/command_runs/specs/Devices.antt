@@ -7,26 +7,30 @@
 --   four_records, byte_records, dropped_records, byte_audited_records, byte_repaired_records
 --                                     == of a store that was set up, with the file, after its drop, and after
 --                                        an audit that flags provider 2 and its repair
+--   byte_upgraded_records, byte_own_records
+--                                     == of the store with the file after an upgrade, and with another file
+--                                        then put with a profile of its own
 --   holds j                           == a provider that holds its own block of the file, and nothing else
 --   with_source, with_sink            == what is seen, with these bytes in the source or in the sink
 --   done                              == an end of status 0 that heard nothing
 use Rattle.std.specs.Prelude.{ℕ, true, ◌++◌, List, [], ◌∷◌, replicate, Option, Some, None}
 use Rattle.std.specs.Option.{option_map}
 use Rattle.column_defs.specs.Columns.{columns}
+use Rattle.column_defs.specs.Objects.{Object}
 use Rattle.column_defs.specs.Challenges.{challenge_of, right_answer}
 use Rattle.device_defs.specs.Cells.{firm}
 use Rattle.device_defs.specs.Faults.{one_more}
 use Rattle.device_defs.specs.Providers.{Provider, with_block, without_object}
-use Rattle.record_defs.specs.Records.{Record, SetUp, PutStart, PutDone, Drop, AuditStart, AuditDone, RepairDone}
+use Rattle.record_defs.specs.Records.{Record, SetUp, PutStart, PutDone, PutDoneIn, Drop, AuditStart, AuditDone, RepairDone, Version}
 use Rattle.record_defs.specs.Spellings.{spelling}
 use Rattle.record_defs.specs.Journal.{text, before_gate}
-use Rattle.machine_defs.specs.Setups.{object_of}
+use Rattle.machine_defs.specs.Setups.{profiled, object_of}
 use Rattle.machine_defs.specs.Jobs.{Given, Fetched, Answered}
 use Rattle.machine_defs.specs.Heard.{Entry}
 use Rattle.machine_defs.specs.Examples.{empty_provider}
 use Rattle.record_defs.specs.Examples.{four}
 use Rattle.command_defs.specs.Forms.{Numbers}
-use Rattle.command_defs.specs.Lines.{stored_line, dropped_line, audit_lines, repaired_line}
+use Rattle.command_defs.specs.Lines.{stored_line, dropped_line, audit_lines, repaired_line, upgraded_line}
 use Rattle.command_defs.specs.Seen.{Seen, Ending}
 use Rattle.command_laws.specs.Instances.{with_sink, other_name}
 use Rattle.damage_run.specs.Schedule.{byte}
@@ -348,3 +352,46 @@ to_put_other = with_source byte_kept byte
 -- the other put is done
 abbrev pub stored_other : Seen
 stored_other = with_sink (reading_devices both_records both_hold) (stored_line other_name 1)
+
+-- ---- an upgrade of the store with the file, and then a put of another file with a profile of its own
+
+-- after the upgrade
+abbrev pub byte_upgraded_records : List Record
+byte_upgraded_records = Version ∷ byte_records
+
+-- and after the put, at profile 1; the setup's profile is 0
+abbrev pub byte_own_records : List Record
+byte_own_records = PutDoneIn 2 1 1 ∷ PutStart 2 other_name ∷ byte_upgraded_records
+
+-- the upgrade is done
+abbrev pub byte_upgraded : Seen
+byte_upgraded = with_sink (reading_devices byte_upgraded_records all_hold) upgraded_line
+
+-- the disk wrote the upgrade's record, and told that it failed
+abbrev pub upgrade_cut : Seen
+upgrade_cut = record (reading_devices byte_upgraded_records all_hold) { disk_faults = 1 }
+
+-- before a second upgrade
+abbrev pub upgraded_kept : Seen
+upgraded_kept = reading_devices byte_upgraded_records all_hold
+
+-- the object of the other file
+abbrev pub own_object : Object
+own_object = object_of (profiled four 1) 2
+
+-- a provider with its block of the other file too
+abbrev pub given_own : ℕ → Provider → Provider
+given_own j p = record p { held = option_map (with_block 2 0 (columns own_object byte j 0)) p.held }
+
+-- each provider holds its blocks of both files
+abbrev pub own_hold : List Provider
+own_hold =
+    given_own 0 (holds 0) ∷ given_own 1 (holds 1) ∷ given_own 2 (holds 2) ∷ given_own 3 (holds 3) ∷ []
+
+-- before the put
+abbrev pub to_put_own : Seen
+to_put_own = with_source upgraded_kept byte
+
+-- the put is done
+abbrev pub stored_own : Seen
+stored_own = with_sink (reading_devices byte_own_records own_hold) (stored_line other_name 1)

@@ -1,8 +1,9 @@
 -- A job that runs alone from some state.
 --
---   RunsSomewhere kind answer heard == from some state whose vault was just opened a job of this kind runs
---                                      to this answer and hears this
-use Rattle.std.specs.Prelude.{List}
+--   RunsSomewhere kind own answer heard == from some state whose vault was just opened a job of this kind,
+--                                          of a put also with a profile of its own, runs to this answer and
+--                                          hears this
+use Rattle.std.specs.Prelude.{ℕ, List, Option}
 use Rattle.machine_defs.specs.Jobs.{Kind}
 use Rattle.machine_defs.specs.Answers.{Answer}
 use Rattle.machine_defs.specs.Heard.{Entry}
@@ -11,8 +12,8 @@ use Rattle.command_defs.specs.JobRuns.{RunsJob}
 use Rattle.opening_defs.specs.Opened.{IsOpenAtRest}
 
 -- from some state just opened a job runs to its end
-pub record RunsSomewhere (kind : Kind) (answer : Answer) (heard : List Entry) : Type 0 where
+pub record RunsSomewhere (kind : Kind) (own : Option ℕ) (answer : Answer) (heard : List Entry) : Type 0 where
   pub start : State
   pub last : State
   pub opened : IsOpenAtRest start 1
-  pub runs : RunsJob start 0 kind answer heard last
+  pub runs : RunsJob start 0 kind own answer heard last

@@ -8,18 +8,19 @@ ghost use Rattle.device_defs.specs.Cells.{firm};
 ghost use Rattle.record_defs.specs.Records.{Record, is_setup};
 ghost use Rattle.machine_defs.specs.Jobs.{PutJob, GetJob, DropJob, AuditJob, RepairJob, UpgradeJob};
 ghost use Rattle.machine_defs.specs.Answers.{Put, Got, Dropped, Audited, Repaired, Upgraded, Lost, ProviderFault, DiskFault, Memory};
-ghost use Rattle.machine_defs.specs.Refusals.{RepairDue as DueRefusal, NothingDue};
-ghost use Rattle.command_defs.specs.Forms.{PutUnder, GetOf, DropOf, ListAll, RepairDue as RepairCommand};
+ghost use Rattle.machine_defs.specs.Refusals.{RepairDue as DueRefusal, NothingDue, BadProfile, OldVersion, NewVersion};
+ghost use Rattle.command_defs.specs.Forms.{PutUnder, GetOf, DropOf, ListAll, RepairDue as RepairCommand, UpgradeJournal};
 ghost use Rattle.command_defs.specs.Keys.{IsKeyForm};
 ghost use Rattle.opening_defs.specs.Journals.{journal_read, IsBadStart, IsBadInit, IsSetUpAlready};
 ghost use Rattle.command_defs.specs.Inits.{setup_with};
+ghost use Rattle.command_defs.specs.Lines.{stored_line, upgraded_line};
 ghost use Rattle.command_defs.specs.Refusals.{refusal_over};
 ghost use Rattle.command_defs.specs.Audits.{HearsRounds, CountsHeard};
-ghost use Rattle.command_laws.specs.Ends.{IsKnown, IsWholePut, IsDropped, IsAudited, IsRepaired, FaultsHaveCauses, EndsInOrder, GivesUnlessMemory, HoldsFile, ran_to, after_put, after_audit, after_repair};
+ghost use Rattle.command_laws.specs.Ends.{IsKnown, IsWholePut, IsDropped, IsAudited, IsRepaired, IsUpgraded, FaultsHaveCauses, EndsInOrder, GivesUnlessMemory, HoldsFile, put_refusal, ran_to, after_put, after_audit, after_repair, after_upgrade};
 ghost use Rattle.command_laws.specs.Kept.{FailsToPut, FailsToRepair, LosesFile, LosesRepair, LeavesImages, after_start};
 ghost use Rattle.command_laws.specs.After.{IsSure, IsThen, HasRightFile};
 ghost use Rattle.command_runs.specs.Lone.{RunsSomewhere};
-ghost use Rattle.command_runs.specs.Devices.{with_source, named, four_records, byte_records, byte_audited_records, good_numbers, bad_numbers, to_put, byte_stored, put_failed, put_cut, put_torn, put_gone, drop_cut, audit_cut, repair_cut, byte_kept, dropped, all_lost, found_lost, due_lost, repair_lost, no_blocks, damaged, byte_audited, answers_heard, due, repaired, repair_failed, mended, got, own_blocks_heard, seen_after_drop, disk_failed, scrambled, all_hidden, hidden_fetched, both_records, stored_other, ends_at, ends_hearing};
+ghost use Rattle.command_runs.specs.Devices.{with_source, named, four_records, byte_records, byte_audited_records, good_numbers, bad_numbers, to_put, byte_stored, put_failed, put_cut, put_torn, put_gone, drop_cut, audit_cut, repair_cut, byte_kept, dropped, all_lost, found_lost, due_lost, repair_lost, no_blocks, damaged, byte_audited, answers_heard, due, repaired, repair_failed, mended, got, own_blocks_heard, seen_after_drop, disk_failed, scrambled, all_hidden, hidden_fetched, both_records, stored_other, byte_upgraded_records, byte_own_records, byte_upgraded, upgrade_cut, to_put_own, stored_own, ends_at, ends_hearing};
 ghost use Rattle.damage_run.specs.Points.{counts};
 ghost use Rattle.damage_run.specs.Schedule.{byte};
 ghost use Rattle.command_laws.specs.Instances.{key_text, other_name, ends};
@@ -30,7 +31,8 @@ use command_laws::after::{
 };
 use command_laws::ends::{
     audits_count_what_they_hear, drops_take_the_file_away, faults_have_causes, gets_give_the_file,
-    puts_store_the_source, refusals_are_exact, repairs_write_anew, unopened_stores_are_told,
+    own_profiles_are_taken, puts_store_the_source, refusals_are_exact, repairs_write_anew,
+    unopened_stores_are_told, upgrades_end_well,
 };
 use command_laws::inits::{init_refusals_are_exact, lists_give_the_files};
 use command_laws::kept::{failed_stores_leave, images_stand, lost_rows_are_told};
@@ -39,14 +41,16 @@ use job_laws::alone::opened_states;
 
 /// What commands have done that are done, and what such leave whose store failed or that found a row lost.
 pub fn jobs_leave_what_is_said()
-    ensures put { IsWholePut named to_put byte_stored (ends 0) }
+    ensures put { IsWholePut named None to_put byte_stored (ends 0) }
     ensures drop { IsDropped named byte_kept dropped (ends 0) }
     ensures audit { IsAudited damaged byte_audited (ends_hearing 0 answers_heard) }
     ensures repair { IsRepaired due repaired (ends 0) }
-    ensures failed_put { FailsToPut named to_put put_failed (ends 13) }
+    ensures failed_put { FailsToPut named None to_put put_failed (ends 13) }
     ensures failed_repair { FailsToRepair due repair_failed (ends_at 13 2) }
     ensures lost_file { LosesFile named all_lost found_lost (ends_hearing 4 no_blocks) }
     ensures lost_repair { LosesRepair due_lost repair_lost (ends 4) }
+    ensures upgrade { IsUpgraded byte_kept byte_upgraded (ends 0) }
+    ensures own_put { IsWholePut other_name (Some 1) to_put_own stored_own (ends 0) }
 {
     puts_store_the_source();
     drops_take_the_file_away();
@@ -54,6 +58,30 @@ pub fn jobs_leave_what_is_said()
     repairs_write_anew();
     failed_stores_leave();
     lost_rows_are_told();
+    upgrades_end_well();
+}
+
+/// The upgrade of the store with the file is not refused, tells its text, and ends in order; the store stays
+/// known, with the same file, right on all providers. Then a put of another file with a profile of its own is
+/// not refused, and tells its text; both files are right.
+pub fn upgrades_bring_profiles()
+    ensures begins { refusal_over byte_records UpgradeJob None ≡ None }
+    ensures upgraded { GivesUnlessMemory upgraded_line byte_kept byte_upgraded (ends 0) }
+    ensures in_order { EndsInOrder UpgradeJournal byte_kept byte_upgraded (ends 0) }
+    ensures known { IsSure byte_upgraded (after_upgrade byte_records) }
+    ensures kept { HasRightFile byte_upgraded byte_upgraded_records named byte (λ j. false) }
+    ensures own_begins { refusal_over byte_upgraded_records (PutJob other_name byte) (Some 1) ≡ None }
+    ensures own_put { GivesUnlessMemory (stored_line other_name 1) to_put_own stored_own (ends 0) }
+    ensures own_known { IsSure stored_own (after_put byte_upgraded_records other_name 1 (Some 1)) }
+    ensures first { HasRightFile stored_own byte_own_records named byte (λ j. false) }
+    ensures second { HasRightFile stored_own (after_put byte_upgraded_records other_name 1 (Some 1))
+        other_name byte (λ j. false) }
+{
+    upgrades_end_well();
+    own_profiles_are_taken();
+    puts_store_the_source();
+    done_commands_leave_known_stores();
+    files_stay();
 }
 
 /// The causes of the statuses of faults, of stores that are not opened, of refusals and of a lost row; and of
@@ -65,8 +93,11 @@ pub fn statuses_have_their_causes()
     ensures sink { FaultsHaveCauses byte_kept (record byte_kept { sink_faults = 1 }) (ends 15) }
     ensures bad_journal { (9 < length (journal_read (firm (replicate 12 0))))
         × IsBadStart (journal_read (firm (replicate 12 0))) 0 }
-    ensures repair_due { refusal_over byte_audited_records AuditJob ≡ Some DueRefusal }
-    ensures nothing_due { refusal_over byte_records RepairJob ≡ Some NothingDue }
+    ensures repair_due { refusal_over byte_audited_records AuditJob None ≡ Some DueRefusal }
+    ensures nothing_due { refusal_over byte_records RepairJob None ≡ Some NothingDue }
+    ensures bad_profile { put_refusal four_records named byte (Some 5) ≡ Some BadProfile }
+    ensures old_version { put_refusal four_records named byte (Some 1) ≡ Some OldVersion }
+    ensures new_version { refusal_over byte_upgraded_records UpgradeJob None ≡ Some NewVersion }
     ensures row { IsShape 4 1 1 × AcceptsNone (upto 4) (None ∷ None ∷ Some 7 ∷ Some 9 ∷ []) 1 1 }
     ensures hidden_get { EndsInOrder (GetOf other_name) all_hidden all_hidden (ends 3)
         ⊎ LosesFile other_name all_hidden all_hidden (ends 3) }
@@ -108,7 +139,9 @@ pub fn cut_commands_leave_known_stores()
         × IsThen (PutUnder named) four_records to_put put_torn after }
     ensures dropped { (after : List Record) × IsKnown drop_cut after
         × IsThen (DropOf named) byte_records byte_kept drop_cut after }
-    ensures put { HasRightFile put_torn (after_put four_records named 1) named byte (λ j. false) }
+    ensures upgraded { (after : List Record) × IsKnown upgrade_cut after
+        × IsThen UpgradeJournal byte_records byte_kept upgrade_cut after }
+    ensures put { HasRightFile put_torn (after_put four_records named 1 None) named byte (λ j. false) }
     ensures repair { HasRightFile repair_cut
         (after_repair byte_audited_records (record { number = 1; counts = counts })) named byte
         (λ j. (j == 2) && not (is_flagged 0 counts j)) }
@@ -139,7 +172,7 @@ pub fn damage_is_mended()
 /// Files stay right: after the put, an audit, a put of another file and the repair; and what the audit counts
 /// it has heard.
 pub fn files_stay_right()
-    ensures put { HasRightFile byte_stored (after_put four_records named 1) named byte (λ j. false) }
+    ensures put { HasRightFile byte_stored (after_put four_records named 1 None) named byte (λ j. false) }
     ensures audit { HasRightFile byte_audited byte_audited_records named byte (λ j. j == 2) }
     ensures other { HasRightFile stored_other both_records named byte (λ j. false) }
     ensures repair { HasRightFile repaired
@@ -166,20 +199,21 @@ pub fn few_bad_providers_do_no_harm()
 }
 
 /// There is a state just opened from which a job of each kind runs to its end: done, lost, cut off by a
-/// fault, or for want of memory.
+/// fault, or for want of memory; so does a put with a profile of its own.
 pub fn jobs_run_alone()
-    ensures put { RunsSomewhere (PutJob named byte) Put [] }
-    ensures failed_put { RunsSomewhere (PutJob named byte) (ProviderFault 0) [] }
-    ensures cut_put { RunsSomewhere (PutJob named byte) DiskFault [] }
-    ensures unmade_put { RunsSomewhere (PutJob named byte) Memory [] }
-    ensures drop { RunsSomewhere (DropJob named) Dropped [] }
-    ensures get { RunsSomewhere (GetJob named) (Got byte) own_blocks_heard }
-    ensures lost_get { RunsSomewhere (GetJob named) (Lost 0 0) no_blocks }
-    ensures audit { RunsSomewhere AuditJob (Audited 1 0 counts) answers_heard }
-    ensures repair { RunsSomewhere RepairJob (Repaired 1) [] }
-    ensures lost_repair { RunsSomewhere RepairJob (Lost 0 0) [] }
-    ensures failed_repair { RunsSomewhere RepairJob (ProviderFault 2) [] }
-    ensures upgrade { RunsSomewhere UpgradeJob Upgraded [] }
+    ensures put { RunsSomewhere (PutJob named byte) None Put [] }
+    ensures failed_put { RunsSomewhere (PutJob named byte) None (ProviderFault 0) [] }
+    ensures cut_put { RunsSomewhere (PutJob named byte) None DiskFault [] }
+    ensures unmade_put { RunsSomewhere (PutJob named byte) None Memory [] }
+    ensures drop { RunsSomewhere (DropJob named) None Dropped [] }
+    ensures get { RunsSomewhere (GetJob named) None (Got byte) own_blocks_heard }
+    ensures lost_get { RunsSomewhere (GetJob named) None (Lost 0 0) no_blocks }
+    ensures audit { RunsSomewhere AuditJob None (Audited 1 0 counts) answers_heard }
+    ensures repair { RunsSomewhere RepairJob None (Repaired 1) [] }
+    ensures lost_repair { RunsSomewhere RepairJob None (Lost 0 0) [] }
+    ensures failed_repair { RunsSomewhere RepairJob None (ProviderFault 2) [] }
+    ensures upgrade { RunsSomewhere UpgradeJob None Upgraded [] }
+    ensures own_put { RunsSomewhere (PutJob other_name byte) (Some 1) Put [] }
 {
     opened_states();
 }

@@ -1,14 +1,14 @@
 //! Commands over devices that end before a job of theirs begins, given outright.
 ghost use Rattle.std.specs.Prelude.{[], ◌∷◌, Some, None};
-ghost use Rattle.command_defs.specs.Forms.{RowOf, InitWith, PutUnder, GetOf, ListAll, AuditAll, RepairDue};
+ghost use Rattle.command_defs.specs.Forms.{RowOf, InitWith, PutUnder, PutAt, GetOf, ListAll, AuditAll, RepairDue, UpgradeJournal};
 ghost use Rattle.command_defs.specs.Line.{values_line, no_row_line};
 ghost use Rattle.command_defs.specs.Commands.{Answers};
-ghost use Rattle.command_runs.specs.Devices.{with_source, named, good_numbers, bad_numbers, to_put, put_unmade, byte_kept, due, seen_after_drop, disk_failed, deserted, scrambled, all_hidden};
+ghost use Rattle.command_runs.specs.Devices.{with_source, named, good_numbers, bad_numbers, to_put, put_unmade, byte_kept, upgraded_kept, due, seen_after_drop, disk_failed, deserted, scrambled, all_hidden};
 ghost use Rattle.command_laws.specs.Instances.{with_sink, key_text, other_name, ends};
 
 /// Faults of the disk, the sink and the source, and want of memory; a disk that reads no journal, and too few
-/// providers; begins that are refused; a row that is accepted and one that is lost; and a list, a get and a
-/// repair over devices that tell nothing.
+/// providers; begins that are refused, also of puts that name a profile and of a second upgrade; a row that
+/// is accepted and one that is lost; and a list, a get and a repair over devices that tell nothing.
 pub fn commands_end_early()
     ensures disk_fault { Answers ListAll byte_kept (disk_failed byte_kept) (ends 12) }
     ensures sink_fault { Answers ListAll byte_kept (record byte_kept { sink_faults = 1 }) (ends 15) }
@@ -19,6 +19,9 @@ pub fn commands_end_early()
     ensures repair_due { Answers AuditAll due due (ends 6) }
     ensures nothing_due { Answers RepairDue byte_kept byte_kept (ends 7) }
     ensures bad_name { Answers (PutUnder []) to_put put_unmade (ends 17) }
+    ensures bad_profile { Answers (PutAt named 5) to_put to_put (ends 20) }
+    ensures old_version { Answers (PutAt named 1) to_put put_unmade (ends 23) }
+    ensures new_version { Answers UpgradeJournal upgraded_kept upgraded_kept (ends 24) }
     ensures gone { Answers (GetOf named) seen_after_drop seen_after_drop (ends 3) }
     ensures done_row { Answers (RowOf 4 1 1 (Some 7 ∷ Some 7 ∷ Some 7 ∷ Some 9 ∷ [])) byte_kept
         (with_sink byte_kept (values_line (7 ∷ []))) (ends 0) }

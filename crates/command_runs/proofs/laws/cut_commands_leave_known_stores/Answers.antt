@@ -1,6 +1,6 @@
-use Rattle.std.proofs.Common.{refl, inl, inr, false, arith}
-use Rattle.command_defs.specs.Forms.{PutUnder, DropOf}
-use Rattle.command_runs.specs.Devices.{named, four_records, byte_records, byte_audited_records, to_put, put_failed, put_cut, put_torn, put_gone, byte_kept, drop_cut, damaged, audit_cut, answers_heard, due, repair_cut, ends_hearing}
+use Rattle.std.proofs.Common.{None, refl, inl, inr, false, arith}
+use Rattle.command_defs.specs.Forms.{PutUnder, DropOf, UpgradeJournal}
+use Rattle.command_runs.specs.Devices.{named, four_records, byte_records, byte_audited_records, to_put, put_failed, put_cut, put_torn, put_gone, byte_kept, drop_cut, damaged, audit_cut, answers_heard, due, repair_cut, upgrade_cut, ends_hearing}
 use Rattle.damage_run.specs.Points.{counts}
 use Rattle.damage_run.specs.Schedule.{byte}
 use Rattle.command_laws.specs.Instances.{ends}
@@ -8,6 +8,7 @@ use Rattle.command_runs.proofs.TornPut.{answers as torn}
 use Rattle.command_runs.proofs.CutDrop.{answers as cut_drop}
 use Rattle.command_runs.proofs.CutAudit.{answers as cut_audit}
 use Rattle.command_runs.proofs.CutRepair.{answers as cut_repair}
+use Rattle.command_runs.proofs.CutUpgrade.{answers as cut_upgrade}
 use Rattle.command_runs.proofs.FailedPut.{answers as failed_put}
 use Rattle.command_runs.proofs.Torn.{stopped-closed, stopped-open}
 use Rattle.command_runs.proofs.Stores.{put-old, cut-new, stored-sure, damaged-sure, due-sure, audit_cut-new, repair_cut-new}
@@ -29,8 +30,13 @@ returns-clause-dropped c = c.stores_stay_known.ensures.always
     (DropOf named) byte_records byte_kept drop_cut drop_cut (ends 12) cut_drop refl stored-sure
     (record { disk = inl refl; handed = refl })
 
+pub returns-clause-upgraded : goal.returns-clause-upgraded
+returns-clause-upgraded c = c.stores_stay_known.ensures.always
+    UpgradeJournal byte_records byte_kept upgrade_cut upgrade_cut (ends 12) cut_upgrade refl stored-sure
+    (record { disk = inl refl; handed = refl })
+
 pub returns-clause-put : goal.returns-clause-put
-returns-clause-put c = c.files_stay.ensures.put_in_effect named byte four_records
+returns-clause-put c = c.files_stay.ensures.put_in_effect named byte None four_records
     (λ j. false) to_put put_torn put_cut (ends 12) torn put-old refl
     (record { disk = inr stopped-open; handed = refl }) cut-new.known (λ j l s. none-tell j l)
 
@@ -52,5 +58,5 @@ returns-clause-images c = c.images_stand.ensures.store (PutUnder named) to_put p
 
 pub returns-clause-failed : goal.returns-clause-failed
 returns-clause-failed c =
-    c.done_commands_leave_known_stores.ensures.failed_put named four_records to_put put_failed
+    c.done_commands_leave_known_stores.ensures.failed_put named None four_records to_put put_failed
     (ends 13) failed_put refl put-old.known

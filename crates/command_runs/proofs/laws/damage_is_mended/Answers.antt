@@ -1,4 +1,4 @@
-use Rattle.std.proofs.Common.{refl, inl, arith}
+use Rattle.std.proofs.Common.{None, refl, inl, arith}
 use Rattle.column_defs.specs.Verdicts.{is_flagged}
 use Rattle.std.specs.Prelude.{not}
 use Rattle.command_runs.specs.Devices.{named, four_records, byte_records, byte_audited_records, to_put, byte_stored, damaged, byte_audited, due, repaired, mended, got, byte_kept, dropped, seen_after_drop, answers_heard, own_blocks_heard, ends_hearing}
@@ -27,8 +27,8 @@ returns-clause-repaired c = c.put_files_are_got.ensures.repaired named byte byte
 
 pub returns-clause-mended : goal.returns-clause-mended
 returns-clause-mended c =
-    (let law = c.put_files_are_got.ensures.mended named byte four_records second to_put byte_stored damaged
-    byte_audited due repaired mended got (ends 0) (ends_hearing 0 answers_heard) (ends 0)
+    (let law = c.put_files_are_got.ensures.mended named byte None four_records second to_put byte_stored
+    damaged byte_audited due repaired mended got (ends 0) (ends_hearing 0 answers_heard) (ends 0)
     (ends_hearing 0 own_blocks_heard)
     put audit repair get (record { disk = inl refl; handed = refl })
     (record { disk = inl refl; handed = refl }) (record { disk = inl refl; handed = refl }) put-old.known

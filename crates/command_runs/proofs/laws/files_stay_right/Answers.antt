@@ -1,4 +1,4 @@
-use Rattle.std.proofs.Common.{refl, inl, inr, false, arith}
+use Rattle.std.proofs.Common.{None, refl, inl, inr, false, arith}
 use Rattle.machine_defs.specs.Jobs.{PutJob, AuditJob}
 use Rattle.command_defs.specs.Forms.{PutUnder, AuditAll}
 use Rattle.command_defs.specs.Puts.{put_records}
@@ -16,7 +16,7 @@ use Rattle.command_runs.proofs.Meets.{second, none-tell, three-tell, due-file, d
 use Rattle.command_runs.proofs.laws.files_stay_right.Goals as goal
 
 pub returns-clause-put : goal.returns-clause-put
-returns-clause-put c = c.files_stay.ensures.put named byte four_records (λ j. false) to_put byte_stored
+returns-clause-put c = c.files_stay.ensures.put named byte None four_records (λ j. false) to_put byte_stored
     (ends 0) put (inl refl) put-old.known refl (λ j l s. none-tell j l)
 
 pub returns-clause-audit : goal.returns-clause-audit
@@ -44,7 +44,7 @@ returns-clause-other c = c.files_stay.ensures.others
         record { are_bytes = refl; front = refl; few = omega arith; end = λ l. refl },
         refl,
       );
-      own = put_records byte_records other_name 1;
+      own = put_records byte_records other_name 1 None;
       are_own = refl;
       count = 2;
       after_is = refl;

@@ -1,6 +1,6 @@
-use Rattle.std.proofs.Common.{refl, inl}
-use Rattle.command_runs.specs.Devices.{named, to_put, byte_stored, put_failed, byte_kept, dropped, all_lost, found_lost, due_lost, repair_lost, no_blocks, damaged, byte_audited, answers_heard, due, repaired, repair_failed, ends_at, ends_hearing}
-use Rattle.command_laws.specs.Instances.{ends}
+use Rattle.std.proofs.Common.{Some, None, refl, inl}
+use Rattle.command_runs.specs.Devices.{named, to_put, byte_stored, put_failed, byte_kept, dropped, all_lost, found_lost, due_lost, repair_lost, no_blocks, damaged, byte_audited, answers_heard, due, repaired, repair_failed, byte_upgraded, to_put_own, stored_own, ends_at, ends_hearing}
+use Rattle.command_laws.specs.Instances.{other_name, ends}
 use Rattle.command_runs.proofs.StoredPut.{answers as put}
 use Rattle.command_runs.proofs.DoneDrop.{answers as drop}
 use Rattle.command_runs.proofs.DoneAudit.{answers as audit}
@@ -9,10 +9,13 @@ use Rattle.command_runs.proofs.FailedPut.{answers as failed_put}
 use Rattle.command_runs.proofs.FailedRepair.{answers as failed_repair}
 use Rattle.command_runs.proofs.LostGet.{answers as lost_get}
 use Rattle.command_runs.proofs.LostRepair.{answers as lost_repair}
+use Rattle.command_runs.proofs.DoneUpgrade.{answers as upgrade}
+use Rattle.command_runs.proofs.OwnPut.{answers as own_put}
 use Rattle.command_runs.proofs.laws.jobs_leave_what_is_said.Goals as goal
 
 pub returns-clause-put : goal.returns-clause-put
-returns-clause-put c = c.puts_store_the_source.ensures.done named to_put byte_stored (ends 0) put (inl refl)
+returns-clause-put c = c.puts_store_the_source.ensures.done named None to_put byte_stored (ends 0) put
+    (inl refl)
 
 pub returns-clause-drop : goal.returns-clause-drop
 returns-clause-drop c =
@@ -27,7 +30,7 @@ returns-clause-repair c = c.repairs_write_anew.ensures.done due repaired (ends 0
 
 pub returns-clause-failed_put : goal.returns-clause-failed_put
 returns-clause-failed_put c =
-    c.failed_stores_leave.ensures.put named to_put put_failed (ends 13) failed_put refl
+    c.failed_stores_leave.ensures.put named None to_put put_failed (ends 13) failed_put refl
 
 pub returns-clause-failed_repair : goal.returns-clause-failed_repair
 returns-clause-failed_repair c =
@@ -40,3 +43,11 @@ returns-clause-lost_file c =
 pub returns-clause-lost_repair : goal.returns-clause-lost_repair
 returns-clause-lost_repair c =
     c.lost_rows_are_told.ensures.repair due_lost repair_lost (ends 4) lost_repair refl
+
+pub returns-clause-upgrade : goal.returns-clause-upgrade
+returns-clause-upgrade c = c.upgrades_end_well.ensures.done byte_kept byte_upgraded (ends 0) upgrade
+    (inl refl)
+
+pub returns-clause-own_put : goal.returns-clause-own_put
+returns-clause-own_put c =
+    c.puts_store_the_source.ensures.done other_name (Some 1) to_put_own stored_own (ends 0) own_put (inl refl)

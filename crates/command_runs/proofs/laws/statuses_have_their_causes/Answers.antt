@@ -2,15 +2,16 @@ use Rattle.std.proofs.Common.{[], ◌∷◌, Some, None, refl, arith}
 use Rattle.std.specs.Prelude.{replicate}
 use Rattle.device_defs.specs.Cells.{firm}
 use Rattle.command_defs.specs.Line.{no_row_line}
-use Rattle.machine_defs.specs.Jobs.{AuditJob, RepairJob}
+use Rattle.machine_defs.specs.Jobs.{AuditJob, RepairJob, UpgradeJob}
 use Rattle.machine_defs.specs.Refusals as refusal
 use Rattle.command_defs.specs.Forms.{PutUnder, ListAll}
 use Rattle.command_laws.proofs.Samples.{never-rises}
-use Rattle.command_runs.specs.Devices.{named, byte_records, byte_audited_records, to_put, put_failed, byte_kept, due, disk_failed, scrambled, all_hidden, hidden_fetched, no_blocks, ends_hearing}
+use Rattle.command_runs.specs.Devices.{named, four_records, byte_records, byte_audited_records, byte_upgraded_records, to_put, put_failed, put_unmade, byte_kept, upgraded_kept, due, disk_failed, scrambled, all_hidden, hidden_fetched, no_blocks, ends_hearing}
+use Rattle.damage_run.specs.Schedule.{byte}
 use Rattle.command_laws.specs.Instances.{with_sink, other_name, ends}
 use Rattle.command_runs.proofs.FailedPut.{answers as failed_put}
-use Rattle.command_runs.proofs.Stores.{stored-sure, due-sure}
-use Rattle.command_runs.proofs.Refusals.{disk-fault, source-fault, sink-fault, bad-journal, repair-due, nothing-due, lost-row, hidden-get, hidden-list, hidden-repair}
+use Rattle.command_runs.proofs.Stores.{put-old, stored-sure, due-sure, upgraded_kept-sure}
+use Rattle.command_runs.proofs.Refusals.{disk-fault, source-fault, sink-fault, bad-journal, repair-due, nothing-due, bad-profile, old-version, new-version, lost-row, hidden-get, hidden-list, hidden-repair}
 use Rattle.command_runs.proofs.HiddenPut.{answers as hidden_put}
 use Rattle.command_runs.proofs.HiddenGet.{answers as hidden_get}
 use Rattle.command_runs.proofs.Meets.{none-rises}
@@ -45,6 +46,19 @@ returns-clause-nothing_due c =
     c.refusals_are_exact.ensures.known_only RepairJob byte_records byte_kept byte_kept
     (ends 7) refusal.NothingDue nothing-due.0 stored-sure.known (λ e. omega (arith, e)) refl
 
+pub returns-clause-bad_profile : goal.returns-clause-bad_profile
+returns-clause-bad_profile c = c.refusals_are_exact.ensures.put_only named byte (Some 5) four_records to_put
+    to_put (ends 20) refusal.BadProfile bad-profile put-old.known refl (λ e. omega (arith, e)) refl
+
+pub returns-clause-old_version : goal.returns-clause-old_version
+returns-clause-old_version c = c.refusals_are_exact.ensures.put_only named byte (Some 1) four_records to_put
+    put_unmade (ends 23) refusal.OldVersion old-version put-old.known refl (λ e. omega (arith, e)) refl
+
+pub returns-clause-new_version : goal.returns-clause-new_version
+returns-clause-new_version c =
+    c.refusals_are_exact.ensures.known_only UpgradeJob byte_upgraded_records upgraded_kept upgraded_kept
+    (ends 24) refusal.NewVersion new-version.0 upgraded_kept-sure.known (λ e. omega (arith, e)) refl
+
 pub returns-clause-row : goal.returns-clause-row
 returns-clause-row c = c.rows_have_causes.ensures.lost_only 4 1 1
     (None ∷ None ∷ Some 7 ∷ Some 9 ∷ []) byte_kept (with_sink byte_kept no_row_line) (ends 4) lost-row refl
@@ -58,7 +72,7 @@ returns-clause-hidden_list c = c.lists_give_the_files.ensures.ends all_hidden al
     (never-rises 0 (omega arith))
 
 pub returns-clause-hidden_put : goal.returns-clause-hidden_put
-returns-clause-hidden_put c = c.puts_store_the_source.ensures.ends named all_hidden all_hidden
+returns-clause-hidden_put c = c.puts_store_the_source.ensures.ends named None all_hidden all_hidden
     (ends 0) hidden_put (never-rises 0 (omega arith)) none-rises (never-rises 0 (omega arith))
     (never-rises 0 (omega arith))
 

@@ -1,4 +1,4 @@
-use Rattle.command_runs.proofs.Refusals.{disk-fault, sink-fault, source-fault, no-memory, bad-journal, too-few, repair-due, nothing-due, bad-name, gone, lost-row, hidden-list, hidden-repair, hidden-get}
+use Rattle.command_runs.proofs.Refusals.{disk-fault, sink-fault, source-fault, no-memory, bad-journal, too-few, repair-due, nothing-due, bad-name, bad-profile, old-version, new-version, gone, lost-row, hidden-list, hidden-repair, hidden-get}
 use Rattle.command_runs.proofs.DoneRow.{done-row}
 use Rattle.command_runs.proofs.refused.commands_end_early.Goals as goal
 
@@ -28,6 +28,15 @@ returns-clause-nothing_due c = nothing-due
 
 pub returns-clause-bad_name : goal.returns-clause-bad_name
 returns-clause-bad_name c = bad-name
+
+pub returns-clause-bad_profile : goal.returns-clause-bad_profile
+returns-clause-bad_profile c = bad-profile
+
+pub returns-clause-old_version : goal.returns-clause-old_version
+returns-clause-old_version c = old-version
+
+pub returns-clause-new_version : goal.returns-clause-new_version
+returns-clause-new_version c = new-version
 
 pub returns-clause-gone : goal.returns-clause-gone
 returns-clause-gone c = gone

@@ -16,6 +16,9 @@ use Rattle.command_runs.proofs.TornPut.{answers as torn_put}
 use Rattle.command_runs.proofs.CutDrop.{answers as cut_drop}
 use Rattle.command_runs.proofs.CutAudit.{answers as cut_audit}
 use Rattle.command_runs.proofs.CutRepair.{answers as cut_repair}
+use Rattle.command_runs.proofs.DoneUpgrade.{answers as upgraded}
+use Rattle.command_runs.proofs.CutUpgrade.{answers as cut_upgrade}
+use Rattle.command_runs.proofs.OwnPut.{answers as own_put}
 use Rattle.command_runs.proofs.runs.commands_end.Goals as goal
 
 pub returns-clause-put : goal.returns-clause-put
@@ -71,3 +74,12 @@ returns-clause-cut_audit c = cut_audit
 
 pub returns-clause-cut_repair : goal.returns-clause-cut_repair
 returns-clause-cut_repair c = cut_repair
+
+pub returns-clause-upgrade : goal.returns-clause-upgrade
+returns-clause-upgrade c = upgraded
+
+pub returns-clause-cut_upgrade : goal.returns-clause-cut_upgrade
+returns-clause-cut_upgrade c = cut_upgrade
+
+pub returns-clause-own_put : goal.returns-clause-own_put
+returns-clause-own_put c = own_put
