@@ -3,7 +3,7 @@ use Rattle.std.proofs.Common.{◌≡◌, ℕ, zero, suc, ◌+◌, ◌-◌, ◌*�
 use Rattle.std.specs.Prelude.{slice_get, slice_set, nat_lt}
 use Rattle.std.specs.List.{list_all, Contains}
 use Rattle.std.proofs.Math.Nat.{mul-le-mul_right}
-use Rattle.std.proofs.lemmas.Bool.{cases_Bool, cases_eq, eq-eqb, ne_eqb, eqb-true, and_parts, false≢true, lt-ltb}
+use Rattle.std.proofs.lemmas.Bool.{cases_eq, eq-eqb, ne_eqb, eqb-true, and_parts, false≢true, lt-ltb}
 use Rattle.std.proofs.lemmas.List.{append-nil}
 use Rattle.std.proofs.lemmas.List.Sums.{sum_by-cons}
 use Rattle.algebra_laws.specs.Lists.{Each}
@@ -57,7 +57,7 @@ use Rattle.vault.specs.Desks.{DeskStands, Comes, DeskMakesStep}
 use Rattle.vault.specs.Tasks.{IsTask, IsRunning, AreRunning, IsAudit, empty_sums}
 use Rattle.vault_core.proofs.Onward.{asks_ask}
 use Rattle.vault.proofs.Allowed.{IsAllowed, next_allowed}
-use Rattle.vault.proofs.Asks.{Rising, IsRound, rounds_rise, each_round, each_both, sizes_found, contains_each, few_rounds, enough_answers, sums_within, as_files, behind_last}
+use Rattle.vault.proofs.Asks.{Rising, IsRound, rounds_rise, each_round, sizes_found, contains_each, few_rounds, enough_answers, sums_within, as_files, behind_last}
 use Rattle.vault.proofs.AskStep.{IsNext, IsPut, next_round, audit_kept, audit_judged, zero_all}
 use Rattle.vault.proofs.Fetched.{after}
 use Rattle.vault.proofs.Limits.{setup-picks}

@@ -1,5 +1,5 @@
 -- Benches of a vault are those of the setup in effect.
-use Rattle.std.proofs.Common.{◌≡◌, ℕ, zero, suc, List, [], ◌∷◌, ap, sym, refl, ◌∙◌, arith}
+use Rattle.std.proofs.Common.{◌≡◌, ℕ, List, [], ◌∷◌, ap, sym, ◌∙◌}
 use Rattle.hail_field.specs.declared.shape.Shape.{Shape}
 use Rattle.code_points.specs.declared.profile.Profile.{Profile as ProfileValue}
 use Rattle.code_points.specs.Profile.{plain_profile}

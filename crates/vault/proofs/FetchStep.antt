@@ -1,5 +1,5 @@
 -- A fetch is a step of the machine.
-use Rattle.std.proofs.Common.{◌≡◌, ℕ, ◌+◌, ◌*◌, ◌<◌, ◌≤◌, Bool, List, [], ◌∷◌, length, Option, Some, None, inl, inr, refl, sym, ap, subst, ◌∙◌, arith}
+use Rattle.std.proofs.Common.{◌≡◌, ℕ, ◌+◌, ◌*◌, ◌<◌, ◌≤◌, Bool, List, ◌∷◌, length, Option, Some, None, inl, inr, refl, sym, ap, subst, ◌∙◌, arith}
 use Rattle.std.specs.Prelude.{slice_get, slice_set, vec_capacity}
 use Rattle.std.proofs.lemmas.Bool.{cases_eq}
 use Rattle.column_defs.specs.Objects.{Object}
@@ -31,7 +31,7 @@ use Rattle.vault.specs.Running.{place_in, KeepsAll, IsFed}
 use Rattle.vault.specs.Desks.{DeskStands, Comes, DeskMakesStep}
 use Rattle.vault.specs.Asking.{pin_in, profile_or}
 use Rattle.vault.specs.Benches.{TakesUp, Turns, TurnsTo}
-use Rattle.vault.specs.Orders.{Phase, Between, Fetching, Opened, GoesOn, OpensFrom}
+use Rattle.vault.specs.Orders.{Phase, Between, Fetching, Opened, GoesOn}
 use Rattle.vault.specs.Tasks.{fetched_in, AreOfSetup, Serves, IsAtHand, IsRepair, IsTask, IsRunning}
 use Rattle.vault.proofs.Unpacked.{worked-own}
 use Rattle.vault.proofs.Kits.{turned_is, bench_size, by_size, served, own_swapped, serves_swapped}
@@ -222,24 +222,24 @@ module _ (v : Desk) (w : State) (holds : Option Cells) (faults moment number k o
           IsFed v.core number reply.Done v'.core
           → DeskMakesStep w moment number turn.More v' (devices holds faults ps) (devices holds faults ps')
       fetch_step v' ps' p q r' fetch found block number_is fetch_is takes fetches p_is ps_is jobs keeps flight fed =
-        let job = coming.job in
-        let next_job = advanced_with job (Fetched k o s (given_of found block)) in
-        let new : State = record (going_on w next_job) { providers = with_provider w.providers k q } in
-        let seen : p ≡ w.providers k =
-        (let e : Some p ≡ Some (w.providers k) = sym p_is ∙ stands.devices.providers.each k provider_there in
-        cc) in
-        let call : Fetches (worked_object w job o).profile.size o s (w.providers k) (given_of found block) q =
-        subst (λ (x : Provider). Fetches (worked_object w job o).profile.size o s x (given_of found block) q)
-        seen
-        (subst (λ (m : ℕ). Fetches m o s p (given_of found block) q)
-        turned.size fetches) in
-        goes_on v v' w new holds faults moment number place ps ps' (Fetch k o s) r' next_job stands coming
-        (given_of found block, (q, call, refl))
-        (record { records = refl; journal = refl; doubt = refl; append = refl; faults = refl; barred = refl })
-        refl refl
-        (runs_on w job k o s coming.comes m r' fetch found block runs_turned number_is fetch_is takes
-        turned.bench)
-        at jobs
-        (subst (λ (l : List Provider). Rattle.opening_defs.specs.Opened.AreHanded l new) (sym ps_is)
-        (handed_on ps w new k q stands.devices.providers provider_there refl (λ j. refl)))
-        keeps flight fed
+          let job = coming.job in
+          let next_job = advanced_with job (Fetched k o s (given_of found block)) in
+          let new : State = record (going_on w next_job) { providers = with_provider w.providers k q } in
+          let seen : p ≡ w.providers k =
+          (let e : Some p ≡ Some (w.providers k) = sym p_is ∙ stands.devices.providers.each k provider_there in
+          cc) in
+          let call : Fetches (worked_object w job o).profile.size o s (w.providers k) (given_of found block) q =
+          subst (λ (x : Provider). Fetches (worked_object w job o).profile.size o s x (given_of found block) q)
+          seen
+          (subst (λ (m : ℕ). Fetches m o s p (given_of found block) q)
+          turned.size fetches) in
+          goes_on v v' w new holds faults moment number place ps ps' (Fetch k o s) r' next_job stands coming
+          (given_of found block, (q, call, refl))
+          (record { records = refl; journal = refl; doubt = refl; append = refl; faults = refl; barred = refl })
+          refl refl
+          (runs_on w job k o s coming.comes m r' fetch found block runs_turned number_is fetch_is takes
+          turned.bench)
+          at jobs
+          (subst (λ (l : List Provider). Rattle.opening_defs.specs.Opened.AreHanded l new) (sym ps_is)
+          (handed_on ps w new k q stands.devices.providers provider_there refl (λ j. refl)))
+          keeps flight fed

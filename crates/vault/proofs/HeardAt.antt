@@ -1,7 +1,6 @@
 -- What a job heard, place by place.
-use Rattle.std.proofs.Common.{◌≡◌, ℕ, zero, suc, ◌+◌, ◌*◌, min, Bool, List, [], ◌∷◌, length, take, drop, Option, Some, None, refl, sym, ap, ◌∙◌, arith}
-use Rattle.std.specs.Prelude.{slice_get, if◌then◌else◌}
-use Rattle.std.specs.Option.{option_map}
+use Rattle.std.proofs.Common.{◌≡◌, ℕ, zero, suc, min, List, [], ◌∷◌, length, Option, Some, None, refl, sym, arith}
+use Rattle.std.specs.Prelude.{slice_get}
 use Rattle.machine_defs.specs.Jobs.{Fetched, Answered}
 use Rattle.machine_defs.specs.Heard.{Entry}
 use Rattle.vault.specs.declared.heard.Fetch.{Fetch}

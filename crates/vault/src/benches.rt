@@ -44,17 +44,14 @@ fn has_size(benches: &[Bench], size: u32) -> bool
 pub(crate) fn place_of(benches: &[Bench], size: u32) -> Option<usize>
     ensures { result ≡ position (is_sized size) benches.now }
 {
-    benches.iter().position(|bench| bench.keys.file.profile.size == size)
+    benches
+        .iter()
+        .position(|bench| bench.keys.file.profile.size == size)
 }
 
 impl Desk {
     /// A bench for a file of this number, length and profile.
-    pub(crate) fn bench_for(
-        &self,
-        id: u64,
-        length: u32,
-        profile: u8,
-    ) -> Result<Bench, BeginFault>
+    pub(crate) fn bench_for(&self, id: u64, length: u32, profile: u8) -> Result<Bench, BeginFault>
         requires { length ≤ 2 ^ 22 }
         ensures ok { IfOk result (λ bench. IsBenchFor self.now id length profile bench) }
         ensures err { IsErr result → IsErrOf result fault.Memory }
@@ -73,12 +70,7 @@ impl Desk {
 
     /// Puts a bench for a profile behind others, where neither the own one nor one of them is for it. It is
     /// one for the largest file, since a repair turns to files of any length.
-    fn serve(
-        &self,
-        own: &Bench,
-        others: &mut Vec<Bench>,
-        profile: u8,
-    ) -> Result<(), BeginFault>
+    fn serve(&self, own: &Bench, others: &mut Vec<Bench>, profile: u8) -> Result<(), BeginFault>
         ensures served { OnOk result (is_served profile (own.now ∷ others.new.items) ≡ true) }
         ensures of_desk { AreOfDesk self.now others.old.items
             → OnOk result (AreOfDesk self.now others.new.items) }

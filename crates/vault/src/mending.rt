@@ -32,7 +32,8 @@ impl RepairTask {
         ensures { TakesUp profile self.old self.new }
     {
         self.take(profile_at(profile).size);
-        self.blocks.turn_to(self.bench.keys.file.profile.size as usize);
+        self.blocks
+            .turn_to(self.bench.keys.file.profile.size as usize);
     }
 }
 

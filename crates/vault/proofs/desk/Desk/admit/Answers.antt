@@ -1,4 +1,4 @@
-use Rattle.std.proofs.Common.{Err, ℕ, Option, Some, None, ◌≡◌, ◌≢◌, refl, ◌∙◌, ap, List, ◌++◌, ◌∷◌, [], sym, subst, inl, inr, ◌⊎◌, rules}
+use Rattle.std.proofs.Common.{Err, ℕ, Option, Some, ◌≡◌, ◌≢◌, refl, ◌∙◌, ap, List, ◌++◌, ◌∷◌, [], sym, subst, inl, inr, ◌⊎◌, rules}
 use Rattle.machine_defs.specs.Begins.{refusal_of_begin}
 use Rattle.machine_defs.specs.Jobs.{Kind}
 use Rattle.machine_defs.specs.Refusals as refusal

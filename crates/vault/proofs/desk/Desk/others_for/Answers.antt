@@ -1,6 +1,4 @@
-use Rattle.std.proofs.Common.{◌≡◌, ◌+◌, ◌-◌, suc, ap, sym, subst, ◌∙◌, ◌∷◌, drop, arith}
-use Rattle.algebra_laws.proofs.Lists.{get_within}
-use Rattle.record_defs.specs.Table.{File}
+use Rattle.std.proofs.Common.{◌≡◌, ◌-◌, suc, ap, subst, ◌∙◌, ◌∷◌, drop, arith}
 use Rattle.vault_table.specs.Values.{Kept, file_of_entry}
 use Rattle.vault.specs.Benches.{AreServed}
 use Rattle.vault.proofs.Kits.{all_served_more, one_served_more}

@@ -8,10 +8,13 @@ use Rattle.vault.proofs.tasks.RepairTask.take.Goals as goal
 
 pub index_mut-requires : goal.index_mut-requires
 index_mut-requires c =
-    omega (arith, (one_placed (is_sized c.args.size) c.args.self.now.others.items c.in-Some.place
-    c.args.self.now.bench
-    (sym (c.in-Some.ensures
-    ∙ ap (λ (l : List Bench). position (is_sized c.args.size) l) c.deref.ensures.value))).0)
+    omega (
+      arith,
+      (one_placed (is_sized c.args.size) c.args.self.now.others.items c.in-Some.place
+          c.args.self.now.bench
+          (sym (c.in-Some.ensures
+          ∙ ap (λ (l : List Bench). position (is_sized c.args.size) l) c.deref.ensures.value))).0,
+    )
 
 pub returns-in-Some-clause-taken : goal.returns-in-Some-clause-taken
 returns-in-Some-clause-taken c =

@@ -81,5 +81,7 @@ invariant_of-self c =
     (c.in_ok-name.ensures.bytes, subst AreBytes c.as_slice.ensures c.bytes_are_bytes.ensures)
     (λ accepted. put-task v d w moment c.args.name.now c.args.profile _ _ _ stands
     c.in_ok-bench.ensures.ok c.profile_of_put-chosen.ensures) in
-    record { at_work = begun_works v c.admit.new.self kind c.args.profile c.admit.result made
-    c.args.self.now.at_work }
+    record {
+      at_work = begun_works v c.admit.new.self kind c.args.profile c.admit.result made
+          c.args.self.now.at_work;
+    }
