@@ -27,8 +27,8 @@ spells-none (Once (Lose provider object stripe)) s = (let e = ap length s.3 in o
 spells-none (Once (Stop picks)) s = (let e = ap length s.1 in omega (arith, e))
 spells-none (Once Names) s = (let e = ap length s in omega (arith, e))
 spells-none (Once Continue) s = s
-spells-none (Once (Begin UpgradeJob)) s = s
-spells-none (Once (BeginAt profile name bytes)) s = s
+spells-none (Once (Begin UpgradeJob)) s = (let e = ap length s in omega (arith, e))
+spells-none (Once (BeginAt profile name bytes)) s = (let e = ap length s.2 in omega (arith, e))
 spells-none (Once BeginScrub) s = s
 spells-none (Once BeginPack) s = s
 

@@ -1,10 +1,9 @@
--- Each run whose journal has its first version has left devices: those of its last state.
+-- Each run whose journal has no packed record has left devices: those of its last state.
 use Rattle.std.proofs.Common.{◌≡◌, IsTrue, List, [], refl, sym, subst, inl, arith}
 use Rattle.std.proofs.lemmas.List.FromFn.{length-map-range_with_len}
 use Rattle.std.specs.List.{list_all}
-use Rattle.record_defs.specs.Records.{Record, is_in_grammar}
+use Rattle.record_defs.specs.Records.{Record, is_appended, is_in_grammar}
 use Rattle.record_defs.specs.Journal.{text, StandsFor}
-use Rattle.record_defs.specs.Table.{version_of}
 use Rattle.machine_defs.specs.States.{State}
 use Rattle.opening_defs.specs.Opened.{AreHanded}
 use Rattle.state_laws.specs.Sound.{IsSound}
@@ -30,13 +29,14 @@ handed w = (let long = length-map-range_with_len w.providers 0 w.handed in recor
   each = λ j l. get_map_upto w.providers w.handed j (omega (arith, l, long));
 })
 
--- the devices that a state leaves whose journal has its first version are devices of that state
-pub devices-of : (w : State) → IsSound 8 w → version_of w.records ≡ 1 → AreDevices (devices_left w) w
-devices-of w sound first =
-    (let whole = sound.journal.whole first in
+-- the devices that a state leaves whose journal has no packed record are devices of that state
+pub devices-of : (w : State) → IsSound 8 w → IsTrue (list_all is_appended w.journal) →
+    AreDevices (devices_left w) w
+devices-of w sound unpacked =
+    (let whole = sound.journal.whole unpacked in
     let stands : StandsFor (text w.records) w.journal =
     subst (StandsFor (text w.records)) (sym whole.journal)
-    (text-stands w.records (grammar-now 8 w sound first)) in
+    (text-stands w.records (grammar-now 8 w sound unpacked)) in
     record {
       images = firm-stands (text w.records) w whole.area (inl stands);
       faults = refl;

@@ -3,3 +3,5 @@ pub mod Going
 pub mod Stopped
 pub mod Text
 pub mod BadLine
+pub mod Upgraded
+pub mod UpgradedText

@@ -15,10 +15,11 @@ use Rattle.damage_run.specs.Schedule.{name, byte}
 use Rattle.schedule_runs.specs.Schedule.{stopped_schedule, stopped_text}
 
 -- a number is spelled by its digits
-digit : (bits n : ℕ) → n < 2 ^ bits → n < 10 → IsNumber bits (decimal n) n
+pub digit : (bits n : ℕ) → n < 2 ^ bits → n < 10 → IsNumber bits (decimal n) n
 digit bits n fits small = number-decimal bits n fits (omega (arith, small))
 
-hex-byte : IsHex (codes "6f") byte
+-- the byte is spelled by two digits
+pub hex-byte : IsHex (codes "6f") byte
 unfolding decode_pairs
 hex-byte = inr refl
 
@@ -220,8 +221,8 @@ all_spell =
 pub spells : IsSchedule stopped_text (reverse stopped_schedule)
 spells = all_spell
 
--- each of the commands can be spelled
-named : IsName name
+-- the name is a word
+pub named : IsName name
 named = (omega arith, (((λ e. omega (arith, e)), (λ e. omega (arith, e))), tt))
 
 -- each command of the schedule can be spelled

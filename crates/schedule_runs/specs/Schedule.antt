@@ -1,21 +1,27 @@
--- A schedule as text, with damage, an audit, a repair, a stop and gets, and what carries it out.
+-- Schedules as texts, and what carries them out: one with damage, an audit, a repair, a stop and gets; and one
+-- with an upgrade, a put with a profile of its own, and a get.
 --
---   stopped_schedule == the commands of the run with damage, and then a stop, a reopening and a get, the
---                       newest first
---   stopped_written  == all that they write
---   stopped_text     == the text that spells them
---   bad_text         == a text whose second line has too many words
---   IsStoppedRun ms  == these moments carry it out, from a start of four providers; the last of them gives
---                       the file
-use Rattle.std.specs.Prelude.{ℕ, List, [], ◌∷◌, ◌++◌, codes}
+--   stopped_schedule  == the commands of the run with damage, and then a stop, a reopening and a get, the
+--                        newest first
+--   stopped_written   == all that they write
+--   stopped_text      == the text that spells them
+--   bad_text          == a text whose second line has too many words
+--   IsStoppedRun ms   == these moments carry it out, from a start of four providers; the last of them gives
+--                        the file
+--   upgraded_schedule, upgraded_written, upgraded_text
+--                     == the same of an upgrade, of which one step is told apart, a put at profile 1, and a get
+--   upgraded_file     == the file of that put
+--   IsUpgradedRun ms  == the same of these; the setup's profile is 0
+use Rattle.std.specs.Prelude.{◌≡◌, ℕ, List, [], ◌∷◌, ◌++◌, codes, Some}
 use Rattle.std.specs.List.{flat_map}
+use Rattle.record_defs.specs.Table.{File, version_of}
 use Rattle.machine_defs.specs.Answers.{Got}
-use Rattle.machine_defs.specs.Events.{Begin, Stop, Reopen}
+use Rattle.machine_defs.specs.Events.{Begin, BeginAt, Step, Stop, Reopen}
 use Rattle.machine_defs.specs.Examples.{set_up}
-use Rattle.machine_defs.specs.Jobs.{GetJob}
+use Rattle.machine_defs.specs.Jobs.{GetJob, UpgradeJob}
 use Rattle.machine_defs.specs.Lines.{line}
-use Rattle.machine_defs.specs.Runs.{Moment, IsRun}
-use Rattle.machine_defs.specs.States.{IsStart}
+use Rattle.machine_defs.specs.Runs.{Moment, IsRun, now}
+use Rattle.machine_defs.specs.States.{IsStart, setup_in, file_in}
 use Rattle.machine_defs.specs.Transcripts.{Instruction, Once, RunJob, CarriesOut}
 use Rattle.damage_run.specs.Schedule.{name, byte, schedule, written_lines}
 use Rattle.damage_run.specs.Points.{EndsBy}
@@ -47,3 +53,32 @@ pub record IsStoppedRun (ms : List Moment) : Type 0 where
   pub run : IsRun 8 set_up ms
   pub carried_out : CarriesOut stopped_schedule ms stopped_written
   pub last : EndsBy ms 65 6 (Got byte)
+
+-- the commands of the upgrade, the put and the get, the newest first
+abbrev pub upgraded_schedule : List Instruction
+upgraded_schedule = RunJob 3 ∷ Once (Begin (GetJob name)) ∷ RunJob 2 ∷ Once (BeginAt 1 name byte)
+    ∷ RunJob 1 ∷ Once (Step 1) ∷ Once (Begin UpgradeJob) ∷ Once Reopen ∷ []
+
+-- all that they write
+abbrev pub upgraded_written : List ℕ
+upgraded_written = flat_map line (codes "opened" ∷ codes "job 1" ∷ codes "more" ∷ codes "upgraded"
+    ∷ codes "job 2" ∷ codes "put" ∷ codes "job 3" ∷ codes "got 6f" ∷ [])
+
+-- the text that spells them, in their order
+abbrev pub upgraded_text : List ℕ
+upgraded_text = flat_map line (codes "reopen" ∷ codes "begin upgrade" ∷ codes "step 1" ∷ codes "run 1"
+    ∷ codes "begin put a 6f 1" ∷ codes "run 2" ∷ codes "begin get a" ∷ codes "run 3" ∷ [])
+
+-- the file of the put
+abbrev pub upgraded_file : File
+upgraded_file = record { name = name; id = 1; size = 1; profile = 1 }
+
+-- these moments carry it out; at their end the file has a profile of its own
+pub record IsUpgradedRun (ms : List Moment) : Type 0 where
+  pub clean : IsStart set_up
+  pub run : IsRun 8 set_up ms
+  pub carried_out : CarriesOut upgraded_schedule ms upgraded_written
+  pub version : version_of (now set_up ms).records ≡ 2
+  pub own_profile : file_in (now set_up ms) name ≡ Some upgraded_file
+  pub other_profile : (setup_in (now set_up ms)).profile ≡ 0
+  pub last : EndsBy ms 27 3 (Got byte)
