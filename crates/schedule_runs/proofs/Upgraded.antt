@@ -160,7 +160,8 @@ get_steps = stepped 3 get_5 ∷ stepped 3 get_4 ∷ stepped 3 get_3 ∷ stepped 
 
 -- all of them
 abbrev pub upgraded_moments : List Moment
-upgraded_moments = record { event = Step 3; outcome = Ended (Got byte); state = get_6 } ∷ (get_steps ++ getting)
+upgraded_moments =
+    record { event = Step 3; outcome = Ended (Got byte); state = get_6 } ∷ (get_steps ++ getting)
 
 small_3 : 3 < 2 ^ 32
 small_3 = omega arith
@@ -308,8 +309,8 @@ writes_6 = (
 abbrev lines_7 : List ℕ
 lines_7 = lines_6 ++ (codes "job 3" ++ 10 ∷ [])
 
-writes_7 : CarriesOut (Once (Begin (GetJob name)) ∷ RunJob 2 ∷ Once (BeginAt 1 name byte) ∷ commands_4) getting
-    lines_7
+writes_7 : CarriesOut (Once (Begin (GetJob name)) ∷ RunJob 2 ∷ Once (BeginAt 1 name byte) ∷ commands_4)
+    getting lines_7
 unfolding digits
 writes_7 = (
   record { event = Begin (GetJob name); outcome = Begun 3; state = get_0 },

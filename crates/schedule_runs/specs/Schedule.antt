@@ -1,5 +1,5 @@
--- Schedules as texts, and what carries them out: one with damage, an audit, a repair, a stop and gets; and one
--- with an upgrade, a put with a profile of its own, and a get.
+-- Schedules as texts, and what carries them out: one with damage, an audit, a repair, a stop and gets; and
+-- one with an upgrade, a put with a profile of its own, and a get.
 --
 --   stopped_schedule  == the commands of the run with damage, and then a stop, a reopening and a get, the
 --                        newest first
@@ -9,7 +9,8 @@
 --   IsStoppedRun ms   == these moments carry it out, from a start of four providers; the last of them gives
 --                        the file
 --   upgraded_schedule, upgraded_written, upgraded_text
---                     == the same of an upgrade, of which one step is told apart, a put at profile 1, and a get
+--                     == the same of an upgrade, of which one step is told apart, a put at profile 1, and
+--                        a get
 --   upgraded_file     == the file of that put
 --   IsUpgradedRun ms  == the same of these; the setup's profile is 0
 use Rattle.std.specs.Prelude.{◌≡◌, ℕ, List, [], ◌∷◌, ◌++◌, codes, Some}

@@ -32,7 +32,8 @@ use state_laws::laws::runs_are_sound;
 /// audit that finds it and a repair; one with calls of every device that fail, and a stop.
 pub fn runs_leave_devices()
     ensures each { (start : State) (ms : List Moment) → IsStart start → IsRun 8 start ms
-        → IsTrue (list_all is_appended (now start ms).journal) → AreLeft start ms (devices_left (now start ms)) }
+        → IsTrue (list_all is_appended (now start ms).journal)
+        → AreLeft start ms (devices_left (now start ms)) }
     ensures tell { (start : State) (ms : List Moment) → IsSome (devices_left (now start ms)).holds }
     ensures fresh { AreLeft (start_of fresh []) [] fresh }
     ensures damaged { (ms : List Moment) × IsOutright ms × AreLeft set_up ms (devices_left (now set_up ms)) }
@@ -59,8 +60,8 @@ pub fn a_schedule_has_its_run()
     acknowledged_files_survive();
 }
 
-/// So it is of a text with an upgrade, a put at a profile of its own, and a get, which gives the file; and the
-/// file keeps its profile.
+/// So it is of a text with an upgrade, a put at a profile of its own, and a get, which gives the file; and
+/// the file keeps its profile.
 pub fn an_upgrade_has_its_run()
     ensures spells { IsSchedule upgraded_text (reverse upgraded_schedule) }
     ensures fits { AllByRecursion CanBeSpelled (reverse upgraded_schedule) }

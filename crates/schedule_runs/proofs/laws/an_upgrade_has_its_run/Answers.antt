@@ -32,7 +32,13 @@ returns-clause-used c = (
   λ old new end is keeps.
       keeps-file c.acknowledged_files_survive.ensures set_up after_put (first_moments 19 upgraded_moments)
       (last_of (first_moments 20 upgraded_moments)) name upgraded_file old new end is_upgraded.clean
-      (record { version = 2; done = refl; profiled = λ first. absurd (cc first); started = refl; named = refl })
+      (record {
+        version = 2;
+        done = refl;
+        profiled = λ first. absurd (cc first);
+        started = refl;
+        named = refl;
+      })
       (never_by_test name after_put refl) (λ d e. cc)
       (goes-on set_up upgraded_moments (devices_left (now set_up upgraded_moments)) old new end
       (c.runs_leave_devices.ensures.each set_up upgraded_moments is_upgraded.clean is_upgraded.run refl) refl
