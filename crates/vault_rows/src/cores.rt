@@ -112,17 +112,27 @@ fn core_of(alloc: Global, base: Base, end: u64) -> Option<Core> {
     Some(Core::new(alloc, table, end, 1))
 }
 
+/// What a core is told of a put.
+fn put_wish(name: &[u8], bytes: &[u8], profile: Option<u8>) -> Option<Wish>
+    ensures { IfSome result (λ wish. IsShort wish) }
+{
+    if bytes.len() > 1 << 22 {
+        return None;
+    }
+    Some(Wish::Put {
+        name: Name::new(name)?,
+        length: bytes.len() as u32,
+        profile,
+    })
+}
+
 /// What a core is told of a job. A file's bytes stay with the caller.
 fn wish_of(job: Job) -> Option<Wish>
     ensures { IfSome result (λ wish. IsShort wish) }
 {
     match job {
-        Job::Put(_, bytes) if bytes.len() > 1 << 22 => None,
-        Job::Put(name, bytes) => Some(Wish::Put {
-            name: Name::new(name)?,
-            length: bytes.len() as u32,
-            profile: None,
-        }),
+        Job::Put(name, bytes) => put_wish(name, bytes, None),
+        Job::PutIn(name, bytes, own) => put_wish(name, bytes, Some(own)),
         Job::Get(name) => Some(Wish::Get {
             name: Name::new(name)?,
         }),
@@ -131,6 +141,7 @@ fn wish_of(job: Job) -> Option<Wish>
         }),
         Job::Audit => Some(Wish::Audit),
         Job::Repair => Some(Wish::Repair),
+        Job::Upgrade => Some(Wish::Upgrade),
     }
 }
 
