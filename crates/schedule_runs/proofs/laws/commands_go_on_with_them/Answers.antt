@@ -17,28 +17,28 @@ use Rattle.schedule_runs.proofs.Going.{goes-on, keeps-file}
 use Rattle.schedule_runs.proofs.laws.commands_go_on_with_them.Goals as goal
 
 pub returns-clause-each : goal.returns-clause-each
-returns-clause-each c = λ start ms old new end starts run first is keeps.
+returns-clause-each c = λ start ms old new end starts run unpacked is keeps.
     goes-on start ms (devices_left (now start ms)) old new end
-    (c.runs_leave_devices.ensures.each start ms starts run first) refl is keeps
+    (c.runs_leave_devices.ensures.each start ms starts run unpacked) refl is keeps
 
 pub returns-clause-fresh : goal.returns-clause-fresh
 returns-clause-fresh c = λ old new end is keeps. goes-on (start_of fresh [])
     [] fresh old new end c.runs_leave_devices.ensures.fresh refl is keeps
 
 pub returns-clause-replay : goal.returns-clause-replay
-returns-clause-replay c = λ start ms text old new end starts run first is does. (
+returns-clause-replay c = λ start ms text old new end starts run unpacked is does. (
   does.commands,
   does.schedule,
   does.runs start ms (let told = c.runs_leave_devices.ensures.tell start ms in
       subst (λ d. IsSome d.holds) (sym is) told)
-      (subst (AreLeft start ms) (sym is) (c.runs_leave_devices.ensures.each start ms starts run first)),
+      (subst (AreLeft start ms) (sym is) (c.runs_leave_devices.ensures.each start ms starts run unpacked)),
 )
 
 pub returns-clause-trial : goal.returns-clause-trial
-returns-clause-trial c = λ start ms number old new end starts run first is does.
+returns-clause-trial c = λ start ms number old new end starts run unpacked is does.
     does.runs start ms (let told = c.runs_leave_devices.ensures.tell start ms in
     subst (λ d. IsSome d.holds) (sym is) told)
-    (subst (AreLeft start ms) (sym is) (c.runs_leave_devices.ensures.each start ms starts run first))
+    (subst (AreLeft start ms) (sym is) (c.runs_leave_devices.ensures.each start ms starts run unpacked))
 
 pub returns-clause-damaged : goal.returns-clause-damaged
 returns-clause-damaged c = (

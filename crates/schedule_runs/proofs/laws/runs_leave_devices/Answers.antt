@@ -9,12 +9,12 @@ use Rattle.schedule_runs.proofs.Left.{devices-of}
 use Rattle.schedule_runs.proofs.laws.runs_leave_devices.Goals as goal
 
 pub returns-clause-each : goal.returns-clause-each
-returns-clause-each c = λ start ms starts run first.
+returns-clause-each c = λ start ms starts run unpacked.
     record {
       starts = starts;
       run = run;
       devices = devices-of (now start ms)
-          (c.runs_are_sound.ensures 8 start ms (omega arith, omega arith) starts run) first;
+          (c.runs_are_sound.ensures 8 start ms (omega arith, omega arith) starts run) unpacked;
     }
 
 pub returns-clause-tell : goal.returns-clause-tell
