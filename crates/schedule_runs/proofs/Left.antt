@@ -1,5 +1,5 @@
 -- Each run whose journal has no packed record has left devices: those of its last state.
-use Rattle.std.proofs.Common.{◌≡◌, IsTrue, List, [], refl, sym, subst, inl, arith}
+use Rattle.std.proofs.Common.{IsTrue, List, [], refl, sym, subst, inl, arith}
 use Rattle.std.proofs.lemmas.List.FromFn.{length-map-range_with_len}
 use Rattle.std.specs.List.{list_all}
 use Rattle.record_defs.specs.Records.{Record, is_appended, is_in_grammar}
