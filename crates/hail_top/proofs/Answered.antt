@@ -1,5 +1,5 @@
 -- A command was answered.
-use Rattle.std.proofs.Common.{◌≡◌, ℕ, List, Option, refl, sym, subst, inr}
+use Rattle.std.proofs.Common.{◌≡◌, ℕ, List, Option, Some, None, refl, sym, subst, inr}
 use Rattle.device_defs.specs.Told.{TakesFront}
 use Rattle.code_defs.specs.Points.{upto, values_at}
 use Rattle.opening_defs.proofs.Resyncs.{resynced-same}
@@ -12,10 +12,12 @@ use Rattle.command_defs.specs.Row.{AnswersRow}
 use Rattle.command_defs.specs.Opens as opens
 use Rattle.command_defs.specs.Inits as inits
 use Rattle.command_defs.specs.Commands as commands
-use Rattle.command_defs.specs.Commands.{Answers}
+use Rattle.command_defs.specs.Commands.{Answers, AnswersPut}
 use Rattle.command_words.specs.declared.command.Command.{Command}
+use Rattle.command_words.specs.declared.command.Command.TheVariants as kind
 use Rattle.command_words.specs.Commands.{command_of}
 use Rattle.hail_top.specs.Endings.{ending_with}
+use Rattle.hail_top.specs.InitRuns.{InitsOn}
 use Rattle.hail_top.proofs.Taken.{none-taken}
 use Rattle.hail_top.proofs.Refused.{refused-told}
 use Rattle.hail_top.proofs.AnswerTexts.{front-none}
@@ -25,6 +27,18 @@ pub answered : (command other : Command) (old new : Seen) (end : Ending) → com
     Answers (command_of other) old new end → Answers (command_of command) old new end
 answered command other old new end is answers =
     subst (λ (c : Command). Answers (command_of c) old new end) (sym is) answers
+
+-- a put is answered as one with the profile that it names
+pub put-answered : (name : _) (profile : Option ℕ) (old new : Seen) (end : Ending) →
+    AnswersPut name.now profile old new end → Answers (command_of (kind.Put name profile)) old new end
+put-answered name None old new end a = a
+put-answered name (Some profile) old new end a = a
+
+-- it goes on with no run, as it is no init
+pub put-inits : (name : _) (profile : Option ℕ) (old new : Seen) (end : Ending) →
+    InitsOn (command_of (kind.Put name profile)) old new end
+put-inits name None old new end = tt
+put-inits name (Some profile) old new end = tt
 
 -- a command for which there was no memory, and no device was called
 pub no_memory-told : (command : Spelled) (same : Seen) (end : Ending) → end ≡ ending_with 70 0 →

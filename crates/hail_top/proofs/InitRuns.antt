@@ -5,7 +5,7 @@ use Rattle.machine_defs.specs.Events.{Init, IsSpelled}
 use Rattle.machine_defs.specs.Runs.{now, IsRun}
 use Rattle.machine_defs.specs.States.{State, continued}
 use Rattle.state_laws.proofs.Events.{run-sound}
-use Rattle.command_defs.specs.Forms.{Command, Numbers, RowOf, InitWith, PutUnder, GetOf, DropOf, ListAll, AuditAll, RepairDue}
+use Rattle.command_defs.specs.Forms.{Command, Numbers, RowOf, InitWith, PutUnder, PutAt, GetOf, DropOf, ListAll, AuditAll, RepairDue, UpgradeJournal}
 use Rattle.command_defs.specs.Seen.{Seen, Ending}
 use Rattle.command_defs.specs.Sinking.{Sinking, WritesLine}
 use Rattle.command_words.specs.declared.command.Command.{Command as Read}
@@ -79,8 +79,10 @@ pub inits-same : (command : Command) (same : Seen) (end : Ending) → InitsOn co
 inits-same (InitWith numbers) same end = untouched refl refl refl
 inits-same (RowOf n l b symbols) same end = tt
 inits-same (PutUnder name) same end = tt
+inits-same (PutAt name profile) same end = tt
 inits-same (GetOf name) same end = tt
 inits-same (DropOf name) same end = tt
 inits-same ListAll same end = tt
 inits-same AuditAll same end = tt
 inits-same RepairDue same end = tt
+inits-same UpgradeJournal same end = tt

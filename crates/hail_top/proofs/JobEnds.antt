@@ -1,5 +1,5 @@
 -- How a command ends that runs a job over a vault just opened.
-use Rattle.std.proofs.Common.{◌≡◌, ℕ, List, length, Option, ap, sym, ◌∙◌, inl, inr, subst, arith}
+use Rattle.std.proofs.Common.{◌≡◌, ℕ, List, length, Option, None, ap, sym, ◌∙◌, inl, inr, subst, arith}
 use Rattle.std.specs.Option.{option_map}
 use Rattle.device_defs.specs.Disks.{synced}
 use Rattle.device_defs.specs.Providers.{Provider}
@@ -54,6 +54,12 @@ ended-told subject tolerance kind own records old new end ended written count is
         (subst (λ (w : Option (List ℕ)). TellsAnswer subject (machine_answer ended.answer) end.status end.at
         (record { old = w; new = new.sink; before = count; now = new.sink_faults }))
         (sym is_written) told)
+
+-- a job that names no profile ended
+pub names-none : (kind : Kind) (own : Option ℕ) (records : List Record) (old new : Seen) (end : Ending) →
+    own ≡ None → AnswersOver kind own records old new end → AnswersJob kind None records old new end
+names-none kind own records old new end none over =
+    subst (λ (o : Option ℕ). AnswersJob kind o records old new end) none over.answers
 
 -- devices that are as they were lost no fault
 pub untouched : (old new : Seen) (d : Devices) → IsSeenBefore old d → new.disk_faults ≡ d.faults →

@@ -1,7 +1,7 @@
 use Rattle.std.proofs.Common.{map, refl}
 use Rattle.std.proofs.lemmas.List.{length-map}
 use Rattle.provider_model.specs.Seen.{provider_seen}
-use Rattle.hail_top.proofs.Answered.{answered}
+use Rattle.hail_top.proofs.Answered.{answered, put-answered, put-inits}
 use Rattle.hail_top.proofs.InitRuns.{inits-as}
 use Rattle.hail_top.proofs.top.answer.Goals as goal
 
@@ -12,7 +12,8 @@ returns-in-Init-clause-answers g c =
     (c.set_up.ensures.answers (map see c.args.providers.now) (length-map c.args.providers.now see))
 
 pub returns-in-Put-clause-answers : goal.returns-in-Put-clause-answers
-returns-in-Put-clause-answers g c = answered _ _ _ _ _ c.in-Put.is c.put.ensures.answers
+returns-in-Put-clause-answers g c =
+    answered _ _ _ _ _ c.in-Put.is (put-answered _ c.in-Put.profile _ _ _ c.put.ensures.answers)
 
 pub returns-in-Get-clause-answers : goal.returns-in-Get-clause-answers
 returns-in-Get-clause-answers g c =
@@ -80,7 +81,8 @@ pub returns-in-Row-clause-inits : goal.returns-in-Row-clause-inits
 returns-in-Row-clause-inits g c = inits-as _ _ _ _ _ c.in-Row.is tt
 
 pub returns-in-Put-clause-inits : goal.returns-in-Put-clause-inits
-returns-in-Put-clause-inits g c = inits-as _ _ _ _ _ c.in-Put.is tt
+returns-in-Put-clause-inits g c =
+    inits-as _ _ _ _ _ c.in-Put.is (put-inits _ c.in-Put.profile _ _ _)
 
 pub returns-in-Get-clause-inits : goal.returns-in-Get-clause-inits
 returns-in-Get-clause-inits g c = inits-as _ _ _ _ _ c.in-Get.is tt
@@ -96,3 +98,18 @@ returns-in-Audit-clause-inits g c = inits-as _ _ _ _ _ c.in-Audit.is tt
 
 pub returns-in-Repair-clause-inits : goal.returns-in-Repair-clause-inits
 returns-in-Repair-clause-inits g c = inits-as _ _ _ _ _ c.in-Repair.is tt
+
+pub returns-in-Upgrade-clause-answers : goal.returns-in-Upgrade-clause-answers
+returns-in-Upgrade-clause-answers g c =
+    answered _ _ _ _ _ c.in-Upgrade.is (
+      c.alone-in-Upgrade.ensures.answers (g.S.Source.left c.args.source.now)
+          (g.S.Source.faults c.args.source.now),
+      (refl, refl),
+    )
+
+pub returns-in-Upgrade-clause-counts : goal.returns-in-Upgrade-clause-counts
+returns-in-Upgrade-clause-counts g c =
+    c.alone-in-Upgrade.ensures.counts (g.S.Source.left c.args.source.now) (g.S.Source.faults c.args.source.now)
+
+pub returns-in-Upgrade-clause-inits : goal.returns-in-Upgrade-clause-inits
+returns-in-Upgrade-clause-inits g c = inits-as _ _ _ _ _ c.in-Upgrade.is tt
