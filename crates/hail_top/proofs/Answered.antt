@@ -14,7 +14,6 @@ use Rattle.command_defs.specs.Inits as inits
 use Rattle.command_defs.specs.Commands as commands
 use Rattle.command_defs.specs.Commands.{Answers, AnswersPut}
 use Rattle.command_words.specs.declared.command.Command.{Command}
-use Rattle.command_words.specs.declared.command.Command.TheVariants as kind
 use Rattle.command_words.specs.Commands.{command_of}
 use Rattle.hail_top.specs.Endings.{ending_with}
 use Rattle.hail_top.specs.InitRuns.{InitsOn}
@@ -28,17 +27,23 @@ pub answered : (command other : Command) (old new : Seen) (end : Ending) → com
 answered command other old new end is answers =
     subst (λ (c : Command). Answers (command_of c) old new end) (sym is) answers
 
--- a put is answered as one with the profile that it names
-pub put-answered : (name : _) (profile : Option ℕ) (old new : Seen) (end : Ending) →
-    AnswersPut name.now profile old new end → Answers (command_of (kind.Put name profile)) old new end
-put-answered name None old new end a = a
-put-answered name (Some profile) old new end a = a
+-- a put is answered as one with the profile that it names, and goes on with no run
+pub put-answered : (name : List ℕ) (profile : Option ℕ) (spelled : Option ℕ → Spelled) →
+    spelled None ≡ PutUnder name → ((p : ℕ) → spelled (Some p) ≡ PutAt name p) →
+    (old new : Seen) (end : Ending) → AnswersPut name profile old new end
+    → Answers (spelled profile) old new end
+put-answered name None spelled none some old new end a =
+    subst (λ (c : Spelled). Answers c old new end) (sym none) a
+put-answered name (Some p) spelled none some old new end a =
+    subst (λ (c : Spelled). Answers c old new end) (sym (some p)) a
 
--- it goes on with no run, as it is no init
-pub put-inits : (name : _) (profile : Option ℕ) (old new : Seen) (end : Ending) →
-    InitsOn (command_of (kind.Put name profile)) old new end
-put-inits name None old new end = tt
-put-inits name (Some profile) old new end = tt
+pub put-inits : (name : List ℕ) (profile : Option ℕ) (spelled : Option ℕ → Spelled) →
+    spelled None ≡ PutUnder name → ((p : ℕ) → spelled (Some p) ≡ PutAt name p) →
+    (old new : Seen) (end : Ending) → InitsOn (spelled profile) old new end
+put-inits name None spelled none some old new end =
+    subst (λ (c : Spelled). InitsOn c old new end) (sym none) tt
+put-inits name (Some p) spelled none some old new end =
+    subst (λ (c : Spelled). InitsOn c old new end) (sym (some p)) tt
 
 -- a command for which there was no memory, and no device was called
 pub no_memory-told : (command : Spelled) (same : Seen) (end : Ending) → end ≡ ending_with 70 0 →

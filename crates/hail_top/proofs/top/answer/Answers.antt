@@ -1,5 +1,7 @@
 use Rattle.std.proofs.Common.{map, refl}
 use Rattle.std.proofs.lemmas.List.{length-map}
+use Rattle.command_words.specs.declared.command.Command.TheVariants as kind
+use Rattle.command_words.specs.Commands.{command_of}
 use Rattle.provider_model.specs.Seen.{provider_seen}
 use Rattle.hail_top.proofs.Answered.{answered, put-answered, put-inits}
 use Rattle.hail_top.proofs.InitRuns.{inits-as}
@@ -13,7 +15,8 @@ returns-in-Init-clause-answers g c =
 
 pub returns-in-Put-clause-answers : goal.returns-in-Put-clause-answers
 returns-in-Put-clause-answers g c =
-    answered _ _ _ _ _ c.in-Put.is (put-answered _ c.in-Put.profile _ _ _ c.put.ensures.answers)
+    answered _ _ _ _ _ c.in-Put.is (put-answered c.in-Put.name.now c.in-Put.profile
+    (λ o. command_of (kind.Put c.in-Put.name o)) refl (λ p. refl) _ _ _ c.put.ensures.answers)
 
 pub returns-in-Get-clause-answers : goal.returns-in-Get-clause-answers
 returns-in-Get-clause-answers g c =
@@ -82,7 +85,8 @@ returns-in-Row-clause-inits g c = inits-as _ _ _ _ _ c.in-Row.is tt
 
 pub returns-in-Put-clause-inits : goal.returns-in-Put-clause-inits
 returns-in-Put-clause-inits g c =
-    inits-as _ _ _ _ _ c.in-Put.is (put-inits _ c.in-Put.profile _ _ _)
+    inits-as _ _ _ _ _ c.in-Put.is (put-inits c.in-Put.name.now c.in-Put.profile
+    (λ o. command_of (kind.Put c.in-Put.name o)) refl (λ p. refl) _ _ _)
 
 pub returns-in-Get-clause-inits : goal.returns-in-Get-clause-inits
 returns-in-Get-clause-inits g c = inits-as _ _ _ _ _ c.in-Get.is tt
