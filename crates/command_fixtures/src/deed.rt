@@ -54,7 +54,7 @@ pub enum Deed {
     Holders(usize),
     /// A provider's block has so many symbols, and whether all are zero.
     Block(usize, usize, bool),
-    /// So many providers, the first ones, hold the blocks of an object and so many stripes, of so many symbols
-    /// each, and the others none of it.
+    /// So many providers, the first ones, hold the blocks of an object and so many stripes, of so many
+    /// symbols each, and the others none of it.
     Blocks(usize, u64, u32, usize),
 }

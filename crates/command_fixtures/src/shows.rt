@@ -55,8 +55,8 @@ impl<P: Holder + Drop> Store<P> {
         self.block(provider, object, stripes).is_none()
     }
 
-    /// Whether so many providers, the first ones, hold the blocks of an object and so many stripes, of so many
-    /// symbols each, and the others none of it.
+    /// Whether so many providers, the first ones, hold the blocks of an object and so many stripes, of so
+    /// many symbols each, and the others none of it.
     pub fn are_blocks(&self, providers: usize, object: u64, stripes: u32, symbols: usize) -> bool {
         for provider in 0..self.providers.len() {
             let held = if provider < providers { stripes } else { 0 };

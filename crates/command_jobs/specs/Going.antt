@@ -4,9 +4,9 @@
 --                              `start`
 --   IsUnderWay v d          == vault and devices stand for such a state
 --   GoesToEnd start kind own w moment ended v old new
---                           == the job goes on from a state, after so many events, to this end, and vault and
---                              devices stand for the last state; past the text, with the record that was being
---                              appended where the job was cut short, the disk reads as before
+--                           == the job goes on from a state, after so many events, to this end, and vault
+--                              and devices stand for the last state; past the text, with the record that
+--                              was being appended where the job was cut short, the disk reads as before
 --
 -- own is the profile that a put names; None where it has the setup's, and of every other job.
 use Rattle.std.specs.Prelude.{ℕ, Option}
