@@ -1,5 +1,5 @@
 //! A file over several commands: who may be damaged between them, and who can make a get give other bytes.
-ghost use Rattle.std.specs.Prelude.{◌≡◌, ◌≢◌, ◌≤◌, ◌<◌, ◌&&◌, ℕ, Bool, List, String, Some, not, true, false, is_some, length};
+ghost use Rattle.std.specs.Prelude.{◌≡◌, ◌≢◌, ◌≤◌, ◌<◌, ◌&&◌, ℕ, Bool, List, String, Option, Some, not, true, false, is_some, length};
 ghost use Rattle.std.specs.declared.alloc.Global.{Global};
 ghost use Rattle.column_defs.specs.Verdicts.{is_flagged};
 ghost use Rattle.device_defs.specs.Faults.{Rose};
@@ -8,25 +8,25 @@ ghost use Rattle.machine_defs.specs.Events.{AreBytes};
 ghost use Rattle.machine_defs.specs.Heard.{HoldsForgery};
 ghost use Rattle.record_defs.specs.Records.{Record};
 ghost use Rattle.record_defs.specs.Table.{next_audit};
-ghost use Rattle.command_defs.specs.Forms.{PutUnder, GetOf, AuditAll, RepairDue, IsForm};
+ghost use Rattle.command_defs.specs.Forms.{GetOf, AuditAll, RepairDue, IsForm};
 ghost use Rattle.command_defs.specs.Jobs.{IsTold};
 ghost use Rattle.command_defs.specs.Lines.{audit_lines};
 ghost use Rattle.command_defs.specs.Opens.{setup_in_effect, object_in_effect};
 ghost use Rattle.command_defs.specs.Seen.{Seen, Ending, provider_at};
 ghost use Rattle.command_laws.specs.After.{Follows, HasRightFile, IsUntouched, IsSteady, spoilt_below};
-ghost use Rattle.command_laws.specs.Ends.{IsDone, IsKnown, GivesUnlessMemory};
+ghost use Rattle.command_laws.specs.Ends.{IsDone, IsKnown, GivesUnlessMemory, put_of};
 ghost use Rattle.hail_top.specs.Answered.{AnswersWords};
 
 use command_laws::after::{gets_tell_what_stands, put_files_are_got};
 use command_laws::ends::gets_give_the_file;
 
-/// A file put by one command is got by the next, though at most b providers were damaged in between, or fail:
-/// the get gives the bytes, or finds no memory, unless the disk or the sink failed. A stop between the two
-/// does no harm.
+/// A file put by one command, with a profile of its own or without, is got by the next, though at most b
+/// providers were damaged in between, or fail: the get gives the bytes, or finds no memory, unless the disk or
+/// the sink failed. A stop between the two does no harm.
 pub fn the_next_command_gets_the_file()
-    ensures { (put get : List (String Global)) (name bytes : List ℕ) (records : List Record)
-        (spoilt : ℕ → Bool) (a b c d : Seen) (first last : Ending)
-        → AnswersWords put a b first → IsForm put (PutUnder name) → AnswersWords get c d last
+    ensures { (put get : List (String Global)) (name bytes : List ℕ) (own : Option ℕ)
+        (records : List Record) (spoilt : ℕ → Bool) (a b c d : Seen) (first last : Ending)
+        → AnswersWords put a b first → IsForm put (put_of name own) → AnswersWords get c d last
         → IsForm get (GetOf name) → IsKnown a records → a.source ≡ Some bytes
         → ((j : ℕ) → j < (setup_in_effect records).n → spoilt j ≡ false
         → is_some (provider_at a.providers j).held ≡ true) → IsDone first → Follows b c
@@ -39,14 +39,15 @@ pub fn the_next_command_gets_the_file()
     put_files_are_got();
 }
 
-/// After an audit that flags and a repair another b providers may go. A file is put; at most b providers are
-/// spoilt; an audit is done, and the repair of those whom it flagged, which tell what they hold. Then any
-/// others may be spoilt, at most b with those that were and were not flagged: a get still gives the bytes, or
-/// finds no memory, unless the disk or the sink failed.
+/// After an audit that flags and a repair another b providers may go. A file is put, with a profile of its own
+/// or without; at most b providers are spoilt; an audit is done, and the repair of those whom it flagged, which
+/// tell what they hold. Then any others may be spoilt, at most b with those that were and were not flagged: a
+/// get still gives the bytes, or finds no memory, unless the disk or the sink failed.
 pub fn others_may_go_after_a_repair()
-    ensures { (put audit repair get : List (String Global)) (name bytes : List ℕ) (records : List Record)
-        (spoilt : ℕ → Bool) (a b c d e f g h : Seen) (first second third last : Ending)
-        → AnswersWords put a b first → IsForm put (PutUnder name)
+    ensures { (put audit repair get : List (String Global)) (name bytes : List ℕ) (own : Option ℕ)
+        (records : List Record) (spoilt : ℕ → Bool) (a b c d e f g h : Seen)
+        (first second third last : Ending)
+        → AnswersWords put a b first → IsForm put (put_of name own)
         → AnswersWords audit c d second → IsForm audit AuditAll
         → AnswersWords repair e f third → IsForm repair RepairDue
         → AnswersWords get g h last → IsForm get (GetOf name)

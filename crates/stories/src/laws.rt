@@ -8,7 +8,7 @@ ghost use Rattle.command_defs.specs.Forms.{Command, Numbers, RowOf, InitWith, Ge
 ghost use Rattle.command_defs.specs.Seen.{Seen, Ending};
 ghost use Rattle.command_laws.specs.Ends.{opens_store};
 ghost use Rattle.command_laws.specs.Instances.{held_name, empty_devices, ends};
-ghost use Rattle.command_laws.specs.Pieces.{IsSpelledCommand, IsCall};
+ghost use Rattle.command_laws.specs.Pieces.{IsCall};
 ghost use Rattle.schedule_text.specs.Schedules.{IsSchedule};
 ghost use Rattle.hail_client.specs.Start.{start_of};
 ghost use Rattle.hail_replay.specs.Answers.{devices_of_seen};
@@ -20,7 +20,7 @@ ghost use Rattle.hail_top.specs.Answered.{AnswersWords};
 ghost use Rattle.stories.specs.Went.{WentOn};
 
 use command_laws::instances::there_are_answers;
-use command_laws::pieces::commands_are_runs;
+use command_laws::pieces::{commands_are_runs, forms_are_spelled};
 use command_words::laws::words_spell_one_command;
 use hail_client::laws::there_is_a_start;
 use hail_replay::laws::a_list_is_replayed;
@@ -34,8 +34,7 @@ use state_laws::laws::runs_are_sound;
 pub fn commands_leave_devices()
     ensures stores { (words : List (String Global)) (command : Command) (start : State) (ms : List Moment)
         (old new : Seen) (end : Ending) → AnswersWords words old new end → IsForm words command
-        → opens_store command ≡ true → IsSpelledCommand command → is_some old.disk ≡ true
-        → AreLeft start ms (devices_of_seen old)
+        → opens_store command ≡ true → is_some old.disk ≡ true → AreLeft start ms (devices_of_seen old)
         → (own : List Moment) × IsCall command old new end (now start ms) own
         × AreLeft start (own ++ ms) (devices_of_seen new) }
     ensures init { (words : List (String Global)) (numbers : Numbers) (start : State) (ms : List Moment)
@@ -53,6 +52,7 @@ pub fn commands_leave_devices()
 {
     runs_are_sound();
     commands_are_runs();
+    forms_are_spelled();
 }
 
 /// A replay of status 0, over devices that a run has left, has done the commands that its text spells.

@@ -7,7 +7,7 @@ use Rattle.stories.proofs.Went.{left-same, init-left}
 use Rattle.stories.proofs.laws.commands_leave_devices.Goals as goal
 
 pub returns-clause-stores : goal.returns-clause-stores
-returns-clause-stores c = λ words command start ms old new end answers form opens spelled told left.
+returns-clause-stores c = λ words command start ms old new end answers form opens told left.
     (let H = c.commands_are_runs.ensures.call start ms command old new end left.run
     (record {
       sound = c.runs_are_sound.ensures 8 start ms (omega arith, omega arith) left.starts left.run;
@@ -15,7 +15,7 @@ returns-clause-stores c = λ words command start ms old new end answers form ope
       images = left.devices.images;
       faults_are = left.devices.faults;
       handed = left.devices.providers;
-    }) opens spelled (answers.answers command form) answers.counts in (
+    }) opens (c.forms_are_spelled.ensures words command form) (answers.answers command form) answers.counts in (
       H.0,
       H.1,
       record {
