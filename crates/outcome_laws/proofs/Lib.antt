@@ -1,0 +1,5 @@
+pub mod Listings
+pub mod Begun
+pub mod LostRepairs
+pub mod Repairs
+pub mod Audits

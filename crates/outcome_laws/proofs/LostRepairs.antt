@@ -1,0 +1,165 @@
+-- A repair that relies on providers is lost only where a provider's count rose.
+use Rattle.std.proofs.Common.{◌≡◌, ℕ, zero, suc, ◌<◌, ◌≤◌, Bool, true, false, ◌⊎◌, List, ◌∷◌, length, Option, Some, None, refl, ap, sym, subst, ◌∙◌, inl, inr, arith}
+use Rattle.std.specs.Prelude.{IsTrue, is_some}
+use Rattle.std.proofs.lemmas.Bool.{cases_Bool, cases_lt}
+use Rattle.algebra_laws.specs.Lists.{In}
+use Rattle.hail_field.specs.Shape.{IsShape}
+use Rattle.code_defs.specs.Points.{upto}
+use Rattle.column_defs.specs.Objects.{Object, symbols_in}
+use Rattle.column_defs.specs.Columns.{row_polynomial, is_wrong_block}
+use Rattle.column_defs.specs.Opened.{LosesRow, block_at}
+use Rattle.column_defs.specs.Forgeries.{count_of}
+use Rattle.column_laws.proofs.Counts.{count_of-within}
+use Rattle.column_laws.proofs.UniqueLaws.{profile-room}
+use Rattle.column_laws.proofs.RightRows.{row-right}
+use Rattle.record_defs.specs.Table.{setup_of}
+use Rattle.device_defs.specs.Faults.{Rose, last_count}
+use Rattle.machine_defs.specs.Jobs.{Pinned, Job, job_of}
+use Rattle.machine_defs.specs.Setups.{profiled, stripes_of, pinned_stripes}
+use Rattle.machine_defs.specs.Actions.{Fetch, Work}
+use Rattle.machine_defs.specs.States.{State, IsStart, setup_in, object_in, pinned_object, worked_object}
+use Rattle.machine_defs.specs.Given.{block_given, blocks_given}
+use Rattle.machine_defs.specs.Steps.{next_action}
+use Rattle.machine_defs.specs.Runs.{Moment, now, is_replaced_since, IsRun}
+use Rattle.machine_defs.specs.Calm.{Mark, relies, replaced_count}
+use Rattle.machine_defs.proofs.JobLists.{found_none}
+use Rattle.machine_defs.proofs.Fair.{HasPin}
+use Rattle.machine_defs.proofs.Held.{all}
+use Rattle.machine_defs.proofs.Given.{block_at-given}
+use Rattle.run_laws.proofs.InEffect as eff
+use Rattle.run_laws.proofs.InEffect.{valid_shape}
+use Rattle.run_laws.proofs.FirstHalf.{shape_in}
+use Rattle.second_half_laws.specs.Behind.{HasMade}
+use Rattle.second_half_laws.specs.Damage.{RoseSince}
+use Rattle.second_half_laws.proofs.EveryRun.{always, worked_is}
+use Rattle.second_half_laws.proofs.MadeFacts.{given_block, made_fetch_gave}
+use Rattle.second_half_laws.proofs.MovePlaces.{works_within}
+use Rattle.second_half_laws.proofs.Places.{fetched_before_work}
+use Rattle.second_half_laws.proofs.Points.{Facts, begin_of, mark_of}
+
+-- ---- a count rose, or did not
+
+rose_or_not : (a b : ℕ) → Rose a b ⊎ (Rose a b → ⊥)
+rose_or_not a b = elim (cases_lt a last_count) [
+  | inr k ↦ inl (λ l. omega (arith, k, l))
+  | inl k ↦ elim (cases_lt a b) [
+    | inl l ↦ inl (λ z. l)
+    | inr l ↦ inr (λ rose. (let g = rose k in omega (arith, g, l)))
+  ]
+]
+
+-- the count of one of these providers rose, or of none
+some_rose : (w v : State) (n : ℕ) → ((i : ℕ) × (i < n) × RoseSince w v i) ⊎
+    ((i : ℕ) → i < n → RoseSince w v i → ⊥)
+some_rose w v zero = inr (λ i l rose. omega (arith, l))
+some_rose w v (suc n) = elim (some_rose w v n) [
+  | inl p ↦ inl (p.0, (let l = p.1 in omega (arith, l)), p.2)
+  | inr none ↦ elim (rose_or_not (w.providers n).other_faults (v.providers n).other_faults) [
+    | inl rose ↦ inl (n, omega arith, rose)
+    | inr other ↦ inr (λ i l rose. elim (cases_lt i n) [
+      | inl k ↦ none i k rose
+      | inr k ↦ other (subst (RoseSince w v) (let e : i ≡ n = omega (arith, l, k) in e) rose)
+    ])
+  ]
+]
+
+-- ---- the work of a job that relies on providers
+
+module _ (limit : ℕ) (mark : Mark) (start : State) (ms : List Moment) (clean : IsStart start)
+    (run : IsRun limit start ms) (F : Facts mark start ms)
+    (calm : (k : ℕ) (j : Job) → job_of (now start ms).jobs k ≡ Some j → IsTrue (relies j.kind) →
+    replaced_count (now start ms) (mark_of mark ms j) ms ≤ (setup_in (now start ms)).b)
+    (job : Job) (runs : job_of (now start ms).jobs job.number ≡ Some job)
+    (reads : relies job.kind ≡ true) where
+  -- while a job runs, the setup makes a shape
+  shape : IsShape (setup_in (now start ms)).n (setup_in (now start ms)).l (setup_in (now start ms)).b
+  shape = shape_in (now start ms)
+      (λ s e. valid_shape s ((eff.facts limit start ms clean run).setup s e))
+      (elim (cases_Bool (now start ms).is_open) [
+        | inl t ↦ (eff.facts limit start ms clean run).opened t
+        | inr f ↦ absurd (found_none (now start ms).jobs job.number job
+            ((all limit start clean ms run).numbers.idle.idle f).0 runs)
+      ])
+
+  module _ (f : Pinned) (stripe : ℕ) (in_file : In f job.pinned)
+      (below : stripe < stripes_of (profiled (setup_in (now start ms)) f.profile)
+      (length ((now start ms).bytes f.id)))
+      (asked : (i : ℕ) → i < (setup_in (now start ms)).n →
+      HasMade (setup_in (now start ms)) job (Fetch i f.id stripe))
+      (none : (i : ℕ) → i < (setup_in (now start ms)).n →
+      RoseSince (begin_of start ms job) (now start ms) i → ⊥) where
+    abbrev is_bad : ℕ → Bool
+    is_bad i = is_wrong_block (pinned_object (now start ms) f) ((now start ms).bytes f.id) i stripe
+        (block_at (blocks_given job.given (setup_in (now start ms)).n f.id stripe) i)
+
+    one : (i : ℕ) → i < (setup_in (now start ms)).n → is_bad i ≡ true →
+        is_replaced_since (mark_of mark ms job) i ms ≡ true
+    one i l wrong =
+        (let g = made_fetch_gave limit start clean ms run job.number job i f.id stripe runs (asked i l) in
+        let given = given_block job.given i f.id stripe g.0 g.1 in
+        let bad : is_wrong_block (pinned_object (now start ms) f) ((now start ms).bytes f.id) i stripe
+        (block_given job.given f.id stripe i) ≡ true =
+        subst (λ y. is_wrong_block (pinned_object (now start ms) f) ((now start ms).bytes f.id) i stripe y
+        ≡ true) (block_at-given job.given (setup_in (now start ms)).n f.id stripe i l) wrong in
+        elim (F.gave job.number job f i stripe (block_given job.given f.id stripe i) runs in_file l below
+        given bad) [
+          | inl r ↦ r
+          | inr q ↦ absurd (none i l q.1)
+        ])
+
+    -- where no count rose, few providers gave a wrong block, or none
+    few : count_of is_bad (upto (setup_in (now start ms)).n) ≤ (setup_in (now start ms)).b
+    few = (let w = count_of-within is_bad (λ i. is_replaced_since (mark_of mark ms job) i ms) 0
+        (setup_in (now start ms)).n (λ i l wrong. one i (omega (arith, l)) wrong) in
+        let c : count_of (λ i. is_replaced_since (mark_of mark ms job) i ms)
+        (upto (setup_in (now start ms)).n) ≤ (setup_in (now start ms)).b =
+        calm job.number job runs reads in
+        omega (arith, w, c))
+
+    -- so no row is lost
+    not_lost : (row : ℕ) → LosesRow (pinned_object (now start ms) f) stripe
+        (blocks_given job.given (setup_in (now start ms)).n f.id stripe) row → ⊥
+    not_lost row h = h.lost
+        (row_polynomial (pinned_object (now start ms) f)
+        (symbols_in (pinned_object (now start ms) f) ((now start ms).bytes f.id) stripe) h.place)
+        (row-right (pinned_object (now start ms) f) ((now start ms).bytes f.id) f.profile stripe h.place
+        (blocks_given job.given (setup_in (now start ms)).n f.id stripe) h.opened refl shape few h.opens
+        (let room = profile-room (pinned_object (now start ms) f) f.profile refl in let k = h.kept in
+        omega (arith, room, k)))
+
+  -- work that loses a row, and no count that rose, do not go together
+  loses_none : ((i : ℕ) → i < (setup_in (now start ms)).n →
+      RoseSince (begin_of start ms job) (now start ms) i → ⊥) → (f : Pinned) → In f job.pinned →
+      (stripe row : ℕ) → stripe < pinned_stripes (setup_in (now start ms)) f →
+      next_action (now start ms) job ≡ Some (Work f.id stripe) →
+      LosesRow (worked_object (now start ms) job f.id) stripe
+      (blocks_given job.given (setup_in (now start ms)).n f.id stripe) row → ⊥
+  loses_none none f in_file stripe row low next_is lost =
+      (let E = always limit start clean ms run in
+      not_lost f stripe in_file
+      (subst (λ (y : List ℕ). stripe < stripes_of (profiled (setup_in (now start ms)) f.profile) (length y))
+      (E.pinned job.number job f runs in_file) low)
+      (λ i l. fetched_before_work (now start ms) job f.id stripe i next_is l) none row
+      (subst (λ (o : Object). LosesRow o stripe
+      (blocks_given job.given (setup_in (now start ms)).n f.id stripe) row)
+      (worked_is start ms E job f.id runs (record { file = f; pinned = in_file; id_is = refl })) lost))
+
+  -- where work loses a row, a provider's count rose since the job's begin
+  pub count_rose : (o stripe row : ℕ) → next_action (now start ms) job ≡ Some (Work o stripe) →
+      LosesRow (worked_object (now start ms) job o) stripe
+      (blocks_given job.given (setup_in (now start ms)).n o stripe) row →
+      (i : ℕ) × (i < (setup_in (now start ms)).n) × RoseSince (begin_of start ms job) (now start ms) i
+  count_rose o stripe row next_is lost =
+      elim (some_rose (begin_of start ms job) (now start ms) (setup_in (now start ms)).n) [
+        | inl p ↦ p
+        | inr none ↦ absurd (by_file none (works_within (now start ms) job o stripe job.kind refl reads next_is))
+      ]
+    where
+      by_file : ((i : ℕ) → i < (setup_in (now start ms)).n →
+          RoseSince (begin_of start ms job) (now start ms) i → ⊥) →
+          (f : Pinned) × In f job.pinned × (f.id ≡ o) × (stripe < pinned_stripes (setup_in (now start ms)) f) →
+          ⊥
+      by_file none (f, in_file, id_is, low) = loses_none none f in_file stripe row low
+          (subst (λ n. next_action (now start ms) job ≡ Some (Work n stripe)) (sym id_is) next_is)
+          (subst (λ n. LosesRow (worked_object (now start ms) job n) stripe
+          (blocks_given job.given (setup_in (now start ms)).n n stripe) row) (sym id_is) lost)

@@ -1,0 +1,36 @@
+//! Concrete values that meet what the laws suppose: the run with damage, its audit and its repair.
+ghost use Rattle.std.specs.Prelude.{◌≡◌, ℕ, List, [], ◌∷◌, ◌++◌, Some, true, false};
+ghost use Rattle.record_defs.specs.Table.{Due, due_of};
+ghost use Rattle.machine_defs.specs.Events.{Names, Listed, Closed};
+ghost use Rattle.machine_defs.specs.Examples.{set_up};
+ghost use Rattle.machine_defs.specs.Runs.{Moment, IsRun, now};
+ghost use Rattle.damage_run.specs.Schedule.{name, IsOutright};
+ghost use Rattle.damage_run.specs.SecondLoss.{MovesMark};
+ghost use Rattle.outcome_laws.specs.RunEnds.{TellsAudit};
+
+use crate::laws::{audits_tell_their_sums, calm_repairs_end_well, listings_give_the_files};
+
+/// Behind the run with damage a list gives its one file; before the first event it is closed.
+pub fn a_list_is_given()
+    ensures opened { (ms : List Moment) × (m : Moment) × IsOutright ms × IsRun 8 set_up (m ∷ ms)
+        × (m.event ≡ Names) × ((now set_up ms).is_open ≡ true)
+        × (m.outcome ≡ Listed (record { name = name; id = 1; size = 1; profile = 0 } ∷ [])) }
+    ensures closed { (m : Moment) × IsRun 8 set_up (m ∷ []) × (m.event ≡ Names) × (set_up.is_open ≡ false)
+        × (m.outcome ≡ Closed) }
+{
+    listings_give_the_files();
+}
+
+/// In the run with damage the audit tells its sums, and the repair says the number of the audit that is due.
+pub fn an_audit_and_its_repair_end()
+    ensures audit { (later recent older : List Moment) → (h : MovesMark later recent older)
+        → TellsAudit set_up older (h.mended.auditing ++ h.mended.audit_begin ∷ older) h.mended.number
+        h.mended.undecided h.mended.counts }
+    ensures repair { (later recent older : List Moment) → (h : MovesMark later recent older)
+        → (due : Due) × (due_of (now set_up (h.mended.between
+        ++ h.mended.audit_end ∷ (h.mended.auditing ++ h.mended.audit_begin ∷ older))).records ≡ Some due)
+        × (h.mended.number ≡ due.number) }
+{
+    audits_tell_their_sums();
+    calm_repairs_end_well();
+}
