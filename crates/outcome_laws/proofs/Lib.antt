@@ -2,4 +2,5 @@ pub mod Listings
 pub mod Begun
 pub mod LostRepairs
 pub mod Repairs
+pub mod OneSums
 pub mod Audits

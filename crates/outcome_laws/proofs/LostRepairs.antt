@@ -63,6 +63,18 @@ some_rose w v (suc n) = elim (some_rose w v n) [
   ]
 ]
 
+-- while a job runs, the setup makes a shape
+pub runs_shape : (limit : ℕ) (start : State) (ms : List Moment) → IsStart start → IsRun limit start ms →
+    (k : ℕ) (job : Job) → job_of (now start ms).jobs k ≡ Some job →
+    IsShape (setup_in (now start ms)).n (setup_in (now start ms)).l (setup_in (now start ms)).b
+runs_shape limit start ms clean run k job runs = shape_in (now start ms)
+    (λ s e. valid_shape s ((eff.facts limit start ms clean run).setup s e))
+    (elim (cases_Bool (now start ms).is_open) [
+      | inl t ↦ (eff.facts limit start ms clean run).opened t
+      | inr f ↦ absurd (found_none (now start ms).jobs k job
+          ((all limit start clean ms run).numbers.idle.idle f).0 runs)
+    ])
+
 -- ---- the work of a job that relies on providers
 
 module _ (limit : ℕ) (mark : Mark) (start : State) (ms : List Moment) (clean : IsStart start)
@@ -71,15 +83,8 @@ module _ (limit : ℕ) (mark : Mark) (start : State) (ms : List Moment) (clean :
     replaced_count (now start ms) (mark_of mark ms j) ms ≤ (setup_in (now start ms)).b)
     (job : Job) (runs : job_of (now start ms).jobs job.number ≡ Some job)
     (reads : relies job.kind ≡ true) where
-  -- while a job runs, the setup makes a shape
   shape : IsShape (setup_in (now start ms)).n (setup_in (now start ms)).l (setup_in (now start ms)).b
-  shape = shape_in (now start ms)
-      (λ s e. valid_shape s ((eff.facts limit start ms clean run).setup s e))
-      (elim (cases_Bool (now start ms).is_open) [
-        | inl t ↦ (eff.facts limit start ms clean run).opened t
-        | inr f ↦ absurd (found_none (now start ms).jobs job.number job
-            ((all limit start clean ms run).numbers.idle.idle f).0 runs)
-      ])
+  shape = runs_shape limit start ms clean run job.number job runs
 
   module _ (f : Pinned) (stripe : ℕ) (in_file : In f job.pinned)
       (below : stripe < stripes_of (profiled (setup_in (now start ms)) f.profile)

@@ -1,6 +1,9 @@
 //! Concrete values that meet what the laws suppose: the run with damage, its audit and its repair.
 ghost use Rattle.std.specs.Prelude.{◌≡◌, ℕ, List, [], ◌∷◌, ◌++◌, Some, true, false};
 ghost use Rattle.record_defs.specs.Table.{Due, due_of};
+ghost use Rattle.column_defs.specs.Verdicts.{Sums};
+ghost use Rattle.machine_defs.specs.Audits.{HasSums};
+ghost use Rattle.machine_defs.specs.States.{setup_in};
 ghost use Rattle.machine_defs.specs.Events.{Names, Listed, Closed};
 ghost use Rattle.machine_defs.specs.Examples.{set_up};
 ghost use Rattle.machine_defs.specs.Runs.{Moment, IsRun, now};
@@ -21,11 +24,17 @@ pub fn a_list_is_given()
     listings_give_the_files();
 }
 
-/// In the run with damage the audit tells its sums, and the repair says the number of the audit that is due.
+/// In the run with damage the audit tells its sums, which are the only ones, and the repair says the number of the
+/// audit that is due.
 pub fn an_audit_and_its_repair_end()
     ensures audit { (later recent older : List Moment) → (h : MovesMark later recent older)
         → TellsAudit set_up older (h.mended.auditing ++ h.mended.audit_begin ∷ older) h.mended.number
         h.mended.undecided h.mended.counts }
+    ensures one { (later recent older : List Moment) → (h : MovesMark later recent older)
+        → (t : TellsAudit set_up older (h.mended.auditing ++ h.mended.audit_begin ∷ older) h.mended.number
+        h.mended.undecided h.mended.counts) → (sums : Sums)
+        → HasSums (setup_in (now set_up (h.mended.auditing ++ h.mended.audit_begin ∷ older))) t.job sums
+        → sums ≡ record { counts = h.mended.counts; undecided = h.mended.undecided } }
     ensures repair { (later recent older : List Moment) → (h : MovesMark later recent older)
         → (due : Due) × (due_of (now set_up (h.mended.between
         ++ h.mended.audit_end ∷ (h.mended.auditing ++ h.mended.audit_begin ∷ older))).records ≡ Some due)

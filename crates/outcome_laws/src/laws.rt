@@ -1,7 +1,11 @@
 //! Laws over runs on outcomes: what a list of the names, a repair and an audit answer.
 ghost use Rattle.std.specs.Prelude.{◌≡◌, ℕ, List, ◌∷◌, ◌++◌, true, false};
+ghost use Rattle.hail_field.specs.Shape.{IsShape};
+ghost use Rattle.column_defs.specs.Verdicts.{Sums};
+ghost use Rattle.record_defs.specs.Records.{Setup};
 ghost use Rattle.record_defs.specs.Table.{files_of};
-ghost use Rattle.machine_defs.specs.Jobs.{AuditJob, RepairJob};
+ghost use Rattle.machine_defs.specs.Jobs.{AuditJob, RepairJob, Job};
+ghost use Rattle.machine_defs.specs.Audits.{HasSums};
 ghost use Rattle.machine_defs.specs.Answers.{Answer};
 ghost use Rattle.machine_defs.specs.Events.{Begin, Step, Names, Begun, Ended, Listed, Closed};
 ghost use Rattle.machine_defs.specs.States.{State, IsStart};
@@ -40,11 +44,14 @@ pub fn calm_repairs_end_well()
 
 /// In every run an audit that a step ends says the number that it drew, and the sums to which what its asks of
 /// the files in effect at its begin gave is judged; or the count of the disk rose in that step, or it found no
-/// memory.
+/// memory. The sums hang on nothing else: those of two audits of one number, of the same files and of the same
+/// answers, are one.
 pub fn audits_tell_their_sums()
-    ensures { (limit : ℕ) (start : State) (between older : List Moment) (m b : Moment) (number : ℕ)
+    ensures ends { (limit : ℕ) (start : State) (between older : List Moment) (m b : Moment) (number : ℕ)
         (answer : Answer) → IsStart start → IsRun limit start (m ∷ (between ++ b ∷ older))
         → b.event ≡ Begin AuditJob → b.outcome ≡ Begun number → NoneBegan number between
         → m.event ≡ Step number → m.outcome ≡ Ended answer
         → EndsAudit start older (between ++ b ∷ older) m.state answer }
+    ensures one { (s : Setup) (x y : Job) (a b : Sums) → IsShape s.n s.l s.b → x.pinned ≡ y.pinned
+        → x.subject ≡ y.subject → x.given ≡ y.given → HasSums s x a → HasSums s y b → a ≡ b }
 {}

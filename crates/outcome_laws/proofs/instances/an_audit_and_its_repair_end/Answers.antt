@@ -1,10 +1,12 @@
-use Rattle.std.proofs.Common.{List, ◌∷◌, ◌++◌, subst}
+use Rattle.std.proofs.Common.{List, ◌∷◌, ◌++◌, refl, subst}
 use Rattle.machine_defs.specs.Answers.{Audited, Repaired}
-use Rattle.machine_defs.specs.Runs.{Moment, IsRun}
+use Rattle.machine_defs.specs.States.{setup_in}
+use Rattle.machine_defs.specs.Runs.{Moment, IsRun, now}
 use Rattle.machine_defs.specs.Examples.{set_up}
 use Rattle.machine_defs.proofs.Untouched.{run_back}
 use Rattle.second_half_laws.specs.MarkedRuns.{IsCalmRun}
 use Rattle.second_half_laws.specs.Mended.{IsMended}
+use Rattle.outcome_laws.proofs.LostRepairs.{runs_shape}
 use Rattle.outcome_laws.proofs.instances.an_audit_and_its_repair_end.Goals as goal
 
 -- up to the audit's end
@@ -18,9 +20,17 @@ to_audit older ms h run =
 
 pub returns-clause-audit : goal.returns-clause-audit
 returns-clause-audit c = λ later recent older h. (let q = h.mended in
-    c.audits_tell_their_sums.ensures 8 set_up q.auditing older q.audit_end q.audit_begin q.audit
+    c.audits_tell_their_sums.ensures.ends 8 set_up q.auditing older q.audit_end q.audit_begin q.audit
     (Audited q.number q.undecided q.counts) h.calm.clean (to_audit older (recent ++ older) q h.calm.run)
     q.audit_event q.audit_begun q.none_audit q.audit_step q.audited)
+
+pub returns-clause-one : goal.returns-clause-one
+returns-clause-one c = λ later recent older h t sums has. (let q = h.mended in
+    let tail = q.auditing ++ q.audit_begin ∷ older in
+    let run = (to_audit older (recent ++ older) q h.calm.run).2 in
+    c.audits_tell_their_sums.ensures.one (setup_in (now set_up tail)) t.job t.job sums
+    (record { counts = q.counts; undecided = q.undecided })
+    (runs_shape 8 set_up tail h.calm.clean run t.job.number t.job t.runs) refl refl refl has t.whole.sums)
 
 pub returns-clause-repair : goal.returns-clause-repair
 returns-clause-repair c = λ later recent older h. (let q = h.mended in
