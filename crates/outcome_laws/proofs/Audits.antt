@@ -1,8 +1,7 @@
 -- How an audit ends in a run.
-use Rattle.std.proofs.Common.{◌≡◌, ℕ, ◌+◌, ◌-◌, ◌<◌, ◌≤◌, List, [], ◌∷◌, ◌++◌, length, Some, refl, ap, sym, subst, ◌∙◌, inl, inr, arith}
+use Rattle.std.proofs.Common.{◌≡◌, ℕ, ◌+◌, ◌-◌, ◌≤◌, List, [], ◌∷◌, ◌++◌, length, Some, ap, sym, subst, ◌∙◌, inl, inr, arith}
 use Rattle.algebra_laws.proofs.Each.{each_get}
-use Rattle.record_defs.specs.Records.{Setup}
-use Rattle.machine_defs.specs.Jobs.{Kind, AuditJob, Answered, Job, job_of}
+use Rattle.machine_defs.specs.Jobs.{AuditJob, Answered, Job, job_of}
 use Rattle.machine_defs.specs.Actions.{Action, Ask, End, append_actions, ask_actions}
 use Rattle.machine_defs.specs.Answers as answer
 use Rattle.machine_defs.specs.Answers.{Answer}
@@ -28,8 +27,7 @@ use Rattle.second_half_laws.specs.Whole.{AuditIsWhole}
 use Rattle.second_half_laws.proofs.EveryRun.{always}
 use Rattle.second_half_laws.proofs.MadeFacts as made
 use Rattle.second_half_laws.proofs.Places.{asks_all, ask_at}
-use Rattle.second_half_laws.proofs.Points.{begin_of}
-use Rattle.outcome_laws.specs.RunEnds.{TellsAudit, EndsAudit}
+use Rattle.outcome_laws.specs.RunEnds.{EndsAudit}
 use Rattle.outcome_laws.proofs.Begun.{as_begun}
 
 -- ---- an audit at its end has made its asks
@@ -41,7 +39,8 @@ NoEnd action = Unit {0}
 past_asks : (w : State) (job : Job) → job.kind ≡ AuditJob → next_action w job ≡ Some End →
     4 + length (ask_actions (setup_in w) job) ≤ job.place
 past_asks w job kind next_is =
-    elim (split_get append_actions (ask_actions (setup_in w) job ++ (append_actions ++ End ∷ [])) job.place End
+    elim (split_get append_actions (ask_actions (setup_in w) job ++ (append_actions ++ End ∷ []))
+    job.place End
     (sym (next_is_by w job ∙ ap (λ kd. next_by w job kd job.place) kind) ∙ next_is)) [
       | inl h ↦ absurd (each_get NoEnd append_actions job.place End (tt, (tt, (tt, (tt, tt)))) h.1)
       | inr h ↦ elim (split_get (ask_actions (setup_in w) job) (append_actions ++ End ∷ [])
@@ -108,8 +107,8 @@ pub audits_end : (limit : ℕ) (start : State) (between older : List Moment) (m 
     EndsAudit start older (between ++ b ∷ older) m.state how
 audits_end limit start between older m b number how clean run on begun none event outcome =
     (let ms = between ++ b ∷ older in
-    let q = ended_of_kind limit start between older m b AuditJob number how clean run (inl on) begun none event
-    outcome in
+    let q = ended_of_kind limit start between older m b AuditJob number how clean run (inl on) begun none
+    event outcome in
     let job = q.0 in
     let runs : job_of (now start ms).jobs job.number ≡ Some job = ap (job_of (now start ms).jobs) q.2 ∙ q.1 in
     audit_ends limit start m ms clean run job runs q.3 (event ∙ ap Step (sym q.2)) older how q.4

@@ -1,7 +1,7 @@
 -- A running job works on the files of its begin, and a repair has the number of the audit that was due then.
-use Rattle.std.proofs.Common.{◌≡◌, ℕ, ◌≤◌, List, [], ◌∷◌, length, Option, Some, None, refl, ap, sym, subst, ◌∙◌, arith}
+use Rattle.std.proofs.Common.{◌≡◌, ℕ, List, [], ◌∷◌, length, Some, None, refl, ap, sym, subst, ◌∙◌, arith}
 use Rattle.record_defs.specs.Table.{Due, due_of}
-use Rattle.machine_defs.specs.Jobs.{Kind, RepairJob, Job, job_of}
+use Rattle.machine_defs.specs.Jobs.{RepairJob, Job, job_of}
 use Rattle.machine_defs.specs.States.{State, IsStart}
 use Rattle.machine_defs.specs.Begins.{refusal_of_begin, pinned_for, due_number, subject_at_begin}
 use Rattle.machine_defs.specs.Appends.{subject_drawn}

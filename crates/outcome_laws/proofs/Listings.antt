@@ -1,7 +1,7 @@
 -- What a list of the names gives.
-use Rattle.std.proofs.Common.{◌≡◌, ℕ, Bool, true, false, List, ◌∷◌, length, refl, ap, subst}
+use Rattle.std.proofs.Common.{◌≡◌, ℕ, true, false, List, ◌∷◌, length, refl, ap, subst}
 use Rattle.record_defs.specs.Table.{files_of}
-use Rattle.machine_defs.specs.Events.{Event, Names, Outcome, Ready, Refused, Opened, Begun, More, Waiting, Ended, Replaced, NothingHeld, Stopped, Listed, Closed, Continued}
+use Rattle.machine_defs.specs.Events.{Event, Names, Outcome, Listed, Closed}
 use Rattle.machine_defs.specs.States.{State}
 use Rattle.machine_defs.specs.Machine.{Lists, Happens}
 use Rattle.machine_defs.specs.Runs.{Moment, now, IsRun}

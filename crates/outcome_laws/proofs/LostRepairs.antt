@@ -1,6 +1,6 @@
 -- A repair that relies on providers is lost only where a provider's count rose.
-use Rattle.std.proofs.Common.{◌≡◌, ℕ, zero, suc, ◌<◌, ◌≤◌, Bool, true, false, ◌⊎◌, List, ◌∷◌, length, Option, Some, None, refl, ap, sym, subst, ◌∙◌, inl, inr, arith}
-use Rattle.std.specs.Prelude.{IsTrue, is_some}
+use Rattle.std.proofs.Common.{◌≡◌, ℕ, zero, suc, ◌<◌, ◌≤◌, Bool, true, ◌⊎◌, List, length, Some, refl, sym, subst, inl, inr, arith}
+use Rattle.std.specs.Prelude.{IsTrue}
 use Rattle.std.proofs.lemmas.Bool.{cases_Bool, cases_lt}
 use Rattle.algebra_laws.specs.Lists.{In}
 use Rattle.hail_field.specs.Shape.{IsShape}
@@ -12,18 +12,16 @@ use Rattle.column_defs.specs.Forgeries.{count_of}
 use Rattle.column_laws.proofs.Counts.{count_of-within}
 use Rattle.column_laws.proofs.UniqueLaws.{profile-room}
 use Rattle.column_laws.proofs.RightRows.{row-right}
-use Rattle.record_defs.specs.Table.{setup_of}
 use Rattle.device_defs.specs.Faults.{Rose, last_count}
 use Rattle.machine_defs.specs.Jobs.{Pinned, Job, job_of}
 use Rattle.machine_defs.specs.Setups.{profiled, stripes_of, pinned_stripes}
 use Rattle.machine_defs.specs.Actions.{Fetch, Work}
-use Rattle.machine_defs.specs.States.{State, IsStart, setup_in, object_in, pinned_object, worked_object}
+use Rattle.machine_defs.specs.States.{State, IsStart, setup_in, pinned_object, worked_object}
 use Rattle.machine_defs.specs.Given.{block_given, blocks_given}
 use Rattle.machine_defs.specs.Steps.{next_action}
 use Rattle.machine_defs.specs.Runs.{Moment, now, is_replaced_since, IsRun}
 use Rattle.machine_defs.specs.Calm.{Mark, relies, replaced_count}
 use Rattle.machine_defs.proofs.JobLists.{found_none}
-use Rattle.machine_defs.proofs.Fair.{HasPin}
 use Rattle.machine_defs.proofs.Held.{all}
 use Rattle.machine_defs.proofs.Given.{block_at-given}
 use Rattle.run_laws.proofs.InEffect as eff
@@ -157,13 +155,14 @@ module _ (limit : ℕ) (mark : Mark) (start : State) (ms : List Moment) (clean :
   count_rose o stripe row next_is lost =
       elim (some_rose (begin_of start ms job) (now start ms) (setup_in (now start ms)).n) [
         | inl p ↦ p
-        | inr none ↦ absurd (by_file none (works_within (now start ms) job o stripe job.kind refl reads next_is))
+        | inr none ↦ absurd (by_file none
+            (works_within (now start ms) job o stripe job.kind refl reads next_is))
       ]
     where
       by_file : ((i : ℕ) → i < (setup_in (now start ms)).n →
           RoseSince (begin_of start ms job) (now start ms) i → ⊥) →
-          (f : Pinned) × In f job.pinned × (f.id ≡ o) × (stripe < pinned_stripes (setup_in (now start ms)) f) →
-          ⊥
+          (f : Pinned) × In f job.pinned × (f.id ≡ o)
+          × (stripe < pinned_stripes (setup_in (now start ms)) f) → ⊥
       by_file none (f, in_file, id_is, low) = loses_none none f in_file stripe row low
           (subst (λ n. next_action (now start ms) job ≡ Some (Work n stripe)) (sym id_is) next_is)
           (subst (λ n. LosesRow (worked_object (now start ms) job n) stripe

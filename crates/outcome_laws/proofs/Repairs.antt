@@ -30,7 +30,7 @@ use Rattle.second_half_laws.proofs.Points.{begin_of}
 use Rattle.second_half_laws.proofs.Readers.{rose_on}
 use Rattle.second_half_laws.proofs.SecondHalf.{calm_now, marked_facts}
 use Rattle.outcome_laws.specs.RunEnds.{EndsRepair}
-use Rattle.outcome_laws.proofs.Begun.{AsBegun, as_begun}
+use Rattle.outcome_laws.proofs.Begun.{as_begun}
 use Rattle.outcome_laws.proofs.LostRepairs.{count_rose}
 
 -- ---- a step that ends a job as lost is its work, which lost the row
@@ -115,9 +115,10 @@ module _ (limit : ℕ) (mark : Mark) (start : State) (m : Moment) (ms : List Mom
   lost_by stripe row outcome =
       (let w = step_lost (now start ms) job m.state stripe row (now start ms).is_open
       (all limit start h.clean ms h.run.2).numbers.idle.lone runs
-      (subst (λ (x : Event). Happens limit (length ms) (now start ms) x (Ended (answer.Lost stripe row)) m.state)
-      event
-      (subst (λ (r : Outcome). Happens limit (length ms) (now start ms) m.event r m.state) outcome h.run.1)) in
+      (subst (λ (x : Event). Happens limit (length ms) (now start ms) x (Ended (answer.Lost stripe row))
+      m.state) event
+      (subst (λ (r : Outcome). Happens limit (length ms) (now start ms) m.event r m.state) outcome
+      h.run.1)) in
       let r = count_rose limit mark start ms h.clean h.run.2
       (marked_facts limit mark start h.clean h.tell ms h.run.2 h.calm.1 h.marks.1)
       (calm_now mark start h.clean ms h.calm.1) job runs (ap relies kind) w.0 stripe row w.1 w.2 in
@@ -127,8 +128,8 @@ module _ (limit : ℕ) (mark : Mark) (start : State) (m : Moment) (ms : List Mom
   due_at : (number : ℕ) → m.outcome ≡ Ended (answer.Repaired number) →
       (u : Due) × (due_of (begin_of start ms job).records ≡ Some u) × (number ≡ u.number)
   due_at number outcome =
-      (let e = event_end limit (length ms) (now start ms) m.event m.outcome m.state job (answer.Repaired number)
-      (λ z. z) event outcome runs h.run.1 in
+      (let e = event_end limit (length ms) (now start ms) m.event m.outcome m.state job
+      (answer.Repaired number) (λ z. z) event outcome runs h.run.1 in
       let is : number ≡ job.subject =
       subst (λ kd. Ends (now start ms) job kd (answer.Repaired number)) kind e.1 in
       let d = (as_begun limit start h.clean ms h.run.2 job.number job runs).due kind in

@@ -24,8 +24,8 @@ pub fn a_list_is_given()
     listings_give_the_files();
 }
 
-/// In the run with damage the audit tells its sums, which are the only ones, and the repair says the number of the
-/// audit that is due.
+/// In the run with damage the audit tells its sums, which are the only ones, and the repair says the number of
+/// the audit that is due.
 pub fn an_audit_and_its_repair_end()
     ensures audit { (later recent older : List Moment) → (h : MovesMark later recent older)
         → TellsAudit set_up older (h.mended.auditing ++ h.mended.audit_begin ∷ older) h.mended.number

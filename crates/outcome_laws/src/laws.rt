@@ -42,10 +42,10 @@ pub fn calm_repairs_end_well()
         → EndsRepair (now start older) (now start (between ++ b ∷ older)) m.state answer }
 {}
 
-/// In every run an audit that a step ends says the number that it drew, and the sums to which what its asks of
-/// the files in effect at its begin gave is judged; or the count of the disk rose in that step, or it found no
-/// memory. The sums hang on nothing else: those of two audits of one number, of the same files and of the same
-/// answers, are one.
+/// In every run an audit that a step ends says the number that it drew, and the sums to which what its asks
+/// gave, of the files in effect at its begin, is judged; or the count of the disk rose in that step, or it found
+/// no memory. The sums hang on nothing else: those of two audits of one number, of the same files and of the
+/// same answers, are one.
 pub fn audits_tell_their_sums()
     ensures ends { (limit : ℕ) (start : State) (between older : List Moment) (m b : Moment) (number : ℕ)
         (answer : Answer) → IsStart start → IsRun limit start (m ∷ (between ++ b ∷ older))
