@@ -1,5 +1,6 @@
 -- How repairs and audits end in a run.
 --
+--   NoneRose begun new                  == no count of the disk or of a provider rose between two states
 --   EndsRepair begun old new answer     == from the state at its begin, by a step between the other two, a
 --                                          repair ends so
 --   TellsAudit start older ms number undecided counts
@@ -18,6 +19,12 @@ use Rattle.machine_defs.specs.Runs.{Moment, now}
 use Rattle.machine_defs.specs.JobEnds.{StoreRose}
 use Rattle.second_half_laws.specs.Damage.{RoseSince}
 use Rattle.second_half_laws.specs.Whole.{AuditIsWhole}
+
+-- no count of the disk or of a provider rose
+pub record NoneRose (begun new : State) : Type 0 where
+  pub disk : Rose begun.disk_faults new.disk_faults → ⊥
+  pub stores : (provider : ℕ) → StoreRose begun new provider → ⊥
+  pub others : (provider : ℕ) → RoseSince begun new provider → ⊥
 
 -- a repair says the number of the audit that was due; or a count rose, or it found no memory
 abbrev pub EndsRepair : State → State → State → Answer → Type 0

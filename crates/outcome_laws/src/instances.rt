@@ -1,15 +1,20 @@
 //! Concrete values that meet what the laws suppose: the run with damage, its audit and its repair.
-ghost use Rattle.std.specs.Prelude.{◌≡◌, ℕ, List, [], ◌∷◌, ◌++◌, Some, true, false};
+ghost use Rattle.std.specs.Prelude.{◌≡◌, ◌⊎◌, ℕ, List, [], ◌∷◌, ◌++◌, Some, true, false};
 ghost use Rattle.record_defs.specs.Table.{Due, due_of};
 ghost use Rattle.column_defs.specs.Verdicts.{Sums};
 ghost use Rattle.machine_defs.specs.Audits.{HasSums};
 ghost use Rattle.machine_defs.specs.States.{setup_in};
-ghost use Rattle.machine_defs.specs.Events.{Names, Listed, Closed};
+ghost use Rattle.machine_defs.specs.Jobs.{RepairJob};
+ghost use Rattle.machine_defs.specs.Answers.{Repaired, Memory};
+ghost use Rattle.machine_defs.specs.Events.{Begin, Step, Names, Begun, Ended, Listed, Closed};
 ghost use Rattle.machine_defs.specs.Examples.{set_up};
 ghost use Rattle.machine_defs.specs.Runs.{Moment, IsRun, now};
+ghost use Rattle.machine_defs.specs.Calm.{since};
+ghost use Rattle.machine_defs.specs.Began.{NoneBegan};
+ghost use Rattle.second_half_laws.specs.MarkedRuns.{IsMarkedRun};
 ghost use Rattle.damage_run.specs.Schedule.{name, IsOutright};
 ghost use Rattle.damage_run.specs.SecondLoss.{MovesMark};
-ghost use Rattle.outcome_laws.specs.RunEnds.{TellsAudit};
+ghost use Rattle.outcome_laws.specs.RunEnds.{NoneRose, TellsAudit};
 
 use crate::laws::{audits_tell_their_sums, calm_repairs_end_well, listings_give_the_files};
 
@@ -24,8 +29,20 @@ pub fn a_list_is_given()
     listings_give_the_files();
 }
 
-/// In the run with damage the audit tells its sums, which are the only ones, and the repair says the number of
-/// the audit that is due.
+/// No count rises in the repair of that run, so it says its number or found no memory.
+pub fn no_count_rises_in_the_repair()
+    ensures { (m : Moment) × (b : Moment) × (between : List Moment) × (older : List Moment)
+        × IsMarkedRun 8 (since set_up) set_up (m ∷ (between ++ b ∷ older)) × (b.event ≡ Begin RepairJob)
+        × (b.outcome ≡ Begun 4) × NoneBegan 4 between × (m.event ≡ Step 4) × (m.outcome ≡ Ended (Repaired 1))
+        × NoneRose (now set_up older) m.state
+        × (((due : Due) × (due_of (now set_up older).records ≡ Some due) × (Repaired 1 ≡ Repaired due.number))
+        ⊎ (Repaired 1 ≡ Memory)) }
+{
+    calm_repairs_end_well();
+}
+
+/// In the run with damage the audit tells its sums, which are the only ones, and the repair says the number
+/// of the audit that is due.
 pub fn an_audit_and_its_repair_end()
     ensures audit { (later recent older : List Moment) → (h : MovesMark later recent older)
         → TellsAudit set_up older (h.mended.auditing ++ h.mended.audit_begin ∷ older) h.mended.number
