@@ -5,3 +5,4 @@ pub mod Repairs
 pub mod Unfailed
 pub mod OneSums
 pub mod Audits
+pub mod NoFaults

@@ -1,5 +1,5 @@
 -- A repair in a run that is calm by a mark, where no count rose since its begin.
-use Rattle.std.proofs.Common.{◌≡◌, ℕ, suc, ◌<◌, ◌≤◌, ◌⊎◌, List, [], ◌∷◌, ◌++◌, Some, refl, ap, sym, ◌∙◌, inl, inr, arith}
+use Rattle.std.proofs.Common.{◌≡◌, ℕ, ◌≤◌, ◌⊎◌, List, [], ◌∷◌, ◌++◌, Some, refl, ap, inl, inr, arith}
 use Rattle.std.proofs.lemmas.Bool.{cases_lt}
 use Rattle.record_defs.specs.Table.{Due, due_of}
 use Rattle.device_defs.specs.Faults.{Rose, last_count}
@@ -22,8 +22,8 @@ disk_on : (limit : ℕ) (start : State) (later ms : List Moment) → IsRun limit
     (now start ms).disk_faults ≤ (now start (later ++ ms)).disk_faults
 disk_on limit start [] ms run = omega arith
 disk_on limit start (m ∷ later) ms run =
-    (let a = disk_on limit start later ms run.2 in let b = (run_onward limit start m (later ++ ms) run).disk in
-    omega (arith, a, b))
+    (let a = disk_on limit start later ms run.2 in
+    let b = (run_onward limit start m (later ++ ms) run).disk in omega (arith, a, b))
 
 stores_on : (limit : ℕ) (start : State) (j : ℕ) (later ms : List Moment) → IsRun limit start (later ++ ms) →
     ((now start ms).providers j).store_faults ≤ ((now start (later ++ ms)).providers j).store_faults
