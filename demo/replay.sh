@@ -24,59 +24,6 @@ new_home() {
 digits=000102030405060708090a0b0c0d0e0f101112131415161718191a1b1c1d1e1f
 : >empty
 
-# Two puts beside one another, an audit that is given up, a get and a drop: the same lines over memory and over folders.
-cat >schedule <<SCHEDULE
-# a store of four providers
-begin get a
-reopen
-init 4 1 1 0 2 2 0 $digits
-reopen
-begin put a 6861696c
-step 1
-begin put b 73746f6e65
-step 2
-run 1
-run 2
-step 2
-begin audit
-stop -
-step 3
-reopen
-step 3
-begin get a
-run 4
-begin drop a
-run 5
-list
-SCHEDULE
-told='closed
-refused NotSetUp
-ready
-opened
-job 1
-more
-job 2
-waiting 1
-put
-put
-refused NoSuchJob
-job 3
-stopped
-closed
-opened
-refused NoSuchJob
-job 4
-got 6861696c
-job 5
-dropped
-names 1
-b 5'
-row 0 "$told" schedule - replay
-new_home
-row 0 "$told" schedule home replay
-row 0 'b 5' empty home list
-row 0 stone empty home get b
-
 # An upgrade runs alone. Behind it a put may name a profile; one that was put before keeps the setup's, and both come back.
 {
     echo "init 4 1 1 0 2 2 0 $digits"
@@ -140,6 +87,59 @@ for line in 'begin put a 00 256' 'begin put a 00 01' 'begin upgrade 2'; do
     echo "$line" >bad
     row 19 'hail: bad schedule line 1' bad - replay
 done
+
+# Two puts beside one another, an audit that is given up, a get and a drop: the same lines over memory and over folders.
+cat >schedule <<SCHEDULE
+# a store of four providers
+begin get a
+reopen
+init 4 1 1 0 2 2 0 $digits
+reopen
+begin put a 6861696c
+step 1
+begin put b 73746f6e65
+step 2
+run 1
+run 2
+step 2
+begin audit
+stop -
+step 3
+reopen
+step 3
+begin get a
+run 4
+begin drop a
+run 5
+list
+SCHEDULE
+told='closed
+refused NotSetUp
+ready
+opened
+job 1
+more
+job 2
+waiting 1
+put
+put
+refused NoSuchJob
+job 3
+stopped
+closed
+opened
+refused NoSuchJob
+job 4
+got 6861696c
+job 5
+dropped
+names 1
+b 5'
+row 0 "$told" schedule - replay
+new_home
+row 0 "$told" schedule home replay
+row 0 'b 5' empty home list
+row 0 stone empty home get b
 
 # The longest file at profile 2: 3,641 stripes of 1,152 bytes, so that block 3,640 is the last. With that one lost it still comes back.
 seq 1 700000 | head -c 4194304 | od -An -v -tx1 | tr -d ' \n' >hex
