@@ -1,0 +1,11 @@
+use Rattle.std.proofs.Common.{◌≡◌, ◌+◌, ◌*◌, ◌≤◌, ◌^◌, take}
+use Rattle.std.specs.Prelude.{sum_by}
+use Rattle.hail_scrub.specs.declared.cursor.Item.{Item}
+use Rattle.hail_scrub.proofs.begin.count_left.Given as goal
+
+abbrev pub invariant-loop-item : goal.invariant-loop-item
+invariant-loop-item l = record {
+  left : l.left ≡ 1 + sum_by (λ (item : Item). item.stripes * (2 * l.providers + 1))
+      (take l.item-index l.items);
+  most : l.left ≤ 1 + l.item-index * (2 ^ 22 * 33);
+}

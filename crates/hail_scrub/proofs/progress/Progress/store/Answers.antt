@@ -1,0 +1,179 @@
+use Rattle.std.proofs.Common.{◌+◌, ◌-◌, ◌<◌, ◌++◌, ◌∙◌, List, map, ap, sym, subst, refl, arith}
+use Rattle.std.specs.Prelude.{slice_set}
+use Rattle.std.specs.Option.{option_map}
+use Rattle.std.specs.Vec.{with_item}
+use Rattle.std.proofs.lemmas.List.{map-set}
+use Rattle.std.proofs.lemmas.Option.{slice_get-get_or, slice_get-map}
+use Rattle.algebra_laws.proofs.Lists.{get-set_other}
+use Rattle.provider_model.specs.Seen.{provider_seen}
+use Rattle.hail_scrub.specs.declared.cursor.Item.{Item}
+use Rattle.hail_scrub.specs.Todo.{stores_from, past_stripe}
+use Rattle.hail_scrub.specs.Progress.{CursorIsAt, scrub_view}
+use Rattle.hail_scrub.specs.Steps.{MakesNext}
+use Rattle.hail_scrub.proofs.Rests.{get_here}
+use Rattle.hail_scrub.proofs.Placed.{bench_there, falls_by}
+use Rattle.stripe_bench.proofs.Sights.{called_at}
+use Rattle.hail_scrub.proofs.Storing.{store_spot, store_within, store_some, store_fits, store_whole, store_done_whole, store_done, store_fails, store_finds_none, was_stored, was_failed, found_no_memory}
+use Rattle.hail_scrub.proofs.progress.Progress.store.Goals as goal
+
+pub index_mut-bench-requires : goal.index_mut-bench-requires
+index_mut-bench-requires g c =
+    let p = c.args.self.now in
+    let W = c.requires.whole in
+    let l = bench_there p W c.args.spot (store_spot p W c.args.spot c.args.provider c.requires.here) in
+    omega (arith, l)
+
+pub store-requires : goal.store-requires
+store-requires g c =
+    let p = c.args.self.now in
+    let W = c.requires.whole in
+    let spot = c.args.spot in
+    let within = bench_there p W spot (store_spot p W spot c.args.provider c.requires.here) in
+    store_fits p W spot c.args.provider c.requires.here c.index_mut-bench.result.now
+    (get_here p.benches.items spot.item.bench c.index_mut-bench.result.now within
+    c.index_mut-bench.ensures.value)
+
+pub stop-requires : goal.stop-requires
+stop-requires g c =
+    let p = c.args.self.now in
+    let W = c.requires.whole in
+    let spot = c.args.spot in
+    let b0 = c.index_mut-bench.result.now in
+    let within = bench_there p W spot (store_spot p W spot c.args.provider c.requires.here) in
+    store_whole p W spot c.args.provider c.requires.here b0
+    (get_here p.benches.items spot.item.bench b0 within c.index_mut-bench.ensures.value)
+    c.store.new.self c.store.ensures.object (with_item p.benches spot.item.bench c.store.new.self) refl
+
+pub stop-requires-in-Err-Memory : goal.stop-requires-in-Err-Memory
+stop-requires-in-Err-Memory g c =
+    let p = c.args.self.now in
+    let W = c.requires.whole in
+    let spot = c.args.spot in
+    let b0 = c.index_mut-bench.result.now in
+    let within = bench_there p W spot (store_spot p W spot c.args.provider c.requires.here) in
+    store_whole p W spot c.args.provider c.requires.here b0
+    (get_here p.benches.items spot.item.bench b0 within c.index_mut-bench.ensures.value)
+    c.store.new.self c.store.ensures.object (with_item p.benches spot.item.bench c.store.new.self) refl
+
+pub returns-in-Ok-clause-whole : goal.returns-in-Ok-clause-whole
+returns-in-Ok-clause-whole g c =
+    let p = c.args.self.now in
+    let W = c.requires.whole in
+    let spot = c.args.spot in
+    let j = c.args.provider in
+    let b0 = c.index_mut-bench.result.now in
+    let within = bench_there p W spot (store_spot p W spot j c.requires.here) in
+    let some : 0 < p.left = store_some p W spot j c.requires.here in
+    let after = c.stores_after-self in
+    store_done_whole p W spot j c.requires.here b0
+    (get_here p.benches.items spot.item.bench b0 within c.index_mut-bench.ensures.value)
+    c.store.new.self c.store.ensures.object (with_item p.benches spot.item.bench c.store.new.self) refl
+    after.result (p.left - 1)
+    (subst (λ (items : List Item). CursorIsAt p.providers items p.off after.result
+    (stores_from p.providers (j + 1) p.off spot.item.file.id spot.stripe ++ past_stripe p.providers items spot))
+    c.deref.ensures.value after.ensures.at)
+    after.ensures.behind (omega (arith, some))
+
+pub returns-in-Ok-clause-step : goal.returns-in-Ok-clause-step
+returns-in-Ok-clause-step g c =
+    let p = c.args.self.now in
+    let W = c.requires.whole in
+    let spot = c.args.spot in
+    let j = c.args.provider in
+    let b0 = c.index_mut-bench.result.now in
+    let within = bench_there p W spot (store_spot p W spot j c.requires.here) in
+    let some : 0 < p.left = store_some p W spot j c.requires.here in
+    let less : j < p.providers = store_within p W spot j c.requires.here in
+    let after = c.stores_after-self in
+    let seen = provider_seen g.P.Provider in
+    store_done p W spot j c.requires.here b0
+    (get_here p.benches.items spot.item.bench b0 within c.index_mut-bench.ensures.value)
+    c.store.new.self c.store.ensures.object (with_item p.benches spot.item.bench c.store.new.self) refl
+    after.result (p.left - 1)
+    (subst (λ (items : List Item). CursorIsAt p.providers items p.off after.result
+    (stores_from p.providers (j + 1) p.off spot.item.file.id spot.stripe ++ past_stripe p.providers items spot))
+    c.deref.ensures.value after.ensures.at)
+    after.ensures.behind (omega (arith, some))
+    c.store.ensures.rows _ _ _ _
+    (slice_get-map seen c.args.providers.now j
+    ∙ ap (option_map seen) (slice_get-get_or c.args.providers.now j c.index-providers-index.result
+    (omega (arith, less, c.requires.there))))
+    (map-set seen c.args.providers.now j c.store.new.to)
+    (was_stored _ _ _ _ _ _ _ c.in-Ok.is c.store.ensures.stored)
+
+pub returns-in-Ok-clause-left : goal.returns-in-Ok-clause-left
+returns-in-Ok-clause-left g c =
+    let p = c.args.self.now in
+    let some : 0 < p.left = store_some p c.requires.whole c.args.spot c.args.provider c.requires.here in
+    falls_by p _ c.requires.whole (returns-in-Ok-clause-whole g c) (omega (arith, some))
+
+pub returns-in-Ok-clause-others : goal.returns-in-Ok-clause-others
+returns-in-Ok-clause-others g c = λ k other.
+    get-set_other c.args.providers.now c.args.provider k c.store.new.to other
+
+pub returns-in-Ok-clause-called : goal.returns-in-Ok-clause-called
+returns-in-Ok-clause-called g c =
+    let less = store_within c.args.self.now c.requires.whole c.args.spot c.args.provider c.requires.here in
+    called_at g.P.Provider.calls c.args.providers.now c.args.provider c.index-providers-index.result
+    c.store.new.to (omega (arith, less, c.requires.there)) c.store.ensures.called
+
+pub returns-in-Err-Failed-clause-step : goal.returns-in-Err-Failed-clause-step
+returns-in-Err-Failed-clause-step g c =
+    let p = c.args.self.now in
+    let W = c.requires.whole in
+    let j = c.args.provider in
+    let less : j < p.providers = store_within p W c.args.spot j c.requires.here in
+    let b0 = c.index_mut-bench.result.now in
+    let there = get_here p.benches.items c.args.spot.item.bench b0
+    (bench_there p W c.args.spot (store_spot p W c.args.spot j c.requires.here))
+    c.index_mut-bench.ensures.value in
+    let seen = provider_seen g.P.Provider in
+    subst (λ t. MakesNext (scrub_view p) (map seen c.args.providers.now) t (scrub_view c.stop.new.self)
+    (map seen (slice_set c.args.providers.now j c.store.new.to))) (sym c.stop.ensures.answer)
+    (store_fails p W c.args.spot j c.requires.here b0 there _ _ _ _ _ c.stop.ensures.over
+    (slice_get-map seen c.args.providers.now j
+    ∙ ap (option_map seen) (slice_get-get_or c.args.providers.now j c.index-providers-index.result
+    (omega (arith, less, c.requires.there))))
+    (map-set seen c.args.providers.now j c.store.new.to)
+    (was_failed _ _ _ _ _ _ _ c.in-Err-Failed.is c.in-Err-Failed.field-0-is c.store.ensures.stored))
+
+pub returns-in-Err-Failed-clause-others : goal.returns-in-Err-Failed-clause-others
+returns-in-Err-Failed-clause-others g c = λ k other.
+    get-set_other c.args.providers.now c.args.provider k c.store.new.to other
+
+pub returns-in-Err-Failed-clause-called : goal.returns-in-Err-Failed-clause-called
+returns-in-Err-Failed-clause-called g c =
+    let less = store_within c.args.self.now c.requires.whole c.args.spot c.args.provider c.requires.here in
+    called_at g.P.Provider.calls c.args.providers.now c.args.provider c.index-providers-index.result
+    c.store.new.to (omega (arith, less, c.requires.there)) c.store.ensures.called
+
+pub returns-in-Err-Memory-clause-step : goal.returns-in-Err-Memory-clause-step
+returns-in-Err-Memory-clause-step g c =
+    let p = c.args.self.now in
+    let W = c.requires.whole in
+    let j = c.args.provider in
+    let less : j < p.providers = store_within p W c.args.spot j c.requires.here in
+    let b0 = c.index_mut-bench.result.now in
+    let there = get_here p.benches.items c.args.spot.item.bench b0
+    (bench_there p W c.args.spot (store_spot p W c.args.spot j c.requires.here))
+    c.index_mut-bench.ensures.value in
+    let seen = provider_seen g.P.Provider in
+    subst (λ t. MakesNext (scrub_view p) (map seen c.args.providers.now) t
+    (scrub_view c.stop-in-Err-Memory.new.self)
+    (map seen (slice_set c.args.providers.now j c.store.new.to))) (sym c.stop-in-Err-Memory.ensures.answer)
+    (store_finds_none p W c.args.spot j c.requires.here b0 there _ _ _ _ _ c.stop-in-Err-Memory.ensures.over
+    (slice_get-map seen c.args.providers.now j
+    ∙ ap (option_map seen) (slice_get-get_or c.args.providers.now j c.index-providers-index.result
+    (omega (arith, less, c.requires.there))))
+    (map-set seen c.args.providers.now j c.store.new.to)
+    (found_no_memory _ _ _ _ _ _ _ c.in-Err-Memory.is c.in-Err-Memory.field-0-is c.store.ensures.stored))
+
+pub returns-in-Err-Memory-clause-others : goal.returns-in-Err-Memory-clause-others
+returns-in-Err-Memory-clause-others g c = λ k other.
+    get-set_other c.args.providers.now c.args.provider k c.store.new.to other
+
+pub returns-in-Err-Memory-clause-called : goal.returns-in-Err-Memory-clause-called
+returns-in-Err-Memory-clause-called g c =
+    let less = store_within c.args.self.now c.requires.whole c.args.spot c.args.provider c.requires.here in
+    called_at g.P.Provider.calls c.args.providers.now c.args.provider c.index-providers-index.result
+    c.store.new.to (omega (arith, less, c.requires.there)) c.store.ensures.called

@@ -1,0 +1,38 @@
+use Rattle.std.proofs.Common.{List, map, ap, sym, subst, ◌∙◌}
+use Rattle.device_defs.specs.Providers.{Provider}
+use Rattle.provider_model.specs.Seen.{provider_seen}
+use Rattle.hail_scrub.specs.Views.{ScrubView, next_to_do, called_by}
+use Rattle.stripe_bench.specs.Calls.{provider_by}
+use Rattle.hail_scrub.specs.Stands.{ScrubStands, MakesScrubStep}
+use Rattle.hail_scrub.specs.Progress.{scrub_view}
+use Rattle.hail_scrub.proofs.Machine.{made_step}
+use Rattle.hail_scrub.proofs.Overs.{cursor_ends, over_is}
+use Rattle.hail_scrub.proofs.Sights.{map_twice, step_by}
+use Rattle.hail_scrub.proofs.scrub.Scrub.step.Goals as goal
+
+pub returns-clause-machine : goal.returns-clause-machine
+returns-clause-machine g c = λ w m is_told stands.
+    let seen = provider_seen g.P.Provider in
+    let by = provider_by is_told in
+    let ps = map seen c.args.providers.now in
+    let qs = map seen c.step.new.providers in
+    let v = scrub_view c.self.inside.progress in
+    let new = scrub_view c.step.new.self in
+    subst (λ (l : List Provider). MakesScrubStep w m c.step.result new l)
+    (map_twice by seen c.step.new.providers)
+    (made_step v (map by ps) w m
+    (subst (λ (z : ScrubView). ScrubStands z (map by ps) w m) (sym c.self.view_is)
+    (subst (λ (l : List Provider). ScrubStands c.args.self.now l w m)
+    (sym (map_twice by seen c.args.providers.now)) stands))
+    c.step.result new (map by qs) (step_by is_told v ps c.step.result new qs c.step.ensures.step))
+
+pub returns-clause-others : goal.returns-clause-others
+returns-clause-others g c = λ j k is other.
+    c.step.ensures.others j k (ap (λ (v : ScrubView). called_by (next_to_do v)) c.self.view_is ∙ is) other
+
+pub returns-clause-over : goal.returns-clause-over
+returns-clause-over g c =
+    let seen = provider_seen g.P.Provider in
+    let p = c.self.inside.progress in
+    over_is (scrub_view p) (map seen c.args.providers.now) c.step.result (scrub_view c.step.new.self)
+    (map seen c.step.new.providers) (cursor_ends p.providers p.items.items p.off p.cursor) c.step.ensures.step
