@@ -1,5 +1,6 @@
 //! The files of the rows, and scrubs of them.
-ghost use Rattle.std.specs.Prelude.{◌≡◌, ◌≤◌};
+ghost use Rattle.std.specs.Prelude.{◌≡◌, ◌≤◌, ◌+◌, ◌∷◌, ℕ, [], Some, length, slice_get};
+ghost use Rattle.file_layout.specs.declared.file.FileShape.{FileShape as FileValue};
 
 use code_points::find_profile;
 use file_layout::FileShape;
@@ -53,41 +54,49 @@ pub fn small(rt: &impl Abort) -> FileShape
     file(rt, 2, 200, 0)
 }
 
-/// A scrub of no file.
-fn of_nothing(rt: &impl Abort, alloc: Global) -> Scrub
-    ensures { result.providers ≤ 6 }
+/// No file.
+fn no_file(alloc: Global) -> Vec<FileShape>
+    ensures items { result.items ≡ [] }
 {
-    Scrub::new(alloc, &KEY, Vec::new(alloc)).expect(rt, "memory")
+    Vec::new(alloc)
 }
 
-/// A scrub of the first file.
-fn of_notes(rt: &impl Abort, alloc: Global) -> Scrub
-    ensures { result.providers ≤ 6 }
+/// One file.
+fn one_file(rt: &impl Abort, alloc: Global, file: FileShape) -> Vec<FileShape>
+    ensures items { result.items ≡ file ∷ [] }
 {
     let mut files = Vec::new(alloc);
-    files.push(notes(rt)).expect(rt, "memory");
-    Scrub::new(alloc, &KEY, files).expect(rt, "memory")
+    files.push(file).expect(rt, "memory");
+    files
 }
 
-/// A scrub of both files.
-fn of_both(rt: &impl Abort, alloc: Global) -> Scrub
-    ensures { result.providers ≤ 6 }
+/// Two files.
+fn two_files(rt: &impl Abort, alloc: Global, file: FileShape, next: FileShape) -> Vec<FileShape>
+    ensures items { result.items ≡ file ∷ next ∷ [] }
 {
-    let mut files = Vec::new(alloc);
-    files.push(notes(rt)).expect(rt, "memory");
-    files.push(small(rt)).expect(rt, "memory");
-    Scrub::new(alloc, &KEY, files).expect(rt, "memory")
+    let mut files = one_file(rt, alloc, file);
+    files.push(next).expect(rt, "memory");
+    files
+}
+
+/// The files, which are numbered from 1 on.
+fn listed(rt: &impl Abort, alloc: Global, files: Files) -> Vec<FileShape>
+    ensures few { length result.items ≤ 2 }
+    ensures numbered { (k : ℕ) (f : FileValue) → slice_get result.items k ≡ Some f
+        → (f.id ≡ k + 1) × (f.shape.n ≡ 6) }
+{
+    match files {
+        Files::Nothing => no_file(alloc),
+        Files::Notes => one_file(rt, alloc, notes(rt)),
+        Files::Both => two_files(rt, alloc, notes(rt), small(rt)),
+    }
 }
 
 /// A scrub that has done nothing yet.
 fn begun(rt: &impl Abort, alloc: Global, files: Files) -> Scrub
     ensures { result.providers ≤ 6 }
 {
-    match files {
-        Files::Nothing => of_nothing(rt, alloc),
-        Files::Notes => of_notes(rt, alloc),
-        Files::Both => of_both(rt, alloc),
-    }
+    Scrub::new(alloc, &KEY, listed(rt, alloc, files)).expect(rt, "memory")
 }
 
 /// What a scrub of files ends with, where there are providers enough.

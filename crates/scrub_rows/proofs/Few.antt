@@ -1,0 +1,52 @@
+-- Files that are numbered from 1 on, at most two.
+use Rattle.std.proofs.Common.{◌≡◌, ℕ, zero, suc, ◌+◌, ◌≤◌, List, [], ◌∷◌, Some, None, ap, sym, ◌∙◌, refl, subst, arith}
+use Rattle.std.specs.Prelude.{slice_get}
+use Rattle.file_layout.specs.declared.file.FileShape.{FileShape}
+use Rattle.hail_scrub.specs.Begins.{HaveOneCount, AreApart}
+use Rattle.hail_scrub.specs.Begun.{file_providers}
+
+-- the file at a place has the number behind it, and six providers
+abbrev pub AreNumbered : List FileShape → Type 0
+AreNumbered files =
+    (k : ℕ) (f : FileShape) → slice_get files k ≡ Some f → (f.id ≡ k + 1) × (f.shape.n ≡ 6)
+
+pub none_numbered : (files : List FileShape) → files ≡ [] → AreNumbered files
+none_numbered files is k f there =
+    absurd (let e : None ≡ Some f = ap (λ (l : List FileShape). slice_get l k) (sym is) ∙ there in cc)
+
+-- a file with this number and six providers
+same_file : (x f : FileShape) (n : ℕ) → Some x ≡ Some f → x.id ≡ n → x.shape.n ≡ 6 → (f.id ≡ n) × (f.shape.n ≡ 6)
+same_file x f n is id six =
+    (let h : x ≡ f = cc in
+    (ap (λ (z : FileShape). z.id) (sym h) ∙ id, ap (λ (z : FileShape). z.shape.n) (sym h) ∙ six))
+
+one_at : (x : FileShape) → x.id ≡ 1 → x.shape.n ≡ 6 → AreNumbered (x ∷ [])
+one_at x id six zero f there = same_file x f 1 there id six
+one_at x id six (suc k) f there = absurd (let e : None ≡ Some f = there in cc)
+
+two_at : (x y : FileShape) → x.id ≡ 1 → x.shape.n ≡ 6 → y.id ≡ 2 → y.shape.n ≡ 6 → AreNumbered (x ∷ y ∷ [])
+two_at x y id six next more zero f there = same_file x f 1 there id six
+two_at x y id six next more (suc zero) f there = same_file y f 2 there next more
+two_at x y id six next more (suc (suc k)) f there = absurd (let e : None ≡ Some f = there in cc)
+
+pub one_numbered : (files : List FileShape) (x : FileShape) → files ≡ x ∷ [] → x.id ≡ 1 → x.shape.n ≡ 6 →
+    AreNumbered files
+one_numbered files x is id six = subst AreNumbered (sym is) (one_at x id six)
+
+pub two_numbered : (files : List FileShape) (x y : FileShape) → files ≡ x ∷ y ∷ [] → x.id ≡ 1 →
+    x.shape.n ≡ 6 → y.id ≡ 2 → y.shape.n ≡ 6 → AreNumbered files
+two_numbered files x y is id six next more = subst AreNumbered (sym is) (two_at x y id six next more)
+
+-- such files have one number of providers
+pub one_count : (files : List FileShape) → AreNumbered files → HaveOneCount files
+one_count files are i k f g at_i at_k = (are i f at_i).1 ∙ sym (are k g at_k).1
+
+-- and numbers of their own
+pub apart : (files : List FileShape) → AreNumbered files → AreApart files
+apart files are i k f g at_i at_k same =
+    let e : i + 1 ≡ k + 1 = sym (are i f at_i).0 ∙ same ∙ (are k g at_k).0 in omega (arith, e)
+
+-- at most six
+pub few_providers : (files : List FileShape) → AreNumbered files → file_providers files ≤ 6
+few_providers [] are = omega arith
+few_providers (f ∷ fs) are = let e : f.shape.n ≡ 6 = (are 0 f refl).1 in omega (arith, e)

@@ -1,0 +1,13 @@
+use Rattle.std.proofs.Common.{◌≤◌, ◌≡◌, arith}
+use Rattle.hail_scrub.specs.Begun.{file_providers}
+use Rattle.scrub_rows.proofs.Few.{one_count, apart, few_providers}
+use Rattle.scrub_rows.proofs.files.begun.Goals as goal
+
+pub new-requires-clause-one_count : goal.new-requires-clause-one_count
+new-requires-clause-one_count g c = one_count c.listed.result.items c.listed.ensures.numbered
+
+pub new-requires-clause-apart : goal.new-requires-clause-apart
+new-requires-clause-apart g c = apart c.listed.result.items c.listed.ensures.numbered
+
+pub returns-clause : goal.returns-clause
+returns-clause g c = ?
