@@ -1,6 +1,5 @@
 -- What a step of a scrub shows of providers holds of the same providers with no content told.
-use Rattle.std.proofs.Common.{◌≡◌, ℕ, Bool, true, false, List, [], ◌∷◌, map, Option, None, refl, ap, ◌∙◌, inl, inr}
-use Rattle.std.specs.Prelude.{IfSome}
+use Rattle.std.proofs.Common.{◌≡◌, ℕ, Bool, List, [], ◌∷◌, map, refl, ap, ◌∙◌}
 use Rattle.std.specs.Option.{option_map}
 use Rattle.std.proofs.lemmas.List.{map-set}
 use Rattle.std.proofs.lemmas.Option.{slice_get-map}
