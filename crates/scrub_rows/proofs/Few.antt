@@ -1,9 +1,10 @@
 -- Files that are numbered from 1 on, at most two.
-use Rattle.std.proofs.Common.{◌≡◌, ℕ, zero, suc, ◌+◌, ◌≤◌, List, [], ◌∷◌, Some, None, ap, sym, ◌∙◌, refl, subst, arith}
-use Rattle.std.specs.Prelude.{slice_get}
+use Rattle.std.proofs.Common.{◌≡◌, ℕ, zero, suc, ◌+◌, ◌≤◌, List, [], ◌∷◌, Some, None, ap, sym, ◌∙◌, refl, subst, Ok, arith}
+use Rattle.std.specs.Prelude.{slice_get, Result, IfOk}
 use Rattle.file_layout.specs.declared.file.FileShape.{FileShape}
 use Rattle.hail_scrub.specs.Begins.{HaveOneCount, AreApart}
 use Rattle.hail_scrub.specs.Begun.{file_providers}
+use Rattle.hail_scrub.specs.Views.{ScrubView}
 
 -- the file at a place has the number behind it, and six providers
 abbrev pub AreNumbered : List FileShape → Type 0
@@ -50,3 +51,11 @@ apart files are i k f g at_i at_k same =
 pub few_providers : (files : List FileShape) → AreNumbered files → file_providers files ≤ 6
 few_providers [] are = omega arith
 few_providers (f ∷ fs) are = let e : f.shape.n ≡ 6 = (are 0 f refl).1 in omega (arith, e)
+
+-- so has a scrub of them
+pub few_in : {E : Type 0} (r : Result ScrubView E) (v : ScrubView) (files : List FileShape) → r ≡ Ok v →
+    IfOk r (λ scrub. scrub.providers ≡ file_providers files) → AreNumbered files → v.providers ≤ 6
+few_in r v files is made are =
+    let e : v.providers ≡ file_providers files =
+    subst (λ z. IfOk z (λ (s : ScrubView). s.providers ≡ file_providers files)) is made in
+    let few = few_providers files are in omega (arith, e, few)

@@ -26,13 +26,13 @@ pub enum Files {
 }
 
 /// A file over six providers, of which three are primary and one may be bad.
-fn file(rt: &impl Abort, id: u64, length: u32, profile: u8) -> FileShape
+fn file(rt: &impl Abort, id: u64, length: u16, profile: u8) -> FileShape
     ensures id { result.id ≡ id }
     ensures six { result.shape.n ≡ 6 }
 {
     FileShape {
         id,
-        length,
+        length: u32::from(length),
         shape: Shape::new(6, 3, 1).expect(rt, "a shape"),
         profile: find_profile(profile).expect(rt, "a profile"),
     }
