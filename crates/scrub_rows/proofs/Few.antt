@@ -11,12 +11,14 @@ abbrev pub AreNumbered : List FileShape → Type 0
 AreNumbered files =
     (k : ℕ) (f : FileShape) → slice_get files k ≡ Some f → (f.id ≡ k + 1) × (f.shape.n ≡ 6)
 
+-- no file
 pub none_numbered : (files : List FileShape) → files ≡ [] → AreNumbered files
 none_numbered files is k f there =
     absurd (let e : None ≡ Some f = ap (λ (l : List FileShape). slice_get l k) (sym is) ∙ there in cc)
 
 -- a file with this number and six providers
-same_file : (x f : FileShape) (n : ℕ) → Some x ≡ Some f → x.id ≡ n → x.shape.n ≡ 6 → (f.id ≡ n) × (f.shape.n ≡ 6)
+same_file : (x f : FileShape) (n : ℕ) → Some x ≡ Some f → x.id ≡ n → x.shape.n ≡ 6 →
+    (f.id ≡ n) × (f.shape.n ≡ 6)
 same_file x f n is id six =
     (let h : x ≡ f = cc in
     (ap (λ (z : FileShape). z.id) (sym h) ∙ id, ap (λ (z : FileShape). z.shape.n) (sym h) ∙ six))
@@ -30,10 +32,12 @@ two_at x y id six next more zero f there = same_file x f 1 there id six
 two_at x y id six next more (suc zero) f there = same_file y f 2 there next more
 two_at x y id six next more (suc (suc k)) f there = absurd (let e : None ≡ Some f = there in cc)
 
+-- one file
 pub one_numbered : (files : List FileShape) (x : FileShape) → files ≡ x ∷ [] → x.id ≡ 1 → x.shape.n ≡ 6 →
     AreNumbered files
 one_numbered files x is id six = subst AreNumbered (sym is) (one_at x id six)
 
+-- two files
 pub two_numbered : (files : List FileShape) (x y : FileShape) → files ≡ x ∷ y ∷ [] → x.id ≡ 1 →
     x.shape.n ≡ 6 → y.id ≡ 2 → y.shape.n ≡ 6 → AreNumbered files
 two_numbered files x y is id six next more = subst AreNumbered (sym is) (two_at x y id six next more)
