@@ -22,6 +22,10 @@
 --   damage                   provider that was wrong at its begin and was not replaced since
 --   each get of a stored  == SecondHalf (Halves): its begin is refused for three causes alone, and a step
 --   name ends Ok             that ends it gives the bytes in effect at its begin
+--   or a scrub run ..     == beside this half: calm counted from finished scrubs, for gets, repairs and
+--                            scrubs (IsScrubCalm, Scrubs), it holds whatever audits missed; and each
+--                            provider that was not replaced since the begin of the last scrub that ended Ok
+--                            holds its own columns exactly (IsExact, Own of second_half_laws)
 --   save for want of      == refusal.Memory of a begin, in IsGetRefusal (Halves); no step of a get finds none
 --   memory
 --   or a counted fault    == CountRose (Halves): a count of the disk or of a provider rose since the get's
@@ -39,10 +43,11 @@ use Rattle.machine_defs.specs.States.{State}
 use Rattle.machine_defs.specs.Runs.{Moment, now}
 use Rattle.machine_defs.specs.Calm.{IsCalm, since, relies}
 use Rattle.machine_defs.specs.Missed.{NoneMissed}
-use Rattle.machine_defs.specs.Scrubs.{AreScrubsCalm}
+use Rattle.machine_defs.specs.Scrubs.{AreScrubsCalm, IsScrubCalm, scrubbed}
 use Rattle.machine_defs.specs.Halves.{AllTell, FirstHalf, SecondHalf}
 use Rattle.machine_defs.specs.Survival.{EndsPut, HasComeIn, NeverTakenOut, IsKept}
 use Rattle.machine_defs.specs.Deeds.{HasStored, HasAsked}
+use Rattle.second_half_laws.specs.Own.{IsExact}
 
 -- the file of a put
 abbrev pub file_of_put : Job → List ℕ → List ℕ → File
@@ -70,6 +75,18 @@ CalmGetsEndWell start ms =
     AllTell start → IsCalm relies (since start) ms → AreScrubsCalm (since start) ms → NoneMissed start ms
     → SecondHalf start ms
 
+-- the second half by scrubs: in a run that is calm counted from finished scrubs, of providers that tell what
+-- they hold, each get of a stored name ends well, whatever audits missed
+abbrev pub ScrubCalmGetsEndWell : State → List Moment → Type 0
+ScrubCalmGetsEndWell start ms = AllTell start → IsScrubCalm start ms → SecondHalf start ms
+
+-- in such a run each provider that was not replaced since the begin of the last scrub that had ended Ok at a
+-- moment holds from that moment on its own column exactly, of each stripe of each file in effect
+abbrev pub ScrubbedProvidersAreExact : State → List Moment → Type 0
+ScrubbedProvidersAreExact start ms =
+    AllTell start → IsScrubCalm start ms → (later before : List Moment) → ms ≡ later ++ before
+    → IsExact start ms (scrubbed start before)
+
 -- the file of each put that ended well is safe now
 abbrev pub AcknowledgedFilesSurvive : State → List Moment → Type 0
 AcknowledgedFilesSurvive start ms =
@@ -81,6 +98,8 @@ AcknowledgedFilesSurvive start ms =
 pub record Headline (start : State) (ms : List Moment) : Type 0 where
   pub gets_are_right : GetsAreRight start ms
   pub calm_gets_end_well : CalmGetsEndWell start ms
+  pub scrub_calm_gets_end_well : ScrubCalmGetsEndWell start ms
+  pub scrubbed_providers_are_exact : ScrubbedProvidersAreExact start ms
   pub acknowledged_files_survive : AcknowledgedFilesSurvive start ms
   -- no two puts store under one number, and no two audits make one challenge; a job is told by its begin
   pub one_put : (begun other object : ℕ) → HasStored start ms begun object → HasStored start ms other object
