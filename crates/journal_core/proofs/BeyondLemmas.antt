@@ -13,7 +13,7 @@ use Rattle.journal_core.specs.Moves.{SameFrom}
 use Rattle.journal_core.proofs.CellLemmas.{settled}
 
 -- past all that was put in place
-drop-spliced : {X : Type 0} (end at : ℕ) (new old : List X) → at ≤ length old → at + length new ≤ end →
+pub drop-spliced : {X : Type 0} (end at : ℕ) (new old : List X) → at ≤ length old → at + length new ≤ end →
     drop end (spliced at new old) ≡ drop end old
 drop-spliced end at new old le past =
     let front : length (take at old) ≡ at = omega (arith, length-take at old) in
@@ -29,7 +29,8 @@ drop-spliced end at new old le past =
 same_cells : (end : ℕ) (old new : Cells) → drop end new ≡ drop end old → SameFrom end old new
 same_cells end old new is = drop-map (λ c. c.0) end new ∙ ap reads is ∙ sym (drop-map (λ c. c.0) end old)
 
-size_of : (k : ℕ) (bytes : List ℕ) → length (loose (replicate k 0 ++ bytes)) ≡ k + length bytes
+-- how many cells a gap of zeros and bytes behind it are
+pub size_of : (k : ℕ) (bytes : List ℕ) → length (loose (replicate k 0 ++ bytes)) ≡ k + length bytes
 size_of k bytes = length-map (replicate k 0 ++ bytes) (λ b. (b, true)) ∙ length-append (replicate k 0) bytes
     ∙ ap (λ (m : ℕ). m + length bytes) (length-replicate k 0)
 

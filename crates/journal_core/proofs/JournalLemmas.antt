@@ -5,7 +5,7 @@ use Rattle.std.proofs.lemmas.List.{drop-replicate, drop_more, take_more, take_al
 use Rattle.std.proofs.Math.Seq.{take-add, take-append-add}
 use Rattle.record_defs.specs.Records.{Record as Entry}
 use Rattle.record_defs.specs.Spellings.{spelling, Spells}
-use Rattle.record_defs.specs.Journal.{before_gate, StandsFor, SpellsNone, IsBadAt}
+use Rattle.record_defs.specs.Journal.{before_gate, StandsFor, SpellsNone}
 use Rattle.record_codec.specs.declared.records.Record.{Record}
 use Rattle.record_codec.specs.Entries.{entry_of}
 use Rattle.journal_core.specs.Lists.{newest_first}

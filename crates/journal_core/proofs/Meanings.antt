@@ -169,7 +169,8 @@ begins_end bytes at ends = ap (take 8) (ends.bytes_are ∙ in_order ends.records
 begins_break : (bytes : List ℕ) (at : ℕ) → BreaksAfterGate bytes at → take 8 bytes ≡ magic
 begins_break bytes at breaks = ap (take 8) breaks.bytes_are ∙ begins breaks.records (1 ∷ breaks.rest)
 
-not_both : (bytes : List ℕ) (at other : ℕ) → EndsAtGate bytes at → BreaksAfterGate bytes other → ⊥
+-- bytes do not both end at a gate and break behind one
+pub not_both : (bytes : List ℕ) (at other : ℕ) → EndsAtGate bytes at → BreaksAfterGate bytes other → ⊥
 not_both bytes at other ends breaks =
     no_end_gap (reverse ends.records) (reverse breaks.records) breaks.rest
     (good-reverse ends.records ends.in_grammar) (good-reverse breaks.records breaks.in_grammar) breaks.none

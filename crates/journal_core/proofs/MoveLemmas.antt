@@ -18,7 +18,8 @@ IfSome-mapped P Q f step None new is held = subst (λ (o : Option Cells). IfSome
 IfSome-mapped P Q f step (Some cells) new is held =
     subst (λ (o : Option Cells). IfSome o Q) (sym is) (step cells held)
 
-IfSome-goes : (P Q : Cells → Type 0) (R : Cells → Cells → Type 0) →
+-- what holds of a disk after a call that goes so
+pub IfSome-goes : (P Q : Cells → Type 0) (R : Cells → Cells → Type 0) →
     ((old new : Cells) → P old → R old new → Q new) → (old new : Option Cells) → Goes R old new →
     IfSome old P → IfSome new Q
 IfSome-goes P Q R step None None goes held = tt

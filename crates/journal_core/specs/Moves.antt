@@ -14,12 +14,12 @@
 --                                      body
 --   MayTear n gate body old new     == how the cells may go where that move failed: torn by a write, as
 --                                      before at a sync
-use Rattle.std.specs.Prelude.{◌≡◌, ◌≢◌, ◌⊎◌, ℕ, zero, suc, ◌+◌, true, false, List, [], ◌∷◌, ◌++◌, length, drop, Option}
+use Rattle.std.specs.Prelude.{◌≡◌, ◌≢◌, ◌⊎◌, ℕ, zero, suc, ◌+◌, true, false, List, ◌∷◌, ◌++◌, length, drop, Option}
 use Rattle.device_defs.specs.Cells.{Cells, reads, firm, loose}
-use Rattle.device_defs.specs.Disks.{written, Torn, synced}
 use Rattle.device_defs.specs.Images.{EachImage}
 use Rattle.record_defs.specs.Records.{Record}
 use Rattle.record_defs.specs.Journal.{StandsFor}
+use Rattle.journal_core.specs.FourMoves.{moved_on, MayBeTorn}
 
 -- a closed gate stands behind these bytes, and nothing up to it is loose
 abbrev pub IsClosed : List ℕ → Cells → Type 0
@@ -73,15 +73,9 @@ IsWrite moves = (moves ≡ 0) ⊎ (moves ≡ 2)
 -- the cells after the move that comes after so many: the body written behind the gate, a sync, the open
 -- gate written, a sync
 abbrev pub cells_after : ℕ → ℕ → List ℕ → Cells → Cells
-cells_after zero gate body cells = written (gate + 1) body cells
-cells_after (suc zero) gate body cells = synced cells
-cells_after (suc (suc zero)) gate body cells = written gate (1 ∷ []) cells
-cells_after (suc (suc (suc n))) gate body cells = synced cells
+cells_after n gate body cells = moved_on n (gate + 1) body gate 1 cells
 
 -- what a fault of that move may leave: a torn write of the body or of the gate, and where a sync failed the
 -- cells as they were
 abbrev pub MayTear : ℕ → ℕ → List ℕ → Cells → Cells → Type 0
-MayTear zero gate body old new = Torn (gate + 1) (length body) old new
-MayTear (suc zero) gate body old new = new ≡ old
-MayTear (suc (suc zero)) gate body old new = Torn gate 1 old new
-MayTear (suc (suc (suc n))) gate body old new = new ≡ old
+MayTear n gate body old new = MayBeTorn n (gate + 1) (length body) gate old new

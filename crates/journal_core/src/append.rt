@@ -6,9 +6,12 @@ ghost use Rattle.device_defs.specs.Told.{Goes};
 ghost use Rattle.record_defs.specs.Records.{Record as Entry, record_size};
 ghost use Rattle.record_defs.specs.Spellings.{spelling};
 ghost use Rattle.record_defs.specs.Journal.{before_gate};
+ghost use Rattle.record_defs.specs.Areas.{Area};
+ghost use Rattle.journal_core.specs.Texts.{StandsFirm, IsGivenUpIn, AllStandIn, MayStandWith};
 ghost use Rattle.record_codec.specs.Entries.{entry_of, IsInGrammar};
 ghost use Rattle.journal_core.specs.Moves.{IsClosed, IsAfterMoves, IsGivenUp, AllStandFor, MayStandFor, SameFrom, IsWrite, cells_after, MayTear};
 
+use crate::moving::make_move;
 use disk_model::Disk;
 use record_codec::Record;
 use stream_model::WriteFault;
@@ -26,9 +29,6 @@ pub struct Append {
     ghost fits: { gate + 1 + len ≤ 2 ^ 24 },
 }
 
-/// The count of moves once one has failed.
-const GIVEN_UP: u8 = 5;
-
 fn copy_front(all: &mut [u8], bytes: &[u8])
     requires { length bytes.now ≤ length all.old }
     ensures { all.new ≡ bytes.now ++ drop (length bytes.now) all.old }
@@ -37,7 +37,7 @@ fn copy_front(all: &mut [u8], bytes: &[u8])
 }
 
 impl Append {
-    ghost use Rattle.journal_core.specs.Appends.{gate_of, body_of, moves_of, Appends};
+    ghost use Rattle.journal_core.specs.Appends.{gate_of, body_of, moves_of, Appends, AppendsIn};
 
     /// An append at the closed gate at offset `gate`. Condition: the record is in the grammar, and the
     /// journal has room.
@@ -95,6 +95,21 @@ impl Append {
         ensures closed { (rs : List Entry) (r : Entry) → Appends rs r self.old (D.holds disk.old)
             → OnOk result (moves_of self.new ≡ 4
             → IfSome (D.holds disk.new) (IsClosed (before_gate (r ∷ rs)))) }
+        ensures moved_in { (area : Area) (rs : List Entry) (r : Entry) → AppendsIn area rs r self.old
+            (D.holds disk.old) → OnOk result (AppendsIn area rs r self.new (D.holds disk.new)) }
+        ensures given_up_in { (area : Area) (rs : List Entry) (r : Entry) → AppendsIn area rs r self.old
+            (D.holds disk.old) → OnErr result (IfSome (D.holds disk.new)
+            (IsGivenUpIn (moves_of self.old) area rs (body_of self.old))) }
+        ensures before_in { (area : Area) (rs : List Entry) (r : Entry) → AppendsIn area rs r self.old
+            (D.holds disk.old) → moves_of self.old < 2 → AllStandIn area rs (D.holds disk.new) }
+        ensures between_in { (area : Area) (rs : List Entry) (r : Entry) → AppendsIn area rs r self.old
+            (D.holds disk.old) → MayStandWith area rs r (D.holds disk.new) }
+        ensures ready_in { (area : Area) (rs : List Entry) (r : Entry) → AppendsIn area rs r self.old
+            (D.holds disk.old) → OnOk result (moves_of self.new ≡ 4
+            → IfSome (D.holds disk.new) (StandsFirm area (r ∷ rs))) }
+        ensures kept_in { (area : Area) (rs : List Entry) (r : Entry) → AppendsIn area rs r self.old
+            (D.holds disk.old) → IsErrOf result write_fault.Memory
+            → IfSome (D.holds disk.new) (StandsFirm area rs) }
         ensures beyond { Goes (SameFrom (gate_of self.old + 1 + length (body_of self.old)))
             (D.holds disk.old) (D.holds disk.new) }
         ensures memory { IsErrOf result write_fault.Memory → D.holds disk.new ≡ D.holds disk.old }
@@ -102,22 +117,7 @@ impl Append {
         ensures cause { HasCause (D.faults disk.old) (D.faults disk.new) (IsErrOf result write_fault.Failed) }
         ensures called { D.calls disk.new ≡ one_more (D.calls disk.old) }
     {
-        if self.moves == 0 {
-            self.moves = GIVEN_UP;
-            disk.write_at(self.gate + 1, &self.bytes[..self.len])?;
-            self.moves = 1;
-            return Ok(false);
-        }
-        if self.moves == 2 {
-            self.moves = GIVEN_UP;
-            disk.write_at(self.gate, &[1])?;
-            self.moves = 3;
-            return Ok(false);
-        }
-        let moves = self.moves;
-        self.moves = GIVEN_UP;
-        disk.sync()?;
-        self.moves = moves + 1;
-        Ok(self.moves == 4)
+        let body = &self.bytes[..self.len];
+        make_move(disk, &mut self.moves, self.gate + 1, body, self.gate, 1)
     }
 }

@@ -1,12 +1,13 @@
 //! What holds of every journal.
-ghost use Rattle.std.specs.Prelude.{◌≡◌, ℕ, suc, List, length};
+ghost use Rattle.std.specs.Prelude.{◌≡◌, ◌∷◌, ◌++◌, ℕ, suc, List, [], length};
 ghost use Rattle.record_defs.specs.Records.{Record};
 ghost use Rattle.record_defs.specs.Journal.{text, before_gate, StandsFor, IsBadAt};
 ghost use Rattle.record_defs.specs.Examples.{four_set_up};
-ghost use Rattle.record_defs.specs.Areas.{Area, A, base_of, entries, StandsActive};
+ghost use Rattle.record_defs.specs.Areas.{Area, A, B, base_of, magic_front, switch_of, entries, StandsActive, IsBadActiveAt};
 ghost use Rattle.device_defs.specs.Cells.{Cells, reads, firm};
 ghost use Rattle.device_defs.specs.Images.{IsImage};
 ghost use Rattle.journal_core.specs.Moves.{IsClosed};
+ghost use Rattle.journal_core.specs.Texts.{StandsFirm};
 ghost use Rattle.journal_core.specs.Firm.{AreFirm};
 
 /// Bytes stand for one list of records at most.
@@ -25,6 +26,29 @@ pub fn one_place()
     ensures { (bytes : List ℕ) (at other : ℕ) → IsBadAt bytes at → IsBadAt bytes other → at ≡ other }
 {}
 
+/// Bytes stand for one list of records, in one of the two areas, at most.
+pub fn one_active_meaning()
+    ensures { (bytes : List ℕ) (a b : Area) (rs qs : List Record) → StandsActive bytes a rs
+        → StandsActive bytes b qs → (a ≡ b) × (rs ≡ qs) }
+{}
+
+/// Bytes that are bad at some place in their active area stand for no records.
+pub fn bad_area_stands_for_none()
+    ensures { (bytes : List ℕ) (at : ℕ) (area : Area) (rs : List Record) → IsBadActiveAt bytes at
+        → StandsActive bytes area rs → ⊥ }
+{}
+
+/// Bytes are bad at one place of their active area at most.
+pub fn one_active_place()
+    ensures { (bytes : List ℕ) (at other : ℕ) → IsBadActiveAt bytes at → IsBadActiveAt bytes other
+        → at ≡ other }
+{}
+
+/// An instance: bytes that name the second area and end before it are bad where it begins.
+pub fn named_area_is_bad()
+    ensures { IsBadActiveAt (magic_front ++ switch_of B ∷ []) (base_of B) }
+{}
+
 /// A disk with nothing loose that reads a journal is ready for an append behind its records.
 pub fn read_is_closed()
     ensures { (bytes : List ℕ) (records : List Record) → StandsFor bytes records
@@ -39,10 +63,24 @@ pub fn firm_areas_stand()
         → (image : List ℕ) → IsImage cells image → StandsActive image area rs }
 {}
 
+/// A disk with nothing loose that reads records in an area is ready there for an append or a pack.
+pub fn read_stands_firm()
+    ensures { (bytes : List ℕ) (area : Area) (rs : List Record) → StandsActive bytes area rs
+        → StandsFirm area rs (firm bytes) }
+{}
+
+/// Where an area is named and has the text of records, and nothing of both is loose, each image stands for
+/// these records.
+pub fn firm_texts_stand()
+    ensures { (area : Area) (rs : List Record) (cells : Cells) (image : List ℕ) → StandsFirm area rs cells
+        → IsImage cells image → StandsActive image area rs }
+{}
+
 /// An instance: of the firm text of a store that was set up, front and text are firm, and it is that store's
 /// in the first area.
 pub fn firm_text_is_firm()
     ensures active { StandsActive (reads (firm (text four_set_up))) A four_set_up }
     ensures front { AreFirm 0 8 (firm (text four_set_up)) }
     ensures text { AreFirm (base_of A) (suc (length (entries four_set_up))) (firm (text four_set_up)) }
+    ensures stands { StandsFirm A four_set_up (firm (text four_set_up)) }
 {}

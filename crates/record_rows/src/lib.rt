@@ -1,10 +1,12 @@
-//! Worked rows of records, the journal and the table.
+//! Worked rows of records, the journal, the table and the packed journal.
 #![tactic(auto)]
 
 #[cfg(test)]
 mod given;
 #[cfg(test)]
 mod journal;
+#[cfg(test)]
+mod packing;
 #[cfg(test)]
 mod records;
 #[cfg(test)]

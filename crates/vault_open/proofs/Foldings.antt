@@ -1,90 +1,113 @@
--- One record taken out of a journal's text.
-use Rattle.std.proofs.Common.{◌≡◌, ◌≢◌, inl, inr, ℕ, ◌+◌, ◌<◌, ◌≤◌, ◌^◌, List, [], ◌∷◌, ◌++◌, length, drop, sym, ap, ◌∙◌, arith, take-append-drop, length-take, length-append, None}
+-- A journal of before is taken as the text of the first area.
+use Rattle.std.proofs.Common.{◌≡◌, ◌⊎◌, inl, inr, ℕ, List, [], ◌∷◌, ◌++◌, length, take, drop, refl, sym, ap, ◌∙◌, subst, arith, take-append-drop, length-take}
 use Rattle.record_defs.specs.Records.{Record}
-use Rattle.record_defs.specs.Journal.{before_gate, text_size, StandsFor}
-use Rattle.record_defs.specs.Acceptance.{refused, AreAccepted}
-use Rattle.record_defs.proofs.Sizes.{length-text}
-use Rattle.journal_core.specs.Gates.{IsReadTo, StopsAt}
-use Rattle.vault_table.specs.Values.{Kept, IsFoldOf}
-use Rattle.vault_table.specs.Causes.{IsCause}
-use Rattle.vault_table.specs.declared.entry.Refused.{Refused}
-use Rattle.vault_table.specs.declared.entry.Refused.TheVariants as fault
+use Rattle.record_defs.specs.Journal.{magic}
+use Rattle.record_defs.specs.Areas.{Area, A, B, magic_front, area_of, entries, IsSwitched}
+use Rattle.record_defs.proofs.AreaLaws.{before_gate-entries, active_is_old, text_size-end}
+use Rattle.journal_core.specs.Gates.{IsReadTo, IsReadIn, StopsIn}
+use Rattle.journal_core.proofs.AreaMeanings.{behind}
+use Rattle.journal_core.proofs.AreaGates.{none-read}
+use Rattle.vault_table.specs.Values.{Kept}
 use Rattle.opening_defs.specs.Journals.{IsBadStart, StopsBehind}
-use Rattle.vault_open.specs.Faults.{refusal_answer}
-use Rattle.vault_open.specs.Folding.{IsReadUpTo, IsFolded, IsFoldFault}
+use Rattle.vault_open.specs.declared.fault.StartFault.{StartFault}
+use Rattle.vault_open.specs.declared.fault.StartFault.TheVariants as start_fault
+use Rattle.vault_open.specs.Folding.{IsFolded, IsFoldFault}
+use Rattle.vault_open.specs.Actives.{IsActiveFold, RefusesIn, StopsActive, IsBadActiveStart, IsActiveFoldFault}
 
--- behind accepted records the text stops
-stops-behind : (bytes : List ℕ) (rs : List Record) (at : ℕ) → StopsAt bytes rs at → StopsBehind bytes rs at
-stops-behind bytes rs at (inl end) = inl end
-stops-behind bytes rs at (inr break) = inr (inl break)
+-- its first gate stands behind the magic
+pub at-eight : (bytes : List ℕ) (gate : ℕ) → IsReadTo bytes [] gate → gate ≡ 8
+at-eight bytes gate is =
+    let w = is.within in omega (arith, ap length is.so_far, length-take gate bytes, w)
 
--- where reading stops behind accepted records is the first place at which the bytes go wrong
-pub stopped : (bytes : List ℕ) (rs : List Record) (at : ℕ) → AreAccepted rs → StopsAt bytes rs at →
-    IsBadStart bytes at
-stopped bytes rs at accepted stops = inr (rs, accepted, stops-behind bytes rs at stops)
+-- which it begins with
+pub has-magic : (bytes : List ℕ) (gate : ℕ) → IsReadTo bytes [] gate → take 8 bytes ≡ magic
+has-magic bytes gate is = ap (λ (k : ℕ). take k bytes) (sym (at-eight bytes gate is)) ∙ is.so_far
 
-module _ (bytes : List ℕ) (rs : List Record) (t : Kept) (gate : ℕ) (is : IsReadUpTo bytes rs t gate) where
-  -- the text of the records up to a gate, by its length
-  text-at : text_size rs ≡ gate + 1
-  text-at =
-      let w = is.read.within in
-      omega (
-        arith,
-        length-text rs is.read.in_grammar,
-        length-append (before_gate rs) (0 ∷ []),
-        ap length is.read.so_far,
-        length-take gate bytes,
-        w,
-      )
+-- so the first area is active, of which no record is read yet
+pub first-active : (bytes : List ℕ) (gate : ℕ) → IsReadTo bytes [] gate →
+    (area : Area) × IsSwitched bytes area × IsReadIn bytes area [] gate
+first-active bytes gate is = (
+  A,
+  record { switch = 49; front = has-magic bytes gate is; names = refl },
+  subst (IsReadIn bytes A []) (sym (at-eight bytes gate is)) (none-read bytes A),
+)
 
-  -- the gate is closed
-  pub closed : length bytes ≤ 2 ^ 24 → gate < length bytes → StandsFor bytes rs →
-      IsFolded bytes rs t (gate + 1)
-  closed few some stands = record {
-    stands = stands;
-    accepted = is.accepted;
-    folds = is.folds;
-    end_is = sym text-at;
-    room = omega (arith, text-at, some, few);
+module _ (bytes : List ℕ) (front : take 8 bytes ≡ magic) where
+  -- what its area has stands behind the magic
+  all-of : (x : List ℕ) → drop 8 bytes ≡ x → bytes ≡ magic ++ x
+  all-of x is = sym (take-append-drop 8 bytes) ∙ ap (λ (l : List ℕ). l ++ drop 8 bytes) front
+      ∙ ap (λ (l : List ℕ). magic ++ l) is
+
+  one-switch : (switch : ℕ) → magic ≡ magic_front ++ switch ∷ [] → 49 ≡ switch
+  one-switch switch e = cc
+
+  only-first : (area : Area) → IsSwitched bytes area → A ≡ area
+  only-first area s = ap area_of (one-switch s.switch (sym front ∙ s.front)) ∙ s.names
+
+  -- its records are those of the first area
+  pub folded : (area : Area) (rs : List Record) (t : Kept) (base end : ℕ) → base ≡ 8 →
+      IsActiveFold bytes area rs t base end → IsFolded bytes rs t end
+  folded A rs t base end eight f = record {
+    stands = active_is_old bytes rs front f.stands.holds;
+    accepted = f.accepted;
+    folds = f.folds;
+    end_is = f.end_is ∙ text_size-end rs;
+    room = (let r = f.room in omega (arith, r, text_size-end rs));
   }
+  folded B rs t base end eight f = absurd (let b = f.base_is in omega (arith, b, eight))
 
-  module _ (r : Record) (next : ℕ) (more : IsReadTo bytes (r ∷ rs) next) where
-    -- the record is taken
-    pub taken : (new : Kept) → refused rs r ≡ None → IsFoldOf (r ∷ rs) new →
-        IsReadUpTo bytes (r ∷ rs) new next
-    taken new accepted folds = record { read = more; accepted = (accepted, is.accepted); folds = folds }
+  ends : (at : ℕ) (rs : List Record) → StopsIn bytes A rs at → StopsBehind bytes rs at
+  ends at rs (inl e) = inl (
+    record {
+      records = e.0.records;
+      in_grammar = e.0.in_grammar;
+      bytes_are = all-of (entries e.0.records) e.0.bytes_are ∙ sym (before_gate-entries e.0.records);
+      place = (let p = e.0.place in
+          omega (arith, p, ap length (all-of (entries e.0.records) e.0.bytes_are)));
+    },
+    e.1,
+  )
+  ends at rs (inr b) = inr (inl (
+    record {
+      records = b.0.records;
+      rest = b.0.rest;
+      in_grammar = b.0.in_grammar;
+      bytes_are = all-of (entries b.0.records ++ 1 ∷ b.0.rest) b.0.bytes_are
+          ∙ behind b.0.records (1 ∷ b.0.rest);
+      none = b.0.none;
+      place = (let p = b.0.place in omega (arith, p, ap length (before_gate-entries b.0.records)));
+    },
+    b.1,
+  ))
 
-    refuses : refused rs r ≢ None → IsBadStart bytes (gate + 1)
-    refuses why =
-        inr (
-          rs,
-          is.accepted,
-          inr (inr (record {
-            entry = r;
-            rest = drop next bytes;
-            in_grammar = more.in_grammar;
-            bytes_are = sym (take-append-drop next bytes)
-                ∙ ap (λ (l : List ℕ). l ++ drop next bytes) more.so_far;
-            refused_is = why;
-            place = (let w = is.read.within in
-                omega (arith, ap length is.read.so_far, length-take gate bytes, w));
-          })),
-        )
+  refuses : (at : ℕ) (rs : List Record) → RefusesIn bytes A rs at → StopsBehind bytes rs at
+  refuses at rs r = inr (inr (record {
+    entry = r.entry;
+    rest = r.rest;
+    in_grammar = r.in_grammar;
+    bytes_are = all-of (entries (r.entry ∷ rs) ++ r.rest) r.bytes_are ∙ behind (r.entry ∷ rs) r.rest;
+    refused_is = r.refused_is;
+    place = (let p = r.place in omega (arith, p, ap length (before_gate-entries rs)));
+  }))
 
-    -- the record is not taken
-    pub refusal : (why : Refused) → IsCause why (refused rs r) →
-        IsFoldFault bytes (refusal_answer why (gate + 1))
-    refusal fault.NoSetup is = refuses (λ e. (let x = sym is ∙ e in cc))
-    refusal fault.SecondSetup is = refuses (λ e. (let x = sym is ∙ e in cc))
-    refusal fault.BadId is = refuses (λ e. (let x = sym is ∙ e in cc))
-    refusal fault.NotStarted is = refuses (λ e. (let x = sym is ∙ e in cc))
-    refusal fault.TooMany is = refuses (λ e. (let x = sym is ∙ e in cc))
-    refusal fault.NoName is = refuses (λ e. (let x = sym is ∙ e in cc))
-    refusal fault.BadAudit is = refuses (λ e. (let x = sym is ∙ e in cc))
-    refusal fault.NoRepair is = refuses (λ e. (let x = sym is ∙ e in cc))
-    refusal fault.OldKind is = refuses (λ e. (let x = sym is ∙ e in cc))
-    refusal fault.OldVersion is = refuses (λ e. (let x = sym is ∙ e in cc))
-    refusal fault.NewVersion is = refuses (λ e. (let x = sym is ∙ e in cc))
-    refusal fault.BadResume is = refuses (λ e. (let x = sym is ∙ e in cc))
-    refusal fault.NameTwice is = refuses (λ e. (let x = sym is ∙ e in cc))
-    refusal fault.Memory is = tt
+  stops : (at : ℕ) (s : StopsActive bytes at) → A ≡ s.area → IsBadStart bytes at
+  stops at s is = inr (
+    s.records,
+    s.accepted,
+    elim (subst (λ (area : Area). StopsIn bytes area s.records at ⊎ RefusesIn bytes area s.records at) (sym is)
+        s.stops) [
+          | inl e ↦ ends at s.records e
+          | inr r ↦ refuses at s.records r
+        ],
+  )
+
+  bad-start : (at : ℕ) → IsBadActiveStart bytes at → IsBadStart bytes at
+  bad-start at (inl none) = absurd (none.0 49 front)
+  bad-start at (inr s) = stops at s (only-first s.area s.active)
+
+  -- and it is bad where the first area is
+  pub refused : (why : StartFault) → IsActiveFoldFault bytes why → IsFoldFault bytes why
+  refused (start_fault.BadJournal at) bad = bad-start at bad
+  refused start_fault.Memory bad = tt
+  refused start_fault.NotSetUp bad = bad
+  refused start_fault.DiskFault bad = bad

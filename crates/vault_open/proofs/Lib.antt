@@ -3,6 +3,7 @@ pub mod Limits
 pub mod FirstVersion
 pub mod Texts
 pub mod Readings
+pub mod ActiveFolds
 pub mod Foldings
 pub mod Stores
 pub mod Emptied

@@ -1,25 +1,16 @@
 -- A journal's text taken into a table, record by record. Lists of records have the newest first.
 --
---   IsReadUpTo bytes rs t gate == the bytes up to a gate are the text of these records, which fold to the
---                                 table
---   IsFolded bytes rs t end    == the bytes stand for records that fold to the table, with a text of so
---                                 many bytes
---   IsFoldFault bytes fault    == why the bytes were not taken
+--   IsFolded bytes rs t end == the bytes stand for records that fold to the table, with a text of so many
+--                              bytes
+--   IsFoldFault bytes fault == why the bytes were not taken
 use Rattle.std.specs.Prelude.{◌≡◌, ℕ, ◌≤◌, List}
 use Rattle.record_defs.specs.Records.{Record, largest_journal}
 use Rattle.record_defs.specs.Journal.{text_size, StandsFor}
 use Rattle.record_defs.specs.Acceptance.{AreAccepted}
-use Rattle.journal_core.specs.Gates.{IsReadTo}
 use Rattle.vault_table.specs.Values.{Kept, IsFoldOf}
 use Rattle.vault_open.specs.declared.fault.StartFault.{StartFault}
 use Rattle.vault_open.specs.declared.fault.StartFault.TheVariants as start_fault
 use Rattle.opening_defs.specs.Journals.{IsBadStart}
-
--- the bytes up to a gate are the text of records that fold to the table
-pub record IsReadUpTo (bytes : List ℕ) (rs : List Record) (t : Kept) (gate : ℕ) : Type 0 where
-  pub read : IsReadTo bytes rs gate
-  pub accepted : AreAccepted rs
-  pub folds : IsFoldOf rs t
 
 -- bytes stand for records that fold to the table, with a text of so many bytes
 pub record IsFolded (bytes : List ℕ) (rs : List Record) (t : Kept) (end : ℕ) : Type 0 where

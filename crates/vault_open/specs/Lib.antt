@@ -2,6 +2,7 @@ pub mod Devices
 pub mod Faults
 pub mod Causes
 pub mod Folding
+pub mod Actives
 pub mod Preparing
 pub mod Inits
 pub mod Stores

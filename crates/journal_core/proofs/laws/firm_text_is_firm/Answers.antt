@@ -5,6 +5,7 @@ use Rattle.record_defs.specs.Examples.{four_set_up}
 use Rattle.record_defs.proofs.AreaLaws.{old_is_active}
 use Rattle.record_defs.proofs.TwoAreas.{first-stands}
 use Rattle.device_defs.proofs.Lasting.{reads-firm}
+use Rattle.journal_core.proofs.AreaStands.{read-firm}
 use Rattle.journal_core.proofs.FirmCells.{all-firm}
 use Rattle.journal_core.proofs.laws.firm_text_is_firm.Goals as goal
 
@@ -17,3 +18,7 @@ returns-clause-front c = all-firm (text four_set_up) 0 8
 
 pub returns-clause-text : goal.returns-clause-text
 returns-clause-text c = λ k below. all-firm (text four_set_up) 8 (suc k) k (omega arith)
+
+pub returns-clause-stands : goal.returns-clause-stands
+returns-clause-stands c =
+    read-firm (text four_set_up) A four_set_up (old_is_active (text four_set_up) four_set_up first-stands)

@@ -1,0 +1,402 @@
+-- An append in an area: its moves, and what the images of a disk stand for in its course.
+use Rattle.std.proofs.Common.{◌≡◌, ◌≢◌, ◌⊎◌, inl, inr, ℕ, zero, suc, ◌+◌, ◌-◌, ◌≤◌, ◌<◌, min, Bool, true, false, List, [], ◌∷◌, ◌++◌, length, take, drop, replicate, Option, Some, None, Result, Ok, Err, refl, sym, ap, ◌∙◌, subst, arith, append_assoc, length-append, length-take, length-drop}
+use Rattle.std.specs.Prelude.{IsTrue, IfSome, IsErrOf, OnErr, ◌&&◌}
+use Rattle.std.specs.Option.{option_map}
+use Rattle.std.specs.List.{list_all}
+use Rattle.std.proofs.lemmas.List.{map-append, drop-append-le, drop-take, drop-drop, append_cancel_left}
+use Rattle.stream_model.specs.declared.fault.WriteFault.{WriteFault}
+use Rattle.stream_model.specs.declared.fault.WriteFault.TheVariants as write_fault
+use Rattle.device_defs.specs.Cells.{Cells, firm, loose}
+use Rattle.device_defs.specs.Disks.{spliced, written, Torn}
+use Rattle.device_defs.specs.Images.{IsImage}
+use Rattle.device_defs.specs.Told.{Goes}
+use Rattle.record_defs.specs.Records.{Record, is_in_grammar}
+use Rattle.record_defs.specs.Spellings.{spelling}
+use Rattle.record_defs.specs.Journal.{magic, before_gate, StandsFor}
+use Rattle.record_defs.specs.Areas.{Area, base_of, entries, HoldsIn, StandsActive}
+use Rattle.record_defs.proofs.AreaLaws.{before_gate-entries}
+use Rattle.journal_core.specs.Moves.{IsAfterMoves, IsGivenUp, IsWrite, cells_after, MayTear}
+use Rattle.journal_core.specs.Texts.{IsNamed, StandsFirm, IsAfterMovesIn, IsGivenUpIn, AllStandIn, MayStandWith}
+use Rattle.journal_core.proofs.CellLemmas.{settled}
+use Rattle.journal_core.proofs.MoveLemmas.{IfSome-mapped, IfSome-goes, IfSome-same, body_written, gate_written, body_failed, gate_failed, synced}
+use Rattle.journal_core.proofs.ImageLemmas.{before_after, between_after, closed_after, before_given_up, between_given_up}
+use Rattle.journal_core.proofs.AreaMeanings.{behind}
+use Rattle.journal_core.proofs.Splices.{splice-written, splice-torn, drop-settled, IsImage-drop}
+use Rattle.journal_core.proofs.Texts.{behind-switch, named-below, named-settled, named-image}
+
+-- ---- writes from where an area begins
+
+spliced-drop : (base m : ℕ) (new cells : Cells) → base + m ≤ length cells →
+    drop base (spliced (base + m) new cells) ≡ spliced m new (drop base cells)
+spliced-drop base m new cells within =
+    let behind_it : Cells = new ++ drop (base + m + length new) cells in
+    let same : base + m + length new ≡ base + (m + length new) = omega arith in
+    drop-append-le base (take (base + m) cells) behind_it
+    (omega (arith, length-take (base + m) cells, within))
+    ∙ ap (λ (c : Cells). c ++ behind_it) (drop-take base m cells)
+    ∙ ap (λ (c : Cells). take m (drop base cells) ++ (new ++ c))
+    (ap (λ (k : ℕ). drop k cells) same ∙ sym (drop-drop (m + length new) base cells))
+
+-- a write behind a base is one from the base on
+written-drop : (base k : ℕ) (bytes : List ℕ) (cells : Cells) → base ≤ length cells →
+    drop base (written (base + k) bytes cells) ≡ written k bytes (drop base cells)
+written-drop base k bytes cells within =
+    let size = length-drop base cells in
+    let gap : base + k - length cells ≡ k - length (drop base cells) = omega (arith, size, within) in
+    let start : min (base + k) (length cells) ≡ base + min k (length (drop base cells)) =
+    omega (arith, size, within) in
+    ap (λ (g : ℕ). drop base (spliced (min (base + k) (length cells)) (loose (replicate g 0 ++ bytes)) cells)) gap
+    ∙ ap (λ (s : ℕ). drop base
+    (spliced s (loose (replicate (k - length (drop base cells)) 0 ++ bytes)) cells)) start
+    ∙ spliced-drop base (min k (length (drop base cells)))
+    (loose (replicate (k - length (drop base cells)) 0 ++ bytes)) cells (omega (arith, size, within))
+
+-- so is one that failed
+torn-drop : (base k n : ℕ) (old new : Cells) → base ≤ length old → Torn (base + k) n old new →
+    Torn k n (drop base old) (drop base new)
+torn-drop base k n old new within torn =
+    let size = length-drop base old in
+    let start : min (base + k) (length old) ≡ base + min k (length (drop base old)) =
+    omega (arith, size, within) in
+    let most = torn.no_longer in
+    let least = torn.no_shorter in
+    record {
+      bytes = torn.bytes;
+      held = ap (λ (c : Cells). drop base c) torn.held
+          ∙ ap (λ (s : ℕ). drop base (spliced s (loose torn.bytes) old)) start
+          ∙ spliced-drop base (min k (length (drop base old))) (loose torn.bytes) old
+          (omega (arith, size, within));
+      no_longer = omega (arith, size, within, most);
+      no_shorter = omega (arith, size, within, least);
+    }
+
+-- cells with a gate are some
+some-cells : (front rest cells : Cells) (c : ℕ × Bool) → cells ≡ front ++ (c ∷ rest) → 1 ≤ length cells
+some-cells front rest cells c is = omega (arith, ap length is, length-append front (c ∷ rest))
+
+-- in the course of an append its gate is there
+longer : (n : ℕ) (front body : List ℕ) (cells : Cells) → IsAfterMoves n front body cells → 1 ≤ length cells
+longer zero front body cells h = some-cells (firm front) h.1 cells (h.0, false) h.3
+longer (suc zero) front body cells h =
+    some-cells (firm front) (loose body ++ h.1) cells (h.0, false) h.3
+longer (suc (suc zero)) front body cells h =
+    some-cells (firm front) (firm body ++ h.1) cells (h.0, false) h.3
+longer (suc (suc (suc zero))) front body cells h =
+    some-cells (firm front) (firm body ++ h.0) cells (1, true) h.1
+longer (suc (suc (suc (suc n)))) front body cells h =
+    some-cells (firm front) (firm body ++ h.0) cells (1, false) h.1
+
+-- ---- a front before the front
+
+front-more : (m front : List ℕ) (cells rest : Cells) → cells ≡ firm front ++ rest →
+    firm m ++ cells ≡ firm (m ++ front) ++ rest
+front-more m front cells rest is =
+    ap (λ (c : Cells). firm m ++ c) is
+    ∙ sym (append_assoc (firm m) (firm front) rest)
+    ∙ ap (λ (c : Cells). c ++ rest) (sym (map-append (λ b. (b, false)) m front))
+
+moves-more : (n : ℕ) (m front body : List ℕ) (cells : Cells) → IsAfterMoves n front body cells →
+    IsAfterMoves n (m ++ front) body (firm m ++ cells)
+moves-more zero m front body cells h =
+    (h.0, h.1, h.2, front-more m front cells ((h.0, false) ∷ h.1) h.3)
+moves-more (suc zero) m front body cells h =
+    (h.0, h.1, h.2, front-more m front cells ((h.0, false) ∷ (loose body ++ h.1)) h.3)
+moves-more (suc (suc zero)) m front body cells h =
+    (h.0, h.1, h.2, front-more m front cells ((h.0, false) ∷ (firm body ++ h.1)) h.3)
+moves-more (suc (suc (suc zero))) m front body cells h =
+    (h.0, front-more m front cells ((1, true) ∷ (firm body ++ h.0)) h.1)
+moves-more (suc (suc (suc (suc n)))) m front body cells h =
+    (h.0, front-more m front cells ((1, false) ∷ (firm body ++ h.0)) h.1)
+
+given-more : (n : ℕ) (m front body : List ℕ) (cells : Cells) → IsGivenUp n front body cells →
+    IsGivenUp n (m ++ front) body (firm m ++ cells)
+given-more zero m front body cells h = moves-more 0 m front body cells h
+given-more (suc zero) m front body cells h = moves-more 0 m front body cells h
+given-more (suc (suc n)) m front body cells (inl h) = inl (moves-more 0 m front body cells h)
+given-more (suc (suc n)) m front body cells (inr h) =
+    inr (h.0, h.1, front-more m front cells ((h.0, true) ∷ (firm body ++ h.1)) h.2)
+
+IsImage-front : (m : List ℕ) (cells : Cells) (image : List ℕ) → IsImage cells image →
+    IsImage (firm m ++ cells) (m ++ image)
+IsImage-front [] cells image is = is
+IsImage-front (b ∷ m) cells image is = (λ e. refl, IsImage-front m cells image is)
+
+-- an area's bytes behind the magic that stand for records are held in the area
+held-in : (area : Area) (rs : List Record) (image : List ℕ) →
+    StandsFor (magic ++ drop (base_of area) image) rs → HoldsIn image area rs
+held-in area rs image s = record {
+  in_grammar = s.in_grammar;
+  gate = s.gate;
+  rest = s.rest;
+  closed = s.closed;
+  bytes_are = append_cancel_left magic (drop (base_of area) image) (entries rs ++ s.gate ∷ s.rest)
+      (s.bytes_are ∙ sym (behind rs (s.gate ∷ s.rest)));
+}
+
+module _ (area : Area) (rs : List Record) where
+  abbrev base : ℕ
+  base = base_of area
+
+  abbrev front : List ℕ
+  front = entries rs
+
+  -- an append begins where the text is firm
+  pub begins-in : (body : List ℕ) (cells : Cells) → StandsFirm area rs cells → IsAfterMovesIn 0 area rs body cells
+  begins-in body cells f =
+      record { named = f.named; text = (f.text.gate, f.text.rest, f.text.closed, f.text.cells_are) }
+
+  module _ (body : List ℕ) (gate : ℕ) (gate_is : gate ≡ base + length front) where
+    within : (n : ℕ) (cells : Cells) → IsAfterMovesIn n area rs body cells → base ≤ length cells
+    within n cells h = omega (arith, longer n front body (drop base cells) h.text, length-drop base cells)
+
+    behind-front : (k : ℕ) → 8 ≤ base + k
+    behind-front k = (let l = behind-switch area in omega (arith, l))
+
+    body-at : gate + 1 ≡ base + (length front + 1)
+    body-at = omega (arith, gate_is)
+
+    in-first : (cells : Cells) → IsAfterMovesIn 0 area rs body cells →
+        IsAfterMovesIn 1 area rs body (written (gate + 1) body cells)
+    in-first cells h = subst (λ (k : ℕ). IsAfterMovesIn 1 area rs body (written k body cells)) (sym body-at)
+        (record {
+          named = named-below area (base + (length front + 1)) (length body) cells
+              (written (base + (length front + 1)) body cells)
+              (splice-written (base + (length front + 1)) body cells) (behind-front (length front + 1)) h.named;
+          text = subst (IsAfterMoves 1 front body)
+              (sym (written-drop base (length front + 1) body cells (within 0 cells h)))
+              (body_written front body (drop base cells) h.text);
+        })
+
+    in-sync : (n : ℕ) → n ≢ 0 → n ≢ 2 → n < 4 → (cells : Cells) → IsAfterMovesIn n area rs body cells →
+        IsAfterMovesIn (n + 1) area rs body (settled cells)
+    in-sync n not_first not_third few cells h = record {
+      named = named-settled area cells h.named;
+      text = subst (IsAfterMoves (n + 1) front body) (sym (drop-settled base cells))
+          (synced front body n not_first not_third few (Some (drop base cells))
+          (Some (settled (drop base cells))) refl h.text);
+    }
+
+    in-third : (cells : Cells) → IsAfterMovesIn 2 area rs body cells →
+        IsAfterMovesIn 3 area rs body (written gate (1 ∷ []) cells)
+    in-third cells h = subst (λ (k : ℕ). IsAfterMovesIn 3 area rs body (written k (1 ∷ []) cells)) (sym gate_is)
+        (record {
+          named = named-below area (base + length front) 1 cells (written (base + length front) (1 ∷ []) cells)
+              (splice-written (base + length front) (1 ∷ []) cells) (behind-front (length front)) h.named;
+          text = subst (IsAfterMoves 3 front body)
+              (sym (written-drop base (length front) (1 ∷ []) cells (within 2 cells h)))
+              (gate_written front body (drop base cells) h.text);
+        })
+
+    first-torn : (old new : Cells) → IsAfterMovesIn 0 area rs body old → Torn (gate + 1) (length body) old new →
+        IsGivenUpIn 0 area rs body new
+    first-torn old new h torn =
+        let here = subst (λ (k : ℕ). Torn k (length body) old new) body-at torn in
+        record {
+          named = named-below area (base + (length front + 1)) (length body) old new
+              (splice-torn (base + (length front + 1)) (length body) old new here)
+              (behind-front (length front + 1)) h.named;
+          text = body_failed front body (length body) write_fault.Failed (Some (drop base old))
+              (Some (drop base new))
+              (λ e. torn-drop base (length front + 1) (length body) old new (within 0 old h) here)
+              (λ e. absurd (let x : write_fault.Failed ≡ write_fault.Memory = e in cc)) h.text;
+        }
+
+    third-torn : (old new : Cells) → IsAfterMovesIn 2 area rs body old → Torn gate 1 old new →
+        IsGivenUpIn 2 area rs body new
+    third-torn old new h torn =
+        let here = subst (λ (k : ℕ). Torn k 1 old new) gate_is torn in
+        record {
+          named = named-below area (base + length front) 1 old new
+              (splice-torn (base + length front) 1 old new here) (behind-front (length front)) h.named;
+          text = gate_failed front body write_fault.Failed (Some (drop base old)) (Some (drop base new))
+              (λ e. torn-drop base (length front) 1 old new (within 2 old h) here)
+              (λ e. absurd (let x : write_fault.Failed ≡ write_fault.Memory = e in cc)) h.text;
+        }
+
+    -- ---- where the disk tells its cells
+
+    -- a move is made
+    pub moved-in : (m : ℕ) → m < 4 → (old new : Option Cells) → new ≡ option_map (cells_after m gate body) old →
+        IfSome old (IsAfterMovesIn m area rs body) → IfSome new (IsAfterMovesIn (m + 1) area rs body)
+    moved-in zero few old new is held = IfSome-mapped (IsAfterMovesIn 0 area rs body)
+        (IsAfterMovesIn 1 area rs body) (written (gate + 1) body) in-first old new is held
+    moved-in (suc zero) few old new is held = IfSome-mapped (IsAfterMovesIn 1 area rs body)
+        (IsAfterMovesIn 2 area rs body) settled (in-sync 1 (λ e. omega (arith, e)) (λ e. omega (arith, e))
+        (omega arith)) old new is held
+    moved-in (suc (suc zero)) few old new is held = IfSome-mapped (IsAfterMovesIn 2 area rs body)
+        (IsAfterMovesIn 3 area rs body) (written gate (1 ∷ [])) in-third old new is held
+    moved-in (suc (suc (suc zero))) few old new is held = IfSome-mapped (IsAfterMovesIn 3 area rs body)
+        (IsAfterMovesIn 4 area rs body) settled (in-sync 3 (λ e. omega (arith, e)) (λ e. omega (arith, e))
+        (omega arith)) old new is held
+    moved-in (suc (suc (suc (suc n)))) few old new is held = absurd (omega (arith, few))
+
+    -- a move failed
+    torn-in : (m : ℕ) → m < 4 → (old new : Option Cells) → Goes (MayTear m gate body) old new →
+        IfSome old (IsAfterMovesIn m area rs body) → IfSome new (IsGivenUpIn m area rs body)
+    torn-in zero few old new goes held = IfSome-goes (IsAfterMovesIn 0 area rs body)
+        (IsGivenUpIn 0 area rs body) (Torn (gate + 1) (length body)) first-torn old new goes held
+    torn-in (suc zero) few old new goes held = IfSome-goes (IsAfterMovesIn 1 area rs body)
+        (IsGivenUpIn 1 area rs body) (λ o w. w ≡ o)
+        (λ o w h same. subst (IsGivenUpIn 1 area rs body) (sym same) (record {
+          named = h.named;
+          text = (h.text.0, loose body ++ h.text.1, h.text.2, h.text.3);
+        })) old new goes held
+    torn-in (suc (suc zero)) few old new goes held = IfSome-goes (IsAfterMovesIn 2 area rs body)
+        (IsGivenUpIn 2 area rs body) (Torn gate 1) third-torn old new goes held
+    torn-in (suc (suc (suc zero))) few old new goes held = IfSome-goes (IsAfterMovesIn 3 area rs body)
+        (IsGivenUpIn 3 area rs body) (λ o w. w ≡ o)
+        (λ o w h same. subst (IsGivenUpIn 3 area rs body) (sym same)
+        (record { named = h.named; text = inr (1, h.text.0, h.text.1) })) old new goes held
+    torn-in (suc (suc (suc (suc n)))) few old new goes held = absurd (omega (arith, few))
+
+    -- a write found no memory
+    still-in : (m : ℕ) → IsWrite m → (old new : Option Cells) → new ≡ old →
+        IfSome old (IsAfterMovesIn m area rs body) → IfSome new (IsGivenUpIn m area rs body)
+    still-in zero w old new same held = IfSome-same (IsAfterMovesIn 0 area rs body)
+        (IsGivenUpIn 0 area rs body) (λ cells h. record { named = h.named; text = h.text }) old new same held
+    still-in (suc zero) w old new same held =
+        absurd (elim w [ inl e ↦ omega (arith, e) | inr e ↦ omega (arith, e) ])
+    still-in (suc (suc zero)) w old new same held = IfSome-same (IsAfterMovesIn 2 area rs body)
+        (IsGivenUpIn 2 area rs body)
+        (λ cells h. record {
+          named = h.named;
+          text = inl (h.text.0, firm body ++ h.text.1, h.text.2, h.text.3);
+        }) old new same held
+    still-in (suc (suc (suc n))) w old new same held =
+        absurd (elim w [ inl e ↦ omega (arith, e) | inr e ↦ omega (arith, e) ])
+
+    -- want of memory leaves the text before the record firm
+    pub kept-in : IsTrue (list_all is_in_grammar rs) → (m : ℕ) → IsWrite m → (old new : Option Cells) →
+        new ≡ old → IfSome old (IsAfterMovesIn m area rs body) → IfSome new (StandsFirm area rs)
+    kept-in all zero w old new same held = IfSome-same (IsAfterMovesIn 0 area rs body) (StandsFirm area rs)
+        (λ cells h. record {
+          named = h.named;
+          text = record {
+            in_grammar = all;
+            gate = h.text.0;
+            rest = h.text.1;
+            closed = h.text.2;
+            cells_are = h.text.3;
+          };
+        }) old new same held
+    kept-in all (suc zero) w old new same held =
+        absurd (elim w [ inl e ↦ omega (arith, e) | inr e ↦ omega (arith, e) ])
+    kept-in all (suc (suc zero)) w old new same held =
+        IfSome-same (IsAfterMovesIn 2 area rs body) (StandsFirm area rs)
+        (λ cells h. record {
+          named = h.named;
+          text = record {
+            in_grammar = all;
+            gate = h.text.0;
+            rest = firm body ++ h.text.1;
+            closed = h.text.2;
+            cells_are = h.text.3;
+          };
+        }) old new same held
+    kept-in all (suc (suc (suc n))) w old new same held =
+        absurd (elim w [ inl e ↦ omega (arith, e) | inr e ↦ omega (arith, e) ])
+
+    -- a fault of a move
+    pub given-up-in : {T : Type 0} (r : Result T WriteFault) (m : ℕ) → m < 4 → (old new : Option Cells) →
+        (IsErrOf r write_fault.Failed → Goes (MayTear m gate body) old new) →
+        (IsErrOf r write_fault.Memory → new ≡ old) → (IsErrOf r write_fault.Memory → IsWrite m) →
+        IfSome old (IsAfterMovesIn m area rs body) → OnErr r (IfSome new (IsGivenUpIn m area rs body))
+    given-up-in (Ok x) m few old new torn memory writes held = tt
+    given-up-in (Err write_fault.Failed) m few old new torn memory writes held =
+        torn-in m few old new (torn refl) held
+    given-up-in (Err write_fault.Memory) m few old new torn memory writes held =
+        still-in m (writes refl) old new (memory refl) held
+
+-- ---- images
+
+module _ (area : Area) (rs : List Record) (r : Record) (all : IsTrue (list_all is_in_grammar rs))
+    (one : IsTrue (is_in_grammar r)) (body : List ℕ) (body_is : body ≡ spelling r ++ 0 ∷ []) where
+  -- the cells of the area behind the magic
+  abbrev seen : Cells → Cells
+  seen cells = firm magic ++ drop (base_of area) cells
+
+  moves-seen : (n : ℕ) (cells : Cells) → IsAfterMovesIn n area rs body cells →
+      IsAfterMoves n (before_gate rs) body (seen cells)
+  moves-seen n cells h = subst (λ (l : List ℕ). IsAfterMoves n l body (seen cells))
+      (sym (before_gate-entries rs)) (moves-more n magic (entries rs) body (drop (base_of area) cells) h.text)
+
+  given-seen : (n : ℕ) (cells : Cells) → IsGivenUpIn n area rs body cells →
+      IsGivenUp n (before_gate rs) body (seen cells)
+  given-seen n cells h = subst (λ (l : List ℕ). IsGivenUp n l body (seen cells))
+      (sym (before_gate-entries rs)) (given-more n magic (entries rs) body (drop (base_of area) cells) h.text)
+
+  image-seen : (cells : Cells) (image : List ℕ) → IsImage cells image →
+      IsImage (seen cells) (magic ++ drop (base_of area) image)
+  image-seen cells image of = IsImage-front magic (drop (base_of area) cells) (drop (base_of area) image)
+      (IsImage-drop (base_of area) cells image of)
+
+  active-in : (qs : List Record) (cells : Cells) (image : List ℕ) → IsNamed cells area → IsImage cells image →
+      StandsFor (magic ++ drop (base_of area) image) qs → StandsActive image area qs
+  active-in qs cells image named of s =
+      record { active = named-image area cells image named of; holds = held-in area qs image s }
+
+  either-in : (cells : Cells) (image : List ℕ) → IsNamed cells area → IsImage cells image →
+      StandsFor (magic ++ drop (base_of area) image) rs ⊎ StandsFor (magic ++ drop (base_of area) image) (r ∷ rs)
+      → StandsActive image area rs ⊎ StandsActive image area (r ∷ rs)
+  either-in cells image named of (inl s) = inl (active-in rs cells image named of s)
+  either-in cells image named of (inr s) = inr (active-in (r ∷ rs) cells image named of s)
+
+  module _ (n : ℕ) where
+    -- up to the third move each image stands for the records before it
+    pub before-in : (told : Option Cells) → n < 3 → IfSome told (IsAfterMovesIn n area rs body) →
+        AllStandIn area rs told
+    before-in None few h = tt
+    before-in (Some cells) few h = λ image of. active-in rs cells image h.named of
+        (before_after rs r all one body (Some (seen cells)) body_is n few (moves-seen n cells h)
+        (magic ++ drop (base_of area) image) (image-seen cells image of))
+
+    -- all through an append each image stands for the records before it, or for these with its own
+    pub between-in : (told : Option Cells) → IfSome told (IsAfterMovesIn n area rs body) →
+        MayStandWith area rs r told
+    between-in None h = tt
+    between-in (Some cells) h = λ image of. either-in cells image h.named of
+        (between_after rs r all one body (Some (seen cells)) body_is n (moves-seen n cells h)
+        (magic ++ drop (base_of area) image) (image-seen cells image of))
+
+    -- an append given up before its gate leaves the records before it
+    pub before-given-in : (told : Option Cells) → n < 2 → IfSome told (IsGivenUpIn n area rs body) →
+        AllStandIn area rs told
+    before-given-in None few h = tt
+    before-given-in (Some cells) few h = λ image of. active-in rs cells image h.named of
+        (before_given_up rs r all one body (Some (seen cells)) body_is n few (given-seen n cells h)
+        (magic ++ drop (base_of area) image) (image-seen cells image of))
+
+    -- an append given up leaves the records before it, or these with its own
+    pub between-given-in : (told : Option Cells) → IfSome told (IsGivenUpIn n area rs body) →
+        MayStandWith area rs r told
+    between-given-in None h = tt
+    between-given-in (Some cells) h = λ image of. either-in cells image h.named of
+        (between_given_up rs r all one body (Some (seen cells)) body_is n (given-seen n cells h)
+        (magic ++ drop (base_of area) image) (image-seen cells image of))
+
+    -- once an append is done the text with its record is firm
+    pub ready-in : (told : Option Cells) → n ≡ 4 → IfSome told (IsAfterMovesIn n area rs body) →
+        IfSome told (StandsFirm area (r ∷ rs))
+    ready-in None four h = tt
+    ready-in (Some cells) four h =
+        let closed = closed_after rs r all one body (Some (seen cells)) body_is n four (moves-seen n cells h) in
+        record {
+          named = h.named;
+          text = record {
+            in_grammar = both all one;
+            gate = closed.0;
+            rest = closed.1;
+            closed = closed.2;
+            cells_are = append_cancel_left (firm magic) (drop (base_of area) cells)
+                (firm (entries (r ∷ rs)) ++ (closed.0, false) ∷ closed.1)
+                (closed.3
+                ∙ ap (λ (l : List ℕ). firm l ++ (closed.0, false) ∷ closed.1) (before_gate-entries (r ∷ rs))
+                ∙ ap (λ (c : Cells). c ++ (closed.0, false) ∷ closed.1)
+                (map-append (λ b. (b, false)) magic (entries (r ∷ rs)))
+                ∙ append_assoc (firm magic) (firm (entries (r ∷ rs))) ((closed.0, false) ∷ closed.1));
+          };
+        }
+      where
+        both : IsTrue (list_all is_in_grammar rs) → IsTrue (is_in_grammar r) →
+            IsTrue (list_all is_in_grammar (r ∷ rs))
+        both a o = (λ i. o i && a i)

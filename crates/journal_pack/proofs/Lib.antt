@@ -1,0 +1,5 @@
+pub mod Stands
+pub mod Steps
+pub mod Packs
+pub mod Tabled
+pub mod Reading

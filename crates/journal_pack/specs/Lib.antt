@@ -1,0 +1,5 @@
+pub mod Moves
+pub mod Packs
+pub mod Actives
+pub mod Tables
+pub mod Alike

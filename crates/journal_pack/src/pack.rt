@@ -1,0 +1,149 @@
+ghost use Rattle.std.specs.Prelude.{◌≡◌, ◌⊎◌, ◌+◌, ◌^◌, ◌<◌, ◌≤◌, ◌∷◌, ◌++◌, [], ℕ, All, List, length, OnOk, OnErr, IfOk, IfSome, IsErrOf, IsTrue, ◌↔◌};
+ghost use Rattle.std.specs.List.{list_all};
+ghost use Rattle.stream_model.specs.declared.fault.WriteFault.TheVariants as write_fault;
+ghost use Rattle.std.specs.Option.{option_map};
+ghost use Rattle.device_defs.specs.Faults.{HasCause, one_more};
+ghost use Rattle.device_defs.specs.Told.{Goes};
+ghost use Rattle.record_defs.specs.Records.{Record as Entry, is_spelled};
+ghost use Rattle.record_defs.specs.Spellings.{spelling};
+ghost use Rattle.record_defs.specs.Areas.{Area, other_area, base_of, entries, entries_size, text_length, end_in};
+ghost use Rattle.record_codec.specs.Entries.{entry_of, HasSpelling};
+ghost use Rattle.journal_core.specs.Lists.{newest_first};
+ghost use Rattle.journal_core.specs.Moves.{IsWrite};
+ghost use Rattle.journal_core.specs.FourMoves.{moved_on, MayBeTorn};
+ghost use Rattle.journal_core.specs.Texts.{StandsFirm, AllStandIn, MayStandIn};
+ghost use Rattle.journal_pack.specs.Moves.{switch_to, IsPackGivenUp};
+
+use disk_model::Disk;
+use journal_core::{FIRST_BASE, SECOND, SECOND_BASE, SWITCH, make_move};
+use record_codec::Record;
+use std::alloc::Global;
+use stream_model::{Memory, WriteFault};
+
+/// The switch byte of the first area, as a journal of before has it.
+const FIRST: u8 = b'1';
+
+/// A packed journal on its way into the area that is not active, in four moves: write its text there, sync,
+/// write the switch byte, sync. A stop between any two of them leaves the old journal or the packed one.
+#[derive(Drop)]
+pub struct Pack {
+    to: u64,
+    text: Vec<u8>,
+    moves: u8,
+    ghost place: { to ≤ 2 ^ 23 },
+    ghost short: { length text.items + 8 ≤ 2 ^ 23 },
+}
+
+/// Adds an open gate and a record's bytes to a text.
+fn add_entry(text: &mut Vec<u8>, entry: &Record) -> Result<(), Memory>
+    requires { HasSpelling entry.now }
+    ensures { OnOk result (text.new.items ≡ text.old.items ++ 1 ∷ spelling (entry_of entry.now)) }
+{
+    let mut spelled = [0u8; 80];
+    let n = entry.write(&mut spelled);
+    text.push(1)?;
+    text.extend_from_slice(&spelled[..n])?;
+    Ok(())
+}
+
+/// The text of records: each behind an open gate, and a closed gate.
+fn make_text(alloc: Global, records: &[Record]) -> Result<Vec<u8>, Memory>
+    requires { All HasSpelling records.now }
+    ensures { IfOk result (λ v. v.items ≡ entries (newest_first records.now) ++ 0 ∷ []) }
+{
+    let mut text = Vec::new(alloc);
+    for entry in records {
+        add_entry(&mut text, entry)?;
+    }
+    text.push(0)?;
+    Ok(text)
+}
+
+/// The switch byte that names the area that begins there: the digit 2 for the second, 1 for the first.
+fn switch_to(to: u64) -> u8
+    ensures { result ≡ switch_to to }
+{
+    if to == SECOND_BASE { SECOND } else { FIRST }
+}
+
+impl Pack {
+    ghost use Rattle.journal_pack.specs.Packs.{to_of, text_of, moves_of, WritesText, Packs};
+
+    /// A pack of these records, away from the active area, which begins at `base`. Condition: each record has
+    /// a spelling, and the text fits in front of the second area.
+    pub fn new(alloc: Global, base: u64, records: &[Record]) -> Result<Pack, Memory>
+        requires area { (base ≡ 8) ⊎ (base ≡ 2 ^ 23) }
+        requires spelled { All HasSpelling records.now }
+        requires short { entries_size (newest_first records.now) + 9 ≤ 2 ^ 23 }
+        ensures writes { IfOk result (λ p. (area : Area) → base ≡ base_of area
+            → WritesText (other_area area) (newest_first records.now) p) }
+        ensures moves { IfOk result (λ p. moves_of p ≡ 0) }
+    {
+        let text = make_text(alloc, records)?;
+        let to = if base == SECOND_BASE {
+            FIRST_BASE
+        } else {
+            SECOND_BASE
+        };
+        Ok(Pack { to, text, moves: 0 })
+    }
+
+    /// The length of the new text in bytes: in the first area counted from the start of the disk, in the
+    /// second from where the area begins.
+    pub fn size(&self) -> u64
+        ensures { (area : Area) (qs : List Entry) → IsTrue (list_all is_spelled qs)
+            → WritesText area qs self.now → result ≡ text_length area qs }
+    {
+        if self.to == FIRST_BASE {
+            FIRST_BASE + self.text.len() as u64
+        } else {
+            self.text.len() as u64
+        }
+    }
+
+    /// The offset past the gate that closes the new text, in bytes from the start of the disk.
+    pub fn end(&self) -> u64
+        ensures { (area : Area) (qs : List Entry) → IsTrue (list_all is_spelled qs)
+            → WritesText area qs self.now → result ≡ end_in area qs }
+    {
+        self.to + self.text.len() as u64
+    }
+
+    /// Makes the next move; true after the fourth. After a fault the pack is given up; want of memory leaves
+    /// the old journal. Condition: the four moves are not yet made, and none of them failed.
+    pub fn turn<D: Disk>(&mut self, disk: &mut D) -> Result<bool, WriteFault>
+        requires { moves_of self.old < 4 }
+        ensures last { IfOk result (λ ended. IsTrue ended ↔ (moves_of self.new ≡ 4)) }
+        ensures next { OnOk result (moves_of self.new ≡ moves_of self.old + 1) }
+        ensures failed { OnErr result (moves_of self.new ≡ 5) }
+        ensures to { to_of self.new ≡ to_of self.old }
+        ensures text { text_of self.new ≡ text_of self.old }
+        ensures does { OnOk result (D.holds disk.new ≡ option_map (moved_on (moves_of self.old)
+            (to_of self.old) (text_of self.old) 7 (switch_to (to_of self.old))) (D.holds disk.old)) }
+        ensures torn { IsErrOf result write_fault.Failed → Goes (MayBeTorn (moves_of self.old)
+            (to_of self.old) (length (text_of self.old)) 7) (D.holds disk.old) (D.holds disk.new) }
+        ensures moved { (area : Area) (rs qs : List Entry) → Packs area rs qs self.old (D.holds disk.old)
+            → OnOk result (Packs area rs qs self.new (D.holds disk.new)) }
+        ensures given_up { (area : Area) (rs qs : List Entry) → Packs area rs qs self.old (D.holds disk.old)
+            → OnErr result (IfSome (D.holds disk.new) (IsPackGivenUp (moves_of self.old) area rs qs)) }
+        ensures before { (area : Area) (rs qs : List Entry) → Packs area rs qs self.old (D.holds disk.old)
+            → moves_of self.old < 2 → AllStandIn area rs (D.holds disk.new) }
+        ensures between { (area : Area) (rs qs : List Entry) → Packs area rs qs self.old (D.holds disk.old)
+            → MayStandIn area rs qs (D.holds disk.new) }
+        ensures after { (area : Area) (rs qs : List Entry) → Packs area rs qs self.old (D.holds disk.old)
+            → OnOk result (moves_of self.new ≡ 4 → AllStandIn (other_area area) qs (D.holds disk.new)) }
+        ensures ready { (area : Area) (rs qs : List Entry) → Packs area rs qs self.old (D.holds disk.old)
+            → OnOk result (moves_of self.new ≡ 4
+            → IfSome (D.holds disk.new) (StandsFirm (other_area area) qs)) }
+        ensures kept { (area : Area) (rs qs : List Entry) → Packs area rs qs self.old (D.holds disk.old)
+            → IsErrOf result write_fault.Memory → IfSome (D.holds disk.new) (StandsFirm area rs) }
+        ensures memory { IsErrOf result write_fault.Memory → D.holds disk.new ≡ D.holds disk.old }
+        ensures writes { IsErrOf result write_fault.Memory → IsWrite (moves_of self.old) }
+        ensures cause { HasCause (D.faults disk.old) (D.faults disk.new) (IsErrOf result write_fault.Failed) }
+        ensures called { D.calls disk.new ≡ one_more (D.calls disk.old) }
+    {
+        let switch = switch_to(self.to);
+        let text = self.text.as_slice();
+        make_move(disk, &mut self.moves, self.to, text, SWITCH, switch)
+    }
+}

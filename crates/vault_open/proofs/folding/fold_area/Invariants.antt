@@ -1,0 +1,12 @@
+use Rattle.std.proofs.Common.{◌≡◌, ◌-◌, List, length}
+use Rattle.record_defs.specs.Records.{Record}
+use Rattle.record_defs.specs.Areas.{Area, base_of}
+use Rattle.vault_open.specs.Actives.{IsReadInto}
+use Rattle.vault_open.proofs.folding.fold_area.Given as goal
+
+abbrev pub invariant-loop-table : goal.invariant-loop-table
+invariant-loop-table l =
+    (area : Area) × (rs : List Record) × (l.base ≡ base_of area) × IsReadInto l.bytes area rs l.table l.gate
+
+abbrev pub decreases-loop-table : goal.decreases-loop-table
+decreases-loop-table l = length l.bytes - l.gate
