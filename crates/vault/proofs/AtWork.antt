@@ -10,6 +10,7 @@ use Rattle.record_defs.specs.Records.{Setup}
 use Rattle.machine_defs.specs.Actions.{Action}
 use Rattle.machine_defs.specs.Jobs.{Kind}
 use Rattle.machine_defs.specs.States.{State, setup_in}
+use Rattle.state_laws.specs.Orders.{AreNumbered}
 use Rattle.state_laws.specs.Sound.{IsSound}
 use Rattle.state_laws.proofs.Packs.{journal-same}
 use Rattle.vault_core.specs.declared.wish.BeginFault.{BeginFault}
@@ -66,14 +67,18 @@ over w faults ps = record w {
   disk_faults = faults;
 }
 
--- what the devices are is no part of what makes a state sound, but that providers enough are handed in
-over_sound : (w : State) (faults : ℕ) (ps : List Provider) → (setup_in w).n ≤ length ps → IsSound 8 w
-    → IsSound 8 (over w faults ps)
+-- what the devices are, where providers enough are handed in, and the next number make no state unsound
+pub beside_sound : (w : State) (providers : ℕ → Provider) (handed faults next : ℕ) → (setup_in w).n ≤ handed
+    → AreNumbered 0 w.jobs next → IsSound 8 w
+    → IsSound 8
+    (record w { providers = providers; handed = handed; disk_faults = faults; next_job = next })
 unfolding setup_in
-over_sound w faults ps enough S = record {
+beside_sound w providers handed faults next enough numbered S = record {
   accepted = S.accepted;
   spelled = S.spelled;
-  journal = journal-same w (over w faults ps) refl refl refl S.journal;
+  journal = journal-same w
+      (record w { providers = providers; handed = handed; disk_faults = faults; next_job = next }) refl refl
+      refl S.journal;
   room = S.room;
   files = S.files;
   names = S.names;
@@ -83,7 +88,7 @@ over_sound w faults ps enough S = record {
   set_up = S.set_up;
   handed = λ opened. enough;
   few = S.few;
-  numbered = S.numbered;
+  numbered = numbered;
   jobs = S.jobs;
   in_journal = S.in_journal;
   lone = S.lone;
@@ -122,7 +127,8 @@ over_stands v w old faults older ps enough S =
         providers = record { count = refl; each = λ j below. slice_get-get_or ps j (w.providers j) below };
       };
       core = record {
-        sound = over_sound w faults ps few S.core.sound;
+        sound = beside_sound w (over w faults ps).providers (length ps) faults w.next_job few
+            S.core.sound.numbered S.core.sound;
         is_open = S.core.is_open;
         none_alone = S.core.none_alone;
         table = S.core.table;

@@ -9,7 +9,7 @@ use Rattle.device_defs.specs.Faults.{one_more}
 use Rattle.machine_defs.specs.Actions.{Action}
 use Rattle.vault_core.specs.declared.action.Action.{Action as ActionValue}
 use Rattle.vault_core.specs.Coming.{Coming, Acts, IsNoJob, seen_action, calls_disk, called_provider}
-use Rattle.vault.specs.Calls.{CalledOnce}
+use Rattle.stripe_bench.specs.Calls.{CalledOnce}
 
 -- it was called once, by its count of calls
 pub called_at : {X : Type 0} (calls : X → ℕ) (xs : List X) (k : ℕ) (d y : X) → k < length xs

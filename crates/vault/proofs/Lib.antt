@@ -38,3 +38,7 @@ pub mod Called
 pub mod Idle
 pub mod Replies
 pub mod Props
+pub mod Free
+pub mod Alone
+pub mod Replaced
+pub mod Scrubbed

@@ -14,7 +14,8 @@ use Rattle.vault.specs.declared.tasks.Task.{Task}
 use Rattle.vault.specs.declared.tasks.Task.TheVariants as task
 use Rattle.vault.specs.Asking.{Asked, IsAuditing}
 use Rattle.stripe_bench.specs.Blocks.{given_of}
-use Rattle.vault.specs.Devices.{cells_by, provider_by}
+use Rattle.vault.specs.Devices.{cells_by}
+use Rattle.stripe_bench.specs.Calls.{provider_by}
 use Rattle.vault.specs.Fetching.{TakesFetch, fetch_size}
 use Rattle.vault.specs.Flights.{MakesMove}
 

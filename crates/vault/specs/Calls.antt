@@ -1,14 +1,11 @@
--- Which device a step calls, and what it does to the cells of the disk.
+-- What a step does to the cells of the disk.
 --
---   CalledOnce calls j old new          == of a list of devices the one at place j was called once, by their
---                                          counts of calls
 --   moves_before_next coming            == how many moves of its append are made before the next action
 --   MovesCells n gate body turn old new == the cells after a step that makes the move after n, by what came
 --                                          of it
-use Rattle.std.specs.Prelude.{◌≡◌, ℕ, List, Option, slice_get}
+use Rattle.std.specs.Prelude.{◌≡◌, ℕ, List, Option}
 use Rattle.std.specs.Option.{option_map}
 use Rattle.device_defs.specs.Cells.{Cells}
-use Rattle.device_defs.specs.Faults.{one_more}
 use Rattle.device_defs.specs.Told.{Goes}
 use Rattle.state_laws.specs.Orders.{moves_before}
 use Rattle.journal_core.specs.Moves.{cells_after, MayTear}
@@ -17,11 +14,6 @@ use Rattle.vault.specs.declared.turn.Answer.{Answer}
 use Rattle.vault.specs.declared.turn.Answer.TheVariants as answer
 use Rattle.vault.specs.declared.turn.Turn.{Turn}
 use Rattle.vault.specs.declared.turn.Turn.TheVariants as turn
-
--- the device at a place was called once
-abbrev pub CalledOnce : {X : Type 0} → (X → ℕ) → ℕ → List X → List X → Type 0
-CalledOnce calls j old new =
-    option_map calls (slice_get new j) ≡ option_map (λ p. one_more (calls p)) (slice_get old j)
 
 -- how many moves of its append are made before the next action
 abbrev pub moves_before_next : Coming → ℕ

@@ -6,15 +6,15 @@
 --                                      before
 --   IsSamePast w job d e            == past the text with the record that a job's append writes the disk
 --                                      reads as before
---   cells_by is_told told, sight is_told P p, devices_by is_told D P disk providers
---                                   == what is seen of a disk's cells, a provider and the devices, or the
---                                      same with no content told
+--   cells_by is_told told, devices_by is_told D P disk providers
+--                                   == what is seen of a disk's cells and of the devices, or the same with no
+--                                      content told
 use Rattle.std.specs.Prelude.{◌≡◌, ℕ, Bool, true, false, List, ◌∷◌, Option, Some, None, map}
 use Rattle.device_defs.specs.Cells.{Cells}
-use Rattle.device_defs.specs.Providers.{Provider}
 use Rattle.disk_model.specs.declared.disk.Disk.{Ghosts as DiskGhosts}
 use Rattle.provider_model.specs.declared.provider.Provider.{Ghosts as ProviderGhosts}
 use Rattle.provider_model.specs.Seen.{provider_seen}
+use Rattle.stripe_bench.specs.Calls.{sight}
 use Rattle.device_defs.specs.Told.{Goes}
 use Rattle.record_defs.specs.Records.{Record}
 use Rattle.record_defs.specs.Journal.{text_size}
@@ -49,15 +49,6 @@ pub record IsSamePast (w : State) (job : ℕ) (old new : Devices) : Type 0 where
 abbrev pub cells_by : Bool → Option Cells → Option Cells
 cells_by true told = told
 cells_by false told = None
-
--- a provider, or the same with nothing told of what it holds
-abbrev pub provider_by : Bool → Provider → Provider
-provider_by true p = p
-provider_by false p = record p { held = None }
-
--- what is seen of a provider, with its content or without
-abbrev pub sight : {X : Type 0} → Bool → ProviderGhosts X → X → Provider
-sight is_told P p = provider_by is_told (provider_seen P p)
 
 -- the devices, with their content or without
 abbrev pub devices_by : {W X : Type 0} → Bool → DiskGhosts W → ProviderGhosts X → W → List X → Devices

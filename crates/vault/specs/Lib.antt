@@ -18,3 +18,4 @@ pub mod Calls
 pub mod Fresh
 pub mod Benches
 pub mod Ending
+pub mod Files

@@ -7,9 +7,10 @@
 --                                   core
 --   closed_gate_of v             == the offset of the closed gate behind the records in effect
 --   left_of v job                == how many steps of a job may remain at most; 0 where it does not run
+--   held_by v                    == the number under which it is held; None where it is not
 --   IsUnchanged old new          == the same jobs with what they work with, the same core, the same append;
 --                                   spare room does not count
-use Rattle.std.specs.Prelude.{ℕ, ◌-◌, List, Option}
+use Rattle.std.specs.Prelude.{◌≡◌, ℕ, ◌-◌, List, Option}
 use Rattle.record_defs.specs.Records.{Record}
 use Rattle.vault_core.specs.Coming.{Coming, next_in, entry_in, core_left}
 use Rattle.record_codec.specs.declared.setup.Setup.{Setup}
@@ -53,6 +54,10 @@ closed_gate_of v = v.desk.core.end - 1
 abbrev pub left_of : Vault → ℕ → ℕ
 left_of v job = core_left v.desk.core job
 
+-- the number under which it is held
+abbrev pub held_by : Vault → Option ℕ
+held_by v = v.held
+
 -- nothing changed but spare room
 abbrev pub IsUnchanged : Vault → Vault → Type 0
-IsUnchanged old new = IsSameDesk old.desk new.desk
+IsUnchanged old new = IsSameDesk old.desk new.desk × (new.held ≡ old.held)

@@ -11,9 +11,8 @@ ghost use Rattle.vault_core.specs.Coming.{core_left};
 ghost use Rattle.vault_core.specs.declared.pinned.Pinned.{Pinned as PinnedValue};
 ghost use Rattle.vault_open.specs.Devices.{devices};
 ghost use Rattle.vault.specs.Asking.{pin_among, pin_in, profile_or, IsQuestion, challenge_put, Asked, MayAsk, TellsAsk, IsAuditing, MayPut};
-ghost use Rattle.vault.specs.Calls.{CalledOnce};
+ghost use Rattle.stripe_bench.specs.Calls.{sight, CalledOnce};
 ghost use Rattle.vault.specs.Desks.{DeskStands, IsAtWork, Comes, DeskMakesStep};
-ghost use Rattle.vault.specs.Devices.{sight};
 ghost use Rattle.vault.specs.Running.{RunsIn};
 ghost use Rattle.vault.specs.declared.turn.Turn.TheVariants as turn;
 

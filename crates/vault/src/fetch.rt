@@ -9,9 +9,8 @@ ghost use Rattle.vault_core.specs.Coming.{core_left};
 ghost use Rattle.vault_open.specs.Devices.{devices};
 ghost use Rattle.stripe_bench.specs.Blocks.{given_of};
 ghost use Rattle.vault.specs.Benches.{TurnsTo};
-ghost use Rattle.vault.specs.Calls.{CalledOnce};
+ghost use Rattle.stripe_bench.specs.Calls.{sight, CalledOnce};
 ghost use Rattle.vault.specs.Desks.{DeskStands, IsAtWork, Comes, DeskMakesStep};
-ghost use Rattle.vault.specs.Devices.{sight};
 ghost use Rattle.vault.specs.Fetching.{TakesFetch, HasRoomFor, GrowsFetches, HasRoomForFetch, fetch_size};
 ghost use Rattle.vault.specs.declared.turn.Turn.TheVariants as turn;
 

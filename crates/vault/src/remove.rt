@@ -4,12 +4,11 @@ ghost use Rattle.device_defs.specs.Faults.{one_more};
 ghost use Rattle.device_defs.specs.ProviderCalls.{Removes};
 ghost use Rattle.machine_defs.specs.Actions.{Remove};
 ghost use Rattle.machine_defs.specs.States.{State};
-ghost use Rattle.vault.specs.Calls.{CalledOnce};
+ghost use Rattle.stripe_bench.specs.Calls.{sight, CalledOnce};
 ghost use Rattle.vault_open.specs.Devices.{devices};
 ghost use Rattle.provider_model.specs.Seen.{provider_seen};
 ghost use Rattle.vault_core.specs.Coming.{core_left};
 ghost use Rattle.vault.specs.Desks.{DeskStands, Comes, DeskMakesStep};
-ghost use Rattle.vault.specs.Devices.{sight};
 ghost use Rattle.vault.specs.declared.turn.Turn.TheVariants as turn;
 
 use crate::desk::Desk;

@@ -40,6 +40,6 @@ impl Vault {
     {
         let store = read_store(alloc, disk)?;
         let desk = open_fresh(alloc, store, first)?;
-        Ok(Vault { desk })
+        Ok(Vault { desk, held: None })
     }
 }

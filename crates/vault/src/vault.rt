@@ -5,10 +5,11 @@ use record_codec::Setup;
 use vault_table::Table;
 
 /// An open vault: the jobs of a client over a disk and providers, which it does not hold: each step is lent
-/// them.
+/// them. It may be held, under a job's number, for what runs alone: then no job runs and none begins.
 #[derive(Drop)]
 pub struct Vault {
     pub(crate) desk: Desk,
+    pub(crate) held: Option<u32>,
     ghost at_work: { IsAtWork desk },
 }
 

@@ -56,7 +56,8 @@ pins-one : (w : State) (o : Option File) → ((f : File) → o ≡ Some f → le
 pins-one w None h = refl
 pins-one w (Some f) h = ap (λ (p : Pinned). p ∷ []) (pin-file w f (h f refl))
 
-pins-are : (t : Kept) (w : State) (v : Wish) (k : Kind) → IsFoldOf w.records t → AreHeld w.bytes w.records →
+-- the files that a job of a wish works on are those that the machine pins
+pub pins-are : (t : Kept) (w : State) (v : Wish) (k : Kind) → IsFoldOf w.records t → AreHeld w.bytes w.records →
     IsKindOf v k → pins_for t v ≡ map pin_of (pinned_for w k)
 pins-are t w v k fold held kind =
     ap (pins_by core_pins pin_of_file (find_file t.files) t.files) kind ∙ by (aim_of k)

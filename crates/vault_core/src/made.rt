@@ -1,14 +1,17 @@
 //! How a job is made.
-ghost use Rattle.std.specs.Prelude.{◌≡◌, ◌<◌, ◌≤◌, ◌+◌, ◌*◌, ◌^◌, ◌++◌, ℕ, List, [], ◌∷◌, true, false, length, sum_by, Option, Some, None, IfOk, IfSome, IfNone, OnOk, IsTrue, nat_lt};
+ghost use Rattle.std.specs.Prelude.{◌≡◌, ◌<◌, ◌≤◌, ◌+◌, ◌*◌, ◌^◌, ◌++◌, ℕ, List, [], ◌∷◌, true, false, length, map, sum_by, Option, Some, None, IfOk, IfSome, IfNone, OnOk, IsTrue, nat_lt};
 ghost use Rattle.std.specs.Option.{option_map};
 ghost use Rattle.std.specs.List.{insert};
 ghost use Rattle.record_codec.specs.Entries.{with_master, IsPadded};
 ghost use Rattle.code_defs.specs.Profiles.{profile_of};
 ghost use Rattle.record_defs.specs.Records.{all_profiles};
-ghost use Rattle.machine_defs.specs.Begins.{pin_by, pin_found, pin_each, due_number, due_flags, chosen};
+ghost use Rattle.record_defs.specs.Table.{files_of};
+ghost use Rattle.machine_defs.specs.Begins.{pin_all, pin_by, pin_found, pin_each, due_number, due_flags, chosen};
+ghost use Rattle.machine_defs.specs.States.{State};
 ghost use Rattle.vault_table.specs.Values.{file_of_entry, due_of_pair};
 ghost use Rattle.vault_core.specs.declared.pinned.Pinned.{Pinned as PinnedFile};
 ghost use Rattle.vault_core.specs.declared.job.Task.{Task as TaskData};
+ghost use Rattle.vault_core.specs.Carried.{CoreIs, pin_of};
 ghost use Rattle.vault_core.specs.View.{core_pins, flag_at};
 ghost use Rattle.vault_core.specs.Targets.{targets_of, stripes_in, turns_for, tasks_made};
 ghost use Rattle.vault_core.specs.Rest.{rewrites_from};
@@ -18,6 +21,7 @@ ghost use Rattle.vault_core.specs.Making.{pin_of_file, pins_for, size_of_turn, o
 
 use crate::cursor::{Cursor, Move, Spot};
 use crate::job::{Job, Task};
+use crate::own::Core;
 use crate::pinned::Pinned;
 use crate::wish::Wish;
 use code_points::{Profile, find_profile};
@@ -107,6 +111,16 @@ fn pin_all(alloc: Global, table: &Table) -> Result<Vec<Pinned>, Memory>
         }
     }
     Ok(pinned)
+}
+
+impl Core {
+    /// All files in effect, in ascending order of their object numbers.
+    pub fn all_pinned(&self, alloc: Global) -> Result<Vec<Pinned>, Memory>
+        ensures { (w : State) → CoreIs self.now w
+            → IfOk result (λ pinned. pinned.items ≡ map pin_of (pin_all w (files_of w.records))) }
+    {
+        pin_all(alloc, &self.table)
+    }
 }
 
 /// The files that a job works on.

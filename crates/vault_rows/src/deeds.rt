@@ -57,6 +57,14 @@ pub enum Deed {
     Loses,
     /// The blocks are again those that were kept in mind.
     Mended,
+    /// The vault is held: the number under which it is, or why it is refused.
+    Holds(Result<u32, BeginFault>),
+    /// The vault is released.
+    Releases,
+    /// A scrub of all files may come to so many steps.
+    ScrubHas(u64),
+    /// A hold is refused where a disk call of a put failed.
+    Bars(BeginFault),
 }
 
 impl Store {
@@ -96,6 +104,10 @@ impl Store {
             Deed::Keeps => self.keeps_blocks(),
             Deed::Loses => self.loses_first(),
             Deed::Mended => self.has_kept_blocks(),
+            Deed::Holds(wanted) => self.hold() == wanted,
+            Deed::Releases => self.release(),
+            Deed::ScrubHas(left) => self.scrub_left() == Some(left),
+            Deed::Bars(fault) => self.hold_after_fault() == Some(Err(fault)),
         }
     }
 

@@ -2,6 +2,8 @@
 #![tactic(auto)]
 
 #[cfg(test)]
+mod alone;
+#[cfg(test)]
 mod asking;
 #[cfg(test)]
 mod cores;
@@ -9,6 +11,8 @@ mod cores;
 mod counted;
 #[cfg(test)]
 mod deeds;
+#[cfg(test)]
+mod holding;
 #[cfg(test)]
 mod job;
 #[cfg(test)]

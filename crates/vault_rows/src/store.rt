@@ -1,6 +1,6 @@
 use crate::counted::Counted;
 use crate::job::Job;
-use disk_model::{Disk, SureDisk};
+use disk_model::{Disk, MemDisk, SureDisk};
 use hail_field::Symbol;
 use key_schedule::Master;
 use provider_model::{Provider, SureProvider, Tamper};
@@ -10,7 +10,7 @@ use stream_model::Bytes;
 use vault::{Answer, BeginFault, Turn, Vault, init};
 
 /// The bytes of the master key are 0 to 31.
-const KEY: &[u8] = b"000102030405060708090a0b0c0d0e0f101112131415161718191a1b1c1d1e1f";
+pub const KEY: &[u8] = b"000102030405060708090a0b0c0d0e0f101112131415161718191a1b1c1d1e1f";
 
 /// What a step or a run of a job came to.
 #[derive(Clone, Copy, PartialEq, Eq)]
@@ -132,6 +132,14 @@ fn begin_other(vault: &mut Vault, job: Job) -> Result<u32, BeginFault> {
     }
 }
 
+/// Holds a vault for what runs alone.
+fn hold_of(vault: &mut Vault) -> Result<u32, BeginFault> {
+    if vault.next_job() == u32::MAX {
+        return Err(BeginFault::Memory);
+    }
+    vault.hold()
+}
+
 /// Makes a step of a job, where there are providers enough.
 fn step_of<D: Disk, P: Provider>(
     vault: &mut Vault,
@@ -163,6 +171,18 @@ fn new_providers(alloc: Global, count: u8) -> Option<Vec<Counted<SureProvider>>>
         providers.push(provider).ok()?;
     }
     Some(providers)
+}
+
+/// What a hold is answered where the first step of a put failed, since this call of the disk did.
+fn hold_after(alloc: Global, bytes: &[u8], call: u64) -> Option<Result<u32, BeginFault>> {
+    let mut disk = MemDisk::new(alloc, bytes, &[call]).ok()?;
+    let mut vault = opened_on(alloc, &mut disk)?;
+    let mut providers = new_providers(alloc, vault.setup().n)?;
+    let job = begin_put(alloc, &mut vault, b"a", b"old", None).ok()?;
+    match step_of(&mut vault, job, &mut disk, &mut providers) {
+        Seen::Fault => Some(hold_of(&mut vault)),
+        _ => None,
+    }
 }
 
 impl Store {
@@ -291,6 +311,40 @@ impl Store {
             Job::PutIn(name, bytes, own) => begin_put(self.alloc, vault, name, bytes, Some(own)),
             other => begin_other(vault, other),
         }
+    }
+
+    /// Holds the vault.
+    pub fn hold(&mut self) -> Result<u32, BeginFault> {
+        match &mut self.vault {
+            Some(vault) => hold_of(vault),
+            None => Err(BeginFault::MustReopen),
+        }
+    }
+
+    /// Releases the vault, and answers whether one is open.
+    pub fn release(&mut self) -> bool {
+        match &mut self.vault {
+            Some(vault) => {
+                vault.release();
+                true
+            }
+            None => false,
+        }
+    }
+
+    /// How many steps a scrub of all files may come to.
+    pub fn scrub_left(&self) -> Option<u64> {
+        Some(self.vault.as_ref()?.scrub(self.alloc).ok()?.left())
+    }
+
+    /// What a hold is answered after the first of the disk's calls whose fault ends a put at its first step.
+    pub fn hold_after_fault(&self) -> Option<Result<u32, BeginFault>> {
+        for call in 0..32u64 {
+            if let Some(answer) = hold_after(self.alloc, self.disk.bytes(), call) {
+                return Some(answer);
+            }
+        }
+        None
     }
 
     /// Makes a step of a job.

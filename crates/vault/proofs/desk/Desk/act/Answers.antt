@@ -2,7 +2,8 @@ use Rattle.std.proofs.Common.{◌≢◌, ℕ, ◌-◌, [], ◌∷◌, ◌++◌, 
 use Rattle.record_defs.specs.Spellings.{spelling}
 use Rattle.vault_core.specs.declared.action.Action.{Action}
 use Rattle.vault_core.specs.Coming.{Coming, Acts, seen_action, called_provider}
-use Rattle.vault.specs.Calls.{moves_before_next, CalledOnce, MovesCells}
+use Rattle.vault.specs.Calls.{moves_before_next, MovesCells}
+use Rattle.stripe_bench.specs.Calls.{CalledOnce}
 use Rattle.vault.specs.Desks.{Comes}
 use Rattle.vault.specs.Outcomes.{IfEnded, IsNoAction, HasPaddedCounts}
 use Rattle.vault.specs.declared.turn.Turn.{Turn}

@@ -3,7 +3,7 @@ use Rattle.std.proofs.lemmas.List.{map-set, length-set}
 use Rattle.algebra_laws.proofs.Lists.{get-set_other}
 use Rattle.std.proofs.lemmas.Option.{slice_get-get_or, slice_get-map}
 use Rattle.std.specs.Option.{option_map}
-use Rattle.vault.specs.Devices.{sight}
+use Rattle.stripe_bench.specs.Calls.{sight}
 use Rattle.vault.proofs.AtWork.{by_work, place_there}
 use Rattle.vault.proofs.Called.{called_at}
 use Rattle.vault.proofs.FetchStep.{room_there, fetch_step}

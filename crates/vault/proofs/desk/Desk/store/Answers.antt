@@ -4,7 +4,7 @@ use Rattle.std.specs.Option.{option_map}
 use Rattle.std.proofs.lemmas.List.{map-set, length-set}
 use Rattle.algebra_laws.proofs.Lists.{get-set_other}
 use Rattle.std.proofs.lemmas.Option.{slice_get-get_or, slice_get-map}
-use Rattle.vault.specs.Devices.{sight}
+use Rattle.stripe_bench.specs.Calls.{sight}
 use Rattle.vault.proofs.Called.{called_at}
 use Rattle.vault.proofs.JobPlaces.{item_at, place_within}
 use Rattle.vault.proofs.Replies.{replies, goes_not_on, padded_end}

@@ -1,27 +1,21 @@
-use Rattle.std.proofs.Common.{Result, ℕ, None, ◌∷◌, ◌∙◌, sym, subst, rules}
+use Rattle.std.proofs.Common.{None}
 use Rattle.machine_defs.specs.Jobs.{DropJob}
-use Rattle.vault_core.specs.declared.wish.BeginFault.{BeginFault}
-use Rattle.vault.specs.Desks.{DeskMakesBegin}
-use Rattle.vault.proofs.Begun.{causes_of_name, aims-counted, turned_down}
-use Rattle.vault.proofs.Puts.{name_cause}
-use Rattle.vault_open.proofs.InitEvents.{err-is}
 use Rattle.vault.proofs.AtWork.{begun_works}
+use Rattle.vault.proofs.Free.{not_free, begin_made}
 use Rattle.vault.proofs.vault.Vault.begin_drop.Goals as goal
 
-pub returns-in_err-name-clause-machine : goal.returns-in_err-name-clause-machine
-returns-in_err-name-clause-machine c = λ w d moment stands.
-    let v = c.args.self.now.desk in
-    let kind = DropJob c.args.name.now in
-    let why = c.in_err-name.field-0.0 in
-    subst (λ (r : Result ℕ BeginFault). DeskMakesBegin w moment kind None r v d)
-    (sym (err-is c.from_residual.result why c.from_residual.ensures.1))
-    (turned_down v v d w moment kind None stands why
-    (aims-counted w (name_cause c.args.name.now ∷ causes_of_name w kind c.args.name.now)
-    ∙ c.in_err-name.ensures.refused w (causes_of_name w kind c.args.name.now) stands.core))
+pub returns-in_err-unheld-clause-machine : goal.returns-in_err-unheld-clause-machine
+returns-in_err-unheld-clause-machine c = λ w d moment stands.
+    absurd (not_free c.args.self.now.held c.in_err-unheld.ensures.held stands.free)
+
+pub returns-clause-machine : goal.returns-clause-machine
+returns-clause-machine c = λ w d moment stands.
+    begin_made w moment (DropJob c.args.name.now) None _ _ d stands.free
+    (c.begin_drop.ensures.machine w d moment stands.desk)
 
 pub invariant_of-self : goal.invariant_of-self
 invariant_of-self c =
     record {
-      at_work = begun_works c.args.self.now.desk c.admit.new.self
-          (DropJob c.args.name.now) None c.admit.result (search rules) c.args.self.now.at_work;
+      at_work = begun_works c.args.self.now.desk c.begin_drop.new.self (DropJob c.args.name.now) None
+          c.begin_drop.result c.begin_drop.ensures.machine c.args.self.now.at_work;
     }

@@ -1,64 +1,21 @@
-use Rattle.std.proofs.Common.{Result, ℕ, sym, subst, ◌∙◌, ◌∷◌, ◌≡◌, Some, None}
+use Rattle.std.proofs.Common.{None}
 use Rattle.machine_defs.specs.Jobs.{GetJob}
-use Rattle.vault_core.specs.declared.wish.BeginFault.{BeginFault}
-use Rattle.vault_core.specs.declared.wish.BeginFault.TheVariants as fault
-use Rattle.record_defs.specs.Table.{find_file}
-use Rattle.vault_table.specs.Values.{file_of_entry}
-use Rattle.vault.proofs.Begun.{causes_of_name, aims-counted, turned_down}
-use Rattle.vault_open.proofs.InitEvents.{err-is}
-use Rattle.vault.proofs.Puts.{name_cause}
-use Rattle.vault.proofs.GetBegins.{found-in, no-such-name, get-begun}
-use Rattle.vault.specs.Desks.{DeskMakesBegin}
 use Rattle.vault.proofs.AtWork.{begun_works}
+use Rattle.vault.proofs.Free.{not_free, begin_made}
 use Rattle.vault.proofs.vault.Vault.begin_get.Goals as goal
 
-pub returns-in_err-name-clause-machine : goal.returns-in_err-name-clause-machine
-returns-in_err-name-clause-machine c = λ w d moment stands.
-    let v = c.args.self.now.desk in
-    let kind = GetJob c.args.name.now in
-    let why = c.in_err-name.field-0.0 in
-    subst (λ (r : Result ℕ BeginFault). DeskMakesBegin w moment kind None r v d)
-    (sym (err-is c.from_residual.result why c.from_residual.ensures.1))
-    (turned_down v v d w moment kind None stands why
-    (aims-counted w (name_cause c.args.name.now ∷ causes_of_name w kind c.args.name.now)
-    ∙ c.in_err-name.ensures.refused w (causes_of_name w kind c.args.name.now) stands.core))
+pub returns-in_err-unheld-clause-machine : goal.returns-in_err-unheld-clause-machine
+returns-in_err-unheld-clause-machine c = λ w d moment stands.
+    absurd (not_free c.args.self.now.held c.in_err-unheld.ensures.held stands.free)
 
-pub returns-in_default-clause-machine : goal.returns-in_default-clause-machine
-returns-in_default-clause-machine c = λ w d moment stands.
-    let v = c.args.self.now.desk in
-    let name = c.args.name.now in
-    let kind = GetJob name in
-    let none : find_file v.core.table.files name ≡ None =
-    sym (c.in_default.ensures ∙ (λ i. find_file (c.table.ensures i).files (c.in_ok-name.ensures.named i))) in
-    turned_down v v d w moment kind None stands fault.NoSuchName
-    (aims-counted w (name_cause name ∷ causes_of_name w kind name)
-    ∙ (c.in_ok-name.ensures.free w (name_cause name ∷ causes_of_name w kind name) stands.core
-    ∙ no-such-name w name c.in_ok-name.ensures.is_name (sym (found-in v d w name stands) ∙ none)))
-
-pub returns-in-Ok-clause-machine : goal.returns-in-Ok-clause-machine
-returns-in-Ok-clause-machine c =
-    let v = c.args.self.now.desk in
-    let name = c.args.name.now in
-    let file = file_of_entry c.in-Some.file in
-    let some : find_file v.core.table.files name ≡ Some file =
-    sym (c.in-Some.ensures ∙ (λ i. find_file (c.table.ensures i).files (c.in_ok-name.ensures.named i))) in
-    λ w d moment stands.
-    get-begun v c.admit.new.self name c.in_ok-name.name file c.in_ok-bench.bench c.in-Ok.task c.admit.result
-    c.min-length.result c.next_job.result c.in_ok-name.ensures.named c.in_ok-name.ensures.bytes some c.min-length.ensures
-    c.in_ok-bench.ensures.ok c.next_job.ensures c.in-Ok.ensures c.admit.ensures.machine w d moment stands
+pub returns-clause-machine : goal.returns-clause-machine
+returns-clause-machine c = λ w d moment stands.
+    begin_made w moment (GetJob c.args.name.now) None _ _ d stands.free
+    (c.begin_get.ensures.machine w d moment stands.desk)
 
 pub invariant_of-self : goal.invariant_of-self
 invariant_of-self c =
-    let v = c.args.self.now.desk in
-    let name = c.args.name.now in
-    let file = file_of_entry c.in-Some.file in
-    let some : find_file v.core.table.files name ≡ Some file =
-    sym (c.in-Some.ensures ∙ (λ i. find_file (c.table.ensures i).files (c.in_ok-name.ensures.named i))) in
-    let made =
-    get-begun v c.admit.new.self name c.in_ok-name.name file c.in_ok-bench.bench c.in-Ok.task c.admit.result
-    c.min-length.result c.next_job.result c.in_ok-name.ensures.named c.in_ok-name.ensures.bytes some c.min-length.ensures
-    c.in_ok-bench.ensures.ok c.next_job.ensures c.in-Ok.ensures c.admit.ensures.machine in
     record {
-      at_work = begun_works v c.admit.new.self
-          (GetJob name) None c.admit.result made c.args.self.now.at_work;
+      at_work = begun_works c.args.self.now.desk c.begin_get.new.self (GetJob c.args.name.now) None
+          c.begin_get.result c.begin_get.ensures.machine c.args.self.now.at_work;
     }

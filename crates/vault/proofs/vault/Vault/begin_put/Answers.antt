@@ -1,87 +1,20 @@
-use Rattle.std.proofs.Common.{Result, Err, List, ℕ, ◌∷◌, ◌∙◌, ◌<◌, length, sym, subst, arith}
-use Rattle.record_defs.specs.Records.{largest_file}
-use Rattle.machine_defs.specs.Events.{AreBytes}
-use Rattle.machine_defs.specs.Jobs.{PutJob, ToPut}
-use Rattle.machine_defs.specs.States.{State}
-use Rattle.vault_core.specs.declared.wish.BeginFault.{BeginFault}
-use Rattle.vault_core.specs.declared.wish.BeginFault.TheVariants as fault
-use Rattle.vault_open.specs.Devices.{Devices}
-use Rattle.vault_open.proofs.InitEvents.{err-is}
-use Rattle.vault.specs.Desks.{DeskStands, DeskMakesBegin}
+use Rattle.machine_defs.specs.Jobs.{PutJob}
 use Rattle.vault.proofs.AtWork.{begun_works}
-use Rattle.vault.proofs.Begun.{aims-counted, memory-alone, turned_down, found_none}
-use Rattle.vault.proofs.Puts.{name_cause, causes_of_put, bad-profile, too-long, put-task}
+use Rattle.vault.proofs.Free.{not_free, begin_made}
 use Rattle.vault.proofs.vault.Vault.begin_put.Goals as goal
 
-pub returns-in_err-name-clause-machine : goal.returns-in_err-name-clause-machine
-returns-in_err-name-clause-machine c = λ w d moment stands.
-    let v = c.args.self.now.desk in
-    let name = c.args.name.now in
-    let kind = PutJob name c.args.bytes in
-    let why = c.in_err-name.field-0.0 in
-    let causes = causes_of_put w name c.args.bytes c.args.profile in
-    subst (λ (r : Result ℕ BeginFault). DeskMakesBegin w moment kind c.args.profile r v d)
-    (sym (err-is c.from_residual.result why c.from_residual.ensures.1))
-    (turned_down v v d w moment kind c.args.profile stands why
-    (aims-counted w (name_cause name ∷ causes) ∙ c.in_err-name.ensures.refused w causes stands.core))
-
-pub returns-then-is_unknown-clause-machine : goal.returns-then-is_unknown-clause-machine
-returns-then-is_unknown-clause-machine c = λ w d moment stands.
-    let v = c.args.self.now.desk in
-    let name = c.args.name.now in
-    let causes = name_cause name ∷ causes_of_put w name c.args.bytes c.args.profile in
-    turned_down v v d w moment (PutJob name c.args.bytes) c.args.profile stands fault.BadProfile
-    (aims-counted w causes ∙ c.in_ok-name.ensures.free w causes stands.core
-    ∙ bad-profile w name c.args.bytes c.args.profile c.in_ok-name.ensures.is_name
-    (sym c.is_unknown.ensures ∙ c.if-is_unknown.true))
-
-pub returns-then-length-clause-machine : goal.returns-then-length-clause-machine
-returns-then-length-clause-machine c = λ w d moment stands.
-    let v = c.args.self.now.desk in
-    let name = c.args.name.now in
-    let causes = name_cause name ∷ causes_of_put w name c.args.bytes c.args.profile in
-    let long : largest_file < length c.args.bytes =
-    subst (λ (bytes : List ℕ). largest_file < length bytes) c.as_slice-length.ensures
-    c.if-length.true in
-    turned_down v v d w moment (PutJob name c.args.bytes) c.args.profile stands fault.TooLong
-    (aims-counted w causes ∙ c.in_ok-name.ensures.free w causes stands.core
-    ∙ too-long w name c.args.bytes c.args.profile c.in_ok-name.ensures.is_name
-    (sym c.is_unknown.ensures ∙ c.if-is_unknown.false) long)
-
-pub returns-in_err-bench-clause-machine : goal.returns-in_err-bench-clause-machine
-returns-in_err-bench-clause-machine c = λ w d moment stands.
-    let v = c.args.self.now.desk in
-    let kind = PutJob c.args.name.now c.args.bytes in
-    let why = c.in_err-bench.field-0.0 in
-    subst (λ (r : Result ℕ BeginFault). DeskMakesBegin w moment kind c.args.profile r v d)
-    (sym (err-is c.from_residual-in_err-bench.result why c.from_residual-in_err-bench.ensures.1))
-    (subst (λ (f : BeginFault). DeskMakesBegin w moment kind c.args.profile (Err f) v d)
-    (sym (memory-alone c.bench_for.result why c.bench_for.ensures.err c.in_err-bench.was))
-    (found_none v v d w moment kind c.args.profile stands))
-
-pub admit-requires-clause-size : goal.admit-requires-clause-size
-admit-requires-clause-size c = omega (arith, c.if-length.false)
+pub returns-in_err-unheld-clause-machine : goal.returns-in_err-unheld-clause-machine
+returns-in_err-unheld-clause-machine c = λ w d moment stands.
+    absurd (not_free c.args.self.now.held c.in_err-unheld.ensures.held stands.free)
 
 pub returns-clause-machine : goal.returns-clause-machine
 returns-clause-machine c = λ w d moment stands.
-    let v = c.args.self.now.desk in
-    c.admit.ensures.machine w d moment (PutJob c.args.name.now c.args.bytes) stands
-    (λ i. ToPut (c.in_ok-name.ensures.named i) (length (c.as_slice-length.ensures i)))
-    (c.in_ok-name.ensures.bytes, subst AreBytes c.as_slice.ensures c.bytes_are_bytes.ensures)
-    (λ accepted. put-task v d w moment c.args.name.now c.args.profile _ _ _ stands
-    c.in_ok-bench.ensures.ok c.profile_of_put-chosen.ensures)
+    begin_made w moment (PutJob c.args.name.now c.args.bytes) c.args.profile _ _ d stands.free
+    (c.begin_put.ensures.machine w d moment stands.desk)
 
 pub invariant_of-self : goal.invariant_of-self
 invariant_of-self c =
-    let v = c.args.self.now.desk in
-    let kind = PutJob c.args.name.now c.args.bytes in
-    let made = λ (w : State) (d : Devices) (moment : ℕ) (stands : DeskStands v d w).
-    c.admit.ensures.machine w d moment (PutJob c.args.name.now c.args.bytes) stands
-    (λ i. ToPut (c.in_ok-name.ensures.named i) (length (c.as_slice-length.ensures i)))
-    (c.in_ok-name.ensures.bytes, subst AreBytes c.as_slice.ensures c.bytes_are_bytes.ensures)
-    (λ accepted. put-task v d w moment c.args.name.now c.args.profile _ _ _ stands
-    c.in_ok-bench.ensures.ok c.profile_of_put-chosen.ensures) in
     record {
-      at_work = begun_works v c.admit.new.self kind c.args.profile c.admit.result made
-          c.args.self.now.at_work;
+      at_work = begun_works c.args.self.now.desk c.begin_put.new.self (PutJob c.args.name.now c.args.bytes) c.args.profile
+          c.begin_put.result c.begin_put.ensures.machine c.args.self.now.at_work;
     }

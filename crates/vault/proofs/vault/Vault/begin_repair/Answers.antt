@@ -1,37 +1,21 @@
-use Rattle.std.proofs.Common.{Result, Err, ℕ, None, sym, subst, refl}
+use Rattle.std.proofs.Common.{None}
 use Rattle.machine_defs.specs.Jobs.{RepairJob}
-use Rattle.machine_defs.specs.States.{State}
-use Rattle.vault_core.specs.declared.wish.BeginFault.{BeginFault}
-use Rattle.vault_open.specs.Devices.{Devices}
-use Rattle.vault_open.proofs.InitEvents.{err-is}
-use Rattle.vault.specs.Desks.{DeskStands, DeskMakesBegin}
 use Rattle.vault.proofs.AtWork.{begun_works}
-use Rattle.vault.proofs.Begun.{memory-alone, found_none}
-use Rattle.vault.proofs.RepairBegins.{repair-task}
+use Rattle.vault.proofs.Free.{not_free, begin_made}
 use Rattle.vault.proofs.vault.Vault.begin_repair.Goals as goal
 
-pub returns-in_err-task-clause-machine : goal.returns-in_err-task-clause-machine
-returns-in_err-task-clause-machine c = λ w d moment stands.
-    let v = c.args.self.now.desk in
-    let why = c.in_err-task.field-0.0 in
-    subst (λ (r : Result ℕ BeginFault). DeskMakesBegin w moment RepairJob None r v d)
-    (sym (err-is c.from_residual.result why c.from_residual.ensures.1))
-    (subst (λ (f : BeginFault). DeskMakesBegin w moment RepairJob None (Err f) v d)
-    (sym (memory-alone c.repair_task.result why c.repair_task.ensures.err c.in_err-task.was))
-    (found_none v v d w moment RepairJob None stands))
+pub returns-in_err-unheld-clause-machine : goal.returns-in_err-unheld-clause-machine
+returns-in_err-unheld-clause-machine c = λ w d moment stands.
+    absurd (not_free c.args.self.now.held c.in_err-unheld.ensures.held stands.free)
 
 pub returns-clause-machine : goal.returns-clause-machine
 returns-clause-machine c = λ w d moment stands.
-    let v = c.args.self.now.desk in
-    c.admit.ensures.machine w d moment RepairJob stands refl tt
-    (λ accepted. repair-task v d w moment _ stands c.in_ok-task.ensures.ok)
+    begin_made w moment RepairJob None _ _ d stands.free
+    (c.begin_repair.ensures.machine w d moment stands.desk)
 
 pub invariant_of-self : goal.invariant_of-self
 invariant_of-self c =
-    let v = c.args.self.now.desk in
-    let made = λ (w : State) (d : Devices) (moment : ℕ) (stands : DeskStands v d w).
-    c.admit.ensures.machine w d moment RepairJob stands refl tt
-    (λ accepted. repair-task v d w moment _ stands c.in_ok-task.ensures.ok) in
     record {
-      at_work = begun_works v c.admit.new.self RepairJob None c.admit.result made c.args.self.now.at_work;
+      at_work = begun_works c.args.self.now.desk c.begin_repair.new.self RepairJob None c.begin_repair.result
+          c.begin_repair.ensures.machine c.args.self.now.at_work;
     }

@@ -1,4 +1,4 @@
-use Rattle.std.proofs.Common.{◌≡◌, Ok, Err, ap, arith}
+use Rattle.std.proofs.Common.{◌≡◌, Ok, Err, refl, ap, arith}
 use Rattle.record_defs.proofs.Standing.{text_size-least}
 use Rattle.vault_core.specs.View.{CoreView}
 use Rattle.vault_open.specs.declared.fault.StartFault.{StartFault}
@@ -23,8 +23,11 @@ returns-clause-opened g c =
     let r = c.in_ok-store.ensures.read in (
       r.0,
       r.1,
-      λ w providers j. stands _ _ r.0 c.in_ok-store.store c.args.first c.in_ok-desk.desk r.1 r.2
-          c.in_ok-desk.ensures.ok _ w providers j,
+      λ w providers j. record {
+        free = refl;
+        desk = stands _ _ r.0 c.in_ok-store.store c.args.first c.in_ok-desk.desk r.1 r.2
+            c.in_ok-desk.ensures.ok _ w providers j;
+      },
     )
 
 pub returns-clause-carries : goal.returns-clause-carries

@@ -3,11 +3,12 @@ use Rattle.std.proofs.lemmas.List.{length-map}
 use Rattle.record_defs.specs.Spellings.{spelling}
 use Rattle.vault_core.specs.Coming.{Coming, IsNoJob, calls_disk, called_provider}
 use Rattle.vault.specs.Calls.{moves_before_next, MovesCells}
-use Rattle.vault.specs.Devices.{sight}
+use Rattle.stripe_bench.specs.Calls.{sight}
 use Rattle.vault.specs.Outcomes.{IsNoAction}
 use Rattle.vault.specs.Seen.{closed_gate_of, coming_of}
 use Rattle.vault.specs.declared.turn.Turn.TheVariants as turn
 use Rattle.vault.proofs.AtWork.{works_on, providers_fit}
+use Rattle.vault.proofs.Free.{step_made}
 use Rattle.vault.proofs.Called.{calls-none, called-none, acts-none}
 use Rattle.vault.proofs.Idle.{step-waits, step-unknown, step-barred}
 use Rattle.vault.proofs.Replies.{goes-on-not}
@@ -26,7 +27,9 @@ invariant_of-self g c =
     }
 
 pub returns-in-Act-clause-machine : goal.returns-in-Act-clause-machine
-returns-in-Act-clause-machine g c = λ w moment stands. c.act.ensures.machine w moment true stands
+returns-in-Act-clause-machine g c = λ w moment stands.
+    step_made w moment c.args.job c.act.result _ _ _ stands.free
+    (c.act.ensures.machine w moment true stands.desk)
 
 pub act-requires-clause-there : goal.act-requires-clause-there
 act-requires-clause-there g c = λ j called.
@@ -59,7 +62,7 @@ returns-in-Act-clause-moves g c = λ w entry stands given calls.
     (spelling entry ++ 0 ∷ []) c.act.result (g.D.Disk.holds c.args.disk.now)
     (g.D.Disk.holds c.act.new.disk))
     c.in-Act.ensures.value
-    (c.act.ensures.moves w entry stands given (ap calls_disk c.in-Act.ensures.value ∙ calls))
+    (c.act.ensures.moves w entry stands.desk given (ap calls_disk c.in-Act.ensures.value ∙ calls))
 
 pub returns-in-Act-clause-away : goal.returns-in-Act-clause-away
 returns-in-Act-clause-away g c = λ none.
@@ -124,7 +127,7 @@ returns-in-Waiting-clause-one_provider_call g c = λ j called.
 
 pub returns-in-Waiting-clause-waits : goal.returns-in-Waiting-clause-waits
 returns-in-Waiting-clause-waits g c = λ none. (
-  record { core = refl; setup = refl; master = refl; flight = refl; jobs = refl },
+  (record { core = refl; setup = refl; master = refl; flight = refl; jobs = refl }, refl),
   refl,
   refl,
 )
@@ -164,7 +167,7 @@ returns-in-NoSuchJob-clause-one_provider_call g c = λ j called.
 
 pub returns-in-NoSuchJob-clause-waits : goal.returns-in-NoSuchJob-clause-waits
 returns-in-NoSuchJob-clause-waits g c = λ none. (
-  record { core = refl; setup = refl; master = refl; flight = refl; jobs = refl },
+  (record { core = refl; setup = refl; master = refl; flight = refl; jobs = refl }, refl),
   refl,
   refl,
 )
@@ -204,22 +207,25 @@ returns-in-MustReopen-clause-one_provider_call g c = λ j called.
 
 pub returns-in-MustReopen-clause-waits : goal.returns-in-MustReopen-clause-waits
 returns-in-MustReopen-clause-waits g c = λ none. (
-  record { core = refl; setup = refl; master = refl; flight = refl; jobs = refl },
+  (record { core = refl; setup = refl; master = refl; flight = refl; jobs = refl }, refl),
   refl,
   refl,
 )
 
 pub returns-in-Waiting-clause-machine : goal.returns-in-Waiting-clause-machine
 returns-in-Waiting-clause-machine g c = λ w moment stands.
-    step-waits c.args.self.now.desk w _ moment c.args.job stands _
-    (c.in-Waiting.ensures.machine w stands.core)
+    step_made w moment c.args.job _ c.args.self.now _ _ stands.free
+    (step-waits c.args.self.now.desk w _ moment c.args.job stands.desk _
+    (c.in-Waiting.ensures.machine w stands.desk.core))
 
 pub returns-in-NoSuchJob-clause-machine : goal.returns-in-NoSuchJob-clause-machine
 returns-in-NoSuchJob-clause-machine g c = λ w moment stands.
-    step-unknown c.args.self.now.desk w _ moment c.args.job stands
-    (c.in-NoSuchJob.ensures.machine w stands.core)
+    step_made w moment c.args.job _ c.args.self.now _ _ stands.free
+    (step-unknown c.args.self.now.desk w _ moment c.args.job stands.desk
+    (c.in-NoSuchJob.ensures.machine w stands.desk.core))
 
 pub returns-in-MustReopen-clause-machine : goal.returns-in-MustReopen-clause-machine
 returns-in-MustReopen-clause-machine g c = λ w moment stands.
-    step-barred c.args.self.now.desk w _ moment c.args.job stands
-    (c.in-MustReopen.ensures.machine w stands.core)
+    step_made w moment c.args.job _ c.args.self.now _ _ stands.free
+    (step-barred c.args.self.now.desk w _ moment c.args.job stands.desk
+    (c.in-MustReopen.ensures.machine w stands.desk.core))

@@ -1,0 +1,22 @@
+use Rattle.std.proofs.Common.{◌<◌, ◌+◌, ◌++◌, ◌∷◌, [], List, length, take, get_or, sym, subst, arith}
+use Rattle.std.specs.List.{AllZip}
+use Rattle.std.proofs.lemmas.List.{take_more}
+use Rattle.file_layout.specs.declared.file.FileShape.{FileShape}
+use Rattle.vault_core.specs.declared.pinned.Pinned.{Pinned}
+use Rattle.vault.specs.Files.{IsShapeFor}
+use Rattle.vault.proofs.Scrubbed.{zip_push}
+use Rattle.vault.proofs.desk.Desk.shapes_for.Goals as goal
+
+pub loop-file-preserved : goal.loop-file-preserved
+loop-file-preserved c =
+    let v = c.args.self.now in
+    let pins = c.args.pinned.now in
+    let i = c.loop-file.file-index in
+    let none : Pinned = record { id = 0; length = 0; profile = 0 } in
+    let files = c.loop-file.files.items in
+    let below : i < length pins = omega arith in
+    subst (λ (l : List FileShape). AllZip (IsShapeFor v) (take (i + 1) pins) l) (sym c.in-Ok.ensures.items)
+    (subst (λ (l : List Pinned). AllZip (IsShapeFor v) l (files ++ c.shape_for.result ∷ []))
+    (sym (take_more pins i none below))
+    (zip_push (IsShapeFor v) (take i pins) files (get_or pins i none) c.shape_for.result c.loop-file.invariant
+    c.shape_for.ensures))
