@@ -1,4 +1,4 @@
--- Files that are numbered from 1 on, at most two.
+-- Files that are numbered from 1 on, at most three.
 use Rattle.std.proofs.Common.{◌≡◌, ℕ, zero, suc, ◌+◌, ◌≤◌, List, [], ◌∷◌, Some, None, ap, sym, ◌∙◌, refl, subst, Ok, arith}
 use Rattle.std.specs.Prelude.{slice_get, Result, IfOk}
 use Rattle.file_layout.specs.declared.file.FileShape.{FileShape}
@@ -27,20 +27,24 @@ one_at : (x : FileShape) → x.id ≡ 1 → x.shape.n ≡ 6 → AreNumbered (x �
 one_at x id six zero f there = same_file x f 1 there id six
 one_at x id six (suc k) f there = absurd (let e : None ≡ Some f = there in cc)
 
-two_at : (x y : FileShape) → x.id ≡ 1 → x.shape.n ≡ 6 → y.id ≡ 2 → y.shape.n ≡ 6 → AreNumbered (x ∷ y ∷ [])
-two_at x y id six next more zero f there = same_file x f 1 there id six
-two_at x y id six next more (suc zero) f there = same_file y f 2 there next more
-two_at x y id six next more (suc (suc k)) f there = absurd (let e : None ≡ Some f = there in cc)
+three_at : (x y z : FileShape) → x.id ≡ 1 → x.shape.n ≡ 6 → y.id ≡ 2 → y.shape.n ≡ 6 → z.id ≡ 3 →
+    z.shape.n ≡ 6 → AreNumbered (x ∷ y ∷ z ∷ [])
+three_at x y z id six next more last most zero f there = same_file x f 1 there id six
+three_at x y z id six next more last most (suc zero) f there = same_file y f 2 there next more
+three_at x y z id six next more last most (suc (suc zero)) f there = same_file z f 3 there last most
+three_at x y z id six next more last most (suc (suc (suc k))) f there =
+    absurd (let e : None ≡ Some f = there in cc)
 
 -- one file
 pub one_numbered : (files : List FileShape) (x : FileShape) → files ≡ x ∷ [] → x.id ≡ 1 → x.shape.n ≡ 6 →
     AreNumbered files
 one_numbered files x is id six = subst AreNumbered (sym is) (one_at x id six)
 
--- two files
-pub two_numbered : (files : List FileShape) (x y : FileShape) → files ≡ x ∷ y ∷ [] → x.id ≡ 1 →
-    x.shape.n ≡ 6 → y.id ≡ 2 → y.shape.n ≡ 6 → AreNumbered files
-two_numbered files x y is id six next more = subst AreNumbered (sym is) (two_at x y id six next more)
+-- three files
+pub three_numbered : (files : List FileShape) (x y z : FileShape) → files ≡ x ∷ y ∷ z ∷ [] → x.id ≡ 1 →
+    x.shape.n ≡ 6 → y.id ≡ 2 → y.shape.n ≡ 6 → z.id ≡ 3 → z.shape.n ≡ 6 → AreNumbered files
+three_numbered files x y z is id six next more last most =
+    subst AreNumbered (sym is) (three_at x y z id six next more last most)
 
 -- such files have one number of providers
 pub one_count : (files : List FileShape) → AreNumbered files → HaveOneCount files

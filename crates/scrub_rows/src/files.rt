@@ -22,7 +22,7 @@ pub const KEY: Master = Master([
 pub enum Files {
     Nothing,
     Notes,
-    Both,
+    All,
 }
 
 /// A file over six providers, of which three are primary and one may be bad.
@@ -54,6 +54,14 @@ pub fn small(rt: &impl Abort) -> FileShape
     file(rt, 2, 200, 0)
 }
 
+/// 300 bytes at profile 2: one stripe, of blocks of 32 symbols.
+pub fn wide(rt: &impl Abort) -> FileShape
+    ensures id { result.id ≡ 3 }
+    ensures six { result.shape.n ≡ 6 }
+{
+    file(rt, 3, 300, 2)
+}
+
 /// No file.
 fn no_file(alloc: Global) -> Vec<FileShape>
     ensures items { result.items ≡ [] }
@@ -70,25 +78,32 @@ fn one_file(rt: &impl Abort, alloc: Global, file: FileShape) -> Vec<FileShape>
     files
 }
 
-/// Two files.
-fn two_files(rt: &impl Abort, alloc: Global, file: FileShape, next: FileShape) -> Vec<FileShape>
-    ensures items { result.items ≡ file ∷ next ∷ [] }
+/// Three files.
+fn three_files(
+    rt: &impl Abort,
+    alloc: Global,
+    file: FileShape,
+    next: FileShape,
+    last: FileShape,
+) -> Vec<FileShape>
+    ensures items { result.items ≡ file ∷ next ∷ last ∷ [] }
 {
     let mut files = one_file(rt, alloc, file);
     files.push(next).expect(rt, "memory");
+    files.push(last).expect(rt, "memory");
     files
 }
 
 /// The files, which are numbered from 1 on.
 fn listed(rt: &impl Abort, alloc: Global, files: Files) -> Vec<FileShape>
-    ensures few { length result.items ≤ 2 }
+    ensures few { length result.items ≤ 3 }
     ensures numbered { (k : ℕ) (f : FileValue) → slice_get result.items k ≡ Some f
         → (f.id ≡ k + 1) × (f.shape.n ≡ 6) }
 {
     match files {
         Files::Nothing => no_file(alloc),
         Files::Notes => one_file(rt, alloc, notes(rt)),
-        Files::Both => two_files(rt, alloc, notes(rt), small(rt)),
+        Files::All => three_files(rt, alloc, notes(rt), small(rt), wide(rt)),
     }
 }
 

@@ -27,7 +27,7 @@ struct Row {
 
 const NONE: [u64; 6] = [0; 6];
 
-static ROWS: [Row; 8] = [
+static ROWS: [Row; 15] = [
     // with no file there is nothing to find
     Row {
         files: Files::Nothing,
@@ -36,10 +36,10 @@ static ROWS: [Row; 8] = [
         end: End::Finds(0, NONE, NONE),
     },
     Row {
-        files: Files::Both,
+        files: Files::All,
         fails: &[],
         deeds: &[],
-        end: End::Finds(4, NONE, NONE),
+        end: End::Finds(5, NONE, NONE),
     },
     // a lost block counts all its symbols, an altered one those that differ
     Row {
@@ -57,7 +57,7 @@ static ROWS: [Row; 8] = [
     },
     // each file by its own profile, each stripe by itself
     Row {
-        files: Files::Both,
+        files: Files::All,
         fails: &[],
         deeds: &[
             Alters(4, 1, 0, 2),
@@ -65,10 +65,21 @@ static ROWS: [Row; 8] = [
             Loses(3, 2, 2),
             Alters(2, 2, 1, 6),
         ],
-        end: End::Finds(4, [0, 0, 12, 6, 2, 0], [0, 0, 2, 1, 1, 0]),
+        end: End::Finds(5, [0, 0, 12, 6, 2, 0], [0, 0, 2, 1, 1, 0]),
     },
     Row {
-        files: Files::Both,
+        files: Files::All,
+        fails: &[],
+        deeds: &[
+            Loses(0, 1, 0),
+            Alters(5, 2, 1, 3),
+            Loses(2, 3, 0),
+            Alters(4, 3, 0, 4),
+        ],
+        end: End::Finds(5, [16, 0, 32, 0, 4, 3], [1, 0, 1, 0, 1, 1]),
+    },
+    Row {
+        files: Files::All,
         fails: &[],
         deeds: &[Loses(1, 2, 2), Loses(4, 2, 2)],
         end: End::Lost(2, 12),
@@ -76,15 +87,52 @@ static ROWS: [Row; 8] = [
     // a fetch that fails gives no block
     Row {
         files: Files::Notes,
-        fails: &[4],
+        fails: &[5],
         deeds: &[],
         end: End::Finds(1, [0, 0, 0, 0, 0, 16], [0, 0, 0, 0, 0, 1]),
     },
     // a store that fails ends the scrub
     Row {
         files: Files::Notes,
-        fails: &[5],
+        fails: &[6],
         deeds: &[Loses(5, 1, 0)],
+        end: End::Fault(5),
+    },
+    // each call of a provider in turn, and one more
+    Row {
+        files: Files::All,
+        fails: &[5],
+        deeds: &[],
+        end: End::Finds(5, [0, 0, 0, 0, 0, 16], [0, 0, 0, 0, 0, 1]),
+    },
+    Row {
+        files: Files::All,
+        fails: &[6],
+        deeds: &[],
+        end: End::Finds(5, [0, 0, 0, 0, 0, 6], [0, 0, 0, 0, 0, 1]),
+    },
+    Row {
+        files: Files::All,
+        fails: &[8],
+        deeds: &[],
+        end: End::Finds(5, [0, 0, 0, 0, 0, 6], [0, 0, 0, 0, 0, 1]),
+    },
+    Row {
+        files: Files::All,
+        fails: &[9],
+        deeds: &[],
+        end: End::Finds(5, [0, 0, 0, 0, 0, 32], [0, 0, 0, 0, 0, 1]),
+    },
+    Row {
+        files: Files::All,
+        fails: &[10],
+        deeds: &[],
+        end: End::Finds(5, NONE, NONE),
+    },
+    Row {
+        files: Files::All,
+        fails: &[5, 6],
+        deeds: &[],
         end: End::Fault(5),
     },
 ];

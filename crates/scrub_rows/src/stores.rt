@@ -1,5 +1,5 @@
-//! Providers in memory that hold both files, and what is done to them.
-use crate::files::{KEY, notes, small};
+//! Providers in memory that hold all files, and what is done to them.
+use crate::files::{KEY, notes, small, wide};
 use file_layout::FileShape;
 use hail_field::Symbol;
 use provider_model::{MemProvider, Provider, Tamper};
@@ -16,8 +16,8 @@ pub enum Deed {
     Alters(usize, u64, u32, u32),
 }
 
-/// The stripes of both files: their objects and numbers.
-const STRIPES: &[(u64, u32)] = &[(1, 0), (2, 0), (2, 1), (2, 2)];
+/// The stripes of all files: their objects and numbers.
+const STRIPES: &[(u64, u32)] = &[(1, 0), (2, 0), (2, 1), (2, 2), (3, 0)];
 
 /// Stores a block of the stripe at hand.
 fn store_on<P: Provider>(bench: &mut Bench, to: &mut P, place: u32, object: u64, stripe: u32) {
@@ -56,7 +56,7 @@ fn store_file<P: Provider>(
     }
 }
 
-/// Six providers that hold the blocks of both files. Of the last the listed calls fail: the first four are
+/// Six providers that hold the blocks of all files. Of the last the listed calls fail: the first five are
 /// those of its stores here.
 pub fn stored(rt: &impl Abort, alloc: Global, fails: &[u64]) -> Vec<MemProvider> {
     let mut providers = Vec::new(alloc);
@@ -67,6 +67,7 @@ pub fn stored(rt: &impl Abort, alloc: Global, fails: &[u64]) -> Vec<MemProvider>
     }
     store_file(rt, alloc, &mut providers, &notes(rt), &[7; 100]);
     store_file(rt, alloc, &mut providers, &small(rt), &[7; 200]);
+    store_file(rt, alloc, &mut providers, &wide(rt), &[7; 300]);
     providers
 }
 
