@@ -7,6 +7,7 @@
 --   AnswersAlone kind old new end   == `get`, `drop`, `audit`, `repair`, `upgrade`: they open the store and
 --                                      run their job
 --   AnswersList old new end         == `list`: it opens the store and writes the files in effect
+--   AnswersScrub of Scrubs          == `scrub`
 --   Answers command old new end     == how a command ends, by its words
 --   IsUsage old new end             == words that are no form of a command: status 2, or that of no memory
 use Rattle.std.specs.Prelude.{◌≡◌, ℕ, ◌+◌, false, IsTrue, List, [], Option, None, Some}
@@ -14,7 +15,7 @@ use Rattle.device_defs.specs.Faults.{Rose}
 use Rattle.record_defs.specs.Records.{Record, largest_file}
 use Rattle.record_defs.specs.Table.{files_of}
 use Rattle.machine_defs.specs.Jobs.{Kind, PutJob, GetJob, DropJob, AuditJob, RepairJob, UpgradeJob}
-use Rattle.command_defs.specs.Forms.{Command, RowOf, InitWith, PutUnder, PutAt, GetOf, DropOf, ListAll, AuditAll, RepairDue, UpgradeJournal}
+use Rattle.command_defs.specs.Forms.{Command, RowOf, InitWith, PutUnder, PutAt, GetOf, DropOf, ListAll, AuditAll, RepairDue, UpgradeJournal, ScrubAll}
 use Rattle.command_defs.specs.Seen.{Seen, Ending, IsSynced, SameSource, ReadsAtMost, ReadsUpTo, IsRefused, sinking}
 use Rattle.command_defs.specs.Sinking.{Refuses, WritesLine}
 use Rattle.command_defs.specs.Opens.{IsOpened, Unstarted}
@@ -23,6 +24,7 @@ use Rattle.command_defs.specs.Lines.{list_lines}
 use Rattle.command_defs.specs.Row.{AnswersRow}
 use Rattle.command_defs.specs.Jobs.{AnswersJob}
 use Rattle.command_defs.specs.Inits.{AnswersInit}
+use Rattle.command_defs.specs.Scrubs.{AnswersScrub}
 
 -- no device but the sink was touched, and nothing was heard
 pub record TouchesSink (old new : Seen) (end : Ending) : Type 0 where
@@ -82,6 +84,7 @@ Answers ListAll old new end = AnswersList old new end × SameSource old new
 Answers AuditAll old new end = AnswersAlone AuditJob old new end × SameSource old new
 Answers RepairDue old new end = AnswersAlone RepairJob old new end × SameSource old new
 Answers UpgradeJournal old new end = AnswersAlone UpgradeJob old new end × SameSource old new
+Answers ScrubAll old new end = AnswersScrub old new end × SameSource old new
 
 -- the words are no command
 pub record IsUsage (old new : Seen) (end : Ending) : Type 0 where

@@ -5,7 +5,7 @@
 --                                                  profile, rounds, picks, tolerance
 --   IsPutForm words name, IsGetForm, IsDropForm == the words are the command and a name, whatever it is
 --   IsPutAtForm words name profile              == `put`, a name and a number below 256
---   IsListForm words, IsAuditForm, IsRepairForm, IsUpgradeForm
+--   IsListForm words, IsAuditForm, IsRepairForm, IsUpgradeForm, IsScrubForm
 --                                               == the one word is the command
 --   Command                                     == a command as plain data
 --   IsForm words command                        == the words spell the command
@@ -85,6 +85,10 @@ IsRepairForm words = IsBareForm (codes "repair") words
 abbrev pub IsUpgradeForm : List (String Global) → Type 0
 IsUpgradeForm words = IsBareForm (codes "upgrade") words
 
+-- `scrub`
+abbrev pub IsScrubForm : List (String Global) → Type 0
+IsScrubForm words = IsBareForm (codes "scrub") words
+
 -- a command
 pub data Command : Type 0 where
   RowOf : (n l b : ℕ) (seen : List (Option ℕ)) → Command
@@ -97,6 +101,7 @@ pub data Command : Type 0 where
   AuditAll : Command
   RepairDue : Command
   UpgradeJournal : Command
+  ScrubAll : Command
 
 -- the words spell a command
 abbrev pub IsForm : List (String Global) → Command → Type 0
@@ -110,3 +115,4 @@ IsForm words ListAll = IsListForm words
 IsForm words AuditAll = IsAuditForm words
 IsForm words RepairDue = IsRepairForm words
 IsForm words UpgradeJournal = IsUpgradeForm words
+IsForm words ScrubAll = IsScrubForm words

@@ -18,6 +18,7 @@ pub mod Drops
 pub mod Audits
 pub mod Repairs
 pub mod Upgrades
+pub mod Scrubs
 pub mod Jobs
 pub mod Inits
 pub mod Commands

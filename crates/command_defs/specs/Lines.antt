@@ -9,13 +9,17 @@
 --                                                    count exceeds the tolerance
 --   repaired_line number                          == `repaired NUMBER`
 --   upgraded_line                                 == `upgraded`
+--   scrub_lines stripes symbols blocks            == `scrub stripes S`, then `provider J symbols C blocks D`
+--                                                    for each provider
+--   scrub_text answer                             == what a scrub writes that ended with this answer; nothing
+--                                                    at a fault
 --   text_of tolerance kind answer                 == what a job of this kind writes that ended with this
 --                                                    answer; nothing at a fault
 use Rattle.std.specs.Prelude.{ℕ, ◌+◌, List, [], ◌∷◌, ◌++◌, length, codes, nat_lt, if◌then◌else◌}
 use Rattle.std.specs.List.{flat_map}
 use Rattle.record_defs.specs.Table.{File}
 use Rattle.machine_defs.specs.Jobs.{Kind, PutJob, GetJob, DropJob, AuditJob, RepairJob, UpgradeJob}
-use Rattle.machine_defs.specs.Answers.{Answer, Put, Got, Dropped, Audited, Repaired, Upgraded}
+use Rattle.machine_defs.specs.Answers.{Answer, Scrubbed, Put, Got, Dropped, Audited, Repaired, Upgraded}
 use Rattle.machine_defs.specs.Lines.{line, then_number, file_line}
 
 -- after an init
@@ -59,6 +63,27 @@ repaired_line number = line (codes "repaired" ++ then_number number)
 -- after an upgrade
 abbrev pub upgraded_line : List ℕ
 upgraded_line = line (codes "upgraded")
+
+-- what a scrub found of one provider
+abbrev pub off_line : ℕ → ℕ → ℕ → List ℕ
+off_line j symbols blocks =
+    line (codes "provider" ++ then_number j ++ codes " symbols" ++ then_number symbols ++ codes " blocks"
+    ++ then_number blocks)
+
+-- of the providers from j on
+abbrev pub off_lines : ℕ → List ℕ → List ℕ → List ℕ
+off_lines j (symbols ∷ more) (blocks ∷ others) = off_line j symbols blocks ++ off_lines (j + 1) more others
+off_lines j symbols blocks = []
+
+-- after a scrub
+abbrev pub scrub_lines : ℕ → List ℕ → List ℕ → List ℕ
+scrub_lines stripes symbols blocks =
+    line (codes "scrub stripes" ++ then_number stripes) ++ off_lines 0 symbols blocks
+
+-- what a scrub writes that ended with an answer
+abbrev pub scrub_text : Answer → List ℕ
+scrub_text (Scrubbed stripes symbols blocks) = scrub_lines stripes symbols blocks
+scrub_text answer = []
 
 -- what a job writes that ended with an answer
 abbrev pub text_of : ℕ → Kind → Answer → List ℕ

@@ -7,8 +7,11 @@
 --   IsTruth x gave asked            == each provider that tells gave, of these places, what it held, or
 --                                      nothing where its count rose
 --   GivesPlace x gave symbols place == what was given opens to these symbols in this place
---   RewritesAll, RewritesPart       == the flagged providers hold the columns of these symbols in all places,
+--   RewritesAll x flags, RewritesPart x flags done rest gave symbols, RewritesSome x flags
+--                                   == the flagged providers hold the columns of these symbols in all places,
 --                                      or in some of these; all else is as before
+--   LosesAtPlace x flags stripe row == the same of the places before some place, of which a row is not
+--                                      accepted
 --   RepairLeaves x answer           == what a repair leaves where it ended with this answer
 use Rattle.std.specs.Prelude.{◌≡◌, ◌⊎◌, ℕ, ◌<◌, Bool, true, false, List, [], ◌∷◌, ◌++◌, map, All, Contains, Some, IfSome}
 use Rattle.std.specs.List.{flat_map}
@@ -93,39 +96,39 @@ abbrev pub flags : Ran → Due → ℕ → Bool
 flags x due j = is_flagged (setup_at_begin x).tolerance due.counts j
 
 -- the flagged providers hold the columns of what the fetches gave, in every place
-pub record RewritesAll (x : Ran) (due : Due) : Type 0 where
+pub record RewritesAll (x : Ran) (flags : ℕ → Bool) : Type 0 where
   pub gave : Gave
   pub symbols : Place → List ℕ
   pub truth : IsTruth x gave (places_of x)
   pub gives : All (GivesPlace x gave symbols) (places_of x)
-  pub held : EachHeldGoes x (λ j. IfFlagged (flags x due j)
+  pub held : EachHeldGoes x (λ j. IfFlagged (flags j)
       (RewrittenOn (object_numbered x) symbols (places_of x) j))
 
 -- the same of the places before some place: the repair ended there
-pub record RewritesPart (x : Ran) (due : Due) (done rest : List Place) (gave : Gave)
+pub record RewritesPart (x : Ran) (flags : ℕ → Bool) (done rest : List Place) (gave : Gave)
     (symbols : Place → List ℕ) : Type 0 where
   pub parts : places_of x ≡ done ++ rest
   pub truth : IsTruth x gave done
   pub gives : All (GivesPlace x gave symbols) done
-  pub held : EachHeldGoes x (λ j. IfFlagged (flags x due j)
+  pub held : EachHeldGoes x (λ j. IfFlagged (flags j)
       (PartlyRewrittenOn (object_numbered x) symbols done j))
 
 -- the same, with no more said of the place
-pub record RewritesSome (x : Ran) (due : Due) : Type 0 where
+pub record RewritesSome (x : Ran) (flags : ℕ → Bool) : Type 0 where
   pub done : List Place
   pub rest : List Place
   pub gave : Gave
   pub symbols : Place → List ℕ
-  pub part : RewritesPart x due done rest gave symbols
+  pub part : RewritesPart x flags done rest gave symbols
 
 -- a row of a place is not accepted
-pub record LosesAtPlace (x : Ran) (due : Due) (stripe row : ℕ) : Type 0 where
+pub record LosesAtPlace (x : Ran) (flags : ℕ → Bool) (stripe row : ℕ) : Type 0 where
   pub done : List Place
   pub place : Place
   pub rest : List Place
   pub gave : Gave
   pub symbols : Place → List ℕ
-  pub part : RewritesPart x due done (place ∷ rest) gave symbols
+  pub part : RewritesPart x flags done (place ∷ rest) gave symbols
   pub truth : IsTruth x gave (done ++ place ∷ [])
   pub stripe_is : place.stripe ≡ stripe
   pub loses : LosesRow (object_numbered x place.object) stripe (blocks_at x gave place) row
@@ -133,14 +136,14 @@ pub record LosesAtPlace (x : Ran) (due : Due) (stripe row : ℕ) : Type 0 where
 -- what a repair leaves, by the audit that was due
 abbrev pub RepairGives : Ran → Due → Answer → Type 0
 RepairGives x due (Repaired number) =
-    (number ≡ due.number) × IsWhole x (RepairDone due.number ∷ []) × RewritesAll x due
-RepairGives x due (Lost stripe row) = IsWhole x [] × LosesAtPlace x due stripe row
+    (number ≡ due.number) × IsWhole x (RepairDone due.number ∷ []) × RewritesAll x (flags x due)
+RepairGives x due (Lost stripe row) = IsWhole x [] × LosesAtPlace x (flags x due) stripe row
 RepairGives x due (ProviderFault j) =
     (j < (setup_at_begin x).n) × (flags x due j ≡ true) × Rose (x.old j).store_faults (x.new j).store_faults
-    × IsWhole x [] × RewritesSome x due
+    × IsWhole x [] × RewritesSome x (flags x due)
 RepairGives x due DiskFault =
-    Rose x.disk_before x.disk_after × IsCutInDoubt x (RepairDone due.number ∷ []) × RewritesAll x due
-RepairGives x due Memory = IsCut x (RepairDone due.number ∷ []) × RewritesSome x due
+    Rose x.disk_before x.disk_after × IsCutInDoubt x (RepairDone due.number ∷ []) × RewritesAll x (flags x due)
+RepairGives x due Memory = IsCut x (RepairDone due.number ∷ []) × RewritesSome x (flags x due)
 RepairGives x due answer = ⊥
 
 -- what a repair leaves

@@ -17,7 +17,7 @@ use Rattle.column_laws.proofs.UniqueLaws.{profile-room}
 use Rattle.device_defs.specs.Faults.{Rose}
 use Rattle.device_defs.specs.Providers.{Held}
 use Rattle.record_defs.specs.Records.{Setup}
-use Rattle.record_defs.specs.Table.{File, Due, file_of, files_of}
+use Rattle.record_defs.specs.Table.{File, file_of, files_of}
 use Rattle.record_defs.specs.Acceptance.{AreAccepted}
 use Rattle.machine_defs.specs.Setups.{profiled, stripes_of}
 use Rattle.machine_defs.specs.Answers as answer
@@ -26,7 +26,7 @@ use Rattle.machine_defs.proofs.JobLists.{cond_true}
 use Rattle.machine_defs.proofs.RecordFacts.{listed_file}
 use Rattle.command_defs.specs.Audits.{files_by_number}
 use Rattle.command_defs.specs.Ran.{Ran, setup_at_begin, object_at_begin, object_numbered, profile_among}
-use Rattle.command_defs.specs.Repairs.{Place, blocks_at, held_at, LosesAtPlace, RepairLeaves}
+use Rattle.command_defs.specs.Repairs.{Place, blocks_at, held_at, flags, LosesAtPlace, RepairLeaves}
 use Rattle.command_defs.specs.Truthful.{missing, IsTruthful}
 use Rattle.job_laws.specs.Failing.{has_risen, is_bad_with, is_bad_for, bad_count}
 use Rattle.job_laws.proofs.Asked.{each-by_number}
@@ -94,7 +94,7 @@ module _ (s : Setup) (P : File → Type 0) where
 -- ---- a place that is lost
 
 module _ (x : Ran) (shape : IsShape (setup_at_begin x).n (setup_at_begin x).l (setup_at_begin x).b)
-    (due : Due) (stripe row : ℕ) (L : LosesAtPlace x due stripe row) (bytes : List ℕ) where
+    (looked : ℕ → Bool) (stripe row : ℕ) (L : LosesAtPlace x looked stripe row) (bytes : List ℕ) where
   abbrev o : Object
   o = object_numbered x L.place.object
 
@@ -160,10 +160,11 @@ module _ (x : Ran) (accepted : AreAccepted x.records)
   abbrev IsFound : File → Type 0
   IsFound f = IsSafe f × (object_numbered x f.id ≡ object_at_begin x f)
 
-  lost-none : (due : Due) (stripe row : ℕ) →
+  -- whichever providers are looked at, no row is lost
+  pub lost-none : (looked : ℕ → Bool) (stripe row : ℕ) →
       ((name : List ℕ) (file : File) → file_of x.records name ≡ Some file → IsSafe file) →
-      LosesAtPlace x due stripe row → ⊥
-  lost-none due stripe row safe L =
+      LosesAtPlace x looked stripe row → ⊥
+  lost-none looked stripe row safe L =
       (let all : Each IsFound (files_by_number (files_of x.records)) =
       each-by_number IsFound (files_of x.records)
       (each-in IsFound (files_of x.records)
@@ -174,7 +175,7 @@ module _ (x : Ran) (accepted : AreAccepted x.records)
       let file = fits.0 in
       let at : object_at_begin x file ≡ object_numbered x L.place.object = sym fits.1.1
       ∙ ap (object_numbered x) fits.2 in
-      few-mended x shape due stripe row L (bytes file.id)
+      few-mended x shape looked stripe row L (bytes file.id)
       (subst (λ (z : Object). L.place.stripe < stripes z (length (bytes file.id))) at (subst
       (λ n. L.place.stripe < stripes_of (profiled (setup_at_begin x) file.profile) n)
       (sym fits.1.0.0) fits.3))
@@ -188,7 +189,8 @@ module _ (x : Ran) (accepted : AreAccepted x.records)
       ((number : ℕ) × (how ≡ answer.Repaired number)) ⊎ (how ≡ answer.Memory)
   repair-end (answer.Repaired number) L disk stores safe = inl (number, refl)
   repair-end answer.Memory L disk stores safe = inr refl
-  repair-end (answer.Lost stripe row) L disk stores safe = absurd (lost-none L.due stripe row safe L.gives.1)
+  repair-end (answer.Lost stripe row) L disk stores safe =
+      absurd (lost-none (flags x L.due) stripe row safe L.gives.1)
   repair-end (answer.ProviderFault j) L disk stores safe = absurd (stores j L.gives.0 L.gives.2)
   repair-end answer.DiskFault L disk stores safe = absurd (disk L.gives.0)
   repair-end how L disk stores safe = absurd L.gives

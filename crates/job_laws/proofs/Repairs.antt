@@ -293,7 +293,7 @@ module _ (start : State) (O : IsOpenAtRest start 1) (w : State) (job : Job)
         by_flag j held false f = λ o t. same-unflagged ps st j held f o t
 
     part : (done rest : List Place) → all ≡ done ++ rest → OpensAll s done acts →
-        Each (IsStoreOf job s.n done) acts → RewritesPart ran due done rest gave symbols
+        Each (IsStoreOf job s.n done) acts → RewritesPart ran (flags ran due) done rest gave symbols
     unfolding setup_in
     part done rest parts o st = record {
       parts = parts;
@@ -303,13 +303,13 @@ module _ (start : State) (O : IsOpenAtRest start 1) (w : State) (job : Job)
     }
 
     some-part : (done rest : List Place) → all ≡ done ++ rest → OpensAll s done acts →
-        Each (IsStoreOf job s.n done) acts → RewritesSome ran due
+        Each (IsStoreOf job s.n done) acts → RewritesSome ran (flags ran due)
     some-part done rest parts o st =
         record { done = done; rest = rest; gave = gave; symbols = symbols; part = part done rest parts o st }
 
     -- all places are rewritten
     all-part : (behind : List Action) → acts ≡ flat_map (actions_at s job) all ++ behind →
-        Each (IsStoreOf job s.n all) behind → RewritesAll ran due
+        Each (IsStoreOf job s.n all) behind → RewritesAll ran (flags ran due)
     unfolding setup_in
     all-part behind e b = record {
       gave = gave;
@@ -427,7 +427,8 @@ module _ (start new : State) (how : Answer) (heard : List Entry) (O : IsOpenAtRe
       (count-same : (j : ℕ) → (new.providers j).other_faults ≡ (E.before.providers j).other_faults) where
     -- at a move or the end all places are rewritten, so some of them are
     all-some : (action : Action) → slice_get (actions_of sx E.job) E.job.place ≡ Some action →
-        ((p : Place) → IsAt p action → ⊥) → RewritesSome (ran_from start new heard) due
+        ((p : Place) → IsAt p action → ⊥) → RewritesSome (ran_from start new heard)
+        (flags (ran_from start new heard) due)
     all-some action h n =
         (let b = behind-all action h n in
         let ps = places sx (files_of start.records) in
@@ -443,7 +444,7 @@ module _ (start new : State) (how : Answer) (heard : List Entry) (O : IsOpenAtRe
 
     -- at a store the place is open, and some of its blocks may be stored
     store-some : (j o t : ℕ) → slice_get (actions_of sx E.job) E.job.place ≡ Some (Store j o t) →
-        RewritesSome (ran_from start new heard) due
+        RewritesSome (ran_from start new heard) (flags (ran_from start new heard) due)
     store-some j o t h = elim (cut-next start O E.before E.job E.walked (Store j o t) h) [
       | Cut.behind q at front ↦
           absurd (each_get IsNoStore (append_actions ++ End ∷ []) q (Store j o t)
@@ -480,7 +481,7 @@ module _ (start new : State) (how : Answer) (heard : List Entry) (O : IsOpenAtRe
     -- at a work all blocks of the place were fetched
     lost-at : (o t row : ℕ) → slice_get (actions_of sx E.job) E.job.place ≡ Some (Work o t) →
         LosesRow (worked_object E.before E.job o) t (blocks_given E.job.given (setup_in E.before).n o t) row →
-        LosesAtPlace (ran_from start new heard) due t row
+        LosesAtPlace (ran_from start new heard) (flags (ran_from start new heard) due) t row
     unfolding setup_in
     lost-at o t row h loses = elim (cut-next start O E.before E.job E.walked (Work o t) h) [
       | Cut.behind q at front ↦
@@ -680,10 +681,12 @@ module _ (start new : State) (how : Answer) (heard : List Entry) (O : IsOpenAtRe
         (subst (λ a. Moves E.before E.job action E.before.append (Ended a) new) e h)))
   ]
     where
-      some : new.providers ≡ E.before.providers → RewritesSome (ran_from start new heard) due
+      some : new.providers ≡ E.before.providers → RewritesSome (ran_from start new heard)
+          (flags (ran_from start new heard) due)
       some e = all-some (same-held e) (same-count e) action (listed action at not_end) n
 
-      whole : new.providers ≡ E.before.providers → RewritesAll (ran_from start new heard) due
+      whole : new.providers ≡ E.before.providers → RewritesAll (ran_from start new heard)
+          (flags (ran_from start new heard) due)
       whole e = (let b = behind-all action (listed action at not_end) n in
           all-part start O E.before E.job E.walked new heard (same-held e) (same-count e) due is-due
           (take b.0 (append_actions ++ End ∷ [])) b.1 (quiet-tail b.0))
@@ -721,7 +724,7 @@ module _ (start new : State) (how : Answer) (heard : List Entry) (O : IsOpenAtRe
   at-end : E.action ≡ End → (new.records ≡ E.before.records) → new.doubt ≡ E.before.doubt →
       new.providers ≡ E.before.providers →
       IsWhole (ran_from start new heard) (RepairDone due.number ∷ []) ×
-      RewritesAll (ran_from start new heard) due
+      RewritesAll (ran_from start new heard) (flags (ran_from start new heard) due)
   at-end at records doubt providers =
       (let next : next_action E.before E.job ≡ Some End = E.next ∙ ap Some at in
       let here : slice_get (actions_of (setup_in E.before) E.job) E.job.place ≡ Some End =

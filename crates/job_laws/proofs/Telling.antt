@@ -49,12 +49,13 @@ over-opened w old records faults R V =
 abbrev pub opened_state : List Record → ℕ → List Provider → State
 opened_state records faults providers = state_with records faults (provider_at providers) (length providers)
 
-get-provider : (ps : List Provider) (j : ℕ) → j < length ps → slice_get ps j ≡ Some (provider_at ps j)
+-- a provider that was handed in, and one that was not
+pub get-provider : (ps : List Provider) (j : ℕ) → j < length ps → slice_get ps j ≡ Some (provider_at ps j)
 get-provider [] j l = absurd (omega (arith, l))
 get-provider (p ∷ ps) zero l = refl
 get-provider (p ∷ ps) (suc j) l = get-provider ps j (omega (arith, l))
 
-get-none : (ps : List Provider) (j : ℕ) → length ps ≤ j → provider_at ps j ≡ nobody
+pub get-none : (ps : List Provider) (j : ℕ) → length ps ≤ j → provider_at ps j ≡ nobody
 get-none [] j l = refl
 get-none (p ∷ ps) zero l = absurd (omega (arith, l))
 get-none (p ∷ ps) (suc j) l = get-none ps j (omega (arith, l))

@@ -1,0 +1,64 @@
+-- From the run of a scrub, as its command tells it, to what it leaves.
+use Rattle.std.proofs.Common.{◌≡◌, ℕ, List, [], length, None, Some, ap, sym, subst, ◌∙◌, inl, inr, arith}
+use Rattle.std.specs.Option.{option_map}
+use Rattle.std.proofs.lemmas.Bool.{cases_lt}
+use Rattle.record_defs.specs.Records.{Record}
+use Rattle.machine_defs.specs.Answers.{Answer}
+use Rattle.machine_defs.specs.States.{State, Doubt}
+use Rattle.command_defs.specs.Opens as opens
+use Rattle.command_defs.specs.Ran.{Ran, ran_from, ran_alone}
+use Rattle.command_defs.specs.Scrubs.{ScrubLeaves, RanScrub, ScrubsAlone, ScrubbedAlone}
+use Rattle.command_defs.specs.Seen.{Seen, provider_at}
+use Rattle.opening_defs.specs.Opened.{IsOpenedOver}
+use Rattle.job_laws.proofs.Telling.{over-opened, opened_state, state-over, get-provider, get-none}
+use Rattle.scrub_laws.proofs.Ends.{Ended_by, scrub-ends}
+
+module _ (records : List Record) (answer : Answer) (old new : Seen) (R : opens.IsOpened old records)
+    (same : length new.providers ≡ length old.providers) (A : ScrubsAlone records answer old new) where
+  abbrev w : State
+  w = opened_state records A.faults old.providers
+
+  over : IsOpenedOver w records A.faults old.providers
+  over = state-over records A.faults old.providers R.read.accepted
+
+  ran : RanScrub records answer old new A.faults w 1
+  ran = A.ran w 1 over
+
+  ended : Ended_by w ran.last answer
+  ended = scrub-ends w (over-opened w old records A.faults R over) ran.last 1 answer ran.runs
+
+  provider-is : (j : ℕ) → ran.last.providers j ≡ provider_at new.providers j
+  provider-is j = elim (cases_lt j (length new.providers)) [
+    | inl l ↦ (let e : Some (ran.last.providers j) ≡ Some (provider_at new.providers j) =
+        sym (ran.handed.each j l) ∙ get-provider new.providers j l in
+        let f : ran.last.providers j ≡ provider_at new.providers j = cc in f)
+    | inr l ↦ ended.leaves.others j (let e = R.enough in omega (arith, e, l, same))
+        ∙ (get-none old.providers j (omega (arith, l, same)) ∙ sym (get-none new.providers j l))
+  ]
+
+  records-are : ran.last.records ≡ records
+  records-are = ap (λ (v : State). v.records) ended.is_past
+
+  doubt-is : option_map (λ (d : Doubt). d.entry) ran.last.doubt ≡ None
+  doubt-is = ap (λ (v : State). option_map (λ (d : Doubt). d.entry) v.doubt) ended.is_past
+
+  -- its run, as it is seen of the devices
+  same-ran : ran_from w ran.last [] ≡ ran_alone records old new [] A.faults records None
+  same-ran = λ i. record {
+    records = records;
+    after = records-are i;
+    doubt = doubt-is i;
+    old = provider_at old.providers;
+    new = λ j. provider-is j i;
+    disk_before = A.faults;
+    disk_after = ran.faults_are i;
+    heard = [];
+  }
+
+  -- what a command tells of its scrub's run leaves what a scrub leaves
+  pub scrubbed-alone : ScrubbedAlone records answer old new
+  scrubbed-alone = record {
+    faults = A.faults;
+    before = A.before;
+    leaves = subst (λ (y : Ran). ScrubLeaves y answer) same-ran ended.leaves;
+  }
