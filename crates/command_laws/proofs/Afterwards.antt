@@ -12,13 +12,14 @@ use Rattle.device_defs.proofs.PickLaws.{IsImage-reads}
 use Rattle.record_defs.specs.Records.{Record, Setup, largest_journal}
 use Rattle.record_defs.specs.Journal.{StandsFor}
 use Rattle.machine_defs.specs.Jobs.{Kind, PutJob, GetJob, DropJob, AuditJob, RepairJob, UpgradeJob}
-use Rattle.command_defs.specs.Forms.{Command, Numbers, RowOf, InitWith, PutUnder, PutAt, GetOf, DropOf, ListAll, AuditAll, RepairDue, UpgradeJournal}
+use Rattle.command_defs.specs.Forms.{Command, Numbers, RowOf, InitWith, PutUnder, PutAt, GetOf, DropOf, ListAll, AuditAll, RepairDue, UpgradeJournal, ScrubAll}
 use Rattle.command_defs.specs.Sinking.{WritesLine, TellsLine}
 use Rattle.opening_defs.specs.Journals.{IsResynced, IsRead}
 use Rattle.command_defs.specs.Seen.{Seen, Ending, IsRefused, sinking}
 use Rattle.command_defs.specs.Opens.{Unstarted, setup_in_effect}
 use Rattle.command_defs.specs.Inits.{setup_with, AnswersInit, InitsDisk}
 use Rattle.command_defs.specs.Jobs.{AnswersJob}
+use Rattle.command_defs.specs.Scrubs.{AnswersScrub}
 use Rattle.command_defs.specs.Commands.{AnswersPut, AnswersAlone, AnswersList, Answers}
 use Rattle.state_laws.proofs.Records.{is_some-at}
 use Rattle.opening_defs.proofs.Resyncs.{resynced-equal}
@@ -155,6 +156,13 @@ list-told old new end (AnswersList.no_memory r) refuses = as-told 70 0 old new e
 list-told old new end (AnswersList.listed records opened L) refuses =
     absurd (no-text _ old new end L.written refuses)
 
+scrub-told : (old new : Seen) (end : Ending) → AnswersScrub old new end → is_refusal end.status ≡ true →
+    IsRefused end.status end.at old new end
+scrub-told old new end (AnswersScrub.unstarted u) refuses = unstarted-told old new end u
+scrub-told old new end (AnswersScrub.no_memory records opened synced r) refuses = as-told 70 0 old new end r
+scrub-told old new end (AnswersScrub.ended records how opened synced heard runs left by) refuses =
+    absurd (no-end end.status (status-ended _ how old new end by) refuses)
+
 disk-told : (s : Setup) (old new : Seen) (end : Ending) → InitsDisk s old new end →
     is_refusal end.status ≡ true → IsRefused end.status end.at old new end
 disk-told s old new end (InitsDisk.disk_fault rose F) refuses =
@@ -207,6 +215,7 @@ refusal-told ListAll old new end A refuses = list-told old new end A.0 refuses
 refusal-told AuditAll old new end A refuses = alone-told AuditJob old new end A.0 refuses
 refusal-told RepairDue old new end A refuses = alone-told RepairJob old new end A.0 refuses
 refusal-told UpgradeJournal old new end A refuses = alone-told UpgradeJob old new end A.0 refuses
+refusal-told ScrubAll old new end A refuses = scrub-told old new end A.0 refuses
 
 -- ---- a stop, and the next command
 

@@ -1,4 +1,4 @@
--- A repair with few providers that are wrong or fail writes the files' own blocks.
+-- A repair and a scrub with few providers that are wrong or fail write the files' own blocks.
 use Rattle.std.proofs.Common.{◌≡◌, ℕ, zero, suc, ◌+◌, ◌<◌, ◌≤◌, ◌&&◌, ◌⊎◌, Bool, true, false, cond, List, [], ◌∷◌, length, map, get_or, Option, None, Some, refl, ap, sym, subst, ◌∙◌, inl, inr, arith, All}
 use Rattle.std.specs.Prelude.{IfSome, nat_lt, is_some, is_none}
 use Rattle.std.specs.List.{range_with_len}
@@ -25,7 +25,7 @@ use Rattle.command_defs.specs.Seen.{Seen, Ending}
 use Rattle.command_defs.specs.Opens.{setup_in_effect}
 use Rattle.command_defs.specs.Audits.{with_number, files_by_number}
 use Rattle.command_defs.specs.Ran.{Ran, setup_at_begin, object_at_begin, stripes_at_begin, object_numbered}
-use Rattle.command_defs.specs.Repairs.{Place, places_of, blocks_at, held_at, flags, IfFlagged, GivesPlace, RewrittenOn, RewritesAll}
+use Rattle.command_defs.specs.Repairs.{Place, Gave, IsTruth, places_of, blocks_at, held_at, flags, IfFlagged, GivesPlace, RewrittenOn, RewritesAll}
 use Rattle.command_defs.specs.Truthful.{missing, IsTruthful}
 use Rattle.command_defs.specs.Commands.{AnswersAlone}
 use Rattle.job_laws.specs.Failing.{has_risen, is_bad_with, is_bad, bad_count, bad_seen}
@@ -89,7 +89,8 @@ in-index (x ∷ xs) z (inl e) = (0, omega arith, λ d. sym e)
 in-index (x ∷ xs) z (inr i) =
     (let h = in-index xs z i in (suc h.0, (let l = h.1 in omega (arith, l)), λ d. h.2 d))
 
-all-in : {X : Type 0} (P : X → Type 0) (xs : List X) (z : X) → All P xs → In z xs → P z
+-- what holds of each holds of one of them
+pub all-in : {X : Type 0} (P : X → Type 0) (xs : List X) (z : X) → All P xs → In z xs → P z
 all-in P xs z all i = (let h = in-index xs z i in subst P (h.2 z) (all h.0 z h.1))
 
 -- ---- what was given where no count rose
@@ -121,91 +122,110 @@ held-in given held xs z before now T calm i =
 
 -- ---- a place of a file
 
+module _ (x : Ran) (name : List ℕ) (file : File) (in_effect : file_of x.records name ≡ Some file) where
+  -- a file in effect is listed
+  pub listed-in : In file (files_of x.records)
+  listed-in = find-in (files_of x.records) name file (find-files_of x.records name ∙ in_effect)
+
+  -- and each of its stripes is a place
+  pub in-places : (stripe : ℕ) → stripe < stripes_at_begin x file →
+      In (record { object = file.id; stripe = stripe }) (places_of x)
+  in-places stripe within = in_flat (λ (f : File). map (λ t. record { object = f.id; stripe = t })
+      (upto (stripes_of (profiled (setup_at_begin x) f.profile) f.size)))
+      (files_by_number (files_of x.records)) file (record { object = file.id; stripe = stripe })
+      (in-by_number (files_of x.records) file listed-in)
+      (in-range (λ t. record { object = file.id; stripe = t }) 0 (stripes_at_begin x file) stripe
+      (omega arith) (omega (arith, within)))
+
 module _ (x : Ran) (shape : IsShape (setup_at_begin x).n (setup_at_begin x).l (setup_at_begin x).b)
-    (due : Due) (W : RewritesAll x due) (name : List ℕ) (file : File) (bytes : List ℕ)
-    (in_effect : file_of x.records name ≡ Some file) (size : length bytes ≡ file.size)
+    (gave : Gave) (symbols : Place → List ℕ) (asked : List Place) (truth : IsTruth x gave asked)
+    (gives : All (GivesPlace x gave symbols) asked) (file : File) (bytes : List ℕ)
+    (listed : In file (files_of x.records)) (size : length bytes ≡ file.size)
     (few : bad_count x file bytes ≤ (setup_at_begin x).b) (accepted : AreAccepted x.records) (stripe : ℕ)
-    (within : stripe < stripes_at_begin x file) where
+    (within : stripe < stripes_at_begin x file)
+    (member : In (record { object = file.id; stripe = stripe }) asked) where
   abbrev o : Object
   o = object_at_begin x file
 
   abbrev place : Place
   place = record { object = file.id; stripe = stripe }
 
-  asked : In place (places_of x)
-  asked = in_flat (λ (f : File). map (λ t. record { object = f.id; stripe = t })
-      (upto (stripes_of (profiled (setup_at_begin x) f.profile) f.size)))
-      (files_by_number (files_of x.records)) file place
-      (in-by_number (files_of x.records) file
-      (find-in (files_of x.records) name file (find-files_of x.records name ∙ in_effect)))
-      (in-range (λ t. record { object = file.id; stripe = t }) 0 (stripes_at_begin x file) stripe
-      (omega arith) (omega (arith, within)))
-
   inside : stripe < stripes o (length bytes)
   inside = subst (λ n. stripe < stripes_of (profiled (setup_at_begin x) file.profile) n) (sym size) within
-
-  listed : In file (files_of x.records)
-  listed = find-in (files_of x.records) name file (find-files_of x.records name ∙ in_effect)
 
   -- the object of its number is its own
   own : object_numbered x file.id ≡ o
   own = numbered-file x accepted file listed
 
   good-given : (j : ℕ) → j < (setup_at_begin x).n → is_bad x file bytes j ≡ false →
-      is_wrong_block o bytes j stripe (block_at (blocks_at x W.gave place) j) ≡ false
-  good-given j below good = by_held (x.old j).held good (W.truth j below)
+      is_wrong_block o bytes j stripe (block_at (blocks_at x gave place) j) ≡ false
+  good-given j below good = by_held (x.old j).held good (truth j below)
     where
       by_held : (h : Option Held) → is_bad_with o bytes j (x.old j) (x.new j) h ≡ false →
-          IfSome h (λ held. IsTruthful (W.gave j) (held_at x held) (places_of x) (x.old j).other_faults
+          IfSome h (λ held. IsTruthful (gave j) (held_at x held) asked (x.old j).other_faults
           (x.new j).other_faults) →
-          is_wrong_block o bytes j stripe (block_at (blocks_at x W.gave place) j) ≡ false
+          is_wrong_block o bytes j stripe (block_at (blocks_at x gave place) j) ≡ false
       by_held None g T = absurd (false≢true (sym g))
       by_held (Some held) g T =
           (let p = or_parts (is_wrong o bytes j (held file.id))
           (has_risen (x.old j).other_faults (x.new j).other_faults) g in
-          let same = held-in (W.gave j) (held_at x held) (places_of x) place (x.old j).other_faults
-          (x.new j).other_faults T p.1 asked in
+          let same = held-in (gave j) (held_at x held) asked place (x.old j).other_faults
+          (x.new j).other_faults T p.1 member in
           ap (is_wrong_block o bytes j stripe)
-          (block_at-map (λ i. W.gave i place) (setup_at_begin x).n j below
+          (block_at-map (λ i. gave i place) (setup_at_begin x).n j below
           ∙ (same ∙ ap (λ (z : Object). sized z.profile.size (held file.id stripe)) own))
           ∙ (wrong-sized o bytes j stripe (held file.id stripe)
           ∙ not-wrong-each o bytes j (held file.id) p.0 stripe inside))
 
   bad-given : (j : ℕ) → j < 0 + (setup_at_begin x).n →
-      is_wrong_block o bytes j stripe (block_at (blocks_at x W.gave place) j) ≡ true →
+      is_wrong_block o bytes j stripe (block_at (blocks_at x gave place) j) ≡ true →
       is_bad x file bytes j ≡ true
   bad-given j below wrong = elim (cases_Bool (is_bad x file bytes j)) [
     | inl y ↦ y
     | inr n ↦ absurd (false≢true (sym (good-given j (omega (arith, below)) n) ∙ wrong))
   ]
 
-  right-symbols : W.symbols place ≡ symbols_in o bytes stripe
+  right-symbols : symbols place ≡ symbols_in o bytes stripe
   right-symbols =
       (let fewer = count_of-within
-      (λ j. is_wrong_block o bytes j stripe (block_at (blocks_at x W.gave place) j))
+      (λ j. is_wrong_block o bytes j stripe (block_at (blocks_at x gave place) j))
       (is_bad x file bytes) 0 (setup_at_begin x).n bad-given in
-      symbols-right o bytes file.profile stripe (blocks_at x W.gave place) (W.symbols place) refl shape
+      symbols-right o bytes file.profile stripe (blocks_at x gave place) (symbols place) refl shape
       (omega (arith, fewer, few))
-      (subst (λ (z : Object). GivesSymbols z stripe (blocks_at x W.gave place) (W.symbols place)) own
-      (all-in (GivesPlace x W.gave W.symbols) (places_of x) place W.gives asked)))
+      (subst (λ (z : Object). GivesSymbols z stripe (blocks_at x gave place) (symbols place)) own
+      (all-in (GivesPlace x gave symbols) asked place gives member)))
 
+  -- the column of what was accepted is the file's own, where at most b providers are bad
+  pub right-column : (j : ℕ) →
+      Some (column_of_symbols (object_numbered x file.id) (symbols place) j stripe)
+      ≡ Some (columns o bytes j stripe)
+  right-column j = ap (λ (z : Object). Some (column_of_symbols z (symbols place) j stripe)) own
+      ∙ ap (λ s. Some (column_of_symbols o s j stripe)) right-symbols
+
+module _ (x : Ran) (shape : IsShape (setup_at_begin x).n (setup_at_begin x).l (setup_at_begin x).b)
+    (looked : ℕ → Bool) (W : RewritesAll x looked) (name : List ℕ) (file : File) (bytes : List ℕ)
+    (in_effect : file_of x.records name ≡ Some file) (size : length bytes ≡ file.size)
+    (few : bad_count x file bytes ≤ (setup_at_begin x).b) (accepted : AreAccepted x.records) (stripe : ℕ)
+    (within : stripe < stripes_at_begin x file) where
   goes : (flag : Bool) (j : ℕ) (old new : Option Held) → flag ≡ true →
       Goes (IfFlagged flag (RewrittenOn (object_numbered x) W.symbols (places_of x) j)) old new →
-      IfSome new (λ held. held file.id stripe ≡ Some (columns o bytes j stripe))
+      IfSome new (λ held. held file.id stripe ≡ Some (columns (object_at_begin x file) bytes j stripe))
   goes flag j old None flagged h = tt
   goes flag j None (Some held) flagged h = absurd h
   goes true j (Some before) (Some held) flagged h =
+      (let asked = in-places x name file in_effect stripe within in
       all-in (λ p. held p.object p.stripe
       ≡ Some (column_of_symbols (object_numbered x p.object) (W.symbols p) j p.stripe))
-      (places_of x) place h.stored asked
-      ∙ (ap (λ (z : Object). Some (column_of_symbols z (W.symbols place) j stripe)) own
-      ∙ ap (λ s. Some (column_of_symbols o s j stripe)) right-symbols)
+      (places_of x) (record { object = file.id; stripe = stripe }) h.stored asked
+      ∙ right-column x shape W.gave W.symbols (places_of x) W.truth W.gives file bytes
+      (listed-in x name file in_effect) size few accepted stripe within asked j)
   goes false j (Some before) (Some held) flagged h = absurd (false≢true flagged)
 
-  -- each flagged provider holds its own column of each stripe, where at most b providers are bad
-  pub holds-right : (j : ℕ) → j < (setup_at_begin x).n → flags x due j ≡ true →
-      IfSome (x.new j).held (λ held. held file.id stripe ≡ Some (columns o bytes j stripe))
-  holds-right j below flagged = goes (flags x due j) j (x.old j).held (x.new j).held flagged (W.held j below)
+  -- each provider that was looked at holds its own column of each stripe, where at most b providers are bad
+  pub holds-right : (j : ℕ) → j < (setup_at_begin x).n → looked j ≡ true →
+      IfSome (x.new j).held (λ held. held file.id stripe
+      ≡ Some (columns (object_at_begin x file) bytes j stripe))
+  holds-right j below flagged = goes (looked j) j (x.old j).held (x.new j).held flagged (W.held j below)
 
 -- ---- the repair of a command
 
@@ -232,7 +252,9 @@ repair-right name bytes records file due j old new end A K done is_due in_effect
     by-records R is in_effect few below flagged stripe within =
         (let due_is : R.due ≡ due = same_value (due_of R.records) R.due due R.is_due is in
         holds-right (ran_to (after_repair R.records R.due) R.records old new end.heard)
-        (shape-at old R.records R.opened) R.due R.rewritten name file bytes in_effect size few
+        (shape-at old R.records R.opened)
+        (flags (ran_to (after_repair R.records R.due) R.records old new end.heard) R.due)
+        R.rewritten name file bytes in_effect size few
         R.opened.read.accepted stripe within j below
         (subst (λ (d : Due). is_flagged (setup_in_effect R.records).tolerance d.counts j ≡ true)
         (sym due_is) flagged))

@@ -10,7 +10,7 @@ use Rattle.machine_defs.specs.Answers as answer
 use Rattle.machine_defs.specs.Answers.{Answer}
 use Rattle.machine_defs.specs.Refusals as refusal
 use Rattle.machine_defs.specs.Refusals.{Refusal}
-use Rattle.command_defs.specs.Forms.{Command, Numbers, RowOf, InitWith, PutUnder, PutAt, GetOf, DropOf, ListAll, AuditAll, RepairDue, UpgradeJournal}
+use Rattle.command_defs.specs.Forms.{Command, Numbers, RowOf, InitWith, PutUnder, PutAt, GetOf, DropOf, ListAll, AuditAll, RepairDue, UpgradeJournal, ScrubAll}
 use Rattle.command_defs.specs.Sinking.{WritesLine}
 use Rattle.command_defs.specs.Seen.{Seen, Ending, provider_at, sinking}
 use Rattle.command_defs.specs.Opens.{Unstarted}
@@ -18,6 +18,7 @@ use Rattle.command_defs.specs.Refusals.{status_of}
 use Rattle.command_defs.specs.Ran.{Ran}
 use Rattle.command_defs.specs.Jobs.{AnswersJob, EndsByAnswer, LeavesBy, LeftAlone}
 use Rattle.command_defs.specs.Inits.{AnswersInit, InitsDisk}
+use Rattle.command_defs.specs.Scrubs.{ScrubbedAlone, AnswersScrub}
 use Rattle.command_defs.specs.Commands.{AnswersPut, AnswersAlone, AnswersList, Answers}
 use Rattle.command_laws.specs.Ends.{FaultsHaveCauses, opens_store}
 use Rattle.command_laws.proofs.GetEnds.{ran_left}
@@ -184,6 +185,23 @@ module _ (old new : Seen) (end : Ending) where
   list-causes (AnswersList.no_memory r) = none-rose 70 refl r.status_is
   list-causes (AnswersList.listed records opened L) = written-causes _ L.written
 
+  scrub-by : (records : List Record) (text : List ℕ) (how : Answer) → ScrubbedAlone records how old new →
+      EndsByAnswer text how old new end → FaultsHaveCauses old new end
+  scrub-by records text (answer.Lost stripe row) left by = none-rose 4 refl by.status_is
+  scrub-by records text (answer.ProviderFault j) left by =
+      provider-rose by.status_is
+      (subst (λ k. Rose (provider_at old.providers k).store_faults (provider_at new.providers k).store_faults)
+      (sym by.place) left.leaves.gives.1)
+  scrub-by records text answer.Memory left by = none-rose 70 refl by.status_is
+  scrub-by records text (answer.Scrubbed stripes symbols blocks) left by = written-causes text by.written
+  scrub-by records text how left by = absurd left.leaves.gives
+
+  scrub-causes : AnswersScrub old new end → FaultsHaveCauses old new end
+  scrub-causes (AnswersScrub.unstarted u) = unstarted-causes u
+  scrub-causes (AnswersScrub.no_memory records opened synced r) = none-rose 70 refl r.status_is
+  scrub-causes (AnswersScrub.ended records how opened synced heard runs left by) =
+      scrub-by records _ how left by
+
   -- an init ends with a status of a fault only where the count of that device rose
   pub init-causes : (numbers : Numbers) → AnswersInit numbers old new end → FaultsHaveCauses old new end
   init-causes numbers (AnswersInit.bad_setup bad same r) = none-rose 20 refl r.status_is
@@ -215,3 +233,4 @@ module _ (old new : Seen) (end : Ending) where
   store-causes AuditAll A opens = alone-causes AuditJob A.0
   store-causes RepairDue A opens = alone-causes RepairJob A.0
   store-causes UpgradeJournal A opens = alone-causes UpgradeJob A.0
+  store-causes ScrubAll A opens = scrub-causes A.0

@@ -26,6 +26,7 @@ use Rattle.command_defs.specs.Audits.{audit_records}
 use Rattle.command_defs.specs.Jobs.{IsTold}
 use Rattle.command_defs.specs.Inits.{AnswersInit, setup_with}
 use Rattle.command_defs.specs.Refusals.{refusal_over, takes_too_much}
+use Rattle.command_defs.specs.Scrubs.{AnswersScrub}
 use Rattle.command_defs.specs.Commands.{AnswersPut, AnswersAlone, Answers}
 use Rattle.state_laws.proofs.Records.{all-spelled, file-spelled}
 use Rattle.command_laws.specs.Ends.{IsDone, IsKnown, GivesText, GivesUnlessMemory, after_put, after_drop, after_audit, after_repair}
@@ -36,9 +37,10 @@ use Rattle.command_laws.proofs.GetEnds.{seen-complete, seen-right}
 use Rattle.command_laws.proofs.JobEnds.{put-well, put-setup, put-audits, drop-done, repair-done}
 use Rattle.command_laws.proofs.InitEnds.{init-well}
 use Rattle.command_laws.proofs.Afterwards.{sure-next}
-use Rattle.command_laws.proofs.DoneStores.{init-sure, put-sure, drop-sure, audit-sure, repair-sure}
+use Rattle.command_laws.proofs.DoneStores.{init-sure, put-sure, drop-sure, audit-sure, repair-sure, scrub-sure}
 use Rattle.command_laws.proofs.FilesStay.{put-has, next-has, bad-few}
 use Rattle.command_laws.proofs.FilesKept.{reads-have, repair-has}
+use Rattle.command_laws.proofs.ScrubFiles.{scrub-has}
 
 -- ---- gets
 
@@ -226,6 +228,56 @@ repair-get name bytes records spoilt later due c d e f second last R G N K is_du
     let mended = repair-has name bytes records due spoilt c d second R done K is_due H steady few tells in
     let file = next-has name bytes after later d e (fewer name bytes after d _ later mended less) untouched in
     get-complete name bytes after later e f last G sure.known file calm also disk sink)
+
+-- a get after a done scrub gives the file's bytes, whichever b providers are spoilt by then
+pub scrub-get : (name bytes : List ℕ) (records : List Record) (spoilt later : ℕ → Bool)
+    (c d e f : Seen) (second last : Ending) → AnswersScrub c d second → AnswersAlone (GetJob name) e f last →
+    Follows d e → IsKnown c records → HasRightFile c records name bytes spoilt → IsDone second →
+    IsSteady (setup_in_effect records).n spoilt c d →
+    spoilt_below (setup_in_effect records).n spoilt ≤ (setup_in_effect records).b →
+    ((j : ℕ) → j < (setup_in_effect records).n → later j ≡ false →
+    is_some (provider_at c.providers j).held ≡ true) →
+    IsUntouched (setup_in_effect records).n later d e → IsSteady (setup_in_effect records).n later e f →
+    spoilt_below (setup_in_effect records).n later ≤ (setup_in_effect records).b →
+    (Rose e.disk_faults f.disk_faults → ⊥) → (Rose e.sink_faults f.sink_faults → ⊥) →
+    GivesUnlessMemory bytes e f last
+scrub-get name bytes records spoilt later c d e f second last A G N K H done steady few tells untouched calm also disk sink =
+    (let sure = sure-next records d e (scrub-sure records c d second A (inl done) K) N in
+    let file = next-has name bytes records later d e
+    (scrub-has name bytes records spoilt later c d second A done K H steady few tells) untouched in
+    get-complete name bytes records later e f last G sure.known file calm also disk sink)
+
+-- a get after a done put and a done scrub gives the bytes that were put, whichever b providers are spoilt
+pub put-scrub-get : (name bytes : List ℕ) (own : Option ℕ) (records : List Record) (spoilt later : ℕ → Bool)
+    (a b c d e f : Seen) (first second last : Ending) → AnswersPut name own a b first →
+    AnswersScrub c d second → AnswersAlone (GetJob name) e f last → Follows b c → Follows d e →
+    IsKnown a records → a.source ≡ Some bytes → IsDone first → IsDone second →
+    ((j : ℕ) → j < (setup_in_effect records).n → spoilt j ≡ false →
+    is_some (provider_at a.providers j).held ≡ true) →
+    IsUntouched (setup_in_effect records).n spoilt b c → IsSteady (setup_in_effect records).n spoilt c d →
+    spoilt_below (setup_in_effect records).n spoilt ≤ (setup_in_effect records).b →
+    ((j : ℕ) → j < (setup_in_effect records).n → later j ≡ false →
+    is_some (provider_at c.providers j).held ≡ true) →
+    IsUntouched (setup_in_effect records).n later d e → IsSteady (setup_in_effect records).n later e f →
+    spoilt_below (setup_in_effect records).n later ≤ (setup_in_effect records).b →
+    (Rose e.disk_faults f.disk_faults → ⊥) → (Rose e.sink_faults f.sink_faults → ⊥) →
+    GivesUnlessMemory bytes e f last
+put-scrub-get name bytes own records spoilt later a b c d e f first second last P A G L N K source put scrubbed tells two steady few known three calm also disk sink =
+    (let after : List Record = after_put records name (length bytes) own in
+    let same : setup_in_effect records ≡ setup_in_effect after =
+    sym (put-setup records name (length bytes) own) in
+    let sure = sure-next after b c (put-sure name bytes own records a b first P put K source) L in
+    let file = next-has name bytes after spoilt b c
+    (put-has name bytes own records spoilt a b first P put K source tells)
+    (subst (λ (s : Setup). IsUntouched s.n spoilt b c) same two) in
+    scrub-get name bytes after spoilt later c d e f second last A G N sure.known file scrubbed
+    (subst (λ (s : Setup). IsSteady s.n spoilt c d) same steady)
+    (subst (λ (s : Setup). spoilt_below s.n spoilt ≤ s.b) same few)
+    (subst (λ (s : Setup). (j : ℕ) → j < s.n → later j ≡ false →
+    is_some (provider_at c.providers j).held ≡ true) same known)
+    (subst (λ (s : Setup). IsUntouched s.n later d e) same three)
+    (subst (λ (s : Setup). IsSteady s.n later e f) same calm)
+    (subst (λ (s : Setup). spoilt_below s.n later ≤ s.b) same also) disk sink)
 
 -- ---- a put, an audit, a repair and a get
 

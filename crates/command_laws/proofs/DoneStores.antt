@@ -24,9 +24,9 @@ use Rattle.machine_defs.specs.Answers as answer
 use Rattle.machine_defs.specs.Answers.{Answer}
 use Rattle.machine_defs.specs.Refusals.{Refusal}
 use Rattle.machine_defs.proofs.JobLists.{same_value}
-use Rattle.command_defs.specs.Forms.{Command, Numbers, RowOf, InitWith, PutUnder, PutAt, GetOf, DropOf, ListAll, AuditAll, RepairDue, UpgradeJournal}
+use Rattle.command_defs.specs.Forms.{Command, Numbers, RowOf, InitWith, PutUnder, PutAt, GetOf, DropOf, ListAll, AuditAll, RepairDue, UpgradeJournal, ScrubAll}
 use Rattle.command_defs.specs.Keys.{IsKeyForm}
-use Rattle.command_defs.specs.Seen.{Seen, Ending, IsRefused, ReadsUpTo}
+use Rattle.command_defs.specs.Seen.{Seen, Ending, IsRefused, IsSynced, ReadsUpTo}
 use Rattle.opening_defs.specs.Journals.{journal_read, IsSetUpOn}
 use Rattle.command_defs.specs.Opens.{IsOpened, Unstarted, setup_in_effect}
 use Rattle.command_defs.specs.Refusals.{status_of}
@@ -34,6 +34,7 @@ use Rattle.command_defs.specs.Lines.{audit_lines}
 use Rattle.command_defs.specs.Inits.{setup_with, AnswersInit}
 use Rattle.command_defs.specs.Gets.{GetLeaves}
 use Rattle.command_defs.specs.Jobs.{AnswersJob, SamePast, past, with_next, IsTold}
+use Rattle.command_defs.specs.Scrubs.{ScrubsAlone, AnswersScrub}
 use Rattle.command_defs.specs.Commands.{AnswersPut, AnswersAlone, AnswersList, Answers}
 use Rattle.state_laws.proofs.Records.{is_some-at}
 use Rattle.command_defs.proofs.Keys.{IsKeyForm-once}
@@ -47,6 +48,7 @@ use Rattle.command_laws.proofs.GetEnds.{ran_left}
 use Rattle.command_laws.proofs.InitEnds.{form-all, init-done, list-done}
 use Rattle.command_laws.proofs.Images.{known-images}
 use Rattle.command_laws.proofs.Failed.{images-same, put-fails, repair-fails, repair-loses}
+use Rattle.command_laws.proofs.ScrubRuns.{scrub-handed}
 use Rattle.command_laws.proofs.Knowing.{IsGood, sure-good, known-good, LeavesGood, HasBytes, ran-good, spelled-kind}
 use Rattle.command_laws.proofs.Afterwards.{sure-refused, sure-next}
 
@@ -298,7 +300,7 @@ failed-repair-sure records old new end A failed K =
 
 -- a disk that was synced, over known records
 synced-sure : (records : List Record) (old new : Seen) → IsKnown old records →
-    new.disk ≡ option_map synced old.disk → new.providers ≡ old.providers → IsSure new records
+    new.disk ≡ option_map synced old.disk → length new.providers ≡ length old.providers → IsSure new records
 synced-sure records old new K after same =
     (let c = is_some-at old.disk K.tells in
     let told : new.disk ≡ Some (firm (reads c.0)) = after ∙ ap (option_map synced) c.1 in
@@ -316,7 +318,7 @@ synced-sure records old new K after same =
             setup = refl;
             stands = subst (λ bytes. StandsFor bytes records) (sym (reads-firm (reads c.0))) stands;
           })
-          (subst (λ ps. (setup_in_effect records).n ≤ length ps) (sym same) K.opened.enough);
+          (let e = K.opened.enough in omega (arith, e, same));
       images = subst (λ d. EachImage d (λ image. StandsFor image records)) (sym told)
           (λ image is. subst (λ bytes. StandsFor bytes records)
           (sym (image-firm (reads c.0) image is)) stands);
@@ -326,7 +328,27 @@ synced-sure records old new K after same =
 pub list-sure : (records : List Record) (old new : Seen) (end : Ending) → AnswersList old new end →
     IsDone end → IsKnown old records → IsSure new records
 list-sure records old new end A done K =
-    (let P = list-done old new end A done in synced-sure records old new K P.disk P.providers)
+    (let P = list-done old new end A done in
+    synced-sure records old new K P.disk (ap (λ ps. length ps) P.providers))
+
+-- after a scrub that came to its end the store is sure, with the same records
+ended-sure : (records other : List Record) (how : Answer) (old new : Seen) → IsKnown old records →
+    IsOpened old other → IsSynced old new → ScrubsAlone other how old new → IsSure new records
+ended-sure records other how old new K opened sync runs =
+    synced-sure records old new K sync (scrub-handed other how old new opened runs)
+
+-- so it is after one that is over
+pub scrub-sure : (records : List Record) (old new : Seen) (end : Ending) → AnswersScrub old new end →
+    IsOver end.status → IsKnown old records → IsSure new records
+scrub-sure records old new end (AnswersScrub.unstarted u) over K =
+    elim (unstarted-known old new end records K u) [
+      | inl (rose, r) ↦ absurd (over-twelve end.status r.status_is over)
+      | inr r ↦ absurd (over-memory end.status r.status_is over)
+    ]
+scrub-sure records old new end (AnswersScrub.no_memory other opened sync r) over K =
+    absurd (over-memory end.status r.status_is over)
+scrub-sure records old new end (AnswersScrub.ended other how opened sync heard runs left by) over K =
+    ended-sure records other how old new K opened sync runs
 
 -- ---- init
 
@@ -430,7 +452,14 @@ list-comes : (records : List Record) (old new : Seen) (end : Ending) → IsKnown
 list-comes records old new end K (AnswersList.unstarted u) = inr (unstarted-comes records old new end K u)
 list-comes records old new end K (AnswersList.no_memory r) = inr (inl (70, 0, r))
 list-comes records old new end K (AnswersList.listed other opened L) =
-    inl (synced-sure records old new K L.disk L.providers)
+    inl (synced-sure records old new K L.disk (ap (λ ps. length ps) L.providers))
+
+scrub-comes : (records : List Record) (old new : Seen) (end : Ending) → IsKnown old records →
+    AnswersScrub old new end → IsSure new records ⊎ Comes records old new end
+scrub-comes records old new end K (AnswersScrub.unstarted u) = inr (unstarted-comes records old new end K u)
+scrub-comes records old new end K (AnswersScrub.no_memory other opened sync r) = inr (inl (70, 0, r))
+scrub-comes records old new end K (AnswersScrub.ended other how opened sync heard runs left by) =
+    inl (ended-sure records other how old new K opened sync runs)
 
 command-comes : (command : Command) (records : List Record) (old new : Seen) (end : Ending) →
     IsKnown old records → Answers command old new end → opens_store command ≡ true →
@@ -450,6 +479,7 @@ command-comes RepairDue records old new end K A opens =
     inr (alone-comes RepairJob records old new end K tt A.0)
 command-comes UpgradeJournal records old new end K A opens =
     inr (alone-comes UpgradeJob records old new end K tt A.0)
+command-comes ScrubAll records old new end K A opens = scrub-comes records old new end K A.0
 
 -- what is told of each image: it is good, and stands for the records or for these with some of the job's
 abbrev Told : Command → List Record → Seen → Seen → List ℕ → Type 0

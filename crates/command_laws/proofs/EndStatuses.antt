@@ -8,7 +8,7 @@ use Rattle.record_defs.specs.Records.{Record}
 use Rattle.machine_defs.specs.Jobs.{Kind, PutJob, GetJob, DropJob, AuditJob, RepairJob, UpgradeJob}
 use Rattle.machine_defs.specs.Refusals as refusal
 use Rattle.machine_defs.specs.Refusals.{Refusal}
-use Rattle.command_defs.specs.Forms.{Command, Numbers, RowOf, InitWith, PutUnder, PutAt, GetOf, DropOf, ListAll, AuditAll, RepairDue, UpgradeJournal}
+use Rattle.command_defs.specs.Forms.{Command, Numbers, RowOf, InitWith, PutUnder, PutAt, GetOf, DropOf, ListAll, AuditAll, RepairDue, UpgradeJournal, ScrubAll}
 use Rattle.command_defs.specs.Sinking.{WritesLine, TellsLine}
 use Rattle.command_defs.specs.Seen.{Seen, Ending, sinking}
 use Rattle.command_defs.specs.Opens.{Unstarted}
@@ -16,6 +16,7 @@ use Rattle.command_defs.specs.Refusals.{status_of}
 use Rattle.command_defs.specs.Row.{AnswersRow}
 use Rattle.command_defs.specs.Inits.{AnswersInit, InitsDisk}
 use Rattle.command_defs.specs.Jobs.{AnswersJob}
+use Rattle.command_defs.specs.Scrubs.{AnswersScrub}
 use Rattle.command_defs.specs.Commands.{AnswersPut, AnswersAlone, AnswersList, Answers}
 use Rattle.command_laws.specs.After.{is_ending}
 use Rattle.command_laws.proofs.Known.{EndStatus, status-ended}
@@ -97,6 +98,12 @@ list-ending : (old new : Seen) (end : Ending) → AnswersList old new end → is
 list-ending old new end (AnswersList.unstarted u) = unstarted-ending old new end u
 list-ending old new end (AnswersList.no_memory r) = ap is_ending r.status_is
 list-ending old new end (AnswersList.listed records opened L) = written-ending _ old new end L.written
+
+scrub-ending : (old new : Seen) (end : Ending) → AnswersScrub old new end → is_ending end.status ≡ true
+scrub-ending old new end (AnswersScrub.unstarted u) = unstarted-ending old new end u
+scrub-ending old new end (AnswersScrub.no_memory records opened synced r) = ap is_ending r.status_is
+scrub-ending old new end (AnswersScrub.ended records how opened synced heard runs left by) =
+    ended-ending end.status (status-ended _ how old new end by)
 
 init-ending : (numbers : Numbers) (old new : Seen) (end : Ending) → AnswersInit numbers old new end →
     is_ending end.status ≡ true
@@ -206,6 +213,7 @@ command-ending ListAll old new end A = list-ending old new end A.0
 command-ending AuditAll old new end A = alone-ending AuditJob old new end A.0
 command-ending RepairDue old new end A = alone-ending RepairJob old new end A.0
 command-ending UpgradeJournal old new end A = alone-ending UpgradeJob old new end A.0
+command-ending ScrubAll old new end A = scrub-ending old new end A.0
 
 -- no command whose words have a form ends with status 2
 pub never-two : (command : Command) (old new : Seen) (end : Ending) → Answers command old new end →

@@ -14,7 +14,7 @@ use Rattle.machine_defs.specs.Jobs.{Kind, PutJob, GetJob, DropJob, AuditJob, Rep
 use Rattle.machine_defs.specs.Answers as answer
 use Rattle.machine_defs.specs.Answers.{Answer}
 use Rattle.machine_defs.specs.Refusals.{Refusal}
-use Rattle.command_defs.specs.Forms.{Command, Numbers, RowOf, InitWith, PutUnder, PutAt, GetOf, DropOf, ListAll, AuditAll, RepairDue, UpgradeJournal}
+use Rattle.command_defs.specs.Forms.{Command, Numbers, RowOf, InitWith, PutUnder, PutAt, GetOf, DropOf, ListAll, AuditAll, RepairDue, UpgradeJournal, ScrubAll}
 use Rattle.command_defs.specs.Sinking.{WritesLine}
 use Rattle.command_defs.specs.Seen.{Seen, Ending, ReadsUpTo, provider_at, sinking}
 use Rattle.command_defs.specs.Opens.{IsOpened, Unstarted, setup_in_effect}
@@ -23,7 +23,7 @@ use Rattle.command_defs.specs.Ran.{Ran}
 use Rattle.command_defs.specs.Lines.{text_of}
 use Rattle.command_defs.specs.Puts.{PutLeaves}
 use Rattle.command_defs.specs.Gets.{GetLeaves, LosesStripe}
-use Rattle.command_defs.specs.Repairs.{RepairGives, LosesAtPlace}
+use Rattle.command_defs.specs.Repairs.{flags, RepairGives, LosesAtPlace}
 use Rattle.command_defs.specs.Jobs.{AnswersJob, EndsByAnswer, LeavesBy, LeftAlone}
 use Rattle.command_defs.specs.Inits.{AnswersInit, InitsDisk}
 use Rattle.command_defs.specs.Commands.{AnswersPut, AnswersAlone, AnswersList, Answers}
@@ -122,10 +122,12 @@ init-fetches numbers old new end (AnswersInit.keyed seen key good enough read fo
 -- ---- which answers end a command so
 
 -- 13 and 4 are statuses of a job's end alone
-abbrev IsOwn : ℕ → Type 0
+abbrev pub IsOwn : ℕ → Type 0
 IsOwn m = (m ≡ 13) ⊎ (m ≡ 4)
 
-unstarted-own : (m : ℕ) (old new : Seen) (end : Ending) → Unstarted old new end → end.status ≡ m → IsOwn m → ⊥
+-- no command ends so that did not start, found no memory or wrote its text
+pub unstarted-own : (m : ℕ) (old new : Seen) (end : Ending) → Unstarted old new end → end.status ≡ m →
+    IsOwn m → ⊥
 unstarted-own m old new end (Unstarted.disk_fault rose r) is own =
     not_two end.status 12 m r.status_is is
     (λ e. elim own [ inl k ↦ omega (arith, k, e) | inr k ↦ omega (arith, k, e) ])
@@ -146,11 +148,11 @@ refused-own : (m : ℕ) (why : Refusal) (status : ℕ) → status ≡ status_of 
 refused-own m why status at is (inl k) = refused-not why 13 refl (λ e. omega (arith, e)) (sym at ∙ (is ∙ k))
 refused-own m why status at is (inr k) = refused-not why 4 refl (λ e. omega (arith, e)) (sym at ∙ (is ∙ k))
 
-memory-own : (m status : ℕ) → status ≡ 70 → status ≡ m → IsOwn m → ⊥
+pub memory-own : (m status : ℕ) → status ≡ 70 → status ≡ m → IsOwn m → ⊥
 memory-own m status at is (inl k) = not_two status 70 m at is (λ e. omega (arith, k, e))
 memory-own m status at is (inr k) = not_two status 70 m at is (λ e. omega (arith, k, e))
 
-written-own : (m : ℕ) (text : List ℕ) (old new : Seen) (end : Ending) →
+pub written-own : (m : ℕ) (text : List ℕ) (old new : Seen) (end : Ending) →
     WritesLine text end.status (sinking old new) → end.status ≡ m → IsOwn m → ⊥
 written-own m text old new end (inl w) is (inl k) = not_two end.status 0 m w.0 is (λ e. omega (arith, k, e))
 written-own m text old new end (inl w) is (inr k) = not_two end.status 0 m w.0 is (λ e. omega (arith, k, e))
@@ -316,7 +318,8 @@ lost-by records old new end opened (answer.Lost stripe row) left due is_due L by
       stripe = stripe;
       opened = opened;
       is_due = is_due;
-      lost = subst (λ k. LosesAtPlace (ran_to records records old new end.heard) due stripe k) (sym by.place)
+      lost = subst (λ k. LosesAtPlace (ran_to records records old new end.heard)
+          (flags (ran_to records records old new end.heard) due) stripe k) (sym by.place)
           (record {
             done = S.done;
             place = S.place;
@@ -523,7 +526,7 @@ init-own m numbers old new end (AnswersInit.keyed seen key good enough read form
     not_two end.status 10 m r.status_is is
     (λ e. elim own [ inl k ↦ omega (arith, k, e) | inr k ↦ omega (arith, k, e) ])
 
--- only a put and a repair end in a failed store
+-- only a put, a repair and a scrub end in a failed store
 pub stores-only : (command : Command) (old new : Seen) (end : Ending) → Answers command old new end →
     end.status ≡ 13 → stores_blocks command ≡ true
 stores-only (RowOf n l b seen) old new end A is =
@@ -538,8 +541,9 @@ stores-only ListAll old new end A is = absurd (list-own 13 old new end A.0 is (i
 stores-only AuditAll old new end A is = absurd (alone-13 AuditJob old new end A.0 is)
 stores-only RepairDue old new end A is = refl
 stores-only UpgradeJournal old new end A is = absurd (alone-13 UpgradeJob old new end A.0 is)
+stores-only ScrubAll old new end A is = refl
 
--- only a row, a get and a repair end at a lost row
+-- only a row, a get, a repair and a scrub end at a lost row
 pub rows-only : (command : Command) (old new : Seen) (end : Ending) → Answers command old new end →
     end.status ≡ 4 → opens_rows command ≡ true
 rows-only (RowOf n l b seen) old new end A is = refl
@@ -552,3 +556,4 @@ rows-only ListAll old new end A is = absurd (list-own 4 old new end A.0 is (inr 
 rows-only AuditAll old new end A is = absurd (alone-4 AuditJob old new end A.0 is)
 rows-only RepairDue old new end A is = refl
 rows-only UpgradeJournal old new end A is = absurd (alone-4 UpgradeJob old new end A.0 is)
+rows-only ScrubAll old new end A is = refl

@@ -16,7 +16,7 @@ use Rattle.machine_defs.specs.Answers as answer
 use Rattle.machine_defs.specs.Answers.{Answer}
 use Rattle.machine_defs.proofs.JobLists.{cond_true, cond_false, same_value}
 use Rattle.machine_defs.proofs.RecordFacts.{AreSound, other_name}
-use Rattle.command_defs.specs.Forms.{Command, RowOf, InitWith, PutUnder, PutAt, GetOf, DropOf, ListAll, AuditAll, RepairDue, UpgradeJournal}
+use Rattle.command_defs.specs.Forms.{Command, RowOf, InitWith, PutUnder, PutAt, GetOf, DropOf, ListAll, AuditAll, RepairDue, UpgradeJournal, ScrubAll}
 use Rattle.machine_defs.specs.Begins.{chosen}
 use Rattle.command_defs.specs.Seen.{Seen, Ending, IsRefused, provider_at}
 use Rattle.command_defs.specs.Opens.{setup_in_effect, object_in_effect}
@@ -221,6 +221,7 @@ reads-have (PutAt other profile) name bytes records after spoilt old new end A k
     absurd (false≢true keeps)
 reads-have (DropOf other) name bytes records after spoilt old new end A keeps H T = absurd (false≢true keeps)
 reads-have RepairDue name bytes records after spoilt old new end A keeps H T = absurd (false≢true keeps)
+reads-have ScrubAll name bytes records after spoilt old new end A keeps H T = absurd (false≢true keeps)
 
 -- a file that is right stays so over a refusal
 pub refused-has : (status at : ℕ) (name bytes : List ℕ) (records : List Record) (spoilt : ℕ → Bool)
@@ -402,6 +403,7 @@ others-have ListAll name bytes records after spoilt old new end A differ K H T =
 others-have AuditAll name bytes records after spoilt old new end A differ K H T = absurd differ
 others-have RepairDue name bytes records after spoilt old new end A differ K H T = absurd differ
 others-have UpgradeJournal name bytes records after spoilt old new end A differ K H T = absurd differ
+others-have ScrubAll name bytes records after spoilt old new end A differ K H T = absurd differ
 
 -- ---- a repair that is done
 

@@ -20,7 +20,7 @@ use Rattle.record_defs.specs.Areas as areas
 use Rattle.record_defs.specs.Packed.{packed}
 use Rattle.record_defs.proofs.Standing.{stands-take}
 use Rattle.machine_defs.specs.Answers.{Answer}
-use Rattle.machine_defs.specs.Events.{Event, Step, Reopen, Names, Continue, Outcome, Refused, Opened, More, Begun, Ended, Listed, Continued, AreBytes, IsSpelled, IsSpelledKind}
+use Rattle.machine_defs.specs.Events.{Event, BeginScrub, Step, Reopen, Names, Continue, Outcome, Refused, Opened, More, Begun, Ended, Listed, Continued, AreBytes, IsSpelled, IsSpelledKind}
 use Rattle.machine_defs.specs.Jobs.{Kind, PutJob, GetJob, DropJob, AuditJob, RepairJob, UpgradeJob}
 use Rattle.machine_defs.specs.Machine.{Happens}
 use Rattle.machine_defs.specs.Begins.{BeginsAt, refusal_of_begin}
@@ -36,7 +36,7 @@ use Rattle.state_laws.specs.Sound.{IsUnpacked, IsSound}
 use Rattle.state_laws.proofs.Events.{events-sound}
 use Rattle.state_laws.proofs.Records.{is_some-at, AreInGrammar, AreAppended, all-appended, grammar-rest, none-set_up}
 use Rattle.state_laws.proofs.Packs.{packed-not-appended}
-use Rattle.command_defs.specs.Forms.{Command, RowOf, InitWith, PutUnder, PutAt, GetOf, DropOf, ListAll, AuditAll, RepairDue, UpgradeJournal}
+use Rattle.command_defs.specs.Forms.{Command, RowOf, InitWith, PutUnder, PutAt, GetOf, DropOf, ListAll, AuditAll, RepairDue, UpgradeJournal, ScrubAll}
 use Rattle.command_defs.specs.Seen.{Seen, Ending, NoCountFalls, IsRefused, IsSynced, ReadsUpTo}
 use Rattle.opening_defs.specs.Journals.{journal_read, IsRead, IsBadStart, IsResynced}
 use Rattle.command_defs.specs.Opens.{IsOpened, Unstarted, setup_in_effect}
@@ -44,8 +44,9 @@ use Rattle.opening_defs.specs.Opened.{AreHanded, IsOpenedOver}
 use Rattle.lone_laws.specs.Walked.{MayName}
 use Rattle.command_defs.specs.JobRuns.{AreSteps, GoesOnTo}
 use Rattle.command_defs.specs.Jobs.{AnswersJob, EndsByAnswer, RunsAlone, RanAlone}
-use Rattle.command_defs.specs.Lines.{text_of}
+use Rattle.command_defs.specs.Lines.{text_of, scrub_text}
 use Rattle.command_defs.specs.Refusals.{is_unknown, refusal_over, status_of}
+use Rattle.command_defs.specs.Scrubs.{RanScrub, ScrubsAlone, AnswersScrub}
 use Rattle.command_defs.specs.Commands.{AnswersPut, AnswersAlone, ListsFiles, AnswersList, Answers}
 use Rattle.command_laws.specs.Ends.{profile_named, RunsKind, opens_store}
 use Rattle.command_laws.specs.Pieces.{IsStore, IsSpelledCommand, IsCall, begin_of, moment, unopened_status}
@@ -442,6 +443,11 @@ module _ (start : State) (ms : List Moment) (R : IsRun 8 start ms) (old : Seen)
       unset-list (AnswersList.no_memory r) = memory-on 0 r
       unset-list (AnswersList.listed other O L) = absurd (none-read other O.read)
 
+      unset-scrub : AnswersScrub old new end → GoesOn
+      unset-scrub (AnswersScrub.unstarted u) = unset-unstarted u
+      unset-scrub (AnswersScrub.no_memory other O sync r) = absurd (none-read other O.read)
+      unset-scrub (AnswersScrub.ended other how O sync heard runs left by) = absurd (none-read other O.read)
+
       unset-put : (name : List ℕ) {own : Option ℕ} → AnswersPut name own old new end → GoesOn
       unset-put name (AnswersPut.unstarted u same) = unset-unstarted u
       unset-put name (AnswersPut.bad_profile other O unknown sync same r) = absurd (none-read other O.read)
@@ -599,6 +605,51 @@ module _ (start : State) (ms : List Moment) (R : IsRun 8 start ms) (old : Seen)
           store-opened L.disk L.providers,
         )
 
+        scrubbed-on : command ≡ ScrubAll → (how : Answer) → end.heard ≡ [] → IsSynced old new →
+            ScrubsAlone rs how old new → EndsByAnswer (scrub_text how) how old new end → GoesOn
+        scrubbed-on is how heard sync A by =
+            (let v : State = opened_at A.faults in
+            let two : Moment = moment Reopen Opened v in
+            let n : ℕ = length (two ∷ later ∷ ms) in
+            let ran : RanScrub rs how old new A.faults v n = A.ran v n (over A.faults A.before enough) in
+            let c : State = ran.runs.begun in
+            let job_is : ran.runs.job ≡ 1 = ran.runs.begins.2 in
+            let three : Moment = moment BeginScrub (Begun 1) c in
+            let begun : IsRun 8 start (three ∷ two ∷ later ∷ ms) = (
+              tt,
+              subst (λ j. Happens 8 n v BeginScrub (Begun j) c) job_is ran.runs.begins,
+              run-opened A.faults A.before enough,
+            ) in
+            let g : GoesOnTo c (n + 1) 1 how [] ran.last =
+            subst (λ j. GoesOnTo c (n + 1) j how [] ran.last) job_is ran.runs.goes_on in
+            let at : n + 1 ≡ length (three ∷ two ∷ later ∷ ms) = omega arith in
+            let stepped : IsRun 8 start (g.steps ++ three ∷ two ∷ later ∷ ms) =
+            steps-run start c (three ∷ two ∷ later ∷ ms) g.steps refl
+            (subst (λ k. AreSteps c k 1 g.steps) at g.are_steps) begun in
+            let four : Moment = moment (Step 1) (Ended how) ran.last in
+            let ended : IsRun 8 start (four ∷ (g.steps ++ three ∷ two ∷ later ∷ ms)) = (
+              omega arith,
+              happens-at start c (three ∷ two ∷ later ∷ ms) g.steps (Step 1) (Ended how) ran.last refl
+                  (subst (λ k. Happens 8 (k + length g.steps) (now c g.steps) (Step 1)
+                  (Ended how) ran.last) at g.ends),
+              stepped,
+            ) in
+            let own : List Moment = four ∷ (g.steps ++ three ∷ two ∷ later ∷ []) in
+            let run : IsRun 8 start (own ++ ms) = subst (λ l. IsRun 8 start (four ∷ l))
+            (sym (append_assoc g.steps (three ∷ two ∷ later ∷ []) ms)) ended in (
+              own,
+              IsCall.scrubbed (continued w) v c ran.last g.steps how is
+                  (steps-go c (n + 1) g.steps g.are_steps) refl by heard,
+              run,
+              record {
+                sound = run-sound start own ms S.sound run;
+                tells = synced-tells old.disk new.disk sync S.tells;
+                images = ran.images;
+                faults_are = ran.faults_are;
+                handed = ran.handed;
+              },
+            ))
+
         module _ (kind : Kind) (own : Option ℕ) (is_job : RunsKind command old new kind)
             (named : profile_named command ≡ own) (may : MayName kind own)
             (byte : (p : ℕ) → own ≡ Some p → p < 256) where
@@ -704,6 +755,14 @@ module _ (start : State) (ms : List Moment) (R : IsRun 8 start ms) (old : Seen)
       list-on is (AnswersList.listed other O L) = listed-on (enough-of other O) is
           (subst (λ l. ListsFiles l old new end) (once other O.read) L)
 
+      scrub-on : command ≡ ScrubAll → AnswersScrub old new end → GoesOn
+      scrub-on is (AnswersScrub.unstarted u) = unstarted-on u
+      scrub-on is (AnswersScrub.no_memory other O sync r) =
+          opened-on (enough-of other O) 70 0 (inr r.status_is) sync r
+      scrub-on is (AnswersScrub.ended other how O sync heard runs left by) =
+          scrubbed-on (enough-of other O) is how heard sync
+          (subst (λ l. ScrubsAlone l how old new) (once other O.read) runs) by
+
       put-on : (name : List ℕ) (own : Option ℕ) →
           ((bytes : List ℕ) → ReadsUpTo (largest_file + 1) old.source new.source bytes →
           RunsKind command old new (PutJob name bytes)) → profile_named command ≡ own → AreBytes name →
@@ -728,6 +787,10 @@ module _ (start : State) (ms : List Moment) (R : IsRun 8 start ms) (old : Seen)
     list-by : MaySettle w (reads told.0) → command ≡ ListAll → AnswersList old new end → GoesOn
     list-by (MaySettle.some rs F) is A = list-on rs F is A
     list-by (MaySettle.none N) is A = unset-list N A
+
+    scrub-by : MaySettle w (reads told.0) → command ≡ ScrubAll → AnswersScrub old new end → GoesOn
+    scrub-by (MaySettle.some rs F) is A = scrub-on rs F is A
+    scrub-by (MaySettle.none N) is A = unset-scrub N A
 
     put-by : MaySettle w (reads told.0) → (name : List ℕ) (own : Option ℕ) →
         ((bytes : List ℕ) → ReadsUpTo (largest_file + 1) old.source new.source bytes →
@@ -760,3 +823,4 @@ module _ (start : State) (ms : List Moment) (R : IsRun 8 start ms) (old : Seen)
       alone-by RepairDue new end counts found RepairJob refl refl tt A.0
   command-on UpgradeJournal new end counts opens spelled A =
       alone-by UpgradeJournal new end counts found UpgradeJob refl refl tt A.0
+  command-on ScrubAll new end counts opens spelled A = scrub-by ScrubAll new end counts found refl A.0

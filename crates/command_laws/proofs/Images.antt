@@ -19,16 +19,17 @@ use Rattle.journal_core.proofs.Meanings.{one_meaning}
 use Rattle.machine_defs.specs.Jobs.{Kind, PutJob, GetJob, DropJob, AuditJob, RepairJob, UpgradeJob}
 use Rattle.machine_defs.specs.Answers as answer
 use Rattle.machine_defs.specs.Answers.{Answer}
-use Rattle.command_defs.specs.Forms.{Command, Numbers, RowOf, InitWith, PutUnder, PutAt, GetOf, DropOf, ListAll, AuditAll, RepairDue, UpgradeJournal}
+use Rattle.command_defs.specs.Forms.{Command, Numbers, RowOf, InitWith, PutUnder, PutAt, GetOf, DropOf, ListAll, AuditAll, RepairDue, UpgradeJournal, ScrubAll}
 use Rattle.opening_defs.specs.Journals.{IsResynced, IsFree, IsSetUpOn, MayBeLeft}
 use Rattle.opening_defs.proofs.Resyncs.{image-resynced}
-use Rattle.command_defs.specs.Seen.{Seen, Ending, IsRefused}
+use Rattle.command_defs.specs.Seen.{Seen, Ending, IsRefused, KeepsDisk}
 use Rattle.command_defs.specs.Opens.{IsOpened, Unstarted}
 use Rattle.command_defs.specs.Ran.{Ran, IsWhole, IsCut, IsCutInDoubt}
 use Rattle.command_defs.specs.Puts.{put_done, put_records, PutIsCut}
 use Rattle.command_defs.specs.Audits.{audit_records, AuditIsCut}
 use Rattle.command_defs.specs.Jobs.{AnswersJob, LeavesBy}
 use Rattle.command_defs.specs.Inits.{setup_with, AnswersInit, InitsDisk}
+use Rattle.command_defs.specs.Scrubs.{AnswersScrub}
 use Rattle.command_defs.specs.Commands.{AnswersPut, AnswersAlone, AnswersList, Answers}
 use Rattle.command_laws.specs.Ends.{IsKnown, put_of, profile_named, RunsKind, opens_store}
 use Rattle.command_laws.specs.Kept.{KeepsImages, AreAppended, IsAfter, LeavesImages, InitImages}
@@ -292,6 +293,30 @@ list-images old new end (AnswersList.unstarted u) = unstarted-keeps old new end 
 list-images old new end (AnswersList.no_memory r) = refused-keeps 70 0 old new end r
 list-images old new end (AnswersList.listed records opened L) = keeps-synced old.disk new.disk L.disk
 
+resynced-by : (old new : Option Cells) → new ≡ option_map synced old → Goes IsResynced old new
+resynced-by None None is = tt
+resynced-by None (Some new) is = absurd (let e : Some new ≡ None = is in cc)
+resynced-by (Some old) None is = absurd (let e : None ≡ Some (synced old) = is in cc)
+resynced-by (Some old) (Some new) is = inr (some-same new (synced old) is)
+  where
+    some-same : (a b : Cells) → Some a ≡ Some b → a ≡ b
+    some-same a b e = cc
+
+-- a scrub at most syncs the disk
+pub scrub-disk : (old new : Seen) (end : Ending) → AnswersScrub old new end → KeepsDisk old new
+scrub-disk old new end (AnswersScrub.unstarted u) =
+    (let r = unstarted-refused old new end u in r.3.disk)
+scrub-disk old new end (AnswersScrub.no_memory records opened synced r) = r.disk
+scrub-disk old new end (AnswersScrub.ended records how opened synced heard runs left by) =
+    resynced-by old.disk new.disk synced
+
+-- a scrub leaves only images that the disk had before
+pub scrub-images : (old new : Seen) (end : Ending) → AnswersScrub old new end → KeepsImages old new
+scrub-images old new end (AnswersScrub.unstarted u) = unstarted-keeps old new end u
+scrub-images old new end (AnswersScrub.no_memory records opened synced r) = refused-keeps 70 0 old new end r
+scrub-images old new end (AnswersScrub.ended records how opened synced heard runs left by) =
+    keeps-synced old.disk new.disk synced
+
 -- a command leaves images as before, or ones of the records read with some that its job wrote
 pub store-images : (command : Command) (old new : Seen) (end : Ending) → Answers command old new end →
     opens_store command ≡ true → LeavesImages command old new
@@ -308,6 +333,7 @@ store-images AuditAll old new end A opens = alone-images AuditAll AuditJob old n
 store-images RepairDue old new end A opens = alone-images RepairDue RepairJob old new end refl refl A.0
 store-images UpgradeJournal old new end A opens =
     alone-images UpgradeJournal UpgradeJob old new end refl refl A.0
+store-images ScrubAll old new end A opens = LeavesImages.kept (scrub-images old new end A.0)
 
 -- what each image stands for, where each stood for the records before
 abbrev StandsAfter : Command → List Record → Seen → Seen → List ℕ → Type 0

@@ -257,7 +257,8 @@ refused-always kind own records old new end why (AnswersJob.ended how none runs 
 abbrev pub is_unopened : ℕ → Bool
 is_unopened n = if n == 8 then true else if n == 9 then true else n == 22
 
-ended-opened : (n : ℕ) → EndStatus n → is_unopened n ≡ false
+-- none of the statuses of a job tells so
+pub ended-opened : (n : ℕ) → EndStatus n → is_unopened n ≡ false
 ended-opened n (EndStatus.by_done e) = ap is_unopened e
 ended-opened n (EndStatus.by_lost e) = ap is_unopened e
 ended-opened n (EndStatus.by_disk e) = ap is_unopened e

@@ -10,12 +10,15 @@ pub mod Images
 pub mod InitEnds
 pub mod RowCauses
 pub mod Failed
+pub mod ScrubRuns
+pub mod ScrubEnds
 pub mod LastStates
 pub mod Knowing
 pub mod Afterwards
 pub mod DoneStores
 pub mod FilesStay
 pub mod FilesKept
+pub mod ScrubFiles
 pub mod PutInEffect
 pub mod RepairInEffect
 pub mod AuditInEffect
@@ -32,5 +35,6 @@ pub mod AuditSample
 pub mod RepairSample
 pub mod UpgradeSample
 pub mod OwnSample
+pub mod ScrubSample
 pub mod InitSample
 pub mod UnsetSample

@@ -19,7 +19,7 @@ use Rattle.command_defs.specs.Seen.{Seen, Ending, IsRefused, provider_at}
 use Rattle.opening_defs.specs.Journals.{journal_read}
 use Rattle.command_defs.specs.Opens.{setup_in_effect, object_in_effect}
 use Rattle.command_defs.specs.Ran.{Ran}
-use Rattle.command_defs.specs.Repairs.{RewritesAll, RepairGives}
+use Rattle.command_defs.specs.Repairs.{flags, RewritesAll, RepairGives}
 use Rattle.command_defs.specs.Jobs.{AnswersJob, LeftAlone}
 use Rattle.command_defs.specs.Commands.{AnswersAlone}
 use Rattle.job_laws.specs.Failing.{bad_seen}
@@ -92,7 +92,7 @@ module _ (name bytes : List ℕ) (records : List Record) (due : Due) (spoilt : �
     none-more is sure = not-before (images-before new.disk x.after x.doubt is sure left.images)
 
     -- where the flagged providers are rewritten
-    whole : RewritesAll x due → Mended
+    whole : RewritesAll x (flags x due) → Mended
     whole W = record {
       file = H.file;
       in_effect = H.in_effect;
@@ -114,7 +114,8 @@ module _ (name bytes : List ℕ) (records : List Record) (due : Due) (spoilt : �
                   (provider_at new.providers j).held H.size
                   (goes-tells _ (provider_at old.providers j).held (provider_at new.providers j).held
                   (tells j below flagged) (W.held j below))
-                  (λ stripe within. holds-right x (shape-at old records S.known.opened) due W name H.file
+                  (λ stripe within. holds-right x (shape-at old records S.known.opened) (flags x due) W name
+                  H.file
                   bytes
                   H.in_effect H.size fewer S.known.opened.read.accepted stripe within j below flagged)
               | inr free ↦ wrong-same (object_in_effect records H.file) bytes j

@@ -1,7 +1,8 @@
 -- A store with one empty file, and commands over it.
-use Rattle.std.proofs.Common.{◌≡◌, ◌≢◌, ℕ, zero, suc, ◌+◌, ◌<◌, ◌≤◌, true, false, List, [], ◌∷◌, ◌++◌, length, None, Some, refl, ap, sym, subst, ◌∙◌, inl, arith}
+use Rattle.std.proofs.Common.{◌≡◌, ◌≢◌, ℕ, zero, suc, ◌+◌, ◌<◌, ◌≤◌, true, false, List, [], ◌∷◌, ◌++◌, length, None, Some, refl, ap, sym, subst, ◌∙◌, inl, inr, arith}
 use Rattle.std.specs.Prelude.{IsTrue, slice_get, take}
 use Rattle.std.specs.List.{list_all, flat_map}
+use Rattle.std.proofs.lemmas.Bool.{cases_Bool}
 use Rattle.code_defs.specs.Points.{upto}
 use Rattle.column_defs.specs.Objects.{stripes}
 use Rattle.device_defs.specs.Cells.{reads, firm}
@@ -10,7 +11,7 @@ use Rattle.device_defs.specs.Faults.{Rose, last_count}
 use Rattle.device_defs.proofs.Lasting.{reads-firm, image-firm}
 use Rattle.record_defs.specs.Records.{Record, is_in_grammar, largest_journal}
 use Rattle.record_defs.specs.Journal.{text, text_size}
-use Rattle.record_defs.specs.Table.{files_of, file_as}
+use Rattle.record_defs.specs.Table.{File, files_of, file_as, is_start_of}
 use Rattle.record_defs.specs.Acceptance.{AreAccepted}
 use Rattle.record_defs.proofs.Standing.{stands-text}
 use Rattle.machine_defs.specs.Actions.{Action, End, open_actions, actions_of}
@@ -24,6 +25,7 @@ use Rattle.machine_defs.specs.Refusals as refusal
 use Rattle.machine_defs.specs.Setups.{object_of, stripes_of}
 use Rattle.machine_defs.specs.States.{State, setup_in, ended}
 use Rattle.machine_defs.specs.Steps.{StepsOn}
+use Rattle.machine_defs.proofs.JobLists.{cond_true, cond_false}
 use Rattle.command_defs.specs.Forms.{GetOf, ListAll}
 use Rattle.command_defs.specs.Lines.{list_lines}
 use Rattle.command_defs.specs.Opens.{IsOpened, setup_in_effect}
@@ -31,9 +33,10 @@ use Rattle.command_defs.specs.Seen.{IsRefused, NoCountFalls, provider_at}
 use Rattle.opening_defs.specs.Opened.{AreHanded, IsOpenedOver}
 use Rattle.command_defs.specs.Jobs.{RanAlone, RunsAlone, AnswersJob}
 use Rattle.command_defs.specs.Commands.{AnswersAlone, AnswersList, Answers}
+use Rattle.command_laws.specs.Ends.{AreSafe}
 use Rattle.command_laws.specs.After.{IsSure, HasRightFile, is_wrong_at}
 use Rattle.lone_laws.specs.Walked.{MayName}
-use Rattle.command_laws.specs.Instances.{store, small_setup, idle_providers, held_name, held_file, other_name, set_up_records, held_records, with_sink, ends, get_held, get_other}
+use Rattle.command_laws.specs.Instances.{store, small_setup, idle_providers, held_name, held_file, other_name, set_up_records, held_records, scrubbed_store, with_sink, ends, get_held, get_other}
 use Rattle.command_laws.specs.Pieces.{IsLater, IsChain}
 use Rattle.job_laws.specs.Failing.{bad_seen}
 use Rattle.command_laws.proofs.FilesStay.{bad-few}
@@ -112,6 +115,18 @@ none-bad = (let b = bad-few held_name [] held_records (λ j. false) (store held_
     no-rise (suc (suc (suc zero))) l rose = (let r = rose (omega arith) in omega (arith, r))
     no-rise (suc (suc (suc (suc j)))) l rose = absurd (omega (arith, l))
 
+-- so it is of each file in effect
+pub all-safe : AreSafe held_records (store held_records) scrubbed_store (λ id. [])
+all-safe name file is = elim (cases_Bool (is_start_of name (Some held_name))) [
+  | inl t ↦ (let e : Some (file_as name 1 0 0) ≡ Some file =
+      sym (cond_true (is_start_of name (Some held_name)) (Some (file_as name 1 0 0)) None t) ∙ is in
+      let f : file_as name 1 0 0 ≡ file = cc in
+      subst (λ (g : File). (0 ≡ g.size) × (bad_seen held_records (store held_records) scrubbed_store g []
+      ≤ (setup_in_effect held_records).b)) f (refl, none-bad))
+  | inr n ↦ absurd (let e : None ≡ Some file =
+      sym (cond_false (is_start_of name (Some held_name)) (Some (file_as name 1 0 0)) None n) ∙ is in cc)
+]
+
 -- a count that stays, below its last value, did not rise
 pub never-rises : (n : ℕ) → n < last_count → Rose n n → ⊥
 never-rises n low rose = (let r = rose low in omega (arith, r))
@@ -127,7 +142,8 @@ never-seen (suc (suc (suc (suc j)))) rose = never-rises 0 (omega arith) rose
 
 -- ---- a get of the empty file, from every state that was just opened
 
-abbrev formed : State → State
+-- a state that was opened over it, by its parts
+abbrev pub formed : State → State
 formed w = record w {
   records = held_records;
   journal = held_records;
@@ -143,7 +159,8 @@ formed w = record w {
   disk_faults = 0;
 }
 
-form-is : (w : State) → IsOpenedOver w held_records 0 idle_providers → formed w ≡ w
+-- so is each that was
+pub form-is : (w : State) → IsOpenedOver w held_records 0 idle_providers → formed w ≡ w
 form-is w V = sym (λ i. record w {
   records = V.records i;
   journal = (V.whole.journal ∙ V.records) i;

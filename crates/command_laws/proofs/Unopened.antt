@@ -7,15 +7,16 @@ use Rattle.device_defs.specs.Faults.{Rose}
 use Rattle.record_defs.specs.Records.{Record}
 use Rattle.record_defs.specs.Reading.{HasNoSetup}
 use Rattle.machine_defs.specs.Jobs.{Kind, GetJob, DropJob, AuditJob, RepairJob, UpgradeJob}
-use Rattle.command_defs.specs.Forms.{Command, RowOf, InitWith, PutUnder, PutAt, GetOf, DropOf, ListAll, AuditAll, RepairDue, UpgradeJournal}
+use Rattle.command_defs.specs.Forms.{Command, RowOf, InitWith, PutUnder, PutAt, GetOf, DropOf, ListAll, AuditAll, RepairDue, UpgradeJournal, ScrubAll}
 use Rattle.command_defs.specs.Sinking.{WritesLine}
 use Rattle.command_defs.specs.Seen.{Seen, Ending, sinking}
 use Rattle.opening_defs.specs.Journals.{journal_read, IsRead, IsBadStart}
 use Rattle.command_defs.specs.Opens.{IsOpened, Unstarted, setup_in_effect}
+use Rattle.command_defs.specs.Scrubs.{AnswersScrub}
 use Rattle.command_defs.specs.Commands.{AnswersPut, AnswersAlone, AnswersList, Answers}
 use Rattle.command_laws.specs.Ends.{opens_store}
 use Rattle.opening_defs.proofs.Readings.{read-once, read-set_up, read-good, fresh-good, bad-once}
-use Rattle.command_laws.proofs.Known.{is_unopened, job-opened}
+use Rattle.command_laws.proofs.Known.{is_unopened, ended-opened, status-ended, job-opened}
 
 -- how a command goes that looks at a store: it is not started, or it has a status of its own, over records
 -- that were read or none
@@ -54,6 +55,12 @@ list-opening old new end (AnswersList.no_memory r) = Opening.no_room r.status_is
 list-opening old new end (AnswersList.listed records opened L) =
     Opening.over records opened (written-opened _ old new end L.written)
 
+scrub-opening : (old new : Seen) (end : Ending) → AnswersScrub old new end → Opening old new end
+scrub-opening old new end (AnswersScrub.unstarted u) = Opening.before u
+scrub-opening old new end (AnswersScrub.no_memory records opened synced r) = Opening.no_room r.status_is
+scrub-opening old new end (AnswersScrub.ended records how opened synced heard runs left by) =
+    Opening.over records opened (ended-opened end.status (status-ended _ how old new end by))
+
 opening-of : (command : Command) (old new : Seen) (end : Ending) → Answers command old new end →
     opens_store command ≡ true → Opening old new end
 opening-of (RowOf n l b seen) old new end A opens = absurd (false≢true opens)
@@ -66,6 +73,7 @@ opening-of ListAll old new end A opens = list-opening old new end A.0
 opening-of AuditAll old new end A opens = alone-opening AuditJob old new end A.0
 opening-of RepairDue old new end A opens = alone-opening RepairJob old new end A.0
 opening-of UpgradeJournal old new end A opens = alone-opening UpgradeJob old new end A.0
+opening-of ScrubAll old new end A opens = scrub-opening old new end A.0
 
 status-not : (status n m : ℕ) → status ≡ n → status ≡ m → (n ≡ m → ⊥) → ⊥
 status-not status n m is also differ = differ (sym is ∙ also)

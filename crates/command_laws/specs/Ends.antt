@@ -22,7 +22,7 @@
 --   AreSafe records old new bytes      == for each file in effect at most b providers are wrong for its
 --                                         bytes, or failed
 --   HoldsFile records new bytes file j == what is told of provider j has each block of a file of these bytes
---   IsWholePut name own old new end, IsDropped, IsAudited, IsRepaired, IsUpgraded
+--   IsWholePut name own old new end, IsDropped, IsAudited, IsRepaired, IsUpgraded, IsScrubbed
 --                                      == what a command has done that is done; its text is told, or cut off
 use Rattle.std.specs.Prelude.{◌≡◌, ◌⊎◌, ℕ, ◌+◌, ◌≤◌, ◌<◌, Bool, true, false, IsTrue, List, [], ◌∷◌, length, Option, None, Some, IfSome, is_some, if◌then◌else◌}
 use Rattle.column_defs.specs.Columns.{columns}
@@ -37,16 +37,17 @@ use Rattle.machine_defs.specs.Events.{AreBytes}
 use Rattle.machine_defs.specs.Begins.{chosen}
 use Rattle.machine_defs.specs.Refusals.{Refusal, BadProfile}
 use Rattle.machine_defs.specs.Heard.{Entry}
-use Rattle.command_defs.specs.Seen.{Seen, Ending, ReadsUpTo, IsRefused, provider_at}
+use Rattle.command_defs.specs.Seen.{Seen, Ending, ReadsUpTo, IsRefused, IsSynced, provider_at}
 use Rattle.command_defs.specs.Opens.{IsOpened, Unstarted, setup_in_effect, object_in_effect, stripes_in_effect}
 use Rattle.command_defs.specs.Refusals.{is_unknown, refusal_over, status_of}
 use Rattle.command_defs.specs.Ran.{Ran, ran_alone, EachHeldGoes}
 use Rattle.command_defs.specs.Forms.{Command, RowOf, InitWith, PutUnder, PutAt, GetOf, DropOf, AuditAll, RepairDue, UpgradeJournal}
-use Rattle.command_defs.specs.Lines.{stored_line, dropped_line, audit_lines, repaired_line, upgraded_line}
+use Rattle.command_defs.specs.Lines.{stored_line, dropped_line, audit_lines, repaired_line, upgraded_line, scrub_lines}
 use Rattle.command_defs.specs.Blocks.{DroppedFrom}
 use Rattle.command_defs.specs.Puts.{put_done, StoresFile}
 use Rattle.command_defs.specs.Audits.{HearsRounds, CountsHeard}
-use Rattle.command_defs.specs.Repairs.{RewritesAll}
+use Rattle.command_defs.specs.Repairs.{flags, RewritesAll}
+use Rattle.command_defs.specs.Scrubs.{SweepsAll}
 use Rattle.command_defs.specs.Jobs.{IsTold}
 use Rattle.job_laws.specs.Failing.{bad_seen}
 
@@ -218,7 +219,8 @@ pub record IsRepaired (old new : Seen) (end : Ending) : Type 0 where
   pub is_due : due_of records ≡ Some due
   pub told : IsTold (repaired_line due.number) old new end
   pub disk : DiskHas (after_repair records due) new
-  pub rewritten : RewritesAll (ran_to (after_repair records due) records old new end.heard) due
+  pub rewritten : RewritesAll (ran_to (after_repair records due) records old new end.heard)
+      (flags (ran_to (after_repair records due) records old new end.heard) due)
 
 -- an upgrade: the journal has its second version, with the same files in effect, and providers hold what they
 -- held
@@ -231,3 +233,16 @@ pub record IsUpgraded (old new : Seen) (end : Ending) : Type 0 where
   pub version : version_of (after_upgrade records) ≡ 2
   pub files : files_of (after_upgrade records) ≡ files_of records
   pub held : SameHolds old new
+
+-- a scrub: every row of every place is accepted of what the providers gave, the numbers told are what
+-- differed in it, each provider holds its columns in all places, and no record came in
+pub record IsScrubbed (old new : Seen) (end : Ending) : Type 0 where
+  pub records : List Record
+  pub stripes : ℕ
+  pub symbols : List ℕ
+  pub blocks : List ℕ
+  pub opened : IsOpened old records
+  pub told : IsTold (scrub_lines stripes symbols blocks) old new end
+  pub synced : IsSynced old new
+  pub disk : DiskHas records new
+  pub swept : SweepsAll (ran_to records records old new end.heard) stripes symbols blocks

@@ -10,9 +10,9 @@
 --                                                     with the file put into it with a profile of its own
 --   audited_records, due_records, repaired_records == of a store with no file after an audit, with a repair
 --                                                     due, and after it
---   put_store, audited_store, repaired_store, upgraded_store, own_store
+--   put_store, audited_store, repaired_store, upgraded_store, own_store, scrubbed_store
 --                                                  == what is seen after a put of the file, that audit, that
---                                                     repair, an upgrade, that put
+--                                                     repair, an upgrade, that put, a scrub of the file
 --   small_numbers, key_text, key_devices, ready_store
 --                                                  == the numbers of an init, its key, devices before it and
 --                                                     after it
@@ -29,7 +29,7 @@ use Rattle.record_defs.specs.Records.{Record, Setup, SetUp, PutStart, PutDone, P
 use Rattle.record_defs.specs.Journal.{text}
 use Rattle.record_defs.specs.Table.{File, file_as}
 use Rattle.command_defs.specs.Forms.{Numbers, GetOf}
-use Rattle.command_defs.specs.Lines.{ready_line, stored_line, audit_lines, repaired_line, upgraded_line}
+use Rattle.command_defs.specs.Lines.{ready_line, stored_line, audit_lines, repaired_line, upgraded_line, scrub_lines}
 use Rattle.command_defs.specs.Seen.{Seen, Ending}
 use Rattle.command_laws.specs.Pieces.{Call}
 
@@ -159,6 +159,10 @@ upgraded_store = with_sink (store upgraded_records) upgraded_line
 -- what is seen after the put with a profile of its own
 abbrev pub own_store : Seen
 own_store = with_sink (store own_records) (stored_line held_name 0)
+
+-- what is seen after a scrub of the store with the file
+abbrev pub scrubbed_store : Seen
+scrubbed_store = with_sink (store held_records) (scrub_lines 0 no_counts no_counts)
 
 -- an end that heard nothing
 abbrev pub ends : ℕ → Ending

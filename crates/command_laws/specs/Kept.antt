@@ -12,10 +12,14 @@
 --   InitImages numbers old new                 == a store was set up with these numbers, or each image is one
 --                                                 that a failed init may leave
 --   SameFetches old new                        == no provider was fetched from
---   stores_blocks command, opens_rows command  == a put and a repair; a get, a repair and a row
---   FailsToPut name profile old new end, FailsToRepair
---                                              == what a put and a repair leave of which a store failed
---   LosesFile name old new end, LosesRepair    == what a get and a repair leave that found a row lost
+--   stores_blocks command, opens_rows command  == a put, a repair and a scrub; a get, a repair, a scrub and a
+--                                                 row
+--   FailsToPut name profile old new end, FailsToRepair, FailsToScrub
+--                                              == what a put, a repair and a scrub leave of which a store
+--                                                 failed
+--   LosesFile name old new end, LosesRepair, LosesScrub
+--                                              == what a get, a repair and a scrub leave that found a row
+--                                                 lost
 use Rattle.std.specs.Prelude.{◌≡◌, ◌⊎◌, ℕ, ◌+◌, ◌<◌, Bool, true, false, List, [], ◌∷◌, ◌++◌, length, reverse, take, Option, Some, IfSome}
 use Rattle.column_defs.specs.Verdicts.{is_flagged}
 use Rattle.device_defs.specs.Faults.{Rose}
@@ -26,7 +30,7 @@ use Rattle.record_defs.specs.Journal.{StandsFor}
 use Rattle.record_defs.specs.Table.{File, Due, next_id, file_of, due_of}
 use Rattle.machine_defs.specs.Events.{AreBytes}
 use Rattle.machine_defs.specs.Jobs.{Kind, PutJob, GetJob, DropJob, AuditJob, RepairJob, UpgradeJob}
-use Rattle.command_defs.specs.Forms.{Command, Numbers, RowOf, PutUnder, PutAt, GetOf, RepairDue}
+use Rattle.command_defs.specs.Forms.{Command, Numbers, RowOf, PutUnder, PutAt, GetOf, RepairDue, ScrubAll}
 use Rattle.command_defs.specs.Seen.{Seen, Ending, ReadsUpTo, provider_at}
 use Rattle.opening_defs.specs.Journals.{IsSetUpOn, MayBeLeft}
 use Rattle.command_defs.specs.Opens.{IsOpened, setup_in_effect}
@@ -34,7 +38,8 @@ use Rattle.command_defs.specs.Inits.{setup_with}
 use Rattle.command_defs.specs.Puts.{put_records, StoresPart}
 use Rattle.command_defs.specs.Gets.{LosesStripe}
 use Rattle.command_defs.specs.Audits.{audit_records}
-use Rattle.command_defs.specs.Repairs.{LosesAtPlace, RewritesSome}
+use Rattle.command_defs.specs.Repairs.{flags, LosesAtPlace, RewritesSome}
+use Rattle.command_defs.specs.Scrubs.{everyone}
 use Rattle.command_laws.specs.Ends.{profile_named, RunsKind, DiskHas, ran_to}
 
 -- each image of the disk is one that it had before
@@ -80,6 +85,7 @@ abbrev pub stores_blocks : Command → Bool
 stores_blocks (PutUnder name) = true
 stores_blocks (PutAt name profile) = true
 stores_blocks RepairDue = true
+stores_blocks ScrubAll = true
 stores_blocks command = false
 
 -- a command that opens rows
@@ -87,6 +93,7 @@ abbrev pub opens_rows : Command → Bool
 opens_rows (RowOf n l b seen) = true
 opens_rows (GetOf name) = true
 opens_rows RepairDue = true
+opens_rows ScrubAll = true
 opens_rows command = false
 
 -- the records after the first append of a put
@@ -123,7 +130,8 @@ pub record FailsToRepair (old new : Seen) (end : Ending) : Type 0 where
       (provider_at new.providers end.at).store_faults
   pub sink : new.sink ≡ old.sink
   pub disk : DiskHas records new
-  pub part : RewritesSome (ran_to records records old new end.heard) due
+  pub part : RewritesSome (ran_to records records old new end.heard)
+      (flags (ran_to records records old new end.heard) due)
 
 -- a get found a row lost, the lowest of the first stripe that has one, and gave nothing
 pub record LosesFile (name : List ℕ) (old new : Seen) (end : Ending) : Type 0 where
@@ -144,6 +152,27 @@ pub record LosesRepair (old new : Seen) (end : Ending) : Type 0 where
   pub stripe : ℕ
   pub opened : IsOpened old records
   pub is_due : due_of records ≡ Some due
-  pub lost : LosesAtPlace (ran_to records records old new end.heard) due stripe end.at
+  pub lost : LosesAtPlace (ran_to records records old new end.heard)
+      (flags (ran_to records records old new end.heard) due) stripe end.at
+  pub sink : new.sink ≡ old.sink
+  pub disk : DiskHas records new
+
+-- a store of a scrub failed: some blocks may have been written anew, of any provider, and no record came in
+pub record FailsToScrub (old new : Seen) (end : Ending) : Type 0 where
+  pub records : List Record
+  pub opened : IsOpened old records
+  pub provider : end.at < (setup_in_effect records).n
+  pub rose : Rose (provider_at old.providers end.at).store_faults
+      (provider_at new.providers end.at).store_faults
+  pub sink : new.sink ≡ old.sink
+  pub disk : DiskHas records new
+  pub part : RewritesSome (ran_to records records old new end.heard) everyone
+
+-- a scrub found a row lost: blocks before that place may have been written anew, and no record came in
+pub record LosesScrub (old new : Seen) (end : Ending) : Type 0 where
+  pub records : List Record
+  pub stripe : ℕ
+  pub opened : IsOpened old records
+  pub lost : LosesAtPlace (ran_to records records old new end.heard) everyone stripe end.at
   pub sink : new.sink ≡ old.sink
   pub disk : DiskHas records new

@@ -7,7 +7,7 @@ ghost use Rattle.device_defs.specs.Faults.{Rose};
 ghost use Rattle.device_defs.specs.Told.{told_then};
 ghost use Rattle.record_defs.specs.Records.{Record, SetUp, is_name, largest_file};
 ghost use Rattle.record_defs.specs.Table.{File, Due, next_audit, file_of, due_of};
-ghost use Rattle.command_defs.specs.Forms.{Command, Numbers, RowOf, InitWith, PutUnder, GetOf, DropOf, ListAll, AuditAll, RepairDue, UpgradeJournal};
+ghost use Rattle.command_defs.specs.Forms.{Command, Numbers, RowOf, InitWith, PutUnder, GetOf, DropOf, ListAll, AuditAll, RepairDue, UpgradeJournal, ScrubAll};
 ghost use Rattle.command_defs.specs.Keys.{IsKeyForm};
 ghost use Rattle.command_defs.specs.Seen.{Seen, Ending, IsRefused, provider_at};
 ghost use Rattle.opening_defs.specs.Journals.{IsFree};
@@ -88,6 +88,8 @@ pub fn done_commands_leave_known_stores()
     ensures upgrade { (records : List Record) (old new : Seen) (end : Ending)
         → Answers UpgradeJournal old new end → IsDone end →
         IsKnown old records → IsSure new (after_upgrade records) }
+    ensures scrub { (records : List Record) (old new : Seen) (end : Ending) → Answers ScrubAll old new end →
+        IsDone end ⊎ ((end.status ≡ 4) ⊎ (end.status ≡ 13)) → IsKnown old records → IsSure new records }
     ensures failed_repair { (records : List Record) (old new : Seen) (end : Ending)
         → Answers RepairDue old new end →
         (end.status ≡ 4) ⊎ (end.status ≡ 13) → IsKnown old records → IsSure new records }
@@ -98,7 +100,8 @@ pub fn done_commands_leave_known_stores()
 /// file stays so on each provider that nobody touches. A get, a list, an audit, an upgrade, a put and a drop
 /// of another name leave it as it is, whatever comes of them, and so does a refusal. A repair that is done
 /// makes each flagged provider right for it, where at most b providers are spoilt or fail; so does one that
-/// was cut off, where the next command finds its end in effect.
+/// was cut off, where the next command finds its end in effect. There a scrub that is done makes each
+/// provider right for it that tells what it holds; and one that came to another end has done it no harm.
 pub fn files_stay()
     ensures put { (name bytes : List ℕ) (own : Option ℕ) (records : List Record) (spoilt : ℕ → Bool)
         (old new : Seen)
@@ -144,6 +147,21 @@ pub fn files_stay()
         → is_some (provider_at old.providers j).held ≡ true) →
         HasRightFile new (after_repair records due) name bytes
         (λ j. spoilt j && not (is_flagged (setup_in_effect records).tolerance due.counts j)) }
+    ensures scrub { (name bytes : List ℕ) (records : List Record) (spoilt untold : ℕ → Bool)
+        (old new : Seen) (end : Ending) →
+        Answers ScrubAll old new end → IsDone end → IsKnown old records
+        → HasRightFile old records name bytes spoilt →
+        IsSteady (setup_in_effect records).n spoilt old new
+        → spoilt_below (setup_in_effect records).n spoilt ≤ (setup_in_effect records).b →
+        ((j : ℕ) → j < (setup_in_effect records).n → untold j ≡ false
+        → is_some (provider_at old.providers j).held ≡ true) →
+        HasRightFile new records name bytes untold }
+    ensures scrub_harms_none { (name bytes : List ℕ) (records : List Record) (spoilt : ℕ → Bool)
+        (old new : Seen) (end : Ending) →
+        Answers ScrubAll old new end → IsKnown old records → HasRightFile old records name bytes spoilt →
+        IsSteady (setup_in_effect records).n spoilt old new
+        → spoilt_below (setup_in_effect records).n spoilt ≤ (setup_in_effect records).b →
+        HasRightFile new records name bytes spoilt }
     ensures repair_in_effect { (name bytes : List ℕ) (records : List Record) (due : Due) (spoilt : ℕ → Bool)
         (old new next : Seen) (end : Ending) →
         Answers RepairDue old new end → IsSure old records → due_of records ≡ Some due → Follows new next →
@@ -203,7 +221,7 @@ pub fn gets_tell_what_stands()
 /// found. Stops between the commands do no harm. Over a fresh disk with a good key, name and length, all
 /// three end with 0, unless a device fails or no memory is found. A get after a drop ends with 3, and after a
 /// put, an audit and a repair it gives the bytes of the put though others are spoilt by then than those that
-/// were flagged.
+/// were flagged, and after a scrub though all others are spoilt by then than before.
 pub fn put_files_are_got()
     ensures whole { (numbers : Numbers) (key name bytes : List ℕ) (spoilt : ℕ → Bool) (cells : Cells)
         (a b c d e f : Seen) (first second last : Ending) →
@@ -258,6 +276,33 @@ pub fn put_files_are_got()
         → is_some (provider_at c.providers j).held ≡ true) →
         ((j : ℕ) → later j ≡ false → (spoilt j && not (is_flagged (setup_in_effect records).tolerance
         due.counts j)) ≡ false) →
+        IsUntouched (setup_in_effect records).n later d e → IsSteady (setup_in_effect records).n later e f →
+        spoilt_below (setup_in_effect records).n later ≤ (setup_in_effect records).b →
+        (Rose e.disk_faults f.disk_faults → ⊥) → (Rose e.sink_faults f.sink_faults → ⊥)
+        → GivesUnlessMemory bytes e f last }
+    ensures scrubbed { (name bytes : List ℕ) (records : List Record) (spoilt later : ℕ → Bool)
+        (c d e f : Seen) (second last : Ending) →
+        Answers ScrubAll c d second → Answers (GetOf name) e f last → Follows d e → IsKnown c records →
+        HasRightFile c records name bytes spoilt → IsDone second
+        → IsSteady (setup_in_effect records).n spoilt c d →
+        spoilt_below (setup_in_effect records).n spoilt ≤ (setup_in_effect records).b →
+        ((j : ℕ) → j < (setup_in_effect records).n → later j ≡ false
+        → is_some (provider_at c.providers j).held ≡ true) →
+        IsUntouched (setup_in_effect records).n later d e → IsSteady (setup_in_effect records).n later e f →
+        spoilt_below (setup_in_effect records).n later ≤ (setup_in_effect records).b →
+        (Rose e.disk_faults f.disk_faults → ⊥) → (Rose e.sink_faults f.sink_faults → ⊥)
+        → GivesUnlessMemory bytes e f last }
+    ensures swept { (name bytes : List ℕ) (own : Option ℕ) (records : List Record) (spoilt later : ℕ → Bool)
+        (a b c d e f : Seen) (first second last : Ending) →
+        Answers (put_of name own) a b first → Answers ScrubAll c d second → Answers (GetOf name) e f last →
+        Follows b c → Follows d e → IsKnown a records → a.source ≡ Some bytes → IsDone first
+        → IsDone second →
+        ((j : ℕ) → j < (setup_in_effect records).n → spoilt j ≡ false
+        → is_some (provider_at a.providers j).held ≡ true) →
+        IsUntouched (setup_in_effect records).n spoilt b c → IsSteady (setup_in_effect records).n spoilt c d →
+        spoilt_below (setup_in_effect records).n spoilt ≤ (setup_in_effect records).b →
+        ((j : ℕ) → j < (setup_in_effect records).n → later j ≡ false
+        → is_some (provider_at c.providers j).held ≡ true) →
         IsUntouched (setup_in_effect records).n later d e → IsSteady (setup_in_effect records).n later e f →
         spoilt_below (setup_in_effect records).n later ≤ (setup_in_effect records).b →
         (Rose e.disk_faults f.disk_faults → ⊥) → (Rose e.sink_faults f.sink_faults → ⊥)

@@ -13,7 +13,7 @@ ghost use Rattle.machine_defs.specs.Jobs.{Kind, PutJob, DropJob, AuditJob, Repai
 ghost use Rattle.machine_defs.specs.Events.{AreBytes};
 ghost use Rattle.machine_defs.specs.Heard.{HoldsForgery};
 ghost use Rattle.machine_defs.specs.Refusals.{Refusal};
-ghost use Rattle.command_defs.specs.Forms.{Command, Numbers, RowOf, InitWith, GetOf, DropOf, ListAll, AuditAll, RepairDue, UpgradeJournal};
+ghost use Rattle.command_defs.specs.Forms.{Command, Numbers, RowOf, InitWith, GetOf, DropOf, ListAll, AuditAll, RepairDue, UpgradeJournal, ScrubAll};
 ghost use Rattle.command_defs.specs.Seen.{Seen, Ending, IsRefused, provider_at};
 ghost use Rattle.opening_defs.specs.Journals.{journal_read, IsRead, IsBadStart};
 ghost use Rattle.command_defs.specs.Opens.{setup_in_effect, object_in_effect};
@@ -22,8 +22,8 @@ ghost use Rattle.command_defs.specs.Lines.{stored_line, dropped_line, upgraded_l
 ghost use Rattle.command_defs.specs.Jobs.{AnswersJob};
 ghost use Rattle.command_defs.specs.Commands.{AnswersAlone, Answers};
 ghost use Rattle.job_laws.specs.Failing.{bad_seen};
-ghost use Rattle.command_laws.specs.Ends.{IsDone, IsKnown, GivesUnlessMemory, EndsInOrder, SameHolds, opens_store, put_of, put_refusal, FaultsHaveCauses, AreSafe, HoldsFile, IsWholePut, IsDropped, IsAudited, IsRepaired, IsUpgraded};
-ghost use Rattle.command_laws.specs.Kept.{LosesFile, LosesRepair};
+ghost use Rattle.command_laws.specs.Ends.{IsDone, IsKnown, GivesUnlessMemory, EndsInOrder, SameHolds, opens_store, put_of, put_refusal, FaultsHaveCauses, AreSafe, HoldsFile, IsWholePut, IsDropped, IsAudited, IsRepaired, IsUpgraded, IsScrubbed};
+ghost use Rattle.command_laws.specs.Kept.{LosesFile, LosesRepair, LosesScrub};
 
 /// A get of a file gives it whole, or finds no memory, where at most b providers are wrong for the file or
 /// failed, unless the disk or the sink failed. With at most b + 1 such providers what it heard holds no
@@ -176,6 +176,35 @@ pub fn repairs_write_anew()
         (provider_at new.providers j).store_faults → ⊥) →
         (Rose old.sink_faults new.sink_faults → ⊥)
         → EndsInOrder RepairDue old new end ⊎ LosesRepair old new end }
+{}
+
+/// A scrub of status 0 or 15 has had every row of every place accepted, has told what differed, and each
+/// provider holds the columns of what was accepted; of each file for which at most b providers are wrong or
+/// failed, whatever is of the others, these are the very blocks. Where it is so of each file a scrub ends so,
+/// or finds no memory, unless a count of faults rose: the disk's, that of a provider's stores, or the sink's.
+/// Over any devices a scrub ends so, or finds no memory, or its store is not opened, with the cause, or it
+/// has found a row lost, unless a count of stores or of the sink rose.
+pub fn scrubs_sweep()
+    ensures done { (old new : Seen) (end : Ending) → Answers ScrubAll old new end → IsDone end
+        → IsScrubbed old new end }
+    ensures ends_well { (records : List Record) (old new : Seen) (end : Ending) (bytes : ℕ → List ℕ)
+        → Answers ScrubAll old new end →
+        IsKnown old records → (Rose old.disk_faults new.disk_faults → ⊥) →
+        ((j : ℕ) → j < (setup_in_effect records).n
+        → Rose (provider_at old.providers j).store_faults (provider_at new.providers j).store_faults → ⊥) →
+        (Rose old.sink_faults new.sink_faults → ⊥) →
+        AreSafe records old new bytes → (end.status ≡ 0) ⊎ (end.status ≡ 70) }
+    ensures right { (name bytes : List ℕ) (records : List Record) (file : File) (j : ℕ) (old new : Seen)
+        (end : Ending) →
+        Answers ScrubAll old new end → IsKnown old records → IsDone end → file_of records name ≡ Some file →
+        length bytes ≡ file.size → bad_seen records old new file bytes ≤ (setup_in_effect records).b
+        → j < (setup_in_effect records).n →
+        HoldsFile records new bytes file j }
+    ensures ends { (old new : Seen) (end : Ending) → Answers ScrubAll old new end →
+        ((j : ℕ) → Rose (provider_at old.providers j).store_faults
+        (provider_at new.providers j).store_faults → ⊥) →
+        (Rose old.sink_faults new.sink_faults → ⊥)
+        → EndsInOrder ScrubAll old new end ⊎ LosesScrub old new end }
 {}
 
 /// An upgrade of status 0 or 15 has given the journal its second version, with the same files in effect, and

@@ -6,17 +6,18 @@ ghost use Rattle.record_defs.specs.Journal.{text_size};
 ghost use Rattle.record_defs.specs.Table.{version_of, next_id, files_of};
 ghost use Rattle.machine_defs.specs.Openings.{IsNotSetUp};
 ghost use Rattle.machine_defs.specs.States.{State};
-ghost use Rattle.command_defs.specs.Forms.{InitWith, PutUnder, PutAt, GetOf, ListAll, AuditAll, RepairDue, UpgradeJournal, RowOf};
+ghost use Rattle.command_defs.specs.Forms.{InitWith, PutUnder, PutAt, GetOf, ListAll, AuditAll, RepairDue, UpgradeJournal, ScrubAll, RowOf};
 ghost use Rattle.command_defs.specs.Lines.{list_lines};
 ghost use Rattle.command_defs.specs.Opens.{setup_in_effect};
 ghost use Rattle.command_defs.specs.Refusals.{is_crowded_by};
 ghost use Rattle.command_defs.specs.Seen.{NoCountFalls};
 ghost use Rattle.command_defs.specs.Commands.{Answers, IsUsage};
 ghost use Rattle.job_laws.specs.Failing.{bad_seen};
+ghost use Rattle.command_laws.specs.Ends.{AreSafe};
 ghost use Rattle.command_laws.specs.After.{IsSure, Follows, HasRightFile, IsUntouched, IsSteady, IsFaultless};
 ghost use Rattle.command_laws.specs.Opened.{IsKeyed};
 ghost use Rattle.command_laws.specs.Pieces.{IsStore, IsLater, IsChain};
-ghost use Rattle.command_laws.specs.Instances.{store, small_setup, small_numbers, key_devices, ready_store, put_store, held_name, held_file, other_name, set_up_records, held_records, upgraded_records, own_records, due_records, audited_store, repaired_store, upgraded_store, own_store, empty_devices, failed_devices, with_sink, ends, get_held, get_other};
+ghost use Rattle.command_laws.specs.Instances.{store, small_setup, small_numbers, key_devices, ready_store, put_store, held_name, held_file, other_name, set_up_records, held_records, upgraded_records, own_records, due_records, audited_store, repaired_store, upgraded_store, own_store, scrubbed_store, empty_devices, failed_devices, with_sink, ends, get_held, get_other};
 
 /// A store that was set up, one with one empty file, one with a repair due, one whose journal has its second
 /// version and one with a file that has a profile of its own are known, in each image of the disk. The file
@@ -32,7 +33,9 @@ pub fn there_are_known_stores()
     ensures file { HasRightFile (store held_records) held_records held_name [] (λ j. false) }
     ensures none_bad { bad_seen held_records (store held_records) (store held_records) held_file []
         ≤ (setup_in_effect held_records).b }
-    ensures between { Follows ready_store (store set_up_records) × Follows put_store (store held_records) }
+    ensures safe { AreSafe held_records (store held_records) scrubbed_store (λ id. []) }
+    ensures between { Follows ready_store (store set_up_records) × Follows put_store (store held_records)
+        × Follows scrubbed_store (store held_records) }
     ensures faultless { IsFaultless (store set_up_records) put_store
         × IsFaultless (store held_records) (store held_records) }
     ensures follows { Follows (store held_records) (store held_records)
@@ -51,7 +54,7 @@ pub fn there_are_known_stores()
 /// that are no command with 2. Over a store with no file an audit is done, and a repair that was due. An
 /// upgrade is done over a store that was set up, and over the upgraded one a put with a profile of its own; a
 /// profile that there is none of, one in a journal of the first version, and a second upgrade are refused.
-/// Two gets are a chain.
+/// A scrub is done over the store with the file, of which nothing differs. Two gets are a chain.
 pub fn there_are_answers()
     ensures got { Answers (GetOf held_name) (store held_records) (store held_records) (ends 0) }
     ensures missing { Answers (GetOf other_name) (store held_records) (store held_records) (ends 3) }
@@ -67,6 +70,7 @@ pub fn there_are_answers()
     ensures repair { Answers RepairDue (store due_records) repaired_store (ends 0) }
     ensures upgrade { Answers UpgradeJournal (store set_up_records) upgraded_store (ends 0) }
     ensures own_put { Answers (PutAt held_name 1) (store upgraded_records) own_store (ends 0) }
+    ensures scrub { Answers ScrubAll (store held_records) scrubbed_store (ends 0) }
     ensures bad_profile { Answers (PutAt held_name 5) (store set_up_records) (store set_up_records)
         (ends 20) }
     ensures old_version { Answers (PutAt held_name 1) (store set_up_records) (store set_up_records)

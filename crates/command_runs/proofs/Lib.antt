@@ -16,6 +16,13 @@ pub mod DoneUpgrade
 pub mod CutUpgrade
 pub mod OwnPut
 pub mod FailedRepair
+pub mod ScrubValues
+pub mod Scrubbing
+pub mod ScrubSteps
+pub mod DoneScrub
+pub mod SweptScrub
+pub mod LostScrub
+pub mod LaterGet
 pub mod DoneGet
 pub mod Meets
 pub mod OtherPut

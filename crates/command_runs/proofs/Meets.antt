@@ -15,7 +15,8 @@ use Rattle.job_laws.specs.Failing.{bad_seen}
 use Rattle.command_laws.proofs.FilesStay.{bad-few}
 use Rattle.command_laws.proofs.Samples.{never-rises}
 use Rattle.command_runs.proofs.Shape.{first_of}
-use Rattle.command_runs.specs.Devices.{named, byte_records, byte_audited_records, byte_repaired_records, to_put_other, byte_stored, damaged, due, repaired, mended, got, all_hidden, none_hold, three_hold, all_hold, repair_cut, byte_kept, byte_upgraded_records, to_put_own, stored_own}
+use Rattle.command_runs.proofs.ScrubValues.{altered-right}
+use Rattle.command_runs.specs.Devices.{named, byte_records, byte_audited_records, byte_repaired_records, to_put_other, byte_stored, damaged, due, repaired, mended, got, all_hidden, none_hold, three_hold, all_hold, repair_cut, byte_kept, byte_upgraded_records, to_put_own, stored_own, altered_block, two_damaged, scrubbed, scrub_failed, swept, robbed_later, got_later, all_lost, found_lost}
 use Rattle.damage_run.specs.Points.{counts}
 use Rattle.damage_run.specs.Schedule.{byte}
 use Rattle.command_laws.specs.Instances.{other_name}
@@ -192,6 +193,105 @@ few-bad = within _ (bad-few named byte byte_audited_records second due repaired 
 -- the names differ
 pub other-name : other_name ≢ named
 other-name e = (let f : 98 ≡ 97 = ap first_of e in omega (arith, f))
+
+-- ---- the store of which two blocks are damaged
+
+altered_held : is_wrong (object_of four 1) byte 0
+    (λ stripe. if (1 == 1) && (stripe == 0) then Some altered_block else None) ≡ false
+unfolding is_wrong
+altered_held = rw altered-right refl
+
+right-two : (j : ℕ) → j < 4 → second j ≡ false → is_wrong_at byte_records two_damaged kept byte j ≡ false
+right-two zero l s = altered_held
+right-two (suc zero) l s = right_held 1
+right-two (suc (suc zero)) l s = (let e : true ≡ false = s in absurd (cc e))
+right-two (suc (suc (suc zero))) l s = right_held 3
+right-two (suc (suc (suc (suc j)))) l s = absurd (omega (arith, l))
+
+-- a provider with one symbol altered is right for the file, and one whose block is lost is not
+pub two-file : HasRightFile two_damaged byte_records named byte second
+two-file = record {
+  file = kept;
+  in_effect = refl;
+  are_bytes = refl;
+  size = refl;
+  right = right-two;
+}
+
+-- each provider tells what it holds
+pub two-tell : (j : ℕ) → j < 4 → is_some (provider_at two_damaged.providers j).held ≡ true
+two-tell zero l = refl
+two-tell (suc zero) l = refl
+two-tell (suc (suc zero)) l = refl
+two-tell (suc (suc (suc zero))) l = refl
+two-tell (suc (suc (suc (suc j)))) l = absurd (omega (arith, l))
+
+-- the scrub raises no count of failed calls
+pub scrub-steady : IsSteady 4 second two_damaged scrubbed
+scrub-steady zero l s rose = never-rises 0 (omega arith) rose
+scrub-steady (suc zero) l s rose = never-rises 0 (omega arith) rose
+scrub-steady (suc (suc zero)) l s rose = never-rises 0 (omega arith) rose
+scrub-steady (suc (suc (suc zero))) l s rose = never-rises 0 (omega arith) rose
+scrub-steady (suc (suc (suc (suc j)))) l s rose = absurd (omega (arith, l))
+
+-- nor does the get after it
+pub later-steady : IsSteady 4 first robbed_later got_later
+later-steady zero l s rose = never-rises 0 (omega arith) rose
+later-steady (suc zero) l s rose = never-rises 0 (omega arith) rose
+later-steady (suc (suc zero)) l s rose = never-rises 0 (omega arith) rose
+later-steady (suc (suc (suc zero))) l s rose = never-rises 0 (omega arith) rose
+later-steady (suc (suc (suc (suc j)))) l s rose = absurd (omega (arith, l))
+
+-- nor does the scrub of the store of which one block is lost
+pub swept-steady : IsSteady 4 second damaged swept
+swept-steady zero l s rose = never-rises 0 (omega arith) rose
+swept-steady (suc zero) l s rose = never-rises 0 (omega arith) rose
+swept-steady (suc (suc zero)) l s rose = never-rises 0 (omega arith) rose
+swept-steady (suc (suc (suc zero))) l s rose = never-rises 0 (omega arith) rose
+swept-steady (suc (suc (suc (suc j)))) l s rose = absurd (omega (arith, l))
+
+-- behind it only provider 0 changed
+pub swept-untouched : IsUntouched 4 first swept robbed_later
+swept-untouched zero l s = (let e : true ≡ false = s in absurd (cc e))
+swept-untouched (suc zero) l s = refl
+swept-untouched (suc (suc zero)) l s = refl
+swept-untouched (suc (suc (suc zero))) l s = refl
+swept-untouched (suc (suc (suc (suc j)))) l s = absurd (omega (arith, l))
+
+-- in between only provider 0 changed
+pub later-untouched : IsUntouched 4 first scrubbed robbed_later
+later-untouched zero l s = (let e : true ≡ false = s in absurd (cc e))
+later-untouched (suc zero) l s = refl
+later-untouched (suc (suc zero)) l s = refl
+later-untouched (suc (suc (suc zero))) l s = refl
+later-untouched (suc (suc (suc (suc j)))) l s = absurd (omega (arith, l))
+
+-- nor does the one whose store fails
+pub failed_scrub-steady : IsSteady 4 second two_damaged scrub_failed
+failed_scrub-steady zero l s rose = never-rises 0 (omega arith) rose
+failed_scrub-steady (suc zero) l s rose = never-rises 0 (omega arith) rose
+failed_scrub-steady (suc (suc zero)) l s rose = never-rises 0 (omega arith) rose
+failed_scrub-steady (suc (suc (suc zero))) l s rose = never-rises 0 (omega arith) rose
+failed_scrub-steady (suc (suc (suc (suc j)))) l s rose = absurd (omega (arith, l))
+
+-- at most one provider is wrong for it, or failed
+pub few-damaged : bad_seen byte_records two_damaged scrubbed kept byte ≤ 1
+unfolding two-file
+few-damaged = within _ (bad-few named byte byte_records second two_damaged scrubbed two-file
+    (λ j below clean rose. scrub-steady j below clean rose))
+  where
+    within : (n : ℕ) → n ≤ 1 → n ≤ 1
+    within n l = l
+
+-- no store of a scrub that finds a row lost fails
+pub lost-steady : (j : ℕ) →
+    Rose (provider_at all_lost.providers j).store_faults (provider_at found_lost.providers j).store_faults →
+    ⊥
+lost-steady zero rose = never-rises 0 (omega arith) rose
+lost-steady (suc zero) rose = never-rises 0 (omega arith) rose
+lost-steady (suc (suc zero)) rose = never-rises 0 (omega arith) rose
+lost-steady (suc (suc (suc zero))) rose = never-rises 0 (omega arith) rose
+lost-steady (suc (suc (suc (suc j)))) rose = never-rises 0 (omega arith) rose
 
 -- ---- the upgraded store
 

@@ -1,4 +1,4 @@
--- Over accepted records there is a state just opened, and the job runs from there.
+-- Over accepted records there is a state just opened, and the job or the scrub runs from there.
 use Rattle.std.proofs.Common.{ℕ, List, Option}
 use Rattle.device_defs.specs.Providers.{Provider}
 use Rattle.record_defs.specs.Records.{Record}
@@ -11,8 +11,9 @@ use Rattle.command_defs.specs.Seen.{Seen}
 use Rattle.command_defs.specs.Opens as opens
 use Rattle.opening_defs.specs.Opened.{IsOpenedOver, IsOpenAtRest}
 use Rattle.command_defs.specs.Jobs.{RunsAlone}
+use Rattle.command_defs.specs.Scrubs.{ScrubsAlone}
 use Rattle.command_laws.specs.After.{IsSure}
-use Rattle.command_runs.specs.Lone.{RunsSomewhere}
+use Rattle.command_runs.specs.Lone.{RunsSomewhere, ScrubsSomewhere}
 
 abbrev pub Opened : Type 0
 Opened = (w : State) (old : Seen) (records : List Record) (faults : ℕ) → opens.IsOpened old records →
@@ -28,6 +29,20 @@ pub somewhere : Opened → ThereIsOne →
     (heard : List Entry) → IsSure old records → RunsAlone records kind own answer old new heard →
     RunsSomewhere kind own answer heard
 somewhere opened one records kind own answer old new heard sure alone =
+    (let R = sure.known.opened in
+    let w = one records alone.faults old.providers R.read.accepted in
+    let ran = alone.ran w.0 0 w.1 in
+    record {
+      start = w.0;
+      last = ran.last;
+      opened = opened w.0 old records alone.faults R w.1;
+      runs = ran.runs;
+    })
+
+-- so does a scrub
+pub scrubs-somewhere : Opened → ThereIsOne → (records : List Record) (answer : Answer) (old new : Seen) →
+    IsSure old records → ScrubsAlone records answer old new → ScrubsSomewhere answer
+scrubs-somewhere opened one records answer old new sure alone =
     (let R = sure.known.opened in
     let w = one records alone.faults old.providers R.read.accepted in
     let ran = alone.ran w.0 0 w.1 in

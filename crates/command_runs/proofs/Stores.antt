@@ -2,7 +2,7 @@
 use Rattle.std.proofs.Common.{refl, arith}
 use Rattle.command_defs.specs.Opens.{IsOpened}
 use Rattle.command_laws.specs.After.{IsSure}
-use Rattle.command_runs.specs.Devices.{four_records, started_records, byte_records, dropped_records, byte_audited_records, byte_repaired_records, both_records, to_put_other, stored_other, all_hidden, to_put, byte_stored, put_failed, put_cut, put_unmade, byte_kept, dropped, all_lost, found_lost, due_lost, repair_lost, damaged, byte_audited, due, repaired, repair_failed, mended, got, drop_cut, audit_cut, repair_cut, byte_upgraded_records, byte_own_records, byte_upgraded, upgrade_cut, upgraded_kept, to_put_own, stored_own}
+use Rattle.command_runs.specs.Devices.{four_records, started_records, byte_records, dropped_records, byte_audited_records, byte_repaired_records, both_records, to_put_other, stored_other, all_hidden, to_put, byte_stored, put_failed, put_cut, put_unmade, byte_kept, dropped, all_lost, found_lost, due_lost, repair_lost, damaged, byte_audited, due, repaired, repair_failed, mended, got, drop_cut, audit_cut, repair_cut, byte_upgraded_records, byte_own_records, byte_upgraded, upgrade_cut, upgraded_kept, to_put_own, stored_own, two_damaged, scrubbed, scrub_failed, swept, robbed_later, got_later}
 use Rattle.command_runs.proofs.Shape.{AreFit, sure}
 
 four-fit : AreFit four_records
@@ -84,6 +84,30 @@ robbed_due-old = sure due_lost byte_audited_records audited-fit refl (omega arit
 -- the store after the repair that found a row lost is sure, and the repair is still due
 pub lost_due-new : IsSure repair_lost byte_audited_records
 lost_due-new = sure repair_lost byte_audited_records audited-fit refl (omega arith)
+
+-- the store of which two blocks are damaged is sure
+pub two_damaged-sure : IsSure two_damaged byte_records
+two_damaged-sure = sure two_damaged byte_records byte-fit refl (omega arith)
+
+-- so it is after its scrub
+pub scrubbed-new : IsSure scrubbed byte_records
+scrubbed-new = sure scrubbed byte_records byte-fit refl (omega arith)
+
+-- and after the scrub of the store of which one block is lost
+pub swept-new : IsSure swept byte_records
+swept-new = sure swept byte_records byte-fit refl (omega arith)
+
+-- before a get after either
+pub robbed_later-sure : IsSure robbed_later byte_records
+robbed_later-sure = sure robbed_later byte_records byte-fit refl (omega arith)
+
+-- and after that get
+pub got_later-new : IsSure got_later byte_records
+got_later-new = sure got_later byte_records byte-fit refl (omega arith)
+
+-- and after the scrub whose store failed
+pub scrub_failed-new : IsSure scrub_failed byte_records
+scrub_failed-new = sure scrub_failed byte_records byte-fit refl (omega arith)
 
 -- the store of which one block is lost is sure
 pub damaged-sure : IsSure damaged byte_records

@@ -13,7 +13,7 @@
 --   holds j                           == a provider that holds its own block of the file, and nothing else
 --   with_source, with_sink            == what is seen, with these bytes in the source or in the sink
 --   done                              == an end of status 0 that heard nothing
-use Rattle.std.specs.Prelude.{ℕ, true, ◌++◌, List, [], ◌∷◌, replicate, Option, Some, None}
+use Rattle.std.specs.Prelude.{ℕ, true, ◌++◌, List, [], ◌∷◌, replicate, slice_set, Option, Some, None}
 use Rattle.std.specs.Option.{option_map}
 use Rattle.column_defs.specs.Columns.{columns}
 use Rattle.column_defs.specs.Objects.{Object}
@@ -30,7 +30,7 @@ use Rattle.machine_defs.specs.Heard.{Entry}
 use Rattle.machine_defs.specs.Examples.{empty_provider}
 use Rattle.record_defs.specs.Examples.{four}
 use Rattle.command_defs.specs.Forms.{Numbers}
-use Rattle.command_defs.specs.Lines.{stored_line, dropped_line, audit_lines, repaired_line, upgraded_line}
+use Rattle.command_defs.specs.Lines.{stored_line, dropped_line, audit_lines, repaired_line, upgraded_line, scrub_lines}
 use Rattle.command_defs.specs.Seen.{Seen, Ending}
 use Rattle.command_laws.specs.Instances.{with_sink, other_name}
 use Rattle.damage_run.specs.Schedule.{byte}
@@ -264,6 +264,63 @@ abbrev pub got : Seen
 got = with_sink (reading_devices byte_repaired_records
     (fetched (fetched (holds 0)) ∷ fetched (fetched (holds 1))
     ∷ fetched (given_block 2 (fetched empty_provider)) ∷ fetched (fetched (holds 3)) ∷ [])) byte
+
+-- ---- a symbol of provider 0 is altered and the block of provider 2 lost: a scrub mends both, or fails
+
+-- the block of provider 0, with its first symbol altered
+abbrev pub altered_block : List ℕ
+altered_block = slice_set (own_block 0) 0 5
+
+-- a provider that holds it
+abbrev pub holds_altered : Provider
+holds_altered = record empty_provider { held = option_map (with_block 1 0 altered_block) empty_provider.held }
+
+-- before the scrub: the file is in effect
+abbrev pub two_damaged : Seen
+two_damaged = reading_devices byte_records (holds_altered ∷ holds 1 ∷ empty_provider ∷ holds 3 ∷ [])
+
+-- the symbols and the blocks that differ, of each provider: one symbol of one, and all six of another
+abbrev pub symbols_off : List ℕ
+symbols_off = 1 ∷ 0 ∷ 6 ∷ 0 ∷ []
+
+-- the blocks
+abbrev pub blocks_off : List ℕ
+blocks_off = 1 ∷ 0 ∷ 1 ∷ 0 ∷ []
+
+-- the scrub is done: all providers were fetched from, and the two have their blocks again
+abbrev pub scrubbed : Seen
+scrubbed = with_sink (reading_devices byte_records
+    (given_block 0 (fetched holds_altered) ∷ fetched (holds 1) ∷ given_block 2 (fetched empty_provider)
+    ∷ fetched (holds 3) ∷ [])) (scrub_lines 1 symbols_off blocks_off)
+
+-- its store on provider 0 failed
+abbrev pub scrub_failed : Seen
+scrub_failed = reading_devices byte_records
+    (failed_store (fetched holds_altered) ∷ fetched (holds 1) ∷ fetched empty_provider ∷ fetched (holds 3)
+    ∷ [])
+
+-- a scrub of the store in which provider 2 has lost its block is done
+abbrev pub swept : Seen
+swept = with_sink (reading_devices byte_records mended_hold)
+    (scrub_lines 1 (0 ∷ 0 ∷ 6 ∷ 0 ∷ []) (0 ∷ 0 ∷ 1 ∷ 0 ∷ []))
+
+-- before a get after either: by then provider 0 has lost its block
+abbrev pub robbed_later : Seen
+robbed_later = reading_devices byte_records
+    (fetched empty_provider ∷ fetched (holds 1) ∷ given_block 2 (fetched empty_provider) ∷ fetched (holds 3)
+    ∷ [])
+
+-- that get is done, and the byte is in the sink
+abbrev pub got_later : Seen
+got_later = with_sink (reading_devices byte_records
+    (fetched (fetched empty_provider) ∷ fetched (fetched (holds 1))
+    ∷ fetched (given_block 2 (fetched empty_provider)) ∷ fetched (fetched (holds 3)) ∷ [])) byte
+
+-- it heard the own blocks of the others
+abbrev pub later_heard : List Entry
+later_heard =
+    heard (Fetched 0 1 0 None) ∷ heard (Fetched 1 1 0 (Some (own_block 1)))
+    ∷ heard (Fetched 2 1 0 (Some (own_block 2))) ∷ heard (Fetched 3 1 0 (Some (own_block 3))) ∷ []
 
 -- the right answer of a provider to the one challenge
 abbrev pub right_reply : ℕ → Option ℕ

@@ -7,20 +7,20 @@ ghost use Rattle.column_defs.specs.Verdicts.{is_flagged};
 ghost use Rattle.device_defs.specs.Cells.{firm};
 ghost use Rattle.record_defs.specs.Records.{Record, is_setup};
 ghost use Rattle.machine_defs.specs.Jobs.{PutJob, GetJob, DropJob, AuditJob, RepairJob, UpgradeJob};
-ghost use Rattle.machine_defs.specs.Answers.{Put, Got, Dropped, Audited, Repaired, Upgraded, Lost, ProviderFault, DiskFault, Memory};
+ghost use Rattle.machine_defs.specs.Answers.{Put, Got, Dropped, Audited, Repaired, Upgraded, Scrubbed, Lost, ProviderFault, DiskFault, Memory};
 ghost use Rattle.machine_defs.specs.Refusals.{RepairDue as DueRefusal, NothingDue, BadProfile, OldVersion, NewVersion};
-ghost use Rattle.command_defs.specs.Forms.{PutUnder, GetOf, DropOf, ListAll, RepairDue as RepairCommand, UpgradeJournal};
+ghost use Rattle.command_defs.specs.Forms.{PutUnder, GetOf, DropOf, ListAll, RepairDue as RepairCommand, UpgradeJournal, ScrubAll};
 ghost use Rattle.command_defs.specs.Keys.{IsKeyForm};
 ghost use Rattle.opening_defs.specs.Journals.{journal_read, IsBadStart, IsBadInit, IsSetUpAlready};
 ghost use Rattle.command_defs.specs.Inits.{setup_with};
 ghost use Rattle.command_defs.specs.Lines.{stored_line, upgraded_line};
 ghost use Rattle.command_defs.specs.Refusals.{refusal_over};
 ghost use Rattle.command_defs.specs.Audits.{HearsRounds, CountsHeard};
-ghost use Rattle.command_laws.specs.Ends.{IsKnown, IsWholePut, IsDropped, IsAudited, IsRepaired, IsUpgraded, FaultsHaveCauses, EndsInOrder, GivesUnlessMemory, HoldsFile, put_refusal, ran_to, after_put, after_audit, after_repair, after_upgrade};
-ghost use Rattle.command_laws.specs.Kept.{FailsToPut, FailsToRepair, LosesFile, LosesRepair, LeavesImages, after_start};
+ghost use Rattle.command_laws.specs.Ends.{IsKnown, IsWholePut, IsDropped, IsAudited, IsRepaired, IsUpgraded, IsScrubbed, FaultsHaveCauses, EndsInOrder, GivesUnlessMemory, HoldsFile, put_refusal, ran_to, after_put, after_audit, after_repair, after_upgrade};
+ghost use Rattle.command_laws.specs.Kept.{FailsToPut, FailsToRepair, FailsToScrub, LosesFile, LosesRepair, LosesScrub, LeavesImages, after_start};
 ghost use Rattle.command_laws.specs.After.{IsSure, IsThen, HasRightFile};
-ghost use Rattle.command_runs.specs.Lone.{RunsSomewhere};
-ghost use Rattle.command_runs.specs.Devices.{with_source, named, four_records, byte_records, byte_audited_records, good_numbers, bad_numbers, to_put, byte_stored, put_failed, put_cut, put_torn, put_gone, drop_cut, audit_cut, repair_cut, byte_kept, dropped, all_lost, found_lost, due_lost, repair_lost, no_blocks, damaged, byte_audited, answers_heard, due, repaired, repair_failed, mended, got, own_blocks_heard, seen_after_drop, disk_failed, scrambled, all_hidden, hidden_fetched, both_records, stored_other, byte_upgraded_records, byte_own_records, byte_upgraded, upgrade_cut, to_put_own, stored_own, ends_at, ends_hearing};
+ghost use Rattle.command_runs.specs.Lone.{RunsSomewhere, ScrubsSomewhere};
+ghost use Rattle.command_runs.specs.Devices.{with_source, named, four_records, byte_records, byte_audited_records, good_numbers, bad_numbers, to_put, byte_stored, put_failed, put_cut, put_torn, put_gone, drop_cut, audit_cut, repair_cut, byte_kept, dropped, all_lost, found_lost, due_lost, repair_lost, no_blocks, damaged, byte_audited, answers_heard, due, repaired, repair_failed, mended, got, own_blocks_heard, seen_after_drop, disk_failed, scrambled, all_hidden, hidden_fetched, both_records, stored_other, byte_upgraded_records, byte_own_records, byte_upgraded, upgrade_cut, to_put_own, stored_own, two_damaged, symbols_off, blocks_off, scrubbed, scrub_failed, robbed_later, got_later, later_heard, ends_at, ends_hearing};
 ghost use Rattle.damage_run.specs.Points.{counts};
 ghost use Rattle.damage_run.specs.Schedule.{byte};
 ghost use Rattle.command_laws.specs.Instances.{key_text, other_name, ends};
@@ -32,7 +32,7 @@ use command_laws::after::{
 use command_laws::ends::{
     audits_count_what_they_hear, drops_take_the_file_away, faults_have_causes, gets_give_the_file,
     own_profiles_are_taken, puts_store_the_source, refusals_are_exact, repairs_write_anew,
-    unopened_stores_are_told, upgrades_end_well,
+    scrubs_sweep, unopened_stores_are_told, upgrades_end_well,
 };
 use command_laws::inits::{init_refusals_are_exact, lists_give_the_files};
 use command_laws::kept::{failed_stores_leave, images_stand, lost_rows_are_told};
@@ -51,6 +51,9 @@ pub fn jobs_leave_what_is_said()
     ensures lost_repair { LosesRepair due_lost repair_lost (ends 4) }
     ensures upgrade { IsUpgraded byte_kept byte_upgraded (ends 0) }
     ensures own_put { IsWholePut other_name (Some 1) to_put_own stored_own (ends 0) }
+    ensures scrub { IsScrubbed two_damaged scrubbed (ends 0) }
+    ensures failed_scrub { FailsToScrub two_damaged scrub_failed (ends_at 13 0) }
+    ensures lost_scrub { LosesScrub all_lost found_lost (ends 4) }
 {
     puts_store_the_source();
     drops_take_the_file_away();
@@ -59,6 +62,7 @@ pub fn jobs_leave_what_is_said()
     failed_stores_leave();
     lost_rows_are_told();
     upgrades_end_well();
+    scrubs_sweep();
 }
 
 /// The upgrade of the store with the file is not refused, tells its text, and ends in order; the store stays
@@ -107,6 +111,8 @@ pub fn statuses_have_their_causes()
     ensures hidden_repair { EndsInOrder RepairCommand all_hidden all_hidden (ends 7)
         ⊎ LosesRepair all_hidden all_hidden (ends 7) }
     ensures hidden_list { EndsInOrder ListAll all_hidden all_hidden (ends 0) }
+    ensures lost_scrub { EndsInOrder ScrubAll all_lost found_lost (ends 4)
+        ⊎ LosesScrub all_lost found_lost (ends 4) }
 {
     faults_have_causes();
     unopened_stores_are_told();
@@ -116,6 +122,7 @@ pub fn statuses_have_their_causes()
     puts_store_the_source();
     repairs_write_anew();
     lists_give_the_files();
+    scrubs_sweep();
 }
 
 /// The causes of the refusals of an init.
@@ -131,7 +138,7 @@ pub fn inits_have_their_causes()
 /// After a command that a fault of the disk cut off the store is known, also past a stop, be its last record
 /// then in effect or not. Where the end of a put is found in effect the file is whole; where that of a repair
 /// is, the flagged provider is right; where that of an audit is, it has counted what it heard. After a put
-/// whose store failed the records are those before, with its start.
+/// whose store failed the records are those before, with its start; after such a scrub they are those before.
 pub fn cut_commands_leave_known_stores()
     ensures gone { (after : List Record) × IsKnown put_gone after
         × IsThen (PutUnder named) four_records to_put put_torn after }
@@ -151,6 +158,7 @@ pub fn cut_commands_leave_known_stores()
         answers_heard) 1 0 counts }
     ensures images { LeavesImages (PutUnder named) to_put put_torn }
     ensures failed { IsSure put_failed (after_start four_records named) }
+    ensures scrub { IsSure scrub_failed byte_records }
 {
     stores_stay_known();
     files_stay();
@@ -160,17 +168,20 @@ pub fn cut_commands_leave_known_stores()
 }
 
 /// A put, an audit that finds the lost block, a repair that writes it anew, and a get that gives the file:
-/// also where another provider is spoilt by then. After a drop a get ends with 3.
+/// also where another provider is spoilt by then. After the scrub, with another's block lost by then, a get
+/// gives the file. After a drop a get ends with 3.
 pub fn damage_is_mended()
     ensures repaired { GivesUnlessMemory byte mended got (ends_hearing 0 own_blocks_heard) }
     ensures mended { GivesUnlessMemory byte mended got (ends_hearing 0 own_blocks_heard) }
+    ensures scrubbed { GivesUnlessMemory byte robbed_later got_later (ends_hearing 0 later_heard) }
+    ensures swept { GivesUnlessMemory byte robbed_later got_later (ends_hearing 0 later_heard) }
     ensures dropped { ((ends 3).status ≡ 3) ⊎ ((ends 3).status ≡ 70) }
 {
     put_files_are_got();
 }
 
-/// Files stay right: after the put, an audit, a put of another file and the repair; and what the audit counts
-/// it has heard.
+/// Files stay right: after the put, an audit, a put of another file, the repair, and a scrub, done or failed;
+/// and what the audit counts it has heard.
 pub fn files_stay_right()
     ensures put { HasRightFile byte_stored (after_put four_records named 1 None) named byte (λ j. false) }
     ensures audit { HasRightFile byte_audited byte_audited_records named byte (λ j. j == 2) }
@@ -178,6 +189,8 @@ pub fn files_stay_right()
     ensures repair { HasRightFile repaired
         (after_repair byte_audited_records (record { number = 1; counts = counts })) named byte
         (λ j. (j == 2) && not (is_flagged 0 counts j)) }
+    ensures scrub { HasRightFile scrubbed byte_records named byte (λ j. false) }
+    ensures failed_scrub { HasRightFile scrub_failed byte_records named byte (λ j. j == 2) }
     ensures heard { HearsRounds (ran_to (after_audit byte_records 0 counts) byte_records damaged
         byte_audited answers_heard) 1
         × CountsHeard (ran_to (after_audit byte_records 0 counts) byte_records damaged byte_audited
@@ -187,14 +200,19 @@ pub fn files_stay_right()
     audits_in_effect_count_what_they_heard();
 }
 
-/// The repair wrote the very block, since no more than one provider was wrong; and the get over what it left
-/// is complete.
+/// The repair wrote the very block, since no more than one provider was wrong, and so did the scrub, also
+/// where a symbol was altered; and the get over what the repair left is complete.
 pub fn few_bad_providers_do_no_harm()
     ensures rewritten { HoldsFile byte_audited_records repaired byte
+        (record { name = named; id = 1; size = 1; profile = 0 }) 2 }
+    ensures altered { HoldsFile byte_records scrubbed byte
+        (record { name = named; id = 1; size = 1; profile = 0 }) 0 }
+    ensures scrubbed { HoldsFile byte_records scrubbed byte
         (record { name = named; id = 1; size = 1; profile = 0 }) 2 }
     ensures complete { GivesUnlessMemory byte mended got (ends_hearing 0 own_blocks_heard) }
 {
     repairs_write_anew();
+    scrubs_sweep();
     gets_tell_what_stands();
 }
 
@@ -214,6 +232,16 @@ pub fn jobs_run_alone()
     ensures failed_repair { RunsSomewhere RepairJob None (ProviderFault 2) [] }
     ensures upgrade { RunsSomewhere UpgradeJob None Upgraded [] }
     ensures own_put { RunsSomewhere (PutJob other_name byte) (Some 1) Put [] }
+{
+    opened_states();
+}
+
+/// There is a state just opened from which a scrub runs to its end: done, with a failed store, and at a lost
+/// row.
+pub fn scrubs_run_alone()
+    ensures done { ScrubsSomewhere (Scrubbed 1 symbols_off blocks_off) }
+    ensures failed { ScrubsSomewhere (ProviderFault 0) }
+    ensures lost { ScrubsSomewhere (Lost 0 0) }
 {
     opened_states();
 }

@@ -1,7 +1,7 @@
 //! Commands over devices that run a job, given outright.
-ghost use Rattle.command_defs.specs.Forms.{PutUnder, PutAt, GetOf, DropOf, AuditAll, RepairDue, UpgradeJournal};
+ghost use Rattle.command_defs.specs.Forms.{PutUnder, PutAt, GetOf, DropOf, AuditAll, RepairDue, UpgradeJournal, ScrubAll};
 ghost use Rattle.command_defs.specs.Commands.{Answers};
-ghost use Rattle.command_runs.specs.Devices.{named, all_hidden, hidden_fetched, to_put_other, stored_other, ends_hearing, to_put, byte_stored, put_failed, put_cut, put_torn, put_unmade, drop_cut, audit_cut, repair_cut, byte_kept, dropped, all_lost, found_lost, due_lost, repair_lost, no_blocks, damaged, byte_audited, answers_heard, due, repaired, repair_failed, mended, got, own_blocks_heard, byte_upgraded, upgrade_cut, to_put_own, stored_own, ends_at};
+ghost use Rattle.command_runs.specs.Devices.{named, all_hidden, hidden_fetched, to_put_other, stored_other, ends_hearing, to_put, byte_stored, put_failed, put_cut, put_torn, put_unmade, drop_cut, audit_cut, repair_cut, byte_kept, dropped, all_lost, found_lost, due_lost, repair_lost, no_blocks, damaged, byte_audited, answers_heard, due, repaired, repair_failed, mended, got, own_blocks_heard, byte_upgraded, upgrade_cut, to_put_own, stored_own, two_damaged, scrubbed, scrub_failed, swept, robbed_later, got_later, later_heard, ends_at};
 ghost use Rattle.command_laws.specs.Instances.{other_name, ends};
 
 /// Puts: one that is done; one whose first store fails; two that a fault of the disk cuts off at their last
@@ -9,7 +9,9 @@ ghost use Rattle.command_laws.specs.Instances.{other_name, ends};
 /// another file; and one over devices that tell nothing. A drop, done and cut off. A get of the file, and two
 /// that find a row lost. An audit that finds a lost block, done and cut off. A repair that writes it anew,
 /// done and cut off, one whose store fails, and one that finds a row lost. An upgrade, done and cut off, and
-/// after it a put with a profile of its own.
+/// after it a put with a profile of its own. A scrub that mends two providers, one that mends one, one whose
+/// store fails, and one that finds a row lost; and a get after a scrub, where another provider has lost its
+/// block.
 pub fn commands_end()
     ensures put { Answers (PutUnder named) to_put byte_stored (ends 0) }
     ensures failed_put { Answers (PutUnder named) to_put put_failed (ends 13) }
@@ -29,6 +31,11 @@ pub fn commands_end()
     ensures repair { Answers RepairDue due repaired (ends 0) }
     ensures failed_repair { Answers RepairDue due repair_failed (ends_at 13 2) }
     ensures get { Answers (GetOf named) mended got (ends_hearing 0 own_blocks_heard) }
+    ensures scrub { Answers ScrubAll two_damaged scrubbed (ends 0) }
+    ensures swept { Answers ScrubAll damaged swept (ends 0) }
+    ensures failed_scrub { Answers ScrubAll two_damaged scrub_failed (ends_at 13 0) }
+    ensures lost_scrub { Answers ScrubAll all_lost found_lost (ends 4) }
+    ensures later_get { Answers (GetOf named) robbed_later got_later (ends_hearing 0 later_heard) }
     ensures upgrade { Answers UpgradeJournal byte_kept byte_upgraded (ends 0) }
     ensures cut_upgrade { Answers UpgradeJournal byte_kept upgrade_cut (ends 12) }
     ensures own_put { Answers (PutAt other_name 1) to_put_own stored_own (ends 0) }

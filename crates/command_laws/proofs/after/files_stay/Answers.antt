@@ -1,6 +1,7 @@
 use Rattle.command_laws.proofs.JobEnds.{put-answers}
 use Rattle.command_laws.proofs.FilesStay.{put-has, next-has}
 use Rattle.command_laws.proofs.FilesKept.{reads-have, refused-has, others-have, repair-has}
+use Rattle.command_laws.proofs.ScrubFiles.{scrub-has, scrub-keeps}
 use Rattle.command_laws.proofs.PutInEffect.{put-in-effect}
 use Rattle.command_laws.proofs.RepairInEffect.{repair-in-effect}
 use Rattle.command_laws.proofs.after.files_stay.Goals as goal
@@ -34,3 +35,11 @@ returns-clause-repair c name bytes records due spoilt old new end A done K is_du
 pub returns-clause-repair_in_effect : goal.returns-clause-repair_in_effect
 returns-clause-repair_in_effect c name bytes records due spoilt old new next end A S is_due N F H steady few tells =
     repair-in-effect name bytes records due spoilt old new next end S is_due N F H steady few tells A.0
+
+pub returns-clause-scrub : goal.returns-clause-scrub
+returns-clause-scrub c name bytes records spoilt untold old new end A done K H steady few tells =
+    scrub-has name bytes records spoilt untold old new end A.0 done K H steady few tells
+
+pub returns-clause-scrub_harms_none : goal.returns-clause-scrub_harms_none
+returns-clause-scrub_harms_none c name bytes records spoilt old new end A K H steady few =
+    scrub-keeps name bytes records spoilt old new end K H steady few A.0

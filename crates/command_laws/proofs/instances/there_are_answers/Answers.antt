@@ -3,6 +3,7 @@ use Rattle.command_laws.proofs.PutSample.{put}
 use Rattle.command_laws.proofs.AuditSample.{audit}
 use Rattle.command_laws.proofs.RepairSample.{repair}
 use Rattle.command_laws.proofs.UpgradeSample.{upgrade, upgraded-twice}
+use Rattle.command_laws.proofs.ScrubSample.{scrub}
 use Rattle.command_laws.proofs.OwnSample.{own-put, old-refused, unknown-refused}
 use Rattle.command_laws.proofs.InitSample.{init, keyed}
 use Rattle.command_laws.proofs.instances.there_are_answers.Goals as goal
@@ -45,3 +46,6 @@ returns-clause-old_version c = old-refused
 
 pub returns-clause-new_version : goal.returns-clause-new_version
 returns-clause-new_version c = upgraded-twice
+
+pub returns-clause-scrub : goal.returns-clause-scrub
+returns-clause-scrub c = scrub

@@ -1,7 +1,7 @@
 use Rattle.std.proofs.Common.{refl, inl, arith}
 use Rattle.command_laws.specs.Instances.{store, held_records}
 use Rattle.command_laws.proofs.Between.{sure-store}
-use Rattle.command_laws.proofs.Samples.{never-rises, never-seen, set_up-sure, held-sure, held-file, none-bad}
+use Rattle.command_laws.proofs.Samples.{never-rises, never-seen, set_up-sure, held-sure, held-file, none-bad, all-safe}
 use Rattle.command_laws.proofs.RepairSample.{due-sure}
 use Rattle.command_laws.proofs.UpgradeSample.{upgraded-sure}
 use Rattle.command_laws.proofs.OwnSample.{own-sure}
@@ -33,8 +33,11 @@ pub returns-clause-due : goal.returns-clause-due
 returns-clause-due c = due-sure
 
 pub returns-clause-between : goal.returns-clause-between
-returns-clause-between c =
-    (record { disk = inl refl; handed = refl }, record { disk = inl refl; handed = refl })
+returns-clause-between c = (
+  record { disk = inl refl; handed = refl },
+  record { disk = inl refl; handed = refl },
+  record { disk = inl refl; handed = refl },
+)
 
 pub returns-clause-faultless : goal.returns-clause-faultless
 returns-clause-faultless c = (
@@ -57,3 +60,6 @@ returns-clause-upgraded c = upgraded-sure
 
 pub returns-clause-own : goal.returns-clause-own
 returns-clause-own c = own-sure
+
+pub returns-clause-safe : goal.returns-clause-safe
+returns-clause-safe c = all-safe

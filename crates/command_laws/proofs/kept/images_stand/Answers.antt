@@ -1,4 +1,4 @@
-use Rattle.command_laws.proofs.Images.{keeps-same, refused-keeps, store-images, known-images, init-images, init-kept}
+use Rattle.command_laws.proofs.Images.{keeps-same, refused-keeps, store-images, scrub-disk, scrub-images, known-images, init-images, init-kept}
 use Rattle.command_laws.proofs.kept.images_stand.Goals as goal
 
 pub returns-clause-refused : goal.returns-clause-refused
@@ -18,3 +18,6 @@ returns-clause-init c = init-images
 
 pub returns-clause-init_known : goal.returns-clause-init_known
 returns-clause-init_known c = init-kept
+
+pub returns-clause-scrub : goal.returns-clause-scrub
+returns-clause-scrub c old new end A = (scrub-disk old new end A.0, scrub-images old new end A.0)

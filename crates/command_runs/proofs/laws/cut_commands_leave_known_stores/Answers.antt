@@ -1,6 +1,6 @@
 use Rattle.std.proofs.Common.{None, refl, inl, inr, false, arith}
 use Rattle.command_defs.specs.Forms.{PutUnder, DropOf, UpgradeJournal}
-use Rattle.command_runs.specs.Devices.{named, four_records, byte_records, byte_audited_records, to_put, put_failed, put_cut, put_torn, put_gone, byte_kept, drop_cut, damaged, audit_cut, answers_heard, due, repair_cut, upgrade_cut, ends_hearing}
+use Rattle.command_runs.specs.Devices.{named, four_records, byte_records, byte_audited_records, to_put, put_failed, put_cut, put_torn, put_gone, byte_kept, drop_cut, damaged, audit_cut, answers_heard, due, repair_cut, upgrade_cut, two_damaged, scrub_failed, ends_hearing, ends_at}
 use Rattle.damage_run.specs.Points.{counts}
 use Rattle.damage_run.specs.Schedule.{byte}
 use Rattle.command_laws.specs.Instances.{ends}
@@ -10,8 +10,9 @@ use Rattle.command_runs.proofs.CutAudit.{answers as cut_audit}
 use Rattle.command_runs.proofs.CutRepair.{answers as cut_repair}
 use Rattle.command_runs.proofs.CutUpgrade.{answers as cut_upgrade}
 use Rattle.command_runs.proofs.FailedPut.{answers as failed_put}
+use Rattle.command_runs.proofs.DoneScrub.{fails-answers as failed_scrub}
 use Rattle.command_runs.proofs.Torn.{stopped-closed, stopped-open}
-use Rattle.command_runs.proofs.Stores.{put-old, cut-new, stored-sure, damaged-sure, due-sure, audit_cut-new, repair_cut-new}
+use Rattle.command_runs.proofs.Stores.{put-old, cut-new, stored-sure, damaged-sure, due-sure, audit_cut-new, repair_cut-new, two_damaged-sure}
 use Rattle.command_runs.proofs.Meets.{second, none-tell, three-tell, due-file, cut-steady}
 use Rattle.command_runs.proofs.laws.cut_commands_leave_known_stores.Goals as goal
 
@@ -60,3 +61,8 @@ pub returns-clause-failed : goal.returns-clause-failed
 returns-clause-failed c =
     c.done_commands_leave_known_stores.ensures.failed_put named None four_records to_put put_failed
     (ends 13) failed_put refl put-old.known
+
+pub returns-clause-scrub : goal.returns-clause-scrub
+returns-clause-scrub c =
+    c.done_commands_leave_known_stores.ensures.scrub byte_records two_damaged scrub_failed
+    (ends_at 13 0) failed_scrub (inr (inr refl)) two_damaged-sure.known

@@ -3,7 +3,7 @@ use Rattle.machine_defs.specs.Jobs.{PutJob, AuditJob}
 use Rattle.command_defs.specs.Forms.{PutUnder, AuditAll}
 use Rattle.command_defs.specs.Puts.{put_records}
 use Rattle.command_defs.specs.Audits.{audit_records}
-use Rattle.command_runs.specs.Devices.{named, four_records, byte_records, both_records, byte_audited_records, to_put, byte_stored, to_put_other, stored_other, damaged, byte_audited, answers_heard, due, repaired, ends_hearing}
+use Rattle.command_runs.specs.Devices.{named, four_records, byte_records, both_records, byte_audited_records, to_put, byte_stored, to_put_other, stored_other, damaged, byte_audited, answers_heard, due, repaired, two_damaged, scrubbed, scrub_failed, ends_hearing, ends_at}
 use Rattle.damage_run.specs.Points.{counts}
 use Rattle.damage_run.specs.Schedule.{byte}
 use Rattle.command_laws.specs.Instances.{other_name, ends}
@@ -11,8 +11,9 @@ use Rattle.command_runs.proofs.StoredPut.{answers as put}
 use Rattle.command_runs.proofs.DoneAudit.{answers as audit}
 use Rattle.command_runs.proofs.DoneRepair.{answers as repair}
 use Rattle.command_runs.proofs.OtherPut.{answers as other_put}
-use Rattle.command_runs.proofs.Stores.{put-old, damaged-sure, audited-new, due-sure, to_put_other-sure}
-use Rattle.command_runs.proofs.Meets.{second, none-tell, three-tell, due-file, damaged-file, kept-file, repair-steady, other-name}
+use Rattle.command_runs.proofs.DoneScrub.{answers as scrub, fails-answers as failed_scrub}
+use Rattle.command_runs.proofs.Stores.{put-old, damaged-sure, audited-new, due-sure, to_put_other-sure, two_damaged-sure}
+use Rattle.command_runs.proofs.Meets.{second, none-tell, three-tell, due-file, damaged-file, kept-file, repair-steady, other-name, two-file, two-tell, scrub-steady, failed_scrub-steady}
 use Rattle.command_runs.proofs.laws.files_stay_right.Goals as goal
 
 pub returns-clause-put : goal.returns-clause-put
@@ -61,3 +62,13 @@ returns-clause-heard c =
     c.audits_in_effect_count_what_they_heard.ensures byte_records 0 counts damaged byte_audited byte_audited
     (ends_hearing 0 answers_heard) audit damaged-sure
     (record { disk = inl refl; handed = refl }) audited-new.known
+
+pub returns-clause-scrub : goal.returns-clause-scrub
+returns-clause-scrub c = c.files_stay.ensures.scrub named byte byte_records second (λ j. false) two_damaged
+    scrubbed (ends 0) scrub (inl refl) two_damaged-sure.known two-file scrub-steady (omega arith)
+    (λ j l s. two-tell j l)
+
+pub returns-clause-failed_scrub : goal.returns-clause-failed_scrub
+returns-clause-failed_scrub c = c.files_stay.ensures.scrub_harms_none named byte byte_records second
+    two_damaged scrub_failed (ends_at 13 0) failed_scrub two_damaged-sure.known two-file failed_scrub-steady
+    (omega arith)

@@ -1,5 +1,5 @@
 use Rattle.std.proofs.Common.{Some, None, refl, inl}
-use Rattle.command_runs.specs.Devices.{named, to_put, byte_stored, put_failed, byte_kept, dropped, all_lost, found_lost, due_lost, repair_lost, no_blocks, damaged, byte_audited, answers_heard, due, repaired, repair_failed, byte_upgraded, to_put_own, stored_own, ends_at, ends_hearing}
+use Rattle.command_runs.specs.Devices.{named, to_put, byte_stored, put_failed, byte_kept, dropped, all_lost, found_lost, due_lost, repair_lost, no_blocks, damaged, byte_audited, answers_heard, due, repaired, repair_failed, byte_upgraded, to_put_own, stored_own, two_damaged, scrubbed, scrub_failed, ends_at, ends_hearing}
 use Rattle.command_laws.specs.Instances.{other_name, ends}
 use Rattle.command_runs.proofs.StoredPut.{answers as put}
 use Rattle.command_runs.proofs.DoneDrop.{answers as drop}
@@ -11,6 +11,8 @@ use Rattle.command_runs.proofs.LostGet.{answers as lost_get}
 use Rattle.command_runs.proofs.LostRepair.{answers as lost_repair}
 use Rattle.command_runs.proofs.DoneUpgrade.{answers as upgrade}
 use Rattle.command_runs.proofs.OwnPut.{answers as own_put}
+use Rattle.command_runs.proofs.DoneScrub.{answers as scrub, fails-answers as failed_scrub}
+use Rattle.command_runs.proofs.LostScrub.{answers as lost_scrub}
 use Rattle.command_runs.proofs.laws.jobs_leave_what_is_said.Goals as goal
 
 pub returns-clause-put : goal.returns-clause-put
@@ -51,3 +53,13 @@ returns-clause-upgrade c = c.upgrades_end_well.ensures.done byte_kept byte_upgra
 pub returns-clause-own_put : goal.returns-clause-own_put
 returns-clause-own_put c =
     c.puts_store_the_source.ensures.done other_name (Some 1) to_put_own stored_own (ends 0) own_put (inl refl)
+
+pub returns-clause-scrub : goal.returns-clause-scrub
+returns-clause-scrub c = c.scrubs_sweep.ensures.done two_damaged scrubbed (ends 0) scrub (inl refl)
+
+pub returns-clause-failed_scrub : goal.returns-clause-failed_scrub
+returns-clause-failed_scrub c =
+    c.failed_stores_leave.ensures.scrub two_damaged scrub_failed (ends_at 13 0) failed_scrub refl
+
+pub returns-clause-lost_scrub : goal.returns-clause-lost_scrub
+returns-clause-lost_scrub c = c.lost_rows_are_told.ensures.scrub all_lost found_lost (ends 4) lost_scrub refl

@@ -6,7 +6,7 @@ use Rattle.machine_defs.specs.Jobs.{AuditJob, RepairJob, UpgradeJob}
 use Rattle.machine_defs.specs.Refusals as refusal
 use Rattle.command_defs.specs.Forms.{PutUnder, ListAll}
 use Rattle.command_laws.proofs.Samples.{never-rises}
-use Rattle.command_runs.specs.Devices.{named, four_records, byte_records, byte_audited_records, byte_upgraded_records, to_put, put_failed, put_unmade, byte_kept, upgraded_kept, due, disk_failed, scrambled, all_hidden, hidden_fetched, no_blocks, ends_hearing}
+use Rattle.command_runs.specs.Devices.{named, four_records, byte_records, byte_audited_records, byte_upgraded_records, to_put, put_failed, put_unmade, byte_kept, upgraded_kept, due, disk_failed, scrambled, all_hidden, hidden_fetched, no_blocks, all_lost, found_lost, ends_hearing}
 use Rattle.damage_run.specs.Schedule.{byte}
 use Rattle.command_laws.specs.Instances.{with_sink, other_name, ends}
 use Rattle.command_runs.proofs.FailedPut.{answers as failed_put}
@@ -14,7 +14,8 @@ use Rattle.command_runs.proofs.Stores.{put-old, stored-sure, due-sure, upgraded_
 use Rattle.command_runs.proofs.Refusals.{disk-fault, source-fault, sink-fault, bad-journal, repair-due, nothing-due, bad-profile, old-version, new-version, lost-row, hidden-get, hidden-list, hidden-repair}
 use Rattle.command_runs.proofs.HiddenPut.{answers as hidden_put}
 use Rattle.command_runs.proofs.HiddenGet.{answers as hidden_get}
-use Rattle.command_runs.proofs.Meets.{none-rises}
+use Rattle.command_runs.proofs.LostScrub.{answers as lost_scrub}
+use Rattle.command_runs.proofs.Meets.{none-rises, lost-steady}
 use Rattle.command_runs.proofs.laws.statuses_have_their_causes.Goals as goal
 
 pub returns-clause-disk : goal.returns-clause-disk
@@ -83,3 +84,7 @@ returns-clause-hidden_lost c = c.gets_give_the_file.ensures.ends named all_hidde
 pub returns-clause-hidden_repair : goal.returns-clause-hidden_repair
 returns-clause-hidden_repair c = c.repairs_write_anew.ensures.ends all_hidden all_hidden
     (ends 7) hidden-repair (never-rises 0 (omega arith)) none-rises (never-rises 0 (omega arith))
+
+pub returns-clause-lost_scrub : goal.returns-clause-lost_scrub
+returns-clause-lost_scrub c = c.scrubs_sweep.ensures.ends all_lost found_lost (ends 4) lost_scrub lost-steady
+    (never-rises 0 (omega arith))

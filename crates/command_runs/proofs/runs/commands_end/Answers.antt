@@ -19,6 +19,10 @@ use Rattle.command_runs.proofs.CutRepair.{answers as cut_repair}
 use Rattle.command_runs.proofs.DoneUpgrade.{answers as upgraded}
 use Rattle.command_runs.proofs.CutUpgrade.{answers as cut_upgrade}
 use Rattle.command_runs.proofs.OwnPut.{answers as own_put}
+use Rattle.command_runs.proofs.DoneScrub.{answers as scrub_done, fails-answers as scrub_fails}
+use Rattle.command_runs.proofs.SweptScrub.{answers as scrub_swept}
+use Rattle.command_runs.proofs.LostScrub.{answers as scrub_lost}
+use Rattle.command_runs.proofs.LaterGet.{answers as later_get}
 use Rattle.command_runs.proofs.runs.commands_end.Goals as goal
 
 pub returns-clause-put : goal.returns-clause-put
@@ -83,3 +87,18 @@ returns-clause-cut_upgrade c = cut_upgrade
 
 pub returns-clause-own_put : goal.returns-clause-own_put
 returns-clause-own_put c = own_put
+
+pub returns-clause-scrub : goal.returns-clause-scrub
+returns-clause-scrub c = scrub_done
+
+pub returns-clause-failed_scrub : goal.returns-clause-failed_scrub
+returns-clause-failed_scrub c = scrub_fails
+
+pub returns-clause-lost_scrub : goal.returns-clause-lost_scrub
+returns-clause-lost_scrub c = scrub_lost
+
+pub returns-clause-later_get : goal.returns-clause-later_get
+returns-clause-later_get c = later_get
+
+pub returns-clause-swept : goal.returns-clause-swept
+returns-clause-swept c = scrub_swept
