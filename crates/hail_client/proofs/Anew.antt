@@ -32,13 +32,13 @@ use Rattle.vault.specs.Stands.{Stands}
 use Rattle.hail_client.specs.declared.client.Client.{Client}
 use Rattle.hail_client.specs.declared.fault.ReopenFault.{ReopenFault}
 use Rattle.hail_client.specs.declared.fault.ReopenFault.TheVariants as reopen_fault
-use Rattle.hail_client.specs.Client.{client_next_job}
+use Rattle.hail_client.specs.Client.{client_next_job, with_vault, without_vault}
 use Rattle.hail_client.specs.Outcomes.{start_refusal, reopen_outcome, UnlessBadJournal}
 use Rattle.hail_client.specs.Start.{provider_or_empty}
-use Rattle.hail_client.specs.Stands.{StandsClosed, IsMadeAnew, IsStanding, OpensOver}
+use Rattle.hail_client.specs.Stands.{StandsClosed, StandsBy, IsMadeAnew, IsStanding, OpensOver}
 use Rattle.hail_client.proofs.Held.{zeros, zeros-held}
 use Rattle.hail_client.proofs.Fresh.{each-at}
-use Rattle.hail_client.proofs.Reopened.{without_vault, stands-opened, count-is, has-setup, opened}
+use Rattle.hail_client.proofs.Reopened.{stands-opened, count-is, has-setup, opened}
 use Rattle.hail_client.proofs.Reopening.{WasOpened}
 use Rattle.vault_open.proofs.InitEvents.{err-is}
 
@@ -110,15 +110,15 @@ untold-images : (holds : Option Cells) (w : State) → holds ≡ None → Stands
 untold-images holds w is = subst (λ (o : Option Cells). StandsForState o w) (sym is) tt
 
 -- where no vault is open, client and devices stand for a state over no record
-pub closed-standing : (o : Option Vault) (next faults : ℕ) (ps : List Provider) (holds : Option Cells) →
-    is_some o ≡ false → holds ≡ None →
-    IsStanding (record { vault = o; next_job = next }) (devices holds faults ps)
-closed-standing (Some v) next faults ps holds none is = absurd (false≢true (sym none))
-closed-standing None next faults ps holds none is =
+pub closed-standing : (c : Client) (faults : ℕ) (ps : List Provider) (holds : Option Cells) →
+    is_some c.vault ≡ false → holds ≡ None → IsStanding c (devices holds faults ps)
+closed-standing c faults ps holds none is =
+    let start = closed-over [] c.next_job faults ps in
     record {
-      state = closed-over [] next faults ps;
-      stands = stands-over [] none-rests next faults ps holds
-          (untold-images holds (closed-over [] next faults ps) is);
+      state = start;
+      stands = subst (λ (o : Option Vault). StandsBy o c.scrub c.next_job (devices holds faults ps) start)
+          (sym (is_some-none c.vault none))
+          (stands-over [] none-rests c.next_job faults ps holds (untold-images holds start is));
     }
 
 -- ---- reopenings
@@ -234,7 +234,7 @@ module _ (told : Option Cells) (rs : List Record) (is_read : IsRead told rs) (v 
           )
 
       opened-anew : provider_count v ≤ length ps →
-          IsMadeAnew moment next Reopen events.Opened (record { vault = Some v; next_job = next })
+          IsMadeAnew moment next Reopen events.Opened (with_vault v next)
           (devices old f ps) (devices holds g ps)
       opened-anew enough = record {
         before = start;
@@ -291,12 +291,12 @@ module _ (c left : Client) (left_is : left ≡ without_vault (client_next_job c)
     -- a reopening with enough providers opens, as an event of some closed state
     pub enough-are : (v : Vault) → WasOpened v old new g left.next_job → provider_count v ≤ length ps →
         IsMadeAnew moment (client_next_job c) Reopen events.Opened
-        (record { vault = Some v; next_job = left.next_job }) (devices old f ps) (devices new g ps)
+        (with_vault v left.next_job) (devices old f ps) (devices new g ps)
     enough-are v was enough =
         (let all : WasOpened v old new g (client_next_job c) =
         subst (λ (x : Client). WasOpened v old new g x.next_job) left_is was in
         subst (λ (x : Client). IsMadeAnew moment (client_next_job c) Reopen events.Opened
-        (record { vault = Some v; next_job = x.next_job }) (devices old f ps) (devices new g ps))
+        (with_vault v x.next_job) (devices old f ps) (devices new g ps))
         (sym left_is)
         (opened-anew old all.0 all.1 v new g (client_next_job c) all.2 f ps moment old (is_some-none old none)
         (untold-goes IsResynced old new none goes) never enough))
@@ -305,12 +305,12 @@ module _ (c left : Client) (left_is : left ≡ without_vault (client_next_job c)
     pub left-standing : IsStanding left (devices new g ps)
     left-standing =
         subst (λ (x : Client). IsStanding x (devices new g ps)) (sym left_is)
-        (closed-standing None (client_next_job c) g ps new refl (untold-goes IsResynced old new none goes))
+        (closed-standing (without_vault (client_next_job c)) g ps new refl (untold-goes IsResynced old new none goes))
 
   -- a vault over enough providers stands for each state just opened over what was read, and there is one
   pub opens-over : (v : Vault) (handed : ℕ) → WasOpened v old new g left.next_job →
       provider_count v ≤ handed →
-      OpensOver old (client_next_job c) handed (record { vault = Some v; next_job = left.next_job }) new g
+      OpensOver old (client_next_job c) handed (with_vault v left.next_job) new g
   opens-over v handed was enough =
       (let all : WasOpened v old new g (client_next_job c) =
       subst (λ (x : Client). WasOpened v old new g x.next_job) left_is was in

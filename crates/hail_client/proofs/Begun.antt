@@ -16,7 +16,9 @@ use Rattle.vault_open.specs.Devices.{Devices, devices, AreDevices}
 use Rattle.vault_open.specs.Inits.{MayInit, MakesInit}
 use Rattle.vault_open.specs.Inits.{init_outcome}
 use Rattle.hail_client.specs.declared.client.Client.{Client}
+use Rattle.hail_client.specs.declared.scrub.ScrubJob.{ScrubJob}
 use Rattle.hail_client.specs.Stands.{StandsBy, ClientStands, MakesEvent}
+use Rattle.hail_client.proofs.Standing.{open-of}
 
 -- a vault is open or not as before, and job numbers go on
 abbrev Keeps : State → State → Type 0
@@ -58,11 +60,6 @@ inits-keep old new s true r h = absurd h
 -- ---- events
 
 module _ (w : State) (moment : ℕ) (s : Setup) (spelled : IsSpelled (Init s)) where
-  open-by : (o : Option Vault) (next : ℕ) (d : Devices) → is_some o ≡ true → StandsBy o next d w →
-      w.is_open ≡ true
-  open-by (Some v) next d some S = S.core.is_open
-  open-by None next d some S = absurd (false≢true some)
-
   -- while a vault is open
   pub init-open : (c : Client) (d : Devices) → is_some c.vault ≡ true → ClientStands c d w →
       MakesEvent w moment (Init s) (Refused refusal.Already) c d
@@ -70,17 +67,17 @@ module _ (w : State) (moment : ℕ) (s : Setup) (spelled : IsSpelled (Init s)) w
     state = w;
     spelled = spelled;
     happens = subst (λ b. Inits w s b (Refused refusal.Already) w)
-        (sym (open-by c.vault c.next_job d some S)) refl;
+        (sym (open-of c.vault c.scrub c.next_job d w S ∙ some)) refl;
     stands = S;
   }
 
-  init-by : (o : Option Vault) (next : ℕ) (old new : Option Cells) (f g : ℕ) (ps : List Provider)
+  init-by : (o : Option Vault) (scrub : Option ScrubJob) (next : ℕ) (old new : Option Cells) (f g : ℕ) (ps : List Provider)
       (result : Result Unit InitFault) → is_some o ≡ false → IsSome old →
       (MayInit w old → AreDevices (devices old f ps) w → MakesInit w moment s result (devices new g ps)) →
-      StandsBy o next (devices old f ps) w →
-      (M : MakesInit w moment s result (devices new g ps)) × StandsBy o next (devices new g ps) M.state
-  init-by (Some v) next old new f g ps result none told makes S = absurd (false≢true (sym none))
-  init-by None next old new f g ps result none told makes S =
+      StandsBy o scrub next (devices old f ps) w →
+      (M : MakesInit w moment s result (devices new g ps)) × StandsBy o scrub next (devices new g ps) M.state
+  init-by (Some v) scrub next old new f g ps result none told makes S = absurd (false≢true (sym none))
+  init-by None scrub next old new f g ps result none told makes S =
       (let M = makes (record { sound = S.sound; closed = S.closed; told_is = told }) S.devices in
       let k = inits-keep w M.state s w.is_open (init_outcome result) M.happens in (
         M,
@@ -100,5 +97,5 @@ module _ (w : State) (moment : ℕ) (s : Setup) (spelled : IsSpelled (Init s)) w
       ClientStands c (devices old f ps) w →
       MakesEvent w moment (Init s) (init_outcome result) c (devices new g ps)
   init-closed c old new f g ps result none told makes S =
-      (let M = init-by c.vault c.next_job old new f g ps result none told makes S in
+      (let M = init-by c.vault c.scrub c.next_job old new f g ps result none told makes S in
       record { state = M.0.state; spelled = spelled; happens = M.0.happens; stands = M.1 })

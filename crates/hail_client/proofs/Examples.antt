@@ -1,27 +1,38 @@
 -- The worked rows.
 use Rattle.std.proofs.Common.{◌≡◌, ℕ, zero, suc, [], ◌∷◌, replicate, codes, Some, None, refl, ap, sym, subst, ◌∙◌, inl, inr, arith}
-use Rattle.std.specs.Prelude.{slice_get, IsSome}
+use Rattle.std.specs.Prelude.{slice_get, slice_index, IsSome}
 use Rattle.std.proofs.lemmas.Bool.{cases_Bool, false≢true}
 use Rattle.device_defs.specs.Providers.{Provider}
 use Rattle.record_defs.specs.Journal.{text, StandsFor}
 use Rattle.record_defs.specs.Table.{File, is_same_name}
-use Rattle.machine_defs.specs.Events.{Names, Closed}
-use Rattle.machine_defs.specs.Examples.{empty_provider, one_file, hundred}
+use Rattle.column_defs.specs.Objects.{Object}
+use Rattle.machine_defs.specs.Alone.{new_scrub}
+use Rattle.machine_defs.specs.Events.{Names, Closed, BeginScrub, Begun}
+use Rattle.machine_defs.specs.Given.{pinned_profile}
+use Rattle.machine_defs.specs.Machine.{Happens}
+use Rattle.machine_defs.specs.Setups.{profiled, object_of}
+use Rattle.machine_defs.specs.Examples.{empty_provider, six, one_file, hundred}
 use Rattle.machine_defs.specs.Runs.{Moment}
-use Rattle.machine_defs.specs.States.{IsStart}
+use Rattle.machine_defs.specs.States.{IsStart, setup_in}
 use Rattle.machine_defs.specs.Stands.{IsFresh}
 use Rattle.machine_defs.specs.Survival.{IsKept}
 use Rattle.machine_defs.proofs.JobLists.{cond_true, cond_false}
 use Rattle.state_laws.specs.Follows.{AreHeld}
 use Rattle.state_laws.specs.Sound.{IsAtRest}
+use Rattle.state_laws.proofs.Events.{events-sound}
 use Rattle.state_laws.proofs.Resting.{rest-sound}
+use Rattle.hail_scrub.proofs.Starts.{hold_begins, held_stands}
+use Rattle.hail_scrub.specs.Stands.{ScrubIs, ScrubStands}
+use Rattle.vault.specs.declared.vault.Vault.{Vault}
+use Rattle.vault.specs.Stands.{StandsBeside}
+use Rattle.hail_client.specs.declared.client.Client.{Client}
 use Rattle.vault_open.specs.Devices.{AreDevices}
-use Rattle.hail_client.specs.Examples.{closed_client, fresh, hidden, stored, stored_state, notes}
+use Rattle.hail_client.specs.Examples.{closed_client, fresh, hidden, stored, stored_state, stored_open, stored_scrub, scrubbed_state, notes}
 use Rattle.hail_client.specs.Start.{start_of, TellAll}
 use Rattle.hail_client.specs.Stands.{ClientStands, IsReached}
 use Rattle.hail_client.proofs.Fresh.{is-start, are-devices, untold-start, each-at}
 use Rattle.hail_client.proofs.Settled.{firm-stands}
-use Rattle.hail_client.proofs.Standing.{start-stands}
+use Rattle.hail_client.proofs.Standing.{start-stands, stands-of}
 
 -- a disk that reads nothing is one before its first use
 pub fresh-is : IsFresh [] []
@@ -110,3 +121,68 @@ stored-stands = record {
 -- in that state the file is kept
 pub stored-kept : IsKept stored_state (codes "notes.txt") notes
 stored-kept = record { in_effect = refl; with_doubt = λ d is. absurd (let e : None ≡ Some d = is in cc) }
+
+-- ---- a scrub of that file
+
+open-rests : IsAtRest stored_open
+unfolding setup_in
+open-rests = record {
+  idle = (refl, refl, refl, refl);
+  undoubted = refl;
+  whole = record { journal = refl; area = refl; unswitched = refl };
+  accepted = (refl, (refl, (refl, tt)));
+  in_grammar = refl;
+  room = omega arith;
+  files = one-held;
+  set_up = λ is. refl;
+  handed = λ is. omega arith;
+}
+
+zero-at : (n j : ℕ) → 0 ≡ slice_index (replicate n 0) j
+zero-at zero j = refl
+zero-at (suc n) zero = refl
+zero-at (suc n) (suc j) = zero-at n j
+
+object-at : (k : ℕ) (x : Object) → slice_get stored_scrub.objects k ≡ Some x → object_of (profiled six 1) 1 ≡ x
+object-at zero x is = (let e : Some (object_of (profiled six 1) 1) ≡ Some x = is in cc)
+object-at (suc k) x is = absurd (let e : None ≡ Some x = is in cc)
+
+scrub-is : ScrubIs stored_scrub (setup_in stored_open) (new_scrub stored_open 0)
+unfolding setup_in
+scrub-is = record {
+  few = omega arith;
+  objects_are = λ k x is. subst (λ (y : Object). object_of (profiled six
+      (pinned_profile 1 (new_scrub stored_open 0).files y.id)) y.id ≡ y) (object-at k x is) refl;
+  todo_is = refl;
+  in_work = tt;
+  stripes_are = refl;
+  symbols_are = λ j below. zero-at 16 j;
+  blocks_are = λ j below. zero-at 16 j;
+  long_symbols = refl;
+  long_blocks = refl;
+}
+
+-- the scrub begins
+pub scrub-begins : Happens 8 0 stored_open BeginScrub (Begun 1) scrubbed_state
+scrub-begins = hold_begins stored_open 0 8 refl refl
+
+-- it runs alone behind its begin
+pub scrub-stands : ScrubStands stored_scrub stored.providers scrubbed_state (new_scrub stored_open 0)
+scrub-stands = held_stands stored_open 0 stored_scrub stored.providers
+    (record { count = refl; each = each-at stored.providers }) scrub-is
+
+-- a client that has begun it stands for that state
+pub scrubbing-stands : (c : Client) (v : Vault) → c.vault ≡ Some v →
+    c.scrub ≡ Some (record { number = 1; scrub = stored_scrub }) →
+    StandsBeside v stored (record stored_open { next_job = 2 }) 1 → ClientStands c stored scrubbed_state
+scrubbing-stands c v is some B =
+    stands-of c (Some v) (Some (record { number = 1; scrub = stored_scrub })) c.next_job is some refl stored
+    scrubbed_state
+    (record {
+      scrub = new_scrub stored_open 0;
+      number_is = refl;
+      beside = B;
+      stands = scrub-stands;
+      sound = events-sound 8 0 stored_open (rest-sound 8 stored_open open-rests) (omega arith, omega arith)
+          BeginScrub (Begun 1) scrubbed_state tt scrub-begins;
+    })

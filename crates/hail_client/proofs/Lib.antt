@@ -1,3 +1,6 @@
+pub mod Beside
+pub mod Scrubbed
+pub mod Scrubs
 pub mod Standing
 pub mod Made
 pub mod Replaced

@@ -1,102 +1,163 @@
 -- Begins, steps and lists of files, as events of the machine.
-use Rattle.std.proofs.Common.{◌≡◌, ℕ, ◌<◌, ◌^◌, false, List, Option, Some, None, Result, refl, sym, subst}
-use Rattle.std.specs.Prelude.{IfSome}
+use Rattle.std.proofs.Common.{◌≡◌, ℕ, ◌<◌, ◌^◌, ◌||◌, true, false, List, Option, Some, None, Result, Err, refl, ap, sym, subst, ◌∙◌, inl}
+use Rattle.std.specs.Prelude.{IfSome, OnErr, is_some}
+use Rattle.std.specs.List.{list_any}
 use Rattle.std.specs.Option.{option_map}
-use Rattle.machine_defs.specs.Events.{Begin, Step, Names, Closed, Ended, IsSpelledKind}
+use Rattle.machine_defs.specs.Begins.{BeginsAt, refusal_of_begin}
+use Rattle.machine_defs.specs.Events.{Begin, Names, Closed, Ended, IsSpelledKind}
 use Rattle.machine_defs.specs.Answers as answers
 use Rattle.machine_defs.specs.Steps.{Steps}
 use Rattle.journal_core.proofs.BeyondLemmas.{goes_still}
-use Rattle.machine_defs.specs.Events as events
+use Rattle.machine_defs.specs.Jobs.{Kind, PutJob, aim_of, job_of}
 use Rattle.machine_defs.specs.Heard.{heard_by}
-use Rattle.machine_defs.specs.Jobs.{Kind, PutJob, job_of}
-use Rattle.machine_defs.specs.States.{State}
 use Rattle.machine_defs.specs.Machine.{Lists}
+use Rattle.machine_defs.specs.Refusals as refusal
+use Rattle.machine_defs.specs.Sights.{sight_of, is_busy, is_upgrade, aims_of, are_jobs_in_the_way}
+use Rattle.machine_defs.specs.States.{State, Alone, Scrubbing}
+use Rattle.machine_defs.proofs.JobLists.{cond_true, cond_false}
 use Rattle.vault_core.specs.declared.wish.BeginFault.{BeginFault}
+use Rattle.vault_core.specs.declared.wish.BeginFault.TheVariants as fault
 use Rattle.vault_table.specs.Values.{Kept}
 use Rattle.vault.specs.declared.turn.Turn.{Turn}
 use Rattle.vault.specs.declared.vault.Vault.{Vault}
 use Rattle.vault_open.specs.Devices.{Devices}
-use Rattle.vault.specs.Outcomes.{IfEnded}
-use Rattle.vault.specs.Seen.{table_of}
+use Rattle.vault.specs.Outcomes.{IfEnded, begin_outcome}
+use Rattle.vault.specs.Seen.{table_of, held_by, IsUnchanged}
 use Rattle.vault.specs.Stands.{Stands, MakesBegin}
 use Rattle.vault.specs.Stands as vault
 use Rattle.hail_client.specs.declared.client.Client.{Client}
+use Rattle.hail_client.specs.declared.scrub.ScrubJob.{ScrubJob}
+use Rattle.hail_client.specs.declared.turn.ClientTurn.TheVariants as client_turn
 use Rattle.hail_client.specs.Begins.{put_event}
 use Rattle.hail_client.specs.Outcomes.{client_begin_outcome, names_outcome}
 use Rattle.hail_client.specs.Stands.{StandsBy, ClientStands, MakesEvent, ClientMakesStep}
+use Rattle.hail_client.proofs.Beside.{same-held}
+use Rattle.hail_client.proofs.Standing.{stands-of, parts-of, open-of, lists-of}
 
--- an open vault makes them
-pub begin-of : (c : Client) (v next : Vault) (kind : Kind) (result : Result ℕ BeginFault) → c.vault ≡ Some v →
-    IsSpelledKind kind → ((w : State) (d : Devices) (moment : ℕ) → Stands v d w →
-    MakesBegin w moment kind None result next d) →
-    (w : State) (d : Devices) (moment : ℕ) → ClientStands c d w →
-    MakesEvent w moment (Begin kind) (client_begin_outcome (Some result))
-    (record { vault = Some next; next_job = c.next_job }) d
-begin-of c v next kind result is spelled makes w d moment S =
-    (let M = makes w d moment (subst (λ (o : Option Vault). StandsBy o c.next_job d w) is S) in
-    record { state = M.state; spelled = spelled; happens = M.begins; stands = M.stands })
+-- beside what runs alone no job begins
+busy-alone : (w : State) (a : Alone) (kind : Kind) (own : Option ℕ) → w.is_barred ≡ false →
+    w.alone ≡ Some a → refusal_of_begin 8 w kind own ≡ Some refusal.Busy
+busy-alone w a kind own free alone =
+    cond_false w.is_barred _ _ free
+    ∙ cond_true (is_busy 8 (sight_of w) (aim_of kind)) _ _
+    (ap (λ (x : Option Alone). (is_some x || list_any is_upgrade (aims_of w.jobs))
+    || are_jobs_in_the_way 8 (aims_of w.jobs) (aim_of kind)) alone)
 
--- a begin of a put, of a file with a profile of its own where one is named
-pub put-of : (c : Client) (v next : Vault) (own : Option ℕ) (name bytes : List ℕ)
-    (result : Result ℕ BeginFault) → c.vault ≡ Some v → IfSome own (λ profile. profile < 256) →
-    IsSpelledKind (PutJob name bytes) → ((w : State) (d : Devices) (moment : ℕ) → Stands v d w →
-    MakesBegin w moment (PutJob name bytes) own result next d) →
-    (w : State) (d : Devices) (moment : ℕ) → ClientStands c d w →
-    MakesEvent w moment (put_event own name bytes) (client_begin_outcome (Some result))
-    (record { vault = Some next; next_job = c.next_job }) d
-put-of c v next None name bytes result is fits spelled makes w d moment S =
-    begin-of c v next (PutJob name bytes) result is spelled makes w d moment S
-put-of c v next (Some profile) name bytes result is fits spelled makes w d moment S =
-    (let M = makes w d moment (subst (λ (o : Option Vault). StandsBy o c.next_job d w) is S) in
-    record { state = M.state; spelled = (fits, spelled); happens = M.begins; stands = M.stands })
+module _ (c new : Client) (v next : Vault) (result : Result ℕ BeginFault) (is : c.vault ≡ Some v)
+    (new_is : new.vault ≡ Some next) (scrub_is : new.scrub ≡ c.scrub) (number_is : new.next_job ≡ c.next_job)
+    (busy : is_some (held_by v) ≡ true → result ≡ Err fault.Busy)
+    (unchanged : OnErr result (IsUnchanged v next)) where
+  -- a begin that was made, of a put also with a profile of its own
+  record WasBegun (w : State) (moment : ℕ) (kind : Kind) (own : Option ℕ) (d : Devices) : Type 0 where
+    state : State
+    begins : BeginsAt 8 moment w kind own (begin_outcome result) state
+    stands : ClientStands new d state
 
-module _ (c : Client) (v next : Vault) (number : ℕ) (turn : Turn) (old new : Devices) (is : c.vault ≡ Some v)
-    (makes : (w : State) (moment : ℕ) → Stands v old w →
-    vault.MakesStep w moment number turn next old new) where
+  begun-by : (o : Option ScrubJob) → c.scrub ≡ o → (kind : Kind) (own : Option ℕ) →
+      ((w : State) (d : Devices) (moment : ℕ) → Stands v d w → MakesBegin w moment kind own result next d) →
+      (w : State) (d : Devices) (moment : ℕ) → StandsBy (Some v) o c.next_job d w →
+      WasBegun w moment kind own d
+  begun-by None none kind own makes w d moment S =
+      (let M = makes w d moment S in
+      record {
+        state = M.state;
+        begins = M.begins;
+        stands = stands-of new (Some next) None c.next_job new_is (scrub_is ∙ none) number_is d M.state M.stands;
+      })
+  begun-by (Some job) some kind own makes w d moment S =
+      (let held : is_some (held_by v) ≡ true = ap is_some S.beside.held in
+      let is_busy : result ≡ Err fault.Busy = busy held in
+      record {
+        state = w;
+        begins = subst (λ (r : Result ℕ BeginFault). BeginsAt 8 moment w kind own (begin_outcome r) w)
+            (sym is_busy) (
+              S.beside.desk.core.is_open,
+              inl (busy-alone w (Scrubbing S.scrub) kind own S.beside.unbarred S.stands.alone),
+              refl,
+            );
+        stands = stands-of new (Some next) (Some job) c.next_job new_is (scrub_is ∙ some) number_is d w
+            (same-held v next job d w
+            (subst (λ (r : Result ℕ BeginFault). OnErr r (IsUnchanged v next)) is_busy unchanged) S);
+      })
+
+  begun : (kind : Kind) (own : Option ℕ) →
+      ((w : State) (d : Devices) (moment : ℕ) → Stands v d w → MakesBegin w moment kind own result next d) →
+      (w : State) (d : Devices) (moment : ℕ) → ClientStands c d w → WasBegun w moment kind own d
+  begun kind own makes w d moment S =
+      begun-by c.scrub refl kind own makes w d moment (parts-of c (Some v) c.scrub is refl d w S)
+
+  -- an open vault makes them
+  pub begin-of : (kind : Kind) → IsSpelledKind kind →
+      ((w : State) (d : Devices) (moment : ℕ) → Stands v d w → MakesBegin w moment kind None result next d) →
+      (w : State) (d : Devices) (moment : ℕ) → ClientStands c d w →
+      MakesEvent w moment (Begin kind) (client_begin_outcome (Some result)) new d
+  begin-of kind spelled makes w d moment S =
+      (let M = begun kind None makes w d moment S in
+      record { state = M.state; spelled = spelled; happens = M.begins; stands = M.stands })
+
+  -- a begin of a put, of a file with a profile of its own where one is named
+  pub put-of : (own : Option ℕ) (name bytes : List ℕ) → IfSome own (λ profile. profile < 256) →
+      IsSpelledKind (PutJob name bytes) → ((w : State) (d : Devices) (moment : ℕ) → Stands v d w →
+      MakesBegin w moment (PutJob name bytes) own result next d) →
+      (w : State) (d : Devices) (moment : ℕ) → ClientStands c d w →
+      MakesEvent w moment (put_event own name bytes) (client_begin_outcome (Some result)) new d
+  put-of None name bytes fits spelled makes w d moment S =
+      begin-of (PutJob name bytes) spelled makes w d moment S
+  put-of (Some profile) name bytes fits spelled makes w d moment S =
+      (let M = begun (PutJob name bytes) (Some profile) makes w d moment S in
+      record { state = M.state; spelled = (fits, spelled); happens = M.begins; stands = M.stands })
+
+module _ (c new : Client) (v next : Vault) (number : ℕ) (turn : Turn) (old d : Devices) (is : c.vault ≡ Some v)
+    (none : c.scrub ≡ None) where
   opened : (w : State) → ClientStands c old w → Stands v old w
-  opened w S = subst (λ (o : Option Vault). StandsBy o c.next_job old w) is S
+  opened w S = parts-of c (Some v) None is none old w S
 
   -- a step of an open client's vault is a step of the machine's job
-  pub step-of : number < 2 ^ 32 → (w : State) (moment : ℕ) → ClientStands c old w →
-      ClientMakesStep w moment number (Some turn) (record { vault = Some next; next_job = c.next_job }) old
-      new
-  step-of spelled w moment S = (let M = makes w moment (opened w S) in
+  pub step-of : new.vault ≡ Some next → new.scrub ≡ None →
+      ((w : State) (moment : ℕ) → Stands v old w → vault.MakesStep w moment number turn next old d) →
+      number < 2 ^ 32 → (w : State) (moment : ℕ) → ClientStands c old w →
+      ClientMakesStep w moment number (Some (client_turn.Job turn)) new old d
+  step-of new_is still makes spelled w moment S = (let M = makes w moment (opened w S) in
       record {
-        makes = record { state = M.state; spelled = spelled; happens = M.happens; stands = M.stands };
+        makes = record {
+          state = M.state;
+          spelled = spelled;
+          happens = M.happens;
+          stands = stands-of new (Some next) None new.next_job new_is still refl d M.state M.stands;
+        };
         beyond = M.beyond;
         torn = M.torn;
       })
 
   -- what a vault's job heard by its end is what the machine's job heard
-  pub heard-of : (w : State) → ClientStands c old w →
-      IfEnded turn (λ ended. ended.heard ≡ heard_by (job_of w.jobs number))
-  heard-of w S = (makes w 0 (opened w S)).heard
+  pub heard-of :
+      ((w : State) (moment : ℕ) → Stands v old w → vault.MakesStep w moment number turn next old d) →
+      (w : State) → ClientStands c old w → IfEnded turn (λ ended. ended.heard ≡ heard_by (job_of w.jobs number))
+  heard-of makes w S = (makes w 0 (opened w S)).heard
 
 -- none does where no vault is open
-closed-by : (o : Option Vault) (next : ℕ) (w : State) (d : Devices) → o ≡ None → StandsBy o next d w →
-    w.is_open ≡ false
-closed-by (Some v) next w d none S = absurd cc
-closed-by None next w d none S = S.closed
+closed-by : (c : Client) (w : State) (d : Devices) → c.vault ≡ None → ClientStands c d w → w.is_open ≡ false
+closed-by c w d none S =
+    open-of c.vault c.scrub c.next_job d w S ∙ ap (λ (o : Option Vault). is_some o) none
 
 -- a begin of a put by a client with no vault changes nothing
-pub put-closed : (c : Client) (own : Option ℕ) (name bytes : List ℕ) → c.vault ≡ None →
+pub put-closed : (c new : Client) (own : Option ℕ) (name bytes : List ℕ) → c.vault ≡ None →
+    new.vault ≡ c.vault → new.scrub ≡ c.scrub → new.next_job ≡ c.next_job →
     IfSome own (λ profile. profile < 256) → IsSpelledKind (PutJob name bytes) →
     (w : State) (d : Devices) (moment : ℕ) → ClientStands c d w →
-    MakesEvent w moment (put_event own name bytes) Closed c d
-put-closed c None name bytes none fits spelled w d moment S =
-    record {
-      state = w;
-      spelled = spelled;
-      happens = (closed-by c.vault c.next_job w d none S, refl);
-      stands = S;
-    }
-put-closed c (Some profile) name bytes none fits spelled w d moment S =
-    record {
-      state = w;
-      spelled = (fits, spelled);
-      happens = (closed-by c.vault c.next_job w d none S, refl);
-      stands = S;
-    }
+    MakesEvent w moment (put_event own name bytes) Closed new d
+put-closed c new None name bytes none vault scrub number fits spelled w d moment S = record {
+  state = w;
+  spelled = spelled;
+  happens = (closed-by c w d none S, refl);
+  stands = stands-of new c.vault c.scrub c.next_job vault scrub number d w S;
+}
+put-closed c new (Some profile) name bytes none vault scrub number fits spelled w d moment S = record {
+  state = w;
+  spelled = (fits, spelled);
+  happens = (closed-by c w d none S, refl);
+  stands = stands-of new c.vault c.scrub c.next_job vault scrub number d w S;
+}
 
 -- a step of a client with no vault is one of the machine that changes nothing
 pub step-closed : (c : Client) (number : ℕ) (d : Devices) → c.vault ≡ None → number < 2 ^ 32 →
@@ -105,19 +166,12 @@ step-closed c number d none spelled w moment S = record {
   makes = record {
     state = w;
     spelled = spelled;
-    happens = subst (λ b. Steps w number b Closed w) (sym (closed-by c.vault c.next_job w d none S)) refl;
+    happens = subst (λ b. Steps w number b Closed w) (sym (closed-by c w d none S)) refl;
     stands = S;
   };
   beyond = λ ended. goes_still _ d.holds d.holds refl;
   torn = λ ended. absurd (let e : Closed ≡ Ended answers.DiskFault = ended in cc);
 }
-
--- the files in effect are listed
-names-by : (o : Option Vault) (next : ℕ) (w : State) (d : Devices) → StandsBy o next d w →
-    Lists w w.is_open (names_outcome (option_map table_of o)) w
-names-by (Some v) next w d S = subst (λ b. Lists w b (events.Listed (table_of v).files) w)
-    (sym S.core.is_open) (S.core.table.files, refl)
-names-by None next w d S = subst (λ b. Lists w b Closed w) (sym S.closed) refl
 
 -- the files that a client lists are those of the machine
 pub names : (w : State) (moment : ℕ) (c : Client) (d : Devices) (tables : Option Kept) →
@@ -128,6 +182,6 @@ names w moment c d tables is S =
       state = w;
       spelled = tt;
       happens = subst (λ (t : Option Kept). Lists w w.is_open (names_outcome t) w) (sym is)
-          (names-by c.vault c.next_job w d S);
+          (lists-of c.vault c.scrub c.next_job d w S);
       stands = S;
     }

@@ -34,7 +34,7 @@ use Rattle.vault.specs.Seen.{provider_count}
 use Rattle.vault.specs.Stands.{Stands}
 use Rattle.state_laws.proofs.Written.{unpacked-end}
 use Rattle.vault_open.proofs.FirstVersion.{Shows, ShowsFirst, shows-first, unpacked-shown}
-use Rattle.hail_client.specs.declared.client.Client.{Client}
+use Rattle.hail_client.specs.Client.{with_vault, without_vault}
 use Rattle.hail_client.specs.Outcomes.{start_refusal}
 use Rattle.hail_client.specs.Start.{anyone}
 use Rattle.hail_client.specs.Stands.{StandsClosed, MakesEvent}
@@ -118,13 +118,9 @@ module _ (w : State) (rs : List Record) (sound : IsSound 8 w) (whole : IsUnpacke
         let enough : n ≤ length ps = omega (arith, e) in
         let S = stands-opened (λ j. anyone) ps
         (record { count = refl; each = λ j l. each-anyone n j (omega (arith, l, e)) }) enough in
-        sym (ap (λ (z : Setup). z.n) S.setup))
+        sym (ap (λ (z : Setup). z.n) S.desk.setup))
 
 -- ---- events
-
--- the client with its vault given up
-abbrev pub without_vault : ℕ → Client
-without_vault next = record { vault = None; next_job = next }
 
 module _ (w : State) (moment next : ℕ) (old : Cells) (f0 f1 : ℕ) (ps : List Provider) (sound : IsSound 8 w)
     (are : AreDevices (devices (Some old) f0 ps) w) (is_next : w.next_job ≡ next) (never : f0 ≤ f1) where
@@ -272,7 +268,7 @@ module _ (w : State) (moment next : ℕ) (old : Cells) (f0 f1 : ℕ) (ps : List 
 
     -- a start with enough providers is a reopening that the machine makes
     pub opened-event : provider_count v ≤ length ps →
-        MakesEvent w moment Reopen events.Opened (record { vault = Some v; next_job = next })
+        MakesEvent w moment Reopen events.Opened (with_vault v next)
         (devices new f1 ps)
     opened-event enough =
         (let count = are.providers.count in

@@ -24,12 +24,11 @@ use Rattle.opening_defs.specs.Opened.{IsJustOpened}
 use Rattle.hail_client.specs.declared.client.Client.{Client}
 use Rattle.hail_client.specs.declared.fault.ReopenFault.{ReopenFault}
 use Rattle.hail_client.specs.declared.fault.ReopenFault.TheVariants as reopen_fault
-use Rattle.hail_client.specs.Client.{client_next_job}
+use Rattle.hail_client.specs.Client.{client_next_job, with_vault, without_vault}
 use Rattle.hail_client.specs.Outcomes.{reopen_outcome}
 use Rattle.hail_client.specs.Stands.{ClientStands, MakesEvent}
 use Rattle.hail_client.proofs.Standing.{devices-of, sound-of, next-of}
 use Rattle.hail_client.proofs.Reopened as reopened
-use Rattle.hail_client.proofs.Reopened.{without_vault}
 use Rattle.vault_open.proofs.InitEvents.{err-is}
 
 -- records that a start read, and the vault that was opened over them
@@ -57,9 +56,9 @@ module _ (w : State) (moment : ℕ) (c left : Client) where
       (without_vault (client_next_job c)) (devices new g ps))
       (sym (err-is result (reopen_fault.NotOpened why) is))
       (reopened.fault-event w moment (client_next_job c) old f g ps
-      (sound-of c.vault c.next_job (devices (Some old) f ps) w S)
-      (devices-of c.vault c.next_job (devices (Some old) f ps) w S)
-      (next-of c.vault c.next_job (devices (Some old) f ps) w S) never new why goes cause lies rose))
+      (sound-of c.vault c.scrub c.next_job (devices (Some old) f ps) w S)
+      (devices-of c.vault c.scrub c.next_job (devices (Some old) f ps) w S)
+      (next-of c.vault c.scrub c.next_job (devices (Some old) f ps) w S) never new why goes cause lies rose))
 
   -- a client's reopening with too few providers is one that the machine refuses
   pub few-event : (old new : Option Cells) (f g : ℕ) (ps : List Provider) (v : Vault) → IsSome old →
@@ -74,24 +73,24 @@ module _ (w : State) (moment : ℕ) (c left : Client) where
       subst (λ (x : Client). MakesEvent w moment Reopen (Refused TooFewProviders) x (devices new g ps))
       (sym left_is)
       (reopened.few-event w moment (client_next_job c) old f g ps
-      (sound-of c.vault c.next_job (devices (Some old) f ps) w S)
-      (devices-of c.vault c.next_job (devices (Some old) f ps) w S)
-      (next-of c.vault c.next_job (devices (Some old) f ps) w S) never new all.0 all.1 is v all.2 few))
+      (sound-of c.vault c.scrub c.next_job (devices (Some old) f ps) w S)
+      (devices-of c.vault c.scrub c.next_job (devices (Some old) f ps) w S)
+      (next-of c.vault c.scrub c.next_job (devices (Some old) f ps) w S) never new all.0 all.1 is v all.2 few))
 
   -- a client's reopening with enough providers is one that the machine makes
   pub opened-event : (old new : Option Cells) (f g : ℕ) (ps : List Provider) (v : Vault) → IsSome old →
       left ≡ without_vault (client_next_job c) → WasOpened v old new g left.next_job →
       new ≡ option_map synced old →
       f ≤ g → provider_count v ≤ length ps → ClientStands c (devices old f ps) w →
-      MakesEvent w moment Reopen Opened (record { vault = Some v; next_job = left.next_job })
+      MakesEvent w moment Reopen Opened (with_vault v left.next_job)
       (devices new g ps)
   opened-event None new f g ps v told left_is opened is never enough S = absurd (false≢true told)
   opened-event (Some old) new f g ps v told left_is opened is never enough S =
       (let all : WasOpened v (Some old) new g (client_next_job c) =
       subst (λ (x : Client). WasOpened v (Some old) new g x.next_job) left_is opened in
       subst (λ (x : Client). MakesEvent w moment Reopen Opened
-      (record { vault = Some v; next_job = x.next_job }) (devices new g ps)) (sym left_is)
+      (with_vault v x.next_job) (devices new g ps)) (sym left_is)
       (reopened.opened-event w moment (client_next_job c) old f g ps
-      (sound-of c.vault c.next_job (devices (Some old) f ps) w S)
-      (devices-of c.vault c.next_job (devices (Some old) f ps) w S)
-      (next-of c.vault c.next_job (devices (Some old) f ps) w S) never new all.0 all.1 is v all.2 enough))
+      (sound-of c.vault c.scrub c.next_job (devices (Some old) f ps) w S)
+      (devices-of c.vault c.scrub c.next_job (devices (Some old) f ps) w S)
+      (next-of c.vault c.scrub c.next_job (devices (Some old) f ps) w S) never new all.0 all.1 is v all.2 enough))

@@ -5,23 +5,27 @@ use Rattle.std.specs.Option.{option_map}
 use Rattle.std.proofs.lemmas.Bool.{lt-ltb, le-ltb}
 use Rattle.device_defs.specs.Cells.{Cells}
 use Rattle.device_defs.specs.Providers.{Held, Provider}
+use Rattle.record_defs.specs.Records.{Setup}
 use Rattle.device_defs.specs.ProviderCalls.{Replaces}
 use Rattle.machine_defs.specs.Events.{Event, Outcome, IsSpelled, NothingHeld}
+use Rattle.machine_defs.specs.Alone.{unalone}
 use Rattle.machine_defs.specs.States.{State, setup_in, with_provider}
 use Rattle.machine_defs.specs.Replacements.{ReplacesAt, ReplacesIf}
 use Rattle.machine_defs.specs.Machine.{Happens}
-use Rattle.state_laws.specs.Sound.{IsSound}
 use Rattle.state_laws.proofs.Events.{devices-sound}
 use Rattle.vault.specs.declared.vault.Vault.{Vault}
 use Rattle.opening_defs.specs.Opened.{AreHanded}
 use Rattle.vault_open.specs.Devices.{devices}
-use Rattle.vault.specs.Stands.{Stands}
+use Rattle.vault.specs.declared.desk.Desk.{Desk}
+use Rattle.vault.specs.Desks.{DeskStands}
+use Rattle.hail_scrub.specs.Stands.{ScrubIs}
 use Rattle.vault.proofs.Ways.{handed_on, setup_same}
 use Rattle.hail_client.specs.declared.client.Client.{Client}
+use Rattle.hail_client.specs.declared.scrub.ScrubJob.{ScrubJob}
 use Rattle.hail_client.specs.Outcomes.{replace_outcome}
-use Rattle.hail_client.specs.Stands.{StandsBy, ClientStands, MakesEvent}
+use Rattle.hail_client.specs.Stands.{StandsBy, StandsHeld, ClientStands, MakesEvent}
 use Rattle.hail_client.proofs.Settled.{same-images}
-use Rattle.hail_client.proofs.Standing.{devices-of, sound-of}
+use Rattle.hail_client.proofs.Standing.{devices-of}
 
 -- what a provider that tells goes to, or one that does not
 pub replaces : (IsThere : Held → Type 0) (change : Held → Held) (answer : Bool) (told : Option Held)
@@ -53,24 +57,26 @@ replaces IsThere change true None stores others fetches new there holds same_sto
 replaces IsThere change false None stores others fetches new there holds same_stores more same_others same_fetches =
     (holds, record { store_faults = same_stores; other_faults = more; fetches = same_fetches })
 
-module _ (holds : Option Cells) (faults : ℕ) (ps qs : List Provider) (w : State)
-    (providers : ℕ → Provider) where
-  abbrev after : State
-  after = record w { providers = providers }
+-- the state with these providers
+abbrev pub after : State → (ℕ → Provider) → State
+after w providers = record w { providers = providers }
 
-  stands-open : (v : Vault) → Stands v (devices holds faults ps) w → AreHanded qs after → IsSound 8 after →
-      Stands v (devices holds faults qs) after
+module _ (holds : Option Cells) (faults : ℕ) (ps qs : List Provider) where
+  -- a desk stands for the state with other providers that are handed in
+  pub desk-after : (v : Desk) (w : State) (providers : ℕ → Provider) → DeskStands v (devices holds faults ps) w →
+      AreHanded qs (after w providers) → DeskStands v (devices holds faults qs) (after w providers)
   unfolding setup_in
-  stands-open v S handed sound =
-      let same : setup_in after ≡ setup_in w = setup_same w after refl in
+  desk-after v w providers S handed =
+      let new = after w providers in
+      let same : setup_in new ≡ setup_in w = setup_same w new refl in
       record {
         devices = record {
-          images = same-images holds w after refl refl refl refl S.devices.images;
+          images = same-images holds w new refl refl refl refl S.devices.images;
           faults = S.devices.faults;
           providers = handed;
         };
         core = record {
-          sound = sound;
+          sound = devices-sound 8 w providers w.disk_faults S.core.sound;
           is_open = S.core.is_open;
           none_alone = S.core.none_alone;
           table = S.core.table;
@@ -88,19 +94,45 @@ module _ (holds : Option Cells) (faults : ℕ) (ps qs : List Provider) (w : Stat
         flight = S.flight;
       }
 
-  stands-after : (o : Option Vault) (next : ℕ) → StandsBy o next (devices holds faults ps) w →
-      AreHanded qs after → IsSound 8 after → StandsBy o next (devices holds faults qs) after
-  stands-after (Some v) next S handed sound = stands-open v S handed sound
-  stands-after None next S handed sound = record {
-    devices = record {
-      images = same-images holds w after refl refl refl refl S.devices.images;
-      faults = S.devices.faults;
-      providers = handed;
-    };
-    sound = sound;
-    closed = S.closed;
-    next_job_is = S.next_job_is;
-  }
+  module _ (w : State) (providers : ℕ → Provider) where
+    -- so does a vault beside a scrub
+    held-after : (v : Vault) (job : ScrubJob) → StandsHeld v job (devices holds faults ps) w →
+        AreHanded qs (after w providers) → StandsHeld v job (devices holds faults qs) (after w providers)
+    held-after v job S handed = record {
+      scrub = S.scrub;
+      number_is = S.number_is;
+      beside = record {
+        held = S.beside.held;
+        desk = desk-after v.desk (unalone w) providers S.beside.desk
+            (record { count = handed.count; each = handed.each });
+        idle = S.beside.idle;
+        unbarred = S.beside.unbarred;
+      };
+      stands = record {
+        alone = S.stands.alone;
+        handed = handed;
+        scrub = subst (λ (z : Setup). ScrubIs job.scrub z S.scrub) (sym (setup_same w (after w providers) refl))
+            S.stands.scrub;
+      };
+      sound = devices-sound 8 w providers w.disk_faults S.sound;
+    }
+
+    stands-after : (o : Option Vault) (s : Option ScrubJob) (next : ℕ) →
+        StandsBy o s next (devices holds faults ps) w → AreHanded qs (after w providers) →
+        StandsBy o s next (devices holds faults qs) (after w providers)
+    stands-after (Some v) None next S handed =
+        record { free = S.free; desk = desk-after v.desk w providers S.desk handed }
+    stands-after (Some v) (Some job) next S handed = held-after v job S handed
+    stands-after None s next S handed = record {
+      devices = record {
+        images = same-images holds w (after w providers) refl refl refl refl S.devices.images;
+        faults = S.devices.faults;
+        providers = handed;
+      };
+      sound = devices-sound 8 w providers w.disk_faults S.sound;
+      closed = S.closed;
+      next_job_is = S.next_job_is;
+    }
 
 -- ---- events
 
@@ -112,7 +144,7 @@ pub not-handed : (event : Event) (w : State) (moment j : ℕ) (IsThere : Held �
     ClientStands c (devices holds faults ps) w →
     MakesEvent w moment event NothingHeld c (devices holds faults ps)
 not-handed event w moment j IsThere change c holds faults ps spelled is beyond S =
-    let count = (devices-of c.vault c.next_job (devices holds faults ps) w S).providers.count in
+    let count = (devices-of c.vault c.scrub c.next_job (devices holds faults ps) w S).providers.count in
     let out : nat_lt j w.handed ≡ false = le-ltb j w.handed (omega (arith, count, beyond)) in
     record {
       state = w;
@@ -132,25 +164,23 @@ pub handed : (event : Event) (w : State) (moment j : ℕ) (IsThere : Held → Ty
     ClientStands c (devices holds faults ps) w →
     MakesEvent w moment event (replace_outcome answer) c (devices holds faults qs)
 handed event w moment j IsThere change c holds faults ps qs p q answer spelled is within p_is qs_are made S =
-    let are = (devices-of c.vault c.next_job (devices holds faults ps) w S).providers in
+    let are = (devices-of c.vault c.scrub c.next_job (devices holds faults ps) w S).providers in
     let inside : nat_lt j w.handed ≡ true = lt-ltb j w.handed
     (let count = are.count in omega (arith, count, within)) in
     let seen : p ≡ w.providers j =
     (let e : Some p ≡ Some (w.providers j) = sym p_is ∙ are.each j within in cc) in
     let changed : ℕ → Provider = with_provider w.providers j q in
-    let after_is : AreHanded qs (after holds faults ps qs w changed) =
-    subst (λ (l : List Provider). AreHanded l (after holds faults ps qs w changed)) (sym qs_are)
-    (handed_on ps w (after holds faults ps qs w changed) j q are within refl (λ k. refl)) in
+    let after_is : AreHanded qs (after w changed) =
+    subst (λ (l : List Provider). AreHanded l (after w changed)) (sym qs_are)
+    (handed_on ps w (after w changed) j q are within refl (λ k. refl)) in
     record {
-      state = after holds faults ps qs w changed;
+      state = after w changed;
       spelled = spelled;
-      happens = is (replace_outcome answer) (after holds faults ps qs w changed)
+      happens = is (replace_outcome answer) (after w changed)
           (subst (λ b. ReplacesIf b w j IsThere change (replace_outcome answer)
-          (after holds faults ps qs w changed)) (sym inside)
+          (after w changed)) (sym inside)
           (by_answer answer (subst (λ (x : Provider). Replaces IsThere change answer x q) seen made)));
-      stands = stands-after holds faults ps qs w changed c.vault c.next_job S after_is
-          (devices-sound 8 w changed w.disk_faults
-          (sound-of c.vault c.next_job (devices holds faults ps) w S));
+      stands = stands-after holds faults ps qs w changed c.vault c.scrub c.next_job S after_is;
     }
   where
     by_answer : (answer : Bool) → Replaces IsThere change answer (w.providers j) q →

@@ -1,43 +1,104 @@
 -- What a client and its devices stand for.
-use Rattle.std.proofs.Common.{◌≡◌, ℕ, ◌≤◌, length, Option, Some, None, refl, ap, sym, arith}
+use Rattle.std.proofs.Common.{◌≡◌, ℕ, ◌≤◌, length, Option, Some, None, refl, ap, sym, subst, ◌∙◌, arith}
+use Rattle.std.specs.Prelude.{is_some}
+use Rattle.std.specs.Option.{option_map}
 use Rattle.record_defs.specs.Records.{Setup}
-use Rattle.machine_defs.specs.Events.{Continue, Continued}
+use Rattle.record_defs.specs.Table.{files_of}
+use Rattle.machine_defs.specs.Alone.{unalone}
+use Rattle.machine_defs.specs.Events.{Continue, Continued, Listed, Closed}
+use Rattle.machine_defs.specs.Machine.{Lists}
 use Rattle.machine_defs.specs.States.{State, IsStart, continued}
 use Rattle.state_laws.specs.Sound.{IsSound}
 use Rattle.state_laws.proofs.Resting.{start-sound}
 use Rattle.state_laws.proofs.Events.{events-sound}
 use Rattle.vault.specs.declared.vault.Vault.{Vault}
+use Rattle.vault.specs.Desks.{DeskStands}
+use Rattle.vault.specs.Seen.{table_of, provider_count}
 use Rattle.vault_open.specs.Devices.{Devices, AreDevices}
+use Rattle.hail_client.specs.declared.client.Client.{Client}
+use Rattle.hail_client.specs.declared.scrub.ScrubJob.{ScrubJob}
 use Rattle.hail_client.specs.Client.{next_job_by, uses_by}
-use Rattle.hail_client.specs.Stands.{StandsClosed, StandsBy}
+use Rattle.hail_client.specs.Outcomes.{names_outcome}
+use Rattle.hail_client.specs.Stands.{StandsClosed, StandsBy, ClientStands}
 use Rattle.hail_client.proofs.Settled.{same-images}
 
+-- a client whose parts are these
+pub stands-of : (c : Client) (o : Option Vault) (s : Option ScrubJob) (next : ℕ) → c.vault ≡ o → c.scrub ≡ s →
+    c.next_job ≡ next → (d : Devices) (w : State) → StandsBy o s next d w → ClientStands c d w
+stands-of c o s next vault scrub number d w S =
+    subst (λ (x : Option Vault). StandsBy x c.scrub c.next_job d w) (sym vault)
+    (subst (λ (x : Option ScrubJob). StandsBy o x c.next_job d w) (sym scrub)
+    (subst (λ (n : ℕ). StandsBy o s n d w) (sym number) S))
+
+-- and what it says of its parts
+pub parts-of : (c : Client) (o : Option Vault) (s : Option ScrubJob) → c.vault ≡ o → c.scrub ≡ s →
+    (d : Devices) (w : State) → ClientStands c d w → StandsBy o s c.next_job d w
+parts-of c o s vault scrub d w S =
+    subst (λ (x : Option Vault). StandsBy x s c.next_job d w) vault
+    (subst (λ (x : Option ScrubJob). StandsBy c.vault x c.next_job d w) scrub S)
+
+-- devices are those of a state, whether or not something runs alone in it
+pub beside-devices : (d : Devices) (w : State) → AreDevices d (unalone w) → AreDevices d w
+beside-devices d w are = record {
+  images = same-images d.holds (unalone w) w refl refl refl refl are.images;
+  faults = are.faults;
+  providers = record { count = are.providers.count; each = are.providers.each };
+}
+
 -- devices that stand for a state are those of that state
-pub devices-of : (o : Option Vault) (next : ℕ) (d : Devices) (w : State) → StandsBy o next d w →
-    AreDevices d w
-devices-of (Some v) next d w S = S.devices
-devices-of None next d w S = S.devices
+pub devices-of : (o : Option Vault) (s : Option ScrubJob) (next : ℕ) (d : Devices) (w : State) →
+    StandsBy o s next d w → AreDevices d w
+devices-of (Some v) None next d w S = S.desk.devices
+devices-of (Some v) (Some job) next d w S = beside-devices d w S.beside.desk.devices
+devices-of None s next d w S = S.devices
 
 -- client and devices stand for sound states only
-pub sound-of : (o : Option Vault) (next : ℕ) (d : Devices) (w : State) → StandsBy o next d w → IsSound 8 w
-sound-of (Some v) next d w S = S.core.sound
-sound-of None next d w S = S.sound
+pub sound-of : (o : Option Vault) (s : Option ScrubJob) (next : ℕ) (d : Devices) (w : State) →
+    StandsBy o s next d w → IsSound 8 w
+sound-of (Some v) None next d w S = S.desk.core.sound
+sound-of (Some v) (Some job) next d w S = S.sound
+sound-of None s next d w S = S.sound
 
 -- the next job's number of a client is that of the state it stands for
-pub next-of : (o : Option Vault) (next : ℕ) (d : Devices) (w : State) → StandsBy o next d w →
-    w.next_job ≡ next_job_by o next
-next-of (Some v) next d w S = sym S.core.next_job
-next-of None next d w S = S.next_job_is
+pub next-of : (o : Option Vault) (s : Option ScrubJob) (next : ℕ) (d : Devices) (w : State) →
+    StandsBy o s next d w → w.next_job ≡ next_job_by o next
+next-of (Some v) None next d w S = sym S.desk.core.next_job
+next-of (Some v) (Some job) next d w S = sym S.beside.desk.core.next_job
+next-of None s next d w S = S.next_job_is
 
--- there are as many providers as the vault of a client uses
-pub enough-of : (o : Option Vault) (next : ℕ) (d : Devices) (w : State) → StandsBy o next d w →
-    uses_by o ≤ length d.providers
-enough-of (Some v) next d w S =
+-- a vault is open in both or in neither
+pub open-of : (o : Option Vault) (s : Option ScrubJob) (next : ℕ) (d : Devices) (w : State) →
+    StandsBy o s next d w → w.is_open ≡ is_some o
+open-of (Some v) None next d w S = S.desk.core.is_open
+open-of (Some v) (Some job) next d w S = S.beside.desk.core.is_open
+open-of None s next d w S = S.closed
+
+listed : (v : Vault) (d : Devices) (w u : State) → u.records ≡ w.records → u.is_open ≡ w.is_open →
+    DeskStands v.desk d u → Lists w w.is_open (Listed (table_of v).files) w
+listed v d w u records opened S =
+    subst (λ b. Lists w b (Listed (table_of v).files) w) (sym S.core.is_open ∙ opened)
+    (S.core.table.files ∙ ap files_of records, refl)
+
+-- the files that a client lists are those in effect
+pub lists-of : (o : Option Vault) (s : Option ScrubJob) (next : ℕ) (d : Devices) (w : State) →
+    StandsBy o s next d w → Lists w w.is_open (names_outcome (option_map table_of o)) w
+lists-of (Some v) None next d w S = listed v d w w refl refl S.desk
+lists-of (Some v) (Some job) next d w S = listed v d w (unalone w) refl refl S.beside.desk
+lists-of None s next d w S = subst (λ b. Lists w b Closed w) (sym S.closed) refl
+
+enough-by : (v : Vault) (d : Devices) (w : State) → DeskStands v.desk d w → provider_count v ≤ length d.providers
+enough-by v d w S =
     (let a = S.core.sound.handed S.core.is_open in
     let b = S.devices.providers.count in
     let c = ap (λ (z : Setup). z.n) S.setup in
     omega (arith, a, b, c))
-enough-of None next d w S = omega arith
+
+-- there are as many providers as the vault of a client uses
+pub enough-of : (o : Option Vault) (s : Option ScrubJob) (next : ℕ) (d : Devices) (w : State) →
+    StandsBy o s next d w → uses_by o ≤ length d.providers
+enough-of (Some v) None next d w S = enough-by v d w S.desk
+enough-of (Some v) (Some job) next d w S = enough-by v d (unalone w) S.beside.desk
+enough-of None s next d w S = omega arith
 
 -- a client with no vault open stands for a state before the first event
 pub start-stands : (d : Devices) (w : State) → IsStart w → AreDevices d w → StandsClosed 1 d w

@@ -12,7 +12,7 @@ use Rattle.machine_defs.specs.Stands.{StandsForState}
 use Rattle.state_laws.specs.Sound.{IsSound}
 use Rattle.vault_open.specs.Devices.{devices, AreDevices}
 use Rattle.hail_client.specs.declared.client.Client.{Client}
-use Rattle.hail_client.specs.Client.{client_next_job}
+use Rattle.hail_client.specs.Client.{client_next_job, without_vault}
 use Rattle.hail_client.specs.Stands.{StandsClosed, ClientStands, MakesEvent}
 use Rattle.hail_client.proofs.Standing.{devices-of, sound-of, next-of}
 use Rattle.vault_open.proofs.FirstVersion.{shows-first, unpacked-shown}
@@ -53,12 +53,12 @@ stopped-left w (Some old) (Some new) sound (image, is, new_is) stands =
 
 -- a stop of client and disk is one of the machine: the client is left without its vault
 pub stops : (w : State) (moment : ℕ) (picks : List ℕ) (c next : Client) (old new : Option Cells) (f g : ℕ)
-    (ps : List Provider) → AreBytes picks → next ≡ record { vault = None; next_job = client_next_job c } →
+    (ps : List Provider) → AreBytes picks → next ≡ without_vault (client_next_job c) →
     Goes Stopped old new → g ≡ f → ClientStands c (devices old f ps) w →
     MakesEvent w moment (Stop picks) events.Stopped next (devices new g ps)
 stops w moment picks c next old new f g ps spelled next_is goes same S =
-    let are = devices-of c.vault c.next_job (devices old f ps) w S in
-    let sound = sound-of c.vault c.next_job (devices old f ps) w S in
+    let are = devices-of c.vault c.scrub c.next_job (devices old f ps) w S in
+    let sound = sound-of c.vault c.scrub c.next_job (devices old f ps) w S in
     let k = stopped-left w old new sound goes are.images in
     let after = left_with w k.records k.journal in
     record {
@@ -67,7 +67,7 @@ stops w moment picks c next old new f g ps spelled next_is goes same S =
       happens = left-rereads w k.records k.journal k.left;
       stands = subst (λ (x : Client). ClientStands x (devices new g ps) after) (sym next_is)
           (closed-stands w k.records k.journal new g (client_next_job c) ps sound k.left
-          (next-of c.vault c.next_job (devices old f ps) w S) (are.faults ∙ sym same)
+          (next-of c.vault c.scrub c.next_job (devices old f ps) w S) (are.faults ∙ sym same)
           (record {
             images = k.stands;
             faults = are.faults ∙ sym same;

@@ -7,20 +7,29 @@
 --                     nothing
 --   notes          == that file
 --   stored_state   == the state at rest over that journal, with no vault open
-use Rattle.std.specs.Prelude.{false, [], replicate, codes, Some, None}
+--   stored_open    == the same with a vault open
+--   stored_scrub   == a scrub of that file that has done nothing yet
+--   scrubbed_state == the state behind the begin of that scrub
+use Rattle.std.specs.Prelude.{true, false, [], ◌∷◌, ◌++◌, map, replicate, codes, Some, None}
 use Rattle.device_defs.specs.Cells.{firm}
 use Rattle.device_defs.specs.Providers.{Provider}
 use Rattle.record_defs.specs.Journal.{text}
 use Rattle.record_defs.specs.Table.{File}
-use Rattle.machine_defs.specs.Examples.{empty_provider, one_file, hundred, opened}
+use Rattle.code_defs.specs.Points.{upto}
+use Rattle.machine_defs.specs.Actions.{Fetch, Work, End}
+use Rattle.machine_defs.specs.Examples.{empty_provider, six, one_file, hundred, opened}
+use Rattle.machine_defs.specs.Setups.{profiled, object_of}
 use Rattle.machine_defs.specs.States.{State}
+use Rattle.hail_scrub.specs.Begins.{held}
+use Rattle.hail_scrub.specs.Views.{Between, ScrubView}
 use Rattle.vault_open.specs.Devices.{Devices, devices}
 use Rattle.hail_client.specs.declared.client.Client.{Client}
+use Rattle.hail_client.specs.Client.{without_vault}
 use Rattle.hail_client.specs.Start.{provider_or_empty}
 
 -- no vault is open, and the next job is the first
 abbrev pub closed_client : Client
-closed_client = record { vault = None; next_job = 1 }
+closed_client = without_vault 1
 
 -- a disk that reads nothing, and four providers that hold nothing
 abbrev pub fresh : Devices
@@ -47,3 +56,23 @@ abbrev pub stored_state : State
 stored_state =
     record (opened one_file
     hundred) { providers = provider_or_empty stored.providers; handed = 6; is_open = false }
+
+-- the same with a vault open
+abbrev pub stored_open : State
+stored_open = record stored_state { is_open = true }
+
+-- a scrub of that file that has done nothing yet
+abbrev pub stored_scrub : ScrubView
+stored_scrub = record {
+  todo = map (λ j. Fetch j 1 0) (upto 6) ++ Work 1 0 ∷ End ∷ [];
+  providers = 6;
+  objects = object_of (profiled six 1) 1 ∷ [];
+  at = Between;
+  stripes = 0;
+  symbols = replicate 16 0;
+  blocks = replicate 16 0;
+}
+
+-- the state behind the begin of that scrub
+abbrev pub scrubbed_state : State
+scrubbed_state = held stored_open 0

@@ -3,13 +3,16 @@
 --   client_begin_outcome result == of a begin
 --   UnlessBegun result P        == P holds unless the begin was accepted
 --   step_outcome result         == of a step
---   is_more result              == the job of a step goes on
+--   is_more result              == the job of a step, or its scrub, goes on
+--   IfJob result P              == P holds of the turn, where the step was one of a job of the vault
+--   HeardIs turn entries        == the end of a job tells that it heard these; a scrub hears nothing
 --   reopen_outcome result       == of a reopening
 --   UnlessBadJournal result P   == P holds unless what the reopening read was no journal, which is no outcome
 --                                  of the machine
 --   replace_outcome result      == of an alteration or a loss
 --   names_outcome files         == of a list of the files in effect, by the table that has them
-use Rattle.std.specs.Prelude.{ℕ, Bool, true, false, Option, Some, None, Result, Ok, Err}
+use Rattle.std.specs.Prelude.{◌≡◌, ℕ, List, [], Bool, true, false, Option, Some, None, Result, Ok, Err}
+use Rattle.machine_defs.specs.Heard.{Entry}
 use Rattle.machine_defs.specs.Refusals as refusal
 use Rattle.machine_defs.specs.Refusals.{Refusal}
 use Rattle.machine_defs.specs.Events as events
@@ -18,9 +21,13 @@ use Rattle.vault_core.specs.declared.wish.BeginFault.{BeginFault}
 use Rattle.vault_table.specs.Values.{Kept}
 use Rattle.vault_open.specs.declared.fault.StartFault.{StartFault}
 use Rattle.vault_open.specs.declared.fault.StartFault.TheVariants as start_fault
+use Rattle.hail_scrub.specs.declared.turn.ScrubTurn.TheVariants as scrub_turn
+use Rattle.hail_scrub.specs.Stands.{scrub_outcome}
 use Rattle.vault.specs.declared.turn.Turn.{Turn}
 use Rattle.vault.specs.declared.turn.Turn.TheVariants as turn
 use Rattle.vault.specs.Outcomes as vault
+use Rattle.hail_client.specs.declared.turn.ClientTurn.{ClientTurn}
+use Rattle.hail_client.specs.declared.turn.ClientTurn.TheVariants as client_turn
 use Rattle.hail_client.specs.declared.fault.ReopenFault.{ReopenFault}
 use Rattle.hail_client.specs.declared.fault.ReopenFault.TheVariants as reopen_fault
 
@@ -35,14 +42,26 @@ UnlessBegun (Some (Ok job)) P = Unit {0}
 UnlessBegun result P = P
 
 -- the outcome of a step
-abbrev pub step_outcome : Option Turn → Outcome
+abbrev pub step_outcome : Option ClientTurn → Outcome
 step_outcome None = events.Closed
-step_outcome (Some t) = vault.outcome_of t
+step_outcome (Some (client_turn.Job t)) = vault.outcome_of t
+step_outcome (Some (client_turn.Scrub n t)) = scrub_outcome n t
 
 -- the job of a step goes on
-abbrev pub is_more : Option Turn → Bool
-is_more (Some turn.More) = true
+abbrev pub is_more : Option ClientTurn → Bool
+is_more (Some (client_turn.Job turn.More)) = true
+is_more (Some (client_turn.Scrub n scrub_turn.More)) = true
 is_more result = false
+
+-- a fact of the turn, where the step was one of a job of the vault
+abbrev pub IfJob : Option ClientTurn → (Turn → Type 0) → Type 0
+IfJob (Some (client_turn.Job t)) P = P t
+IfJob result P = Unit {0}
+
+-- what was heard by the end of a job; a scrub hears nothing
+abbrev pub HeardIs : ClientTurn → List Entry → Type 0
+HeardIs (client_turn.Job t) entries = vault.IfEnded t (λ ended. ended.heard ≡ entries)
+HeardIs (client_turn.Scrub n t) entries = entries ≡ []
 
 -- why a start gave no vault
 abbrev pub start_refusal : StartFault → Refusal

@@ -1,8 +1,8 @@
 -- How a client and its devices stand for a state of the machine, and how a call is one event of it.
 --
 --   ClientStands c d w                             == client and devices stand for a state: a vault is open
---                                                     in both, and stands for it, or none is open; the state
---                                                     is sound
+--                                                     in both, and stands for it, beside the scrub that runs
+--                                                     alone, if one does; or none is open; the state is sound
 --   MakesEvent w moment event outcome c d          == from a state, after so many events, an event has this
 --                                                     outcome, and client and devices stand for the state
 --                                                     after it
@@ -20,8 +20,8 @@
 --                                                     name
 --   IsReached start ms c d                         == the moments are a run from a state, and client and
 --                                                     devices stand for the last state of it
---   RunsJobOn start ms job turn c d                == behind these moments a job was stepped until this turn,
---                                                     at which it did not go on
+--   RunsJobOn start ms job turn c d                == behind these moments a job or a scrub was stepped until
+--                                                     this turn, at which it did not go on
 use Rattle.std.specs.Prelude.{◌≡◌, ◌≢◌, ℕ, false, List, ◌∷◌, ◌++◌, length, Option, Some, None, IfSome}
 use Rattle.device_defs.specs.Cells.{Cells}
 use Rattle.device_defs.specs.Providers.{Provider}
@@ -30,23 +30,25 @@ use Rattle.record_defs.specs.Journal.{StandsFor}
 use Rattle.record_defs.specs.Table.{File, file_of}
 use Rattle.machine_defs.specs.Answers as answers
 use Rattle.machine_defs.specs.Events.{Event, Step, Outcome, Ended, IsSpelled}
-use Rattle.machine_defs.specs.States.{State}
+use Rattle.machine_defs.specs.States.{State, Scrub}
+use Rattle.machine_defs.specs.Alone.{unalone}
 use Rattle.machine_defs.specs.Machine.{Happens}
 use Rattle.machine_defs.specs.Heard.{heard_by}
 use Rattle.machine_defs.specs.Jobs.{job_of}
 use Rattle.machine_defs.specs.Runs.{Moment, now, IsRun}
 use Rattle.machine_defs.specs.Transcripts.{RunsToEnd}
 use Rattle.state_laws.specs.Sound.{IsSound}
-use Rattle.vault.specs.declared.turn.Turn.{Turn}
+use Rattle.hail_scrub.specs.Stands.{ScrubStands}
 use Rattle.vault.specs.declared.vault.Vault.{Vault}
 use Rattle.vault_open.specs.Devices.{Devices, devices, AreDevices}
 use Rattle.vault.specs.Devices.{IsSameBeyond, IsSamePast}
 use Rattle.opening_defs.specs.Journals.{IsRead}
 use Rattle.opening_defs.specs.Opened.{IsJustOpened}
-use Rattle.vault.specs.Outcomes.{IfEnded}
-use Rattle.vault.specs.Stands.{Stands}
+use Rattle.vault.specs.Stands.{Stands, StandsBeside}
 use Rattle.hail_client.specs.declared.client.Client.{Client}
-use Rattle.hail_client.specs.Outcomes.{step_outcome}
+use Rattle.hail_client.specs.declared.scrub.ScrubJob.{ScrubJob}
+use Rattle.hail_client.specs.declared.turn.ClientTurn.{ClientTurn}
+use Rattle.hail_client.specs.Outcomes.{step_outcome, HeardIs}
 
 -- no vault is open in a state
 pub record StandsClosed (next_job : ℕ) (d : Devices) (w : State) : Type 0 where
@@ -55,14 +57,24 @@ pub record StandsClosed (next_job : ℕ) (d : Devices) (w : State) : Type 0 wher
   pub closed : w.is_open ≡ false
   pub next_job_is : w.next_job ≡ next_job
 
--- an open vault stands for a state, or none is open in it; the next job has this number
-abbrev pub StandsBy : Option Vault → ℕ → Devices → State → Type 0
-StandsBy (Some v) next d w = Stands v d w
-StandsBy None next d w = StandsClosed next d w
+-- a scrub runs alone in a state, beside an open vault that is held under its number
+pub record StandsHeld (v : Vault) (job : ScrubJob) (d : Devices) (w : State) : Type 0 where
+  pub scrub : Scrub
+  pub number_is : job.number ≡ scrub.number
+  pub beside : StandsBeside v d (unalone w) scrub.number
+  pub stands : ScrubStands job.scrub d.providers w scrub
+  pub sound : IsSound 8 w
+
+-- an open vault stands for a state, with the scrub beside it, or none is open in it; the next job has this
+-- number
+abbrev pub StandsBy : Option Vault → Option ScrubJob → ℕ → Devices → State → Type 0
+StandsBy None scrub next d w = StandsClosed next d w
+StandsBy (Some v) None next d w = Stands v d w
+StandsBy (Some v) (Some job) next d w = StandsHeld v job d w
 
 -- client and devices stand for a state
 abbrev pub ClientStands : Client → Devices → State → Type 0
-ClientStands c d w = StandsBy c.vault c.next_job d w
+ClientStands c d w = StandsBy c.vault c.scrub c.next_job d w
 
 -- client and devices stand for some state
 pub record IsStanding (c : Client) (d : Devices) : Type 0 where
@@ -79,7 +91,7 @@ pub record MakesEvent (w : State) (moment : ℕ) (event : Event) (outcome : Outc
 
 -- a step is an event of the machine; past the text with the record in flight the disk reads as before, and
 -- where a call of it failed, past the text with the record that was being appended
-pub record ClientMakesStep (w : State) (moment job : ℕ) (answer : Option Turn) (c : Client)
+pub record ClientMakesStep (w : State) (moment job : ℕ) (answer : Option ClientTurn) (c : Client)
     (old new : Devices) : Type 0 where
   pub makes : MakesEvent w moment (Step job) (step_outcome answer) c new
   pub beyond : step_outcome answer ≢ Ended answers.DiskFault → IsSameBeyond makes.state old new
@@ -121,12 +133,11 @@ pub record IsReached (start : State) (ms : List Moment) (c : Client) (d : Device
   pub stands : ClientStands c d (now start ms)
 
 -- behind a run a job was stepped until it did not go on, and what it heard is told at its end
-pub record RunsJobOn (start : State) (ms : List Moment) (job : ℕ) (turn : Option Turn) (c : Client)
+pub record RunsJobOn (start : State) (ms : List Moment) (job : ℕ) (turn : Option ClientTurn) (c : Client)
     (d : Devices) : Type 0 where
   pub steps : List Moment
   pub last : Moment
   pub runs : RunsToEnd job last steps
   pub outcome_is : last.outcome ≡ step_outcome turn
   pub reached : IsReached start (last ∷ (steps ++ ms)) c d
-  pub heard : IfSome turn (λ t. IfEnded t (λ ended. ended.heard ≡ heard_by
-      (job_of (now start (steps ++ ms)).jobs job)))
+  pub heard : IfSome turn (λ t. HeardIs t (heard_by (job_of (now start (steps ++ ms)).jobs job)))

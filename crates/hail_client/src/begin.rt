@@ -1,5 +1,5 @@
 ghost use Rattle.std.specs.Prelude.{◌≡◌, ◌<◌, ◌-◌, ◌^◌, ℕ, IfSome};
-ghost use Rattle.machine_defs.specs.Events.{Begin, AreBytes};
+ghost use Rattle.machine_defs.specs.Events.{Begin, BeginScrub, AreBytes};
 ghost use Rattle.machine_defs.specs.Jobs.{GetJob, DropJob, AuditJob, RepairJob, UpgradeJob};
 ghost use Rattle.machine_defs.specs.States.{State};
 ghost use Rattle.vault_open.specs.Devices.{Devices};
@@ -9,6 +9,9 @@ ghost use Rattle.hail_client.specs.Outcomes.{client_begin_outcome, UnlessBegun};
 ghost use Rattle.hail_client.specs.Stands.{ClientStands, MakesEvent};
 
 use crate::client::Client;
+use crate::scrub::ScrubJob;
+use hail_field::Memory;
+use std::alloc::Global;
 use stream_model::Bytes;
 use vault::BeginFault;
 
@@ -109,6 +112,32 @@ impl Client {
     {
         match &mut self.vault {
             Some(vault) => Some(vault.begin_upgrade()),
+            None => None,
+        }
+    }
+
+    /// Begins to scrub all files in effect. It runs alone, with no job beside it: it is refused as busy while
+    /// a job or a scrub runs, and all begins are while it runs.
+    pub fn begin_scrub(&mut self, alloc: Global) -> Option<Result<u32, BeginFault>>
+        requires { client_next_job self.old < 2 ^ 32 - 1 }
+        ensures machine { (w : State) (d : Devices) (moment : ℕ) → ClientStands self.old d w
+            → MakesEvent w moment BeginScrub (client_begin_outcome result) self.new d }
+        ensures unchanged { UnlessBegun result (IsSame self.old self.new) }
+    {
+        match &mut self.vault {
+            Some(vault) => {
+                let scrub = match vault.scrub(alloc) {
+                    Ok(scrub) => scrub,
+                    Err(Memory) => return Some(Err(BeginFault::Memory)),
+                };
+                match vault.hold() {
+                    Ok(number) => {
+                        self.scrub = Some(ScrubJob { number, scrub });
+                        Some(Ok(number))
+                    }
+                    Err(fault) => Some(Err(fault)),
+                }
+            }
             None => None,
         }
     }

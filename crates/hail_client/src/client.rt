@@ -1,27 +1,32 @@
-ghost use Rattle.std.specs.Prelude.{◌≡◌, ℕ, false, option_copied};
-ghost use Rattle.machine_defs.specs.Events.{Names};
-ghost use Rattle.machine_defs.specs.States.{State, IsStart, continued};
-ghost use Rattle.state_laws.specs.Sound.{IsSound};
-ghost use Rattle.vault_open.specs.Devices.{Devices, AreDevices};
-ghost use Rattle.hail_client.specs.Client.{is_open, client_next_job, names_of, uses};
-ghost use Rattle.hail_client.specs.Outcomes.{names_outcome};
-ghost use Rattle.hail_client.specs.Stands.{ClientStands, MakesEvent};
+ghost use Rattle.hail_client.specs.AtWork.{IsAtWork};
 
+use crate::scrub::ScrubJob;
 use vault::Vault;
 use vault_table::Table;
 
 /// The number of the first job.
 const FIRST_JOB: u32 = 1;
 
-/// A client: a vault with its jobs, where one is open, over a disk and providers, which it does not hold:
-/// each call is lent them.
+/// A client: a vault with its jobs, where one is open, and the scrub that runs alone, where one does, over a
+/// disk and providers, which it does not hold: each call is lent them.
 #[derive(Drop)]
 pub struct Client {
     pub(crate) vault: Option<Vault>,
+    pub(crate) scrub: Option<ScrubJob>,
     pub(crate) next_job: u32,
+    ghost at_work: { ∥ IsAtWork vault scrub ∥₁ },
 }
 
 impl Client {
+    ghost use Rattle.std.specs.Prelude.{◌≡◌, ℕ, false, option_copied};
+    ghost use Rattle.machine_defs.specs.Events.{Names};
+    ghost use Rattle.machine_defs.specs.States.{State, IsStart, continued};
+    ghost use Rattle.state_laws.specs.Sound.{IsSound};
+    ghost use Rattle.vault_open.specs.Devices.{Devices, AreDevices};
+    ghost use Rattle.hail_client.specs.Client.{is_open, client_next_job, names_of, uses};
+    ghost use Rattle.hail_client.specs.Outcomes.{names_outcome};
+    ghost use Rattle.hail_client.specs.Stands.{ClientStands, MakesEvent};
+
     /// A client with no vault open, whose jobs are numbered from 1.
     pub fn new() -> Client
         ensures start { (d : Devices) (w : State) → IsStart w → AreDevices d w → ClientStands result d w }
@@ -32,6 +37,7 @@ impl Client {
     {
         Client {
             vault: None,
+            scrub: None,
             next_job: FIRST_JOB,
         }
     }
@@ -75,10 +81,6 @@ impl Client {
         }
     }
 
-    /// Gives the client up, and its vault, where one is open.
-    pub fn close(self) {
-        if let Some(vault) = self.vault {
-            vault.close();
-        }
-    }
+    /// Gives the client up, and its vault, where one is open, and its scrub.
+    pub fn close(self) {}
 }

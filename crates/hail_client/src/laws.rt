@@ -6,7 +6,12 @@ ghost use Rattle.record_codec.specs.Entries.{with_master};
 ghost use Rattle.record_defs.specs.Records.{Record, is_master};
 ghost use Rattle.record_defs.specs.Table.{File};
 ghost use Rattle.record_defs.specs.Areas.{A};
-ghost use Rattle.machine_defs.specs.Events.{Event, Init, Outcome, IsSpelled};
+ghost use Rattle.machine_defs.specs.Events.{Event, Init, BeginScrub, Begun, Outcome, IsSpelled};
+ghost use Rattle.machine_defs.specs.Alone.{new_scrub};
+ghost use Rattle.machine_defs.specs.Machine.{Happens};
+ghost use Rattle.hail_scrub.specs.Stands.{ScrubStands};
+ghost use Rattle.vault.specs.declared.vault.Vault.{Vault};
+ghost use Rattle.vault.specs.Stands.{StandsBeside};
 ghost use Rattle.machine_defs.specs.Runs.{Moment, now};
 ghost use Rattle.machine_defs.specs.Halves.{AllTell};
 ghost use Rattle.machine_defs.specs.Stands.{IsFresh, StandsForState};
@@ -16,7 +21,7 @@ ghost use Rattle.state_laws.specs.Sound.{IsSound};
 ghost use Rattle.vault_open.specs.Devices.{Devices, AreDevices};
 ghost use Rattle.hail_client.specs.declared.client.Client.{Client};
 ghost use Rattle.hail_client.specs.Client.{client_next_job, uses};
-ghost use Rattle.hail_client.specs.Examples.{closed_client, fresh, hidden, stored, stored_state, notes};
+ghost use Rattle.hail_client.specs.Examples.{closed_client, fresh, hidden, stored, stored_state, stored_open, stored_scrub, scrubbed_state, notes};
 ghost use Rattle.hail_client.specs.Start.{start_of, TellAll};
 ghost use Rattle.hail_client.specs.Stands.{ClientStands, MakesEvent, IsReached, ImageHasFile, moment_of};
 
@@ -125,4 +130,14 @@ pub fn a_stored_file_is_kept()
     ensures devices { AreDevices stored stored_state × IsSound 8 stored_state }
     ensures kept { IsKept stored_state (codes "notes.txt") notes }
     ensures images { EachImage stored.holds (ImageHasFile (codes "notes.txt") notes) }
+{}
+
+/// Over these devices a scrub of the file begins, and a client that has begun it stands for the machine's state
+/// behind the begin: its vault is held under the number that was drawn, and stands for the open state.
+pub fn a_scrub_of_a_stored_file_begins()
+    ensures begins { Happens 8 0 stored_open BeginScrub (Begun 1) scrubbed_state }
+    ensures scrub { ScrubStands stored_scrub stored.providers scrubbed_state (new_scrub stored_open 0) }
+    ensures stands { (c : Client) (v : Vault) → c.vault ≡ Some v
+        → c.scrub ≡ Some (record { number = 1; scrub = stored_scrub })
+        → StandsBeside v stored (record stored_open { next_job = 2 }) 1 → ClientStands c stored scrubbed_state }
 {}

@@ -1,4 +1,5 @@
-//! A client over its devices, with a vault open or none. Each call is one event of the machine of jobs.
+//! A client over its devices, with a vault open or none, and a scrub or none. Each call is one event of the
+//! machine of jobs.
 #![tactic(auto)]
 
 mod begin;
@@ -8,7 +9,10 @@ pub mod laws;
 mod open;
 mod replace;
 mod run;
+mod scrub;
 mod step;
+mod turn;
 
 pub use client::Client;
 pub use fault::ReopenFault;
+pub use turn::ClientTurn;

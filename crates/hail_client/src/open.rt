@@ -17,7 +17,7 @@ ghost use Rattle.vault_open.specs.declared.fault.StartFault.{StartFault as Start
 ghost use Rattle.vault_open.specs.declared.fault.StartFault.TheVariants as start_fault;
 ghost use Rattle.hail_client.specs.declared.fault.ReopenFault.TheVariants as reopen_fault;
 ghost use Rattle.vault_open.specs.Inits.{init_outcome};
-ghost use Rattle.hail_client.specs.Client.{is_open, client_next_job};
+ghost use Rattle.hail_client.specs.Client.{is_open, client_next_job, with_vault, without_vault};
 ghost use Rattle.hail_client.specs.Outcomes.{reopen_outcome, UnlessBadJournal};
 ghost use Rattle.hail_client.specs.Stands.{ClientStands, MakesEvent, IsMadeAnew, IsStanding, OpensOver};
 
@@ -72,8 +72,8 @@ impl Client {
         init(alloc, disk, master, setup)
     }
 
-    /// Gives up an open vault with its jobs, and opens one over what the disk reads, where so many providers
-    /// are handed in. Job numbers go on. After an error no vault is open.
+    /// Gives up an open vault with its jobs, or its scrub, and opens one over what the disk reads, where so
+    /// many providers are handed in. Job numbers go on. After an error no vault is open.
     pub fn reopen<D: Disk>(
         &mut self,
         alloc: Global,
@@ -121,8 +121,8 @@ impl Client {
         Ok(())
     }
 
-    /// Gives up an open vault with its jobs, and stops the disk, of which one of its images is left: a disk
-    /// in memory makes it by the picks.
+    /// Gives up an open vault with its jobs, or its scrub, and stops the disk, of which one of its images is
+    /// left: a disk in memory makes it by the picks.
     pub fn stop<D: Disk>(&mut self, disk: &mut D, picks: &[u8])
         ensures machine { (w : State) (providers : List Provider) (moment : ℕ)
             → ClientStands self.old (devices (D.holds disk.old) (D.faults disk.old) providers) w
@@ -138,20 +138,22 @@ impl Client {
         disk.stop(picks);
     }
 
-    /// Gives up an open vault with its jobs.
+    /// Gives up an open vault with its jobs, or its scrub.
     fn give_up(&mut self)
-        ensures closed { self.new ≡ record { vault = None; next_job = client_next_job self.old } }
+        ensures closed { self.new ≡ without_vault (client_next_job self.old) }
     {
         self.next_job = self.next_job();
+        let _ = self.scrub.take();
         if let Some(vault) = self.vault.take() {
             vault.close();
         }
     }
 
-    /// Has this vault for its own, and no other.
+    /// Has this vault for its own, and no other, and no scrub.
     fn hold(&mut self, vault: Vault)
-        ensures held { self.new ≡ record self.old { vault = Some vault } }
+        ensures held { self.new ≡ with_vault vault self.old.next_job }
     {
+        self.scrub = None;
         if let Some(older) = self.vault.replace(vault) {
             older.close();
         }

@@ -1,46 +1,51 @@
-ghost use Rattle.std.specs.Prelude.{◌≡◌, ◌≢◌, List, true, Some, IfSome, is_some, length, map};
+ghost use Rattle.std.specs.Prelude.{◌≡◌, List, true, false, is_some, length, map};
 ghost use Rattle.machine_defs.specs.Runs.{Moment};
 ghost use Rattle.machine_defs.specs.States.{State};
-ghost use Rattle.vault.specs.declared.turn.Turn.TheVariants as turn;
 ghost use Rattle.vault_open.specs.Devices.{devices};
 ghost use Rattle.vault.specs.Devices.{devices_seen};
 ghost use Rattle.vault.specs.Outcomes.{IfEnded, HasPaddedCounts};
 ghost use Rattle.hail_client.specs.Client.{is_open};
-ghost use Rattle.hail_client.specs.Outcomes.{is_more};
+ghost use Rattle.hail_client.specs.Outcomes.{is_more, IfJob};
 ghost use Rattle.hail_client.specs.Stands.{IsStanding, IsReached, RunsJobOn};
 
 use crate::client::Client;
+use crate::turn::ClientTurn;
 use disk_model::Disk;
+use hail_scrub::ScrubTurn;
 use provider_model::Provider;
 use vault::Turn;
 
-/// Whether a job goes on after a step.
-fn goes_on(answer: &Option<Turn>) -> bool
+/// Whether a job or a scrub goes on after a step.
+fn goes_on(answer: &Option<ClientTurn>) -> bool
     ensures { result ≡ is_more answer.now }
 {
-    matches!(answer, Some(Turn::More))
+    match answer {
+        Some(ClientTurn::Job(turn)) => matches!(turn, Turn::More),
+        Some(ClientTurn::Scrub { turn, .. }) => matches!(turn, ScrubTurn::More),
+        None => false,
+    }
 }
 
 impl Client {
-    /// Makes as many steps of a job as it takes until the answer is not that it goes on; None where no vault
-    /// is open. Condition: where a vault is open, client and devices stand for some state, as they do at each
+    /// Makes as many steps of a job or a scrub as it takes until the answer is not that it goes on; None where
+    /// no vault is open. Condition: where a vault is open, client and devices stand for some state, as they do at each
     /// moment of a run.
     pub fn run<D: Disk, P: Provider>(
         &mut self,
         job: u32,
         disk: &mut D,
         providers: &mut [P],
-    ) -> Option<Turn>
+    ) -> Option<ClientTurn>
         requires standing { is_open self.old ≡ true
             → IsStanding self.old (devices_seen D.Disk P.Provider disk.old providers.old) }
         ensures machine { (start : State) (ms : List Moment)
             → IsReached start ms self.old (devices_seen D.Disk P.Provider disk.old providers.old)
             → RunsJobOn start ms job result self.new
             (devices_seen D.Disk P.Provider disk.new providers.new) }
-        ensures over { result ≢ Some turn.More }
+        ensures over { is_more result ≡ false }
         ensures count { length providers.new ≡ length providers.old }
         ensures tells { is_some (D.holds disk.new) ≡ is_some (D.holds disk.old) }
-        ensures padded { IfSome result (λ turn. IfEnded turn (λ ended. HasPaddedCounts ended.answer)) }
+        ensures padded { IfJob result (λ turn. IfEnded turn (λ ended. HasPaddedCounts ended.answer)) }
     {
         loop {
             let turn = self.step(job, disk, providers);

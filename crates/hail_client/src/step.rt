@@ -6,7 +6,10 @@ ghost use Rattle.machine_defs.specs.States.{State};
 ghost use Rattle.record_defs.specs.Records.{Record as Entry};
 ghost use Rattle.record_defs.specs.Spellings.{spelling};
 ghost use Rattle.vault.specs.declared.turn.Turn.TheVariants as turn;
-ghost use Rattle.vault.specs.Calls.{moves_before_next, CalledOnce, MovesCells};
+ghost use Rattle.vault.specs.Calls.{moves_before_next, MovesCells};
+ghost use Rattle.stripe_bench.specs.Calls.{CalledOnce};
+ghost use Rattle.hail_client.specs.declared.turn.ClientTurn.TheVariants as client_turn;
+ghost use Rattle.hail_client.specs.Outcomes.{is_more, IfJob, HeardIs};
 ghost use Rattle.vault.specs.Devices.{devices_seen};
 ghost use Rattle.vault.specs.Outcomes.{IfEnded, IsNoAction, HasPaddedCounts};
 ghost use Rattle.vault_core.specs.Coming.{IsNoJob, calls_disk, called_provider};
@@ -14,20 +17,23 @@ ghost use Rattle.hail_client.specs.Client.{uses, is_open, client_left, client_co
 ghost use Rattle.hail_client.specs.Stands.{ClientStands, ClientMakesStep};
 
 use crate::client::Client;
+use crate::turn::ClientTurn;
 use disk_model::Disk;
+use hail_scrub::ScrubTurn;
 use provider_model::Provider;
 use vault::Turn;
 
 impl Client {
-    /// Makes the next action of a job, with its one call of a device, if it has one; None where no vault is
-    /// open. Conditions: as many providers as the open vault uses, or more, of which only these are used; and
-    /// the disk is the one that it was opened over.
+    /// Makes the next action of a job, or of the scrub whose number it is, with its one call of a device, if
+    /// it has one; None where no vault is open. Beside a scrub no job runs. Conditions: as many providers as
+    /// the open vault uses, or more, of which only these are used; and the disk is the one that it was opened
+    /// over.
     pub fn step<D: Disk, P: Provider>(
         &mut self,
         job: u32,
         disk: &mut D,
         providers: &mut [P],
-    ) -> Option<Turn>
+    ) -> Option<ClientTurn>
         requires { uses self.old ≤ length providers.old }
         ensures machine { (w : State) (moment : ℕ)
             → ClientStands self.old (devices_seen D.Disk P.Provider disk.old providers.old) w
@@ -36,17 +42,17 @@ impl Client {
             (devices_seen D.Disk P.Provider disk.new providers.new) }
         ensures heard { (w : State)
             → ClientStands self.old (devices_seen D.Disk P.Provider disk.old providers.old) w
-            → IfSome result (λ turn. IfEnded turn (λ ended. ended.heard ≡ heard_by (job_of w.jobs job))) }
+            → IfSome result (λ turn. HeardIs turn (heard_by (job_of w.jobs job))) }
         ensures tells { is_some (D.holds disk.new) ≡ is_some (D.holds disk.old) }
-        ensures left { result ≡ Some turn.More → client_left self.new job < client_left self.old job }
-        ensures padded { IfSome result (λ turn. IfEnded turn (λ ended. HasPaddedCounts ended.answer)) }
+        ensures left { is_more result ≡ true → client_left self.new job < client_left self.old job }
+        ensures padded { IfJob result (λ turn. IfEnded turn (λ ended. HasPaddedCounts ended.answer)) }
         ensures stays_open { is_open self.new ≡ is_open self.old }
         ensures count { length providers.new ≡ length providers.old }
         ensures still { calls_disk (client_coming self.old job) ≡ false → disk.new ≡ disk.old }
         ensures moves { (w : State) (entry : Entry)
             → ClientStands self.old (devices_seen D.Disk P.Provider disk.old providers.old) w
             → client_entry self.old job ≡ Some entry → calls_disk (client_coming self.old job) ≡ true
-            → IfSome result (λ turn. MovesCells (moves_before_next (client_coming self.old job))
+            → IfJob result (λ turn. MovesCells (moves_before_next (client_coming self.old job))
             (client_closed_gate self.old) (spelling entry ++ 0 ∷ []) turn (D.holds disk.old)
             (D.holds disk.new)) }
         ensures away { called_provider (client_coming self.old job) ≡ None → providers.new ≡ providers.old }
@@ -59,14 +65,36 @@ impl Client {
         ensures no_job { client_coming self.old job ≡ IsNoJob
             → IsSame self.old self.new × (disk.new ≡ disk.old) × (providers.new ≡ providers.old) }
         ensures gone { IfSome result
-            (λ t. (t ≡ turn.NoSuchJob) ↔ (client_coming self.old job ≡ IsNoJob)) }
-        ensures waits { IfSome result (λ turn. IsNoAction turn
+            (λ t. (t ≡ client_turn.Job turn.NoSuchJob) ↔ (client_coming self.old job ≡ IsNoJob)) }
+        ensures waits { IfJob result (λ turn. IsNoAction turn
             → IsSame self.old self.new × (disk.new ≡ disk.old) × (providers.new ≡ providers.old)) }
         ensures closed { result ≡ None
             → (self.new ≡ self.old) × (disk.new ≡ disk.old) × (providers.new ≡ providers.old) }
     {
         match &mut self.vault {
-            Some(vault) => Some(vault.step(job, disk, providers)),
+            Some(vault) => match &mut self.scrub {
+                Some(running) => {
+                    if running.number != job {
+                        return Some(ClientTurn::Job(Turn::NoSuchJob));
+                    }
+                    let n = vault.setup().n;
+                    match running.scrub.step(providers) {
+                        ScrubTurn::More => Some(ClientTurn::Scrub {
+                            providers: n,
+                            turn: ScrubTurn::More,
+                        }),
+                        ScrubTurn::Done(answer) => {
+                            self.scrub = None;
+                            vault.release();
+                            Some(ClientTurn::Scrub {
+                                providers: n,
+                                turn: ScrubTurn::Done(answer),
+                            })
+                        }
+                    }
+                }
+                None => Some(ClientTurn::Job(vault.step(job, disk, providers))),
+            },
             None => None,
         }
     }

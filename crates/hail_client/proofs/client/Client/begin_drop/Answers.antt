@@ -1,8 +1,16 @@
+use Rattle.std.proofs.Common.{refl}
 use Rattle.machine_defs.specs.Jobs.{DropJob}
+use Rattle.hail_client.proofs.Beside.{begun-at}
 use Rattle.hail_client.proofs.Made.{begin-of}
 use Rattle.hail_client.proofs.client.Client.begin_drop.Goals as goal
 
 pub returns-in-Some-clause-machine : goal.returns-in-Some-clause-machine
-returns-in-Some-clause-machine c = begin-of c.args.self.now _ c.begin_drop.new.self
-    (DropJob c.args.name.now) c.begin_drop.result c.in-Some.is c.bytes_are_bytes.ensures
-    c.begin_drop.ensures.machine
+returns-in-Some-clause-machine c =
+    begin-of c.args.self.now _ _ c.begin_drop.new.self c.begin_drop.result c.in-Some.is refl refl refl
+    c.begin_drop.ensures.busy c.begin_drop.ensures.unchanged (DropJob c.args.name.now) c.bytes_are_bytes.ensures c.begin_drop.ensures.machine
+
+pub invariant_of-self : goal.invariant_of-self
+invariant_of-self c = record {
+  at_work = begun-at _ c.begin_drop.new.self c.args.self.now.vault c.args.self.now.scrub c.begin_drop.result c.in-Some.is
+      c.begin_drop.ensures.busy c.begin_drop.ensures.unchanged c.args.self.now.at_work;
+}

@@ -1,15 +1,23 @@
-use Rattle.std.proofs.Common.{subst}
+use Rattle.std.proofs.Common.{refl, subst}
 use Rattle.machine_defs.specs.Events.{AreBytes}
+use Rattle.hail_client.proofs.Beside.{begun-at}
 use Rattle.hail_client.proofs.Made.{put-of, put-closed}
 use Rattle.hail_client.proofs.client.Client.begin_put.Goals as goal
 
 pub returns-in-Some-clause-machine : goal.returns-in-Some-clause-machine
-returns-in-Some-clause-machine c = put-of c.args.self.now _ c.begin_put.new.self c.args.profile
-    c.args.name.now c.args.bytes c.begin_put.result c.in-Some.is c.profiles_fit.ensures
+returns-in-Some-clause-machine c = put-of c.args.self.now _ _ c.begin_put.new.self c.begin_put.result
+    c.in-Some.is refl refl refl c.begin_put.ensures.busy c.begin_put.ensures.unchanged c.args.profile
+    c.args.name.now c.args.bytes c.profiles_fit.ensures
     (c.bytes_are_bytes.ensures, subst AreBytes c.as_slice.ensures c.bytes_are_bytes-2.ensures)
     c.begin_put.ensures.machine
 
 pub returns-in-None-clause-machine : goal.returns-in-None-clause-machine
-returns-in-None-clause-machine c = put-closed c.args.self.now c.args.profile c.args.name.now c.args.bytes
-    c.in-None.is c.profiles_fit.ensures
+returns-in-None-clause-machine c = put-closed c.args.self.now _ c.args.profile c.args.name.now c.args.bytes
+    c.in-None.is refl refl refl c.profiles_fit.ensures
     (c.bytes_are_bytes.ensures, subst AreBytes c.as_slice.ensures c.bytes_are_bytes-2.ensures)
+
+pub invariant_of-self : goal.invariant_of-self
+invariant_of-self c = record {
+  at_work = begun-at _ c.begin_put.new.self c.args.self.now.vault c.args.self.now.scrub c.begin_put.result
+      c.in-Some.is c.begin_put.ensures.busy c.begin_put.ensures.unchanged c.args.self.now.at_work;
+}

@@ -1,8 +1,16 @@
+use Rattle.std.proofs.Common.{refl}
 use Rattle.machine_defs.specs.Jobs.{RepairJob}
+use Rattle.hail_client.proofs.Beside.{begun-at}
 use Rattle.hail_client.proofs.Made.{begin-of}
 use Rattle.hail_client.proofs.client.Client.begin_repair.Goals as goal
 
 pub returns-in-Some-clause-machine : goal.returns-in-Some-clause-machine
 returns-in-Some-clause-machine c =
-    begin-of c.args.self.now _ c.begin_repair.new.self RepairJob c.begin_repair.result c.in-Some.is tt
-    c.begin_repair.ensures.machine
+    begin-of c.args.self.now _ _ c.begin_repair.new.self c.begin_repair.result c.in-Some.is refl refl refl
+    c.begin_repair.ensures.busy c.begin_repair.ensures.unchanged RepairJob tt c.begin_repair.ensures.machine
+
+pub invariant_of-self : goal.invariant_of-self
+invariant_of-self c = record {
+  at_work = begun-at _ c.begin_repair.new.self c.args.self.now.vault c.args.self.now.scrub c.begin_repair.result c.in-Some.is
+      c.begin_repair.ensures.busy c.begin_repair.ensures.unchanged c.args.self.now.at_work;
+}

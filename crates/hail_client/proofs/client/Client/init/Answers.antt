@@ -30,7 +30,7 @@ returns-clause-standing g c = λ providers S.
     by-told (g.D.Disk.holds c.args.disk.now)
     (λ told. (let M = returns-clause-machine g c S.state providers 0 told S.stands in
     record { state = M.state; stands = M.stands }))
-    (λ none. closed-standing c.args.self.now.vault c.args.self.now.next_job
+    (λ none. closed-standing c.args.self.now
     (g.D.Disk.faults c.init.new.disk) providers (g.D.Disk.holds c.init.new.disk)
     (sym c.is_some.ensures ∙ c.if-is_some.false)
     (is_some-none (g.D.Disk.holds c.init.new.disk) (c.init.ensures.tells ∙ none)))

@@ -1,17 +1,122 @@
-use Rattle.std.proofs.Common.{arith}
-use Rattle.hail_client.proofs.Made.{step-of, step-closed, heard-of}
+use Rattle.std.proofs.Common.{map, refl, ap, sym, ◌∙◌, true, arith}
+use Rattle.std.proofs.Math.Logic.{∥∥₁_map}
+use Rattle.provider_model.specs.Seen.{provider_seen}
+use Rattle.record_codec.specs.declared.setup.Setup.{Setup}
+use Rattle.vault_core.specs.Coming.{called_provider}
+use Rattle.hail_client.proofs.Made.{step-of, heard-of}
+use Rattle.hail_client.proofs.Scrubbed.{IsNext, next-at, beside-at, beside-on, vault-coming, no-disk, calls-one, has-next, goes-on, ends}
+use Rattle.hail_client.proofs.client.Client.step.Given as given
 use Rattle.hail_client.proofs.client.Client.step.Goals as goal
 
-pub returns-in-Some-clause-machine : goal.returns-in-Some-clause-machine
-returns-in-Some-clause-machine g c =
-    step-of c.args.self.now _ c.step.new.self c.args.job c.step.result _ _ c.in-Some.is c.step.ensures.machine
+pub invariant_of-self-in-More : goal.invariant_of-self-in-More
+invariant_of-self-in-More g c = record {
+  at_work = ∥∥₁_map
+      (beside-at c.args.self.now.vault c.args.self.now.scrub c.in-Some.vault c.in-Some-scrub.running c.in-Some.is
+      c.in-Some-scrub.is c.args.self.now.at_work)
+      (beside-on c.in-Some.vault c.in-Some-scrub.running c.step.new.self
+      (map (provider_seen g.P.Provider) c.args.providers.now)
+      (map (provider_seen g.P.Provider) c.step.new.providers) c.in-More.ensures.over c.step.ensures.providers
+      (λ w m S. c.in-More.ensures.machine w m true S));
+}
+
+next-more : (g : given.Over) (c : goal.After-self-in-More-1 g) → IsNext c.in-Some-scrub.running.scrub
+next-more g c = next-at c.in-Some.vault c.in-Some-scrub.running c.step.new.self
+    (map (provider_seen g.P.Provider) c.args.providers.now)
+    (map (provider_seen g.P.Provider) c.step.new.providers) _
+    (λ w m S. c.in-More.ensures.machine w m true S)
+    (beside-at c.args.self.now.vault c.args.self.now.scrub c.in-Some.vault c.in-Some-scrub.running c.in-Some.is
+    c.in-Some-scrub.is c.args.self.now.at_work)
+
+pub returns-in-More-clause-machine : goal.returns-in-More-clause-machine
+returns-in-More-clause-machine g c =
+    goes-on c.args.self.now c.in-Some.vault c.in-Some-scrub.running c.in-Some.is c.in-Some-scrub.is
+    (g.D.Disk.holds c.args.disk.now) (g.D.Disk.faults c.args.disk.now)
+    (map (provider_seen g.P.Provider) c.args.providers.now) _
+    (map (provider_seen g.P.Provider) c.step.new.providers) c.args.job c.setup-n.result.n
+    (let r = c.ranges.job.fits in omega (arith, r)) c.if-running-job.false
+    (ap (λ (s : Setup). s.n) c.setup-n.ensures) c.step.new.self refl refl
+    (λ w m S. c.in-More.ensures.machine w m true S)
+
+pub returns-in-More-clause-others : goal.returns-in-More-clause-others
+returns-in-More-clause-others g c = λ j k e other. c.step.ensures.others j k
+    (calls-one c.args.self.now c.in-Some.vault c.in-Some-scrub.running c.args.job c.in-Some.is
+    c.in-Some-scrub.is c.if-running-job.false (next-more g c) j e) other
+
+pub returns-in-More-clause-one_disk_call : goal.returns-in-More-clause-one_disk_call
+returns-in-More-clause-one_disk_call g c = λ e. no-disk c.args.self.now c.in-Some.vault c.in-Some-scrub.running c.args.job c.in-Some.is
+    c.in-Some-scrub.is c.if-running-job.false (next-more g c) e
+
+pub returns-in-More-clause-one_provider_call : goal.returns-in-More-clause-one_provider_call
+returns-in-More-clause-one_provider_call g c = λ j e. c.step.ensures.one_call j
+    (calls-one c.args.self.now c.in-Some.vault c.in-Some-scrub.running c.args.job c.in-Some.is
+    c.in-Some-scrub.is c.if-running-job.false (next-more g c) j e)
+
+pub returns-in-More-clause-no_job : goal.returns-in-More-clause-no_job
+returns-in-More-clause-no_job g c = λ e. has-next c.args.self.now c.in-Some.vault c.in-Some-scrub.running c.args.job c.in-Some.is
+    c.in-Some-scrub.is c.if-running-job.false (next-more g c) e
+
+pub returns-in-More-clause-gone : goal.returns-in-More-clause-gone
+returns-in-More-clause-gone g c = (
+  λ e. absurd (let f = e in cc),
+  λ e. has-next c.args.self.now c.in-Some.vault c.in-Some-scrub.running c.args.job c.in-Some.is
+      c.in-Some-scrub.is c.if-running-job.false (next-more g c) e,
+)
+
+next-done : (g : given.Over) (c : goal.After-self-in-Done-1 g) → IsNext c.in-Some-scrub.running.scrub
+next-done g c = next-at c.in-Some.vault c.in-Some-scrub.running c.step.new.self
+    (map (provider_seen g.P.Provider) c.args.providers.now)
+    (map (provider_seen g.P.Provider) c.step.new.providers) _
+    (λ w m S. c.in-Done.ensures.machine w m true S)
+    (beside-at c.args.self.now.vault c.args.self.now.scrub c.in-Some.vault c.in-Some-scrub.running c.in-Some.is
+    c.in-Some-scrub.is c.args.self.now.at_work)
+
+pub returns-in-Done-clause-machine : goal.returns-in-Done-clause-machine
+returns-in-Done-clause-machine g c =
+    ends c.args.self.now c.in-Some.vault c.in-Some-scrub.running c.in-Some.is c.in-Some-scrub.is
+    (g.D.Disk.holds c.args.disk.now) (g.D.Disk.faults c.args.disk.now)
+    (map (provider_seen g.P.Provider) c.args.providers.now) _ c.release.new.self
+    (map (provider_seen g.P.Provider) c.step.new.providers) c.args.job c.setup-n.result.n
+    (let r = c.ranges.job.fits in omega (arith, r)) c.if-running-job.false
+    (ap (λ (s : Setup). s.n) c.setup-n.ensures) c.step.new.self c.in-Done.answer refl refl
+    (λ u d k h. c.release.ensures.free u d k h) (λ w m S. c.in-Done.ensures.machine w m true S)
+
+pub returns-in-Done-clause-others : goal.returns-in-Done-clause-others
+returns-in-Done-clause-others g c = λ j k e other. c.step.ensures.others j k
+    (calls-one c.args.self.now c.in-Some.vault c.in-Some-scrub.running c.args.job c.in-Some.is
+    c.in-Some-scrub.is c.if-running-job.false (next-done g c) j e) other
+
+pub returns-in-Done-clause-one_disk_call : goal.returns-in-Done-clause-one_disk_call
+returns-in-Done-clause-one_disk_call g c = λ e. no-disk c.args.self.now c.in-Some.vault c.in-Some-scrub.running c.args.job c.in-Some.is
+    c.in-Some-scrub.is c.if-running-job.false (next-done g c) e
+
+pub returns-in-Done-clause-one_provider_call : goal.returns-in-Done-clause-one_provider_call
+returns-in-Done-clause-one_provider_call g c = λ j e. c.step.ensures.one_call j
+    (calls-one c.args.self.now c.in-Some.vault c.in-Some-scrub.running c.args.job c.in-Some.is
+    c.in-Some-scrub.is c.if-running-job.false (next-done g c) j e)
+
+pub returns-in-Done-clause-no_job : goal.returns-in-Done-clause-no_job
+returns-in-Done-clause-no_job g c = λ e. has-next c.args.self.now c.in-Some.vault c.in-Some-scrub.running c.args.job c.in-Some.is
+    c.in-Some-scrub.is c.if-running-job.false (next-done g c) e
+
+pub returns-in-Done-clause-gone : goal.returns-in-Done-clause-gone
+returns-in-Done-clause-gone g c = (
+  λ e. absurd (let f = e in cc),
+  λ e. has-next c.args.self.now c.in-Some.vault c.in-Some-scrub.running c.args.job c.in-Some.is
+      c.in-Some-scrub.is c.if-running-job.false (next-done g c) e,
+)
+
+pub returns-in-None-scrub-clause-machine : goal.returns-in-None-scrub-clause-machine
+returns-in-None-scrub-clause-machine g c =
+    step-of c.args.self.now _ c.in-Some.vault c.step-in-None-scrub.new.self c.args.job c.step-in-None-scrub.result
+    _ _ c.in-Some.is c.in-None-scrub.is refl c.in-None-scrub.is c.step-in-None-scrub.ensures.machine
     (let r = c.ranges.job.fits in omega (arith, r))
 
-pub returns-in-Some-clause-heard : goal.returns-in-Some-clause-heard
-returns-in-Some-clause-heard g c =
-    heard-of c.args.self.now _ c.step.new.self c.args.job c.step.result _ _ c.in-Some.is
-    c.step.ensures.machine
+pub returns-in-None-scrub-clause-heard : goal.returns-in-None-scrub-clause-heard
+returns-in-None-scrub-clause-heard g c =
+    heard-of c.args.self.now c.args.self.now c.in-Some.vault c.step-in-None-scrub.new.self c.args.job
+    c.step-in-None-scrub.result _ _ c.in-Some.is c.in-None-scrub.is c.step-in-None-scrub.ensures.machine
 
-pub returns-in-None-clause-machine : goal.returns-in-None-clause-machine
-returns-in-None-clause-machine g c =
-    step-closed c.args.self.now c.args.job _ c.in-None.is (let r = c.ranges.job.fits in omega (arith, r))
+pub returns-in-None-scrub-clause-others : goal.returns-in-None-scrub-clause-others
+returns-in-None-scrub-clause-others g c = λ j k e other. c.step-in-None-scrub.ensures.others j k
+    (sym (ap called_provider
+    (vault-coming c.args.self.now c.in-Some.vault c.args.job c.in-Some.is c.in-None-scrub.is)) ∙ e) other

@@ -1,0 +1,176 @@
+-- How a client begins a scrub.
+use Rattle.std.proofs.Common.{◌≡◌, ℕ, ◌+◌, ◌<◌, ◌≤◌, ◌||◌, Bool, true, false, [], Option, Some, None, Result, Ok, Err, refl, ap, sym, subst, ◌∙◌, inl, inr, arith}
+use Rattle.std.specs.Prelude.{is_some, nat_lt, length}
+use Rattle.std.proofs.Math.Logic.{∥∥₁_map}
+use Rattle.machine_defs.specs.Alone.{alone_refusal, new_scrub, BeginsScrub}
+use Rattle.machine_defs.specs.Events.{BeginScrub, Begun, Refused, Closed}
+use Rattle.machine_defs.specs.Machine.{Happens}
+use Rattle.machine_defs.specs.Refusals as refusal
+use Rattle.machine_defs.specs.Refusals.{Refusal}
+use Rattle.machine_defs.specs.States.{State, Alone, Scrubbing, setup_in}
+use Rattle.machine_defs.proofs.JobLists.{cond_true, cond_false}
+use Rattle.record_defs.specs.Records.{Setup}
+use Rattle.state_laws.proofs.Events.{events-sound}
+use Rattle.hail_scrub.proofs.Starts.{hold_begins, held_beside, held_stands}
+use Rattle.hail_scrub.proofs.Machine.{setup_same}
+use Rattle.hail_scrub.specs.Begins.{held}
+use Rattle.hail_scrub.specs.Stands.{ScrubIs}
+use Rattle.hail_scrub.specs.Views.{ScrubView, scrub_left}
+use Rattle.vault_core.specs.Carried.{refusal_of}
+use Rattle.vault_core.specs.declared.wish.BeginFault.{BeginFault}
+use Rattle.vault_core.specs.declared.wish.BeginFault.TheVariants as fault
+use Rattle.vault_open.specs.Devices.{Devices, devices}
+use Rattle.vault.specs.declared.vault.Vault.{Vault}
+use Rattle.vault.specs.Seen.{held_by, provider_count, IsUnchanged}
+use Rattle.vault.specs.Stands.{Stands, StandsBeside, HoldsOver}
+use Rattle.hail_client.specs.AtWork.{IsAtWork}
+use Rattle.hail_client.specs.declared.client.Client.{Client}
+use Rattle.hail_client.specs.declared.scrub.ScrubJob.{ScrubJob}
+use Rattle.hail_client.specs.Outcomes.{client_begin_outcome}
+use Rattle.hail_client.specs.Stands.{StandsBy, StandsHeld, ClientStands, MakesEvent}
+use Rattle.hail_client.proofs.Beside.{same-held}
+use Rattle.hail_client.proofs.Standing.{stands-of, parts-of, open-of}
+
+or-true : (b : Bool) → (b || true) ≡ true
+or-true true = refl
+or-true false = refl
+
+-- a begin or a hold is refused as busy
+abbrev pub IsBusy : Result ℕ BeginFault → Type 0
+IsBusy result = result ≡ Err fault.Busy
+
+-- beside what runs alone nothing else begins to
+alone-busy : (w : State) (a : Alone) → w.is_barred ≡ false → w.alone ≡ Some a →
+    alone_refusal w [] ≡ Some refusal.Busy
+alone-busy w a free alone =
+    cond_false w.is_barred _ _ free
+    ∙ cond_true (nat_lt 0 (length w.jobs) || is_some w.alone) _ _
+    (ap (λ (x : Option Alone). nat_lt 0 (length w.jobs) || is_some x) alone ∙ or-true (nat_lt 0 (length w.jobs)))
+
+module _ (c new : Client) (d : Devices) (w : State) (moment : ℕ) where
+  -- a begin of a scrub is refused for want of memory
+  pub no-memory : ClientStands c d w → c.vault ≡ new.vault → c.scrub ≡ new.scrub → c.next_job ≡ new.next_job →
+      is_some c.vault ≡ true →
+      MakesEvent w moment BeginScrub (client_begin_outcome (Some (Err fault.Memory))) new d
+  no-memory S vault scrub number opened = record {
+    state = w;
+    spelled = tt;
+    happens = (open-of c.vault c.scrub c.next_job d w S ∙ opened, inr refl, refl);
+    stands = stands-of new c.vault c.scrub c.next_job (sym vault) (sym scrub) (sym number) d w S;
+  }
+
+  -- a client with no vault open begins none
+  pub scrub-closed : ClientStands c d w → c.vault ≡ None → MakesEvent w moment BeginScrub Closed c d
+  scrub-closed S none = record {
+    state = w;
+    spelled = tt;
+    happens =
+        (open-of c.vault c.scrub c.next_job d w S ∙ ap (λ (o : Option Vault). is_some o) none, refl);
+    stands = S;
+  }
+
+-- ---- beside a vault that is open
+
+module _ (v next : Vault) (w : State) (d : Devices) (moment : ℕ) (why : BeginFault)
+    (holds : Stands v d w → HoldsOver w d (Err why) next)
+    (busy : is_some (held_by v) ≡ true → IsBusy (Err why))
+    (unchanged : IsUnchanged v next) where
+  -- what a hold that was refused comes to
+  refused-by : (o : Option ScrubJob) (number : ℕ) → StandsBy (Some v) o number d w →
+      BeginsScrub moment w (Refused (refusal_of why)) w × StandsBy (Some next) o number d w
+  refused-by None number S =
+      (let h = holds S in ((S.desk.core.is_open, inl h.0, refl), h.1))
+  refused-by (Some job) number S =
+      (let e : IsBusy (Err why) = busy (ap is_some S.beside.held) in
+      let same : why ≡ fault.Busy = cc in (
+        (
+          S.beside.desk.core.is_open,
+          inl (alone-busy w (Scrubbing S.scrub) S.beside.unbarred S.stands.alone
+              ∙ sym (ap (λ (f : BeginFault). Some (refusal_of f)) same)),
+          refl,
+        ),
+        same-held v next job d w unchanged S,
+      ))
+
+-- a hold that was refused is a begin of a scrub that the machine refuses
+pub scrub-refused : (c new : Client) (v next : Vault) (why : BeginFault) → c.vault ≡ Some v →
+    new.vault ≡ Some next → new.scrub ≡ c.scrub → new.next_job ≡ c.next_job →
+    ((w : State) (d : Devices) → Stands v d w → HoldsOver w d (Err why) next) →
+    (is_some (held_by v) ≡ true → IsBusy (Err why)) → IsUnchanged v next →
+    (w : State) (d : Devices) (moment : ℕ) → ClientStands c d w →
+    MakesEvent w moment BeginScrub (client_begin_outcome (Some (Err why))) new d
+scrub-refused c new v next why is new_is scrub number holds busy unchanged w d moment C =
+    (let h = refused-by v next w d moment why (holds w d) busy unchanged c.scrub c.next_job
+    (parts-of c (Some v) c.scrub is refl d w C) in
+    record {
+      state = w;
+      spelled = tt;
+      happens = h.0;
+      stands = stands-of new (Some next) c.scrub c.next_job new_is scrub number d w h.1;
+    })
+
+-- a vault that was held just now was not held before
+was-free : (o : Option ℕ) (number : ℕ) →
+    (is_some o ≡ true → IsBusy (Ok number)) → o ≡ None
+was-free None number busy = refl
+was-free (Some k) number busy =
+    absurd (let e : IsBusy (Ok number) = busy refl in cc)
+
+module _ (v next : Vault) (number : ℕ) (scrub : ScrubView)
+    (begun : (w : State) (d : Devices) (moment : ℕ) → Stands v d w
+    → ScrubIs scrub (setup_in w) (new_scrub w moment))
+    (holds : (w : State) (d : Devices) → Stands v d w → HoldsOver w d (Ok number) next)
+    (busy : is_some (held_by v) ≡ true → IsBusy (Ok number)) where
+  abbrev job : ScrubJob
+  job = record { number = number; scrub = scrub }
+
+  begun-by : (o : Option ScrubJob) (k : ℕ) (w : State) (d : Devices) (moment : ℕ) → StandsBy (Some v) o k d w →
+      Happens 8 moment w BeginScrub (Begun number) (held w moment) × StandsHeld next job d (held w moment)
+  begun-by None k w d moment S =
+      (let h = holds w d S in
+      let fine = hold_begins w moment 8 S.desk.core.is_open h.0 in (
+        (S.desk.core.is_open, h.0, h.1, refl),
+        record {
+          scrub = new_scrub w moment;
+          number_is = h.1;
+          beside = subst (λ (u : State). StandsBeside next d u w.next_job)
+              (sym (held_beside w moment S.desk.core.none_alone))
+              (subst (StandsBeside next d (record w { next_job = w.next_job + 1 })) h.1 h.2);
+          stands = held_stands w moment scrub d.providers S.desk.devices.providers (begun w d moment S);
+          sound = events-sound 8 moment w S.desk.core.sound (omega arith, omega arith) BeginScrub
+              (Begun w.next_job) (held w moment) tt fine;
+        },
+      ))
+  begun-by (Some other) k w d moment S =
+      absurd (let e : IsBusy (Ok number) = busy (ap is_some S.beside.held) in cc)
+
+  -- a scrub and a hold are a begin of a scrub
+  pub scrub-begun : (c new : Client) → c.vault ≡ Some v → new.vault ≡ Some next → new.scrub ≡ Some job →
+      (w : State) (d : Devices) (moment : ℕ) → ClientStands c d w →
+      MakesEvent w moment BeginScrub (client_begin_outcome (Some (Ok number))) new d
+  scrub-begun c new is new_is scrub_is w d moment C =
+      (let h = begun-by c.scrub c.next_job w d moment (parts-of c (Some v) c.scrub is refl d w C) in
+      record {
+        state = held w moment;
+        spelled = tt;
+        happens = h.0;
+        stands = stands-of new (Some next) (Some job) new.next_job new_is scrub_is refl d (held w moment) h.1;
+      })
+
+  -- and the scrub runs beside the vault
+  pub scrub-works : held_by next ≡ Some number → 0 < scrub_left scrub → scrub.providers ≤ provider_count v →
+      ∥ IsAtWork (Some next) (Some job) ∥₁
+  scrub-works held_is going fits =
+      ∥∥₁_map v.at_work (λ x.
+      let w : State = x.0 in
+      let d = devices None x.1 x.2 in
+      let S : Stands v d w = record { free = was-free v.held number busy; desk = x.3 } in
+      let h = holds w d S in
+      record {
+        held = held_is;
+        going = going;
+        fits = subst (λ (n : ℕ). scrub.providers ≤ n)
+            (ap (λ (s : Setup). s.n) (sym S.desk.setup ∙ sym (setup_same w (record w { next_job = w.next_job + 1 }) refl)
+            ∙ h.2.desk.setup)) fits;
+        scrub = record { state = w; scrub = new_scrub w 0; is = begun w d 0 S };
+      })
